@@ -1,0 +1,3 @@
+pub mod Memory
+pub mod Streams
+pub use Rattle.octets.specs.Counts
