@@ -1,0 +1,4 @@
+pub mod Labels
+pub mod Peel
+pub mod Split
+pub mod Vectors

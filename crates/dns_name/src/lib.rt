@@ -1,0 +1,12 @@
+//! Domain names: lists of labels, equal up to ASCII case (RFC 1035, 2.3.3 and 3.1).
+//!
+//! A name is kept in lower case, so a reply that has to repeat the case of a question copies the question's bytes.
+#![tactic(auto)]
+
+mod laws;
+mod name;
+mod scan;
+mod text;
+
+pub use laws::{one_name_at_the_front, one_name_of_a_text};
+pub use name::Name;
