@@ -1,0 +1,3 @@
+pub mod Judgement
+pub mod Question
+pub mod Vectors
