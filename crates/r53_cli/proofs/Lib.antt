@@ -1,0 +1,5 @@
+pub mod Forms
+pub mod Numbers
+pub mod Responses
+pub mod Streams
+pub mod Vectors

@@ -1,0 +1,10 @@
+pub mod Laws
+pub mod Once
+pub mod Run
+pub mod Status
+pub mod Streams
+pub mod Words
+pub use Rattle.octets.specs.Counts
+pub use Rattle.dns_message.specs.Judge
+pub use Rattle.dns_wire.specs.Header
+pub use Rattle.dns_wire.specs.Message

@@ -1,0 +1,98 @@
+-- The one record of `once`, and the replies that it gives.
+use Rattle.std.specs.Prelude.{◌≡◌, ◌≢◌, ℕ, ◌^◌, ◌<◌, ◌⊎◌, List, [], ◌∷◌, take, slice_index, codes, true, false}
+use Rattle.std.specs.List.{All}
+use Rattle.std.specs.Fmt.{decimal}
+use Rattle.std.specs.Net.Grammar.{IsDotted}
+use Rattle.dns_name.specs.Text.{Names}
+use Rattle.dns_message.specs.declared.query.Query.{Query}
+use Rattle.dns_message.specs.declared.query.QueryRead.{QueryRead}
+use Rattle.dns_message.specs.declared.query.QueryRead.TheVariants as read
+use Rattle.dns_message.specs.Judge.{Judges}
+use Rattle.dns_wire.specs.Header.{short_reply}
+use Rattle.dns_wire.specs.Message.{Message, wire}
+use Rattle.r53_cli.specs.declared.once.Once.{Once}
+
+-- a word that is no option
+abbrev pub IsPlain : List ℕ → Type 0
+IsPlain word = slice_index word 0 ≢ 0x2D
+
+-- The texts of a record: a name, a number of seconds below 2^31 in decimal digits without leading zeros, and an IPv4
+-- address.
+pub record Spells (name ttl address : List ℕ) (once : Once) : Type 0 where
+  pub name_is : Names name once.name
+  pub ttl_is : ttl ≡ decimal once.ttl
+  pub ttl_fits : once.ttl < 2 ^ 31
+  pub address_is : IsDotted address once.address
+
+-- The words `once NAME TTL ADDRESS`. No word begins with a hyphen.
+pub record IsOnce (words : List (List ℕ)) (once : Once) : Type 0 where
+  pub plain : All IsPlain words
+  pub name : List ℕ
+  pub ttl : List ℕ
+  pub address : List ℕ
+  pub form : words ≡ codes "once" ∷ name ∷ ttl ∷ address ∷ []
+  pub spelled : Spells name ttl address once
+
+-- the words of a run with some record
+abbrev pub HasForm : List (List ℕ) → Type 0
+HasForm words = (once : Once) × IsOnce words once
+
+-- the words of no run
+abbrev pub HasNoForm : List (List ℕ) → Type 0
+HasNoForm words = (once : Once) → IsOnce words once → ⊥
+
+-- The query asks for the record: its name, type A (1) and class IN (1).
+pub record IsAsked (once : Once) (query : Query) : Type 0 where
+  pub name : query.name ≡ once.name
+  pub rtype : query.qtype ≡ 1
+  pub rclass : query.qclass ≡ 1
+
+-- the question's octets as they came
+abbrev pub question_of : Query → List ℕ
+question_of query = take query.question_len query.question
+
+-- the record as an answer, with AA set
+abbrev pub answer_of : Once → Query → Message
+answer_of once query = record {
+  id = query.id;
+  aa = true;
+  rd = query.rd;
+  rcode = 0;
+  name = query.name;
+  question = question_of query;
+  answers = record { rtype = 1; ttl = once.ttl; rdata = once.address } ∷ [];
+  authorities = [];
+  additionals = [];
+}
+
+-- the reply to every other question: REFUSED (5), without a record
+abbrev pub refusal_of : Query → Message
+refusal_of query = record {
+  id = query.id;
+  aa = false;
+  rd = query.rd;
+  rcode = 5;
+  name = query.name;
+  question = question_of query;
+  answers = [];
+  authorities = [];
+  additionals = [];
+}
+
+-- the octets of the reply to a query
+abbrev pub RepliesTo : Once → Query → List ℕ → Type 0
+RepliesTo once query output =
+    (IsAsked once query × (output ≡ wire (answer_of once query)))
+    ⊎ ((IsAsked once query → ⊥) × (output ≡ wire (refusal_of query)))
+
+-- the octets of the reply to what was read; silence is none
+abbrev pub Replies : Once → QueryRead → List ℕ → Type 0
+Replies once read.Silent output = output ≡ []
+Replies once (read.Bad id opcode rd rcode) output = output ≡ short_reply id opcode rd rcode
+Replies once (read.Query query) output = RepliesTo once query output
+
+-- the octets of the reply to a packet
+pub record Answers (once : Once) (packet output : List ℕ) : Type 0 where
+  pub read : QueryRead
+  pub judged : Judges packet read
+  pub replied : Replies once read output

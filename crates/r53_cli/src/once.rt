@@ -1,0 +1,67 @@
+ghost use Rattle.std.specs.Prelude.{◌≡◌, ◌≤◌, [], IsTrue, ◌↔◌, IfSome, IfNone, length};
+
+use dns_message::rcode::REFUSED;
+use dns_message::{Query, QueryRead, read_query};
+use dns_name::Name;
+use dns_wire::{Reply, Section};
+
+/// The number of type A (RFC 1035, 3.2.2).
+const A: u16 = 1;
+
+/// The number of class IN (RFC 1035, 3.2.4).
+const IN: u16 = 1;
+
+/// The one record that a run of `once` has, of type A and class IN.
+#[derive(Clone, Copy)]
+pub struct Once {
+    /// The owner.
+    pub name: Name,
+    /// The time to live, in seconds.
+    pub ttl: u32,
+    /// The address, in network order.
+    pub address: [u8; 4],
+}
+
+impl Once {
+    ghost use Rattle.r53_cli.specs.Once.{IsAsked, Answers, RepliesTo};
+
+    /// Writes the reply to a packet, and says how long it is. None is silence.
+    pub(crate) fn answer(&self, packet: &[u8], reply: &mut Reply) -> Option<usize>
+        ensures silent { IfNone result (Answers self.now packet.now []) }
+        ensures answered { IfSome result (λ _. Answers self.now packet.now reply.new.bytes) }
+        ensures len { IfSome result (λ n. n ≡ length reply.new.bytes) }
+    {
+        match read_query(packet) {
+            QueryRead::Silent => None,
+            QueryRead::Bad {
+                id,
+                opcode,
+                rd,
+                rcode,
+            } => Some(reply.short(id, opcode, rd, rcode)),
+            QueryRead::Query(query) => Some(self.reply_to(&query, reply)),
+        }
+    }
+
+    /// Writes the reply to a query, and says how long it is.
+    fn reply_to(&self, query: &Query, reply: &mut Reply) -> usize
+        requires { query.now.question_len ≤ 259 }
+        ensures replied { RepliesTo self.now query.now reply.new.bytes }
+        ensures len { result ≡ length reply.new.bytes }
+    {
+        reply.begin(query);
+        if self.is_asked(query) {
+            reply.record(Section::Answer, &query.name, A, self.ttl, &self.address);
+            reply.finish(true, 0)
+        } else {
+            reply.finish(false, u16::from(REFUSED))
+        }
+    }
+
+    /// Whether a query asks for the record.
+    fn is_asked(&self, query: &Query) -> bool
+        ensures { IsTrue result ↔ IsAsked self.now query.now }
+    {
+        query.qtype == A && query.qclass == IN && query.name.is_same(&self.name)
+    }
+}
