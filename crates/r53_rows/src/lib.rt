@@ -1,0 +1,5 @@
+//! Tests that cross crates: whole runs over objects in memory, against packets and replies from outside.
+#![tactic(auto)]
+
+#[cfg(test)]
+mod once;

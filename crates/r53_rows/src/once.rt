@@ -1,0 +1,233 @@
+//! Runs of `once`.
+
+ghost use Rattle.std.specs.Prelude.{◌<◌};
+
+use r53_cli::{Status, run, status_text};
+use r53_io::{ListSource, VecSink};
+use std::alloc::{AllocError, Global};
+use std::test::Fail;
+
+/// What a run answers and writes.
+#[derive(Drop)]
+struct Outcome {
+    status: Status,
+    sink: VecSink,
+}
+
+fn words(alloc: Global, texts: &[&str]) -> Result<Vec<String>, AllocError> {
+    let mut words = Vec::new(alloc);
+    for text in texts {
+        words.push(text.to_string(alloc)?)?;
+    }
+    Ok(words)
+}
+
+/// Runs over these words and this input, in pieces, where the reads of these numbers fail.
+fn run_over(
+    alloc: Global,
+    texts: &[&str],
+    input: &[u8],
+    piece: usize,
+    fail: &[u64],
+    room: usize,
+) -> Result<Outcome, Fail>
+    requires { 0 < piece }
+{
+    let args = words(alloc, texts)?;
+    let mut input = ListSource::new(alloc, input, piece, fail)?;
+    let mut sink = VecSink::new(alloc, room, &[])?;
+    let status = run(alloc, &args, &mut input, &mut sink);
+    Ok(Outcome { status, sink })
+}
+
+/// Whether a run answers this packet so, in whatever pieces it comes. Both are in hexadecimal digits.
+fn answers(alloc: Global, texts: &[&str], packet: &str, reply: &str) -> Result<bool, Fail> {
+    let packet = hex::decode(alloc, packet)?;
+    let reply = hex::decode(alloc, reply)?;
+    for piece in [1, 7, 100] {
+        let outcome = run_over(alloc, texts, &packet, piece, &[], 600)?;
+        if outcome.status != Status::Done || outcome.sink.bytes() != reply.as_slice() {
+            return Ok(false);
+        }
+    }
+    Ok(true)
+}
+
+const WWW: [&str; 4] = ["once", "www.example.com", "300", "192.0.2.1"];
+
+const ROOT: [&str; 4] = ["once", ".", "2147483647", "255.255.255.255"];
+
+#[test]
+fn answers_packets(rt: HostRuntime) -> Result<(), Fail> {
+    let rows = [
+        (
+            // id 0x1234, RD, one question: wWw.example.com. A IN; the reply repeats the question's octets
+            "the record, asked in another case",
+            WWW,
+            "12340100000100000000000003775777076578616d706c6503636f6d0000010001",
+            "12348500000100010000000003775777076578616d706c6503636f6d0000010001c00c000100010000012c0004c0000201",
+        ),
+        (
+            // the same with type AAAA
+            "another type",
+            WWW,
+            "12340100000100000000000003775777076578616d706c6503636f6d00001c0001",
+            "12348105000100000000000003775777076578616d706c6503636f6d00001c0001",
+        ),
+        (
+            // the same with class CH
+            "another class",
+            WWW,
+            "12340100000100000000000003775777076578616d706c6503636f6d0000010003",
+            "12348105000100000000000003775777076578616d706c6503636f6d0000010003",
+        ),
+        (
+            // without RD, for wwv.example.com.
+            "another name",
+            WWW,
+            "ffff0000000100000000000003777776076578616d706c6503636f6d0000010001",
+            "ffff8005000100000000000003777776076578616d706c6503636f6d0000010001",
+        ),
+        (
+            // the root as the owner is its zero octet, not a pointer
+            "the root",
+            ROOT,
+            "0001000000010000000000000000010001",
+            "000184000001000100000000000001000100000100017fffffff0004ffffffff",
+        ),
+        ("eleven octets", WWW, "1234010000010000000000", ""),
+        ("nothing", WWW, "", ""),
+        (
+            "a response",
+            WWW,
+            "12348100000100000000000003775777076578616d706c6503636f6d0000010001",
+            "",
+        ),
+        (
+            "opcode 5",
+            WWW,
+            "12342900000100000000000003775777076578616d706c6503636f6d0000010001",
+            "1234a9040000000000000000",
+        ),
+        (
+            "two questions",
+            WWW,
+            "12340100000200000000000003775777076578616d706c6503636f6d0000010001",
+            "123481010000000000000000",
+        ),
+        (
+            "a pointer in the question",
+            WWW,
+            "123401000001000000000000c00c00010001",
+            "123481010000000000000000",
+        ),
+        (
+            "a question without a class",
+            WWW,
+            "12340100000100000000000003775777076578616d706c6503636f6d00000100",
+            "123481010000000000000000",
+        ),
+        (
+            "an additional record",
+            WWW,
+            "12340100000100000000000103775777076578616d706c6503636f6d0000010001",
+            "123481040000000000000000",
+        ),
+        (
+            "octets behind the question",
+            WWW,
+            "12340100000100000000000003775777076578616d706c6503636f6d0000010001ffff",
+            "12348500000100010000000003775777076578616d706c6503636f6d0000010001c00c000100010000012c0004c0000201",
+        ),
+    ];
+    for (what, texts, packet, reply) in rows {
+        assert!(rt;
+            answers(rt.alloc(), texts.as_slice(), packet, reply)?,
+            "{what}"
+        );
+    }
+    Ok(())
+}
+
+#[test]
+fn reads_past_the_packet(rt: HostRuntime) -> Result<(), Fail> {
+    let mut input = hex::decode(
+        rt.alloc(),
+        "12340100000100000000000003775777076578616d706c6503636f6d0000010001",
+    )?;
+    input.resize(70_000, 0)?;
+    let outcome = run_over(rt.alloc(), &WWW, &input, 5000, &[], 600)?;
+    assert_eq!(rt; outcome.status, Status::Done);
+    assert_eq!(rt; outcome.sink.bytes().len(), 49);
+    Ok(())
+}
+
+#[test]
+fn ends_with_a_status(rt: HostRuntime) -> Result<(), Fail> {
+    let packet = hex::decode(
+        rt.alloc(),
+        "12340100000100000000000003775777076578616d706c6503636f6d0000010001",
+    )?;
+    let read = run_over(rt.alloc(), &WWW, &packet, 1, &[0], 600)?;
+    assert_eq!(rt; read.status, Status::ReadFault);
+    assert_eq!(rt; read.sink.bytes().len(), 0);
+    let later = run_over(rt.alloc(), &WWW, &packet, 1, &[33], 600)?;
+    assert_eq!(rt; later.status, Status::ReadFault, "the read of the end");
+    let full = run_over(rt.alloc(), &WWW, &packet, 1, &[], 48)?;
+    assert_eq!(rt; full.status, Status::WriteFault);
+    assert_eq!(rt; full.sink.bytes().len(), 0);
+    Ok(())
+}
+
+#[test]
+fn refuses_words(rt: HostRuntime) -> Result<(), Fail> {
+    let rows: [&[&str]; 17] = [
+        &[],
+        &["once"],
+        &["once", "www.example.com"],
+        &["once", "www.example.com", "300", "192.0.2.1", ""],
+        &["twice", "www.example.com", "300", "192.0.2.1"],
+        &["once", "", "300", "192.0.2.1"],
+        &["once", "a..b", "300", "192.0.2.1"],
+        &["once", "a b", "300", "192.0.2.1"],
+        &["once", "a\\046b", "300", "192.0.2.1"],
+        &["once", "-a", "300", "192.0.2.1"],
+        &["once", "--help", "300", "192.0.2.1"],
+        &["once", "www.example.com", "2147483648", "192.0.2.1"],
+        &["once", "www.example.com", "0300", "192.0.2.1"],
+        &["once", "www.example.com", "+300", "192.0.2.1"],
+        &["once", "www.example.com", "", "192.0.2.1"],
+        &["once", "www.example.com", "300", "192.0.2.01"],
+        &["once", "www.example.com", "300", "192.0.2.1 "],
+    ];
+    for texts in rows {
+        let outcome = run_over(rt.alloc(), texts, &[0; 12], 12, &[], 600)?;
+        assert_eq!(rt; outcome.status, Status::Usage, "{texts:?}");
+        assert_eq!(rt; outcome.sink.bytes().len(), 0, "{texts:?}");
+    }
+    Ok(())
+}
+
+#[test]
+fn tells_its_status(rt: HostRuntime) -> Result<(), Fail> {
+    let rows = [
+        (Status::Done, 0, ""),
+        (Status::Usage, 1, "r53: usage\n"),
+        (Status::ReadFault, 3, "r53: read fault\n"),
+        (Status::WriteFault, 4, "r53: write fault\n"),
+        (Status::OutOfMemory, 7, "r53: out of memory\n"),
+        (Status::InputTooLong, 8, "r53: input too long\n"),
+    ];
+    for (status, number, text) in rows {
+        assert_eq!(rt; status.number(), number, "{status:?}");
+        assert!(rt; has_text(&status, text), "{status:?}");
+    }
+    Ok(())
+}
+
+/// Whether the program says this of a status.
+fn has_text(status: &Status, text: &str) -> bool {
+    let mut line = [0; 128];
+    let len = status_text(status, &mut line);
+    line.get(..len) == Some(text.as_bytes())
+}
