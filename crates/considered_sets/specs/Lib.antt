@@ -1,0 +1,2 @@
+pub mod Considered
+pub mod Laws

@@ -1,0 +1,9 @@
+ghost use Rattle.std.specs.Prelude.{◌≡◌};
+ghost use Rattle.considered_sets.specs.Considered.{some_healthy};
+
+/// Whether some set of a group is healthy. Where none is, all are considered.
+pub fn some_healthy(healthy: &[bool]) -> bool
+    ensures { result ≡ some_healthy healthy.now }
+{
+    healthy.iter().any(|h| *h)
+}
