@@ -1,0 +1,13 @@
+-- The line as it is walked: one set after another, none of which is kept.
+use Rattle.std.specs.Prelude.{ℕ, ◌+◌, Bool, List, [], ◌∷◌, ◌++◌, ◌||◌, replicate, slice_index, if◌then◌else◌}
+use Rattle.weighted.specs.declared.choice.Rule.{Rule}
+
+-- how long the stretch of a set is
+abbrev pub stretch_of : Rule → (weight : ℕ) → (healthy : Bool) → ℕ
+stretch_of rule weight healthy = if healthy || rule.all then (if rule.even then 1 else weight) else 0
+
+-- the stretches of the sets from a place on
+abbrev pub rest_of_line : Rule → List ℕ → (at : ℕ) → List Bool → List ℕ
+rest_of_line rule weights at [] = []
+rest_of_line rule weights at (h ∷ rest) =
+    replicate (stretch_of rule (slice_index weights at) h) at ++ rest_of_line rule weights (at + 1) rest
