@@ -1,0 +1,5 @@
+pub mod Chosen
+pub mod Cyclic
+pub mod Eight
+pub mod Noted
+mod Vectors

@@ -1,0 +1,4 @@
+pub mod Answer
+pub mod Choice
+pub mod Laws
+pub use Rattle.considered_sets.specs.Considered
