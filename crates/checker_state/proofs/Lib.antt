@@ -1,0 +1,4 @@
+pub mod Fifty
+pub mod Rows
+pub mod Standing
+mod Vectors

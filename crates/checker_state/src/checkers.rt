@@ -1,0 +1,91 @@
+ghost use Rattle.std.specs.Prelude.{◌≡◌, ◌≢◌, ◌≤◌, ◌<◌, ◌↔◌, ◌∷◌, ℕ, Bool, List, IsTrue, count_by};
+ghost use Rattle.checker_state.specs.View.{view_of};
+ghost use Rattle.checker_state.specs.Standing.{StandsFor, nothing, with_result, passing_of};
+
+use crate::checker::Checker;
+use std::marker::Model;
+
+/// How many checkers look at an endpoint.
+pub const CHECKERS: u8 = 50;
+
+/// What the fifty checkers of one endpoint see.
+#[derive(Clone, Copy, Debug, PartialEq, Eq)]
+pub struct Checkers {
+    threshold: u8,
+    checkers: [Checker; 50],
+}
+
+impl Model for Checkers {
+    ghost use Rattle.std.specs.Prelude.{◌≤◌};
+    ghost use Rattle.std.proofs.Common.{refl};
+    ghost use Rattle.checker_state.specs.Standing.{Seen};
+
+    ghost Value = { Seen };
+
+    ghost view = { λ a. record { threshold = a.threshold; checkers = a.checkers } };
+
+    ghost invariant = { λ a. 1 ≤ a.threshold };
+
+    ghost inverse = { λ s. record { threshold = s.threshold; checkers = s.checkers } };
+
+    ghost inverse_ok = { λ a h. refl };
+}
+
+impl Checkers {
+    /// Fifty checkers without a result, whose views turn after `threshold` equal ones in a row. Each sees a pass.
+    pub fn new(threshold: u8) -> Checkers
+        requires low { 1 ≤ threshold }
+        requires high { threshold ≤ 10 }
+        ensures { StandsFor threshold nothing result }
+    {
+        let new = Checker {
+            view: true,
+            last: true,
+            run: 0,
+        };
+        Checkers {
+            threshold,
+            checkers: [new; 50],
+        }
+    }
+
+    /// Takes a checker's result. The answer is whether that checker's view changed.
+    pub fn report(&mut self, checker: u8, pass: bool) -> bool
+        requires { checker < CHECKERS }
+        ensures stands { (n : ℕ) (results : ℕ → List Bool) → StandsFor n results self.old
+            → StandsFor n (with_result checker pass results) self.new }
+        ensures changed { (n : ℕ) (results : ℕ → List Bool) → StandsFor n results self.old
+            → IsTrue result ↔ (view_of n (pass ∷ results checker) ≢ view_of n (results checker)) }
+    {
+        let at = usize::from(checker);
+        let before = self.checkers[at];
+        let after = before.after(self.threshold, pass);
+        self.checkers[at] = after;
+        after.view != before.view
+    }
+
+    /// What a checker sees: whether the endpoint passes.
+    pub fn view(&self, checker: u8) -> bool
+        requires { checker < CHECKERS }
+        ensures { (n : ℕ) (results : ℕ → List Bool) → StandsFor n results self.now
+            → result ≡ view_of n (results checker) }
+    {
+        self.checkers[usize::from(checker)].view
+    }
+
+    /// How many checkers see a pass.
+    pub fn passing(&self) -> u8
+        ensures most { result ≤ CHECKERS }
+        ensures exact { (n : ℕ) (results : ℕ → List Bool) → StandsFor n results self.now
+            → result ≡ passing_of n results }
+    {
+        passing_among(&self.checkers) as u8
+    }
+}
+
+/// How many of these checkers see a pass.
+fn passing_among(checkers: &[Checker]) -> usize
+    ensures { result ≡ count_by (λ c. c.view) checkers.now }
+{
+    checkers.iter().filter(|c| c.view).count()
+}
