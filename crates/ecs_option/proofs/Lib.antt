@@ -1,0 +1,3 @@
+pub mod Subnets
+pub mod Unmet
+pub mod Vectors
