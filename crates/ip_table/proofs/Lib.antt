@@ -1,0 +1,13 @@
+pub mod Finding
+pub mod FirstBits
+pub mod Growth
+pub mod Octets
+pub mod Inserting
+pub mod Located
+pub mod Placing
+pub mod Scopes
+pub mod Sightings
+pub mod Sums
+pub mod Vectors
+pub mod Visits
+pub mod Walks

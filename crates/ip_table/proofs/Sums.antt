@@ -1,0 +1,35 @@
+-- What a whole walk sums up.
+use Rattle.std.proofs.Common.{◌≡◌, ℕ, ◌+◌, ◌<◌, ◌⊎◌, List, length, None, inl, inr, arith}
+use Rattle.std.proofs.lemmas.Bool.{cases_eq}
+use Rattle.r53_io.specs.declared.address.IpAddress.{IpAddress}
+use Rattle.ip_table.specs.declared.tree.Node.{Node}
+use Rattle.ip_table.specs.declared.tree.Seen.{Seen}
+use Rattle.ip_table.specs.Bits.{width_of}
+use Rattle.ip_table.specs.Prefixes.{Prefix}
+use Rattle.ip_table.proofs.Walks.{some_nodes}
+use Rattle.ip_table.specs.Trees.{prefix_at, AllStand, IsSound, IsDone, IsAhead, SumsUp}
+
+-- in an empty tree no row of the family stands
+pub empty : (prefixes : List Prefix) (nodes : List Node) (a : IpAddress) → length nodes ≡ 0 → AllStand prefixes nodes (width_of a) (length prefixes)
+    → SumsUp prefixes a record { found = None; past = 0 }
+empty prefixes nodes a none all =
+    let nowhere : (row : ℕ) → row < length prefixes → width_of (prefix_at prefixes row).address ≡ width_of a → ⊥ = λ row h family.
+    let s = all row h family (λ e. absurd (omega arith)) in
+    absurd (omega (arith, some_nodes nodes (prefix_at prefixes row).address s.depth s.at s.leads)) in
+    record {
+      sound = record { found = λ row e. absurd (cc); below = λ n h. absurd (omega arith) };
+      each = λ row h. record { covers = λ c. absurd (nowhere row h c.family); apart = λ n s. nowhere row h s.family };
+    }
+
+-- at the end of the way no row is ahead
+pub finish : (prefixes : List Prefix) (nodes : List Node) (a : IpAddress) (d next : ℕ) (seen : Seen) → next ≡ 0 → IsSound prefixes a seen
+    → ((row : ℕ) → row < length prefixes → width_of (prefix_at prefixes row).address ≡ width_of a
+    → ((0 < next) × IsAhead prefixes nodes a (d + 1) row) ⊎ IsDone prefixes a seen row)
+    → SumsUp prefixes a seen
+finish prefixes nodes a d next seen none sound each = record {
+  sound = sound;
+  each = λ row h. elim (cases_eq (width_of (prefix_at prefixes row).address) (width_of a)) [
+    | inl family ↦ elim (each row h family) [ inl ahead ↦ absurd (omega (arith, ahead.0)) | inr done ↦ done ]
+    | inr other ↦ record { covers = λ c. absurd (other c.family); apart = λ n s. other s.family }
+  ];
+}

@@ -1,0 +1,52 @@
+use Rattle.std.proofs.Common.{◌≡◌, ◌∙◌, sym, ap, subst, arith}
+use Rattle.std.proofs.lemmas.Bool.{false≢true}
+use Rattle.std.proofs.lemmas.Bool.Decides.{nat_tests}
+use Rattle.ip_table.specs.declared.tree.Node.{Node}
+use Rattle.ip_table.specs.Bits.{width_of}
+use Rattle.ip_table.specs.Trees.{Stands, here, prefix_at, node_at, child, bit_behind}
+use Rattle.ip_table.proofs.Finding.{not_there, stands_on}
+use Rattle.ip_table.proofs.Octets.{number_fits}
+use Rattle.ip_table.proofs.Walks.{onward}
+use Rattle.ip_table.proofs.walk.is_there.Goals as goal
+use Rattle.ip_table.proofs.walk.is_there.Goals.{After-child_of-next}
+
+pub returns-then-is_empty : goal.returns-then-is_empty
+returns-then-is_empty c =
+    (λ t. absurd (false≢true t), λ has. absurd (not_there c.args.prefixes.now c.args.nodes.now c.args.prefix (grind (arith, nat_tests)) c.requires.all has))
+
+-- the row that stands here has another prefix
+other : (c : After-child_of-next) → here c.args.prefixes.now c.args.nodes.now c.loop-prefix.at ≡ c.args.prefix → ⊥
+other c same =
+    let row : c.prefix_of.result ≡ here c.args.prefixes.now c.args.nodes.now c.loop-prefix.at = c.prefix_of.ensures ∙ ap (λ (n : Node). prefix_at c.args.prefixes.now n.row) c.node_of-node.ensures in
+    absurd (false≢true (sym c.if-is_same.false ∙ c.is_same.ensures.1 (row ∙ same)))
+
+next_is : (c : After-child_of-next) → c.child_of-next.result ≡ child (node_at c.args.nodes.now c.loop-prefix.at) (bit_behind (node_at c.args.nodes.now c.loop-prefix.at).depth c.args.prefix.address)
+next_is c =
+    c.child_of-next.ensures
+    ∙ ap (child c.node_of-node.result) (c.bit_of.ensures.bit ∙ ap (bit_behind c.node_of-node.result.depth) c.address-address.ensures.value)
+    ∙ ap (λ (n : Node). child n (bit_behind n.depth c.args.prefix.address)) c.node_of-node.ensures
+
+pub returns-then-next-eq0 : goal.returns-then-next-eq0
+returns-then-next-eq0 c =
+    let s = (goal.at.returns-then-next-eq0 c).After-child_of-next in (
+      λ t. absurd (false≢true t),
+      λ has. absurd (omega (
+        arith,
+        sym (next_is s) ∙ c.if-next-eq0.true,
+        (stands_on c.args.prefixes.now c.args.nodes.now c.args.prefix c.requires.prefixes c.requires.tree c.loop-prefix.at c.loop-prefix.invariant.leads (other s) has.0 has.1 has.2
+            (c.loop-prefix.invariant.ahead has.0 has.1 has.2)).0,
+      )),
+    )
+
+pub loop-prefix-preserved : goal.loop-prefix-preserved
+loop-prefix-preserved c =
+    let s = (goal.at.loop-prefix-preserved c).After-child_of-next in
+    let fits = number_fits c.args.prefix.address c.address-address.ensures.prefix.octets in
+    let goes = onward c.args.prefixes.now c.args.nodes.now (width_of c.args.prefix.address) c.requires.prefixes c.requires.tree c.args.prefix.address fits c.loop-prefix.at c.child_of-next.result c.loop-prefix.invariant.leads (next_is s) (omega arith) in
+    record {
+      within = goes.within;
+      leads = goes.leads;
+      ahead = λ row h same. subst (λ d. Stands c.args.prefixes.now c.args.nodes.now d row) (sym goes.depth)
+          (stands_on c.args.prefixes.now c.args.nodes.now c.args.prefix c.requires.prefixes c.requires.tree c.loop-prefix.at c.loop-prefix.invariant.leads (other s) row h same
+          (c.loop-prefix.invariant.ahead row h same)).1;
+    }

@@ -1,0 +1,16 @@
+-- How a table keeps its rows: prefixes and values side by side, and a tree for each family.
+use Rattle.std.specs.Prelude.{◌≡◌, ℕ, ◌+◌, ◌≤◌, List, length}
+use Rattle.ip_table.specs.declared.tree.Node.{Node}
+use Rattle.ip_table.specs.Prefixes.{Prefix}
+use Rattle.ip_table.specs.Trees.{AllPrefixes, AreApart, IsTree, AllStand}
+
+pub record IsTable (ps : List Prefix) (count : ℕ) (n4 n6 : List Node) : Type 0 where
+  pub prefixes : AllPrefixes ps
+  pub apart : AreApart ps
+  pub few : length ps ≤ 100000
+  pub values : count ≡ length ps
+  pub v4 : IsTree ps n4 32
+  pub v6 : IsTree ps n6 128
+  pub all_v4 : AllStand ps n4 32 (length ps)
+  pub all_v6 : AllStand ps n6 128 (length ps)
+  pub nodes : length n4 + length n6 ≡ length ps

@@ -1,0 +1,17 @@
+//! Rows by prefixes of addresses: the longest one that contains an address, and how far the answer reaches.
+//!
+//! The scope may be longer than the row that was found: it ends where no longer row can be met any more.
+#![tactic(auto)]
+
+mod bits;
+mod laws;
+mod place;
+mod prefix;
+mod seen;
+mod table;
+mod tree;
+mod walk;
+
+pub use laws::{no_shorter_reaches, one_location, one_prefix, scope_reaches};
+pub use prefix::IpPrefix;
+pub use table::{InsertFault, IpTable};
