@@ -1,0 +1,17 @@
+//! Rows that were worked by hand, run over the leaf parts: what their definitions themselves could have wrong.
+#![tactic(auto)]
+
+#[cfg(test)]
+mod calculated_health_rows;
+#[cfg(test)]
+mod checker_state_rows;
+#[cfg(test)]
+mod considered_sets_rows;
+#[cfg(test)]
+mod ecs_option_rows;
+#[cfg(test)]
+mod ip_table_rows;
+#[cfg(test)]
+mod multivalue_rows;
+#[cfg(test)]
+mod weighted_rows;
