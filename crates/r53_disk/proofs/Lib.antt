@@ -1,0 +1,5 @@
+mod Choices
+mod Kept
+pub mod Moments
+mod Writes
+mod Vectors
