@@ -1,0 +1,7 @@
+pub mod AppendLemmas
+pub mod Bytes
+pub mod Closings
+pub mod Lists
+pub mod Opening
+pub mod Reading
+mod Vectors
