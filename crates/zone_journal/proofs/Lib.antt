@@ -1,0 +1,9 @@
+mod Appends
+mod Gates
+mod Openings
+mod PairLemmas
+mod PartLemmas
+mod Pieces
+mod Sides
+mod Stores
+mod Vectors

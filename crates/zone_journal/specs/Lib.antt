@@ -1,0 +1,11 @@
+pub mod Appending
+pub mod Compacting
+pub mod Making
+pub mod Opening
+pub mod Pairs
+pub mod Standing
+pub use Rattle.octets.specs.Counts
+pub use Rattle.r53_disk.specs.Disk
+pub use Rattle.gate_journal.specs.Append
+pub use Rattle.gate_journal.specs.Layout
+pub use Rattle.gate_journal.specs.Read

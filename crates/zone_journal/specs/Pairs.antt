@@ -1,0 +1,70 @@
+-- What a pair of files opens to, and what a crash leaves of a pair.
+use Rattle.std.specs.Prelude.{◌≡◌, ◌⊎◌, ℕ, ◌<◌, ◌≤◌, List, Option, Some}
+use Rattle.gate_journal.specs.Layout.{IsOpen, OpensTo, generation_of}
+use Rattle.zone_journal.specs.declared.answers.Side.{Side}
+use Rattle.zone_journal.specs.declared.answers.Side.TheVariants.{A, B}
+
+abbrev pub opposite : Side → Side
+opposite A = B
+opposite B = A
+
+-- the one of this side, and the one of the other
+abbrev pub active_of : {X : Type 0} → Side → X → X → X
+active_of A a b = a
+active_of B a b = b
+
+abbrev pub other_of : {X : Type 0} → Side → X → X → X
+other_of A a b = b
+other_of B a b = a
+
+-- Beside a file of this side and generation, one of the other side and that generation does not decide: where they are
+-- equal, `a` does.
+abbrev pub IsBelow : Side → (other generation : ℕ) → Type 0
+IsBelow A other generation = other ≤ generation
+IsBelow B other generation = other < generation
+
+-- A file of the other side does not decide beside one of this side and generation.
+abbrev pub Yields : Side → ℕ → List ℕ → Type 0
+Yields side generation other = IsOpen other → IsBelow side (generation_of other) generation
+
+-- The file of this side is open and decides.
+abbrev pub IsActive : Side → (active other : List ℕ) → Type 0
+IsActive side active other = IsOpen active × Yields side (generation_of active) other
+
+-- The file of this side decides, and opens to this.
+abbrev pub OpensBy : Side → (active other : List ℕ) → ℕ → List ℕ → List (List ℕ) → Type 0
+OpensBy side active other generation snapshot entries =
+    OpensTo active generation snapshot entries × Yields side generation other
+
+-- The files of `a` and `b` open to this generation, snapshot and entries.
+abbrev pub OpensPair : (x y : List ℕ) → ℕ → List ℕ → List (List ℕ) → Type 0
+OpensPair x y generation snapshot entries =
+    OpensBy A x y generation snapshot entries ⊎ OpensBy B y x generation snapshot entries
+
+-- A pair of files opens to one thing.
+abbrev pub PairOpensToOne : Type 0
+PairOpensToOne =
+    (x y : List ℕ) (g h : ℕ) (s t : List ℕ) (es fs : List (List ℕ))
+    → OpensPair x y g s es → OpensPair x y h t fs → (g ≡ h) × (s ≡ t) × (es ≡ fs)
+
+-- Each image pair since the moments old has P: any image of `a` since then with any of `b`.
+pub record EachPair {D : Type 0} (moment : D → ℕ) (images_since : D → ℕ → List ℕ → Type 0) (a_old a_new b_old b_new : D) (P : List ℕ → List ℕ → Type 0) : Type 0 where
+  pub each : (x y : List ℕ) → images_since a_new (moment a_old) x → images_since b_new (moment b_old) y → P x y
+  -- for a run that began at an earlier moment of the one disk and has left the other one
+  pub from_a : (t : ℕ) (x y : List ℕ) → t ≤ moment a_old → images_since a_new t x → images_since b_new (moment b_old) y → images_since a_old t x ⊎ P x y
+  pub from_b : (t : ℕ) (x y : List ℕ) → t ≤ moment b_old → images_since a_new (moment a_old) x → images_since b_new t y → images_since b_old t y ⊎ P x y
+
+-- What the two disks read as is told, and has P.
+pub record Leaves {D : Type 0} (reading : D → Option (List ℕ)) (a b : D) (P : List ℕ → List ℕ → Type 0) : Type 0 where
+  pub x : List ℕ
+  pub y : List ℕ
+  pub a_reads : reading a ≡ Some x
+  pub b_reads : reading b ≡ Some y
+  pub has : P x y
+
+-- A call that writes nothing, and may sync: the disk reads the same, and a crash leaves nothing new.
+pub record Unwritten {D : Type 0} (reading : D → Option (List ℕ)) (images : D → List ℕ → Type 0) (moment : D → ℕ) (images_since : D → ℕ → List ℕ → Type 0) (old new : D) : Type 0 where
+  pub reads : reading new ≡ reading old
+  pub leaves : (c : List ℕ) → images new c → images old c
+  pub later : moment old ≤ moment new
+  pub before : (t : ℕ) (c : List ℕ) → t ≤ moment old → images_since new t c → images_since old t c
