@@ -1,0 +1,1 @@
+pub use Rattle.zone_journal.specs.Standing
