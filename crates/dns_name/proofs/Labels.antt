@@ -42,7 +42,7 @@ map-frames (l ∷ ls) h =
 pub map-wire : (raw : List (List ℕ)) → AllByRecursion IsRawLabel raw → map to_ascii_lowercase (wire raw) ≡ wire (lowered raw)
 map-wire raw h = map-append to_ascii_lowercase (flat_map frame raw) (0 ∷ []) ∙ ap (λ t. t ++ 0 ∷ []) (map-frames raw h)
 
-raw_lowered : (raw : List (List ℕ)) → AllByRecursion IsRawLabel raw → AllByRecursion IsRawLabel (lowered raw)
+pub raw_lowered : (raw : List (List ℕ)) → AllByRecursion IsRawLabel raw → AllByRecursion IsRawLabel (lowered raw)
 raw_lowered [] h = tt
 raw_lowered (l ∷ ls) h =
     let e = length-map l to_ascii_lowercase in
@@ -54,7 +54,7 @@ lower_twice : (l : List ℕ) → map to_ascii_lowercase (map to_ascii_lowercase 
 lower_twice [] = refl
 lower_twice (b ∷ l) = let e = lowercase-lowercase b in let r = lower_twice l in cc
 
-lower_each : (raw : List (List ℕ)) → AllByRecursion IsLowerLabel (lowered raw)
+pub lower_each : (raw : List (List ℕ)) → AllByRecursion IsLowerLabel (lowered raw)
 lower_each [] = tt
 lower_each (l ∷ ls) = (lower_twice l, lower_each ls)
 
@@ -85,3 +85,8 @@ pub one_name : (bytes : List ℕ) (labels : List (List ℕ)) (n : ℕ) → Begin
 one_name bytes labels n b others m o =
     let raw : o.raw ≡ b.raw = begin_with bytes others m o ∙ sym (begin_with bytes labels n b) in
     (o.same ∙ ap lowered raw ∙ sym b.same, o.size ∙ ap (λ r. length (wire r)) raw ∙ sym b.size)
+
+-- two names with one wire form are one
+pub one_wire : (labels others : List (List ℕ)) → IsRawName labels → IsRawName others → wire labels ≡ wire others → labels ≡ others
+one_wire labels others n o e =
+    sym (labels_of-wire labels [] n.each) ∙ ap (λ w. labels_of (w ++ [])) e ∙ labels_of-wire others [] o.each

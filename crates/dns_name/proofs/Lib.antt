@@ -1,4 +1,9 @@
+pub mod Depth
 pub mod Labels
 pub mod Peel
-pub mod Split
+pub mod Placing
+pub mod Reading
+pub mod Steps
+pub mod Texts
 pub mod Vectors
+pub mod Written

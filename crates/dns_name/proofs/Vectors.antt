@@ -1,26 +1,138 @@
--- Names from RFC 1035, and their texts.
-use Rattle.std.proofs.Common.{◌≡◌, [], ◌∷◌, refl, codes}
+-- Names from RFC 1035, RFC 2181 and RFC 4592, and the faults of texts, each at its place.
+use Rattle.std.proofs.Common.{◌≡◌, ℕ, List, [], ◌∷◌, ◌++◌, refl, codes, Ok, Err, Less, Greater, Equal}
+use Rattle.std.proofs.Math.ListN.{replicate}
 use Rattle.dns_name.specs.Labels.{wire, lowered}
-use Rattle.dns_name.specs.Text.{pieces}
+use Rattle.dns_name.specs.Order.{zone_cmp}
+use Rattle.dns_name.specs.Text.{name_of_text}
+use Rattle.dns_name.specs.Written.{text_of}
+use Rattle.dns_name.specs.declared.fault.NameFault.TheVariants.{BadEscape, LabelTooLong, NameTooLong, EmptyLabel, BadByte}
 
--- the first name of the example in 4.1.4
+-- the first name of the example in RFC 1035, 4.1.4
 pub f_isi_arpa : wire (codes "F" ∷ codes "ISI" ∷ codes "ARPA" ∷ []) ≡ 1 ∷ 0x46 ∷ 3 ∷ 0x49 ∷ 0x53 ∷ 0x49 ∷ 4 ∷ 0x41 ∷ 0x52 ∷ 0x50 ∷ 0x41 ∷ 0 ∷ []
 f_isi_arpa = refl
 
 pub root : wire [] ≡ 0 ∷ []
 root = refl
 
--- names are equal up to case (2.3.3)
+-- names are equal up to case (RFC 1035, 2.3.3)
 pub lower : lowered (codes "F" ∷ codes "ISI" ∷ []) ≡ codes "f" ∷ codes "isi" ∷ []
 lower = refl
 
--- with and without the final dot
-pub final_dot : pieces (codes "f.isi.") ≡ codes "f" ∷ codes "isi" ∷ []
-final_dot = refl
+-- texts that read as names
+pub read_f_isi_arpa : name_of_text (codes "f.isi.arpa") ≡ Ok (codes "f" ∷ codes "isi" ∷ codes "arpa" ∷ [])
+read_f_isi_arpa = refl
 
-pub no_final_dot : pieces (codes "f.isi") ≡ codes "f" ∷ codes "isi" ∷ []
-no_final_dot = refl
+pub read_final_dot : name_of_text (codes "f.isi.arpa.") ≡ Ok (codes "f" ∷ codes "isi" ∷ codes "arpa" ∷ [])
+read_final_dot = refl
 
--- an empty piece is no label
-pub two_dots : pieces (codes "f..") ≡ codes "f" ∷ [] ∷ []
+pub read_upper_case : name_of_text (codes "F.ISI.ARPA") ≡ Ok (codes "f" ∷ codes "isi" ∷ codes "arpa" ∷ [])
+read_upper_case = refl
+
+pub read_root : name_of_text (codes ".") ≡ Ok []
+read_root = refl
+
+-- the wildcard as itself and as an escape, and an escaped letter in upper case
+pub read_wildcard : name_of_text (codes "*.example.com") ≡ Ok (codes "*" ∷ codes "example" ∷ codes "com" ∷ [])
+read_wildcard = refl
+
+pub read_escaped_wildcard : name_of_text (codes "\\052.example.com") ≡ Ok (codes "*" ∷ codes "example" ∷ codes "com" ∷ [])
+read_escaped_wildcard = refl
+
+pub read_escaped_upper_case : name_of_text (codes "\\101.b") ≡ Ok (codes "a" ∷ codes "b" ∷ [])
+read_escaped_upper_case = refl
+
+-- a dot within a label, and the highest octet
+pub read_escaped_dot : name_of_text (codes "a\\056b.c") ≡ Ok (codes "a.b" ∷ codes "c" ∷ [])
+read_escaped_dot = refl
+
+pub read_highest_octet : name_of_text (codes "\\377") ≡ Ok ((255 ∷ []) ∷ [])
+read_highest_octet = refl
+
+-- faults
+pub two_dots : name_of_text (codes "a..b") ≡ Err (EmptyLabel 2)
 two_dots = refl
+
+pub empty_text : name_of_text [] ≡ Err (EmptyLabel 0)
+empty_text = refl
+
+pub first_dot : name_of_text (codes ".a") ≡ Err (EmptyLabel 0)
+first_dot = refl
+
+pub short_escape : name_of_text (codes "a\\9") ≡ Err (BadEscape 1)
+short_escape = refl
+
+pub two_digits : name_of_text (codes "a\\12") ≡ Err (BadEscape 1)
+two_digits = refl
+
+pub above_255 : name_of_text (codes "\\400") ≡ Err (BadEscape 0)
+above_255 = refl
+
+pub decimal_digit : name_of_text (codes "\\058") ≡ Err (BadEscape 0)
+decimal_digit = refl
+
+pub escaped_dot : name_of_text (codes "a\\.b") ≡ Err (BadEscape 1)
+escaped_dot = refl
+
+pub space : name_of_text (codes "a b") ≡ Err (BadByte 1)
+space = refl
+
+pub delete : name_of_text (0x61 ∷ 0x7F ∷ []) ≡ Err (BadByte 1)
+delete = refl
+
+-- labels of 63 and 64 octets (RFC 1035, 2.3.4)
+pub label_of_63 : name_of_text (replicate 63 0x61) ≡ Ok (replicate 63 0x61 ∷ [])
+label_of_63 = refl
+
+pub label_of_64 : name_of_text (replicate 64 0x61) ≡ Err (LabelTooLong 63)
+label_of_64 = refl
+
+-- a bad byte as the 64th
+pub bad_byte_of_64 : name_of_text (replicate 63 0x61 ++ 0x20 ∷ []) ≡ Err (BadByte 63)
+bad_byte_of_64 = refl
+
+-- three labels of 63 octets and a dot behind each
+abbrev pub long : List ℕ
+long = replicate 63 0x61 ++ (0x2E ∷ replicate 63 0x62 ++ (0x2E ∷ replicate 63 0x63 ++ 0x2E ∷ []))
+
+-- names of 255 and 256 octets (RFC 1035, 2.3.4)
+pub name_of_255 : name_of_text (long ++ replicate 61 0x64) ≡ Ok (replicate 63 0x61 ∷ replicate 63 0x62 ∷ replicate 63 0x63 ∷ replicate 61 0x64 ∷ [])
+name_of_255 = refl
+
+pub name_of_256 : name_of_text (long ++ replicate 62 0x64) ≡ Err (NameTooLong 253)
+name_of_256 = refl
+
+-- written texts
+pub written_wildcard : text_of (codes "*" ∷ codes "example" ∷ codes "com" ∷ []) ≡ codes "\\052.example.com."
+written_wildcard = refl
+
+pub written_root : text_of [] ≡ codes "."
+written_root = refl
+
+pub written_octets : text_of ((0 ∷ 0x2D ∷ 0x5F ∷ 0x2E ∷ 0x5C ∷ 255 ∷ []) ∷ codes "az09" ∷ []) ≡ codes "\\000-_\\056\\134\\377.az09."
+written_octets = refl
+
+-- the order of the names in RFC 4034, 6.1, where escapes are decimal: example, a.example, yljkjljk.a.example, Z.a.example,
+-- zABC.a.EXAMPLE, z.example, \001.z.example, *.z.example, \200.z.example
+pub parent_first : zone_cmp (codes "example" ∷ []) (codes "a" ∷ codes "example" ∷ []) ≡ Less
+parent_first = refl
+
+pub deeper_before_later : zone_cmp (codes "yljkjljk" ∷ codes "a" ∷ codes "example" ∷ []) (codes "z" ∷ codes "a" ∷ codes "example" ∷ []) ≡ Less
+deeper_before_later = refl
+
+pub front_of_label : zone_cmp (codes "zabc" ∷ codes "a" ∷ codes "example" ∷ []) (codes "z" ∷ codes "a" ∷ codes "example" ∷ []) ≡ Greater
+front_of_label = refl
+
+pub from_the_root : zone_cmp (codes "zabc" ∷ codes "a" ∷ codes "example" ∷ []) (codes "z" ∷ codes "example" ∷ []) ≡ Less
+from_the_root = refl
+
+pub below_a_later_name : zone_cmp (codes "z" ∷ codes "example" ∷ []) ((1 ∷ []) ∷ codes "z" ∷ codes "example" ∷ []) ≡ Less
+below_a_later_name = refl
+
+pub low_octet : zone_cmp ((1 ∷ []) ∷ codes "z" ∷ codes "example" ∷ []) (codes "*" ∷ codes "z" ∷ codes "example" ∷ []) ≡ Less
+low_octet = refl
+
+pub high_octet : zone_cmp (codes "*" ∷ codes "z" ∷ codes "example" ∷ []) ((200 ∷ []) ∷ codes "z" ∷ codes "example" ∷ []) ≡ Less
+high_octet = refl
+
+pub same_name : zone_cmp (codes "z" ∷ codes "example" ∷ []) (codes "z" ∷ codes "example" ∷ []) ≡ Equal
+same_name = refl

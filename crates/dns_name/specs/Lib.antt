@@ -1,6 +1,14 @@
 pub mod Labels
 pub mod Laws
-pub mod Splits
+pub mod Names
+pub mod Order
+pub mod OrderLaws
+pub mod Placed
+pub mod Spelling
 pub mod Stored
+pub mod Suffix
 pub mod Text
+pub mod Whole
+pub mod Wildcard
 pub mod Wire
+pub mod Written

@@ -1,31 +1,89 @@
--- The text of a name: its labels with dots between them, and an optional final dot (RFC 1035, 5.1). No escapes.
-use Rattle.std.specs.Prelude.{◌≡◌, ◌≢◌, ℕ, ◌-◌, ◌≤◌, ◌⊎◌, List, [], ◌∷◌, length, take, slice_index, ◌==◌, cond, nat_eq}
-use Rattle.std.specs.List.{slice_split, AllByRecursion, All}
-use Rattle.dns_name.specs.Labels.{IsRawName, lowered}
+-- The texts of names (RFC 1035, 5.1; FORMATS, Texts of names).
+use Rattle.std.specs.Prelude.{ℕ, zero, suc, ◌+◌, ◌-◌, ◌*◌, List, [], ◌∷◌, ◌++◌, length, slice_index, Bool, ◌&&◌, ◌==◌, nat_le, nat_lt, if◌then◌else◌, Result, Ok, Err}
+use Rattle.std.specs.Str.{bytes_eq}
+use Rattle.std.specs.Result.{result_map_both}
+use Rattle.dns_name.specs.Labels.{wire, lowered}
+use Rattle.dns_name.specs.declared.fault.NameFault.{NameFault}
+use Rattle.dns_name.specs.declared.fault.NameFault.TheVariants.{BadEscape, LabelTooLong, NameTooLong, EmptyLabel, BadByte}
 
--- a byte that stands for itself: printable ASCII, no space and no backslash
-pub record IsTextByte (b : ℕ) : Type 0 where
-  pub graphic : 0x21 ≤ b
-  pub ascii : b ≤ 0x7E
-  pub no_escape : b ≢ 0x5C
+-- `.` and the backslash
+abbrev pub dot : ℕ
+dot = 0x2E
 
--- the text without one final dot
-abbrev pub body_of : List ℕ → List ℕ
-body_of text = cond (nat_eq (slice_index text (length text - 1)) 0x2E) (take (length text - 1) text) text
+abbrev pub backslash : ℕ
+backslash = 0x5C
 
--- the pieces between the dots
-abbrev pub pieces : List ℕ → List (List ℕ)
-pieces text = slice_split (λ b. b == 0x2E) (body_of text)
+-- printable ASCII without the space
+abbrev pub is_graphic : ℕ → Bool
+is_graphic b = nat_le 0x21 b && nat_le b 0x7E
 
--- The pieces are the labels of a name. The root's text is none of these.
-pub record IsNameText (text : List ℕ) : Type 0 where
-  pub name : IsRawName (pieces text)
-  pub bytes : AllByRecursion (All IsTextByte) (pieces text)
+abbrev pub is_octal_digit : ℕ → Bool
+is_octal_digit b = nat_le 0x30 b && nat_le b 0x37
+
+-- the number of the three octal digits at the front
+abbrev pub octal_of : List ℕ → ℕ
+octal_of rest = (slice_index rest 0 - 0x30) * 64 + (slice_index rest 1 - 0x30) * 8 + (slice_index rest 2 - 0x30)
+
+-- three octal digits of value at most 255 stand at the front
+abbrev pub has_octal : List ℕ → Bool
+has_octal rest =
+    is_octal_digit (slice_index rest 0) && is_octal_digit (slice_index rest 1) && is_octal_digit (slice_index rest 2)
+    && nat_le (octal_of rest) 255
+
+-- How far a text is read: behind whole labels and a part of the next, where so many bytes of an escape are still to be
+-- passed over; or stopped at the first fault.
+pub data Progress : Type 0 where
+  Reading : (passing : ℕ) (done : List (List ℕ)) (label : List ℕ) → Progress
+  Stopped : NameFault → Progress
+
+-- a character of this value, and so many bytes of it behind the first
+abbrev pub add_character : (done : List (List ℕ)) (label : List ℕ) (at value more : ℕ) → Progress
+add_character done label at value more =
+    if nat_le 63 (length label) then Stopped (LabelTooLong at)
+    else (if nat_lt 255 (length (wire (done ++ (label ++ value ∷ []) ∷ []))) then Stopped (NameTooLong at)
+    else Reading more done (label ++ value ∷ []))
+
+-- the dot behind a label
+abbrev pub end_label : (done : List (List ℕ)) (label : List ℕ) (at : ℕ) → Progress
+end_label done [] at = Stopped (EmptyLabel at)
+end_label done (b ∷ label) at = Reading 0 (done ++ (b ∷ label) ∷ []) []
+
+-- the byte at a place, with what stands behind it
+abbrev pub take_byte : (done : List (List ℕ)) (label : List ℕ) (at b : ℕ) (rest : List ℕ) → Progress
+take_byte done label at b rest =
+    if b == dot then end_label done label at
+    else (if b == backslash then (if has_octal rest then add_character done label at (octal_of rest) 3 else Stopped (BadEscape at))
+    else (if is_graphic b then add_character done label at b 0 else Stopped (BadByte at)))
+
+abbrev pub step : Progress → (at b : ℕ) (rest : List ℕ) → Progress
+step (Reading zero done label) at b rest = take_byte done label at b rest
+step (Reading (suc passing) done label) at b rest = Reading passing done label
+step (Stopped fault) at b rest = Stopped fault
+
+-- from a place on
+abbrev pub read_from : Progress → (at : ℕ) → List ℕ → Progress
+read_from progress at [] = progress
+read_from progress at (b ∷ rest) = read_from (step progress at b rest) (at + 1) rest
+
+-- at the end of a text: the label so far is the last, and behind a dot there is none more
+abbrev pub ended : (done : List (List ℕ)) (label : List ℕ) (at : ℕ) → Result (List (List ℕ)) NameFault
+ended [] [] at = Err (EmptyLabel at)
+ended (first ∷ done) [] at = Ok (first ∷ done)
+ended done (b ∷ label) at = Ok (done ++ (b ∷ label) ∷ [])
+
+abbrev pub at_the_end : Progress → (at : ℕ) → Result (List (List ℕ)) NameFault
+at_the_end (Reading passing done label) at = ended done label at
+at_the_end (Stopped fault) at = Err fault
 
 -- the text of the root, a dot alone
 abbrev pub root_text : List ℕ
-root_text = 0x2E ∷ []
+root_text = dot ∷ []
 
--- a text of the name with these labels
-abbrev pub Names : List ℕ → List (List ℕ) → Type 0
-Names text labels = ((text ≡ root_text) × (labels ≡ [])) ⊎ (IsNameText text × (labels ≡ lowered (pieces text)))
+-- the labels of a text as it spells them, or its first fault
+abbrev pub labels_of_text : List ℕ → Result (List (List ℕ)) NameFault
+labels_of_text text =
+    if bytes_eq text root_text then Ok [] else at_the_end (read_from (Reading 0 [] []) 0 text) (length text)
+
+-- the same with the labels in lower case
+abbrev pub name_of_text : List ℕ → Result (List (List ℕ)) NameFault
+name_of_text text = result_map_both lowered (λ fault. fault) (labels_of_text text)

@@ -1,14 +1,20 @@
-ghost use Rattle.std.specs.Prelude.{◌≡◌, ℕ, ◌≤◌, List, [], ◌++◌, length, IfSome, IfNone, IsTrue, ◌↔◌, map, drop};
+ghost use Rattle.std.specs.Prelude.{◌≡◌, ℕ, ◌≤◌, ◌<◌, List, [], ◌∷◌, ◌++◌, length, IfSome, IfNone, IsTrue, ◌↔◌, map, take, drop};
 ghost use Rattle.std.specs.Char.{to_ascii_lowercase};
 ghost use Rattle.dns_name.specs.Labels.{wire, IsRawName, lowered};
+ghost use Rattle.dns_name.specs.Wildcard.{wildcard};
+ghost use Rattle.dns_name.specs.Names.{IsName};
+ghost use Rattle.dns_name.specs.Stored.{labels_of};
+ghost use Rattle.dns_name.specs.Suffix.{EndsWith};
+ghost use Rattle.dns_name.specs.Whole.{IsWire};
 ghost use Rattle.dns_name.specs.Wire.{BeginsWithName, BeginsWithNone, BeginsWithOnly};
 
 use crate::scan::name_len;
-use octets::front;
+use crate::walk;
+use octets::{behind, fill_front, front, put_at};
 use std::marker::Model;
 
 /// A domain name: labels of 1 to 63 octets in lower case, 255 octets in all on the wire.
-#[derive(Clone, Copy, PartialEq, Eq)]
+#[derive(Clone, Copy)]
 pub struct Name {
     /// The name on the wire, and zeros behind it.
     bytes: [u8; 255],
@@ -58,6 +64,57 @@ impl Name {
         self.is_same(&Name::root())
     }
 
+    /// What every name is, for the premises of laws; it does nothing.
+    pub fn well_formed(&self)
+        ensures { IsName self.now }
+    {
+        walk::name_octets(self.octets());
+    }
+
+    /// How many labels it has.
+    pub fn labels(&self) -> usize
+        ensures { result ≡ length self.now }
+    {
+        walk::count(self.octets())
+    }
+
+    /// Whether its last labels are those of the other name: whether it is the other name, or below it.
+    pub fn ends_with(&self, other: &Name) -> bool
+        ensures { IsTrue result ↔ EndsWith self.now other.now }
+    {
+        walk::ends_with(self.octets(), other.octets())
+    }
+
+    /// The name without its first label; the root has none.
+    pub fn parent(&self) -> Option<Name>
+        ensures some { IfSome result (λ parent. (first : List ℕ) × (self.now ≡ first ∷ parent)) }
+        ensures none { IfNone result (self.now ≡ []) }
+    {
+        let octets = self.octets();
+        let n = octets[0] as usize;
+        if n == 0 {
+            return None;
+        }
+        Some(Name::of_octets(behind(octets, n + 1)))
+    }
+
+    /// The name with the wildcard label in front (RFC 4592, 2.1.1), where that has no more than 255 octets.
+    pub fn wildcard(&self) -> Option<Name>
+        ensures some { IfSome result (λ name. name ≡ wildcard ∷ self.now) }
+        ensures fits { IfSome result (λ name. length (wire (wildcard ∷ self.now)) ≤ 255) }
+        ensures none { IfNone result (255 < length (wire (wildcard ∷ self.now))) }
+    {
+        let octets = self.octets();
+        if octets.len() > 253 {
+            return None;
+        }
+        let mut longer = [0; 255];
+        longer[0] = 1;
+        longer[1] = b'*';
+        put_at(&mut longer, 2, octets);
+        Some(Name::of_octets(front(&longer, octets.len() + 2)))
+    }
+
     /// The name at the front of the bytes, whole and without pointers, and how many bytes it takes.
     pub fn from_wire(bytes: &[u8]) -> Option<(Name, usize)>
         ensures some { IfSome result (λ r. BeginsWithName bytes.now r.0 r.1) }
@@ -66,6 +123,34 @@ impl Name {
     {
         let len = name_len(bytes)?;
         Some((Name::stored(front(bytes, len)), len))
+    }
+
+    /// Writes the name's octets on the wire to the front (RFC 1035, 3.1), and says how many.
+    pub fn write_wire(&self, into: &mut [u8; 255]) -> usize
+        ensures size { result ≡ length (wire self.now) }
+        ensures written { take result into.new ≡ wire self.now }
+        ensures rest { drop result into.new ≡ drop result into.old }
+    {
+        let octets = self.octets();
+        fill_front(into, octets);
+        octets.len()
+    }
+
+    /// The name on the wire.
+    pub(crate) fn octets(&self) -> &[u8]
+        ensures spelled { result.now ≡ wire self.now }
+        ensures whole { IsWire result.now }
+        ensures same { labels_of result.now ≡ self.now }
+    {
+        front(&self.bytes, self.len as usize)
+    }
+
+    /// The name of these octets, which are in lower case.
+    fn of_octets(octets: &[u8]) -> Name
+        requires { IsWire octets.now }
+        ensures { result ≡ labels_of octets.now }
+    {
+        Name::stored(octets)
     }
 
     /// The name that these bytes spell.

@@ -3,8 +3,7 @@ use Rattle.std.proofs.Common.{◌≡◌, ℕ, ◌<◌, ◌≤◌, List, [], ◌�
 use Rattle.std.specs.Prelude.{IfSome, IfNone}
 use lib.Pointwise.{pointwise}
 use Rattle.std.specs.Net.Grammar.{IsDotted}
-use Rattle.dns_name.specs.Text.{Names}
-use Rattle.dns_name.specs.Laws.{OneNameOfAText}
+use Rattle.dns_name.specs.Text.{name_of_text}
 use Rattle.r53_cli.specs.declared.once.Once.{Once}
 use Rattle.r53_cli.specs.Once.{IsOnce, IsPlain, Spells, HasNoForm}
 use Rattle.r53_cli.proofs.Numbers.{same_number, one_address}
@@ -60,7 +59,7 @@ module _ (words : List (List ℕ)) (name ttl address : List ℕ) (form : words �
       let ttls : ttl ≡ f.ttl = cc in
       let addresses : f.address ≡ address = cc in
       record {
-        name_is = subst (λ t. Names t once.name) names f.spelled.name_is;
+        name_is = ap name_of_text (sym names) ∙ f.spelled.name_is;
         ttl_is = ttls ∙ f.spelled.ttl_is;
         ttl_fits = f.spelled.ttl_fits;
         address_is = subst (λ t. IsDotted t once.address) addresses f.spelled.address_is;
@@ -77,15 +76,15 @@ same_once a b names ttls addresses =
     ap make same
 
 -- the words of a run have one reading
-pub one_form : OneNameOfAText → (words : List (List ℕ)) (once other : Once) → IsOnce words once → IsOnce words other → once ≡ other
-one_form one_name words once other x y =
+pub one_form : (words : List (List ℕ)) (once other : Once) → IsOnce words once → IsOnce words other → once ≡ other
+one_form words once other x y =
     let forms : codes "once" ∷ x.name ∷ x.ttl ∷ x.address ∷ [] ≡ codes "once" ∷ y.name ∷ y.ttl ∷ y.address ∷ [] = sym x.form ∙ y.form in
     let names : x.name ≡ y.name = cc in
     let ttls : x.ttl ≡ y.ttl = cc in
     let addresses : x.address ≡ y.address = cc in
     let f = x.spelled.ttl_fits in
     let g = y.spelled.ttl_fits in
-    let name = one_name x.name once.name other.name x.spelled.name_is (subst (λ t. Names t other.name) (sym names) y.spelled.name_is) in
+    let name : once.name ≡ other.name = let n = x.spelled.name_is in let m = ap name_of_text names ∙ y.spelled.name_is in cc in
     let ttl : once.ttl ≡ other.ttl = same_number x.ttl once.ttl other.ttl (omega arith) (omega arith) x.spelled.ttl_is (ttls ∙ y.spelled.ttl_is) in
     let address = one_address x.address once.address other.address x.spelled.address_is (subst (λ t. IsDotted t other.address) (sym addresses) y.spelled.address_is) in
     same_once once other name ttl address

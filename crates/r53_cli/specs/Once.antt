@@ -1,9 +1,9 @@
 -- The one record of `once`, and the replies that it gives.
-use Rattle.std.specs.Prelude.{◌≡◌, ◌≢◌, ℕ, ◌^◌, ◌<◌, ◌⊎◌, List, [], ◌∷◌, take, slice_index, codes, true, false}
+use Rattle.std.specs.Prelude.{◌≡◌, ◌≢◌, ℕ, ◌^◌, ◌<◌, ◌⊎◌, List, [], ◌∷◌, take, slice_index, codes, true, false, Ok}
 use Rattle.std.specs.List.{All}
 use Rattle.std.specs.Fmt.{decimal}
 use Rattle.std.specs.Net.Grammar.{IsDotted}
-use Rattle.dns_name.specs.Text.{Names}
+use Rattle.dns_name.specs.Text.{name_of_text}
 use Rattle.dns_message.specs.declared.query.Query.{Query}
 use Rattle.dns_message.specs.declared.query.QueryRead.{QueryRead}
 use Rattle.dns_message.specs.declared.query.QueryRead.TheVariants as read
@@ -19,7 +19,7 @@ IsPlain word = slice_index word 0 ≢ 0x2D
 -- The texts of a record: a name, a number of seconds below 2^31 in decimal digits without leading zeros, and an IPv4
 -- address.
 pub record Spells (name ttl address : List ℕ) (once : Once) : Type 0 where
-  pub name_is : Names name once.name
+  pub name_is : name_of_text name ≡ Ok once.name
   pub ttl_is : ttl ≡ decimal once.ttl
   pub ttl_fits : once.ttl < 2 ^ 31
   pub address_is : IsDotted address once.address

@@ -3,14 +3,11 @@
 ghost use Rattle.r53_cli.specs.Laws.{OneForm, OneReply};
 
 use dns_message::one_judgement;
-use dns_name::one_name_of_a_text;
 
 /// The words of a run have one reading.
 pub fn one_form()
     ensures { OneForm }
-{
-    one_name_of_a_text();
-}
+{}
 
 /// A packet has one reply.
 pub fn one_reply()

@@ -3,6 +3,7 @@ ghost use Rattle.std.specs.List.{All};
 ghost use Rattle.std.specs.String.{string_bytes};
 ghost use Rattle.std.specs.Fmt.{decimal};
 ghost use Rattle.std.specs.Net.Grammar.{IsDotted};
+ghost use Rattle.dns_name.specs.Text.{name_of_text};
 ghost use Rattle.r53_cli.specs.Once.{IsOnce, IsPlain, Spells, HasNoForm};
 ghost use Rattle.r53_cli.specs.Words.{IsUnpadded};
 ghost use Rattle.r53_cli.specs.declared.once.Once.{Once};
@@ -47,7 +48,7 @@ fn record(name: &str, ttl: &str, address: &str) -> Option<Once>
     ensures some { IfSome result (Spells name.now ttl.now address.now) }
     ensures none { IfNone result ((once : Once) → Spells name.now ttl.now address.now once → ⊥) }
 {
-    let Some(name) = Name::from_text(name.as_bytes()) else {
+    let Some(name) = name_of(name.as_bytes()) else {
         return None;
     };
     let Some(ttl) = seconds(ttl) else {
@@ -57,6 +58,17 @@ fn record(name: &str, ttl: &str, address: &str) -> Option<Once>
         return None;
     };
     Some(Once { name, ttl, address })
+}
+
+/// The name of a text.
+fn name_of(text: &[u8]) -> Option<Name>
+    ensures some { IfSome result (λ name. name_of_text text.now ≡ Ok name) }
+    ensures none { IfNone result ((labels : List (List ℕ)) → name_of_text text.now ≢ Ok labels) }
+{
+    match Name::from_text(text) {
+        Ok(name) => Some(name),
+        Err(_) => None,
+    }
 }
 
 /// The seconds that a text writes in decimal digits, without leading zeros. They are below 2^31.

@@ -55,6 +55,8 @@ fn answers(alloc: Global, texts: &[&str], packet: &str, reply: &str) -> Result<b
 
 const WWW: [&str; 4] = ["once", "www.example.com", "300", "192.0.2.1"];
 
+const ESCAPED: [&str; 4] = ["once", "\\127ww.Example.\\143om.", "300", "192.0.2.1"];
+
 const ROOT: [&str; 4] = ["once", ".", "2147483647", "255.255.255.255"];
 
 #[test]
@@ -66,6 +68,13 @@ fn answers_packets(rt: HostRuntime) -> Result<(), Fail> {
             WWW,
             "12340100000100000000000003775777076578616d706c6503636f6d0000010001",
             "12348500000100010000000003775777076578616d706c6503636f6d0000010001c00c000100010000012c0004c0000201",
+        ),
+        (
+            // \127 is W and \143 is c
+            "a name with escapes and a final dot",
+            ESCAPED,
+            "12340100000100000000000003777777076578616d706c6503636f6d0000010001",
+            "12348500000100010000000003777777076578616d706c6503636f6d0000010001c00c000100010000012c0004c0000201",
         ),
         (
             // the same with type AAAA
@@ -181,7 +190,7 @@ fn ends_with_a_status(rt: HostRuntime) -> Result<(), Fail> {
 
 #[test]
 fn refuses_words(rt: HostRuntime) -> Result<(), Fail> {
-    let rows: [&[&str]; 17] = [
+    let rows: [&[&str]; 19] = [
         &[],
         &["once"],
         &["once", "www.example.com"],
@@ -190,7 +199,9 @@ fn refuses_words(rt: HostRuntime) -> Result<(), Fail> {
         &["once", "", "300", "192.0.2.1"],
         &["once", "a..b", "300", "192.0.2.1"],
         &["once", "a b", "300", "192.0.2.1"],
-        &["once", "a\\046b", "300", "192.0.2.1"],
+        &["once", "a\\9", "300", "192.0.2.1"],
+        &["once", "a\\.b", "300", "192.0.2.1"],
+        &["once", "a\\400", "300", "192.0.2.1"],
         &["once", "-a", "300", "192.0.2.1"],
         &["once", "--help", "300", "192.0.2.1"],
         &["once", "www.example.com", "2147483648", "192.0.2.1"],

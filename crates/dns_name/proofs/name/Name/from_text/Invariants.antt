@@ -1,21 +1,19 @@
-use Rattle.std.proofs.Common.{◌≡◌, ℕ, ◌≤◌, List, ◌++◌, length, take}
-use Rattle.std.specs.Prelude.{◌==◌}
-use Rattle.std.specs.List.{All, AllByRecursion, flat_map, slice_split}
-use Rattle.dns_name.specs.Labels.{IsRawLabel, frame}
-use Rattle.dns_name.specs.Text.{IsTextByte, body_of}
+use Rattle.std.proofs.Common.{◌≡◌, ℕ, ◌-◌, ◌≤◌, List, [], length, drop}
+use Rattle.dns_name.specs.Spelling.{Spells}
+use Rattle.dns_name.specs.Text.{read_from}
+use Rattle.dns_name.specs.Text.Progress.{Reading}
 use Rattle.dns_name.proofs.name.Name.from_text.Given as goal
 
-pub record Spelling (whole spelled rest : List ℕ) (at : ℕ) : Type 0 where
+-- The text read from this place on is the whole text read from its start.
+pub record IsRead (text : List ℕ) (at : ℕ) (bytes : List ℕ) (start end : ℕ) : Type 0 where
+  pub within : at ≤ length text
   pub done : List (List ℕ)
-  pub each : AllByRecursion IsRawLabel done
-  pub bytes : AllByRecursion (All IsTextByte) done
-  pub split : slice_split (λ b. b == 46) whole ≡ done ++ slice_split (λ b. b == 46) rest
-  pub spelled_is : take at spelled ≡ flat_map frame done
-  pub room : at ≤ 254
-  pub array : length spelled ≡ 255
+  pub label : List ℕ
+  pub spells : Spells bytes start end done label
+  pub same : read_from (Reading 0 [] []) 0 text ≡ read_from (Reading 0 done label) at (drop at text)
 
-abbrev pub invariant-loop-label : goal.invariant-loop-label
-invariant-loop-label l = Spelling (body_of l.fn.text) l.spelled l.rest l.at
+abbrev pub invariant-loop-at : goal.invariant-loop-at
+invariant-loop-at l = IsRead l.text l.at l.spelling.bytes l.spelling.start l.spelling.end
 
-abbrev pub decreases-loop-label : goal.decreases-loop-label
-decreases-loop-label l = length l.rest
+abbrev pub decreases-loop-at : goal.decreases-loop-at
+decreases-loop-at l = length l.text - l.at
