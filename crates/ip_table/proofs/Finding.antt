@@ -21,13 +21,14 @@ module _ (prefixes : List Prefix) (nodes : List Node) (prefix : Prefix) (all : A
       → (0 < child (node_at nodes at) (bit_behind (node_at nodes at).depth prefix.address)) × Stands prefixes nodes ((node_at nodes at).depth + 1) row
   stands_on at leads other row h same s =
       let d = (node_at nodes at).depth in
-      let long = no_deeper prefixes nodes (width_of prefix.address) all tree d row h s in
+      let family = ap (λ (q : Prefix). width_of q.address) same in
+      let long = no_deeper prefixes nodes (width_of prefix.address) all tree row h family d s in
       let bits : SharesFirst (prefix_at prefixes row).length (prefix_at prefixes row).address prefix.address = record {
-        family = ap (λ (q : Prefix). width_of q.address) same;
+        family = family;
         bits = ap (λ (q : Prefix). first_bits (prefix_at prefixes row).length q.address) same;
       } in
       let way = shares_fewer d (prefix_at prefixes row).length (prefix_at prefixes row).address prefix.address (omega (arith, s.below)) bits in
-      elim (ways prefixes nodes (width_of prefix.address) all tree prefix.address d at leads row h s way.bits) [
+      elim (ways prefixes nodes (width_of prefix.address) all tree row h family prefix.address d at leads s way.bits) [
         | Here is ↦ absurd (other (ap (prefix_at prefixes) is ∙ same))
         | On some stands bits ↦ (some, stands)
         | Aside some deep differ ↦ absurd (differ (shares_fewer (d + 1) _ _ _ deep bits).bits)

@@ -84,12 +84,3 @@ one_prefix p q a b level same =
     let z : number_of q.address % 2 ^ (128 - p.length) ≡ 0 = subst (λ n. number_of q.address % 2 ^ (128 - n) ≡ 0) (sym level) b.zeros in
     let e = same_address p.address q.address a.octets b.octets same.family (same_number (number_of p.address) (number_of q.address) (128 - p.length) same.bits a.zeros z) in
     ap (λ x. made x p.length) e ∙ ap (made q.address) level
-
-below_32 : (x : List ℕ) → AreOctets 4 x → from_be_bytes w32 x < 2 ^ 32
-below_32 x a = omega (arith, a.each 0, a.each 1, a.each 2, a.each 3)
-
--- an address spells a number of 128 bits
-pub number_fits : (a : IpAddress) → IsAddress a → number_of a < 2 ^ 128
-unfolding number_of
-number_fits (V4 x) s = omega (arith, below_32 x s)
-number_fits (V6 x) s = omega (arith, in_halves x, below_64 (take 8 x) (front x s), below_64 (drop 8 x) (back x s))

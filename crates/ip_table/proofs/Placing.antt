@@ -1,16 +1,16 @@
 -- A row is put into the tree of its family.
-use Rattle.std.proofs.Common.{◌≡◌, ◌≢◌, ℕ, ◌+◌, ◌*◌, ◌^◌, ◌<◌, ◌≤◌, ◌⊎◌, List, [], ◌∷◌, ◌++◌, length, refl, sym, ap, ◌∙◌, subst, inl, inr, arith, zero, suc, length-append, length-set, get_or-set_same, get_or-set_other}
+use Rattle.std.proofs.Common.{◌≡◌, ◌≢◌, ℕ, ◌+◌, ◌*◌, ◌<◌, ◌≤◌, ◌⊎◌, List, [], ◌∷◌, ◌++◌, length, refl, sym, ap, ◌∙◌, subst, inl, inr, arith, zero, suc, length-append, length-set, get_or-set_same, get_or-set_other}
 use Rattle.std.specs.Prelude.{slice_set}
 use Rattle.std.proofs.lemmas.Bool.{cases_lt, cases_eq}
 use Rattle.std.proofs.lemmas.List.{get_or_append_left, get_or_push}
 use Rattle.r53_io.specs.declared.address.IpAddress.{IpAddress}
 use Rattle.ip_table.specs.declared.tree.Node.{Node}
-use Rattle.ip_table.specs.Bits.{width_of, number_of, first_bits}
+use Rattle.ip_table.specs.Bits.{width_of, first_bits}
 use Rattle.ip_table.specs.Prefixes.{Prefix}
-use Rattle.ip_table.specs.Trees.{prefix_at, node_at, here, child, bit_behind, Leads, IsChild, IsNode, IsTree, Stands, AllStand, AllPrefixes, AreApart, IsCarried, linked, grown}
-use Rattle.ip_table.proofs.Octets.{number_fits, one_prefix}
+use Rattle.ip_table.specs.Trees.{prefix_at, node_at, here, child, bit_behind, Leads, IsChild, IsNode, IsTree, Stands, AllStand, AllPrefixes, AreApart, IsCarried, IsRoot, Begins, stem, window, taken_by, leaf, linked, grown}
+use Rattle.ip_table.proofs.Octets.{one_prefix}
 use Rattle.ip_table.proofs.FirstBits.{one_more}
-use Rattle.ip_table.proofs.Walks.{width_low, same_way, arrives, some_nodes}
+use Rattle.ip_table.proofs.Walks.{width_low, same_way, arrives, some_nodes, at_root}
 
 -- The nodes of a tree are kept: their depths, the bits that lead to them, and where they lead.
 record Keeps (prefixes : List Prefix) (nodes new : List Node) : Type 0 where
@@ -35,16 +35,26 @@ module _ (prefixes : List Prefix) (nodes new : List Node) (keeps : Keeps prefixe
             (below ∙ kid.bits ∙ ap (λ x. 2 * x + bit) (sym (keeps.bits i h)));
       }
 
-  leads_still : (width : ℕ) → AllPrefixes prefixes → IsTree prefixes nodes width → (a : IpAddress) → number_of a < 2 ^ 128
+  begins_still : 0 < length nodes → (a : IpAddress) → Begins prefixes nodes a → Begins prefixes new a
+  begins_still some a b = subst (λ n. first_bits n (here prefixes new 0).address ≡ first_bits n a) (sym (keeps.depth 0 some)) (keeps.bits 0 some ∙ b)
+
+  root_still : (d at : ℕ) → IsRoot nodes d at → IsRoot new d at
+  root_still d at r = record { some = omega (arith, r.some, keeps.long); is = r.is; depth = keeps.depth 0 r.some ∙ r.depth }
+
+  leads_still : (width : ℕ) → AllPrefixes prefixes → IsTree prefixes nodes width → (a : IpAddress) → Begins prefixes nodes a
       → (d at : ℕ) → Leads nodes a d at → Leads new a d at
-  leads_still width all tree a fits zero at l = (omega (arith, l.0, keeps.long), l.1)
-  leads_still width all tree a fits (suc d) at l =
-      let up = arrives prefixes nodes width all tree a fits d l.0 l.1 in (
-        l.0,
-        leads_still width all tree a fits d l.0 l.1,
-        keeps.links l.0 (bit_behind d a) up.within (subst (λ i. 0 < i) (sym l.2) l.3) ∙ l.2,
-        l.3,
-      )
+  leads_still width all tree a begins zero at l = root_still 0 at l
+  leads_still width all tree a begins (suc d) at l = elim l [
+    | inl root ↦ inl (root_still (suc d) at root)
+    | inr s ↦
+        let up = arrives prefixes nodes width all tree a begins d s.0 s.1 in
+        inr (s.0, leads_still width all tree a begins d s.0 s.1, keeps.links s.0 (bit_behind d a) up.within (subst (λ i. 0 < i) (sym s.2) s.3) ∙ s.2, s.3)
+  ]
+
+-- a leaf leads nowhere
+no_child : (prefixes : List Prefix) (d depth row b : ℕ) → 0 < child (leaf prefixes d depth row) b → ⊥
+no_child prefixes d depth row zero some = omega arith
+no_child prefixes d depth row (suc b) some = omega arith
 
 -- what stands at a place after a write
 at_set : (nodes : List Node) (at i : ℕ) (node : Node) → at < length nodes
@@ -61,6 +71,14 @@ linked_row n (suc b) k = refl
 linked_depth : (n : Node) (b k : ℕ) → (linked n b k).depth ≡ n.depth
 linked_depth n zero k = refl
 linked_depth n (suc b) k = refl
+
+linked_long : (n : Node) (b k : ℕ) → (linked n b k).long ≡ n.long
+linked_long n zero k = refl
+linked_long n (suc b) k = refl
+
+linked_window : (n : Node) (b k : ℕ) → (linked n b k).window ≡ n.window
+linked_window n zero k = refl
+linked_window n (suc b) k = refl
 
 linked_child : (n : Node) (b k : ℕ) → child (linked n b k) b ≡ k
 linked_child n zero k = refl
@@ -80,14 +98,21 @@ linked_other n (suc b) (suc o) k low below ne = absurd (omega arith)
 
 module _ (prefixes : List Prefix) (nodes : List Node) (width at row : ℕ) (all : AllPrefixes prefixes) (apart : AreApart prefixes)
     (c : IsCarried prefixes nodes width at row) where
+  some : 0 < length nodes
+  some = omega (arith, c.here)
+
+  -- each row of the family begins as all do
+  begun : (r : ℕ) → r < length prefixes → width_of (prefix_at prefixes r).address ≡ width → Begins prefixes nodes (prefix_at prefixes r).address
+  begun r h family = c.tree.begin some r h family
+
   way : first_bits (node_at nodes at).depth (here prefixes nodes at).address ≡ first_bits (node_at nodes at).depth (prefix_at prefixes row).address
-  way = (arrives prefixes nodes width all c.tree _ (number_fits _ (all row c.within).octets) (node_at nodes at).depth at c.leads).bits
+  way = (arrives prefixes nodes width all c.tree _ (begun row c.within c.family) (node_at nodes at).depth at c.leads).bits
 
   -- The row is as long as the bits that lead here: it takes this place, and the one that stood here is carried on.
-  module _ (new : List Node) (is : new ≡ slice_set nodes at (record (node_at nodes at) { row = row })) where
-    put : (i : ℕ) → ((i ≡ at) × (node_at new i ≡ record (node_at nodes at) { row = row })) ⊎ ((i ≢ at) × (node_at new i ≡ node_at nodes i))
-    put i = subst (λ ns. ((i ≡ at) × (node_at ns i ≡ record (node_at nodes at) { row = row })) ⊎ ((i ≢ at) × (node_at ns i ≡ node_at nodes i))) (sym is)
-        (at_set nodes at i (record (node_at nodes at) { row = row }) c.here)
+  module _ (new : List Node) (is : new ≡ slice_set nodes at (taken_by (node_at nodes at) prefixes (stem nodes) row)) where
+    put : (i : ℕ) → ((i ≡ at) × (node_at new i ≡ taken_by (node_at nodes at) prefixes (stem nodes) row)) ⊎ ((i ≢ at) × (node_at new i ≡ node_at nodes i))
+    put i = subst (λ ns. ((i ≡ at) × (node_at ns i ≡ taken_by (node_at nodes at) prefixes (stem nodes) row)) ⊎ ((i ≢ at) × (node_at ns i ≡ node_at nodes i))) (sym is)
+        (at_set nodes at i (taken_by (node_at nodes at) prefixes (stem nodes) row) c.here)
 
     long : length new ≡ length nodes
     long = ap length is ∙ length-set nodes at _
@@ -128,6 +153,9 @@ module _ (prefixes : List Prefix) (nodes : List Node) (width at row : ℕ) (all 
             row = subst (λ r. r < length prefixes) (sym this) c.within;
             family = ap (λ r. width_of (prefix_at prefixes r).address) this ∙ c.family;
             depth = omega (arith, depth i, ap (λ k. (node_at nodes k).depth) e.0, ap (λ r. (prefix_at prefixes r).length) this, c.long);
+            long = ap (λ (n : Node). n.long) e.1 ∙ ap (λ r. (prefix_at prefixes r).length) (sym this);
+            behind = ap (λ (n : Node). n.window) e.1 ∙ ap (λ r. window (stem nodes) (prefix_at prefixes r).address) (sym this)
+                ∙ ap (λ d. window d (here prefixes new i).address) (sym (depth 0));
             children = kids i h;
           }
       | inr e ↦
@@ -137,6 +165,9 @@ module _ (prefixes : List Prefix) (nodes : List Node) (width at row : ℕ) (all 
             row = subst (λ r. r < length prefixes) (sym this) before.row;
             family = ap (λ r. width_of (prefix_at prefixes r).address) this ∙ before.family;
             depth = omega (arith, depth i, ap (λ r. (prefix_at prefixes r).length) this, before.depth);
+            long = ap (λ (n : Node). n.long) e.1 ∙ before.long ∙ ap (λ r. (prefix_at prefixes r).length) (sym this);
+            behind = ap (λ (n : Node). n.window) e.1 ∙ before.behind ∙ ap (λ r. window (stem nodes) (prefix_at prefixes r).address) (sym this)
+                ∙ ap (λ d. window d (here prefixes new i).address) (sym (depth 0));
             children = kids i h;
           }
     ]
@@ -155,13 +186,14 @@ module _ (prefixes : List Prefix) (nodes : List Node) (width at row : ℕ) (all 
 
     tree : IsTree prefixes new width
     tree = record {
-      root = depth 0 ∙ c.tree.root;
+      low = omega (arith, depth 0, c.tree.low);
+      begin = λ some' r h family. begins_still prefixes nodes new kept some _ (begun r h family);
       each = λ i h. node i (subst (λ n. i < n) long h);
       apart = λ i j h k e. rows_apart i j (subst (λ n. i < n) long h) (subst (λ n. j < n) long k) e;
     }
 
-    still : (a : IpAddress) → number_of a < 2 ^ 128 → (d i : ℕ) → Leads nodes a d i → Leads new a d i
-    still a fits d i l = leads_still prefixes nodes new kept width all c.tree a fits d i l
+    still : (r : ℕ) → r < length prefixes → width_of (prefix_at prefixes r).address ≡ width → (d i : ℕ) → Leads nodes (prefix_at prefixes r).address d i → Leads new (prefix_at prefixes r).address d i
+    still r h family d i l = leads_still prefixes nodes new kept width all c.tree _ (begun r h family) d i l
 
     others : AllStand prefixes new width (node_at nodes at).row
     others r h family ne = elim (cases_eq r row) [
@@ -169,7 +201,7 @@ module _ (prefixes : List Prefix) (nodes : List Node) (width at row : ℕ) (all 
         depth = (node_at nodes at).depth;
         at = at;
         below = omega arith;
-        leads = subst (λ k. Leads new (prefix_at prefixes k).address (node_at nodes at).depth at) (sym e) (still _ (number_fits _ (all row c.within).octets) _ at c.leads);
+        leads = subst (λ k. Leads new (prefix_at prefixes k).address (node_at nodes at).depth at) (sym e) (still row c.within c.family _ at c.leads);
         is = elim (put at) [ inl x ↦ ap (λ (n : Node). n.row) x.1 ∙ sym e | inr x ↦ absurd (x.0 refl) ];
       }
       | inr other ↦
@@ -178,7 +210,7 @@ module _ (prefixes : List Prefix) (nodes : List Node) (width at row : ℕ) (all 
             depth = s.depth;
             at = s.at;
             below = omega arith;
-            leads = still _ (number_fits _ (all r h).octets) s.depth s.at s.leads;
+            leads = still r h family s.depth s.at s.leads;
             is = elim (put s.at) [ inl x ↦ absurd (ne (sym s.is ∙ ap (λ k. (node_at nodes k).row) x.0)) | inr x ↦ ap (λ (n : Node). n.row) x.1 ∙ s.is ];
           }
     ]
@@ -197,7 +229,7 @@ module _ (prefixes : List Prefix) (nodes : List Node) (width at row : ℕ) (all 
           ];
           here = subst (λ n. at < n) (sym long) c.here;
           leads = subst (λ n. Leads new (here prefixes nodes at).address n at) (sym (depth at))
-              (still _ (number_fits _ (all _ stood.row).octets) d at (same_way nodes (prefix_at prefixes row).address _ d at (sym way) c.leads));
+              (still _ stood.row stood.family d at (same_way nodes (prefix_at prefixes row).address _ d at (sym way) c.leads));
           long = omega (arith, depth at, stood.depth);
           others = others;
         }
@@ -219,7 +251,7 @@ module _ (prefixes : List Prefix) (nodes : List Node) (width at row : ℕ) (all 
   -- The row is longer, and no node stands behind its next bit: it gets one of its own there.
   module _ (bit : ℕ) (deeper : (node_at nodes at).depth < (prefix_at prefixes row).length)
       (bit_is : bit ≡ bit_behind (node_at nodes at).depth (prefix_at prefixes row).address) (free : child (node_at nodes at) bit ≡ 0)
-      (new : List Node) (is : new ≡ grown nodes at bit row) where
+      (new : List Node) (is : new ≡ grown prefixes nodes at bit row) where
     below_all : bit < 2
     below_all = omega arith
 
@@ -237,7 +269,7 @@ module _ (prefixes : List Prefix) (nodes : List Node) (width at row : ℕ) (all 
           | inr e ↦ inr (e.0, front ∙ e.1)
         ]
 
-    last : node_at new (length nodes) ≡ record { row = row; depth = (node_at nodes at).depth + 1; zero = 0; one = 0 }
+    last : node_at new (length nodes) ≡ leaf prefixes (stem nodes) ((node_at nodes at).depth + 1) row
     last = ap (λ ns. node_at ns (length nodes)) is ∙ get_or_push _ _ _ _ long_set
 
     row_kept : (i : ℕ) → i < length nodes → (node_at new i).row ≡ (node_at nodes i).row
@@ -257,6 +289,21 @@ module _ (prefixes : List Prefix) (nodes : List Node) (width at row : ℕ) (all 
       | inl e ↦ ap (λ (n : Node). child n b) e.1 ∙ linked_links _ bit b _ free (subst (λ k. 0 < child (node_at nodes k) b) e.0 some) ∙ ap (λ k. child (node_at nodes k) b) (sym e.0)
       | inr e ↦ ap (λ (n : Node). child n b) e.1
     ]
+
+    long_kept : (i : ℕ) → i < length nodes → (node_at new i).long ≡ (node_at nodes i).long
+    long_kept i h = elim (grew i h) [
+      | inl e ↦ ap (λ (n : Node). n.long) e.1 ∙ linked_long _ bit _ ∙ ap (λ k. (node_at nodes k).long) (sym e.0)
+      | inr e ↦ ap (λ (n : Node). n.long) e.1
+    ]
+
+    window_kept : (i : ℕ) → i < length nodes → (node_at new i).window ≡ (node_at nodes i).window
+    window_kept i h = elim (grew i h) [
+      | inl e ↦ ap (λ (n : Node). n.window) e.1 ∙ linked_window _ bit _ ∙ ap (λ k. (node_at nodes k).window) (sym e.0)
+      | inr e ↦ ap (λ (n : Node). n.window) e.1
+    ]
+
+    stem_kept : stem new ≡ stem nodes
+    stem_kept = depth_kept 0 some
 
     grown_keeps : Keeps prefixes nodes new
     grown_keeps = record {
@@ -309,6 +356,9 @@ module _ (prefixes : List Prefix) (nodes : List Node) (width at row : ℕ) (all 
             row = subst (λ r. r < length prefixes) (sym this) stood.row;
             family = ap (λ r. width_of (prefix_at prefixes r).address) this ∙ stood.family;
             depth = omega (arith, depth_kept i old, ap (λ r. (prefix_at prefixes r).length) this, stood.depth);
+            long = long_kept i old ∙ stood.long ∙ ap (λ r. (prefix_at prefixes r).length) (sym this);
+            behind = window_kept i old ∙ stood.behind ∙ ap (λ r. window (stem nodes) (prefix_at prefixes r).address) (sym this)
+                ∙ ap (λ d. window d (here prefixes new i).address) (sym stem_kept);
             children = grown_kids i old;
           }
       | inr above ↦
@@ -317,13 +367,12 @@ module _ (prefixes : List Prefix) (nodes : List Node) (width at row : ℕ) (all 
             row = subst (λ r. r < length prefixes) (sym (ap (λ (n : Node). n.row) last)) c.within;
             family = ap (λ (n : Node). width_of (prefix_at prefixes n.row).address) last ∙ c.family;
             depth = omega (arith, ap (λ (n : Node). n.depth) last, ap (λ (n : Node). (prefix_at prefixes n.row).length) last, deeper);
-            children = λ b low some. absurd (leaf b (subst (λ (n : Node). 0 < child n b) last some));
+            long = ap (λ (n : Node). n.long) last ∙ ap (λ (n : Node). (prefix_at prefixes n.row).length) (sym last);
+            behind = ap (λ (n : Node). n.window) last ∙ ap (λ (n : Node). window (stem nodes) (prefix_at prefixes n.row).address) (sym last)
+                ∙ ap (λ d. window d (here prefixes new (length nodes)).address) (sym stem_kept);
+            children = λ b low some. absurd (no_child prefixes (stem nodes) ((node_at nodes at).depth + 1) row b (subst (λ (n : Node). 0 < child n b) last some));
           }
     ]
-      where
-        leaf : (b : ℕ) → 0 < child (record { row = row; depth = (node_at nodes at).depth + 1; zero = 0; one = 0 }) b → ⊥
-        leaf zero some = omega arith
-        leaf (suc b) some = omega arith
 
     grown_apart : (i j : ℕ) → i < length new → j < length new → (node_at new i).row ≡ (node_at new j).row → i ≡ j
     grown_apart i j h k e =
@@ -342,13 +391,14 @@ module _ (prefixes : List Prefix) (nodes : List Node) (width at row : ℕ) (all 
 
     pub grown_tree : IsTree prefixes new width
     grown_tree = record {
-      root = depth_kept 0 (omega (arith, c.here)) ∙ c.tree.root;
+      low = omega (arith, stem_kept, c.tree.low);
+      begin = λ some' r h family. begins_still prefixes nodes new grown_keeps some _ (begun r h family);
       each = grown_node;
       apart = grown_apart;
     }
 
-    grown_still : (a : IpAddress) → number_of a < 2 ^ 128 → (d i : ℕ) → Leads nodes a d i → Leads new a d i
-    grown_still a fits d i l = leads_still prefixes nodes new grown_keeps width all c.tree a fits d i l
+    grown_still : (r : ℕ) → r < length prefixes → width_of (prefix_at prefixes r).address ≡ width → (d i : ℕ) → Leads nodes (prefix_at prefixes r).address d i → Leads new (prefix_at prefixes r).address d i
+    grown_still r h family d i l = leads_still prefixes nodes new grown_keeps width all c.tree _ (begun r h family) d i l
 
     -- every row stands in the tree
     pub all_stand : AllStand prefixes new width (length prefixes)
@@ -357,9 +407,9 @@ module _ (prefixes : List Prefix) (nodes : List Node) (width at row : ℕ) (all 
         depth = suc (node_at nodes at).depth;
         at = length nodes;
         below = omega arith;
-        leads = (
+        leads = inr (
           at,
-          grown_still _ (number_fits _ (all row c.within).octets) _ at c.leads,
+          grown_still row c.within c.family _ at c.leads,
           subst (λ b. child (node_at new at) b ≡ length nodes) bit_is (elim (grew at c.here) [
             | inl x ↦ ap (λ (n : Node). child n bit) x.1 ∙ linked_child _ bit _
             | inr x ↦ absurd (x.0 refl)
@@ -370,12 +420,12 @@ module _ (prefixes : List Prefix) (nodes : List Node) (width at row : ℕ) (all 
       }
       | inr other ↦
           let s = c.others r h family other in
-          let stood = arrives prefixes nodes width all c.tree _ (number_fits _ (all r h).octets) s.depth s.at s.leads in
+          let stood = arrives prefixes nodes width all c.tree _ (begun r h family) s.depth s.at s.leads in
           record {
             depth = s.depth;
             at = s.at;
             below = omega arith;
-            leads = grown_still _ (number_fits _ (all r h).octets) s.depth s.at s.leads;
+            leads = grown_still r h family s.depth s.at s.leads;
             is = row_kept s.at stood.within ∙ s.is;
           }
     ]
@@ -384,10 +434,10 @@ module _ (prefixes : List Prefix) (nodes : List Node) (width at row : ℕ) (all 
   pub further : (next : ℕ) → (node_at nodes at).depth < (prefix_at prefixes row).length
       → next ≡ child (node_at nodes at) (bit_behind (node_at nodes at).depth (prefix_at prefixes row).address) → 0 < next
       → IsCarried prefixes nodes width next row × ((node_at nodes next).depth ≡ (node_at nodes at).depth + 1)
-  further next deeper next_is some =
+  further next deeper next_is more =
       let d = (node_at nodes at).depth in
-      let on : Leads nodes (prefix_at prefixes row).address (suc d) next = (at, c.leads, sym next_is, some) in
-      let end = arrives prefixes nodes width all c.tree _ (number_fits _ (all row c.within).octets) (suc d) next on in (
+      let on : Leads nodes (prefix_at prefixes row).address (suc d) next = inr (at, c.leads, sym next_is, more) in
+      let end = arrives prefixes nodes width all c.tree _ (begun row c.within c.family) (suc d) next on in (
         record {
           tree = c.tree;
           within = c.within;
@@ -402,17 +452,54 @@ module _ (prefixes : List Prefix) (nodes : List Node) (width at row : ℕ) (all 
       )
 
 -- The first row of the family stands at the root.
-pub alone : (prefixes : List Prefix) (nodes new : List Node) (width row : ℕ) → length nodes ≡ 0 → AllStand prefixes nodes width row
-    → new ≡ nodes ++ record { row = row; depth = 0; zero = 0; one = 0 } ∷ [] → AllStand prefixes new width (length prefixes)
-alone prefixes nodes new width row none others is r h family ne = elim (cases_eq r row) [
-  | inl e ↦ record {
-    depth = 0;
-    at = 0;
-    below = omega arith;
-    leads = (omega (arith, ap length is, length-append {A = Node}), refl);
-    is = ap (λ ns. (node_at ns 0).row) is ∙ ap (λ (n : Node). n.row) (get_or_push nodes _ _ 0 none) ∙ sym e;
+module _ (prefixes : List Prefix) (nodes new : List Node) (width d row : ℕ) (none : length nodes ≡ 0) (others : AllStand prefixes nodes width row)
+    (within : row < length prefixes) (family : width_of (prefix_at prefixes row).address ≡ width) (low : d ≤ 96) (long : d ≤ (prefix_at prefixes row).length)
+    (is : new ≡ nodes ++ leaf prefixes d d row ∷ []) where
+  pub one_long : length new ≡ 1
+  one_long = omega (arith, ap length is, length-append {A = Node}, none)
+
+  root_is : node_at new 0 ≡ leaf prefixes d d row
+  root_is = ap (λ ns. node_at ns 0) is ∙ get_or_push nodes _ _ 0 none
+
+  pub root_stem : stem new ≡ d
+  root_stem = ap (λ (n : Node). n.depth) root_is
+
+  -- no other row is of the family
+  only : (r : ℕ) → r < length prefixes → width_of (prefix_at prefixes r).address ≡ width → r ≡ row
+  only r h of_it = elim (cases_eq r row) [
+    | inl e ↦ e
+    | inr other ↦
+        let s = others r h of_it other in
+        absurd (omega (arith, none, some_nodes nodes (prefix_at prefixes r).address s.depth s.at s.leads))
+  ]
+
+  alone_node : IsNode prefixes new width 0
+  alone_node =
+      let this : (node_at new 0).row ≡ row = ap (λ (n : Node). n.row) root_is in
+      record {
+        row = subst (λ r. r < length prefixes) (sym this) within;
+        family = ap (λ r. width_of (prefix_at prefixes r).address) this ∙ family;
+        depth = omega (arith, root_stem, ap (λ r. (prefix_at prefixes r).length) this);
+        long = ap (λ (n : Node). n.long) root_is ∙ ap (λ r. (prefix_at prefixes r).length) (sym this);
+        behind = ap (λ (n : Node). n.window) root_is ∙ ap (λ r. window d (prefix_at prefixes r).address) (sym this) ∙ ap (λ k. window k (here prefixes new 0).address) (sym root_stem);
+        children = λ b below some. absurd (no_child prefixes d d row b (subst (λ (n : Node). 0 < child n b) root_is some));
+      }
+
+  pub alone_tree : IsTree prefixes new width
+  alone_tree = record {
+    low = omega (arith, root_stem);
+    begin = λ some r h of_it. ap (λ k. first_bits (stem new) (prefix_at prefixes k).address) (ap (λ (n : Node). n.row) root_is ∙ sym (only r h of_it));
+    each = λ i h. let first : 0 ≡ i = omega (arith, one_long) in subst (λ k. IsNode prefixes new width k) first alone_node;
+    apart = λ i j h k e. omega (arith, one_long);
   }
-  | inr other ↦
-      let s = others r h family other in
-      absurd (omega (arith, none, some_nodes nodes (prefix_at prefixes r).address s.depth s.at s.leads))
-]
+
+  pub alone : AllStand prefixes new width (length prefixes)
+  alone r h of_it ne =
+      let e = only r h of_it in
+      record {
+        depth = d;
+        at = 0;
+        below = omega arith;
+        leads = at_root new (prefix_at prefixes r).address d (omega (arith, one_long)) root_stem;
+        is = ap (λ (n : Node). n.row) root_is ∙ sym e;
+      }

@@ -1,6 +1,6 @@
-ghost use Rattle.std.specs.Prelude.{◌≡◌, ◌-◌, ◌^◌, ◌/◌, ◌<◌, ◌≤◌, ◌↔◌, ℕ};
-ghost use Rattle.ip_table.specs.Bits.{IsAddress, width_of, number_of, first_bits};
-ghost use Rattle.ip_table.specs.Trees.{bit_behind};
+ghost use Rattle.std.specs.Prelude.{◌≡◌, ◌+◌, ◌-◌, ◌^◌, ◌/◌, ◌≤◌, ◌↔◌, ℕ};
+ghost use Rattle.ip_table.specs.Bits.{width_of, number_of, first_bits};
+ghost use Rattle.ip_table.specs.Trees.{bit_behind, window};
 
 use r53_io::IpAddress;
 
@@ -16,8 +16,7 @@ pub(crate) fn width_of(address: IpAddress) -> u8
 
 /// The number that the bits of an address spell, filled up with zeros to 128 bits.
 pub(crate) fn number_of(address: IpAddress) -> u128
-    ensures number { result ≡ number_of address }
-    ensures octets { IsAddress address }
+    ensures { result ≡ number_of address }
 {
     match address {
         IpAddress::V4(octets) => u128::from(u32::from_be_bytes(octets)) << 96,
@@ -41,11 +40,25 @@ fn common_bits(a: u128, b: u128) -> u8
     (a ^ b).leading_zeros() as u8
 }
 
-/// The bit behind the first ones.
-pub(crate) fn bit_of(depth: u8, address: IpAddress) -> u8
-    ensures bit { result ≡ bit_behind depth address }
-    ensures fits { number_of address < 2 ^ 128 }
+/// The bit behind the first ones, of the number that an address's bits spell.
+pub(crate) fn bit_of(depth: u8, number: u128) -> u8
+    ensures { (a : IpAddress) → number ≡ number_of a → result ≡ bit_behind depth a }
 {
-    let behind = 127u8.saturating_sub(depth);
-    (number_of(address) >> behind & 1) as u8
+    (number >> 127u8.saturating_sub(depth) & 1) as u8
+}
+
+/// The 32 bits behind the first ones, of the number that an address's bits spell.
+pub(crate) fn window_of(depth: u8, number: u128) -> u32
+    requires { depth ≤ 96 }
+    ensures { (a : IpAddress) → number ≡ number_of a → result ≡ window depth a }
+{
+    (number >> (96 - depth) & 0xffff_ffff) as u32
+}
+
+/// How many first bits two addresses have in common that differ in the 32 bits behind the first ones.
+pub(crate) fn shared_before(depth: u8, a: u32, b: u32) -> u8
+    requires { depth ≤ 96 }
+    ensures { (m : ℕ) → m ≤ 32 → (depth + m ≤ result ↔ (a / 2 ^ (32 - m) ≡ b / 2 ^ (32 - m))) }
+{
+    depth + (a ^ b).leading_zeros() as u8
 }

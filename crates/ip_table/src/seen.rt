@@ -1,26 +1,34 @@
-ghost use Rattle.std.specs.Prelude.{◌≡◌, ℕ, ◌<◌, length, max, Some, ◌⊎◌};
-ghost use Rattle.ip_table.specs.Bits.{width_of};
+ghost use Rattle.std.specs.Prelude.{◌≡◌, ℕ, ◌<◌, ◌≤◌, length, max, Some, ◌⊎◌, ◌↔◌};
+ghost use Rattle.ip_table.specs.Bits.{width_of, first_bits};
+ghost use Rattle.ip_table.specs.Prefixes.{IsPrefix};
 ghost use Rattle.ip_table.specs.Trees.{IsSound, IsDone, HasLength, prefix_at};
 
 use crate::IpPrefix;
-use crate::bits::shared_bits;
 use crate::tree::Seen;
 use r53_io::IpAddress;
 
-/// What has been seen with one more row of the address's family.
-pub(crate) fn with_row(prefixes: &[IpPrefix], row: u32, address: IpAddress, seen: Seen) -> Seen
+/// What has been seen with one more row of the address's family, of this length, that shares so many bits.
+pub(crate) fn with_row(
+    prefixes: &[IpPrefix],
+    row: u32,
+    long: u8,
+    shared: u8,
+    address: IpAddress,
+    seen: Seen,
+) -> Seen
     requires row { row < length prefixes.now }
+    requires prefix { IsPrefix (prefix_at prefixes.now row).address (prefix_at prefixes.now row).length }
+    requires long { long ≡ (prefix_at prefixes.now row).length }
     requires family { width_of (prefix_at prefixes.now row).address ≡ width_of address }
+    requires shared { (n : ℕ) → n ≤ 128
+        → (n ≤ shared ↔ (first_bits n (prefix_at prefixes.now row).address ≡ first_bits n address)) }
     requires sound { IsSound prefixes.now address seen }
     ensures sound { IsSound prefixes.now address result }
     ensures done { IsDone prefixes.now address result row }
     ensures keeps { (r : ℕ) → IsDone prefixes.now address seen r → IsDone prefixes.now address result r }
 {
-    let prefix = prefix_of(prefixes, row);
-    let length = prefix.length();
-    let shared = shared_bits(prefix.address(), address);
-    if length <= shared {
-        return with_found(prefixes, row, length, seen);
+    if long <= shared {
+        return with_found(prefixes, row, long, seen);
     }
     with_past(shared + 1, seen)
 }
@@ -35,21 +43,22 @@ pub(crate) fn prefix_of(prefixes: &[IpPrefix], row: u32) -> IpPrefix
 
 /// A row of this length is found where it is longer than the one before.
 fn with_found(prefixes: &[IpPrefix], row: u32, long: u8, seen: Seen) -> Seen
-    requires row { row < length prefixes.now }
     requires same { long ≡ (prefix_at prefixes.now row).length }
-    requires found { (r : ℕ) → seen.found ≡ Some r → r < length prefixes.now }
+    requires found { (r : ℕ) → seen.found ≡ Some r → seen.long ≡ (prefix_at prefixes.now r).length }
     ensures past { result.past ≡ seen.past }
-    ensures found { (result.found ≡ Some row) ⊎ (result.found ≡ seen.found) }
+    ensures found { (result.found ≡ Some row) × (result.long ≡ long)
+        ⊎ (result.found ≡ seen.found) × (result.long ≡ seen.long) }
     ensures long { HasLength prefixes.now result.found long }
     ensures keeps { (n : ℕ) → HasLength prefixes.now seen.found n → HasLength prefixes.now result.found n }
 {
-    if let Some(found) = seen.found {
-        if long <= prefixes[found as usize].length() {
+    if let Some(_found) = seen.found {
+        if long <= seen.long {
             return seen;
         }
     }
     Seen {
         found: Some(row),
+        long,
         past: seen.past,
     }
 }
@@ -57,10 +66,12 @@ fn with_found(prefixes: &[IpPrefix], row: u32, long: u8, seen: Seen) -> Seen
 /// So many bits are not shared.
 pub(crate) fn with_past(past: u8, seen: Seen) -> Seen
     ensures found { result.found ≡ seen.found }
+    ensures long { result.long ≡ seen.long }
     ensures past { result.past ≡ max seen.past past }
 {
     Seen {
         found: seen.found,
+        long: seen.long,
         past: seen.past.max(past),
     }
 }

@@ -113,10 +113,7 @@ impl<V> IpTable<V> {
         let seen = sum_up(&self.prefixes, nodes, address);
         match seen.found {
             None => (None, seen.past),
-            Some(row) => {
-                let length = self.prefixes[row as usize].length();
-                (Some(&self.values[row as usize]), seen.past.max(length))
-            }
+            Some(row) => (Some(&self.values[row as usize]), seen.past.max(seen.long)),
         }
     }
 }

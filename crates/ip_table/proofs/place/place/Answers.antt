@@ -1,17 +1,12 @@
 use Rattle.std.proofs.Common.{◌≡◌, ◌∙◌, List, sym, ap, subst, arith}
-use Rattle.std.proofs.lemmas.Bool.Decides.{nat_tests}
 use Rattle.ip_table.specs.declared.tree.Node.{Node}
-use Rattle.ip_table.specs.Bits.{width_of}
+use Rattle.ip_table.specs.Bits.{width_of, number_of}
 use Rattle.ip_table.specs.Prefixes.{Prefix}
 use Rattle.ip_table.specs.Trees.{IsCarried, prefix_at, node_at, child, bit_behind}
-use Rattle.ip_table.proofs.Placing.{alone, grown_tree, all_stand, further}
+use Rattle.ip_table.proofs.Placing.{grown_tree, all_stand, further}
 use Rattle.ip_table.proofs.Walks.{shallow}
 use Rattle.ip_table.proofs.place.place.Goals as goal
 use Rattle.ip_table.proofs.place.place.Goals.{After-child_of-next}
-
-pub returns-then-is_empty-clause-all : goal.returns-then-is_empty-clause-all
-returns-then-is_empty-clause-all c =
-    alone c.args.prefixes.now c.args.nodes.now.items _ _ c.args.row (grind (arith, nat_tests)) c.requires.others c.push_reserved.ensures.items
 
 carried : (c : After-child_of-next) → IsCarried c.args.prefixes.now c.settle-carried.new.nodes.items (width_of (prefix_at c.args.prefixes.now c.args.row).address) c.loop-nodes.at c.settle-carried.result
 carried c =
@@ -24,10 +19,9 @@ node_is c = c.node_of-node.ensures ∙ ap (λ (ns : List Node). node_at ns c.loo
 bit_is : (c : After-child_of-next) → c.bit_of-bit.result
     ≡ bit_behind (node_at c.settle-carried.new.nodes.items c.loop-nodes.at).depth (prefix_at c.args.prefixes.now c.settle-carried.result).address
 bit_is c =
-    c.bit_of-bit.ensures.bit
-    ∙ ap (λ (n : Node). bit_behind n.depth c.address.result) (node_is c)
-    ∙ ap (bit_behind (node_at c.settle-carried.new.nodes.items c.loop-nodes.at).depth)
-    (c.address.ensures.value ∙ ap (λ (p : Prefix). p.address) c.prefix_of.ensures)
+    c.bit_of-bit.ensures (prefix_at c.args.prefixes.now c.settle-carried.result).address
+    (c.number_of.ensures ∙ ap number_of (c.address.ensures.value ∙ ap (λ (p : Prefix). p.address) c.prefix_of.ensures))
+    ∙ ap (λ (n : Node). bit_behind n.depth (prefix_at c.args.prefixes.now c.settle-carried.result).address) (node_is c)
 
 next_is : (c : After-child_of-next) → c.child_of-next.result ≡ child (node_at c.settle-carried.new.nodes.items c.loop-nodes.at) c.bit_of-bit.result
 next_is c = c.child_of-next.ensures ∙ ap (λ (n : Node). child n c.bit_of-bit.result) (node_is c)
@@ -51,8 +45,10 @@ loop-nodes-preserved c =
     record {
       carried = (further c.args.prefixes.now nodes _ c.loop-nodes.at c.settle-carried.result c.requires.prefixes c.requires.apart (carried s)
           c.child_of-next.result c.settle-carried.ensures.deeper (next_is s ∙ ap (child (node_at nodes c.loop-nodes.at)) (bit_is s)) (omega arith)).0;
+      root = c.settle-carried.ensures.stem ∙ c.loop-nodes.invariant.root;
       long = c.settle-carried.ensures.length ∙ c.loop-nodes.invariant.long;
-      room = c.settle-carried.ensures.room c.loop-nodes.invariant.room;
+      len = c.settle-carried.ensures.len ∙ c.loop-nodes.invariant.len;
+      room = c.settle-carried.ensures.capacity ∙ c.loop-nodes.invariant.room;
     }
 
 pub loop-nodes-smaller : goal.loop-nodes-smaller

@@ -1,12 +1,13 @@
-use Rattle.std.proofs.Common.{◌≡◌, ◌∙◌, sym, ap, subst, arith}
+use Rattle.std.proofs.Common.{◌≡◌, ◌<◌, ◌∙◌, length, refl, sym, ap, subst, arith}
 use Rattle.std.proofs.lemmas.Bool.{false≢true}
 use Rattle.std.proofs.lemmas.Bool.Decides.{nat_tests}
 use Rattle.ip_table.specs.declared.tree.Node.{Node}
-use Rattle.ip_table.specs.Bits.{width_of}
-use Rattle.ip_table.specs.Trees.{Stands, here, prefix_at, node_at, child, bit_behind}
+use Rattle.ip_table.specs.Bits.{width_of, number_of}
+use Rattle.ip_table.specs.Prefixes.{Prefix}
+use Rattle.ip_table.specs.Trees.{Begins, Stands, stem, here, prefix_at, node_at, child, bit_behind}
 use Rattle.ip_table.proofs.Finding.{not_there, stands_on}
-use Rattle.ip_table.proofs.Octets.{number_fits}
-use Rattle.ip_table.proofs.Walks.{onward}
+use Rattle.ip_table.proofs.Sums.{stands}
+use Rattle.ip_table.proofs.Walks.{at_root, onward}
 use Rattle.ip_table.proofs.walk.is_there.Goals as goal
 use Rattle.ip_table.proofs.walk.is_there.Goals.{After-child_of-next}
 
@@ -23,7 +24,7 @@ other c same =
 next_is : (c : After-child_of-next) → c.child_of-next.result ≡ child (node_at c.args.nodes.now c.loop-prefix.at) (bit_behind (node_at c.args.nodes.now c.loop-prefix.at).depth c.args.prefix.address)
 next_is c =
     c.child_of-next.ensures
-    ∙ ap (child c.node_of-node.result) (c.bit_of.ensures.bit ∙ ap (bit_behind c.node_of-node.result.depth) c.address-address.ensures.value)
+    ∙ ap (child c.node_of-node.result) (c.bit_of.ensures c.args.prefix.address (c.number_of-number.ensures ∙ ap number_of c.address-address.ensures.value))
     ∙ ap (λ (n : Node). child n (bit_behind n.depth c.args.prefix.address)) c.node_of-node.ensures
 
 pub returns-then-next-eq0 : goal.returns-then-next-eq0
@@ -38,11 +39,20 @@ returns-then-next-eq0 c =
       )),
     )
 
+pub loop-prefix-init : goal.loop-prefix-init
+loop-prefix-init c =
+    let some : 0 < length c.args.nodes.now = grind (arith, nat_tests) in
+    record {
+      within = some;
+      leads = at_root c.args.nodes.now c.args.prefix.address (stem c.args.nodes.now) some refl;
+      ahead = λ row h same. stands c.args.prefixes.now c.args.nodes.now c.args.prefix.address c.requires.tree c.requires.all some row h (ap (λ (q : Prefix). width_of q.address) same);
+    }
+
 pub loop-prefix-preserved : goal.loop-prefix-preserved
 loop-prefix-preserved c =
     let s = (goal.at.loop-prefix-preserved c).After-child_of-next in
-    let fits = number_fits c.args.prefix.address c.address-address.ensures.prefix.octets in
-    let goes = onward c.args.prefixes.now c.args.nodes.now (width_of c.args.prefix.address) c.requires.prefixes c.requires.tree c.args.prefix.address fits c.loop-prefix.at c.child_of-next.result c.loop-prefix.invariant.leads (next_is s) (omega arith) in
+    let begins = subst (λ x. Begins c.args.prefixes.now c.args.nodes.now x) c.address-address.ensures.value (c.begins.ensures.0 c.if-not-begins.false) in
+    let goes = onward c.args.prefixes.now c.args.nodes.now (width_of c.args.prefix.address) c.requires.prefixes c.requires.tree c.args.prefix.address begins c.loop-prefix.at c.child_of-next.result c.loop-prefix.invariant.leads (next_is s) (omega arith) in
     record {
       within = goes.within;
       leads = goes.leads;

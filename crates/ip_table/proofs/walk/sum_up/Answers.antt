@@ -1,35 +1,23 @@
-use Rattle.std.proofs.Common.{sym, subst, inl, inr, arith}
+use Rattle.std.proofs.Common.{◌≡◌, ℕ, ◌≤◌, ◌↔◌, sym, ap, ◌∙◌, subst, arith}
 use Rattle.std.proofs.lemmas.Bool.Decides.{nat_tests}
-use Rattle.ip_table.specs.Bits.{width_of}
-use Rattle.ip_table.specs.Trees.{IsAhead}
-use Rattle.ip_table.proofs.Sums.{empty, finish}
-use Rattle.ip_table.proofs.Walks.{shallow}
+use Rattle.ip_table.specs.declared.tree.Node.{Node}
+use Rattle.ip_table.specs.Bits.{first_bits}
+use Rattle.ip_table.specs.Prefixes.{Prefix}
+use Rattle.ip_table.specs.Trees.{SumsUp, here, prefix_at}
+use Rattle.ip_table.proofs.Sums.{empty, far}
 use Rattle.ip_table.proofs.walk.sum_up.Goals as goal
 
 pub returns-then-is_empty : goal.returns-then-is_empty
-returns-then-is_empty c = empty _ c.args.nodes.now _ (grind (arith, nat_tests)) c.requires.all
+returns-then-is_empty c =
+    subst (λ s. SumsUp c.args.prefixes.now c.args.address s) (sym c.nothing.ensures)
+    (empty _ c.args.nodes.now _ (grind (arith, nat_tests)) c.requires.all)
 
-pub returns-then-visited-eq0 : goal.returns-then-visited-eq0
-returns-then-visited-eq0 c =
-    let e = c.at_node-visited.ensures in
-    finish _ c.args.nodes.now _ _ c.at_node-visited.result.next _ c.if-visited-eq0.true e.sound
-    (λ row h family. e.each row h (c.loop-address.invariant.each e.fits row h family))
-
-pub loop-address-smaller : goal.loop-address-smaller
-loop-address-smaller c =
-    let goes = c.at_node-visited.ensures.goes (omega arith) in
-    omega (arith, goes.depth, shallow c.args.prefixes.now c.args.nodes.now (width_of c.args.address) c.requires.prefixes c.requires.tree c.at_node-visited.result.next goes.within)
-
-pub loop-address-preserved : goal.loop-address-preserved
-loop-address-preserved c =
-    let e = c.at_node-visited.ensures in
-    let goes = e.goes (omega arith) in
-    record {
-      within = goes.within;
-      leads = goes.leads;
-      sound = e.sound;
-      each = λ fits row h family. elim (e.each row h (c.loop-address.invariant.each fits row h family)) [
-        | inl ahead ↦ inl (subst (λ d. IsAhead c.args.prefixes.now c.args.nodes.now c.args.address d row) (sym goes.depth) ahead.1)
-        | inr done ↦ inr done
-      ];
-    }
+pub returns-then-shared-root : goal.returns-then-shared-root
+returns-then-shared-root c =
+    let ps = c.args.prefixes.now in
+    let own : c.address.result ≡ (here ps c.args.nodes.now 0).address =
+    c.address.ensures.value ∙ ap (λ (p : Prefix). p.address) (c.prefix_of.ensures ∙ ap (λ (n : Node). prefix_at ps n.row) c.node_of-root.ensures) in
+    subst (λ s. SumsUp ps c.args.address s) (sym c.nothing-then-shared-root.ensures)
+    (far ps c.args.nodes.now c.args.address c.requires.tree c.requires.all (grind (arith, nat_tests)) c.requires.prefixes c.shared_bits-shared.result
+    (subst (λ x. (n : ℕ) → n ≤ 128 → (n ≤ c.shared_bits-shared.result ↔ (first_bits n x ≡ first_bits n c.args.address))) own c.shared_bits-shared.ensures.same)
+    (omega (arith, c.if-shared-root.true, ap (λ (n : Node). n.depth) c.node_of-root.ensures)))

@@ -1,4 +1,4 @@
-use Rattle.std.proofs.Common.{◌≡◌, ◌∙◌, ◌+◌, ◌++◌, ◌∷◌, [], List, length, refl, sym, ap, arith}
+use Rattle.std.proofs.Common.{◌≡◌, ◌∙◌, ◌++◌, ◌∷◌, [], List, length, refl, sym, ap, arith}
 use Rattle.std.proofs.lemmas.List.{length_push}
 use Rattle.ip_table.specs.Bits.{width_of}
 use Rattle.ip_table.specs.Prefixes.{Prefix}
@@ -40,7 +40,7 @@ invariant_of-self-in-V4 g c =
     (omega (arith, c.len.ensures, i.prefixes.ok.0, c.if-len-ge-MAX_ROWS.false))
     c.add_row.new.prefixes.items (c.add_row.ensures.items ∙ ap (λ (ps : List Prefix). ps ++ c.args.prefix ∷ []) c.make_room.ensures.prefixes)
     (length c.push_reserved.new.self.items) (ap length (c.push_reserved.ensures.items ∙ ap (λ vs. vs ++ c.args.value ∷ []) c.make_room.ensures.values) ∙ length_push i.values.items c.args.value)
-    c.add_row.new.nodes.items c.add_row.ensures.tree c.add_row.ensures.all family (c.add_row.ensures.length ∙ ap (λ ns. length ns + 1) c.make_room.ensures.nodes)
+    c.add_row.new.nodes.items c.add_row.ensures.tree c.add_row.ensures.all family c.add_row.ensures.nodes
 
 pub returns-else-not-make_room : goal.returns-else-not-make_room
 returns-else-not-make_room g c =
@@ -75,7 +75,7 @@ invariant_of-self-in-V6 g c =
     (omega (arith, c.len.ensures, i.prefixes.ok.0, c.if-len-ge-MAX_ROWS.false))
     c.add_row-in-V6.new.prefixes.items (c.add_row-in-V6.ensures.items ∙ ap (λ (ps : List Prefix). ps ++ c.args.prefix ∷ []) c.make_room-in-V6.ensures.prefixes)
     (length c.push_reserved-in-V6.new.self.items) (ap length (c.push_reserved-in-V6.ensures.items ∙ ap (λ vs. vs ++ c.args.value ∷ []) c.make_room-in-V6.ensures.values) ∙ length_push i.values.items c.args.value)
-    c.add_row-in-V6.new.nodes.items c.add_row-in-V6.ensures.tree c.add_row-in-V6.ensures.all family (c.add_row-in-V6.ensures.length ∙ ap (λ ns. length ns + 1) c.make_room-in-V6.ensures.nodes)
+    c.add_row-in-V6.new.nodes.items c.add_row-in-V6.ensures.tree c.add_row-in-V6.ensures.all family c.add_row-in-V6.ensures.nodes
 
 pub returns-else-not-make_room-2 : goal.returns-else-not-make_room-2
 returns-else-not-make_room-2 g c =

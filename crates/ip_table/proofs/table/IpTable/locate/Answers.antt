@@ -1,9 +1,8 @@
-use Rattle.std.proofs.Common.{◌≡◌, ◌∙◌, List, Some, None, sym, ap, subst, arith, max}
-use Rattle.std.proofs.lemmas.List.{get_or_read}
+use Rattle.std.proofs.Common.{◌∙◌, List, Some, None, sym, ap, subst, arith, max}
 use Rattle.ip_table.specs.Location.{Locates}
 use Rattle.ip_table.specs.Prefixes.{Prefix}
 use Rattle.ip_table.specs.Rows.{AreRows}
-use Rattle.ip_table.specs.Trees.{SumsUp, prefix_at}
+use Rattle.ip_table.specs.Trees.{SumsUp}
 use Rattle.ip_table.proofs.Located.{located_none, located_some, are_rows}
 use Rattle.ip_table.proofs.table.IpTable.locate.Goals as goal
 
@@ -25,10 +24,9 @@ pub returns-in-Some-clause-located : goal.returns-in-Some-clause-located
 returns-in-Some-clause-located g c =
     let ps = c.self.inside.prefixes.items in
     let sums = subst (λ (p : List Prefix). SumsUp p c.args.address c.sum_up-seen.result) c.deref.ensures.value c.sum_up-seen.ensures in
-    let found : c.index.result.now ≡ prefix_at ps c.in-Some.row = get_or_read ps c.in-Some.row _ (sums.sound.found c.in-Some.row c.in-Some.is).0 c.index.ensures _ in
-    subst (λ rows. Locates rows c.args.address (Some c.index-in-Some.result.now) c.max.result) c.self.view_is
-    (located_some ps c.self.inside.values.items c.self.invariant.values c.args.address c.sum_up-seen.result sums c.in-Some.row c.index-in-Some.result.now c.max.result c.in-Some.is
-    (sym c.index-in-Some.ensures) (c.max.ensures ∙ ap (max c.sum_up-seen.result.past) (c.length-length.ensures.value ∙ ap (λ (p : Prefix). p.length) found)))
+    subst (λ rows. Locates rows c.args.address (Some c.index.result.now) c.max.result) c.self.view_is
+    (located_some ps c.self.inside.values.items c.self.invariant.values c.args.address c.sum_up-seen.result sums c.in-Some.row c.index.result.now c.max.result c.in-Some.is
+    (sym c.index.ensures) (c.max.ensures ∙ ap (max c.sum_up-seen.result.past) (sums.sound.found c.in-Some.row c.in-Some.is).2))
 
 pub returns-in-Some-clause-rows : goal.returns-in-Some-clause-rows
 returns-in-Some-clause-rows g c =
