@@ -1,6 +1,7 @@
 pub mod Blanks
 pub mod Bounds
 pub mod Digits
+pub mod GoesOn
 pub mod OneField
 pub mod Quoted
 pub mod Reading

@@ -1,6 +1,7 @@
 -- Laws over the definitions of this crate.
 use Rattle.std.specs.Prelude.{◌≡◌, ℕ, ◌+◌, ◌^◌, ◌<◌, ◌≤◌, ◌↔◌, List, ◌++◌, length, All, true, None, Some}
 use Rattle.std.specs.Fmt.{decimal}
+use Rattle.value_text.specs.declared.fields.Field.{Field}
 use Rattle.value_text.specs.Fields.{is_blank, next_field}
 use Rattle.value_text.specs.Numbers.{number}
 use Rattle.value_text.specs.Strings.{string_of_text, string_text}
@@ -25,3 +26,9 @@ abbrev pub WrittenStringReadsBack : Type 0
 WrittenStringReadsBack =
     (string : List ℕ) → All (λ b. b < 256) string → length string ≤ 255
     → string_of_text (string_text string) ≡ Some string
+
+-- A field stands at the place that it is looked for from or behind it, within the text, and has one byte at least.
+abbrev pub FieldsGoOn : Type 0
+FieldsGoOn =
+    (at : ℕ) (text : List ℕ) (field : Field) → next_field at text ≡ Some field
+    → (at ≤ field.start) × (field.start < field.end) × (field.end ≤ at + length text)

@@ -1,6 +1,11 @@
 //! Laws over the definitions, each the contract of a function that does nothing.
 
-ghost use Rattle.value_text.specs.Laws.{NoFieldInBlanks, StringIsOneField, WrittenNumberReadsBack, WrittenStringReadsBack};
+ghost use Rattle.value_text.specs.Laws.{FieldsGoOn, NoFieldInBlanks, StringIsOneField, WrittenNumberReadsBack, WrittenStringReadsBack};
+
+/// A field stands within the text, behind the place that it is looked for from, and isn't empty.
+pub fn fields_go_on()
+    ensures { FieldsGoOn }
+{}
 
 /// No field is found exactly where nothing but spaces and tabs is left.
 pub fn no_field_in_blanks()

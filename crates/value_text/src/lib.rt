@@ -10,7 +10,8 @@ mod strings;
 
 pub use fields::{Field, next_field};
 pub use laws::{
-    no_field_in_blanks, string_is_one_field, written_number_reads_back, written_string_reads_back,
+    fields_go_on, no_field_in_blanks, string_is_one_field, written_number_reads_back,
+    written_string_reads_back,
 };
 pub use numbers::number;
 pub use strings::{read_string, write_string};

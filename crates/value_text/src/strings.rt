@@ -18,6 +18,7 @@ struct Character {
 pub fn read_string(field: &[u8], into: &mut [u8; 255]) -> Option<usize>
     ensures some { IfSome result (λ len. string_of_text field.now ≡ Some (take len into.new)) }
     ensures fits { IfSome result (λ len. len ≤ 255) }
+    ensures quotes { IfSome result (λ len. len + 2 ≤ length field.now) }
     ensures kept { IfSome result (λ len. drop len into.new ≡ drop len into.old) }
     ensures none { IfNone result (string_of_text field.now ≡ None) }
 {
@@ -112,6 +113,7 @@ pub fn write_string(string: &[u8], into: &mut [u8], at: usize) -> usize
     requires { at + 4 * length string.now + 2 ≤ length into.old }
     ensures end { result ≡ at + length (string_text string.now) }
     ensures written { into.new ≡ take at into.old ++ string_text string.now ++ drop result into.old }
+    ensures short { result ≤ at + 4 * length string.now + 2 }
     ensures within { result ≤ length into.old }
 {
     let mut end = put(b"\"", into, at);

@@ -30,6 +30,7 @@ loop-at-preserved c =
     record {
       within = omega (arith, c.in-Some.ensures.room);
       short = omega arith;
+      passed = omega (arith, i.passed);
       array = length-set c.loop-at.into c.loop-at.len c.in-Some.c.value ∙ i.array;
       kept = drop-set-lt (c.loop-at.len + 1) c.loop-at.into c.loop-at.len c.in-Some.c.value (omega arith) ∙ drop_on c.loop-at.len (c.loop-at.len + 1) c.loop-at.into c.args.into.now (omega arith) i.kept;
       same =

@@ -1,4 +1,4 @@
-use Rattle.std.proofs.Common.{◌≡◌, ℕ, ◌-◌, ◌≤◌, List, length, take, drop}
+use Rattle.std.proofs.Common.{◌≡◌, ℕ, ◌+◌, ◌-◌, ◌≤◌, List, length, take, drop}
 use Rattle.value_text.specs.Strings.{read_from}
 use Rattle.value_text.specs.Strings.Progress.{Opening, Reading}
 use Rattle.value_text.proofs.strings.read_string.Given as goal
@@ -7,6 +7,7 @@ use Rattle.value_text.proofs.strings.read_string.Given as goal
 pub record IsRead (field : List ℕ) (at len : ℕ) (before into : List ℕ) : Type 0 where
   pub within : at ≤ length field
   pub short : len ≤ 255
+  pub passed : len + 1 ≤ at
   pub array : length into ≡ 255
   pub kept : drop len into ≡ drop len before
   pub same : read_from Opening field ≡ read_from (Reading 0 (take len into)) (drop at field)
