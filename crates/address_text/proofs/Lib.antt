@@ -1,0 +1,4 @@
+pub mod Addresses
+pub mod Colons
+pub mod Placing
+pub mod Vectors
