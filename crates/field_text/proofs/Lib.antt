@@ -1,0 +1,5 @@
+pub mod Backs
+pub mod Names
+pub mod OneField
+pub mod Spelled
+pub mod Vectors

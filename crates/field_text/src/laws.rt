@@ -1,0 +1,23 @@
+//! Laws over the definitions, each the contract of a function that does nothing.
+
+ghost use Rattle.field_text.specs.Laws.{OneReading, SpelledIsField, WrittenFieldIsOneField, WrittenFieldReadsBack};
+
+/// A text spells one field of a kind at most.
+pub fn one_reading()
+    ensures { OneReading }
+{}
+
+/// What a text spells is a field of that kind, of at most 255 octets.
+pub fn spelled_is_field()
+    ensures { SpelledIsField }
+{}
+
+/// The text written of a field spells that field.
+pub fn written_field_reads_back()
+    ensures { WrittenFieldReadsBack }
+{}
+
+/// The text written of a field is one whole field of a value's text.
+pub fn written_field_is_one_field()
+    ensures { WrittenFieldIsOneField }
+{}
