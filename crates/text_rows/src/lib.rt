@@ -1,4 +1,4 @@
-//! Rows by hand and from outside: texts of names, and fields, numbers and strings of values.
+//! Rows by hand and from outside: texts of names, and fields, numbers and strings of values, and whole values.
 #![tactic(auto)]
 
 #[cfg(test)]
@@ -7,3 +7,5 @@ mod fields;
 mod names;
 #[cfg(test)]
 mod strings;
+#[cfg(test)]
+mod values;

@@ -1,0 +1,9 @@
+pub mod Fields
+pub mod Fronts
+pub mod Layouts
+pub mod Placing
+pub mod Progress
+pub mod Whole
+pub mod One
+pub mod Backs
+pub mod Addresses

@@ -1,0 +1,8 @@
+-- What contracts see of a value.
+use Rattle.std.specs.Prelude.{ℕ, List}
+use Rattle.rdata_layout.specs.declared.types.RType.{RType}
+
+-- its type, and its octets on the wire with names uncompressed and in lower case
+pub record Datum : Type 0 where
+  pub rtype : RType
+  pub wire : List ℕ

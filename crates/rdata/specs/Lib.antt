@@ -1,0 +1,10 @@
+pub mod Datum
+pub mod Gives
+pub mod Laws
+pub mod Reading
+pub mod Steps
+pub mod TextFields
+pub mod Written
+pub use Rattle.rdata_layout.specs.Fields
+pub use Rattle.rdata_layout.specs.Layout
+pub use Rattle.rdata_layout.specs.Types

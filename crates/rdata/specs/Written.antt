@@ -1,0 +1,44 @@
+-- The written text of a value: its fields with a space between (FORMATS, Texts of values).
+use Rattle.std.specs.Prelude.{ℕ, zero, suc, List, [], ◌∷◌, ◌++◌, map, take, drop}
+use Rattle.value_text.specs.Strings.{string_text}
+use Rattle.rdata_layout.specs.declared.types.RType.{RType}
+use Rattle.rdata_layout.specs.declared.fields.Field.{Field}
+use Rattle.rdata_layout.specs.declared.fields.Tail.{Tail}
+use Rattle.rdata_layout.specs.declared.fields.Tail.TheVariants as tail
+use Rattle.rdata_layout.specs.Fields.{field_size}
+use Rattle.rdata_layout.specs.Layout.{fields_of, tail_of}
+use Rattle.field_text.specs.Written.{text_of_field}
+
+-- The strings of octets, where `need` octets of the first are still to come: that string, and those behind it.
+abbrev pub cut_strings : (need : ℕ) → List ℕ → List ℕ × List (List ℕ)
+cut_strings need [] = ([], [])
+cut_strings zero (n ∷ octets) = let r = cut_strings n octets in ([], r.0 ∷ r.1)
+cut_strings (suc need) (b ∷ octets) = let r = cut_strings need octets in (b ∷ r.0, r.1)
+
+abbrev pub strings_of : List ℕ → List (List ℕ)
+strings_of octets = (cut_strings 0 octets).1
+
+abbrev pub tail_texts : Tail → List ℕ → List (List ℕ)
+tail_texts tail.Nothing octets = []
+tail_texts tail.Strings octets = map string_text (strings_of octets)
+tail_texts tail.Value octets = string_text octets ∷ []
+
+-- the texts of these fields and of the tail
+abbrev pub field_texts : List Field → Tail → List ℕ → List (List ℕ)
+field_texts [] end octets = tail_texts end octets
+field_texts (first ∷ fields) end octets =
+    text_of_field first (take (field_size first octets) octets) ∷ field_texts fields end (drop (field_size first octets) octets)
+
+-- a text that another stands behind: with a space at its end, where it isn't empty
+abbrev pub separated : List ℕ → List ℕ
+separated [] = []
+separated (b ∷ before) = (b ∷ before) ++ 0x20 ∷ []
+
+-- texts behind a text, with a space between
+abbrev pub joined_from : (before : List ℕ) → List (List ℕ) → List ℕ
+joined_from before [] = before
+joined_from before (text ∷ texts) = joined_from (separated before ++ text) texts
+
+-- the text of a value of the type
+abbrev pub text_of : RType → (octets : List ℕ) → List ℕ
+text_of rtype octets = joined_from [] (field_texts (fields_of rtype) (tail_of rtype) octets)

@@ -1,0 +1,16 @@
+//! Values of records: read from texts and octets, and written as both (RFC 1035, 3.3 and 5.1).
+//!
+//! A value is kept as its octets, with names uncompressed and in lower case: values are equal where these are.
+#![tactic(auto)]
+
+mod faults;
+mod laws;
+mod reading;
+mod value;
+mod writing;
+
+pub use faults::{ValueFault, WireFault};
+pub use laws::{addresses_are_values, one_reading, wire_reads_back, written_text_reads_back};
+pub use octets::OutOfMemory;
+pub use rdata_layout::RType;
+pub use value::RData;
