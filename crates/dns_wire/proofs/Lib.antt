@@ -1,1 +1,7 @@
+pub mod Drafts
+pub mod Fields
+pub mod Names
+pub mod Pieces
+pub mod Questions
+pub mod Reading
 pub mod Vectors

@@ -1,56 +1,80 @@
 -- A reply in the making.
-use Rattle.std.specs.Prelude.{◌≡◌, ℕ, ◌+◌, List, Bool, ⊤}
-use Rattle.dns_wire.specs.declared.header.Header.{Header}
+use Rattle.std.specs.Prelude.{◌≡◌, ℕ, ◌+◌, ◌<◌, ◌≤◌, ◌⊎◌, List, [], ◌∷◌, ◌++◌, length, take, replicate, Bool, true, false, ⊤}
+use Rattle.dns_message.specs.declared.query.Query.{Query}
 use Rattle.dns_wire.specs.declared.reply.Section.{Section}
 use Rattle.dns_wire.specs.declared.reply.Section.TheVariants.{Answer, Authority, Additional}
+use Rattle.dns_wire.specs.Message.{Message, Record, records_octets, records_of}
 
--- Its room, what the query gave, how many records each section has, and the octets so far. Those begin with 12 that the
--- header will have.
+-- Its room, what the query gave, where the question ends, whether the records were cut, how many each section has, and
+-- the octets so far. Those begin with 12 that the header will have.
 pub record Draft : Type 0 where
   pub room : ℕ
   pub id : ℕ
   pub rd : Bool
   pub name : List (List ℕ)
+  pub question_end : ℕ
+  pub is_cut : Bool
   pub answers : ℕ
   pub authorities : ℕ
   pub additionals : ℕ
   pub bytes : List ℕ
 
--- a draft without records
-abbrev pub begun : (room id : ℕ) (rd : Bool) (name : List (List ℕ)) (bytes : List ℕ) → Draft
-begun room id rd name bytes = record {
-  room = room;
-  id = id;
-  rd = rd;
-  name = name;
-  answers = 0;
-  authorities = 0;
-  additionals = 0;
-  bytes = bytes;
+-- the reply to a query before it has a record, without AA and with RCODE 0
+abbrev pub reply_to : Query → Message
+reply_to query = record {
+  id = query.id;
+  aa = false;
+  rd = query.rd;
+  rcode = 0;
+  name = query.name;
+  question = take query.question_len query.question;
+  answers = [];
+  authorities = [];
+  additionals = [];
 }
 
 -- no record stands in a later section
-abbrev pub Follows : Section → Draft → Type 0
-Follows Answer d = (d.authorities ≡ 0) × (d.additionals ≡ 0)
-Follows Authority d = d.additionals ≡ 0
-Follows Additional d = ⊤
+abbrev pub Follows : Section → Message → Type 0
+Follows Answer m = (m.authorities ≡ []) × (m.additionals ≡ [])
+Follows Authority m = m.additionals ≡ []
+Follows Additional m = ⊤
 
--- one record more in a section
-abbrev pub counted : Section → Draft → Draft
-counted Answer d = record d { answers = d.answers + 1 }
-counted Authority d = record d { authorities = d.authorities + 1 }
-counted Additional d = record d { additionals = d.additionals + 1 }
+-- with one record more at the end of a section
+abbrev pub with_record : Section → Record → Message → Message
+with_record Answer r m = record m { answers = m.answers ++ r ∷ [] }
+with_record Authority r m = record m { authorities = m.authorities ++ r ∷ [] }
+with_record Additional r m = record m { additionals = m.additionals ++ r ∷ [] }
 
--- the header of the reply
-abbrev pub header_of : Draft → (aa : Bool) (rcode : ℕ) → Header
-header_of d aa rcode = record {
-  id = d.id;
-  opcode = 0;
-  aa = aa;
-  rd = d.rd;
-  rcode = rcode;
-  qdcount = 1;
-  ancount = d.answers;
-  nscount = d.authorities;
-  arcount = d.additionals;
-}
+-- how many octets a reply with all its records has
+abbrev pub size_of : Message → ℕ
+size_of m = 12 + (length m.question + length (records_octets m.name (records_of m)))
+
+-- it holds all records
+pub record HoldsAll (m : Message) (d : Draft) : Type 0 where
+  pub fits : size_of m ≤ d.room
+  pub uncut : d.is_cut ≡ false
+  pub answers : d.answers ≡ length m.answers
+  pub authorities : d.authorities ≡ length m.authorities
+  pub additionals : d.additionals ≡ length m.additionals
+  pub bytes : d.bytes ≡ replicate 12 0 ++ (m.question ++ records_octets m.name (records_of m))
+
+-- it holds none
+pub record IsEmptied (m : Message) (d : Draft) : Type 0 where
+  pub is_cut : d.is_cut ≡ true
+  pub answers : d.answers ≡ 0
+  pub authorities : d.authorities ≡ 0
+  pub additionals : d.additionals ≡ 0
+  pub bytes : d.bytes ≡ replicate 12 0 ++ m.question
+
+-- the records don't fit
+pub record HoldsNone (m : Message) (d : Draft) : Type 0 where
+  pub longer : d.room < size_of m
+  pub emptied : IsEmptied m d
+
+-- It stands for this reply, of which AA and RCODE come at the end.
+pub record StandsFor (m : Message) (d : Draft) : Type 0 where
+  pub id : d.id ≡ m.id
+  pub rd : d.rd ≡ m.rd
+  pub name : d.name ≡ m.name
+  pub question : d.question_end ≡ 12 + length m.question
+  pub records : HoldsAll m d ⊎ HoldsNone m d

@@ -12,7 +12,7 @@ bit_of false = 0
 abbrev pub header_octets : Header → List ℕ
 header_octets h =
     two_octets h.id
-    ++ ((128 + 8 * h.opcode + 4 * bit_of h.aa + bit_of h.rd) ∷ h.rcode ∷ two_octets h.qdcount)
+    ++ ((128 + 8 * h.opcode + 4 * bit_of h.aa + 2 * bit_of h.tc + bit_of h.rd) ∷ h.rcode ∷ two_octets h.qdcount)
     ++ two_octets h.ancount
     ++ two_octets h.nscount
     ++ two_octets h.arcount
@@ -23,6 +23,7 @@ short_reply id opcode rd rcode = header_octets (record {
   id = id;
   opcode = opcode;
   aa = false;
+  tc = false;
   rd = rd;
   rcode = rcode;
   qdcount = 0;

@@ -1,5 +1,15 @@
+pub mod Data
 pub mod Draft
 pub mod Header
 pub mod Kept
+pub mod Laws
 pub mod Message
+pub mod Pointers
+pub mod Reading
+pub mod Steps
 pub use Rattle.octets.specs.Numbers
+pub use Rattle.dns_name.specs.Labels
+pub use Rattle.dns_name.specs.Names
+pub use Rattle.dns_message.specs.Judge
+pub use Rattle.rdata_layout.specs.Layout
+pub use Rattle.rdata_layout.specs.Types

@@ -1,12 +1,18 @@
 -- A reply to a query, and its octets (RFC 1035, 4.1).
-use Rattle.std.specs.Prelude.{ℕ, List, [], ◌∷◌, ◌++◌, length, Bool}
+use Rattle.std.specs.Prelude.{ℕ, List, ◌∷◌, ◌++◌, length, Bool, true, false, nat_le, if◌then◌else◌}
 use Rattle.std.specs.List.{flat_map}
 use Rattle.octets.specs.Numbers.{two_octets, four_octets}
+use Rattle.rdata_layout.specs.declared.types.RType.{RType}
+use Rattle.rdata_layout.specs.Types.{number_of}
+use Rattle.dns_wire.specs.declared.header.Header.{Header}
+use Rattle.dns_wire.specs.Data.{data_octets}
 use Rattle.dns_wire.specs.Header.{header_octets}
+use Rattle.dns_wire.specs.Pointers.{name_octets}
 
--- A record of class IN whose owner is the name in the question: type, TTL and data (RFC 1035, 4.1.3).
+-- A record of class IN (RFC 1035, 4.1.3). Its data are the octets of a value whose names are whole and in lower case.
 pub record Record : Type 0 where
-  pub rtype : ℕ
+  pub owner : List (List ℕ)
+  pub rtype : RType
   pub ttl : ℕ
   pub rdata : List ℕ
 
@@ -23,30 +29,62 @@ pub record Message : Type 0 where
   pub authorities : List Record
   pub additionals : List Record
 
--- The name in the question as an owner: a pointer to it, behind the header of 12 octets (RFC 1035, 4.1.4). The root has
--- no label that a pointer could stand for, and is its zero octet.
-abbrev pub owner_octets : List (List ℕ) → List ℕ
-owner_octets [] = 0 ∷ []
-owner_octets (label ∷ labels) = 0xC0 ∷ 12 ∷ []
+-- the records of all sections, in their order
+abbrev pub records_of : Message → List Record
+records_of m = m.answers ++ (m.authorities ++ m.additionals)
 
--- owner, type, class IN, TTL, the data's length and the data
-abbrev pub record_octets : List (List ℕ) → Record → List ℕ
-record_octets owner r =
-    owner_octets owner ++ (two_octets r.rtype ++ (0 ∷ 1 ∷ four_octets r.ttl) ++ two_octets (length r.rdata) ++ r.rdata)
+-- type, class IN, TTL, and how many octets of data follow
+abbrev pub fixed_octets : RType → (ttl len : ℕ) → List ℕ
+fixed_octets rtype ttl len = two_octets (number_of rtype) ++ (0 ∷ 1 ∷ four_octets ttl) ++ two_octets len
 
--- a reply's octets: the header, the question, and the records one after another
-abbrev pub wire : Message → List ℕ
-wire m =
-    header_octets (record {
-      id = m.id;
-      opcode = 0;
-      aa = m.aa;
-      rd = m.rd;
-      rcode = m.rcode;
-      qdcount = 1;
-      ancount = length m.answers;
-      nscount = length m.authorities;
-      arcount = length m.additionals;
-    })
-    ++ m.question
-    ++ flat_map (record_octets m.name) (m.answers ++ m.authorities ++ m.additionals)
+-- a record: its owner, those, and its data, where `name` is the name in the question
+abbrev pub record_octets : (name : List (List ℕ)) → Record → List ℕ
+record_octets name r =
+    name_octets name r.owner
+    ++ (fixed_octets r.rtype r.ttl (length (data_octets name r.rtype r.rdata)) ++ data_octets name r.rtype r.rdata)
+
+-- the octets of records, one after another
+abbrev pub records_octets : (name : List (List ℕ)) → List Record → List ℕ
+records_octets name records = flat_map (record_octets name) records
+
+-- the header of a reply with all its records
+abbrev pub whole_header : Message → Header
+whole_header m = record {
+  id = m.id;
+  opcode = 0;
+  aa = m.aa;
+  tc = false;
+  rd = m.rd;
+  rcode = m.rcode;
+  qdcount = 1;
+  ancount = length m.answers;
+  nscount = length m.authorities;
+  arcount = length m.additionals;
+}
+
+-- the header of a reply that is cut: TC is set, and no record follows
+abbrev pub cut_header : Message → Header
+cut_header m = record {
+  id = m.id;
+  opcode = 0;
+  aa = m.aa;
+  tc = true;
+  rd = m.rd;
+  rcode = m.rcode;
+  qdcount = 1;
+  ancount = 0;
+  nscount = 0;
+  arcount = 0;
+}
+
+-- the header, the question, and the records one after another
+abbrev pub whole : Message → List ℕ
+whole m = header_octets (whole_header m) ++ (m.question ++ records_octets m.name (records_of m))
+
+-- A reply that is longer than its limit has the question alone (own).
+abbrev pub cut : Message → List ℕ
+cut m = header_octets (cut_header m) ++ m.question
+
+-- a reply's octets, where it may have so many
+unfoldable pub wire : Message → (limit : ℕ) → List ℕ
+wire m limit = if nat_le (length (whole m)) limit then whole m else cut m

@@ -7,6 +7,7 @@ pub(crate) struct Header {
     pub id: u16,
     pub opcode: u8,
     pub aa: bool,
+    pub tc: bool,
     pub rd: bool,
     pub rcode: u8,
     pub qdcount: u16,
@@ -24,7 +25,10 @@ impl Header {
         [
             (self.id / 256) as u8,
             (self.id % 256) as u8,
-            128 + 8 * self.opcode + 4 * u8::from(self.aa) + u8::from(self.rd),
+            128 + 8 * self.opcode
+                + 4 * u8::from(self.aa)
+                + 2 * u8::from(self.tc)
+                + u8::from(self.rd),
             self.rcode,
             (self.qdcount / 256) as u8,
             (self.qdcount % 256) as u8,

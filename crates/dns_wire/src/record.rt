@@ -1,56 +1,49 @@
-ghost use Rattle.std.specs.Prelude.{◌≡◌, ◌+◌, ◌<◌, ◌≤◌, [], ◌∷◌, ◌++◌, length, take};
-ghost use Rattle.octets.specs.Numbers.{two_octets, four_octets};
-ghost use Rattle.dns_wire.specs.Message.{owner_octets, record_octets};
+ghost use Rattle.std.specs.Prelude.{◌≡◌, ◌+◌, ◌≤◌, ◌++◌, length, take};
+ghost use Rattle.rdata_layout.specs.Layout.{IsLayout};
+ghost use Rattle.dns_wire.specs.Kept.{most_of_record};
+ghost use Rattle.dns_wire.specs.Message.{fixed_octets, record_octets};
 
+use crate::data::add_data;
+use crate::pointers::add_name;
 use dns_name::Name;
 use octets::put_at;
+use rdata_layout::RType;
 
-/// Writes a record at a place of the buffer, and says where it ends.
+/// The octets of a record between its owner and its data.
+const FIXED_LEN: usize = 10;
+
+/// Writes a record at a place of the buffer, where `asked` is the name in the question, and says where it ends.
 pub(crate) fn add_record(
     buffer: &mut [u8],
     at: usize,
+    asked: &Name,
     owner: &Name,
-    rtype: u16,
+    rtype: RType,
     ttl: u32,
     wire: &[u8],
 ) -> usize
-    requires short { length buffer.old ≤ 65535 }
-    requires room { at + length (record_octets owner.now (record { rtype = rtype; ttl = ttl; rdata = wire.now })) ≤ length buffer.old }
-    ensures end { result ≡ at + length (record_octets owner.now (record { rtype = rtype; ttl = ttl; rdata = wire.now })) }
-    ensures longer { at < result }
+    requires room { at + most_of_record ≤ length buffer.old }
+    requires layout { IsLayout rtype wire.now }
+    ensures end { result ≡ at + length (record_octets asked.now (record { owner = owner.now; rtype = rtype; ttl = ttl; rdata = wire.now })) }
     ensures written { take result buffer.new ≡ take at buffer.old
-        ++ record_octets owner.now (record { rtype = rtype; ttl = ttl; rdata = wire.now }) }
+        ++ record_octets asked.now (record { owner = owner.now; rtype = rtype; ttl = ttl; rdata = wire.now }) }
 {
-    let behind_owner = append(buffer, at, owner_octets(owner));
-    let fixed = fixed_octets(rtype, ttl, wire.len() as u16);
-    let behind_fixed = append(buffer, behind_owner, &fixed);
-    append(buffer, behind_fixed, wire)
-}
-
-/// Copies a piece to a place of the buffer, and says where it ends.
-fn append(buffer: &mut [u8], at: usize, piece: &[u8]) -> usize
-    requires { at + length piece.now ≤ length buffer.old }
-    ensures end { result ≡ at + length piece.now }
-    ensures written { take result buffer.new ≡ take at buffer.old ++ piece.now }
-{
-    put_at(buffer, at, piece);
-    at + piece.len()
-}
-
-/// The name in the question as an owner: a pointer to it, or the root's zero octet.
-fn owner_octets(owner: &Name) -> &'static [u8]
-    ensures { result.now ≡ owner_octets owner.now }
-{
-    if owner.is_root() { &[0] } else { &[0xc0, 12] }
+    let behind_owner = add_name(buffer, at, asked, owner);
+    let data = behind_owner + FIXED_LEN;
+    let end = add_data(buffer, data, asked, rtype, wire);
+    let fixed = fixed_octets(rtype, ttl, (end - data) as u16);
+    put_at(buffer, behind_owner, &fixed);
+    end
 }
 
 /// A record from its type to its data's length.
-fn fixed_octets(rtype: u16, ttl: u32, data_len: u16) -> [u8; 10]
-    ensures { result ≡ two_octets rtype ++ (0 ∷ 1 ∷ four_octets ttl) ++ two_octets data_len }
+fn fixed_octets(rtype: RType, ttl: u32, data_len: u16) -> [u8; 10]
+    ensures { result ≡ fixed_octets rtype ttl data_len }
 {
+    let number = rtype.number();
     [
-        (rtype / 256) as u8,
-        (rtype % 256) as u8,
+        (number / 256) as u8,
+        (number % 256) as u8,
         0,
         1,
         (ttl / 16_777_216) as u8,

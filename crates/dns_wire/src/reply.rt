@@ -1,18 +1,24 @@
-ghost use Rattle.std.specs.Prelude.{◌≡◌, ℕ, ◌+◌, ◌<◌, ◌≤◌, List, [], ◌∷◌, ◌++◌, length, take, drop, replicate, IfOk, false};
-ghost use Rattle.dns_wire.specs.Draft.{Follows, counted, header_of, begun};
+ghost use Rattle.std.specs.Prelude.{◌≡◌, ℕ, ◌+◌, ◌<◌, ◌≤◌, List, [], ◌∷◌, ◌++◌, length, take, drop, replicate, IfOk, IsTrue, ◌↔◌};
+ghost use Rattle.rdata_layout.specs.Layout.{IsLayout};
+ghost use Rattle.dns_wire.specs.Draft.{Follows, StandsFor, with_record, reply_to};
+ghost use Rattle.dns_wire.specs.Steps.{recorded, limited, emptied, ended};
 ghost use Rattle.dns_wire.specs.Header.{header_octets, short_reply};
-ghost use Rattle.dns_wire.specs.Message.{record_octets};
+ghost use Rattle.dns_wire.specs.Message.{Message, wire};
 
 use crate::header::Header;
 use crate::record::add_record;
 use dns_message::Query;
 use dns_name::Name;
 use octets::{OutOfMemory, fill_front, front, put_at, zeros};
+use rdata_layout::RType;
 use std::alloc::Global;
 use std::marker::Model;
 
 /// The octets of a header (RFC 1035, 4.1.1).
 const HEADER_LEN: usize = 12;
+
+/// The most octets of one record: an owner of 255, 10, and data of 4,000.
+const MOST_OF_RECORD: usize = 4265;
 
 /// A section of a reply that holds records (RFC 1035, 4.1).
 #[derive(Clone, Copy, Debug, PartialEq, Eq)]
@@ -25,35 +31,41 @@ pub enum Section {
 /// A reply, written into a buffer that is taken once: begun with a query, then records, then finished.
 #[derive(Drop)]
 pub struct Reply {
+    /// The room, and behind it room for one record, which is written before it is known to fit.
     buffer: Vec<u8>,
+    room: usize,
     len: usize,
+    question_end: usize,
     id: u16,
     rd: bool,
     name: Name,
+    is_cut: bool,
     answers: u16,
     authorities: u16,
     additionals: u16,
 }
 
 impl Model for Reply {
-    ghost use Rattle.std.specs.Prelude.{◌≤◌, ◌+◌, length, take};
+    ghost use Rattle.std.specs.Prelude.{◌+◌, length, take};
     ghost use Rattle.dns_wire.specs.Draft.{Draft};
     ghost use Rattle.dns_wire.specs.Kept.{IsKept};
 
     ghost Value = { Draft };
 
     ghost view = { λ a. record {
-      room = length a.buffer.items;
+      room = a.room;
       id = a.id;
       rd = a.rd;
       name = a.name;
+      question_end = a.question_end;
+      is_cut = a.is_cut;
       answers = a.answers;
       authorities = a.authorities;
       additionals = a.additionals;
       bytes = take a.len a.buffer.items;
     } };
 
-    ghost invariant = { λ a. IsKept (length a.buffer.items) a.len (a.answers + a.authorities + a.additionals) };
+    ghost invariant = { λ a. IsKept a.room (length a.buffer.items) a.len a.question_end (a.answers + a.authorities + a.additionals) };
 }
 
 impl Reply {
@@ -61,15 +73,19 @@ impl Reply {
     pub fn new(alloc: Global, room: usize) -> Result<Reply, OutOfMemory>
         requires least { 512 ≤ room }
         requires most { room ≤ 65535 }
-        ensures { IfOk result (λ reply. reply ≡ begun room 0 false [] []) }
+        ensures room { IfOk result (λ reply. reply.room ≡ room) }
+        ensures empty { IfOk result (λ reply. reply.bytes ≡ []) }
     {
-        let buffer = zeros(alloc, room)?;
+        let buffer = zeros(alloc, room + MOST_OF_RECORD)?;
         Ok(Reply {
             buffer,
+            room,
             len: 0,
+            question_end: 0,
             id: 0,
             rd: false,
             name: Name::root(),
+            is_cut: false,
             answers: 0,
             authorities: 0,
             additionals: 0,
@@ -86,9 +102,9 @@ impl Reply {
     /// Begins the reply to a query: room for the header, and the question as it came.
     pub fn begin(&mut self, query: &Query)
         requires { query.now.question_len ≤ 259 }
+        ensures stands { StandsFor (reply_to query.now) self.new }
+        ensures room { self.new.room ≡ self.old.room }
         ensures least { 512 ≤ self.new.room }
-        ensures begun { self.new ≡ begun self.old.room query.now.id query.now.rd query.now.name
-            (replicate 12 0 ++ take query.now.question_len query.now.question) }
     {
         put_at(&mut self.buffer, 0, &[0; HEADER_LEN]);
         put_at(
@@ -97,55 +113,43 @@ impl Reply {
             front(&query.question, query.question_len),
         );
         self.len = HEADER_LEN + query.question_len;
+        self.question_end = self.len;
         self.id = query.id;
         self.rd = query.rd;
         self.name = query.name;
+        self.is_cut = false;
         self.answers = 0;
         self.authorities = 0;
         self.additionals = 0;
     }
 
-    /// Adds a record of class IN, whose owner is the name in the question.
-    pub fn record(&mut self, section: Section, owner: &Name, rtype: u16, ttl: u32, wire: &[u8])
-        requires owner { owner.now ≡ self.old.name }
-        requires order { Follows section self.old }
-        requires room { length self.old.bytes
-            + length (record_octets owner.now (record { rtype = rtype; ttl = ttl; rdata = wire.now })) ≤ self.old.room }
-        ensures { self.new ≡ record (counted section self.old) {
-          bytes = self.old.bytes
-              ++ record_octets owner.now (record { rtype = rtype; ttl = ttl; rdata = wire.now });
-        } }
+    /// Adds a record of class IN at the end of a section. `wire` is the value with its names whole and in lower case.
+    ///
+    /// Where the records don't fit the room any more, the reply will be cut.
+    pub fn record(&mut self, section: Section, owner: &Name, rtype: RType, ttl: u32, wire: &[u8])
+        requires order { (m : Message) × StandsFor m self.old × Follows section m }
+        requires layout { IsLayout rtype wire.now }
+        ensures stands { (m : Message) → StandsFor m self.old → Follows section m
+            → StandsFor (with_record section (record { owner = owner.now; rtype = rtype; ttl = ttl; rdata = wire.now }) m) self.new }
+        ensures room { self.new.room ≡ self.old.room }
     {
-        self.len = add_record(&mut self.buffer, self.len, owner, rtype, ttl, wire);
-        match section {
-            Section::Answer => self.answers += 1,
-            Section::Authority => self.authorities += 1,
-            Section::Additional => self.additionals += 1,
-        }
+        self.add(section, owner, rtype, ttl, wire);
     }
 
     /// Ends the reply: writes its header, and says how long it is.
-    pub fn finish(&mut self, aa: bool, rcode: u16) -> usize
-        requires begun { 12 ≤ length self.old.bytes }
+    ///
+    /// Where it would be longer than the limit it is cut: it has the question alone, and TC.
+    pub fn finish(&mut self, aa: bool, rcode: u16, limit: usize) -> usize
+        requires begun { (m : Message) × StandsFor m self.old }
+        requires least { 512 ≤ limit }
+        requires most { limit ≤ self.old.room }
         requires rcode { rcode < 16 }
-        ensures bytes { self.new ≡ record self.old {
-          bytes = header_octets (header_of self.old aa rcode) ++ drop 12 self.old.bytes;
-        } }
+        ensures bytes { (m : Message) → StandsFor m self.old → self.new.bytes ≡ wire (record m { aa = aa; rcode = rcode }) limit }
+        ensures room { self.new.room ≡ self.old.room }
         ensures len { result ≡ length self.new.bytes }
     {
-        let header = Header {
-            id: self.id,
-            opcode: 0,
-            aa,
-            rd: self.rd,
-            rcode: rcode as u8,
-            qdcount: 1,
-            ancount: self.answers,
-            nscount: self.authorities,
-            arcount: self.additionals,
-        };
-        let octets = header.octets();
-        set_front(&mut self.buffer, self.len, &octets);
+        self.limit_to(limit);
+        self.write_header(aa, rcode as u8);
         self.len
     }
 
@@ -153,18 +157,15 @@ impl Reply {
     pub fn short(&mut self, id: u16, opcode: u8, rd: bool, rcode: u8) -> usize
         requires opcode { opcode < 16 }
         requires rcode { rcode < 16 }
-        ensures bytes { self.new ≡ record self.old {
-          answers = 0;
-          authorities = 0;
-          additionals = 0;
-          bytes = short_reply id opcode rd rcode;
-        } }
+        ensures bytes { self.new.bytes ≡ short_reply id opcode rd rcode }
+        ensures room { self.new.room ≡ self.old.room }
         ensures len { result ≡ length self.new.bytes }
     {
         let header = Header {
             id,
             opcode,
             aa: false,
+            tc: false,
             rd,
             rcode,
             qdcount: 0,
@@ -173,12 +174,82 @@ impl Reply {
             arcount: 0,
         };
         let octets = header.octets();
+        self.empty();
         put_at(&mut self.buffer, 0, &octets);
         self.len = HEADER_LEN;
+        self.question_end = HEADER_LEN;
+        self.len
+    }
+
+    /// Adds a record, or where it doesn't fit drops all records.
+    fn add(&mut self, section: Section, owner: &Name, rtype: RType, ttl: u32, wire: &[u8])
+        requires layout { IsLayout rtype wire.now }
+        ensures { self.new ≡ recorded section (record { owner = owner.now; rtype = rtype; ttl = ttl; rdata = wire.now }) self.old }
+    {
+        if self.is_cut {
+            return;
+        }
+        let end = add_record(
+            &mut self.buffer,
+            self.len,
+            &self.name,
+            owner,
+            rtype,
+            ttl,
+            wire,
+        );
+        if end > self.room {
+            self.empty();
+            return;
+        }
+        self.len = end;
+        match section {
+            Section::Answer => self.answers += 1,
+            Section::Authority => self.authorities += 1,
+            Section::Additional => self.additionals += 1,
+        }
+    }
+
+    /// Drops all records where it is longer than the limit.
+    fn limit_to(&mut self, limit: usize)
+        ensures { self.new ≡ limited limit self.old }
+    {
+        if self.len > limit {
+            self.empty();
+        }
+    }
+
+    /// Drops all records.
+    fn empty(&mut self)
+        ensures { self.new ≡ emptied self.old }
+    {
+        self.len = self.question_end;
+        self.is_cut = true;
         self.answers = 0;
         self.authorities = 0;
         self.additionals = 0;
-        self.len
+    }
+
+    /// Writes the header over its room.
+    fn write_header(&mut self, aa: bool, rcode: u8)
+        requires begun { 12 ≤ length self.old.bytes }
+        requires rcode { rcode < 16 }
+        ensures { self.new ≡ ended self.old aa rcode }
+    {
+        let header = Header {
+            id: self.id,
+            opcode: 0,
+            aa,
+            tc: self.is_cut,
+            rd: self.rd,
+            rcode,
+            qdcount: 1,
+            ancount: self.answers,
+            nscount: self.authorities,
+            arcount: self.additionals,
+        };
+        let octets = header.octets();
+        set_front(&mut self.buffer, self.len, &octets);
     }
 }
 

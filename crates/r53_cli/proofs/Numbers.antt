@@ -7,8 +7,6 @@ use Rattle.std.specs.Str.Parse.{AllDigits, IsNumeral, digits_value, without_lead
 use Rattle.std.specs.Char.{digit_value}
 use Rattle.std.specs.Net.Grammar.{IsDotted}
 use Rattle.std.specs.Net.Text.{dotted_text}
-use Rattle.std.specs.declared.net.ipv4_addr.Ipv4Addr.{Ipv4Addr}
-use Rattle.std.specs.Net.Grammar.{IsIpv4Text}
 use Rattle.std.proofs.lemmas.Str.Parse.{IsNumeralModel, numerals_by_value}
 use Rattle.std.proofs.lemmas.Bool.Decides.{Decides-eqb}
 use Rattle.std.proofs.lemmas.Fmt.{decimal-digits_value, decimal_is_IsNumeral, decimal_digit, first_decimal, decimal_injective}
@@ -53,9 +51,6 @@ refused_is_none text never n h e =
 -- another number in decimal digits is another text
 pub same_number : (text : List ℕ) (m n : ℕ) → m < 2 ^ 64 → n < 2 ^ 64 → text ≡ decimal m → text ≡ decimal n → m ≡ n
 same_number text m n a b p q = decimal_injective m n a b (sym p ∙ q)
-
-pub no_address : (text octets : List ℕ) → IsDotted text octets → ((a : Ipv4Addr) → IsIpv4Text text a → ⊥) → ⊥
-no_address text octets h none = none (record { octets = octets }) h
 
 -- digits, among which is no dot
 abbrev NoDots : List ℕ → Type 0

@@ -4,6 +4,7 @@ use Rattle.std.specs.List.{All}
 use Rattle.std.specs.Fmt.{decimal}
 use Rattle.std.specs.Net.Grammar.{IsDotted}
 use Rattle.dns_name.specs.Text.{name_of_text}
+use Rattle.rdata_layout.specs.declared.types.RType.TheVariants.{A}
 use Rattle.dns_message.specs.declared.query.Query.{Query}
 use Rattle.dns_message.specs.declared.query.QueryRead.{QueryRead}
 use Rattle.dns_message.specs.declared.query.QueryRead.TheVariants as read
@@ -60,7 +61,7 @@ answer_of once query = record {
   rcode = 0;
   name = query.name;
   question = question_of query;
-  answers = record { rtype = 1; ttl = once.ttl; rdata = once.address } ∷ [];
+  answers = record { owner = query.name; rtype = A; ttl = once.ttl; rdata = once.address } ∷ [];
   authorities = [];
   additionals = [];
 }
@@ -79,11 +80,11 @@ refusal_of query = record {
   additionals = [];
 }
 
--- the octets of the reply to a query
+-- the octets of the reply to a query, at most 512 (RFC 1035, 4.2.1)
 abbrev pub RepliesTo : Once → Query → List ℕ → Type 0
 RepliesTo once query output =
-    (IsAsked once query × (output ≡ wire (answer_of once query)))
-    ⊎ ((IsAsked once query → ⊥) × (output ≡ wire (refusal_of query)))
+    (IsAsked once query × (output ≡ wire (answer_of once query) 512))
+    ⊎ ((IsAsked once query → ⊥) × (output ≡ wire (refusal_of query) 512))
 
 -- the octets of the reply to what was read; silence is none
 abbrev pub Replies : Once → QueryRead → List ℕ → Type 0

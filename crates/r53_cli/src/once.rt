@@ -3,13 +3,13 @@ ghost use Rattle.std.specs.Prelude.{◌≡◌, ◌≤◌, [], IsTrue, ◌↔◌,
 use dns_message::rcode::REFUSED;
 use dns_message::{Query, QueryRead, read_query};
 use dns_name::Name;
-use dns_wire::{Reply, Section};
-
-/// The number of type A (RFC 1035, 3.2.2).
-const A: u16 = 1;
+use dns_wire::{RType, Reply, Section};
 
 /// The number of class IN (RFC 1035, 3.2.4).
 const IN: u16 = 1;
+
+/// The most octets of a reply over UDP (RFC 1035, 4.2.1).
+const LIMIT: usize = 512;
 
 /// The one record that a run of `once` has, of type A and class IN.
 #[derive(Clone, Copy)]
@@ -51,10 +51,16 @@ impl Once {
     {
         reply.begin(query);
         if self.is_asked(query) {
-            reply.record(Section::Answer, &query.name, A, self.ttl, &self.address);
-            reply.finish(true, 0)
+            reply.record(
+                Section::Answer,
+                &query.name,
+                RType::A,
+                self.ttl,
+                &self.address,
+            );
+            reply.finish(true, 0, LIMIT)
         } else {
-            reply.finish(false, u16::from(REFUSED))
+            reply.finish(false, u16::from(REFUSED), LIMIT)
         }
     }
 
@@ -62,6 +68,6 @@ impl Once {
     fn is_asked(&self, query: &Query) -> bool
         ensures { IsTrue result ↔ IsAsked self.now query.now }
     {
-        query.qtype == A && query.qclass == IN && query.name.is_same(&self.name)
+        query.qtype == RType::A.number() && query.qclass == IN && query.name.is_same(&self.name)
     }
 }

@@ -2,15 +2,14 @@ ghost use Rattle.std.specs.Prelude.{◌≡◌, ◌≢◌, ℕ, ◌^◌, ◌<◌,
 ghost use Rattle.std.specs.List.{All};
 ghost use Rattle.std.specs.String.{string_bytes};
 ghost use Rattle.std.specs.Fmt.{decimal};
-ghost use Rattle.std.specs.Net.Grammar.{IsDotted};
 ghost use Rattle.dns_name.specs.Text.{name_of_text};
 ghost use Rattle.r53_cli.specs.Once.{IsOnce, IsPlain, Spells, HasNoForm};
 ghost use Rattle.r53_cli.specs.Words.{IsUnpadded};
 ghost use Rattle.r53_cli.specs.declared.once.Once.{Once};
 
 use crate::once::Once;
+use address_text::read_ipv4;
 use dns_name::Name;
-use std::net::Ipv4Addr;
 
 /// The record of the words `once NAME TTL ADDRESS`.
 pub(crate) fn once_of(words: &[String]) -> Option<Once>
@@ -54,7 +53,7 @@ fn record(name: &str, ttl: &str, address: &str) -> Option<Once>
     let Some(ttl) = seconds(ttl) else {
         return None;
     };
-    let Some(address) = ipv4(address) else {
+    let Some(address) = read_ipv4(address.as_bytes()) else {
         return None;
     };
     Some(Once { name, ttl, address })
@@ -105,16 +104,5 @@ fn is_unpadded(text: &[u8]) -> bool
         Some(b'+') => false,
         Some(b'0') => text.len() == 1,
         _ => true,
-    }
-}
-
-/// The octets of an IPv4 address.
-fn ipv4(text: &str) -> Option<[u8; 4]>
-    ensures some { IfSome result (IsDotted text.now) }
-    ensures none { IfNone result ((octets : List ℕ) → IsDotted text.now octets → ⊥) }
-{
-    match text.parse::<Ipv4Addr>() {
-        Ok(address) => Some(address.octets()),
-        Err(_) => None,
     }
 }

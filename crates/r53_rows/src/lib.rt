@@ -3,3 +3,5 @@
 
 #[cfg(test)]
 mod once;
+#[cfg(test)]
+mod replies;

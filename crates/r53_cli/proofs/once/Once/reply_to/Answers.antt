@@ -1,0 +1,15 @@
+use Rattle.std.proofs.Common.{refl, ap, ◌∙◌, inl, inr}
+use Rattle.dns_wire.specs.Message.{wire}
+use Rattle.r53_cli.specs.Once.{refusal_of}
+use Rattle.r53_cli.proofs.once.Once.reply_to.Goals as goal
+
+pub finish-requires-clause-begun : goal.finish-requires-clause-begun
+finish-requires-clause-begun c = (_, c.record.ensures.stands _ c.begin.ensures.stands (refl, refl))
+
+pub returns-then-is_asked-clause-replied : goal.returns-then-is_asked-clause-replied
+returns-then-is_asked-clause-replied c =
+    inl (c.is_asked.ensures.0 c.if-is_asked.true, c.finish.ensures.bytes _ (c.record.ensures.stands _ c.begin.ensures.stands (refl, refl)))
+
+pub returns-else-is_asked-clause-replied : goal.returns-else-is_asked-clause-replied
+returns-else-is_asked-clause-replied c =
+    inr (λ a. let t = c.is_asked.ensures.1 a in let f = c.if-is_asked.false in cc, c.finish-else-is_asked.ensures.bytes _ c.begin.ensures.stands ∙ ap (λ code. wire (record (refusal_of c.args.query.now) { rcode = code }) 512) c.from.ensures)
