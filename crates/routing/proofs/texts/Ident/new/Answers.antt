@@ -1,0 +1,7 @@
+use Rattle.std.proofs.Common.{refl}
+use Rattle.routing.specs.Texts.{IsIdent}
+use Rattle.routing.proofs.Padding.{filled}
+use Rattle.routing.proofs.texts.Ident.new.Goals as goal
+
+pub invariant_of-result : goal.invariant_of-result
+invariant_of-result c = filled IsIdent c.args.bytes.now c.fill_front.new.buffer 128 c.fill_front.ensures (c.if-not-is_text.ensures.0 refl)

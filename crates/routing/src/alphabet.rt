@@ -1,0 +1,47 @@
+ghost use Rattle.std.specs.Prelude.{◌≡◌, ◌↔◌, true, IsTrue};
+ghost use Rattle.std.specs.List.{AllByRecursion};
+ghost use Rattle.routing.specs.Texts.{IsText, is_of};
+
+/// The bytes that a text is made of.
+#[derive(Clone, Copy)]
+pub(crate) enum Alphabet {
+    /// Printable ASCII with the space.
+    Printable,
+    /// a to z, 0 to 9 and `-`.
+    RegionName,
+    /// A to Z and 0 to 9.
+    SubdivisionCode,
+}
+
+/// Whether bytes are 1 to so many of an alphabet.
+pub(crate) fn is_text(alphabet: Alphabet, most: usize, bytes: &[u8]) -> bool
+    ensures { IsTrue result ↔ IsText (is_of alphabet) most bytes.now }
+{
+    if bytes.is_empty() || bytes.len() > most {
+        return false;
+    }
+    are_of(alphabet, bytes)
+}
+
+/// Whether each byte is of an alphabet.
+fn are_of(alphabet: Alphabet, bytes: &[u8]) -> bool
+    ensures { IsTrue result ↔ AllByRecursion (λ b. is_of alphabet b ≡ true) bytes.now }
+{
+    for b in bytes {
+        if !is_of(alphabet, *b) {
+            return false;
+        }
+    }
+    true
+}
+
+/// Whether a byte is of an alphabet.
+fn is_of(alphabet: Alphabet, b: u8) -> bool
+    ensures { result ≡ is_of alphabet b }
+{
+    match alphabet {
+        Alphabet::Printable => matches!(b, 0x20..=0x7e),
+        Alphabet::RegionName => matches!(b, b'a'..=b'z' | b'0'..=b'9' | b'-'),
+        Alphabet::SubdivisionCode => matches!(b, b'A'..=b'Z' | b'0'..=b'9'),
+    }
+}
