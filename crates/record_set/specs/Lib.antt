@@ -1,0 +1,5 @@
+pub mod Laws
+pub mod Reasons
+pub mod Sameness
+pub mod Sets
+pub use Rattle.rdata.specs.Datum
