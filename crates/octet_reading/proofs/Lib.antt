@@ -1,0 +1,10 @@
+pub mod Again
+pub mod Digits
+pub mod Found
+pub mod Fronts
+pub mod Layouts
+pub mod Naming
+pub mod Texts
+pub mod Told
+pub mod Within
+pub mod Vectors

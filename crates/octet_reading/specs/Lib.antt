@@ -1,0 +1,4 @@
+pub mod Laws
+pub mod Layouts
+pub mod Names
+pub mod Reading

@@ -1,0 +1,15 @@
+//! Reading octets from left to right: numbers, flags and names, and where the first fault stands.
+//!
+//! A fault is counted from the end: it says how many octets stand from its place on. So a reader looks only at what is
+//! left, and a field that is cut off has the fault 0, which is the place behind the last octet.
+#![tactic(auto)]
+
+mod laws;
+mod names;
+mod numbers;
+mod stop;
+
+pub use laws::{layouts_are_told, names_are_told};
+pub use names::name_at;
+pub use numbers::{flag_at, four_at, octet_at, parts, two_at};
+pub use stop::Stop;
