@@ -1,0 +1,9 @@
+pub mod Again
+pub mod Inside
+pub mod Loop
+pub mod Numbered
+pub mod Spelled
+pub mod Textual
+pub mod Values
+pub mod Vectors
+pub mod Whole

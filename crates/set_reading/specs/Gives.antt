@@ -1,0 +1,28 @@
+-- What reading a set gives.
+use Rattle.std.specs.Prelude.{◌≡◌, ℕ, ◌≤◌, List, true, false, Result, Ok, Err, ⊤}
+use Rattle.octet_reading.specs.Layouts.{is_layout}
+use Rattle.rdata.specs.Datum.{Datum}
+use Rattle.rdata.specs.declared.faults.WireFault.{WireFault}
+use Rattle.rdata.specs.declared.faults.WireFault.TheVariants as wire
+use Rattle.rdata_layout.specs.declared.types.RType.{RType}
+use Rattle.record_set.specs.declared.sets.RecordSet.{RecordSet}
+use Rattle.set_reading.specs.declared.faults.ReadFault.{ReadFault}
+use Rattle.set_reading.specs.declared.faults.ReadFault.TheVariants as fault
+
+-- What a call answered is what reading says, unless memory ran out.
+abbrev pub ReadsSet : Result (RecordSet × ℕ) ReadFault → Result (RecordSet × ℕ) ℕ → Type 0
+ReadsSet (Ok x) read = read ≡ Ok x
+ReadsSet (Err (fault.Bad place)) read = read ≡ Err place
+ReadsSet (Err fault.OutOfMemory) read = ⊤
+
+-- A set's octets are among those that were given, and a fault stands at one of them or behind the last.
+abbrev pub IsInside : ℕ → Result (RecordSet × ℕ) ReadFault → Type 0
+IsInside size (Ok x) = x.1 ≤ size
+IsInside size (Err (fault.Bad place)) = place ≤ size
+IsInside size (Err fault.OutOfMemory) = ⊤
+
+-- What octets are as a value of the type.
+abbrev pub ReadsValue : RType → List ℕ → Result Datum WireFault → Type 0
+ReadsValue type octets (Ok datum) = (is_layout type octets ≡ true) × (datum ≡ record { rtype = type; wire = octets })
+ReadsValue type octets (Err wire.Bad) = is_layout type octets ≡ false
+ReadsValue type octets (Err wire.OutOfMemory) = ⊤

@@ -1,0 +1,16 @@
+//! Reading the octets of record sets, from left to right, with the place of the first fault.
+//!
+//! A fault is counted from the end while the fields are read, and becomes a place at last. A set that is too long is told
+//! as such behind its last field, so that a fault within it comes first.
+#![tactic(auto)]
+
+mod faults;
+mod fields;
+mod laws;
+mod reading;
+mod sets;
+
+pub use faults::ReadFault;
+pub use laws::{one_spelling, written_reads_back};
+pub use reading::read_set;
+pub use sets::well_formed;
