@@ -1,0 +1,5 @@
+pub mod Answering
+pub mod Ordered
+pub mod Places
+pub mod Staying
+pub mod Vectors
