@@ -1,0 +1,6 @@
+pub mod Again
+pub mod Inside
+pub mod Loop
+pub mod Spelled
+pub mod Vectors
+pub mod Whole

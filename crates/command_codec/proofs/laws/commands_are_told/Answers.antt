@@ -1,0 +1,5 @@
+use Rattle.command_codec.proofs.Whole.{commands_are_told}
+use Rattle.command_codec.proofs.laws.commands_are_told.Goals as goal
+
+pub returns : goal.returns
+returns c = commands_are_told

@@ -1,0 +1,17 @@
+-- What reading a command gives.
+use Rattle.std.specs.Prelude.{◌≡◌, ℕ, ◌≤◌, Result, Ok, Err, ⊤}
+use Rattle.set_reading.specs.declared.faults.ReadFault.{ReadFault}
+use Rattle.set_reading.specs.declared.faults.ReadFault.TheVariants as fault
+use Rattle.command_codec.specs.declared.commands.Command.{Command}
+
+-- What a call answered is what reading says, unless memory ran out.
+abbrev pub ReadsCommand : Result Command ReadFault → Result Command ℕ → Type 0
+ReadsCommand (Ok command) read = read ≡ Ok command
+ReadsCommand (Err (fault.Bad place)) read = read ≡ Err place
+ReadsCommand (Err fault.OutOfMemory) read = ⊤
+
+-- A fault stands at one of the octets, or behind the last.
+abbrev pub IsInside : ℕ → Result Command ReadFault → Type 0
+IsInside size (Ok command) = ⊤
+IsInside size (Err (fault.Bad place)) = place ≤ size
+IsInside size (Err fault.OutOfMemory) = ⊤

@@ -1,0 +1,5 @@
+pub mod Commands
+pub mod Gives
+pub mod Laws
+pub mod Octets
+pub mod Reading

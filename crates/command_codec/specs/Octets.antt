@@ -1,0 +1,47 @@
+-- The octets of commands, version 1: one spelling each (FORMATS, Octets of commands).
+use Rattle.std.specs.Prelude.{ℕ, ◌^◌, ◌<◌, List, ◌∷◌, ◌++◌, length, ⊤}
+use Rattle.std.specs.List.{flat_map, AllByRecursion}
+use Rattle.octets.specs.Numbers.{two_octets, four_octets}
+use Rattle.dns_name.specs.Labels.{wire}
+use Rattle.r53_model.specs.declared.batches.Action.{Action}
+use Rattle.r53_model.specs.declared.batches.Action.TheVariants as action
+use Rattle.r53_model.specs.declared.batches.Batch.{Batch}
+use Rattle.r53_model.specs.declared.batches.Change.{Change}
+use Rattle.set_octets.specs.Octets.{set_octets}
+use Rattle.set_octets.specs.Octets as sets
+use Rattle.command_codec.specs.declared.commands.Command.{Command}
+use Rattle.command_codec.specs.declared.commands.Command.TheVariants as command
+
+abbrev pub action_number : Action → ℕ
+action_number action.Create = 1
+action_number action.Delete = 2
+action_number action.Upsert = 3
+
+-- a change: its action, how many characters its values have, and its set
+abbrev pub change_octets : Change → List ℕ
+change_octets change = action_number change.action ∷ (four_octets change.characters ++ set_octets change.set)
+
+-- a batch: the zone's number, how many changes there are, and these
+abbrev pub batch_octets : Batch → List ℕ
+batch_octets batch = four_octets batch.zone ++ two_octets (length batch.changes) ++ flat_map change_octets batch.changes
+
+-- the version, the kind, and the fields of that kind
+abbrev pub command_octets : Command → List ℕ
+command_octets (command.CreateZone name servers) = 1 ∷ 1 ∷ (wire name ++ flat_map wire servers)
+command_octets (command.DeleteZone zone) = 1 ∷ 2 ∷ four_octets zone
+command_octets (command.Change batch) = 1 ∷ 3 ∷ batch_octets batch
+
+-- a change whose set has a spelling
+abbrev pub HasSpelledSet : Change → Type 0
+HasSpelledSet change = sets.HasSpelling change.set
+
+-- no more changes than can be counted, and each set has a spelling
+pub record IsSpelledBatch (batch : Batch) : Type 0 where
+  pub count : length batch.changes < 2 ^ 16
+  pub each : AllByRecursion HasSpelledSet batch.changes
+
+-- What has a spelling.
+abbrev pub HasSpelling : Command → Type 0
+HasSpelling (command.CreateZone name servers) = ⊤
+HasSpelling (command.DeleteZone zone) = ⊤
+HasSpelling (command.Change batch) = IsSpelledBatch batch

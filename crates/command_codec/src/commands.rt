@@ -1,0 +1,17 @@
+use dns_name::Name;
+use r53_model::Batch;
+
+/// What a client asks to be changed.
+#[derive(Drop)]
+pub enum Command {
+    /// Creates a hosted zone of this name.
+    CreateZone {
+        name: Name,
+        /// The name servers of its delegation set.
+        servers: [Name; 4],
+    },
+    /// Deletes the hosted zone of this number.
+    DeleteZone(u32),
+    /// Changes the sets of a zone.
+    Change(Batch),
+}

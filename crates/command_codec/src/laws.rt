@@ -1,0 +1,23 @@
+//! Laws over the definitions, each the contract of a function that does nothing.
+
+ghost use Rattle.command_codec.specs.Laws.{CommandsAreTold, OneSpelling, ReadAsNothingElse, WrittenReadsBack};
+
+/// One command has one spelling, and no spelling begins another.
+pub fn one_spelling()
+    ensures { OneSpelling }
+{}
+
+/// What is written is read again.
+pub fn written_reads_back()
+    ensures { WrittenReadsBack }
+{}
+
+/// The octets of a command are read as nothing else.
+pub fn read_as_nothing_else()
+    ensures { ReadAsNothingElse }
+{}
+
+/// Reading tells the command that octets are, or that they are none.
+pub fn commands_are_told()
+    ensures { CommandsAreTold }
+{}
