@@ -1,0 +1,4 @@
+pub mod Conflicts
+pub mod Counting
+pub mod FullGroups
+pub mod Runs

@@ -1,0 +1,54 @@
+ghost use Rattle.std.specs.Prelude.{◌≡◌, ◌<◌, length, IsTrue, ◌↔◌};
+ghost use Rattle.rdata_layout.specs.declared.types.RType.TheVariants.{Cname};
+ghost use Rattle.r53_model.specs.Rules.{CnameAlone};
+ghost use Rattle.r53_model.specs.Zones.{IsRising};
+ghost use Rattle.zone_rules.specs.Breaks.{IsFirstName};
+ghost use Rattle.zone_rules.specs.Groups.{IsConflicted, IsOther};
+
+use dns_name::Name;
+use rdata::RType;
+use record_set::RecordSet;
+
+/// The name of the first set whose name has a CNAME set beside a set of another type, or a CNAME set at the apex.
+pub fn first_conflict(sets: &[RecordSet], apex: &Name) -> Option<Name>
+    requires { IsRising sets.now }
+    ensures { IsFirstName CnameAlone sets.now apex.now result }
+{
+    for i in 0..sets.len() {
+        if is_conflicted(sets, apex, i) {
+            return Some(sets[i].name);
+        }
+    }
+    None
+}
+
+/// Whether the set at the place is a CNAME at the apex, or next to a set of its name and of another type.
+fn is_conflicted(sets: &[RecordSet], apex: &Name, i: usize) -> bool
+    requires { i < length sets.now }
+    ensures { IsTrue result ↔ IsConflicted sets.now apex.now i }
+{
+    if !is_cname(sets[i].rtype) {
+        return false;
+    }
+    if sets[i].name.is_same(apex) {
+        return true;
+    }
+    if i > 0 && is_other(&sets[i - 1], &sets[i]) {
+        return true;
+    }
+    i + 1 < sets.len() && is_other(&sets[i + 1], &sets[i])
+}
+
+/// Whether it has the name of the set, and another type than CNAME.
+fn is_other(other: &RecordSet, set: &RecordSet) -> bool
+    ensures { IsTrue result ↔ IsOther other.now set.now }
+{
+    !is_cname(other.rtype) && other.name.is_same(&set.name)
+}
+
+/// Whether the type is CNAME.
+fn is_cname(rtype: RType) -> bool
+    ensures { IsTrue result ↔ (rtype ≡ Cname) }
+{
+    rtype == RType::Cname
+}

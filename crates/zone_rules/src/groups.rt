@@ -1,0 +1,34 @@
+ghost use Rattle.std.specs.Prelude.{◌≡◌, ◌<◌, length, IsTrue, ◌↔◌};
+ghost use Rattle.r53_model.specs.Rules.{AreOneGroup};
+ghost use Rattle.r53_model.specs.Zones.{IsRising};
+ghost use Rattle.zone_rules.specs.Groups.{IsStart, IsStartBefore};
+
+use rdata::RType;
+use record_set::RecordSet;
+
+/// Whether the two are of one group.
+pub fn is_one_group(set: &RecordSet, other: &RecordSet) -> bool
+    ensures { IsTrue result ↔ AreOneGroup set.now other.now }
+{
+    set.name.is_same(&other.name) && is_same_type(set.rtype, other.rtype)
+}
+
+/// Whether the two types are one.
+fn is_same_type(x: RType, y: RType) -> bool
+    ensures { IsTrue result ↔ (x ≡ y) }
+{
+    x == y
+}
+
+/// Where the group of the set at place `i` begins, from where that of the set before it does.
+pub fn start_of(sets: &[RecordSet], start: usize, i: usize) -> usize
+    requires rising { IsRising sets.now }
+    requires within { i < length sets.now }
+    requires before { IsStartBefore sets.now start i }
+    ensures { IsStart sets.now result i }
+{
+    if i > 0 && is_one_group(&sets[i - 1], &sets[i]) {
+        return start;
+    }
+    i
+}

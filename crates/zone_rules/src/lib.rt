@@ -1,0 +1,13 @@
+//! The rules that the sets of a zone meet together, tried over neighbours in zone order.
+//!
+//! A group's sets stand together in zone order, and so do the sets of a name.
+#![tactic(auto)]
+
+mod breaks;
+mod cname;
+mod groups;
+mod places;
+mod policies;
+mod sizes;
+
+pub use breaks::first_break;
