@@ -1,0 +1,10 @@
+use Rattle.std.proofs.Common.{take}
+use Rattle.r53_model.specs.Batches.{Leaves}
+use Rattle.r53_model.specs.Zones.{IsZone}
+use Rattle.change_batch.proofs.whole.apply_all.Given as goal
+
+abbrev pub invariant-loop-i : goal.invariant-loop-i
+invariant-loop-i l = record {
+  leaves : Leaves l.fn.sets l.fn.apex (take l.i l.changes) l.after.items;
+  zone : IsZone l.after.items l.fn.apex;
+}

@@ -1,0 +1,50 @@
+-- What a batch meets by itself, and how refusals are told.
+use Rattle.std.specs.Prelude.{◌≡◌, ◌⊎◌, ℕ, List, [], length, Option, None, Some, Result, Ok, Err, Vec}
+use Rattle.std.specs.declared.alloc.Global.{Global}
+use Rattle.record_set.specs.declared.reasons.Reason.{Reason}
+use Rattle.record_set.specs.declared.sets.RecordSet.{RecordSet}
+use Rattle.r53_model.specs.declared.batches.Change.{Change}
+use Rattle.r53_model.specs.declared.refusals.BatchRefusal.{BatchRefusal}
+use Rattle.r53_model.specs.declared.refusals.BatchRefusal.TheVariants as batch
+use Rattle.r53_model.specs.declared.refusals.ChangeRefusal.{ChangeRefusal}
+use Rattle.r53_model.specs.declared.refusals.ChangeRefusal.TheVariants as refusal
+use Rattle.r53_model.specs.Batches.{AreValidBefore, IsFirstInvalid, IsValid, IsWithinLimits}
+use Rattle.r53_model.specs.Limits.{HasTooManyValues, HasTooManyCharacters, HasLongSet}
+
+-- the first change whose set is refused by itself, or none
+abbrev pub IsFirstInvalidOrNone : List Change → (apex : List (List ℕ)) → Option (ℕ × Reason) → Type 0
+IsFirstInvalidOrNone changes apex None = AreValidBefore changes apex (length changes)
+IsFirstInvalidOrNone changes apex (Some (i, reason)) = IsFirstInvalid changes apex i reason
+
+-- the first of the refusals that come before any change is applied
+abbrev pub TellsLimits : List Change → (apex : List (List ℕ)) → Option BatchRefusal → Type 0
+TellsLimits changes apex None = IsWithinLimits changes apex
+TellsLimits changes apex (Some batch.EmptyBatch) = changes ≡ []
+TellsLimits changes apex (Some (batch.InvalidInput i reason)) = IsFirstInvalid changes apex i reason
+TellsLimits changes apex (Some batch.TooManyValues) = IsValid changes apex × HasTooManyValues changes
+TellsLimits changes apex (Some batch.TooManyCharacters) =
+    IsValid changes apex × (HasTooManyValues changes → ⊥) × (HasTooManyCharacters changes ⊎ HasLongSet changes)
+TellsLimits changes apex (Some (batch.NotInZone i)) = ⊥
+TellsLimits changes apex (Some (batch.AlreadyExists i)) = ⊥
+TellsLimits changes apex (Some (batch.NotFound i)) = ⊥
+TellsLimits changes apex (Some (batch.ValuesDiffer i)) = ⊥
+TellsLimits changes apex (Some (batch.ApexProtected i)) = ⊥
+TellsLimits changes apex (Some (batch.MixedPolicies key)) = ⊥
+TellsLimits changes apex (Some (batch.CnameConflict name)) = ⊥
+TellsLimits changes apex (Some (batch.SamePlace key)) = ⊥
+TellsLimits changes apex (Some (batch.GroupFull name rtype)) = ⊥
+TellsLimits changes apex (Some batch.OutOfMemory) = ⊥
+
+-- a refusal of a change, with its place
+abbrev pub refusal_at : ℕ → ChangeRefusal → BatchRefusal
+refusal_at i refusal.NotInZone = batch.NotInZone i
+refusal_at i refusal.AlreadyExists = batch.AlreadyExists i
+refusal_at i refusal.NotFound = batch.NotFound i
+refusal_at i refusal.ValuesDiffer = batch.ValuesDiffer i
+refusal_at i refusal.ApexProtected = batch.ApexProtected i
+refusal_at i refusal.OutOfMemory = batch.OutOfMemory
+
+-- an answer with the sets as a list
+abbrev pub with_items : Result (Vec RecordSet Global) BatchRefusal → Result (List RecordSet) BatchRefusal
+with_items (Ok sets) = Ok sets.items
+with_items (Err why) = Err why

@@ -1,0 +1,177 @@
+//! One change, applied to the sets.
+
+ghost use Rattle.std.specs.Prelude.{◌≡◌, ◌<◌, ◌≤◌, length, set, OnOk, IfErr, Ok, Err, IsTrue, ◌↔◌};
+ghost use Rattle.std.specs.List.{insert, remove};
+ghost use Rattle.dns_name.specs.Suffix.{EndsWith};
+ghost use Rattle.record_set.specs.Reasons.{IsOfZone};
+ghost use Rattle.record_set.specs.Sets.{key_of};
+ghost use Rattle.r53_model.specs.declared.batches.Action.TheVariants.{Create, Delete, Upsert};
+ghost use Rattle.r53_model.specs.Changing.{Gives, IsProtected, IsThereAsGiven};
+ghost use Rattle.r53_model.specs.Zones.{IsRising};
+ghost use Rattle.change_batch.specs.Found.{Finds, FindsAt};
+
+use crate::finding::find;
+use dns_name::Name;
+use r53_model::{Action, Change, ChangeRefusal};
+use rdata::{OutOfMemory, RType};
+use record_set::{RecordSet, same};
+use std::alloc::Global;
+
+/// Applies a change. Where it is refused, the sets may be thrown away.
+pub fn apply(
+    alloc: Global,
+    sets: &mut Vec<RecordSet>,
+    apex: &Name,
+    change: &Change,
+) -> Result<(), ChangeRefusal>
+    requires { IsRising sets.old.items }
+    ensures ok { OnOk result (Gives sets.old.items apex.now change.now (Ok sets.new.items)) }
+    ensures err { IfErr result (λ why. Gives sets.old.items apex.now change.now (Err why)) }
+{
+    if !change.set.name.ends_with(apex) {
+        return Err(ChangeRefusal::NotInZone);
+    }
+    match change.action {
+        Action::Create => create(alloc, sets, apex, change),
+        Action::Delete => delete(sets, apex, change),
+        Action::Upsert => upsert(alloc, sets, apex, change),
+    }
+}
+
+/// Adds a set whose key isn't there.
+fn create(
+    alloc: Global,
+    sets: &mut Vec<RecordSet>,
+    apex: &Name,
+    change: &Change,
+) -> Result<(), ChangeRefusal>
+    requires rising { IsRising sets.old.items }
+    requires inside { EndsWith change.now.set.name apex.now }
+    requires action { change.now.action ≡ Create }
+    ensures ok { OnOk result (Gives sets.old.items apex.now change.now (Ok sets.new.items)) }
+    ensures err { IfErr result (λ why. Gives sets.old.items apex.now change.now (Err why)) }
+{
+    let place = match find_set(sets.as_slice(), &change.set) {
+        Ok(_) => return Err(ChangeRefusal::AlreadyExists),
+        Err(place) => place,
+    };
+    match insert_copy(alloc, sets, place, &change.set) {
+        Ok(()) => Ok(()),
+        Err(OutOfMemory) => Err(ChangeRefusal::OutOfMemory),
+    }
+}
+
+/// Takes away a set that is there as it is given.
+fn delete(sets: &mut Vec<RecordSet>, apex: &Name, change: &Change) -> Result<(), ChangeRefusal>
+    requires rising { IsRising sets.old.items }
+    requires inside { EndsWith change.now.set.name apex.now }
+    requires action { change.now.action ≡ Delete }
+    ensures ok { OnOk result (Gives sets.old.items apex.now change.now (Ok sets.new.items)) }
+    ensures err { IfErr result (λ why. Gives sets.old.items apex.now change.now (Err why)) }
+{
+    let place = match find_set(sets.as_slice(), &change.set) {
+        Ok(place) => place,
+        Err(_) => return Err(ChangeRefusal::NotFound),
+    };
+    if !is_as_given(sets.as_slice(), place, &change.set) {
+        return Err(ChangeRefusal::ValuesDiffer);
+    }
+    if is_protected(&change.set, apex) {
+        return Err(ChangeRefusal::ApexProtected);
+    }
+    take_away(sets, place);
+    Ok(())
+}
+
+/// Adds a set, or puts it in the place of the one with its key.
+fn upsert(
+    alloc: Global,
+    sets: &mut Vec<RecordSet>,
+    apex: &Name,
+    change: &Change,
+) -> Result<(), ChangeRefusal>
+    requires rising { IsRising sets.old.items }
+    requires inside { EndsWith change.now.set.name apex.now }
+    requires action { change.now.action ≡ Upsert }
+    ensures ok { OnOk result (Gives sets.old.items apex.now change.now (Ok sets.new.items)) }
+    ensures err { IfErr result (λ why. Gives sets.old.items apex.now change.now (Err why)) }
+{
+    match find_set(sets.as_slice(), &change.set) {
+        Ok(place) => match replace_by_copy(alloc, sets, place, &change.set) {
+            Ok(()) => Ok(()),
+            Err(OutOfMemory) => Err(ChangeRefusal::OutOfMemory),
+        },
+        Err(place) => match insert_copy(alloc, sets, place, &change.set) {
+            Ok(()) => Ok(()),
+            Err(OutOfMemory) => Err(ChangeRefusal::OutOfMemory),
+        },
+    }
+}
+
+/// The place of the set with the key of this one, or else that at which it would stand.
+fn find_set(sets: &[RecordSet], given: &RecordSet) -> Result<usize, usize>
+    requires { IsRising sets.now }
+    ensures { Finds sets.now (key_of given.now) result }
+{
+    find(sets, &given.key())
+}
+
+/// Whether the set with the key of this one, which stands at the place, is equal to it.
+fn is_as_given(sets: &[RecordSet], place: usize, given: &RecordSet) -> bool
+    requires { FindsAt sets.now (key_of given.now) place }
+    ensures { IsTrue result ↔ IsThereAsGiven sets.now given.now }
+{
+    same(&sets[place], given)
+}
+
+/// Whether the set can't be deleted: the NS or SOA set at the apex.
+fn is_protected(set: &RecordSet, apex: &Name) -> bool
+    ensures { IsTrue result ↔ IsProtected set.now apex.now }
+{
+    is_of_zone(set.rtype) && set.name.is_same(apex)
+}
+
+/// Whether the type says how a zone is served.
+fn is_of_zone(rtype: RType) -> bool
+    ensures { IsTrue result ↔ IsOfZone rtype }
+{
+    rtype == RType::Ns || rtype == RType::Soa
+}
+
+/// Puts a copy of the set before the place.
+fn insert_copy(
+    alloc: Global,
+    sets: &mut Vec<RecordSet>,
+    place: usize,
+    given: &RecordSet,
+) -> Result<(), OutOfMemory>
+    requires { place ≤ length sets.old.items }
+    ensures { OnOk result (sets.new.items ≡ insert sets.old.items place given.now) }
+{
+    let copy = given.copy(alloc)?;
+    sets.insert(place, copy)?;
+    Ok(())
+}
+
+/// Puts a copy of the set in the place of another.
+fn replace_by_copy(
+    alloc: Global,
+    sets: &mut Vec<RecordSet>,
+    place: usize,
+    given: &RecordSet,
+) -> Result<(), OutOfMemory>
+    requires { place < length sets.old.items }
+    ensures { OnOk result (sets.new.items ≡ set sets.old.items place given.now) }
+{
+    let copy = given.copy(alloc)?;
+    sets[place] = copy;
+    Ok(())
+}
+
+/// Takes away the set at the place.
+fn take_away(sets: &mut Vec<RecordSet>, place: usize)
+    requires { place < length sets.old.items }
+    ensures { sets.new.items ≡ remove sets.old.items place }
+{
+    sets.remove(place);
+}

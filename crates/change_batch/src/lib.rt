@@ -1,0 +1,15 @@
+//! Batches of changes to the sets of a zone: the sets after one, or its first refusal.
+//!
+//! A batch is made whole or not at all. It is tested by itself first, then its changes are applied in their order, and
+//! the rules that sets meet together are looked at once, after the last change.
+#![tactic(auto)]
+
+mod applying;
+mod finding;
+mod lengths;
+mod limits;
+mod preparing;
+mod whole;
+
+pub use preparing::prepare;
+pub use r53_model::{Action, Batch, BatchRefusal, Change, Changes};

@@ -1,0 +1,41 @@
+ghost use Rattle.std.specs.Prelude.{◌≡◌, IfOk, IfErr};
+ghost use Rattle.r53_model.specs.Batches.{Prepares};
+ghost use Rattle.r53_model.specs.Zones.{IsZone};
+ghost use Rattle.change_batch.specs.Tests.{with_items};
+
+use crate::limits::check_limits;
+use crate::whole::apply_all;
+use dns_name::Name;
+use r53_model::{Batch, BatchRefusal};
+use record_set::RecordSet;
+use std::alloc::Global;
+use zone_rules::first_break;
+
+/// The sets of a zone after a batch, or the first refusal of the batch. The zone's own sets stay as they are.
+pub fn prepare(
+    alloc: Global,
+    sets: &[RecordSet],
+    apex: &Name,
+    batch: &Batch,
+) -> Result<Vec<RecordSet>, BatchRefusal>
+    requires { IsZone sets.now apex.now }
+
+    // The sets after the last change, or the first refusal and what it tells. Only want of memory is free.
+    ensures answer { Prepares sets.now apex.now batch.now.changes (with_items result) }
+
+    // The sets after it are those of a zone again.
+    ensures zone { IfOk result (λ after. IsZone after.items apex.now) }
+{
+    let changes = batch.changes.as_slice();
+    if let Some(why) = check_limits(changes, apex) {
+        return Err(why);
+    }
+    let after = match apply_all(alloc, sets, apex, changes) {
+        Ok(after) => after,
+        Err(why) => return Err(why),
+    };
+    if let Some(why) = first_break(after.as_slice(), apex) {
+        return Err(why);
+    }
+    Ok(after)
+}

@@ -1,0 +1,64 @@
+//! All changes of a batch, applied one after another.
+
+ghost use Rattle.std.specs.Prelude.{◌≡◌, IfOk, IfErr, Err};
+ghost use Rattle.r53_model.specs.Batches.{IsWithinLimits, Leaves, Prepares};
+ghost use Rattle.r53_model.specs.Zones.{IsZone};
+ghost use Rattle.change_batch.specs.Tests.{refusal_at};
+
+use crate::applying::apply;
+use dns_name::Name;
+use r53_model::{BatchRefusal, Change, ChangeRefusal};
+use rdata::OutOfMemory;
+use record_set::RecordSet;
+use std::alloc::Global;
+
+/// The sets after the changes, or the refusal of the first change that is refused.
+pub fn apply_all(
+    alloc: Global,
+    sets: &[RecordSet],
+    apex: &Name,
+    changes: &[Change],
+) -> Result<Vec<RecordSet>, BatchRefusal>
+    requires zone { IsZone sets.now apex.now }
+    requires limits { IsWithinLimits changes.now apex.now }
+    ensures leaves { IfOk result (λ after. Leaves sets.now apex.now changes.now after.items) }
+    ensures zone { IfOk result (λ after. IsZone after.items apex.now) }
+    ensures refused { IfErr result (λ why. Prepares sets.now apex.now changes.now (Err why)) }
+{
+    let mut after = match copy_all(alloc, sets, changes.len()) {
+        Ok(copies) => copies,
+        Err(OutOfMemory) => return Err(BatchRefusal::OutOfMemory),
+    };
+    for (i, change) in changes.iter().enumerate() {
+        match apply(alloc, &mut after, apex, change) {
+            Ok(()) => {}
+            Err(why) => return Err(refusal_at(i, why)),
+        }
+    }
+    Ok(after)
+}
+
+/// The refusal of the change at a place.
+fn refusal_at(i: usize, why: ChangeRefusal) -> BatchRefusal
+    ensures { result ≡ refusal_at i why }
+{
+    match why {
+        ChangeRefusal::NotInZone => BatchRefusal::NotInZone(i),
+        ChangeRefusal::AlreadyExists => BatchRefusal::AlreadyExists(i),
+        ChangeRefusal::NotFound => BatchRefusal::NotFound(i),
+        ChangeRefusal::ValuesDiffer => BatchRefusal::ValuesDiffer(i),
+        ChangeRefusal::ApexProtected => BatchRefusal::ApexProtected(i),
+        ChangeRefusal::OutOfMemory => BatchRefusal::OutOfMemory,
+    }
+}
+
+/// Copies of the sets, and room for so many more.
+fn copy_all(alloc: Global, sets: &[RecordSet], more: usize) -> Result<Vec<RecordSet>, OutOfMemory>
+    ensures { IfOk result (λ copies. copies.items ≡ sets.now) }
+{
+    let mut copies = Vec::with_capacity(alloc, sets.len().saturating_add(more))?;
+    for set in sets {
+        copies.push(set.copy(alloc)?)?;
+    }
+    Ok(copies)
+}
