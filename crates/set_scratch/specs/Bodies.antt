@@ -1,0 +1,24 @@
+-- What a set answers, one thing at a time.
+use Rattle.std.specs.Prelude.{ℕ, List, [], Bool, Option, None, Some, map}
+use Rattle.rdata.specs.Datum.{Datum}
+use Rattle.record_set.specs.declared.sets.Body.{Body}
+use Rattle.record_set.specs.declared.sets.Body.TheVariants as body
+
+-- the time to live; an alias has none of its own, and 0 stands for it
+abbrev pub ttl_of : Body → ℕ
+ttl_of (body.Values ttl values) = ttl
+ttl_of (body.Alias target evaluate) = 0
+
+-- the values; an alias has none
+abbrev pub values_of : Body → List Datum
+values_of (body.Values ttl values) = values
+values_of (body.Alias target evaluate) = []
+
+-- the octets of each value on the wire
+abbrev pub wires_of : Body → List (List ℕ)
+wires_of what = map (λ value. value.wire) (values_of what)
+
+-- the target of an alias, and whether the health of the target's sets counts; none where it is no alias
+abbrev pub alias_of : Body → Option (List (List ℕ) × Bool)
+alias_of (body.Values ttl values) = None
+alias_of (body.Alias target evaluate) = Some (target, evaluate)

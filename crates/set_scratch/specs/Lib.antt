@@ -1,0 +1,5 @@
+pub mod Bodies
+pub mod Holding
+pub mod Kept
+pub mod Parts
+pub mod Spans

@@ -1,0 +1,71 @@
+//! Where the values of a set stand among its octets.
+
+ghost use Rattle.std.specs.Prelude.{◌≡◌, ◌+◌, ◌<◌, ◌≤◌, [], length, map, Some, IfSome, slice_get, vec_capacity};
+ghost use Rattle.std.specs.List.{AllByRecursion, flat_map};
+ghost use Rattle.rdata_layout.specs.Layout.{IsLayout};
+ghost use Rattle.set_octets.specs.Octets.{body_octets, most_octets, value_octets};
+ghost use Rattle.set_scratch.specs.Bodies.{values_of};
+ghost use Rattle.set_scratch.specs.Kept.{IsInLayout, values_at};
+ghost use Rattle.set_scratch.specs.Spans.{EndsWithin, spans_of};
+
+use octets::{behind, front};
+use rdata::{RData, RType};
+use record_set::Body;
+
+/// Where a value's octets on the wire stand.
+#[derive(Clone, Copy)]
+pub(crate) struct Span {
+    pub rtype: RType,
+    pub start: usize,
+    pub len: usize,
+}
+
+/// The octets of a body before its values: a zero, four of the time to live, two of their number.
+const BEFORE_VALUES: usize = 7;
+
+/// Puts the places of a body's values where others were. The body begins at `at`.
+pub(crate) fn place_values(spans: &mut Vec<Span>, at: usize, body: &Body)
+    requires room { length (values_of body.now) ≤ vec_capacity spans.old }
+    requires short { at + length (body_octets body.now) ≤ most_octets }
+    ensures items { spans.new.items ≡ spans_of (at + 7) (values_of body.now) }
+    ensures layouts { AllByRecursion IsInLayout (values_of body.now) }
+    ensures capacity { vec_capacity spans.new ≡ vec_capacity spans.old }
+{
+    spans.clear();
+    if let Body::Values { values, .. } = body {
+        fill(spans, at + BEFORE_VALUES, values.as_slice());
+    }
+}
+
+/// Adds the place of each value.
+fn fill(spans: &mut Vec<Span>, at: usize, values: &[RData])
+    requires empty { spans.old.items ≡ [] }
+    requires room { length values.now ≤ vec_capacity spans.old }
+    requires short { at + length (flat_map value_octets values.now) ≤ most_octets }
+    ensures items { spans.new.items ≡ spans_of at values.now }
+    ensures layouts { AllByRecursion IsInLayout values.now }
+    ensures capacity { vec_capacity spans.new ≡ vec_capacity spans.old }
+{
+    let mut start = at;
+    for value in values {
+        let len = value.wire().len();
+        spans.push_reserved(Span {
+            rtype: value.rtype(),
+            start: start + 2,
+            len,
+        });
+        start += len + 2;
+    }
+}
+
+/// The octets of the value at a place.
+pub(crate) fn wire_at<'a>(octets: &'a [u8], spans: &[Span], i: usize) -> &'a [u8]
+    requires there { i < length spans.now }
+    requires within { AllByRecursion (EndsWithin (length octets.now)) spans.now }
+    requires layouts { AllByRecursion IsInLayout (values_at octets.now spans.now) }
+    ensures wire { slice_get (map (λ value. value.wire) (values_at octets.now spans.now)) i ≡ Some result.now }
+    ensures layout { IfSome (slice_get (values_at octets.now spans.now) i) (λ value. IsLayout value.rtype result.now) }
+{
+    let span = spans[i];
+    front(behind(octets, span.start), span.len)
+}
