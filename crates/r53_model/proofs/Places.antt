@@ -67,7 +67,7 @@ below_or_at (suc j) zero le = absurd (omega (arith, le))
 below_or_at (suc j) (suc k) le = elim (below_or_at j k (omega (arith, le))) [ inl lt ↦ inl (omega (arith, lt)) | inr e ↦ inr (ap suc e) ]
 
 -- two places in order
-ordered_at : (sets : List RecordSet) (j k : ℕ) (x y : RecordSet) → IsRising sets → j ≤ k → slice_get sets j ≡ Some x → slice_get sets k ≡ Some y
+pub ordered_at : (sets : List RecordSet) (j k : ℕ) (x y : RecordSet) → IsRising sets → j ≤ k → slice_get sets j ≡ Some x → slice_get sets k ≡ Some y
     → is_gt (group_cmp x y) ≡ false
 ordered_at sets j k x y rising le at_j at_k = let split : (j < k) ⊎ (j ≡ k) = below_or_at j k le in by split
   where

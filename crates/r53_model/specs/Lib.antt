@@ -1,5 +1,6 @@
 pub mod Batches
 pub mod Changing
+pub mod Existing
 pub mod Keys
 pub mod KeyLaws
 pub mod Laws
