@@ -1,0 +1,4 @@
+pub mod Below
+pub mod Filters
+pub mod Lookups
+pub mod Together

@@ -1,0 +1,61 @@
+-- Where sets stand, by their keys.
+use Rattle.std.specs.Prelude.{◌≡◌, ◌≢◌, ◌≤◌, ◌<◌, ◌+◌, ℕ, List, take, drop, length, true, false, slice_get, None, Some, Result, Ok, Err}
+use Rattle.std.specs.List.{filter}
+use Rattle.std.specs.declared.cmp.Ordering.TheVariants.{Less}
+use Rattle.dns_name.specs.Order.{zone_cmp}
+use Rattle.rdata_layout.specs.declared.types.RType.{RType}
+use Rattle.record_set.specs.declared.sets.RecordSet.{RecordSet}
+use Rattle.record_set.specs.declared.sets.SetKey.{SetKey}
+use Rattle.record_set.specs.Sets.{key_of}
+use Rattle.r53_model.specs.Changing.{comes_before, comes_behind, Keeps, IsThere}
+use Rattle.r53_model.specs.Zones.{group}
+use Rattle.set_search.specs.declared.bounds.Bound.{Bound}
+use Rattle.set_search.specs.declared.bounds.Bound.TheVariants as bound
+use Rattle.set_search.specs.Bounds.{is_before}
+
+-- The sets before place `low` stand before the bound, and those from `high` on don't.
+pub record IsBracket (sets : List RecordSet) (bound : Bound) (low high : ℕ) : Type 0 where
+  pub order : low ≤ high
+  pub within : high ≤ length sets
+  pub before : (k : ℕ) (x : RecordSet) → k < low → slice_get sets k ≡ Some x → is_before bound x ≡ true
+  pub behind : (k : ℕ) (x : RecordSet) → high ≤ k → slice_get sets k ≡ Some x → is_before bound x ≡ false
+
+-- So many sets stand before the bound: these are the first ones.
+abbrev pub IsCount : List RecordSet → Bound → ℕ → Type 0
+IsCount sets bound n = IsBracket sets bound n n
+
+-- The sets of a name and type stand side by side, from place `start` on.
+pub record IsGroupAt (sets : List RecordSet) (name : List (List ℕ)) (rtype : RType) (start n : ℕ) : Type 0 where
+  pub first : IsCount sets (bound.From (record { name = name; rtype = rtype; ident = None })) start
+  pub within : start + n ≤ length sets
+  pub members : take n (drop start sets) ≡ group sets name rtype
+
+-- The names of the first n sets come before this name, and those of the others don't.
+pub record IsFirstNamed (sets : List RecordSet) (name : List (List ℕ)) (n : ℕ) : Type 0 where
+  pub within : n ≤ length sets
+  pub before : (k : ℕ) (x : RecordSet) → k < n → slice_get sets k ≡ Some x → zone_cmp x.name name ≡ Less
+  pub behind : (k : ℕ) (x : RecordSet) → n ≤ k → slice_get sets k ≡ Some x → zone_cmp x.name name ≢ Less
+
+-- The set at place n is the one of this key.
+pub record FindsAt (sets : List RecordSet) (key : SetKey) (n : ℕ) : Type 0 where
+  pub kept : RecordSet
+  pub there : slice_get sets n ≡ Some kept
+  pub same_key : key_of kept ≡ key
+  pub only : (other : RecordSet) → Keeps sets key other → other ≡ kept
+  pub before : (k : ℕ) (x : RecordSet) → k < n → slice_get sets k ≡ Some x → comes_before key x ≡ true
+  pub behind : (k : ℕ) (x : RecordSet) → n < k → slice_get sets k ≡ Some x → comes_behind key x ≡ true
+  pub front : filter (comes_before key) sets ≡ take n sets
+  pub back : filter (comes_behind key) sets ≡ drop (n + 1) sets
+
+-- No set has this key, and n sets come before it.
+pub record FindsNone (sets : List RecordSet) (key : SetKey) (n : ℕ) : Type 0 where
+  pub within : n ≤ length sets
+  pub none : IsThere sets key → ⊥
+  pub before : (k : ℕ) (x : RecordSet) → k < n → slice_get sets k ≡ Some x → comes_before key x ≡ true
+  pub behind : (k : ℕ) (x : RecordSet) → n ≤ k → slice_get sets k ≡ Some x → comes_behind key x ≡ true
+  pub front : filter (comes_before key) sets ≡ take n sets
+  pub back : filter (comes_behind key) sets ≡ drop n sets
+
+abbrev pub Finds : List RecordSet → SetKey → Result ℕ ℕ → Type 0
+Finds sets key (Ok n) = FindsAt sets key n
+Finds sets key (Err n) = FindsNone sets key n

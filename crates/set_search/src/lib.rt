@@ -1,0 +1,16 @@
+//! Sets found by their keys, in lists that are in zone order.
+//!
+//! A search stops at a bound between two sets: how many sets stand before it is the place of the first one behind.
+#![tactic(auto)]
+
+mod bounds;
+mod groups;
+mod lists;
+mod names;
+mod searching;
+
+pub use bounds::Bound;
+pub use groups::group_in;
+pub use lists::SetList;
+pub use names::{closest_in, exists_in};
+pub use searching::{count_before, find};

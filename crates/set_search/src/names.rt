@@ -1,0 +1,52 @@
+//! Names that exist, since a set has them or a name below them.
+
+ghost use Rattle.std.specs.Prelude.{◌≡◌, ◌+◌, ℕ, List, length, IsTrue, ◌↔◌};
+ghost use Rattle.r53_model.specs.Existing.{Exists, IsAncestor, IsClosest};
+ghost use Rattle.r53_model.specs.Zones.{IsRising};
+ghost use Rattle.set_search.specs.Found.{IsFirstNamed};
+
+use crate::bounds::Bound;
+use crate::lists::SetList;
+use crate::searching::count_before;
+use dns_name::Name;
+use rdata::RType;
+use record_set::SetKey;
+
+/// Whether a set has the name, or a name below it.
+pub fn exists_in<S: SetList>(sets: &S, name: &Name) -> bool
+    requires { IsRising (S.sets sets.now) }
+    ensures { IsTrue result ↔ Exists (S.sets sets.now) name.now }
+{
+    let first = first_named(sets, name);
+    first < sets.count() && sets.at(first).name.ends_with(name)
+}
+
+/// The longest ancestor of a name that exists.
+pub fn closest_in<S: SetList>(sets: &S, name: &Name) -> Name
+    requires rising { IsRising (S.sets sets.now) }
+    requires some { (other : List (List ℕ)) × IsAncestor name.now other × Exists (S.sets sets.now) other }
+    ensures { IsClosest (S.sets sets.now) name.now result }
+{
+    let mut closest = *name;
+    while let Some(parent) = closest.parent() {
+        closest = parent;
+        if exists_in(sets, &closest) {
+            return closest;
+        }
+    }
+    closest
+}
+
+/// The place of the first set whose name isn't before this one.
+fn first_named<S: SetList>(sets: &S, name: &Name) -> usize
+    requires { IsRising (S.sets sets.now) }
+    ensures { IsFirstNamed (S.sets sets.now) name.now result }
+{
+    // No type is lower, and a set without an identifier comes first.
+    let key = SetKey {
+        name: *name,
+        rtype: RType::A,
+        ident: None,
+    };
+    count_before(sets, &Bound::From(key))
+}
