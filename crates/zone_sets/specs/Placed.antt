@@ -1,0 +1,69 @@
+-- The sets of a zone with their slots.
+use Rattle.std.specs.Prelude.{◌≡◌, ◌≢◌, ◌≤◌, ◌<◌, ◌^◌, ◌⊎◌, ℕ, List, [], ◌∷◌, map, length, slice_get, Option, None, Some, ⊤}
+use Rattle.std.specs.Borrow.{Bor}
+use Rattle.std.specs.List.{AllByRecursion, insert, remove}
+use Rattle.record_set.specs.declared.sets.RecordSet.{RecordSet}
+use Rattle.record_set.specs.declared.sets.SetKey.{SetKey}
+use Rattle.record_set.specs.Sets.{key_of}
+use Rattle.r53_model.specs.Zones.{IsRising}
+
+-- A set, and the slot by which it is referred to.
+pub record Placed : Type 0 where
+  pub slot : ℕ
+  pub set : RecordSet
+
+abbrev pub sets_of : List Placed → List RecordSet
+sets_of placed = map (λ p. p.set) placed
+
+-- one of these
+abbrev pub IsIn : {X : Type 0} → List X → X → Type 0
+IsIn [] x = ⊥
+IsIn (y ∷ ys) x = (y ≡ x) ⊎ IsIn ys x
+
+-- the set is here, in its slot
+abbrev pub IsHere : List Placed → Placed → Type 0
+IsHere placed p = IsIn placed p
+
+-- no slot stands twice
+abbrev pub HaveOwnSlots : List Placed → Type 0
+HaveOwnSlots [] = ⊤
+HaveOwnSlots (p ∷ placed) = AllByRecursion (λ q. p.slot ≢ q.slot) placed × HaveOwnSlots placed
+
+-- The sets are those of a zone: in zone order, each in a slot of its own, which is a number below 2^32.
+pub record AreOfZone (placed : List Placed) : Type 0 where
+  pub rising : IsRising (sets_of placed)
+  pub own : HaveOwnSlots placed
+  pub few : AllByRecursion (λ p. p.slot < 2 ^ 32) placed
+
+-- What is kept: the sets in zone order, and how many more can be put without memory.
+pub record Held : Type 0 where
+  pub placed : List Placed
+  pub room : ℕ
+
+-- A set is put at its place in zone order. All others stay, each in its slot.
+pub record IsPut (before : List Placed) (given : Placed) (after : List Placed) : Type 0 where
+  pub at : ℕ
+  pub within : at ≤ length before
+  pub inserted : after ≡ insert before at given
+  pub rising : IsRising (sets_of after)
+
+-- The set at a place, which is in this slot, is taken away. All others stay, each in its slot.
+pub record IsTakenAt (before : List Placed) (at slot : ℕ) (after : List Placed) : Type 0 where
+  pub set : RecordSet
+  pub there : slice_get before at ≡ Some (record { slot = slot; set = set })
+  pub removed : after ≡ remove before at
+
+-- The set of a key, which is in this slot, is taken away.
+pub record IsTaken (before : List Placed) (key : SetKey) (slot : ℕ) (after : List Placed) : Type 0 where
+  pub at : ℕ
+  pub taken : IsTakenAt before at slot after
+  pub same_key : key_of taken.set ≡ key
+
+-- the set at a place is in this slot
+abbrev pub IsSlotAt : List Placed → ℕ → (slot : ℕ) → Type 0
+IsSlotAt placed at slot = (set : RecordSet) × (slice_get placed at ≡ Some (record { slot = slot; set = set }))
+
+-- the set in a slot, or none
+abbrev pub Gets : List Placed → (slot : ℕ) → Option (Bor RecordSet) → Type 0
+Gets placed slot (Some set) = IsHere placed (record { slot = slot; set = set.now })
+Gets placed slot None = (set : RecordSet) → IsHere placed (record { slot = slot; set = set }) → ⊥
