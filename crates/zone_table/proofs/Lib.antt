@@ -1,0 +1,4 @@
+pub mod Listing
+pub mod Made
+pub mod Members
+pub mod Stepping

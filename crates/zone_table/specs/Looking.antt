@@ -1,0 +1,81 @@
+-- What is found in a table of zones.
+use Rattle.std.specs.Prelude.{◌≡◌, ◌≤◌, ◌<◌, ◌+◌, ℕ, List, length, Bool, true, false, Option, None, Some}
+use Rattle.dns_name.specs.Suffix.{EndsWith}
+use Rattle.rdata_layout.specs.declared.types.RType.{RType}
+use Rattle.record_set.specs.declared.sets.RecordSet.{RecordSet}
+use Rattle.record_set.specs.declared.sets.SetKey.{SetKey}
+use Rattle.set_search.specs.declared.bounds.Bound.{Bound}
+use Rattle.set_search.specs.declared.bounds.Bound.TheVariants as bound
+use Rattle.set_search.specs.Found.{IsCount, IsGroupAt}
+use Rattle.zone_sets.specs.Placed.{Placed, IsHere, IsSlotAt, sets_of}
+use Rattle.zone_table.specs.declared.refs.Group.{Group}
+use Rattle.zone_table.specs.declared.refs.SetRef.{SetRef}
+use Rattle.zone_table.specs.Zones.{Zone, IsOne, IsZoneId, placed_in}
+
+-- A group of a zone: its sets of this name and type, which stand side by side in zone order.
+pub record IsGroup (zones : List Zone) (id : ℕ) (name : List (List ℕ)) (rtype : RType) (group : Group) : Type 0 where
+  pub zone : group.zone ≡ id
+  pub sets : IsGroupAt (sets_of (placed_in zones id)) name rtype group.start group.length
+
+-- the group of some name and type as it stands now
+abbrev pub IsGroupNow : List Zone → Group → Type 0
+IsGroupNow zones group = (name : List (List ℕ)) × (rtype : RType) × IsGroup zones group.zone name rtype group
+
+-- the set at place i of a group
+pub record IsMember (zones : List Zone) (group : Group) (i : ℕ) (set : SetRef) : Type 0 where
+  pub zone : set.zone ≡ group.zone
+  pub slot : IsSlotAt (placed_in zones group.zone) (group.start + i) set.slot
+
+-- a reference names this set
+abbrev pub Names : List Zone → SetRef → RecordSet → Type 0
+Names zones set named = IsHere (placed_in zones set.zone) (record { slot = set.slot; set = named })
+
+-- The set that a reference names was loaded. Where it names none, what was held stays.
+abbrev pub Loads : List Zone → SetRef → (held held_now : Option RecordSet) → Bool → Type 0
+Loads zones set held held_now true = (named : RecordSet) × Names zones set named × (held_now ≡ Some named)
+Loads zones set held held_now false = ((named : RecordSet) → Names zones set named → ⊥) × (held_now ≡ held)
+
+-- a search from the key on, or from what is behind it
+abbrev pub bound_of : SetKey → (past : Bool) → Bound
+bound_of key true = bound.Past key
+bound_of key false = bound.From key
+
+-- The slot of the first set behind the bound, or none where all sets stand before it.
+abbrev pub SlotBehind : List Placed → Bound → Option ℕ → Type 0
+SlotBehind placed to (Some slot) = (at : ℕ) × IsCount (sets_of placed) to at × IsSlotAt placed at slot
+SlotBehind placed to None = IsCount (sets_of placed) to (length placed)
+
+-- The first set of the zone behind the bound, or none.
+abbrev pub IsNext : List Zone → (zone : ℕ) → Bound → Option SetRef → Type 0
+IsNext zones zone to (Some set) = (set.zone ≡ zone) × SlotBehind (placed_in zones zone) to (Some set.slot)
+IsNext zones zone to None = SlotBehind (placed_in zones zone) to None
+
+-- The zone that holds a name: of those at or above it that of the longest name (RFC 1034, 4.3.2).
+pub record Holds (zones : List Zone) (name : List (List ℕ)) (id : ℕ) : Type 0 where
+  pub zone : Zone
+  pub there : IsOne zones zone
+  pub its_id : zone.id ≡ id
+  pub above : EndsWith name zone.apex
+  pub longest : (other : Zone) → IsOne zones other → EndsWith name other.apex → length other.apex ≤ length zone.apex
+
+abbrev pub HoldsOrNone : List Zone → (name : List (List ℕ)) → Option ℕ → Type 0
+HoldsOrNone zones name (Some id) = Holds zones name id
+HoldsOrNone zones name None = (zone : Zone) → IsOne zones zone → EndsWith name zone.apex → ⊥
+
+-- The next zone by number.
+pub record IsNextZone (zones : List Zone) (id next : ℕ) : Type 0 where
+  pub there : IsZoneId zones next
+  pub above : id < next
+  pub least : (zone : Zone) → IsOne zones zone → id < zone.id → next ≤ zone.id
+
+abbrev pub NextZoneOrNone : List Zone → (id : ℕ) → Option ℕ → Type 0
+NextZoneOrNone zones id (Some next) = IsNextZone zones id next
+NextZoneOrNone zones id None = (zone : Zone) → IsOne zones zone → zone.id ≤ id
+
+-- the name of the zone with this number
+abbrev pub IsApex : List Zone → ℕ → (name : List (List ℕ)) → Type 0
+IsApex zones id name = (zone : Zone) × IsOne zones zone × (zone.id ≡ id) × (zone.apex ≡ name)
+
+abbrev pub ApexOrNone : List Zone → ℕ → Option (List (List ℕ)) → Type 0
+ApexOrNone zones id (Some name) = IsApex zones id name
+ApexOrNone zones id None = IsZoneId zones id → ⊥

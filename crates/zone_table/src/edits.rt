@@ -1,0 +1,158 @@
+ghost use Rattle.std.specs.Prelude.{◌≡◌, ◌≤◌, length, IfOk};
+ghost use Rattle.zone_table.specs.Needs.{IsPrepared};
+
+use crate::needs::Need;
+use crate::refs::SetRef;
+use dns_name::Name;
+use rdata::OutOfMemory;
+use record_set::{RecordSet, SetKey};
+use std::alloc::Global;
+use std::marker::Model;
+use zone_sets::ZoneSets;
+
+/// Record sets, in any order.
+#[derive(Drop)]
+pub struct Sets {
+    list: Vec<RecordSet>,
+}
+
+impl Model for Sets {
+    ghost use Rattle.std.specs.Prelude.{List};
+    ghost use Rattle.record_set.specs.declared.sets.RecordSet.{RecordSet};
+
+    ghost Value = { List RecordSet };
+
+    ghost view = { λ sets. sets.list.items };
+}
+
+impl Sets {
+    /// These sets.
+    pub fn from_vec(list: Vec<RecordSet>) -> Sets
+        ensures { result ≡ list.items }
+    {
+        Sets { list }
+    }
+
+    /// The sets as a slice.
+    pub fn as_slice(&self) -> &[RecordSet]
+        ensures { result.now ≡ self.now }
+    {
+        &self.list
+    }
+
+    /// The sets themselves.
+    pub fn into_vec(self) -> Vec<RecordSet>
+        ensures { result.items ≡ self }
+    {
+        self.list
+    }
+
+    /// How many they are.
+    pub fn len(&self) -> usize
+        ensures { result ≡ length self.now }
+    {
+        self.list.len()
+    }
+}
+
+/// Keys of record sets, in any order.
+#[derive(Drop)]
+pub struct SetKeys {
+    list: Vec<SetKey>,
+}
+
+impl Model for SetKeys {
+    ghost use Rattle.std.specs.Prelude.{List};
+    ghost use Rattle.record_set.specs.declared.sets.SetKey.{SetKey};
+
+    ghost Value = { List SetKey };
+
+    ghost view = { λ keys. keys.list.items };
+}
+
+impl SetKeys {
+    /// These keys.
+    pub fn from_vec(list: Vec<SetKey>) -> SetKeys
+        ensures { result ≡ list.items }
+    {
+        SetKeys { list }
+    }
+
+    /// The keys as a slice.
+    pub fn as_slice(&self) -> &[SetKey]
+        ensures { result.now ≡ self.now }
+    {
+        &self.list
+    }
+
+    /// How many they are.
+    pub fn len(&self) -> usize
+        ensures { result ≡ length self.now }
+    {
+        self.list.len()
+    }
+}
+
+/// A change of the zones.
+#[derive(Drop)]
+pub enum ZoneEdit {
+    /// A zone comes, with these sets.
+    Open {
+        zone: u32,
+        name: Name,
+        sets: Sets,
+    },
+    /// The zone of this number goes, with all its sets.
+    Close(u32),
+    /// The sets of these keys go from a zone, and then these sets come.
+    Change {
+        zone: u32,
+        remove: SetKeys,
+        add: Sets,
+    },
+}
+
+/// An edit that is ready: all its memory is taken.
+#[derive(Drop)]
+pub struct Ready {
+    pub(crate) made: ZoneEdit,
+    pub(crate) edits: u64,
+    pub(crate) removed: Vec<SetRef>,
+    pub(crate) added: Vec<SetRef>,
+    pub(crate) blank: ZoneSets,
+}
+
+impl Model for Ready {
+    ghost use Rattle.std.specs.Prelude.{◌≡◌, [], vec_capacity};
+    ghost use Rattle.zone_table.specs.Edits.{Prepared};
+
+    ghost Value = { Prepared };
+
+    ghost view = { λ ready. record { made = ready.made; edits = ready.edits; removable = vec_capacity ready.removed; addable = vec_capacity ready.added; blank = ready.blank.room } };
+
+    ghost invariant = { λ ready. (ready.removed.items ≡ []) × (ready.added.items ≡ []) × (ready.blank.placed ≡ []) };
+}
+
+impl Ready {
+    /// An edit with the memory that it needs, and the number of the edits before it.
+    pub(crate) fn new(
+        alloc: Global,
+        made: ZoneEdit,
+        edits: u64,
+        need: Need,
+    ) -> Result<Ready, OutOfMemory>
+        ensures { IfOk result (λ ready. IsPrepared made edits need ready) }
+    {
+        let removed = Vec::with_capacity(alloc, need.removable)?;
+        let added = Vec::with_capacity(alloc, need.addable)?;
+        let mut blank = ZoneSets::new(alloc);
+        blank.reserve(need.blank)?;
+        Ok(Ready {
+            made,
+            edits,
+            removed,
+            added,
+            blank,
+        })
+    }
+}
