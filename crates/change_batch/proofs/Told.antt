@@ -11,10 +11,7 @@ use Rattle.r53_model.specs.declared.refusals.ChangeRefusal.TheVariants as refusa
 use Rattle.r53_model.specs.Batches.{AreValidBefore, IsValid, IsWithinLimits, Leaves, Prepares}
 use Rattle.record_set.specs.Reasons.{IsFirst}
 use Rattle.record_set.specs.declared.sets.SetKey.{SetKey}
-use Rattle.set_octets.specs.Octets.{value_octets}
-use Rattle.rdata.specs.Datum.{Datum}
-use Rattle.std.specs.List.{flat_map, remove, filter}
-use Rattle.std.proofs.lemmas.List.Folds.{length-flat_map-take}
+use Rattle.std.specs.List.{remove, filter}
 use Rattle.r53_model.specs.Changing.{Gives, IsThereAsGiven, placed, without, comes_behind}
 use Rattle.change_batch.proofs.Edits.{replaced}
 use Rattle.change_batch.specs.Found.{FindsAt}
@@ -80,11 +77,3 @@ valid_more changes apex i change valid at_i new j other lt at_j = by (up_to j i 
         let here : slice_get changes j ≡ Some change = subst (λ n. slice_get changes n ≡ Some change) e at_i in
         let same : change ≡ other = grind (arith, here, at_j) in
         subst (λ (c : Change). IsFirst None c.set apex) same new
-
--- the values that were counted and the next are more than there is room for
-pub long_step : (values : List Datum) (i : ℕ) (item : Datum) (room left : ℕ) → i < length values → item ≡ get_or values i item
-    → left + length (flat_map value_octets (take i values)) ≡ room → left < length item.wire + 2 → room < length (flat_map value_octets values)
-long_step values i item room left lt is counted small =
-    let most = length-flat_map-take value_octets values i item lt in
-    let same : length (value_octets (get_or values i item)) ≡ length item.wire + 2 = subst (λ (d : Datum). length (value_octets d) ≡ length item.wire + 2) is (omega arith) in
-    omega (arith, most, same, counted, small)

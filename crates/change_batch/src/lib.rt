@@ -6,7 +6,6 @@
 
 mod applying;
 mod finding;
-mod lengths;
 mod limits;
 mod preparing;
 mod whole;

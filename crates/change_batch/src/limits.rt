@@ -4,10 +4,10 @@ ghost use Rattle.std.specs.Prelude.{◌≡◌, ◌+◌, ◌<◌, IfSome, IfNone,
 ghost use Rattle.r53_model.specs.Limits.{counted, elements_in, HasTooManyValues, HasTooManyCharacters, HasLongSet};
 ghost use Rattle.change_batch.specs.Tests.{IsFirstInvalidOrNone, TellsLimits};
 
-use crate::lengths::is_long;
 use dns_name::Name;
 use r53_model::{Action, BatchRefusal, Change};
 use record_set::{Body, Reason, check_set};
+use set_octets::is_long;
 
 /// The most values and aliases of a batch, those of an UPSERT counted twice.
 const MOST_ELEMENTS: usize = 1000;
