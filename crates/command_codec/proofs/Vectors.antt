@@ -7,7 +7,9 @@ use Rattle.record_set.specs.declared.sets.Body.TheVariants as body
 use Rattle.r53_model.specs.declared.batches.Action.TheVariants as action
 use Rattle.octet_reading.specs.Layouts.{is_layout}
 use Rattle.octet_reading.specs.Names.{name_at}
-use Rattle.set_reading.specs.Reading.{type_of, type_at, continent_at, role_at, ttl_at, text_at, country_at, subdivision_at, place_at, weighted_at, failover_at, geolocation_at, latency_at, multivalue_at, routing_at, value_at, values_at, records_at, alias_at, body_at, check_at}
+use Rattle.set_fields.specs.Numbers.{type_of, type_at, continent_at, role_at, ttl_at}
+use Rattle.set_fields.specs.Texts.{text_at, country_at}
+use Rattle.set_reading.specs.Reading.{subdivision_at, place_at, weighted_at, failover_at, geolocation_at, latency_at, multivalue_at, routing_at, value_at, values_at, records_at, alias_at, body_at, check_at}
 use Rattle.set_reading.specs.Reading as sets
 use Rattle.command_codec.specs.declared.commands.Command.{Command}
 use Rattle.command_codec.specs.declared.commands.Command.TheVariants as command

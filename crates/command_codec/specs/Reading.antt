@@ -6,7 +6,7 @@ use Rattle.r53_model.specs.declared.batches.Action.{Action}
 use Rattle.r53_model.specs.declared.batches.Action.TheVariants as action
 use Rattle.r53_model.specs.declared.batches.Change.{Change}
 use Rattle.record_set.specs.declared.sets.RecordSet.{RecordSet}
-use Rattle.set_reading.specs.Reading.{meant, numbered}
+use Rattle.set_fields.specs.Numbers.{meant, numbered}
 use Rattle.set_reading.specs.Reading as sets
 use Rattle.command_codec.specs.declared.commands.Command.{Command}
 use Rattle.command_codec.specs.declared.commands.Command.TheVariants as command

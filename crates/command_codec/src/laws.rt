@@ -5,19 +5,28 @@ ghost use Rattle.command_codec.specs.Laws.{CommandsAreTold, OneSpelling, ReadAsN
 /// One command has one spelling, and no spelling begins another.
 pub fn one_spelling()
     ensures { OneSpelling }
-{}
+{
+    set_reading::written_reads_back();
+}
 
 /// What is written is read again.
 pub fn written_reads_back()
     ensures { WrittenReadsBack }
-{}
+{
+    set_reading::written_reads_back();
+}
 
 /// The octets of a command are read as nothing else.
 pub fn read_as_nothing_else()
     ensures { ReadAsNothingElse }
-{}
+{
+    set_reading::written_reads_back();
+}
 
 /// Reading tells the command that octets are, or that they are none.
 pub fn commands_are_told()
     ensures { CommandsAreTold }
-{}
+{
+    set_reading::written_reads_back();
+    set_reading::sets_are_told();
+}

@@ -27,6 +27,8 @@ pub fn read(alloc: Global, bytes: &[u8]) -> Result<Command, ReadFault>
     ensures exact { ReadsCommand result (read bytes.now) }
     ensures inside { IsInside (length bytes.now) result }
 {
+    set_reading::written_reads_back();
+    set_reading::sets_are_told();
     read_whole(alloc, bytes)
 }
 

@@ -1,9 +1,9 @@
 pub mod Again
+pub mod Fields
 pub mod Inside
 pub mod Loop
-pub mod Numbered
+pub mod Policies
 pub mod Spelled
-pub mod Textual
 pub mod Values
 pub mod Vectors
 pub mod Whole

@@ -8,7 +8,9 @@ use Rattle.record_set.specs.declared.sets.Body.TheVariants as body
 use Rattle.octet_reading.specs.Layouts.{is_layout}
 use Rattle.octet_reading.specs.Names.{name_at}
 use Rattle.set_octets.specs.Octets.{set_octets}
-use Rattle.set_reading.specs.Reading.{type_of, type_at, continent_at, role_at, ttl_at, text_at, country_at, subdivision_at, place_at, weighted_at, failover_at, geolocation_at, latency_at, multivalue_at, routing_at, value_at, values_at, records_at, alias_at, body_at, check_at, set_at, placed, read}
+use Rattle.set_fields.specs.Numbers.{type_of, type_at, continent_at, role_at, ttl_at}
+use Rattle.set_fields.specs.Texts.{text_at, country_at}
+use Rattle.set_reading.specs.Reading.{subdivision_at, place_at, weighted_at, failover_at, geolocation_at, latency_at, multivalue_at, routing_at, value_at, values_at, records_at, alias_at, body_at, check_at, set_at, placed, read}
 
 -- the name www.example.com on the wire
 abbrev www : List ℕ

@@ -1,9 +1,10 @@
 -- Laws over the definitions of this crate.
-use Rattle.std.specs.Prelude.{◌≡◌, ℕ, List, ◌++◌, length, Ok}
+use Rattle.std.specs.Prelude.{◌≡◌, ◌≤◌, ℕ, List, ◌++◌, length, Result, Ok, Err}
+use Rattle.dns_name.specs.Names.{AreOctets}
 use Rattle.record_set.specs.declared.sets.RecordSet.{RecordSet}
 use Rattle.set_octets.specs.Octets.{set_octets, HasSpelling}
 use Rattle.set_reading.specs.Reading.{read}
-use Rattle.set_reading.specs.Sets.{IsSet}
+use Rattle.set_reading.specs.Sets.{IsSet, BeginsWithSet}
 
 -- One set has one spelling, and no spelling begins another: octets begin with the spelling of one set at most.
 abbrev pub OneSpelling : Type 0
@@ -15,3 +16,11 @@ OneSpelling =
 abbrev pub WrittenReadsBack : Type 0
 WrittenReadsBack =
     (set : RecordSet) (rest : List ℕ) → IsSet set → HasSpelling set → read (set_octets set ++ rest) ≡ Ok (set, length (set_octets set))
+
+-- What reading tells: the set that octets begin with; or a place among them, or behind the last, where they begin with none.
+abbrev pub TellsSet : List ℕ → Result (RecordSet × ℕ) ℕ → Type 0
+TellsSet octets (Ok x) = BeginsWithSet octets x.0 x.1
+TellsSet octets (Err place) = (place ≤ length octets) × ((set : RecordSet) (n : ℕ) → BeginsWithSet octets set n → ⊥)
+
+abbrev pub SetsAreTold : Type 0
+SetsAreTold = (octets : List ℕ) → AreOctets octets → TellsSet octets (read octets)

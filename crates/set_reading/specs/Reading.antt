@@ -1,111 +1,26 @@
 -- Reading the octets of sets from left to right, with the first fault that is met (FORMATS, Octets of sets).
-use Rattle.std.specs.Prelude.{ℕ, zero, suc, ◌+◌, ◌-◌, ◌^◌, List, [], ◌∷◌, length, take, drop, Bool, true, false, not, nat_lt, ◌&&◌, ◌||◌, ◌==◌, Option, None, Some, Result, Ok, Err, if◌then◌else◌}
-use Rattle.std.specs.List.{list_all}
+use Rattle.std.specs.Prelude.{ℕ, zero, suc, ◌-◌, List, [], ◌∷◌, length, take, drop, Bool, true, false, nat_lt, ◌==◌, Option, None, Some, Result, Ok, Err, if◌then◌else◌}
 use Rattle.octet_reading.specs.Reading.{◌>>=◌, octet_at, two_at, four_at, flag_at}
 use Rattle.octet_reading.specs.Names.{name_at}
 use Rattle.octet_reading.specs.Layouts.{is_layout}
 use Rattle.rdata.specs.Datum.{Datum}
 use Rattle.rdata_layout.specs.declared.types.RType.{RType}
-use Rattle.rdata_layout.specs.declared.types.RType.TheVariants as rtype
-use Rattle.rdata_layout.specs.Types.{number_of}
-use Rattle.routing.specs.declared.policies.Continent.{Continent}
-use Rattle.routing.specs.declared.policies.Continent.TheVariants as continent
 use Rattle.routing.specs.declared.policies.Place.{Place}
 use Rattle.routing.specs.declared.policies.Place.TheVariants as place
-use Rattle.routing.specs.declared.policies.Role.{Role}
-use Rattle.routing.specs.declared.policies.Role.TheVariants as role
 use Rattle.routing.specs.declared.policies.Routing.{Routing}
 use Rattle.routing.specs.declared.policies.Routing.TheVariants as routing
 use Rattle.record_set.specs.declared.sets.RecordSet.{RecordSet}
 use Rattle.record_set.specs.declared.sets.Body.{Body}
 use Rattle.record_set.specs.declared.sets.Body.TheVariants as body
-use Rattle.set_octets.specs.Octets.{continent_number, role_number, is_capital, most_octets}
-use Rattle.set_reading.specs.declared.fields.Text.{Text}
-use Rattle.set_reading.specs.declared.fields.Text.TheVariants.{Identifier, RegionName, SubdivisionCode}
-use Rattle.routing.specs.Texts.{is_printable, is_region_byte, is_subdivision_byte}
-
--- a number that stands for a value, and is the field: it is outside the grammar where it stands for none
-abbrev pub meant : {A : Type 0} → (octets : List ℕ) → Option A → List ℕ → Result (A × List ℕ) ℕ
-meant octets None rest = Err (length octets)
-meant octets (Some x) rest = Ok (x, rest)
-
--- the one of these that has the number
-abbrev pub numbered : {A : Type 0} → (A → ℕ) → List A → ℕ → Option A
-numbered number [] n = None
-numbered number (x ∷ xs) n = if number x == n then Some x else numbered number xs n
-
--- the types, the continents and the roles that have numbers
-abbrev pub types : List RType
-types = rtype.A ∷ rtype.Ns ∷ rtype.Cname ∷ rtype.Soa ∷ rtype.Ptr ∷ rtype.Mx ∷ rtype.Txt ∷ rtype.Aaaa ∷ rtype.Srv ∷ rtype.Spf ∷ rtype.Caa ∷ []
-
-abbrev pub continents : List Continent
-continents = continent.Af ∷ continent.An ∷ continent.As ∷ continent.Eu ∷ continent.Na ∷ continent.Oc ∷ continent.Sa ∷ []
-
-abbrev pub roles : List Role
-roles = role.Primary ∷ role.Secondary ∷ []
-
--- what a number stands for
-unfoldable pub type_of : ℕ → Option RType
-type_of n = numbered number_of types n
-
-abbrev pub continent_of : ℕ → Option Continent
-continent_of n = numbered continent_number continents n
-
-abbrev pub role_of : ℕ → Option Role
-role_of n = numbered role_number roles n
-
--- a type, a continent and the part of a failover set, each by its number
-unfoldable pub type_at : List ℕ → Result (RType × List ℕ) ℕ
-type_at octets = do
-  n ← two_at octets
-  meant octets (type_of n.0) n.1
-
-unfoldable pub continent_at : List ℕ → Result (Continent × List ℕ) ℕ
-continent_at octets = do
-  n ← octet_at octets
-  meant octets (continent_of n.0) n.1
-
-unfoldable pub role_at : List ℕ → Result (Role × List ℕ) ℕ
-role_at octets = do
-  n ← octet_at octets
-  meant octets (role_of n.0) n.1
-
--- a time to live below 2^31
-unfoldable pub ttl_at : List ℕ → Result (ℕ × List ℕ) ℕ
-ttl_at octets = do
-  n ← four_at octets
-  if nat_lt n.0 (2 ^ 31) then Ok n else Err (length octets)
-
--- the bytes of a text of this kind, and how many it has at most
-abbrev pub is_plain : Text → ℕ → Bool
-is_plain Identifier b = is_printable b
-is_plain RegionName b = is_region_byte b
-is_plain SubdivisionCode b = is_subdivision_byte b
-
-abbrev pub most_of : Text → ℕ
-most_of Identifier = 128
-most_of RegionName = 32
-most_of SubdivisionCode = 3
-
--- A text is one field with its length: what can't go on to a text is faulty from its length on.
-unfoldable pub text_at : Text → List ℕ → Result (List ℕ × List ℕ) ℕ
-text_at kind [] = Err 0
-text_at kind (n ∷ rest) =
-    if nat_lt n 1 || nat_lt (most_of kind) n || not (list_all (is_plain kind) (take n rest)) then Err (length rest + 1)
-    else if nat_lt (length rest) n then Err 0
-    else Ok (take n rest, drop n rest)
-
--- two of A to Z are one field
-unfoldable pub country_at : List ℕ → Result (List ℕ × List ℕ) ℕ
-country_at [] = Err 0
-country_at (a ∷ []) = if is_capital a then Err 0 else Err 1
-country_at (a ∷ b ∷ rest) = if is_capital a && is_capital b then Ok (a ∷ b ∷ [], rest) else Err (length rest + 2)
+use Rattle.set_octets.specs.Octets.{most_octets}
+use Rattle.set_fields.specs.Numbers.{type_at, continent_at, role_at, ttl_at}
+use Rattle.set_fields.specs.Texts.{country_at, ident_at, region_at, sub_at}
 
 -- a country and a subdivision of it
 unfoldable pub subdivision_at : List ℕ → Result (Place × List ℕ) ℕ
 subdivision_at octets = do
   country ← country_at octets
-  part ← text_at SubdivisionCode country.1
+  part ← sub_at country.1
   Ok (place.Subdivision country.0 part.0, part.1)
 
 -- a place: its kind, and what belongs to it
@@ -121,31 +36,31 @@ place_at octets = do
 -- the policies, each behind its kind: an identifier, and what belongs to it
 unfoldable pub weighted_at : List ℕ → Result (Routing × List ℕ) ℕ
 weighted_at octets = do
-  ident ← text_at Identifier octets
+  ident ← ident_at octets
   weight ← octet_at ident.1
   Ok (routing.Weighted ident.0 weight.0, weight.1)
 
 unfoldable pub failover_at : List ℕ → Result (Routing × List ℕ) ℕ
 failover_at octets = do
-  ident ← text_at Identifier octets
+  ident ← ident_at octets
   part ← role_at ident.1
   Ok (routing.Failover ident.0 part.0, part.1)
 
 unfoldable pub geolocation_at : List ℕ → Result (Routing × List ℕ) ℕ
 geolocation_at octets = do
-  ident ← text_at Identifier octets
+  ident ← ident_at octets
   where_to ← place_at ident.1
   Ok (routing.Geolocation ident.0 where_to.0, where_to.1)
 
 unfoldable pub latency_at : List ℕ → Result (Routing × List ℕ) ℕ
 latency_at octets = do
-  ident ← text_at Identifier octets
-  region ← text_at RegionName ident.1
+  ident ← ident_at octets
+  region ← region_at ident.1
   Ok (routing.Latency ident.0 region.0, region.1)
 
 unfoldable pub multivalue_at : List ℕ → Result (Routing × List ℕ) ℕ
 multivalue_at octets = do
-  ident ← text_at Identifier octets
+  ident ← ident_at octets
   Ok (routing.Multivalue ident.0, ident.1)
 
 -- a policy: its kind, and what belongs to it

@@ -1,13 +1,26 @@
 //! Laws over the definitions, each the contract of a function that does nothing.
 
-ghost use Rattle.set_reading.specs.Laws.{OneSpelling, WrittenReadsBack};
+ghost use Rattle.set_reading.specs.Laws.{OneSpelling, SetsAreTold, WrittenReadsBack};
+
+use set_fields::fields_are_read;
 
 /// One set has one spelling, and no spelling begins another.
 pub fn one_spelling()
     ensures { OneSpelling }
-{}
+{
+    fields_are_read();
+}
 
 /// What is written is read again, whatever follows it.
 pub fn written_reads_back()
     ensures { WrittenReadsBack }
-{}
+{
+    fields_are_read();
+}
+
+/// Reading tells the set that octets begin with, or that they begin with none.
+pub fn sets_are_told()
+    ensures { SetsAreTold }
+{
+    fields_are_read();
+}

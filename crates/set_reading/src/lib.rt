@@ -5,12 +5,11 @@
 #![tactic(auto)]
 
 mod faults;
-mod fields;
 mod laws;
 mod reading;
 mod sets;
 
 pub use faults::ReadFault;
-pub use laws::{one_spelling, written_reads_back};
+pub use laws::{one_spelling, sets_are_told, written_reads_back};
 pub use reading::read_set;
 pub use sets::well_formed;

@@ -8,13 +8,14 @@ ghost use Rattle.set_reading.specs.Gives.{IsInside, ReadsSet, ReadsValue};
 ghost use Rattle.set_reading.specs.Reading.{place_at, subdivision_at, weighted_at, failover_at, geolocation_at, latency_at, multivalue_at, routing_at, value_at, values_at, records_at, alias_at, body_at, check_at, set_at, read};
 
 use crate::faults::ReadFault;
-use crate::fields::{
-    continent_at, country_at, ident_at, region_at, role_at, sub_at, ttl_at, type_at,
-};
 use octet_reading::{Stop, flag_at, four_at, name_at, octet_at, parts, two_at};
 use rdata::{RData, WireFault};
 use rdata_layout::RType;
 use record_set::{Body, Place, RecordSet, Routing, Values};
+use set_fields::{
+    continent_at, country_at, fields_are_read, ident_at, region_at, role_at, sub_at, ttl_at,
+    type_at,
+};
 use set_octets::MOST_OCTETS;
 use std::alloc::Global;
 
@@ -28,6 +29,7 @@ pub fn read_set(alloc: Global, bytes: &[u8]) -> Result<(RecordSet, usize), ReadF
     ensures exact { ReadsSet result (read bytes.now) }
     ensures inside { IsInside (length bytes.now) result }
 {
+    fields_are_read();
     read(alloc, bytes)
 }
 
@@ -37,6 +39,7 @@ fn read(alloc: Global, bytes: &[u8]) -> Result<(RecordSet, usize), ReadFault>
     ensures exact { ReadsSet result (read bytes.now) }
     ensures inside { IsInside (length bytes.now) result }
 {
+    fields_are_read();
     match set_at(alloc, bytes) {
         Ok((set, rest)) => {
             let len = bytes.len() - rest.len();

@@ -2,4 +2,4 @@ use Rattle.command_codec.proofs.Whole.{commands_are_told}
 use Rattle.command_codec.proofs.laws.commands_are_told.Goals as goal
 
 pub returns : goal.returns
-returns c = commands_are_told
+returns c = commands_are_told c.written_reads_back.ensures c.sets_are_told.ensures

@@ -2,4 +2,4 @@ use Rattle.command_codec.proofs.Whole.{written_reads_back}
 use Rattle.command_codec.proofs.laws.written_reads_back.Goals as goal
 
 pub returns : goal.returns
-returns c = written_reads_back
+returns c = written_reads_back c.written_reads_back.ensures

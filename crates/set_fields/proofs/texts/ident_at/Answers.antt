@@ -1,6 +1,6 @@
-use Rattle.set_reading.specs.declared.fields.Text.TheVariants.{Identifier}
-use Rattle.set_reading.proofs.Textual.{text_is}
-use Rattle.set_reading.proofs.fields.ident_at.Goals as goal
+use Rattle.set_fields.specs.declared.texts.Text.TheVariants.{Identifier}
+use Rattle.set_fields.proofs.Textual.{text_is}
+use Rattle.set_fields.proofs.texts.ident_at.Goals as goal
 
 pub returns-in_default : goal.returns-in_default
 returns-in_default c = absurd (c.in_default.ensures (text_is Identifier c.args.bytes.now c.in_ok-text.text.now c.in_ok-text.rest.now c.in_ok-text.ensures).1)

@@ -1,0 +1,4 @@
+pub mod Fields
+pub mod Numbered
+pub mod Steps
+pub mod Textual

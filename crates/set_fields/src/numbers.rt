@@ -1,0 +1,91 @@
+//! The fields of a set that are numbers.
+
+ghost use Rattle.std.specs.Prelude.{◌≡◌};
+ghost use Rattle.octet_reading.specs.Reading.{Gives};
+ghost use Rattle.set_fields.specs.Numbers.{type_of, type_at, continent_of, continent_at, role_of, role_at, ttl_at};
+
+use octet_reading::{Stop, four_at, octet_at, two_at};
+use rdata_layout::RType;
+use record_set::{Continent, Role};
+
+/// A type, by its number, and what stands behind it.
+#[tactic(auto, unfolding(crate::specs::Numbers::type_at))]
+pub fn type_at(bytes: &[u8]) -> Result<(RType, &[u8]), Stop>
+    ensures { Gives (λ x. (x.0, x.1.now)) result (type_at bytes.now) }
+{
+    let (n, rest) = two_at(bytes)?;
+    let Some(rtype) = type_of(n) else {
+        return Err(Stop::Bad(bytes.len()));
+    };
+    Ok((rtype, rest))
+}
+
+/// The type of a number.
+fn type_of(n: u16) -> Option<RType>
+    ensures { result ≡ type_of n }
+{
+    RType::from_number(n)
+}
+
+/// A continent, by its number, and what stands behind it.
+#[tactic(auto, unfolding(crate::specs::Numbers::continent_at))]
+pub fn continent_at(bytes: &[u8]) -> Result<(Continent, &[u8]), Stop>
+    ensures { Gives (λ x. (x.0, x.1.now)) result (continent_at bytes.now) }
+{
+    let (n, rest) = octet_at(bytes)?;
+    let Some(continent) = continent_of(n) else {
+        return Err(Stop::Bad(bytes.len()));
+    };
+    Ok((continent, rest))
+}
+
+/// The continent of a number.
+fn continent_of(n: u8) -> Option<Continent>
+    ensures { result ≡ continent_of n }
+{
+    match n {
+        1 => Some(Continent::Af),
+        2 => Some(Continent::An),
+        3 => Some(Continent::As),
+        4 => Some(Continent::Eu),
+        5 => Some(Continent::Na),
+        6 => Some(Continent::Oc),
+        7 => Some(Continent::Sa),
+        _ => None,
+    }
+}
+
+/// The part of a failover set, by its number, and what stands behind it.
+#[tactic(auto, unfolding(crate::specs::Numbers::role_at))]
+pub fn role_at(bytes: &[u8]) -> Result<(Role, &[u8]), Stop>
+    ensures { Gives (λ x. (x.0, x.1.now)) result (role_at bytes.now) }
+{
+    let (n, rest) = octet_at(bytes)?;
+    let Some(role) = role_of(n) else {
+        return Err(Stop::Bad(bytes.len()));
+    };
+    Ok((role, rest))
+}
+
+/// The role of a number.
+fn role_of(n: u8) -> Option<Role>
+    ensures { result ≡ role_of n }
+{
+    match n {
+        1 => Some(Role::Primary),
+        2 => Some(Role::Secondary),
+        _ => None,
+    }
+}
+
+/// A time to live, seconds below 2^31, and what stands behind it.
+#[tactic(auto, unfolding(crate::specs::Numbers::ttl_at))]
+pub fn ttl_at(bytes: &[u8]) -> Result<(u32, &[u8]), Stop>
+    ensures { Gives (λ x. (x.0, x.1.now)) result (ttl_at bytes.now) }
+{
+    let (ttl, rest) = four_at(bytes)?;
+    if ttl >= 0x8000_0000 {
+        return Err(Stop::Bad(bytes.len()));
+    }
+    Ok((ttl, rest))
+}
