@@ -1,5 +1,5 @@
 -- What is told of a batch.
-use Rattle.std.proofs.Common.{◌≡◌, ◌≢◌, ℕ, ◌+◌, ◌<◌, List, [], ◌∷◌, ◌++◌, length, take, drop, set, suc, inl, inr, zero, get_or, ap, ◌∙◌, refl, Some, subst, arith}
+use Rattle.std.proofs.Common.{◌≡◌, ◌≢◌, ℕ, ◌+◌, ◌<◌, List, [], ◌∷◌, ◌++◌, length, take, drop, set, suc, inl, inr, zero, ap, ◌∙◌, refl, Some, subst, arith}
 use Rattle.std.specs.Prelude.{◌⊎◌, Ok, Err, None, slice_get}
 use Rattle.std.proofs.lemmas.Option.{slice_get_within}
 use Rattle.record_set.specs.declared.sets.RecordSet.{RecordSet}
@@ -14,7 +14,7 @@ use Rattle.record_set.specs.declared.sets.SetKey.{SetKey}
 use Rattle.std.specs.List.{remove, filter}
 use Rattle.r53_model.specs.Changing.{Gives, IsThereAsGiven, placed, without, comes_behind}
 use Rattle.change_batch.proofs.Edits.{replaced}
-use Rattle.change_batch.specs.Found.{FindsAt}
+use Rattle.set_search.specs.Found.{FindsAt}
 use Rattle.change_batch.specs.Tests.{refusal_at}
 
 pub all_valid : (changes : List Change) (apex : List (List ℕ)) → changes ≢ [] → AreValidBefore changes apex (length changes) → IsValid changes apex

@@ -8,13 +8,13 @@ ghost use Rattle.record_set.specs.Sets.{key_of};
 ghost use Rattle.r53_model.specs.declared.batches.Action.TheVariants.{Create, Delete, Upsert};
 ghost use Rattle.r53_model.specs.Changing.{Gives, IsProtected, IsThereAsGiven};
 ghost use Rattle.r53_model.specs.Zones.{IsRising};
-ghost use Rattle.change_batch.specs.Found.{Finds, FindsAt};
+ghost use Rattle.set_search.specs.Found.{Finds, FindsAt};
 
-use crate::finding::find;
 use dns_name::Name;
 use r53_model::{Action, Change, ChangeRefusal};
 use rdata::{OutOfMemory, RType};
 use record_set::{RecordSet, same};
+use set_search::find;
 use std::alloc::Global;
 
 /// Applies a change. Where it is refused, the sets may be thrown away.
@@ -51,7 +51,7 @@ fn create(
     ensures ok { OnOk result (Gives sets.old.items apex.now change.now (Ok sets.new.items)) }
     ensures err { IfErr result (λ why. Gives sets.old.items apex.now change.now (Err why)) }
 {
-    let place = match find_set(sets.as_slice(), &change.set) {
+    let place = match find_set(sets, &change.set) {
         Ok(_) => return Err(ChangeRefusal::AlreadyExists),
         Err(place) => place,
     };
@@ -69,7 +69,7 @@ fn delete(sets: &mut Vec<RecordSet>, apex: &Name, change: &Change) -> Result<(),
     ensures ok { OnOk result (Gives sets.old.items apex.now change.now (Ok sets.new.items)) }
     ensures err { IfErr result (λ why. Gives sets.old.items apex.now change.now (Err why)) }
 {
-    let place = match find_set(sets.as_slice(), &change.set) {
+    let place = match find_set(sets, &change.set) {
         Ok(place) => place,
         Err(_) => return Err(ChangeRefusal::NotFound),
     };
@@ -96,7 +96,7 @@ fn upsert(
     ensures ok { OnOk result (Gives sets.old.items apex.now change.now (Ok sets.new.items)) }
     ensures err { IfErr result (λ why. Gives sets.old.items apex.now change.now (Err why)) }
 {
-    match find_set(sets.as_slice(), &change.set) {
+    match find_set(sets, &change.set) {
         Ok(place) => match replace_by_copy(alloc, sets, place, &change.set) {
             Ok(()) => Ok(()),
             Err(OutOfMemory) => Err(ChangeRefusal::OutOfMemory),
@@ -109,9 +109,9 @@ fn upsert(
 }
 
 /// The place of the set with the key of this one, or else that at which it would stand.
-fn find_set(sets: &[RecordSet], given: &RecordSet) -> Result<usize, usize>
-    requires { IsRising sets.now }
-    ensures { Finds sets.now (key_of given.now) result }
+fn find_set(sets: &Vec<RecordSet>, given: &RecordSet) -> Result<usize, usize>
+    requires { IsRising sets.now.items }
+    ensures { Finds sets.now.items (key_of given.now) result }
 {
     find(sets, &given.key())
 }

@@ -1,7 +1,7 @@
 use Rattle.std.proofs.Common.{◌∙◌, sym, subst, arith}
 use Rattle.record_set.specs.Sets.{key_of}
 use Rattle.r53_model.specs.Changing.{Makes, IsThereAsGiven}
-use Rattle.change_batch.specs.Found.{FindsAt}
+use Rattle.set_search.specs.Found.{FindsAt}
 use Rattle.change_batch.proofs.Told.{removed}
 use Rattle.change_batch.proofs.applying.delete.Goals as goal
 
@@ -9,8 +9,8 @@ pub returns-clause-ok : goal.returns-clause-ok
 returns-clause-ok c =
     let given = c.args.change.now.set in
     let sets = c.args.sets.now.items in
-    let found : FindsAt sets (key_of given) c.in-Ok.place = subst (λ s. FindsAt s (key_of given) c.in-Ok.place) c.as_slice.ensures.value c.in-Ok.ensures in
-    let there : IsThereAsGiven sets given = subst (λ s. IsThereAsGiven s given) c.as_slice-2.ensures.value (c.is_as_given.ensures.0 c.if-not-is_as_given.false) in
+    let found : FindsAt sets (key_of given) c.in-Ok.place = c.in-Ok.ensures in
+    let there : IsThereAsGiven sets given = subst (λ s. IsThereAsGiven s given) c.as_slice.ensures.value (c.is_as_given.ensures.0 c.if-not-is_as_given.false) in
     let not_protected = c.if-is_protected.false in (
       c.requires.inside,
       subst (λ a. Makes a given sets c.args.apex.now c.take_away.new.sets.items) (sym c.requires.action)

@@ -1,7 +1,7 @@
 use Rattle.std.proofs.Common.{◌∙◌, sym, subst}
 use Rattle.record_set.specs.Sets.{key_of}
 use Rattle.r53_model.specs.Changing.{Makes}
-use Rattle.change_batch.specs.Found.{FindsAt}
+use Rattle.set_search.specs.Found.{FindsAt}
 use Rattle.change_batch.proofs.Told.{put_in_place}
 use Rattle.change_batch.proofs.applying.upsert.Goals as goal
 
@@ -9,7 +9,7 @@ pub returns-in-Ok-replace_by_copy-clause-ok : goal.returns-in-Ok-replace_by_copy
 returns-in-Ok-replace_by_copy-clause-ok c =
     let given = c.args.change.now.set in
     let sets = c.args.sets.now.items in
-    let found : FindsAt sets (key_of given) c.in-Ok.place = subst (λ s. FindsAt s (key_of given) c.in-Ok.place) c.as_slice.ensures.value c.in-Ok.ensures in (
+    let found : FindsAt sets (key_of given) c.in-Ok.place = c.in-Ok.ensures in (
       c.requires.inside,
       subst (λ a. Makes a given sets c.args.apex.now c.replace_by_copy.new.sets.items) (sym c.requires.action)
           (c.in-Ok-replace_by_copy.ensures ∙ put_in_place sets given c.in-Ok.place found),
