@@ -20,12 +20,12 @@ use Rattle.r53_model.specs.Limits.{HasTooManyValues, HasTooManyCharacters, HasLo
 use Rattle.r53_model.specs.Rules.{Rule, OnePolicy, CnameAlone, OwnPlace, GroupSize, NoneBreaksBefore, MeetsAll, IsFirstBreak, rules}
 
 -- of two numbers one is below the other, or they are equal
-data Order (j k : ℕ) : Type 0 where
+pub data Order (j k : ℕ) : Type 0 where
   Below : j < k → Order j k
   Above : k < j → Order j k
   Even : j ≡ k → Order j k
 
-order : (j k : ℕ) → Order j k
+pub order : (j k : ℕ) → Order j k
 order zero zero = Even refl
 order zero (suc k) = Below (omega arith)
 order (suc j) zero = Above (omega arith)

@@ -1,4 +1,5 @@
 pub mod Answering
+pub mod Decided
 pub mod Ordered
 pub mod Places
 pub mod Staying

@@ -11,6 +11,7 @@ use Rattle.r53_model.specs.declared.batches.Action.TheVariants as action
 use Rattle.r53_model.specs.Changing.{placed, without}
 use Rattle.r53_model.specs.Keys.{key_cmp}
 use Rattle.r53_model.specs.Limits.{elements_of, characters_of}
+use Rattle.r53_model.specs.Walks.{StartsWalk, HasNoTarget}
 use Rattle.r53_model.specs.Zones.{target_group}
 
 -- example.com
@@ -82,3 +83,15 @@ taken_away = refl
 -- the target group has the alias's own type
 own_type : target_group (set_of www rtype.A 1 ∷ set_of www rtype.Aaaa 1 ∷ []) (alias_to apex www) ≡ set_of www rtype.A 1 ∷ []
 own_type = refl
+
+-- c1 is an alias of c0, and c2 of c1
+abbrev chain : List RecordSet
+chain = set_of (codes "c0" ∷ apex) rtype.A 1 ∷ alias_to (codes "c1" ∷ apex) (codes "c0" ∷ apex) ∷ alias_to (codes "c2" ∷ apex) (codes "c1" ∷ apex) ∷ []
+
+-- two links start at c2: c0 is no alias
+two_links : StartsWalk chain (alias_to (codes "c2" ∷ apex) (codes "c1" ∷ apex)) 2
+two_links = (alias_to (codes "c1" ∷ apex) (codes "c0" ∷ apex) ∷ [], ((2, refl), tt, (0, refl), ((1, refl), tt)), refl)
+
+-- an alias to a name that has no set of its type
+without_target : HasNoTarget chain (alias_to www (codes "c3" ∷ apex))
+without_target = (tt, refl)

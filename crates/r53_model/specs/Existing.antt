@@ -1,5 +1,5 @@
 -- Names that exist in a zone, and the closest ones (RFC 4592, 2.2.2 and 3.3.1).
-use Rattle.std.specs.Prelude.{◌≡◌, ◌≢◌, ◌≤◌, ℕ, List, length}
+use Rattle.std.specs.Prelude.{◌≢◌, ◌≤◌, ℕ, List, length}
 use Rattle.dns_name.specs.Suffix.{EndsWith}
 use Rattle.record_set.specs.declared.sets.RecordSet.{RecordSet}
 use Rattle.r53_model.specs.Zones.{IsAmong}

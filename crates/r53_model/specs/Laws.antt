@@ -6,6 +6,8 @@ use Rattle.r53_model.specs.declared.refusals.BatchRefusal.{BatchRefusal}
 use Rattle.r53_model.specs.declared.refusals.BatchRefusal.TheVariants as batch
 use Rattle.r53_model.specs.Batches.{Prepares}
 use Rattle.r53_model.specs.Changing.{Gives}
+use Rattle.r53_model.specs.Configs.{Config}
+use Rattle.r53_model.specs.Deciding.{Refusal, OfSets, Decides}
 use Rattle.r53_model.specs.Zones.{IsZone}
 
 -- A batch has one answer, but for want of memory.
@@ -20,3 +22,10 @@ abbrev pub ZonesStay : Type 0
 ZonesStay =
     (sets : List RecordSet) (apex : List (List ℕ)) (change : Change) (after : List RecordSet)
     → IsZone sets apex → Gives sets apex change (Ok after) → IsZone after apex
+
+-- A batch on a configuration has one answer, but for want of memory.
+abbrev pub OneDecision : Type 0
+OneDecision =
+    (config : Config) (id : ℕ) (changes : List Change) (answer other : Result Config Refusal)
+    → Decides config id changes answer → Decides config id changes other
+    → answer ≢ Err (OfSets batch.OutOfMemory) → other ≢ Err (OfSets batch.OutOfMemory) → answer ≡ other

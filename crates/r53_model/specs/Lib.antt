@@ -1,11 +1,14 @@
 pub mod Batches
 pub mod Changing
+pub mod Configs
+pub mod Deciding
 pub mod Existing
 pub mod Keys
 pub mod KeyLaws
 pub mod Laws
 pub mod Limits
 pub mod Rules
+pub mod Walks
 pub mod Zones
 pub use Rattle.dns_name.specs.Suffix
 pub use Rattle.rdata.specs.Datum

@@ -1,7 +1,7 @@
 //! Laws over the definitions, each the contract of a function that does nothing.
 
 ghost use Rattle.r53_model.specs.KeyLaws.{KeysAreOrdered};
-ghost use Rattle.r53_model.specs.Laws.{OneAnswer, ZonesStay};
+ghost use Rattle.r53_model.specs.Laws.{OneAnswer, OneDecision, ZonesStay};
 
 /// The order of keys is a total order, and its ties are equal keys.
 pub fn keys_are_ordered()
@@ -16,4 +16,9 @@ pub fn zones_stay()
 /// A batch has one answer, but for want of memory.
 pub fn one_answer()
     ensures { OneAnswer }
+{}
+
+/// A batch on a configuration has one answer, but for want of memory.
+pub fn one_decision()
+    ensures { OneDecision }
 {}

@@ -9,6 +9,6 @@ mod order;
 mod refusals;
 
 pub use batches::{Action, Batch, Change, Changes};
-pub use laws::{keys_are_ordered, one_answer, zones_stay};
+pub use laws::{keys_are_ordered, one_answer, one_decision, zones_stay};
 pub use order::key_cmp;
 pub use refusals::{BatchRefusal, ChangeRefusal};
