@@ -5,7 +5,6 @@
 #![tactic(auto)]
 
 mod applying;
-mod limits;
 mod preparing;
 mod whole;
 

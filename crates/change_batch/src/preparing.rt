@@ -1,10 +1,10 @@
 ghost use Rattle.std.specs.Prelude.{◌≡◌, IfOk, IfErr};
 ghost use Rattle.r53_model.specs.Batches.{Prepares};
 ghost use Rattle.r53_model.specs.Zones.{IsZone};
-ghost use Rattle.change_batch.specs.Tests.{with_items};
+ghost use Rattle.r53_model.specs.Telling.{with_items};
 
-use crate::limits::check_limits;
 use crate::whole::apply_all;
+use batch_limits::check_limits;
 use dns_name::Name;
 use r53_model::{Batch, BatchRefusal};
 use record_set::RecordSet;

@@ -3,11 +3,10 @@
 ghost use Rattle.std.specs.Prelude.{◌≡◌, IfOk, IfErr, Err};
 ghost use Rattle.r53_model.specs.Batches.{IsWithinLimits, Leaves, Prepares};
 ghost use Rattle.r53_model.specs.Zones.{IsZone};
-ghost use Rattle.change_batch.specs.Tests.{refusal_at};
 
 use crate::applying::apply;
 use dns_name::Name;
-use r53_model::{BatchRefusal, Change, ChangeRefusal};
+use r53_model::{BatchRefusal, Change};
 use rdata::OutOfMemory;
 use record_set::RecordSet;
 use std::alloc::Global;
@@ -32,24 +31,10 @@ pub fn apply_all(
     for (i, change) in changes.iter().enumerate() {
         match apply(alloc, &mut after, apex, change) {
             Ok(()) => {}
-            Err(why) => return Err(refusal_at(i, why)),
+            Err(why) => return Err(why.at(i)),
         }
     }
     Ok(after)
-}
-
-/// The refusal of the change at a place.
-fn refusal_at(i: usize, why: ChangeRefusal) -> BatchRefusal
-    ensures { result ≡ refusal_at i why }
-{
-    match why {
-        ChangeRefusal::NotInZone => BatchRefusal::NotInZone(i),
-        ChangeRefusal::AlreadyExists => BatchRefusal::AlreadyExists(i),
-        ChangeRefusal::NotFound => BatchRefusal::NotFound(i),
-        ChangeRefusal::ValuesDiffer => BatchRefusal::ValuesDiffer(i),
-        ChangeRefusal::ApexProtected => BatchRefusal::ApexProtected(i),
-        ChangeRefusal::OutOfMemory => BatchRefusal::OutOfMemory,
-    }
 }
 
 /// Copies of the sets, and room for so many more.

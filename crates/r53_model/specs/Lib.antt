@@ -8,6 +8,7 @@ pub mod KeyLaws
 pub mod Laws
 pub mod Limits
 pub mod Rules
+pub mod Telling
 pub mod Walks
 pub mod Zones
 pub use Rattle.dns_name.specs.Suffix

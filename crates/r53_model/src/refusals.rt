@@ -1,3 +1,6 @@
+ghost use Rattle.std.specs.Prelude.{◌≡◌};
+ghost use Rattle.r53_model.specs.Telling.{refusal_at};
+
 use dns_name::Name;
 use rdata::RType;
 use record_set::{Reason, SetKey};
@@ -51,4 +54,20 @@ pub enum ChangeRefusal {
     /// DELETE of the NS or SOA set at the apex.
     ApexProtected,
     OutOfMemory,
+}
+
+impl ChangeRefusal {
+    /// The refusal of a batch of which the change at this place is refused so.
+    pub fn at(self, i: usize) -> BatchRefusal
+        ensures { result ≡ refusal_at i self }
+    {
+        match self {
+            ChangeRefusal::NotInZone => BatchRefusal::NotInZone(i),
+            ChangeRefusal::AlreadyExists => BatchRefusal::AlreadyExists(i),
+            ChangeRefusal::NotFound => BatchRefusal::NotFound(i),
+            ChangeRefusal::ValuesDiffer => BatchRefusal::ValuesDiffer(i),
+            ChangeRefusal::ApexProtected => BatchRefusal::ApexProtected(i),
+            ChangeRefusal::OutOfMemory => BatchRefusal::OutOfMemory,
+        }
+    }
 }

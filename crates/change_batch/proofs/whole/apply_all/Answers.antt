@@ -5,7 +5,7 @@ use Rattle.std.proofs.lemmas.Option.{slice_get_read}
 use Rattle.r53_model.specs.Batches.{Leaves, Prepares}
 use Rattle.r53_model.specs.Changing.{Gives}
 use Rattle.r53_model.proofs.Staying.{zones_stay}
-use Rattle.change_batch.proofs.Told.{leaves_more, refused_told}
+use Rattle.r53_model.proofs.Telling.{leaves_more, refused_told}
 use Rattle.change_batch.proofs.whole.apply_all.Goals as goal
 
 pub loop-i-preserved : goal.loop-i-preserved
@@ -25,6 +25,6 @@ loop-i-preserved c =
 pub returns-in-Err-apply-clause-refused : goal.returns-in-Err-apply-clause-refused
 returns-in-Err-apply-clause-refused c =
     let x = c.index-changes-i in
-    subst (λ why. Prepares c.args.sets.now c.args.apex.now c.args.changes.now (Err why)) (sym c.refusal_at.ensures)
+    subst (λ why. Prepares c.args.sets.now c.args.apex.now c.args.changes.now (Err why)) (sym c.at.ensures)
     (refused_told c.args.sets.now c.args.apex.now c.args.changes.now c.loop-i.i x.result c.loop-i.after.items c.in-Err-apply.why c.requires.limits
     (slice_get_read c.args.changes.now _ c.loop-i.i x.result refl c.loop-i-test.true x.is) c.loop-i.invariant.leaves c.in-Err-apply.ensures.err)

@@ -2,7 +2,7 @@
 
 ghost use Rattle.std.specs.Prelude.{◌≡◌, ◌+◌, ◌<◌, IfSome, IfNone, IsTrue, ◌↔◌};
 ghost use Rattle.r53_model.specs.Limits.{counted, elements_in, HasTooManyValues, HasTooManyCharacters, HasLongSet};
-ghost use Rattle.change_batch.specs.Tests.{IsFirstInvalidOrNone, TellsLimits};
+ghost use Rattle.batch_limits.specs.Tests.{IsFirstInvalidOrNone, TellsLimits};
 
 use dns_name::Name;
 use r53_model::{Action, BatchRefusal, Change};

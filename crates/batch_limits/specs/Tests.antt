@@ -1,13 +1,9 @@
--- What a batch meets by itself, and how refusals are told.
-use Rattle.std.specs.Prelude.{◌≡◌, ◌⊎◌, ℕ, List, [], length, Option, None, Some, Result, Ok, Err, Vec}
-use Rattle.std.specs.declared.alloc.Global.{Global}
+-- What a batch meets by itself.
+use Rattle.std.specs.Prelude.{◌≡◌, ◌⊎◌, ℕ, List, [], length, Option, None, Some}
 use Rattle.record_set.specs.declared.reasons.Reason.{Reason}
-use Rattle.record_set.specs.declared.sets.RecordSet.{RecordSet}
 use Rattle.r53_model.specs.declared.batches.Change.{Change}
 use Rattle.r53_model.specs.declared.refusals.BatchRefusal.{BatchRefusal}
 use Rattle.r53_model.specs.declared.refusals.BatchRefusal.TheVariants as batch
-use Rattle.r53_model.specs.declared.refusals.ChangeRefusal.{ChangeRefusal}
-use Rattle.r53_model.specs.declared.refusals.ChangeRefusal.TheVariants as refusal
 use Rattle.r53_model.specs.Batches.{AreValidBefore, IsFirstInvalid, IsValid, IsWithinLimits}
 use Rattle.r53_model.specs.Limits.{HasTooManyValues, HasTooManyCharacters, HasLongSet}
 
@@ -34,17 +30,3 @@ TellsLimits changes apex (Some (batch.CnameConflict name)) = ⊥
 TellsLimits changes apex (Some (batch.SamePlace key)) = ⊥
 TellsLimits changes apex (Some (batch.GroupFull name rtype)) = ⊥
 TellsLimits changes apex (Some batch.OutOfMemory) = ⊥
-
--- a refusal of a change, with its place
-abbrev pub refusal_at : ℕ → ChangeRefusal → BatchRefusal
-refusal_at i refusal.NotInZone = batch.NotInZone i
-refusal_at i refusal.AlreadyExists = batch.AlreadyExists i
-refusal_at i refusal.NotFound = batch.NotFound i
-refusal_at i refusal.ValuesDiffer = batch.ValuesDiffer i
-refusal_at i refusal.ApexProtected = batch.ApexProtected i
-refusal_at i refusal.OutOfMemory = batch.OutOfMemory
-
--- an answer with the sets as a list
-abbrev pub with_items : Result (Vec RecordSet Global) BatchRefusal → Result (List RecordSet) BatchRefusal
-with_items (Ok sets) = Ok sets.items
-with_items (Err why) = Err why

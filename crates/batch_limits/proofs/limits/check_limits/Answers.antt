@@ -1,8 +1,8 @@
 use Rattle.std.proofs.Common.{◌≢◌, [], length, subst, ap, arith, inr}
 use Rattle.r53_model.specs.Batches.{IsValid}
-use Rattle.change_batch.specs.Tests.{IsFirstInvalidOrNone}
-use Rattle.change_batch.proofs.Told.{all_valid}
-use Rattle.change_batch.proofs.limits.check_limits.Goals as goal
+use Rattle.batch_limits.specs.Tests.{IsFirstInvalidOrNone}
+use Rattle.batch_limits.proofs.Valid.{all_valid}
+use Rattle.batch_limits.proofs.limits.check_limits.Goals as goal
 
 pub returns-then-has_long_set : goal.returns-then-has_long_set
 returns-then-has_long_set c =

@@ -1,5 +1,5 @@
 use Rattle.r53_model.specs.Batches.{AreValidBefore}
-use Rattle.change_batch.proofs.limits.first_invalid.Given as goal
+use Rattle.batch_limits.proofs.limits.first_invalid.Given as goal
 
 abbrev pub invariant-loop-i : goal.invariant-loop-i
 invariant-loop-i l = AreValidBefore l.changes l.apex l.i

@@ -1,7 +1,7 @@
 use Rattle.std.proofs.Common.{◌≡◌, ◌+◌, take}
 use Rattle.std.specs.List.{sum_by}
 use Rattle.r53_model.specs.Limits.{elements_of}
-use Rattle.change_batch.proofs.limits.has_too_many_values.Given as goal
+use Rattle.batch_limits.proofs.limits.has_too_many_values.Given as goal
 
 abbrev pub invariant-loop-change : goal.invariant-loop-change
 invariant-loop-change l = l.left + sum_by elements_of (take l.change-index l.changes) ≡ 1000

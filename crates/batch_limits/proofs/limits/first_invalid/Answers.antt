@@ -1,8 +1,8 @@
 use Rattle.std.proofs.Common.{refl, subst}
 use Rattle.std.proofs.lemmas.Option.{slice_get_read}
 use Rattle.record_set.specs.Reasons.{IsFirst}
-use Rattle.change_batch.proofs.Told.{valid_more}
-use Rattle.change_batch.proofs.limits.first_invalid.Goals as goal
+use Rattle.batch_limits.proofs.Valid.{valid_more}
+use Rattle.batch_limits.proofs.limits.first_invalid.Goals as goal
 
 pub loop-i-preserved : goal.loop-i-preserved
 loop-i-preserved c =
