@@ -12,7 +12,7 @@ use std::process::Abort;
 use std::test::Fail;
 
 /// A change of a simple set.
-fn change(action: Action, name: Name, rtype: RType, body: Body) -> Change {
+pub fn change(action: Action, name: Name, rtype: RType, body: Body) -> Change {
     Change {
         action,
         characters: 9,
@@ -21,7 +21,7 @@ fn change(action: Action, name: Name, rtype: RType, body: Body) -> Change {
 }
 
 /// The batch of these changes.
-fn batch(changes: Vec<Change>) -> Batch {
+pub fn batch(changes: Vec<Change>) -> Batch {
     Batch {
         zone: 1,
         changes: Changes::from_vec(changes),
@@ -29,7 +29,7 @@ fn batch(changes: Vec<Change>) -> Batch {
 }
 
 /// The sets after a batch that is made.
-fn made(
+pub fn made(
     rt: &impl Abort,
     alloc: Global,
     sets: &[RecordSet],
@@ -45,7 +45,7 @@ fn made(
 }
 
 /// Why a batch is refused.
-fn refused(
+pub fn refused(
     rt: &impl Abort,
     alloc: Global,
     sets: &[RecordSet],
@@ -57,6 +57,18 @@ fn refused(
     let batch = batch(changes);
     let after = prepare(alloc, sets, apex, &batch);
     after.err().expect(rt, "the refusal of the batch")
+}
+
+/// Why a batch is refused, if it is.
+pub fn refusal(
+    alloc: Global,
+    sets: &[RecordSet],
+    apex: &Name,
+    changes: Vec<Change>,
+) -> Option<BatchRefusal>
+    requires { IsZone sets.now apex.now }
+{
+    prepare(alloc, sets, apex, &batch(changes)).err()
 }
 
 #[test]

@@ -66,7 +66,10 @@ fn octets_of_sets(rt: HostRuntime) -> Result<(), Fail> {
             has_spelling(&set) && write_set(&set, &mut into).is_ok(),
             "memory"
         );
-        assert!(rt; !is_long(&set), "no more octets than a set may have: {octets:?}");
+        assert!(rt;
+            !is_long(&set),
+            "no more octets than a set may have: {octets:?}"
+        );
         assert_eq!(rt; into.get(0), Some(&0xee), "what stands before: {octets:?}");
         assert_eq!(rt; into.get(1..), Some(octets), "{octets:?}");
         let (again, len) = read_set(rt.alloc(), octets).expect(&rt, "a set");

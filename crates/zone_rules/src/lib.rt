@@ -11,3 +11,6 @@ mod policies;
 mod sizes;
 
 pub use breaks::first_break;
+pub use groups::is_one_group;
+pub use places::is_one_place;
+pub use policies::is_one_policy;

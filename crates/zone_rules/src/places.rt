@@ -37,7 +37,7 @@ fn has_same_place(sets: &[RecordSet], start: usize, i: usize) -> bool
 }
 
 /// Whether the two have one place, one failover role or one region.
-fn is_one_place(policy: &Routing, other: &Routing) -> bool
+pub fn is_one_place(policy: &Routing, other: &Routing) -> bool
     ensures { IsTrue result ↔ AreOnePlace policy.now other.now }
 {
     match (policy, other) {

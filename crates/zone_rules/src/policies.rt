@@ -32,7 +32,7 @@ fn is_mixed(sets: &[RecordSet], i: usize) -> bool
 }
 
 /// Whether the two have one policy.
-fn is_one_policy(policy: &Routing, other: &Routing) -> bool
+pub fn is_one_policy(policy: &Routing, other: &Routing) -> bool
     ensures { IsTrue result ↔ (policy_of policy.now ≡ policy_of other.now) }
 {
     policy_number(policy) == policy_number(other)

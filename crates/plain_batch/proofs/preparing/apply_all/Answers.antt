@@ -1,0 +1,30 @@
+use Rattle.std.proofs.Common.{◌≡◌, ◌+◌, ◌++◌, ◌∷◌, [], take, refl, sym, ◌∙◌, ap, subst, List}
+use Rattle.std.specs.Prelude.{Ok, Err}
+use Rattle.std.proofs.lemmas.List.{take_more}
+use Rattle.std.proofs.lemmas.Option.{slice_get_read}
+use Rattle.record_set.specs.declared.sets.RecordSet.{RecordSet}
+use Rattle.r53_model.specs.Batches.{Leaves, Prepares}
+use Rattle.r53_model.specs.Changing.{Gives}
+use Rattle.r53_model.proofs.Telling.{leaves_more, refused_told}
+use Rattle.plain_batch.proofs.preparing.apply_all.Goals as goal
+
+pub loop-i-preserved : goal.loop-i-preserved
+loop-i-preserved c =
+    let sets = c.args.sets.now in
+    let apex = c.args.apex.now in
+    let changes = c.args.changes.now in
+    let x = c.index-changes-i in
+    let next = c.in-Ok-apply.next.items in
+    let gives : Gives c.loop-i.after.items apex x.result (Ok next) = subst (λ (s : List RecordSet). Gives s apex x.result (Ok next)) c.as_slice.ensures.value c.in-Ok-apply.ensures.ok in
+    let more : take c.loop-i.i changes ++ x.result ∷ [] ≡ take (c.loop-i.i + 1) changes =
+    ap (λ v. take c.loop-i.i changes ++ v ∷ []) x.is ∙ sym (take_more changes c.loop-i.i x.result c.loop-i-test.true) in
+    subst (λ front. Leaves sets apex front next) more (leaves_more sets apex (take c.loop-i.i changes) x.result c.loop-i.after.items next c.loop-i.invariant gives)
+
+pub returns-in-Err-apply-clause-refused : goal.returns-in-Err-apply-clause-refused
+returns-in-Err-apply-clause-refused c =
+    let x = c.index-changes-i in
+    let gives : Gives c.loop-i.after.items c.args.apex.now x.result (Err c.in-Err-apply.why) =
+    subst (λ (s : List RecordSet). Gives s c.args.apex.now x.result (Err c.in-Err-apply.why)) c.as_slice.ensures.value c.in-Err-apply.ensures.err in
+    subst (λ why. Prepares c.args.sets.now c.args.apex.now c.args.changes.now (Err why)) (sym c.at.ensures)
+    (refused_told c.args.sets.now c.args.apex.now c.args.changes.now c.loop-i.i x.result c.loop-i.after.items c.in-Err-apply.why c.requires
+    (slice_get_read c.args.changes.now _ c.loop-i.i x.result refl c.loop-i-test.true x.is) c.loop-i.invariant gives)
