@@ -16,10 +16,10 @@ use Rattle.set_octets.specs.Octets.{set_octets}
 use Rattle.set_octets.specs.Octets as set_spelling
 use Rattle.set_reading.specs.Sets.{IsSet}
 use Rattle.set_reading.specs.Laws as set_laws
-use Rattle.command_codec.specs.declared.commands.Command.{Command}
-use Rattle.command_codec.specs.declared.commands.Command.TheVariants as command
+use Rattle.command_octets.specs.declared.commands.Command.{Command}
+use Rattle.command_octets.specs.declared.commands.Command.TheVariants as command
 use Rattle.command_codec.specs.Commands.{HasSet, AreServers, IsCommand}
-use Rattle.command_codec.specs.Octets.{action_number, change_octets, command_octets, HasSpelledSet, HasSpelling}
+use Rattle.command_octets.specs.Octets.{action_number, change_octets, command_octets, HasSpelledSet, HasSpelling}
 use Rattle.command_codec.specs.Reading.{version_at, servers_at, create_at, delete_at, action_at, behind_set, set_at, change_at, changes_at, batch_at, command_at, front_at}
 
 -- what comes behind a step that did not fail

@@ -8,7 +8,7 @@ use Rattle.octet_reading.proofs.Within.{Within, ok_within, err_within, widen, th
 use Rattle.record_set.specs.declared.sets.RecordSet.{RecordSet}
 use Rattle.set_fields.specs.Numbers.{meant}
 use Rattle.set_reading.specs.Reading as sets
-use Rattle.command_codec.specs.declared.commands.Command.{Command}
+use Rattle.command_octets.specs.declared.commands.Command.{Command}
 use Rattle.command_codec.specs.Reading.{version_at, servers_at, create_at, delete_at, action_of, action_at, behind_set, set_at, change_at, changes_at, batch_at, command_at, front_at, alone, whole_at}
 
 version_within : (octets : List ℕ) → Within (length octets) (version_at octets)

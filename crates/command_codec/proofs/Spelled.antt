@@ -21,10 +21,10 @@ use Rattle.set_reading.specs.Sets.{IsSet}
 use Rattle.set_fields.specs.Numbers.{meant, numbered}
 use Rattle.set_reading.specs.Reading as sets
 use Rattle.set_reading.specs.Laws.{TellsSet, SetsAreTold}
-use Rattle.command_codec.specs.declared.commands.Command.{Command}
-use Rattle.command_codec.specs.declared.commands.Command.TheVariants as command
+use Rattle.command_octets.specs.declared.commands.Command.{Command}
+use Rattle.command_octets.specs.declared.commands.Command.TheVariants as command
 use Rattle.command_codec.specs.Commands.{HasSet, AreServers, IsCommand, Spells}
-use Rattle.command_codec.specs.Octets.{action_number, change_octets, command_octets, HasSpelledSet, HasSpelling}
+use Rattle.command_octets.specs.Octets.{action_number, change_octets, command_octets, HasSpelledSet, HasSpelling}
 use Rattle.command_codec.specs.Reading.{version_at, servers_at, create_at, delete_at, actions, action_of, action_at, behind_set, set_at, change_at, changes_at, batch_at, command_at, front_at, alone, whole_at}
 
 -- a value and what stands behind it, where its octets stand in front

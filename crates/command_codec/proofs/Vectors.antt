@@ -11,9 +11,9 @@ use Rattle.set_fields.specs.Numbers.{type_of, type_at, continent_at, role_at, tt
 use Rattle.set_fields.specs.Texts.{text_at, country_at}
 use Rattle.set_reading.specs.Reading.{subdivision_at, place_at, weighted_at, failover_at, geolocation_at, latency_at, multivalue_at, routing_at, value_at, values_at, records_at, alias_at, body_at, check_at}
 use Rattle.set_reading.specs.Reading as sets
-use Rattle.command_codec.specs.declared.commands.Command.{Command}
-use Rattle.command_codec.specs.declared.commands.Command.TheVariants as command
-use Rattle.command_codec.specs.Octets.{command_octets}
+use Rattle.command_octets.specs.declared.commands.Command.{Command}
+use Rattle.command_octets.specs.declared.commands.Command.TheVariants as command
+use Rattle.command_octets.specs.Octets.{command_octets}
 use Rattle.command_codec.specs.Reading.{version_at, servers_at, create_at, delete_at, action_at, behind_set, set_at, change_at, changes_at, batch_at, command_at, front_at, whole_at, read}
 
 -- example.com, with the servers a, b, c and d; 27 octets

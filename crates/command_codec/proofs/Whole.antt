@@ -7,11 +7,11 @@ use Rattle.octet_reading.specs.Reading.{◌>>=◌}
 use Rattle.octet_reading.proofs.Told.{are_bytes}
 use Rattle.set_reading.specs.declared.faults.ReadFault.{ReadFault}
 use Rattle.set_reading.specs.Laws as set_laws
-use Rattle.command_codec.specs.declared.commands.Command.{Command}
+use Rattle.command_octets.specs.declared.commands.Command.{Command}
 use Rattle.command_codec.specs.Commands.{IsCommand, Spells}
 use Rattle.command_codec.specs.Gives.{ReadsCommand}
 use Rattle.command_codec.specs.Laws.{OneSpelling, WrittenReadsBack, ReadAsNothingElse, TellsCommand, CommandsAreTold}
-use Rattle.command_codec.specs.Octets.{command_octets, HasSpelling}
+use Rattle.command_octets.specs.Octets.{command_octets, HasSpelling}
 use Rattle.command_codec.specs.Reading.{front_at, alone, whole_at, placed, read}
 use Rattle.command_codec.proofs.Again.{front_again}
 use Rattle.command_codec.proofs.Spelled.{whole_stands}

@@ -4,9 +4,9 @@ use Rattle.std.specs.List.{AllByRecursion}
 use Rattle.dns_name.specs.Names.{IsName}
 use Rattle.r53_model.specs.declared.batches.Change.{Change}
 use Rattle.set_reading.specs.Sets.{AreOfType, IsSet}
-use Rattle.command_codec.specs.declared.commands.Command.{Command}
-use Rattle.command_codec.specs.declared.commands.Command.TheVariants as command
-use Rattle.command_codec.specs.Octets.{command_octets, HasSpelling}
+use Rattle.command_octets.specs.declared.commands.Command.{Command}
+use Rattle.command_octets.specs.declared.commands.Command.TheVariants as command
+use Rattle.command_octets.specs.Octets.{command_octets, HasSpelling}
 
 -- a change to a set whose values are of its type
 abbrev pub IsTyped : Change → Type 0

@@ -2,7 +2,7 @@
 use Rattle.std.specs.Prelude.{◌≡◌, ℕ, ◌≤◌, Result, Ok, Err, ⊤}
 use Rattle.set_reading.specs.declared.faults.ReadFault.{ReadFault}
 use Rattle.set_reading.specs.declared.faults.ReadFault.TheVariants as fault
-use Rattle.command_codec.specs.declared.commands.Command.{Command}
+use Rattle.command_octets.specs.declared.commands.Command.{Command}
 
 -- What a call answered is what reading says, unless memory ran out.
 abbrev pub ReadsCommand : Result Command ReadFault → Result Command ℕ → Type 0

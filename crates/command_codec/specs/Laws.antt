@@ -1,9 +1,9 @@
 -- Laws over the definitions of this crate.
 use Rattle.std.specs.Prelude.{◌≡◌, ◌≤◌, ℕ, List, ◌++◌, length, Result, Ok, Err}
 use Rattle.dns_name.specs.Names.{AreOctets}
-use Rattle.command_codec.specs.declared.commands.Command.{Command}
+use Rattle.command_octets.specs.declared.commands.Command.{Command}
 use Rattle.command_codec.specs.Commands.{IsCommand, Spells}
-use Rattle.command_codec.specs.Octets.{command_octets, HasSpelling}
+use Rattle.command_octets.specs.Octets.{command_octets, HasSpelling}
 use Rattle.command_codec.specs.Reading.{read}
 
 -- One command has one spelling, and no spelling begins another: octets begin with the spelling of one command at most.

@@ -1,5 +1,5 @@
 pub mod Commands
 pub mod Gives
 pub mod Laws
-pub mod Octets
 pub mod Reading
+pub use Rattle.command_octets.specs.Octets

@@ -8,9 +8,9 @@ use Rattle.r53_model.specs.declared.batches.Change.{Change}
 use Rattle.record_set.specs.declared.sets.RecordSet.{RecordSet}
 use Rattle.set_fields.specs.Numbers.{meant, numbered}
 use Rattle.set_reading.specs.Reading as sets
-use Rattle.command_codec.specs.declared.commands.Command.{Command}
-use Rattle.command_codec.specs.declared.commands.Command.TheVariants as command
-use Rattle.command_codec.specs.Octets.{action_number}
+use Rattle.command_octets.specs.declared.commands.Command.{Command}
+use Rattle.command_octets.specs.declared.commands.Command.TheVariants as command
+use Rattle.command_octets.specs.Octets.{action_number}
 
 -- the version 1
 unfoldable pub version_at : List ℕ → Result (ℕ × List ℕ) ℕ

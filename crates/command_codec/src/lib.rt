@@ -1,19 +1,16 @@
-//! The octets of commands, as the journal keeps them: one spelling each.
+//! The octets of commands, written and read.
 //!
-//! Numbers have their highest octet first. Nothing may stand behind a command, though no spelling begins another.
+//! Nothing may stand behind a command, though no spelling begins another. Writing them has its own crate below.
 #![tactic(auto)]
 
-mod commands;
 mod laws;
+mod parts;
 mod reading;
-mod spelling;
-mod writing;
 
-pub use commands::Command;
+pub use command_octets::{
+    Action, Batch, Change, Changes, Command, OutOfMemory, has_spelling, write,
+};
 pub use laws::{commands_are_told, one_spelling, read_as_nothing_else, written_reads_back};
-pub use octets::OutOfMemory;
-pub use r53_model::{Action, Batch, Change, Changes};
+pub use parts::well_formed;
 pub use reading::read;
 pub use set_reading::ReadFault;
-pub use spelling::{has_spelling, well_formed};
-pub use writing::write;

@@ -2,12 +2,12 @@
 
 ghost use Rattle.std.specs.Prelude.{◌≡◌, ◌≤◌, ℕ, length, take, drop, IfOk, Ok};
 ghost use Rattle.octet_reading.specs.Reading.{Gives};
-ghost use Rattle.command_codec.specs.declared.commands.Command.{Command};
+ghost use Rattle.command_octets.specs.declared.commands.Command.{Command};
 ghost use Rattle.command_codec.specs.Commands.{Spells};
 ghost use Rattle.command_codec.specs.Gives.{IsInside, ReadsCommand};
 ghost use Rattle.command_codec.specs.Reading.{version_at, servers_at, create_at, delete_at, action_of, action_at, set_at, change_at, changes_at, batch_at, command_at, front_at, whole_at, read};
 
-use crate::commands::Command;
+use command_octets::Command;
 use dns_name::Name;
 use octet_reading::{Stop, four_at, name_at, octet_at, two_at};
 use octets::behind;

@@ -9,11 +9,13 @@ use Rattle.set_fields.specs.Numbers.{type_at, continent_at, role_at, ttl_at}
 use Rattle.set_fields.specs.Texts.{country_at, ident_at, region_at, sub_at}
 
 -- A field that is read as it is written, and as nothing else: what it may be, its octets, and how it is read.
-pub record IsReadAs {A : Type 0} (is : A → Type 0) (octets_of : A → List ℕ) (read : List ℕ → Result (A × List ℕ) ℕ) : Type 0 where
+pub record IsReadAs {A : Type 0} (is : A → Type 0) (octets_of : A → List ℕ) (read : List ℕ → Result (A × List ℕ) ℕ)
+    : Type 0 where
   -- what is written is read again, whatever follows it
   pub again : (x : A) (rest : List ℕ) → is x → read (octets_of x ++ rest) ≡ Ok (x, rest)
   -- what is read stands there
-  pub stands : (octets : List ℕ) (x : A) (rest : List ℕ) → AreOctets octets → read octets ≡ Ok (x, rest) → (octets ≡ octets_of x ++ rest) × is x
+  pub stands : (octets : List ℕ) (x : A) (rest : List ℕ) → AreOctets octets → read octets ≡ Ok (x, rest)
+      → (octets ≡ octets_of x ++ rest) × is x
   -- what is left, and what stands from a fault on, is no more than there was
   pub left : (octets : List ℕ) (x : A) (rest : List ℕ) → read octets ≡ Ok (x, rest) → length rest ≤ length octets
   pub fault : (octets : List ℕ) (left : ℕ) → read octets ≡ Err left → left ≤ length octets

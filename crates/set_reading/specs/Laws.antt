@@ -17,7 +17,8 @@ abbrev pub WrittenReadsBack : Type 0
 WrittenReadsBack =
     (set : RecordSet) (rest : List ℕ) → IsSet set → HasSpelling set → read (set_octets set ++ rest) ≡ Ok (set, length (set_octets set))
 
--- What reading tells: the set that octets begin with; or a place among them, or behind the last, where they begin with none.
+-- What reading tells: the set that octets begin with; or a place among them, or behind the last, where they begin with
+-- none.
 abbrev pub TellsSet : List ℕ → Result (RecordSet × ℕ) ℕ → Type 0
 TellsSet octets (Ok x) = BeginsWithSet octets x.0 x.1
 TellsSet octets (Err place) = (place ≤ length octets) × ((set : RecordSet) (n : ℕ) → BeginsWithSet octets set n → ⊥)

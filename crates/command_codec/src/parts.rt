@@ -1,38 +1,13 @@
-//! Which commands have a spelling, and what every command is.
+//! What every command is.
 
-ghost use Rattle.std.specs.Prelude.{◌≡◌, ◌<◌, ◌^◌, length, IsTrue, ◌↔◌};
+ghost use Rattle.std.specs.Prelude.{◌≡◌, length};
 ghost use Rattle.std.specs.List.{AllByRecursion};
 ghost use Rattle.dns_name.specs.Names.{IsName};
-ghost use Rattle.command_codec.specs.Octets.{HasSpelledSet, HasSpelling};
 ghost use Rattle.command_codec.specs.Commands.{AreTyped, IsSound, IsCommand};
 
-use crate::commands::Command;
+use command_octets::Command;
 use dns_name::Name;
 use r53_model::Change;
-
-/// Whether a command has a spelling: its changes and their sets are within their bounds.
-pub fn has_spelling(command: &Command) -> bool
-    ensures { IsTrue result ↔ HasSpelling command.now }
-{
-    match command {
-        Command::CreateZone { .. } | Command::DeleteZone(_) => true,
-        Command::Change(batch) => {
-            batch.changes.len() < 1 << 16 && have_spellings(batch.changes.as_slice())
-        }
-    }
-}
-
-/// Whether each set has a spelling.
-fn have_spellings(changes: &[Change]) -> bool
-    ensures { IsTrue result ↔ AllByRecursion HasSpelledSet changes.now }
-{
-    for change in changes {
-        if !set_octets::has_spelling(&change.set) {
-            return false;
-        }
-    }
-    true
-}
 
 /// What every command is whose sets have values of their types, for the premises of laws; it does nothing.
 pub fn well_formed(command: &Command)

@@ -1,7 +1,7 @@
 use Rattle.std.proofs.Common.{◌≡◌, ◌++◌, take, drop}
 use Rattle.std.specs.List.{AllByRecursion, flat_map}
-use Rattle.command_codec.specs.Octets.{change_octets, HasSpelledSet}
-use Rattle.command_codec.proofs.writing.append_changes.Given as goal
+use Rattle.command_octets.specs.Octets.{change_octets, HasSpelledSet}
+use Rattle.command_octets.proofs.writing.append_changes.Given as goal
 
 abbrev pub invariant-loop-change : goal.invariant-loop-change
 invariant-loop-change l =

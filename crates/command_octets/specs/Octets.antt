@@ -9,8 +9,8 @@ use Rattle.r53_model.specs.declared.batches.Batch.{Batch}
 use Rattle.r53_model.specs.declared.batches.Change.{Change}
 use Rattle.set_octets.specs.Octets.{set_octets}
 use Rattle.set_octets.specs.Octets as sets
-use Rattle.command_codec.specs.declared.commands.Command.{Command}
-use Rattle.command_codec.specs.declared.commands.Command.TheVariants as command
+use Rattle.command_octets.specs.declared.commands.Command.{Command}
+use Rattle.command_octets.specs.declared.commands.Command.TheVariants as command
 
 abbrev pub action_number : Action → ℕ
 action_number action.Create = 1

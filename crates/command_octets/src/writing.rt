@@ -3,7 +3,7 @@
 ghost use Rattle.std.specs.Prelude.{◌≡◌, ◌<◌, ◌^◌, ◌∷◌, [], ◌++◌, length, OnOk, IfOk};
 ghost use Rattle.std.specs.List.{AllByRecursion, flat_map};
 ghost use Rattle.dns_name.specs.Labels.{wire};
-ghost use Rattle.command_codec.specs.Octets.{action_number, change_octets, batch_octets, command_octets, HasSpelledSet, IsSpelledBatch, HasSpelling};
+ghost use Rattle.command_octets.specs.Octets.{action_number, change_octets, batch_octets, command_octets, HasSpelledSet, IsSpelledBatch, HasSpelling};
 
 use crate::commands::Command;
 use dns_name::Name;

@@ -1,0 +1,14 @@
+//! The octets of commands, as the journal keeps them: one spelling each.
+//!
+//! Numbers have their highest octet first. No spelling begins another.
+#![tactic(auto)]
+
+mod commands;
+mod spelling;
+mod writing;
+
+pub use commands::Command;
+pub use octets::OutOfMemory;
+pub use r53_model::{Action, Batch, Change, Changes};
+pub use spelling::has_spelling;
+pub use writing::write;

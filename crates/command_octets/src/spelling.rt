@@ -1,0 +1,32 @@
+//! Which commands have a spelling.
+
+ghost use Rattle.std.specs.Prelude.{◌<◌, ◌^◌, length, IsTrue, ◌↔◌};
+ghost use Rattle.std.specs.List.{AllByRecursion};
+ghost use Rattle.command_octets.specs.Octets.{HasSpelledSet, HasSpelling};
+
+use crate::commands::Command;
+use r53_model::Change;
+
+/// Whether a command has a spelling: its changes and their sets are within their bounds.
+pub fn has_spelling(command: &Command) -> bool
+    ensures { IsTrue result ↔ HasSpelling command.now }
+{
+    match command {
+        Command::CreateZone { .. } | Command::DeleteZone(_) => true,
+        Command::Change(batch) => {
+            batch.changes.len() < 1 << 16 && have_spellings(batch.changes.as_slice())
+        }
+    }
+}
+
+/// Whether each set has a spelling.
+fn have_spellings(changes: &[Change]) -> bool
+    ensures { IsTrue result ↔ AllByRecursion HasSpelledSet changes.now }
+{
+    for change in changes {
+        if !set_octets::has_spelling(&change.set) {
+            return false;
+        }
+    }
+    true
+}
