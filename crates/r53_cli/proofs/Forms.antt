@@ -2,11 +2,13 @@
 use Rattle.std.proofs.Common.{◌≡◌, ℕ, ◌<◌, ◌≤◌, List, [], ◌∷◌, length, get_or, map, arith, ap, ◌∙◌, sym, refl, codes, Bool, true, false, not, eqb, subst, Option, Some, None}
 use Rattle.std.specs.Prelude.{IfSome, IfNone}
 use lib.Pointwise.{pointwise}
-use Rattle.std.specs.Net.Grammar.{IsDotted}
 use Rattle.dns_name.specs.Text.{name_of_text}
 use Rattle.r53_cli.specs.declared.once.Once.{Once}
-use Rattle.r53_cli.specs.Once.{IsOnce, IsPlain, Spells, HasNoForm}
-use Rattle.r53_cli.proofs.Numbers.{same_number, one_address}
+use Rattle.rdata.specs.Datum.{Datum}
+use Rattle.rdata.specs.Laws.{OneReading}
+use Rattle.r53_cli.specs.Once.{IsAddress, IsOnce, IsPlain, Spells, HasNoForm}
+use Rattle.r53_cli.proofs.Addresses.{one_address}
+use Rattle.r53_cli.proofs.Numbers.{same_number}
 use Rattle.std.proofs.lemmas.Bool.{false≢true}
 use Rattle.std.proofs.lemmas.Slice.Eq.{bytes_eq-Decides}
 use Rattle.std.specs.List.{All, AllByRecursion}
@@ -62,7 +64,7 @@ module _ (words : List (List ℕ)) (name ttl address : List ℕ) (form : words �
         name_is = ap name_of_text (sym names) ∙ f.spelled.name_is;
         ttl_is = ttls ∙ f.spelled.ttl_is;
         ttl_fits = f.spelled.ttl_fits;
-        address_is = subst (λ t. IsDotted t once.address) addresses f.spelled.address_is;
+        address_is = subst (λ t. IsAddress t once.address) addresses f.spelled.address_is;
       }
 
   pub form_refused : (result : Option Once) → IfNone result ((once : Once) → Spells name ttl address once → ⊥) → IfNone result (HasNoForm words)
@@ -71,13 +73,13 @@ module _ (words : List (List ℕ)) (name ttl address : List ℕ) (form : words �
 
 same_once : (a b : Once) → a.name ≡ b.name → a.ttl ≡ b.ttl → a.address ≡ b.address → a ≡ b
 same_once a b names ttls addresses =
-    let make : List (List ℕ) × ℕ × List ℕ → Once = λ p. record { name = p.0; ttl = p.1; address = p.2 } in
+    let make : List (List ℕ) × ℕ × Datum → Once = λ p. record { name = p.0; ttl = p.1; address = p.2 } in
     let same : (a.name, a.ttl, a.address) ≡ (b.name, b.ttl, b.address) = cc in
     ap make same
 
 -- the words of a run have one reading
-pub one_form : (words : List (List ℕ)) (once other : Once) → IsOnce words once → IsOnce words other → once ≡ other
-one_form words once other x y =
+pub one_form : OneReading → (words : List (List ℕ)) (once other : Once) → IsOnce words once → IsOnce words other → once ≡ other
+one_form law words once other x y =
     let forms : codes "once" ∷ x.name ∷ x.ttl ∷ x.address ∷ [] ≡ codes "once" ∷ y.name ∷ y.ttl ∷ y.address ∷ [] = sym x.form ∙ y.form in
     let names : x.name ≡ y.name = cc in
     let ttls : x.ttl ≡ y.ttl = cc in
@@ -86,5 +88,5 @@ one_form words once other x y =
     let g = y.spelled.ttl_fits in
     let name : once.name ≡ other.name = let n = x.spelled.name_is in let m = ap name_of_text names ∙ y.spelled.name_is in cc in
     let ttl : once.ttl ≡ other.ttl = same_number x.ttl once.ttl other.ttl (omega arith) (omega arith) x.spelled.ttl_is (ttls ∙ y.spelled.ttl_is) in
-    let address = one_address x.address once.address other.address x.spelled.address_is (subst (λ t. IsDotted t other.address) (sym addresses) y.spelled.address_is) in
+    let address = one_address law x.address once.address other.address x.spelled.address_is (subst (λ t. IsAddress t other.address) (sym addresses) y.spelled.address_is) in
     same_once once other name ttl address

@@ -1,3 +1,4 @@
+pub mod Addresses
 pub mod Forms
 pub mod Numbers
 pub mod Responses

@@ -2,9 +2,11 @@
 use Rattle.std.specs.Prelude.{◌≡◌, ◌≢◌, ℕ, ◌^◌, ◌<◌, ◌⊎◌, List, [], ◌∷◌, take, slice_index, codes, true, false, Ok}
 use Rattle.std.specs.List.{All}
 use Rattle.std.specs.Fmt.{decimal}
-use Rattle.std.specs.Net.Grammar.{IsDotted}
 use Rattle.dns_name.specs.Text.{name_of_text}
+use Rattle.value_text.specs.Fields.{is_blank}
 use Rattle.rdata_layout.specs.declared.types.RType.TheVariants.{A}
+use Rattle.rdata.specs.Datum.{Datum}
+use Rattle.rdata.specs.Reading.{Reads}
 use Rattle.dns_message.specs.declared.query.Query.{Query}
 use Rattle.dns_message.specs.declared.query.QueryRead.{QueryRead}
 use Rattle.dns_message.specs.declared.query.QueryRead.TheVariants as read
@@ -17,13 +19,18 @@ use Rattle.r53_cli.specs.declared.once.Once.{Once}
 abbrev pub IsPlain : List ℕ → Type 0
 IsPlain word = slice_index word 0 ≢ 0x2D
 
--- The texts of a record: a name, a number of seconds below 2^31 in decimal digits without leading zeros, and an IPv4
--- address.
+-- An address: a text without a blank that reads as a value of type A.
+pub record IsAddress (text : List ℕ) (address : Datum) : Type 0 where
+  pub whole : All (λ byte. is_blank byte ≡ false) text
+  pub rtype_is : address.rtype ≡ A
+  pub reads : Reads A text (Ok address.wire)
+
+-- The texts of a record: a name, a number of seconds below 2^31 in decimal digits without leading zeros, and an address.
 pub record Spells (name ttl address : List ℕ) (once : Once) : Type 0 where
   pub name_is : name_of_text name ≡ Ok once.name
   pub ttl_is : ttl ≡ decimal once.ttl
   pub ttl_fits : once.ttl < 2 ^ 31
-  pub address_is : IsDotted address once.address
+  pub address_is : IsAddress address once.address
 
 -- The words `once NAME TTL ADDRESS`. No word begins with a hyphen.
 pub record IsOnce (words : List (List ℕ)) (once : Once) : Type 0 where
@@ -61,7 +68,7 @@ answer_of once query = record {
   rcode = 0;
   name = query.name;
   question = question_of query;
-  answers = record { owner = query.name; rtype = A; ttl = once.ttl; rdata = once.address } ∷ [];
+  answers = record { owner = query.name; rtype = once.address.rtype; ttl = once.ttl; rdata = once.address.wire } ∷ [];
   authorities = [];
   additionals = [];
 }

@@ -68,14 +68,14 @@ Ran status.InputTooLong once before after = ReadsTooMuch before after × WritesN
 Ran status.OutOfMemory once before after = after ≡ before
 Ran status.Usage once before after = ⊥
 
--- What a run leaves, by its status. At Usage it has done nothing.
+-- What a run leaves, by its status. At Usage and OutOfMemory it has done nothing.
 abbrev pub Leaves : Status → (words : List (List ℕ)) → (before after : Outside) → Type 0
 Leaves status.Usage words before after = HasNoForm words × (after ≡ before)
 Leaves status.Done words before after = (once : Once) × IsOnce words once × Ran status.Done once before after
 Leaves status.WriteFault words before after = (once : Once) × IsOnce words once × Ran status.WriteFault once before after
 Leaves status.ReadFault words before after = (once : Once) × IsOnce words once × Ran status.ReadFault once before after
 Leaves status.InputTooLong words before after = (once : Once) × IsOnce words once × Ran status.InputTooLong once before after
-Leaves status.OutOfMemory words before after = (once : Once) × IsOnce words once × Ran status.OutOfMemory once before after
+Leaves status.OutOfMemory words before after = after ≡ before
 
 -- A fault is told only where its count rose. The causes of the other statuses stand in what they leave.
 abbrev pub HasCause : Status → (input_before input_now output_before output_now : ℕ) → Type 0
@@ -89,3 +89,7 @@ HasCause status.InputTooLong input_before input_now output_before output_now = �
 -- the run did what it was asked, or found no memory
 abbrev pub IsServed : Status → Type 0
 IsServed result = (result ≡ status.Done) ⊎ (result ≡ status.OutOfMemory)
+
+-- words of no form: the run says so, or finds no memory to read them
+abbrev pub IsRefused : Status → Type 0
+IsRefused result = (result ≡ status.Usage) ⊎ (result ≡ status.OutOfMemory)

@@ -4,6 +4,7 @@ use dns_message::rcode::REFUSED;
 use dns_message::{Query, QueryRead, read_query};
 use dns_name::Name;
 use dns_wire::{RType, Reply, Section};
+use rdata::RData;
 
 /// The number of class IN (RFC 1035, 3.2.4).
 const IN: u16 = 1;
@@ -12,14 +13,14 @@ const IN: u16 = 1;
 const LIMIT: usize = 512;
 
 /// The one record that a run of `once` has, of type A and class IN.
-#[derive(Clone, Copy)]
+#[derive(Drop)]
 pub struct Once {
     /// The owner.
     pub name: Name,
     /// The time to live, in seconds.
     pub ttl: u32,
-    /// The address, in network order.
-    pub address: [u8; 4],
+    /// The address, a value of type A.
+    pub address: RData,
 }
 
 impl Once {
@@ -54,9 +55,9 @@ impl Once {
             reply.record(
                 Section::Answer,
                 &query.name,
-                RType::A,
+                self.address.rtype(),
                 self.ttl,
-                &self.address,
+                self.address.wire(),
             );
             reply.finish(true, 0, LIMIT)
         } else {

@@ -1,8 +1,8 @@
-ghost use Rattle.std.specs.Prelude.{◌≡◌, ℕ, ◌<◌, List, Some, length, IfOk, OnErr, map, ◌↔◌};
+ghost use Rattle.std.specs.Prelude.{◌≡◌, ℕ, ◌<◌, List, Some, length, IfOk, OnErr, map};
 ghost use Rattle.std.specs.String.{string_bytes};
 ghost use Rattle.octets.specs.Counts.{Rose};
 ghost use Rattle.r53_cli.specs.Once.{HasForm, HasNoForm};
-ghost use Rattle.r53_cli.specs.Run.{Leaves, Ran, Responds, HasCause, IsServed};
+ghost use Rattle.r53_cli.specs.Run.{Leaves, Ran, Responds, HasCause, IsRefused, IsServed};
 ghost use Rattle.r53_cli.specs.Streams.{input_limit};
 
 use crate::intake::{Incoming, PACKET_LEN, take_packet};
@@ -19,8 +19,9 @@ use std::alloc::Global;
 ///
 /// `once NAME TTL ADDRESS` reads one packet from `input`, and writes the reply to `out`.
 pub fn run<S: Source, K: Sink>(alloc: Global, args: &[String], input: &mut S, out: &mut K) -> Status
-    // Usage comes exactly where the words are no form of the program.
-    ensures usage { result ≡ Status.Usage ↔ HasNoForm (map string_bytes args.now) }
+    // Usage comes where the words are no form of the program, and there alone; only want of memory comes before it.
+    ensures usage { result ≡ Status.Usage → HasNoForm (map string_bytes args.now) }
+    ensures refused { HasNoForm (map string_bytes args.now) → IsRefused result }
 
     // What is read and written, by the status.
     ensures leaves { Leaves result (map string_bytes args.now)
@@ -38,8 +39,10 @@ pub fn run<S: Source, K: Sink>(alloc: Global, args: &[String], input: &mut S, ou
         → (Rose (K.faults out.old) (K.faults out.new) → ⊥)
         → IsServed result }
 {
-    let Some(once) = once_of(args) else {
-        return Status::Usage;
+    let once = match once_of(alloc, args) {
+        Ok(Some(once)) => once,
+        Ok(None) => return Status::Usage,
+        Err(OutOfMemory) => return Status::OutOfMemory,
     };
     match run_once(alloc, &once, input, out) {
         Ok(status) => status,

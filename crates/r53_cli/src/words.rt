@@ -1,31 +1,35 @@
-ghost use Rattle.std.specs.Prelude.{◌≡◌, ◌≢◌, ℕ, ◌^◌, ◌<◌, List, map, IfSome, IfNone, IsTrue, ◌↔◌, slice_index};
+ghost use Rattle.std.specs.Prelude.{◌≡◌, ◌≢◌, ℕ, ◌^◌, ◌<◌, List, map, false, IfOk, IfSome, IfNone, IsTrue, ◌↔◌, slice_index};
 ghost use Rattle.std.specs.List.{All};
 ghost use Rattle.std.specs.String.{string_bytes};
 ghost use Rattle.std.specs.Fmt.{decimal};
 ghost use Rattle.dns_name.specs.Text.{name_of_text};
-ghost use Rattle.r53_cli.specs.Once.{IsOnce, IsPlain, Spells, HasNoForm};
+ghost use Rattle.value_text.specs.Fields.{is_blank};
+ghost use Rattle.rdata.specs.Datum.{Datum};
+ghost use Rattle.r53_cli.specs.Once.{IsAddress, IsOnce, IsPlain, Spells, HasNoForm};
 ghost use Rattle.r53_cli.specs.Words.{IsUnpadded};
 ghost use Rattle.r53_cli.specs.declared.once.Once.{Once};
 
 use crate::once::Once;
-use address_text::read_ipv4;
 use dns_name::Name;
+use octets::OutOfMemory;
+use rdata::{RData, RType, ValueFault, one_reading};
+use std::alloc::Global;
 
-/// The record of the words `once NAME TTL ADDRESS`.
-pub(crate) fn once_of(words: &[String]) -> Option<Once>
-    ensures some { IfSome result (IsOnce (map string_bytes words.now)) }
-    ensures none { IfNone result (HasNoForm (map string_bytes words.now)) }
+/// The record of the words `once NAME TTL ADDRESS`, or none where the words are of no form.
+pub(crate) fn once_of(alloc: Global, words: &[String]) -> Result<Option<Once>, OutOfMemory>
+    ensures some { IfOk result (λ found. IfSome found (IsOnce (map string_bytes words.now))) }
+    ensures none { IfOk result (λ found. IfNone found (HasNoForm (map string_bytes words.now))) }
 {
     if !are_plain(words) {
-        return None;
+        return Ok(None);
     }
     let [form, name, ttl, address] = words else {
-        return None;
+        return Ok(None);
     };
     if form.as_str() != "once" {
-        return None;
+        return Ok(None);
     }
-    record(name.as_str(), ttl.as_str(), address.as_str())
+    record(alloc, name.as_str(), ttl.as_str(), address.as_str())
 }
 
 /// Whether no word is an option.
@@ -42,21 +46,55 @@ fn is_plain(word: &str) -> bool
     word.as_bytes().first() != Some(&b'-')
 }
 
-/// The record of a name, a number of seconds and an address.
-fn record(name: &str, ttl: &str, address: &str) -> Option<Once>
-    ensures some { IfSome result (Spells name.now ttl.now address.now) }
-    ensures none { IfNone result ((once : Once) → Spells name.now ttl.now address.now once → ⊥) }
+/// The record of a name, a number of seconds and an address, or none where one of them is not of its form.
+fn record(alloc: Global, name: &str, ttl: &str, address: &str) -> Result<Option<Once>, OutOfMemory>
+    ensures some { IfOk result (λ found. IfSome found (Spells name.now ttl.now address.now)) }
+    ensures none { IfOk result (λ found. IfNone found ((once : Once) → Spells name.now ttl.now address.now once → ⊥)) }
 {
     let Some(name) = name_of(name.as_bytes()) else {
-        return None;
+        return Ok(None);
     };
     let Some(ttl) = seconds(ttl) else {
-        return None;
+        return Ok(None);
     };
-    let Some(address) = read_ipv4(address.as_bytes()) else {
-        return None;
-    };
-    Some(Once { name, ttl, address })
+    match address_of(alloc, address.as_bytes()) {
+        Ok(Some(address)) => Ok(Some(Once { name, ttl, address })),
+        Ok(None) => Ok(None),
+        Err(OutOfMemory) => Err(OutOfMemory),
+    }
+}
+
+/// The address of a text, a value of type A without blanks around it, or none.
+fn address_of(alloc: Global, text: &[u8]) -> Result<Option<RData>, OutOfMemory>
+    ensures some { IfOk result (λ found. IfSome found (IsAddress text.now)) }
+    ensures none { IfOk result (λ found. IfNone found ((address : Datum) → IsAddress text.now address → ⊥)) }
+{
+    if !is_whole(text) {
+        return Ok(None);
+    }
+    one_reading();
+    match RData::from_text(alloc, RType::A, text) {
+        Ok(address) => Ok(Some(address)),
+        Err(ValueFault::OutOfMemory) => Err(OutOfMemory),
+        Err(ValueFault::BadField(_)) => Ok(None),
+        Err(ValueFault::MissingField(_)) => Ok(None),
+        Err(ValueFault::SurplusField(_)) => Ok(None),
+        Err(ValueFault::TooLong) => Ok(None),
+    }
+}
+
+/// Whether a text has no blank.
+fn is_whole(text: &[u8]) -> bool
+    ensures { IsTrue result ↔ All (λ byte. is_blank byte ≡ false) text.now }
+{
+    text.iter().all(|byte| is_no_blank(*byte))
+}
+
+/// Whether a byte is neither a space nor a tab.
+fn is_no_blank(byte: u8) -> bool
+    ensures { IsTrue result ↔ (is_blank byte ≡ false) }
+{
+    byte != b' ' && byte != b'\t'
 }
 
 /// The name of a text.

@@ -1,6 +1,7 @@
-use Rattle.std.proofs.Common.{refl, ap, ◌∙◌, inl, inr}
+use Rattle.std.proofs.Common.{List, [], ◌∷◌, ℕ, refl, ap, ◌∙◌, inl, inr}
+use Rattle.rdata_layout.specs.declared.types.RType.{RType}
 use Rattle.dns_wire.specs.Message.{wire}
-use Rattle.r53_cli.specs.Once.{refusal_of}
+use Rattle.r53_cli.specs.Once.{answer_of, refusal_of}
 use Rattle.r53_cli.proofs.once.Once.reply_to.Goals as goal
 
 pub finish-requires-clause-begun : goal.finish-requires-clause-begun
@@ -8,7 +9,13 @@ finish-requires-clause-begun c = (_, c.record.ensures.stands _ c.begin.ensures.s
 
 pub returns-then-is_asked-clause-replied : goal.returns-then-is_asked-clause-replied
 returns-then-is_asked-clause-replied c =
-    inl (c.is_asked.ensures.0 c.if-is_asked.true, c.finish.ensures.bytes _ (c.record.ensures.stands _ c.begin.ensures.stands (refl, refl)))
+    let answer : RType → List ℕ → List ℕ = λ rtype octets.
+    wire (record (answer_of c.args.self.now c.args.query.now) { answers = record { owner = c.args.query.now.name; rtype = rtype; ttl = c.args.self.now.ttl; rdata = octets } ∷ [] }) 512 in
+    let written = c.finish.ensures.bytes _ (c.record.ensures.stands _ c.begin.ensures.stands (refl, refl)) in
+    inl (
+      c.is_asked.ensures.0 c.if-is_asked.true,
+      written ∙ (ap (λ (rtype : RType). answer rtype c.wire.result.now) c.rtype.ensures ∙ ap (λ (octets : List ℕ). answer c.args.self.now.address.rtype octets) c.wire.ensures.octets),
+    )
 
 pub returns-else-is_asked-clause-replied : goal.returns-else-is_asked-clause-replied
 returns-else-is_asked-clause-replied c =
