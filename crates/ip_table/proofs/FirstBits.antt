@@ -1,7 +1,10 @@
 -- Numbers of 128 bits, by their first bits.
-use Rattle.std.proofs.Common.{◌≡◌, ℕ, ◌+◌, ◌-◌, ◌*◌, ◌/◌, ◌%◌, ◌^◌, ◌<◌, ◌≤◌, ◌↔◌, sym, ap, ◌∙◌, subst, inl, inr, arith, bit_xor}
-use Rattle.std.proofs.lemmas.Nat.{xor_shr, xor_lt, leading_length, shr-shr, shr_split, mod_below, pow_pos, div_below, pow-add}
+use Rattle.std.proofs.Common.{◌≡◌, ℕ, zero, suc, cond, not, min, nat_eq, bit_and, ◌+◌, ◌-◌, ◌*◌, ◌/◌, ◌%◌, ◌^◌, ◌<◌, ◌≤◌, ◌↔◌, sym, ap, ◌∙◌, subst, inl, inr, arith, bit_xor}
+use Rattle.std.specs.Int.{bit_at}
+use Rattle.std.proofs.lemmas.Nat.{xor_shr, xor_lt, leading_length, shr-shr, shl-shr, shr_split, mod_below, pow_pos, div_below, pow-add}
 use Rattle.std.proofs.lemmas.Bool.{cases_lt}
+use Rattle.std.proofs.lemmas.Bool.Decides.{nat_tests}
+use Rattle.std.proofs.lemmas.Nat.Bits.{and_pow, bit_at-lt}
 use Rattle.std.proofs.Math.Nat.{pow-le-pow_right, mul_assoc, mul-add-div_right, add_left_cancel}
 use lib.Bits.{xor_assoc, xor_self, xor_zero_r, xor_zero_l}
 use lib.Count.{count_leading_zeros}
@@ -85,6 +88,16 @@ in_window d m a low few =
     let parts : x ≡ x / 2 ^ 32 * 2 ^ m * 2 ^ k + x % 2 ^ 32 = sym (ap (λ q. q + x % 2 ^ 32) (mul_assoc (x / 2 ^ 32) (2 ^ m) (2 ^ k) ∙ ap (λ p. x / 2 ^ 32 * p) powers) ∙ shr_split x 32) in
     up ∙ ap (λ y. y / 2 ^ k) parts ∙ mul-add-div_right {m = 2 ^ k} (pow_pos k) (x / 2 ^ 32 * 2 ^ m) (x % 2 ^ 32) ∙ ap (λ q. q * 2 ^ m + window d a / 2 ^ k) front
 
+-- two addresses that share the first d bits and the 32 behind those
+pub same_windows : (d n : ℕ) (a b : IpAddress) → d ≤ 96 → first_bits d a ≡ first_bits d b → window d a ≡ window d b → n ≤ d + 32 → first_bits n a ≡ first_bits n b
+same_windows d n a b low same e h =
+    fewer n (d + 32) a b h
+    (in_window d 32 a low (omega arith) ∙ ap (λ q. q * 2 ^ 32 + window d a / 2 ^ (32 - 32)) same ∙ ap (λ w. first_bits d b * 2 ^ 32 + w / 2 ^ (32 - 32)) e ∙ sym (in_window d 32 b low (omega arith)))
+
+-- no bits
+pub no_bits : (a b : IpAddress) → number_of a < 2 ^ 128 → number_of b < 2 ^ 128 → first_bits 0 a ≡ first_bits 0 b
+no_bits a b x y = gone (number_of a) 128 x ∙ sym (gone (number_of b) 128 y)
+
 -- two addresses that share the first d bits and differ in the 32 behind those
 module _ (d : ℕ) (a b : IpAddress) (low : d ≤ 96) (same : first_bits d a ≡ first_bits d b) (differ : window d a ≡ window d b → ⊥)
     (r : ℕ) (is : (m : ℕ) → m ≤ 32 → (d + m ≤ r ↔ (window d a / 2 ^ (32 - m) ≡ window d b / 2 ^ (32 - m)))) where
@@ -118,3 +131,24 @@ module _ (d : ℕ) (a b : IpAddress) (low : d ≤ 96) (same : first_bits d a ≡
       | inr over ↦ (λ h. absurd (at_most (omega arith)), λ e. absurd (beyond n over e))
     ]
   ]
+
+-- the highest of 128 bits, moved down
+top_bit : (m : ℕ) → m ≤ 127 → 2 ^ 127 / 2 ^ m ≡ 2 ^ (127 - m)
+top_bit m low =
+    let whole : 127 - m + m ≡ 127 = omega arith in
+    subst (λ k. 2 ^ k / 2 ^ m ≡ 2 ^ (127 - m)) whole (ap (λ x. x / 2 ^ m) (pow-add 2 (127 - m) m) ∙ shl-shr (2 ^ (127 - m)) m)
+
+flag : (b p : ℕ) → b < 2 → 0 < p → cond (not (nat_eq (b * p) 0)) 1 0 ≡ b
+flag zero p low some = let none : 0 * p ≡ 0 = omega arith in ap (λ x. cond (not (nat_eq x 0)) 1 0) none
+flag (suc zero) p low some = grind (arith, nat_tests)
+flag (suc (suc b)) p low some = absurd (omega arith)
+
+-- a mask of one bit tells the bit behind the first ones
+pub masked : (a : IpAddress) (d m : ℕ) → m ≡ min d 127 → cond (not (nat_eq (bit_and (number_of a) (2 ^ 127 / 2 ^ m)) 0)) 1 0 ≡ bit_behind d a
+masked a d m is =
+    let k = 127 - m in
+    let place : k ≡ 128 - (d + 1) = omega (arith, is) in
+    ap (λ x. cond (not (nat_eq (bit_and (number_of a) x) 0)) 1 0) (top_bit m (omega (arith, is)))
+    ∙ ap (λ x. cond (not (nat_eq x 0)) 1 0) (and_pow (number_of a) k)
+    ∙ flag (bit_at (number_of a) k) (2 ^ k) (bit_at-lt (number_of a) k) (pow_pos k)
+    ∙ ap (λ j. number_of a / 2 ^ j % 2) place

@@ -1,14 +1,12 @@
 -- One more prefix at the end of the list.
-use Rattle.std.proofs.Common.{◌≡◌, ◌≢◌, ℕ, ◌+◌, ◌*◌, ◌<◌, ◌≤◌, List, [], ◌∷◌, ◌++◌, length, refl, sym, ap, ◌∙◌, subst, inl, inr, arith, take, zero, suc, length-append}
+use Rattle.std.proofs.Common.{◌≡◌, ◌≢◌, ℕ, ◌+◌, ◌*◌, ◌<◌, ◌≤◌, List, [], ◌∷◌, ◌++◌, length, refl, sym, ap, ◌∙◌, subst, inl, inr, arith, length-append}
 use Rattle.std.specs.List.{zip}
 use Rattle.std.proofs.lemmas.Bool.{cases_lt}
-use Rattle.std.proofs.lemmas.Bool.Decides.{nat_tests}
 use Rattle.std.proofs.lemmas.List.{get_or_append_left, get_or_push}
-use Rattle.r53_io.specs.declared.address.IpAddress.{IpAddress}
 use Rattle.ip_table.specs.declared.tree.Node.{Node}
 use Rattle.ip_table.specs.Bits.{width_of, first_bits}
 use Rattle.ip_table.specs.Prefixes.{Prefix, IsPrefix}
-use Rattle.ip_table.specs.Trees.{prefix_at, node_at, here, stem, window, Begins, Leads, IsChild, IsTree, Stands, AllStand, AllPrefixes, AreApart, HasPrefix, kin}
+use Rattle.ip_table.specs.Trees.{prefix_at, node_at, here, window, IsChild, IsTree, AllStand, AllPrefixes, AreApart, HasPrefix}
 
 module _ (ps : List Prefix) (p : Prefix) (new : List Prefix) (is : new ≡ ps ++ p ∷ []) where
   pub longer : length new ≡ length ps + 1
@@ -52,76 +50,43 @@ module _ (ps : List Prefix) (p : Prefix) (new : List Prefix) (is : new ≡ ps ++
     kids : (i bit k : ℕ) → i < length nodes → IsChild ps nodes i bit k → IsChild new nodes i bit k
     kids i bit k h kid = record {
       within = kid.within;
-      depth = kid.depth;
+      deeper = kid.deeper;
+      told = kid.told;
+      start = kid.start;
       bits = ap (λ (q : Prefix). first_bits ((node_at nodes i).depth + 1) q.address) (same_here k kid.within) ∙ kid.bits
           ∙ ap (λ (q : Prefix). 2 * first_bits (node_at nodes i).depth q.address + bit) (sym (same_here i h));
     }
 
-    begins_on : (a : IpAddress) → 0 < length nodes → Begins ps nodes a → Begins new nodes a
-    begins_on a some b = ap (λ (q : Prefix). first_bits (stem nodes) q.address) (same_here 0 some) ∙ b
-
-    -- a row of the family must begin as all others do
-    pub tree_on : (0 < length nodes → width_of p.address ≡ width → Begins ps nodes p.address) → IsTree new nodes width
-    tree_on begins = record {
-      low = tree.low;
-      begin = λ some r h family. elim (cases_lt r (length ps)) [
-        | inl old ↦ subst (λ (q : Prefix). Begins new nodes q.address) (sym (before r old)) (begins_on _ some (tree.begin some r old (ap (λ (q : Prefix). width_of q.address) (sym (before r old)) ∙ family)))
-        | inr over ↦
-            let is_last = last_at r h over in
-            subst (λ (q : Prefix). Begins new nodes q.address) (sym is_last) (begins_on _ some (begins some (ap (λ (q : Prefix). width_of q.address) (sym is_last) ∙ family)))
-      ];
+    pub tree_on : IsTree new nodes width
+    tree_on = record {
+      root = tree.root;
+      begin = tree.begin;
       each = λ i h. let node = tree.each i h in record {
         row = omega (arith, node.row, longer);
         family = ap (λ (q : Prefix). width_of q.address) (same_here i h) ∙ node.family;
         depth = omega (arith, node.depth, ap (λ (q : Prefix). q.length) (same_here i h));
         long = node.long ∙ ap (λ (q : Prefix). q.length) (sym (same_here i h));
-        behind = node.behind ∙ ap (λ (q : Prefix). window (stem nodes) q.address) (sym (same_here i h));
+        low = node.low;
+        behind = node.behind ∙ ap (λ (q : Prefix). window (node_at nodes i).start q.address) (sym (same_here i h));
         children = λ bit low some. kids i bit _ h (node.children bit low some);
       };
       apart = tree.apart;
     }
 
-    stands_on : (d r : ℕ) → r < length ps → Stands ps nodes d r → Stands new nodes d r
-    stands_on d r h s = record { depth = s.depth; at = s.at; below = s.below; leads = subst (λ (q : Prefix). Leads nodes q.address s.depth s.at) (sym (before r h)) s.leads; is = s.is }
-
+  module _ (nodes : List Node) (width : ℕ) where
     -- all rows but the last stand as before
     pub others_on : AllStand ps nodes width (length ps) → AllStand new nodes width (length ps)
     others_on all r h family ne = elim (cases_lt r (length ps)) [
-      | inl old ↦ stands_on 0 r old (all r old (ap (λ (q : Prefix). width_of q.address) (sym (before r old)) ∙ family) ne)
+      | inl old ↦ all r old (ap (λ (q : Prefix). width_of q.address) (sym (before r old)) ∙ family) ne
       | inr over ↦ absurd (ne (sym (end r h over)))
     ]
 
     -- a row of another family changes nothing
     pub all_stand_on : width_of p.address ≢ width → AllStand ps nodes width (length ps) → AllStand new nodes width (length new)
     all_stand_on other all r h family ne = elim (cases_lt r (length ps)) [
-      | inl old ↦ stands_on 0 r old (all r old (ap (λ (q : Prefix). width_of q.address) (sym (before r old)) ∙ family) (λ e. absurd (omega arith)))
+      | inl old ↦ all r old (ap (λ (q : Prefix). width_of q.address) (sym (before r old)) ∙ family) (λ e. absurd (omega arith))
       | inr over ↦ absurd (other (ap (λ (q : Prefix). width_of q.address) (sym last) ∙ ap (λ k. width_of (prefix_at new k).address) (end r h over) ∙ family))
     ]
-
-kin_push : (width : ℕ) (ps : List Prefix) (p : Prefix) → kin width (ps ++ p ∷ []) ≡ kin width ps + kin width (p ∷ [])
-kin_push width [] p = omega arith
-kin_push width (q ∷ ps) p = omega (arith, kin_push width ps p)
-
--- one more row of the family
-pub kin_more : (width : ℕ) (ps : List Prefix) (p : Prefix) (new : List Prefix) → new ≡ ps ++ p ∷ [] → width_of p.address ≡ width → kin width new ≡ kin width ps + 1
-kin_more width ps p new is e =
-    let one : kin width (p ∷ []) ≡ 1 = grind (arith, nat_tests) in
-    omega (arith, ap (kin width) is, kin_push width ps p, one)
-
--- one more of another
-pub kin_same : (width : ℕ) (ps : List Prefix) (p : Prefix) (new : List Prefix) → new ≡ ps ++ p ∷ [] → (width_of p.address ≡ width → ⊥) → kin width new ≡ kin width ps
-kin_same width ps p new is other =
-    let none : kin width (p ∷ []) ≡ 0 = grind (arith, nat_tests) in
-    omega (arith, ap (kin width) is, kin_push width ps p, none)
-
-pub kin_take : (width n : ℕ) (ps : List Prefix) → kin width (take n ps) ≤ kin width ps
-kin_take width zero ps = omega arith
-kin_take width (suc n) [] = omega arith
-kin_take width (suc n) (p ∷ ps) = omega (arith, kin_take width n ps)
-
-pub kin_few : (width : ℕ) (ps : List Prefix) → kin width ps ≤ length ps
-kin_few width [] = omega arith
-kin_few width (p ∷ ps) = grind (arith, kin_few width ps)
 
 -- prefixes and values side by side, with one more of both
 pub zip_push : {V : Type 0} → (ps : List Prefix) (vs : List V) (p : Prefix) (v : V) → length vs ≡ length ps → zip (ps ++ p ∷ []) (vs ++ v ∷ []) ≡ zip ps vs ++ (p, v) ∷ []

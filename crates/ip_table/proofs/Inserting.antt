@@ -1,5 +1,5 @@
 -- A table with one more row.
-use Rattle.std.proofs.Common.{◌≡◌, Bool, IsTrue, false, ◌↔◌, ℕ, ◌+◌, ◌<◌, List, [], ◌∷◌, ◌++◌, length, sym, ap, ◌∙◌, subst, arith}
+use Rattle.std.proofs.Common.{◌≡◌, Bool, IsTrue, false, ◌↔◌, ℕ, ◌+◌, ◌<◌, ◌≤◌, List, [], ◌∷◌, ◌++◌, length, sym, ap, ◌∙◌, subst, arith}
 use Rattle.std.specs.List.{zip}
 use Rattle.std.proofs.lemmas.Bool.{false≢true}
 use Rattle.std.proofs.lemmas.Slice.Zip.{length-zip}
@@ -8,8 +8,8 @@ use Rattle.ip_table.specs.Bits.{width_of}
 use Rattle.ip_table.specs.Prefixes.{Prefix, IsPrefix}
 use Rattle.ip_table.specs.Rows.{HasRow}
 use Rattle.ip_table.specs.Tables.{IsTable}
-use Rattle.ip_table.specs.Trees.{HasPrefix, IsTree, AllStand, kin}
-use Rattle.ip_table.proofs.Growth.{longer, all_prefixes, are_apart, tree_on, all_stand_on, zip_push, kin_same}
+use Rattle.ip_table.specs.Trees.{HasPrefix, IsTree, AllStand, IsGrown}
+use Rattle.ip_table.proofs.Growth.{longer, all_prefixes, are_apart, tree_on, all_stand_on, zip_push}
 use Rattle.ip_table.proofs.Located.{has_row}
 
 module _ {V : Type 0} (ps : List Prefix) (vs : List V) (rows : List (Prefix × V)) (long : length vs ≡ length ps) (is : zip ps vs ≡ rows) where
@@ -31,31 +31,31 @@ module _ {V : Type 0} (ps : List Prefix) (vs : List V) (rows : List (Prefix × V
 
 module _ (ps : List Prefix) (count : ℕ) (n4 n6 : List Node) (t : IsTable ps count n4 n6) (p : Prefix) (prefix : IsPrefix p.address p.length)
     (absent : HasPrefix ps p → ⊥) (room : length ps < 100000) (qs : List Prefix) (is : qs ≡ ps ++ p ∷ []) (now : ℕ) (more : now ≡ count + 1)
-    (new : List Node) (tree : IsTree qs new (width_of p.address)) (all : AllStand qs new (width_of p.address) (length qs)) where
-  pub table_v4 : width_of p.address ≡ 32 → length new ≡ kin (width_of p.address) qs → IsTable qs now new n6
-  table_v4 family grew = record {
+    (new : List Node) (before : ℕ) (grown : IsGrown qs new (width_of p.address) before) (fewer : before ≤ length ps) where
+  pub table_v4 : width_of p.address ≡ 32 → IsTable qs now new n6
+  table_v4 family = record {
     prefixes = all_prefixes ps p qs is t.prefixes prefix;
     apart = are_apart ps p qs is t.apart absent;
     few = omega (arith, longer ps p qs is);
     values = omega (arith, longer ps p qs is, t.values);
-    v4 = subst (λ w. IsTree qs new w) family tree;
-    v6 = tree_on ps p qs is n6 128 t.v6 (λ some e. absurd (omega (arith, e, family)));
-    all_v4 = subst (λ w. AllStand qs new w (length qs)) family all;
-    all_v6 = all_stand_on ps p qs is n6 128 t.v6 (λ e. absurd (omega (arith, e, family))) t.all_v6;
-    few_v4 = grew ∙ ap (λ w. kin w qs) family;
-    few_v6 = t.few_v6 ∙ sym (kin_same 128 ps p qs is (λ e. absurd (omega (arith, e, family))));
+    v4 = subst (λ w. IsTree qs new w) family grown.tree;
+    v6 = tree_on ps p qs is n6 128 t.v6;
+    all_v4 = subst (λ w. AllStand qs new w (length qs)) family grown.all;
+    all_v6 = all_stand_on ps p qs is n6 128 (λ e. absurd (omega (arith, e, family))) t.all_v6;
+    few_v4 = omega (arith, grown.long, fewer, longer ps p qs is);
+    few_v6 = omega (arith, t.few_v6, longer ps p qs is);
   }
 
-  pub table_v6 : width_of p.address ≡ 128 → length new ≡ kin (width_of p.address) qs → IsTable qs now n4 new
-  table_v6 family grew = record {
+  pub table_v6 : width_of p.address ≡ 128 → IsTable qs now n4 new
+  table_v6 family = record {
     prefixes = all_prefixes ps p qs is t.prefixes prefix;
     apart = are_apart ps p qs is t.apart absent;
     few = omega (arith, longer ps p qs is);
     values = omega (arith, longer ps p qs is, t.values);
-    v4 = tree_on ps p qs is n4 32 t.v4 (λ some e. absurd (omega (arith, e, family)));
-    v6 = subst (λ w. IsTree qs new w) family tree;
-    all_v4 = all_stand_on ps p qs is n4 32 t.v4 (λ e. absurd (omega (arith, e, family))) t.all_v4;
-    all_v6 = subst (λ w. AllStand qs new w (length qs)) family all;
-    few_v4 = t.few_v4 ∙ sym (kin_same 32 ps p qs is (λ e. absurd (omega (arith, e, family))));
-    few_v6 = grew ∙ ap (λ w. kin w qs) family;
+    v4 = tree_on ps p qs is n4 32 t.v4;
+    v6 = subst (λ w. IsTree qs new w) family grown.tree;
+    all_v4 = all_stand_on ps p qs is n4 32 (λ e. absurd (omega (arith, e, family))) t.all_v4;
+    all_v6 = subst (λ w. AllStand qs new w (length qs)) family grown.all;
+    few_v4 = omega (arith, t.few_v4, longer ps p qs is);
+    few_v6 = omega (arith, grown.long, fewer, longer ps p qs is);
   }

@@ -5,7 +5,6 @@ pub mod Octets
 pub mod Inserting
 pub mod Located
 pub mod Placing
-pub mod Regrowing
 pub mod Scopes
 pub mod Sightings
 pub mod Sums

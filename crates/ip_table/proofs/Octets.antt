@@ -54,6 +54,11 @@ front x a = record { long = omega (arith, length-take 8 x, a.long); each = each 
 back : (x : List ℕ) → AreOctets 16 x → AreOctets 8 (drop 8 x)
 back x a = record { long = omega (arith, length-drop 8 x, a.long); each = λ i. subst (λ n. n < 256) (sym (get_or-drop 8 x i 0)) (a.each (8 + i)) }
 
+pub number_low : (a : IpAddress) → IsAddress a → number_of a < 2 ^ 128
+unfolding number_of
+number_low (V4 x) a = omega (arith, a.each 0, a.each 1, a.each 2, a.each 3)
+number_low (V6 x) a = omega (arith, in_halves x, below_64 (take 8 x) (front x a), below_64 (drop 8 x) (back x a))
+
 same_16 : (x y : List ℕ) → AreOctets 16 x → AreOctets 16 y → from_be_bytes w128 x ≡ from_be_bytes w128 y → x ≡ y
 same_16 x y a b e =
     let parts = same_from_place (from_be_bytes w64 (take 8 x)) (from_be_bytes w64 (drop 8 x)) (from_be_bytes w64 (take 8 y)) (from_be_bytes w64 (drop 8 y)) (2 ^ 64)

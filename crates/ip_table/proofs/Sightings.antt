@@ -4,10 +4,9 @@ use Rattle.std.proofs.lemmas.Bool.{cases_lt}
 use Rattle.r53_io.specs.declared.address.IpAddress.{IpAddress}
 use Rattle.ip_table.specs.declared.tree.Seen.{Seen}
 use Rattle.ip_table.specs.Bits.{width_of, first_bits, SharesFirst}
-use Rattle.ip_table.specs.Prefixes.{Prefix, IsPrefix, Covers}
+use Rattle.ip_table.specs.Prefixes.{Prefix, Covers}
 use Rattle.ip_table.specs.Trees.{prefix_at, IsSound, IsDone, HasLength}
 use Rattle.ip_table.proofs.FirstBits.{shares_fewer}
-use Rattle.ip_table.proofs.Walks.{width_low}
 
 module _ (prefixes : List Prefix) (a : IpAddress) (old new : Seen) where
   -- more bits are not shared
@@ -30,13 +29,18 @@ module _ (prefixes : List Prefix) (a : IpAddress) (old new : Seen) where
   }
 
   -- a row that is longer than what it shares with the address
-  pub sound_row : (row shared : ℕ) → row < length prefixes → IsPrefix (prefix_at prefixes row).address (prefix_at prefixes row).length
-      → width_of (prefix_at prefixes row).address ≡ width_of a
-      → ((n : ℕ) → n ≤ 128 → (n ≤ shared ↔ (first_bits n (prefix_at prefixes row).address ≡ first_bits n a))) → shared < (prefix_at prefixes row).length
+  pub sound_row : (row shared : ℕ) → row < length prefixes → width_of (prefix_at prefixes row).address ≡ width_of a
+      → ((n : ℕ) → n ≤ (prefix_at prefixes row).length → (n ≤ shared ↔ (first_bits n (prefix_at prefixes row).address ≡ first_bits n a))) → shared < (prefix_at prefixes row).length
       → new.found ≡ old.found → new.long ≡ old.long → new.past ≡ max old.past (shared + 1) → IsSound prefixes a old → IsSound prefixes a new
-  sound_row row shared h prefix family same short found long past s =
-      let low : (prefix_at prefixes row).length ≤ 128 = omega (arith, prefix.within, width_low (prefix_at prefixes row).address) in
+  sound_row row shared h family same short found long past s =
       sound_past (shared + 1) row h
-      (λ c. absurd (omega (arith, (same (prefix_at prefixes row).length low).1 c.bits)))
+      (λ c. absurd (omega (arith, (same (prefix_at prefixes row).length (omega arith)).1 c.bits)))
       (λ n less. record { family = family; bits = (same n (omega arith)).0 (omega arith) })
       found long past s
+
+  pub done_row : (row shared : ℕ) → ((n : ℕ) → n ≤ (prefix_at prefixes row).length → (n ≤ shared ↔ (first_bits n (prefix_at prefixes row).address ≡ first_bits n a)))
+      → shared < (prefix_at prefixes row).length → new.past ≡ max old.past (shared + 1) → IsDone prefixes a new row
+  done_row row shared same short past = record {
+    covers = λ c. absurd (omega (arith, (same (prefix_at prefixes row).length (omega arith)).1 c.bits));
+    apart = λ n s. omega (arith, (same (shared + 1) (omega arith)).1 (shares_fewer (shared + 1) new.past _ a (omega (arith, past)) s).bits);
+  }

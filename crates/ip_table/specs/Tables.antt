@@ -2,7 +2,7 @@
 use Rattle.std.specs.Prelude.{◌≡◌, ℕ, ◌≤◌, List, length}
 use Rattle.ip_table.specs.declared.tree.Node.{Node}
 use Rattle.ip_table.specs.Prefixes.{Prefix}
-use Rattle.ip_table.specs.Trees.{AllPrefixes, AreApart, IsTree, AllStand, kin}
+use Rattle.ip_table.specs.Trees.{AllPrefixes, AreApart, IsTree, AllStand}
 
 pub record IsTable (ps : List Prefix) (count : ℕ) (n4 n6 : List Node) : Type 0 where
   pub prefixes : AllPrefixes ps
@@ -13,5 +13,5 @@ pub record IsTable (ps : List Prefix) (count : ℕ) (n4 n6 : List Node) : Type 0
   pub v6 : IsTree ps n6 128
   pub all_v4 : AllStand ps n4 32 (length ps)
   pub all_v6 : AllStand ps n6 128 (length ps)
-  pub few_v4 : length n4 ≡ kin 32 ps
-  pub few_v6 : length n6 ≡ kin 128 ps
+  pub few_v4 : length n4 ≤ length ps
+  pub few_v6 : length n6 ≤ length ps

@@ -1,8 +1,12 @@
-ghost use Rattle.std.specs.Prelude.{◌≡◌, ◌+◌, ◌-◌, ◌^◌, ◌/◌, ◌≤◌, ◌↔◌, ℕ};
+ghost use Rattle.std.specs.Prelude.{◌≡◌, ◌+◌, ◌-◌, ◌^◌, ◌/◌, ◌≤◌, ◌↔◌, ℕ, cond};
+ghost use Rattle.r53_io.specs.declared.address.IpAddress.{IpAddress};
 ghost use Rattle.ip_table.specs.Bits.{width_of, number_of, first_bits};
 ghost use Rattle.ip_table.specs.Trees.{bit_behind, window};
 
 use r53_io::IpAddress;
+
+/// The highest of 128 bits.
+const TOP: u128 = 1 << 127;
 
 /// How many bits an address has.
 pub(crate) fn width_of(address: IpAddress) -> u8
@@ -45,6 +49,15 @@ pub(crate) fn bit_of(depth: u8, number: u128) -> u8
     ensures { (a : IpAddress) → number ≡ number_of a → result ≡ bit_behind depth a }
 {
     (number >> 127u8.saturating_sub(depth) & 1) as u8
+}
+
+/// Whether the bit behind the first ones is set, of the number that an address's bits spell.
+///
+/// Walks that have to be fast take this form, which compiles to no branch.
+pub(crate) fn has_bit(depth: u8, number: u128) -> bool
+    ensures { (a : IpAddress) → number ≡ number_of a → cond result 1 0 ≡ bit_behind depth a }
+{
+    number & (TOP >> depth.min(127)) != 0
 }
 
 /// The 32 bits behind the first ones, of the number that an address's bits spell.

@@ -7,7 +7,7 @@ use crate::IpPrefix;
 use crate::tree::Seen;
 use r53_io::IpAddress;
 
-/// What has been seen with one more row of the address's family, of this length, that shares so many bits.
+/// What has been seen with one more row of the address's family, of this length, that shares so many of its bits.
 pub(crate) fn with_row(
     prefixes: &[IpPrefix],
     row: u32,
@@ -20,7 +20,7 @@ pub(crate) fn with_row(
     requires prefix { IsPrefix (prefix_at prefixes.now row).address (prefix_at prefixes.now row).length }
     requires long { long ≡ (prefix_at prefixes.now row).length }
     requires family { width_of (prefix_at prefixes.now row).address ≡ width_of address }
-    requires shared { (n : ℕ) → n ≤ 128
+    requires shared { (n : ℕ) → n ≤ (prefix_at prefixes.now row).length
         → (n ≤ shared ↔ (first_bits n (prefix_at prefixes.now row).address ≡ first_bits n address)) }
     requires sound { IsSound prefixes.now address seen }
     ensures sound { IsSound prefixes.now address result }

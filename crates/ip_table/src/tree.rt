@@ -1,31 +1,20 @@
-use r53_io::IpAddress;
-
-/// A place in the tree of one family.
+/// A place in the tree of one family. The rows here and below begin with the same bits, as many as the node is deep.
 #[derive(Clone, Copy)]
 pub struct Node {
     /// The row that stands here.
     pub row: u32,
-    /// Its 32 bits behind those that lead to the root.
+    /// Its 32 bits behind the first `start`.
     pub window: u32,
-    /// How many bits it has.
+    /// How many bits stand before the window: no more than lead here.
+    pub start: u8,
+    /// How many bits the row has.
     pub long: u8,
-    /// How many bits lead here.
+    /// How many bits all rows here and below have in common.
     pub depth: u8,
-    /// The nodes one bit further, 0 for none: the root is below no node.
+    /// The nodes below, by the next bit, each times 256 and with its depth, so that a walk needn't wait for the node to
+    /// know its next bit; 0 for none: the root is below no node.
     pub zero: u32,
     pub one: u32,
-}
-
-/// An address that is looked up in a tree, and begins with the bits that lead to its root.
-#[derive(Clone, Copy)]
-pub struct Probe {
-    pub address: IpAddress,
-    /// The number that its bits spell, filled up with zeros to 128 bits.
-    pub number: u128,
-    /// How many bits lead to the root.
-    pub stem: u8,
-    /// The 32 bits behind those.
-    pub window: u32,
 }
 
 /// What a walk has seen.

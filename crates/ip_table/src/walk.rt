@@ -1,11 +1,12 @@
-ghost use Rattle.std.specs.Prelude.{◌≡◌, ℕ, ◌+◌, ◌<◌, ◌≤◌, ◌⊎◌, length, IsTrue, ◌↔◌, max, None};
+ghost use Rattle.std.specs.Prelude.{◌≡◌, ℕ, ◌+◌, ◌<◌, ◌≤◌, ◌⊎◌, length, IsTrue, ◌↔◌, max, None, cond};
 ghost use Rattle.ip_table.specs.Bits.{width_of, number_of, first_bits};
-ghost use Rattle.ip_table.specs.Trees.{HasPrefix, AllPrefixes, IsTree, IsProbe, Begins, Leads, IsSound, IsDone, IsAhead, SumsUp, AllStand, Goes, node_at, here, prefix_at, child, window};
+ghost use Rattle.ip_table.specs.Prefixes.{IsPrefix};
+ghost use Rattle.ip_table.specs.Trees.{HasPrefix, AllPrefixes, IsTree, Meets, IsSound, IsDone, SumsUp, Stands, AllStand, Goes, node_at, prefix_at, word, child, window};
 
 use crate::IpPrefix;
-use crate::bits::{bit_of, number_of, shared_before, shared_bits, window_of};
+use crate::bits::{bit_of, has_bit, number_of, shared_before, shared_bits, window_of};
 use crate::seen::{prefix_of, with_past, with_row};
-use crate::tree::{Node, Probe, Seen};
+use crate::tree::{Node, Seen};
 use r53_io::IpAddress;
 
 /// What a walk has seen at one more node, and where it goes on.
@@ -13,57 +14,83 @@ use r53_io::IpAddress;
 pub struct Visited {
     pub seen: Seen,
     pub next: u32,
+    /// How deep that is.
+    pub depth: u8,
 }
 
-/// Visits a node on the way along the bits of an address, which so many of them lead to.
+/// Visits a node on the way along the bits of an address.
 fn at_node(
     prefixes: &[IpPrefix],
     nodes: &[Node],
     at: u32,
     depth: u8,
-    probe: Probe,
+    address: IpAddress,
+    number: u128,
     seen: Seen,
 ) -> Visited
     requires prefixes { AllPrefixes prefixes.now }
-    requires tree { IsTree prefixes.now nodes.now (width_of probe.address) }
-    requires probe { IsProbe prefixes.now nodes.now probe }
-    requires depth { depth ≡ (node_at nodes.now at).depth }
-    requires leads { Leads nodes.now probe.address (node_at nodes.now at).depth at }
+    requires tree { IsTree prefixes.now nodes.now (width_of address) }
+    requires number { number ≡ number_of address }
     requires at { at < length nodes.now }
-    requires sound { IsSound prefixes.now probe.address seen }
-    ensures goes { 0 < result.next → Goes nodes.now probe.address at result.next }
-    ensures sound { IsSound prefixes.now probe.address result.seen }
+    requires depth { depth ≡ (node_at nodes.now at).depth }
+    requires meets { Meets prefixes.now nodes.now address at }
+    requires sound { IsSound prefixes.now address seen }
+    ensures goes { 0 < result.next → Goes prefixes.now nodes.now address at result.next }
+    ensures depth { 0 < result.next → result.depth ≡ (node_at nodes.now result.next).depth }
+    ensures sound { IsSound prefixes.now address result.seen }
 
     // A row that was ahead is ahead still, or done.
-    ensures each { (row : ℕ) → row < length prefixes.now → width_of (prefix_at prefixes.now row).address ≡ width_of probe.address
-        → IsAhead prefixes.now nodes.now probe.address (node_at nodes.now at).depth row ⊎ IsDone prefixes.now probe.address seen row
-        → ((0 < result.next) × IsAhead prefixes.now nodes.now probe.address ((node_at nodes.now at).depth + 1) row)
-        ⊎ IsDone prefixes.now probe.address result.seen row }
+    ensures each { (row : ℕ) → row < length prefixes.now → width_of (prefix_at prefixes.now row).address ≡ width_of address
+        → Stands nodes.now at row ⊎ IsDone prefixes.now address seen row
+        → ((0 < result.next) × Stands nodes.now result.next row) ⊎ IsDone prefixes.now address result.seen row }
 {
     let node = node_of(nodes, at);
-    let bit = bit_of(depth, probe.number);
-    let shared = shared_at(prefixes, node, probe);
-    let here = with_row(prefixes, node.row, node.long, shared, probe.address, seen);
+    let shared = shared_at(prefixes, node, address, number);
+    let here = with_row(prefixes, node.row, node.long, shared, address, seen);
+    if shared < depth {
+        return Visited {
+            seen: here,
+            next: 0,
+            depth: 0,
+        };
+    }
+    let on = has_bit(depth, number);
+    let word = word_of(node, on);
     Visited {
-        seen: with_other(child_of(node, 1 - bit), depth, here),
-        next: child_of(node, bit),
+        seen: with_other(word_of(node, !on) >> 8, depth, here),
+        next: word >> 8,
+        depth: (word & 0xff) as u8,
     }
 }
 
-/// How many first bits the row at a node shares with the address, with which it shares those that lead to the root.
-fn shared_at(prefixes: &[IpPrefix], node: Node, probe: Probe) -> u8
-    requires row { node.row < length prefixes.now }
-    requires low { probe.stem ≤ 96 }
-    requires begins { first_bits probe.stem (prefix_at prefixes.now node.row).address ≡ first_bits probe.stem probe.address }
-    requires window { node.window ≡ window probe.stem (prefix_at prefixes.now node.row).address }
-    requires probe { probe.window ≡ window probe.stem probe.address }
-    ensures { (n : ℕ) → n ≤ 128
-        → (n ≤ result ↔ (first_bits n (prefix_at prefixes.now node.row).address ≡ first_bits n probe.address)) }
+/// What a node tells of the one to which a bit leads, be it set or not.
+fn word_of(node: Node, on: bool) -> u32
+    ensures { result ≡ word node (cond on 1 0) }
 {
-    if node.window == probe.window {
-        return shared_bits(prefix_of(prefixes, node.row).address(), probe.address);
+    if on { node.one } else { node.zero }
+}
+
+/// How many first bits the row at a node shares with an address that has those before its window; where it shares all of
+/// its own, not how many more.
+fn shared_at(prefixes: &[IpPrefix], node: Node, address: IpAddress, number: u128) -> u8
+    requires row { node.row < length prefixes.now }
+    requires prefix { IsPrefix (prefix_at prefixes.now node.row).address (prefix_at prefixes.now node.row).length }
+    requires low { node.start ≤ 96 }
+    requires long { node.long ≡ (prefix_at prefixes.now node.row).length }
+    requires meets { first_bits node.start (prefix_at prefixes.now node.row).address ≡ first_bits node.start address }
+    requires window { node.window ≡ window node.start (prefix_at prefixes.now node.row).address }
+    requires number { number ≡ number_of address }
+    ensures { (n : ℕ) → n ≤ (prefix_at prefixes.now node.row).length
+        → (n ≤ result ↔ (first_bits n (prefix_at prefixes.now node.row).address ≡ first_bits n address)) }
+{
+    let window = window_of(node.start, number);
+    if node.window != window {
+        return shared_before(node.start, node.window, window);
     }
-    shared_before(probe.stem, node.window, probe.window)
+    if node.long <= node.start + 32 {
+        return node.long;
+    }
+    shared_bits(prefix_of(prefixes, node.row).address(), address)
 }
 
 /// Where rows stand aside from the way, the next bit is not shared.
@@ -92,18 +119,11 @@ pub(crate) fn node_of(nodes: &[Node], at: u32) -> Node
 pub(crate) fn child_of(node: Node, bit: u8) -> u32
     ensures { result ≡ child node bit }
 {
-    if bit == 0 { node.zero } else { node.one }
-}
-
-/// Whether an address begins with the bits that lead to the root.
-fn begins(prefixes: &[IpPrefix], nodes: &[Node], address: IpAddress) -> bool
-    requires some { 0 < length nodes.now }
-    requires row { (node_at nodes.now 0).row < length prefixes.now }
-    requires low { (node_at nodes.now 0).depth ≤ 96 }
-    ensures { IsTrue result ↔ Begins prefixes.now nodes.now address }
-{
-    let root = node_of(nodes, 0);
-    root.depth <= shared_bits(prefix_of(prefixes, root.row).address(), address)
+    if bit == 0 {
+        node.zero >> 8
+    } else {
+        node.one >> 8
+    }
 }
 
 /// Sums up all rows of the address's family.
@@ -114,54 +134,42 @@ pub(crate) fn sum_up(prefixes: &[IpPrefix], nodes: &[Node], address: IpAddress) 
     ensures { SumsUp prefixes.now address result }
 {
     if nodes.is_empty() {
-        return nothing(0);
+        return nothing();
     }
-    let root = node_of(nodes, 0);
-    let shared = shared_bits(prefix_of(prefixes, root.row).address(), address);
-    if shared < root.depth {
-        return nothing(shared + 1);
-    }
-    let number = number_of(address);
-    let probe = Probe {
-        address,
-        number,
-        stem: root.depth,
-        window: window_of(root.depth, number),
-    };
-    walk(prefixes, nodes, probe)
+    walk(prefixes, nodes, address)
 }
 
-/// No row was found, and so many bits are not shared.
-fn nothing(past: u8) -> Seen
-    ensures { result ≡ record { found = None; long = 0; past = past } }
+/// No row was found.
+fn nothing() -> Seen
+    ensures { result ≡ record { found = None; long = 0; past = 0 } }
 {
     Seen {
         found: None,
         long: 0,
-        past,
+        past: 0,
     }
 }
 
 /// Sums up all rows of the address's family by a walk along its bits.
-fn walk(prefixes: &[IpPrefix], nodes: &[Node], probe: Probe) -> Seen
+fn walk(prefixes: &[IpPrefix], nodes: &[Node], address: IpAddress) -> Seen
     requires prefixes { AllPrefixes prefixes.now }
-    requires tree { IsTree prefixes.now nodes.now (width_of probe.address) }
-    requires all { AllStand prefixes.now nodes.now (width_of probe.address) (length prefixes.now) }
+    requires tree { IsTree prefixes.now nodes.now (width_of address) }
+    requires all { AllStand prefixes.now nodes.now (width_of address) (length prefixes.now) }
     requires some { 0 < length nodes.now }
-    requires probe { IsProbe prefixes.now nodes.now probe }
-    ensures { SumsUp prefixes.now probe.address result }
+    ensures { SumsUp prefixes.now address result }
 {
-    let mut seen = nothing(0);
+    let number = number_of(address);
+    let mut seen = nothing();
     let mut at = 0;
-    let mut depth = probe.stem;
+    let mut depth = 0;
     loop {
-        let visited = at_node(prefixes, nodes, at, depth, probe, seen);
+        let visited = at_node(prefixes, nodes, at, depth, address, number, seen);
         seen = visited.seen;
         if visited.next == 0 {
             return seen;
         }
         at = visited.next;
-        depth += 1;
+        depth = visited.depth;
     }
 }
 
@@ -175,11 +183,7 @@ pub(crate) fn is_there(prefixes: &[IpPrefix], nodes: &[Node], prefix: IpPrefix) 
     if nodes.is_empty() {
         return false;
     }
-    let address = prefix.address();
-    if !begins(prefixes, nodes, address) {
-        return false;
-    }
-    let number = number_of(address);
+    let number = number_of(prefix.address());
     let mut at = 0;
     loop {
         let node = node_of(nodes, at);

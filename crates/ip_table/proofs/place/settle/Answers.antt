@@ -10,7 +10,7 @@ pub returns-clause-carried : goal.returns-clause-carried
 returns-clause-carried c =
     let width = width_of (prefix_at c.args.prefixes.now c.args.carried).address in
     subst (λ r. IsCarried c.args.prefixes.now c.put_row.new.nodes.items width c.args.at r) (sym c.put_row.ensures.taken)
-    (carried_on c.args.prefixes.now c.args.nodes.now.items width c.args.at c.args.carried c.requires.prefixes c.requires.apart c.requires.carried
+    (carried_on c.args.prefixes.now c.args.nodes.now.items width c.args.at c.args.carried c.requires.prefixes c.requires.carried
     c.put_row.new.nodes.items c.put_row.ensures.items)
 
 pub returns-clause-deeper : goal.returns-clause-deeper
@@ -25,5 +25,5 @@ returns-clause-deeper c =
       ap (λ (n : Node). n.depth) (c.node_of.ensures ∙ ap (λ (ns : List Node). node_at ns c.args.at) c.deref.ensures.value),
     ) in
     subst (λ r. (node_at c.put_row.new.nodes.items c.args.at).depth < (prefix_at c.args.prefixes.now r).length) (sym c.put_row.ensures.taken)
-    (goes_deeper c.args.prefixes.now c.args.nodes.now.items width c.args.at c.args.carried c.requires.prefixes c.requires.apart c.requires.carried
-    c.put_row.new.nodes.items c.put_row.ensures.items short)
+    (goes_deeper c.args.prefixes.now c.args.nodes.now.items width c.args.at c.args.carried c.requires.prefixes c.requires.carried
+    c.put_row.new.nodes.items c.put_row.ensures.items c.requires.apart short)

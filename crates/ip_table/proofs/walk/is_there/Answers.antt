@@ -1,13 +1,12 @@
-use Rattle.std.proofs.Common.{◌≡◌, ◌<◌, ◌∙◌, length, refl, sym, ap, subst, arith}
+use Rattle.std.proofs.Common.{◌≡◌, ◌<◌, ◌∙◌, length, sym, ap, subst, arith}
 use Rattle.std.proofs.lemmas.Bool.{false≢true}
 use Rattle.std.proofs.lemmas.Bool.Decides.{nat_tests}
 use Rattle.ip_table.specs.declared.tree.Node.{Node}
 use Rattle.ip_table.specs.Bits.{width_of, number_of}
 use Rattle.ip_table.specs.Prefixes.{Prefix}
-use Rattle.ip_table.specs.Trees.{Begins, Stands, stem, here, prefix_at, node_at, child, bit_behind}
+use Rattle.ip_table.specs.Trees.{Stands, IsChild, here, prefix_at, node_at, child, bit_behind}
 use Rattle.ip_table.proofs.Finding.{not_there, stands_on}
-use Rattle.ip_table.proofs.Sums.{stands}
-use Rattle.ip_table.proofs.Walks.{at_root, onward}
+use Rattle.ip_table.proofs.Walks.{shallow}
 use Rattle.ip_table.proofs.walk.is_there.Goals as goal
 use Rattle.ip_table.proofs.walk.is_there.Goals.{After-child_of-next}
 
@@ -24,8 +23,15 @@ other c same =
 next_is : (c : After-child_of-next) → c.child_of-next.result ≡ child (node_at c.args.nodes.now c.loop-prefix.at) (bit_behind (node_at c.args.nodes.now c.loop-prefix.at).depth c.args.prefix.address)
 next_is c =
     c.child_of-next.ensures
-    ∙ ap (child c.node_of-node.result) (c.bit_of.ensures c.args.prefix.address (c.number_of-number.ensures ∙ ap number_of c.address-address.ensures.value))
+    ∙ ap (child c.node_of-node.result) (c.bit_of.ensures c.args.prefix.address (c.number_of-number.ensures ∙ ap number_of c.address.ensures.value))
     ∙ ap (λ (n : Node). child n (bit_behind n.depth c.args.prefix.address)) c.node_of-node.ensures
+
+kid : (c : After-child_of-next) → 0 < c.child_of-next.result → IsChild c.args.prefixes.now c.args.nodes.now c.loop-prefix.at (bit_behind (node_at c.args.nodes.now c.loop-prefix.at).depth c.args.prefix.address) c.child_of-next.result
+kid c some =
+    let bit = bit_behind (node_at c.args.nodes.now c.loop-prefix.at).depth c.args.prefix.address in
+    let low : bit < 2 = omega arith in
+    subst (λ i. IsChild c.args.prefixes.now c.args.nodes.now c.loop-prefix.at bit i) (sym (next_is c))
+    ((c.requires.tree.each c.loop-prefix.at c.loop-prefix.invariant.within).children bit low (subst (λ i. 0 < i) (next_is c) some))
 
 pub returns-then-next-eq0 : goal.returns-then-next-eq0
 returns-then-next-eq0 c =
@@ -34,7 +40,7 @@ returns-then-next-eq0 c =
       λ has. absurd (omega (
         arith,
         sym (next_is s) ∙ c.if-next-eq0.true,
-        (stands_on c.args.prefixes.now c.args.nodes.now c.args.prefix c.requires.prefixes c.requires.tree c.loop-prefix.at c.loop-prefix.invariant.leads (other s) has.0 has.1 has.2
+        (stands_on c.args.prefixes.now c.args.nodes.now c.args.prefix c.requires.prefixes c.requires.tree c.loop-prefix.at c.loop-prefix.invariant.within (other s) has.0 has.2
             (c.loop-prefix.invariant.ahead has.0 has.1 has.2)).0,
       )),
     )
@@ -44,19 +50,21 @@ loop-prefix-init c =
     let some : 0 < length c.args.nodes.now = grind (arith, nat_tests) in
     record {
       within = some;
-      leads = at_root c.args.nodes.now c.args.prefix.address (stem c.args.nodes.now) some refl;
-      ahead = λ row h same. stands c.args.prefixes.now c.args.nodes.now c.args.prefix.address c.requires.tree c.requires.all some row h (ap (λ (q : Prefix). width_of q.address) same);
+      ahead = λ row h same. c.requires.all row h (ap (λ (q : Prefix). width_of q.address) same) (λ e. absurd (omega arith));
     }
 
 pub loop-prefix-preserved : goal.loop-prefix-preserved
 loop-prefix-preserved c =
     let s = (goal.at.loop-prefix-preserved c).After-child_of-next in
-    let begins = subst (λ x. Begins c.args.prefixes.now c.args.nodes.now x) c.address-address.ensures.value (c.begins.ensures.0 c.if-not-begins.false) in
-    let goes = onward c.args.prefixes.now c.args.nodes.now (width_of c.args.prefix.address) c.requires.prefixes c.requires.tree c.args.prefix.address begins c.loop-prefix.at c.child_of-next.result c.loop-prefix.invariant.leads (next_is s) (omega arith) in
     record {
-      within = goes.within;
-      leads = goes.leads;
-      ahead = λ row h same. subst (λ d. Stands c.args.prefixes.now c.args.nodes.now d row) (sym goes.depth)
-          (stands_on c.args.prefixes.now c.args.nodes.now c.args.prefix c.requires.prefixes c.requires.tree c.loop-prefix.at c.loop-prefix.invariant.leads (other s) row h same
+      within = (kid s (omega arith)).within;
+      ahead = λ row h same. subst (λ i. Stands c.args.nodes.now i row) (sym (next_is s))
+          (stands_on c.args.prefixes.now c.args.nodes.now c.args.prefix c.requires.prefixes c.requires.tree c.loop-prefix.at c.loop-prefix.invariant.within (other s) row same
           (c.loop-prefix.invariant.ahead row h same)).1;
     }
+
+pub loop-prefix-smaller : goal.loop-prefix-smaller
+loop-prefix-smaller c =
+    let s = (goal.at.loop-prefix-smaller c).After-child_of-next in
+    let next = kid s (omega arith) in
+    omega (arith, next.deeper, shallow c.args.prefixes.now c.args.nodes.now (width_of c.args.prefix.address) c.requires.prefixes c.requires.tree c.child_of-next.result next.within)

@@ -1,15 +1,26 @@
-use Rattle.std.proofs.Common.{◌≡◌, ℕ, ◌+◌, ◌-◌, ◌/◌, ◌^◌, ◌≤◌, ◌↔◌, sym, ◌∙◌, subst}
+use Rattle.std.proofs.Common.{◌≡◌, ℕ, ◌+◌, ◌-◌, ◌/◌, ◌^◌, ◌≤◌, ◌↔◌, sym, ◌∙◌, subst, arith}
 use Rattle.ip_table.specs.Trees.{prefix_at, window}
-use Rattle.ip_table.proofs.FirstBits.{shared_windows}
+use Rattle.ip_table.proofs.FirstBits.{shared_windows, same_windows}
+use Rattle.ip_table.proofs.Walks.{width_low}
 use Rattle.ip_table.proofs.walk.shared_at.Goals as goal
 
-pub returns : goal.returns
-returns c =
-    let d = c.args.probe.stem in
+pub returns-then-node-window : goal.returns-then-node-window
+returns-then-node-window c = λ n h.
+    let d = c.args.node.start in
     let r = c.shared_before.result in
     let own = (prefix_at c.args.prefixes.now c.args.node.row).address in
-    shared_windows d own c.args.probe.address c.requires.low c.requires.begins
-    (λ e. c.if-node-probe.false (c.requires.window ∙ e ∙ sym c.requires.probe))
+    let theirs = c.window_of-window.ensures c.args.address c.requires.number in
+    shared_windows d own c.args.address c.requires.low c.requires.meets
+    (λ e. c.if-node-window.true (c.requires.window ∙ e ∙ sym theirs))
     r
-    (subst (λ w. (m : ℕ) → m ≤ 32 → (d + m ≤ r ↔ (w / 2 ^ (32 - m) ≡ window d c.args.probe.address / 2 ^ (32 - m)))) c.requires.window
-    (subst (λ w. (m : ℕ) → m ≤ 32 → (d + m ≤ r ↔ (c.args.node.window / 2 ^ (32 - m) ≡ w / 2 ^ (32 - m)))) c.requires.probe c.shared_before.ensures))
+    (subst (λ w. (m : ℕ) → m ≤ 32 → (d + m ≤ r ↔ (w / 2 ^ (32 - m) ≡ window d c.args.address / 2 ^ (32 - m)))) c.requires.window
+    (subst (λ w. (m : ℕ) → m ≤ 32 → (d + m ≤ r ↔ (c.args.node.window / 2 ^ (32 - m) ≡ w / 2 ^ (32 - m)))) theirs c.shared_before.ensures))
+    n (omega (arith, h, c.requires.prefix.within, width_low own))
+
+pub returns-then-node : goal.returns-then-node
+returns-then-node c = λ n h.
+    let own = (prefix_at c.args.prefixes.now c.args.node.row).address in
+    let theirs = c.window_of-window.ensures c.args.address c.requires.number in (
+      λ few. same_windows c.args.node.start n own c.args.address c.requires.low c.requires.meets (sym c.requires.window ∙ c.if-node-window.false ∙ theirs) (omega (arith, few, c.if-node.true)),
+      λ e. omega (arith, h, c.requires.long),
+    )

@@ -1,5 +1,6 @@
 use Rattle.std.proofs.Common.{◌≡◌, ◌∙◌, ◌++◌, ◌∷◌, [], List, length, refl, sym, ap, arith}
 use Rattle.std.proofs.lemmas.List.{length_push}
+use Rattle.ip_table.specs.declared.tree.Node.{Node}
 use Rattle.ip_table.specs.Bits.{width_of}
 use Rattle.ip_table.specs.Prefixes.{Prefix}
 use Rattle.ip_table.proofs.Inserting.{count, kept, pushed, absent, no_prefix, table_v4, table_v6}
@@ -40,7 +41,7 @@ invariant_of-self-in-V4 g c =
     (omega (arith, c.len.ensures, i.prefixes.ok.0, c.if-len-ge-MAX_ROWS.false))
     c.add_row.new.prefixes.items (c.add_row.ensures.items ∙ ap (λ (ps : List Prefix). ps ++ c.args.prefix ∷ []) c.make_room.ensures.prefixes)
     (length c.push_reserved.new.self.items) (ap length (c.push_reserved.ensures.items ∙ ap (λ vs. vs ++ c.args.value ∷ []) c.make_room.ensures.values) ∙ length_push i.values.items c.args.value)
-    c.add_row.new.nodes.items c.add_row.ensures.tree c.add_row.ensures.all family c.add_row.ensures.nodes
+    c.add_row.new.nodes.items _ c.add_row.ensures.grown (omega (arith, c.self.invariant.few_v4, ap (λ (ns : List Node). length ns) c.make_room.ensures.nodes)) family
 
 pub returns-else-not-make_room : goal.returns-else-not-make_room
 returns-else-not-make_room g c =
@@ -75,7 +76,7 @@ invariant_of-self-in-V6 g c =
     (omega (arith, c.len.ensures, i.prefixes.ok.0, c.if-len-ge-MAX_ROWS.false))
     c.add_row-in-V6.new.prefixes.items (c.add_row-in-V6.ensures.items ∙ ap (λ (ps : List Prefix). ps ++ c.args.prefix ∷ []) c.make_room-in-V6.ensures.prefixes)
     (length c.push_reserved-in-V6.new.self.items) (ap length (c.push_reserved-in-V6.ensures.items ∙ ap (λ vs. vs ++ c.args.value ∷ []) c.make_room-in-V6.ensures.values) ∙ length_push i.values.items c.args.value)
-    c.add_row-in-V6.new.nodes.items c.add_row-in-V6.ensures.tree c.add_row-in-V6.ensures.all family c.add_row-in-V6.ensures.nodes
+    c.add_row-in-V6.new.nodes.items _ c.add_row-in-V6.ensures.grown (omega (arith, c.self.invariant.few_v6, ap (λ (ns : List Node). length ns) c.make_room-in-V6.ensures.nodes)) family
 
 pub returns-else-not-make_room-2 : goal.returns-else-not-make_room-2
 returns-else-not-make_room-2 g c =
