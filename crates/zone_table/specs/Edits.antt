@@ -115,7 +115,7 @@ HasRoom table ready (edit.Close zone) = length (placed_in table.zones zone) ≤ 
 HasRoom table ready (edit.Change zone remove add) =
     (length remove ≤ ready.removable) × (length add ≤ ready.addable) × HasRoomIn table zone (length add)
 
--- An edit was made ready by this table, and nothing was edited since.
+-- An edit that is ready: nothing was edited since it was prepared, it is allowed, and nothing of it wants memory.
 pub record IsReady (table : Table) (ready : Prepared) : Type 0 where
   pub edits : ready.edits ≡ table.edits
   pub allowed : IsAllowed table.zones ready.made

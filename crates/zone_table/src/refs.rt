@@ -7,6 +7,7 @@ use std::marker::Model;
 pub struct SetRef {
     /// The number of the zone.
     pub zone: u32,
+    /// The slot of the set in its zone.
     pub slot: u32,
 }
 
@@ -64,6 +65,8 @@ impl SetRefs {
 pub struct Delta {
     /// The number of the zone.
     pub zone: u32,
+    /// The references of the sets that went. They may name other sets from now on.
     pub removed: SetRefs,
+    /// The references of the sets that came.
     pub added: SetRefs,
 }
