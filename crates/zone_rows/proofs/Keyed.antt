@@ -1,0 +1,32 @@
+-- Sets that have a key, from the first one on.
+use Rattle.std.proofs.Common.{◌≡◌, ◌≢◌, ℕ, zero, suc, List, [], ◌∷◌, Bool, refl, sym, subst, arith, Some}
+use Rattle.std.specs.Prelude.{slice_get, IsTrue, ◌↔◌}
+use Rattle.record_set.specs.declared.sets.RecordSet.{RecordSet}
+use Rattle.record_set.specs.declared.sets.SetKey.{SetKey}
+use Rattle.record_set.specs.Sets.{key_of}
+use Rattle.r53_model.specs.Changing.{IsThere}
+
+pub there_first : (set : RecordSet) (others : List RecordSet) (key : SetKey) → key_of set ≡ key → IsThere (set ∷ others) key
+there_first set others key e = (set, record { there = (0, refl); same_key = e })
+
+pub there_later : (set : RecordSet) (others : List RecordSet) (key : SetKey) → IsThere others key → IsThere (set ∷ others) key
+there_later set others key (kept, keeps) = (kept, record { there = (suc keeps.there.0, keeps.there.1); same_key = keeps.same_key })
+
+pub not_first : (set : RecordSet) (others : List RecordSet) (key : SetKey) → IsThere (set ∷ others) key → key_of set ≢ key → IsThere others key
+not_first set others key (kept, keeps) differs = at keeps.there.0 keeps.there.1
+  where
+    at : (i : ℕ) → slice_get (set ∷ others) i ≡ Some kept → IsThere others key
+    at zero e = absurd (differs (subst (λ s. key_of s ≡ key) (sym (same e)) keeps.same_key))
+      where
+        same : slice_get (set ∷ others) zero ≡ Some kept → set ≡ kept
+        same e = grind (arith, e)
+    at (suc i) e = (kept, record { there = (i, e); same_key = keeps.same_key })
+
+pub none_there : (key : SetKey) → IsThere [] key → ⊥
+none_there key (kept, keeps) = absurd (grind (arith, keeps.there.1))
+
+-- whether a set of the key is there, told by those behind the first one
+pub there_as_later : (sets others : List RecordSet) (set : RecordSet) (key : SetKey) (b : Bool) → sets ≡ set ∷ others → key_of set ≢ key → (IsTrue b ↔ IsThere others key) → (IsTrue b ↔ IsThere sets key)
+there_as_later sets others set key b parts differs later =
+    subst (λ (s : List RecordSet). IsTrue b ↔ IsThere s key) (sym parts)
+    (λ h. there_later set others key (later.0 h), λ there. later.1 (not_first set others key there differs))
