@@ -78,14 +78,13 @@ fn characters_of_a_batch(rt: HostRuntime) -> Result<(), Fail> {
 /// A TXT value of so many octets on the wire, all of its strings of one letter.
 fn text_of(rt: &impl Abort, alloc: Global, octets: usize, letter: u8) -> RData {
     let mut wire = Vec::new(alloc);
-    let mut left = octets;
-    while left > 0 {
-        let part = left.min(256);
-        assert!(rt; wire.push((part - 1) as u8).is_ok(), "memory");
-        for _ in 1..part {
-            assert!(rt; wire.push(letter).is_ok(), "memory");
-        }
-        left -= part;
+    for i in 0..octets {
+        let octet = if i % 256 == 0 {
+            ((octets - i).min(256) - 1) as u8
+        } else {
+            letter
+        };
+        assert!(rt; wire.push(octet).is_ok(), "memory");
     }
     RData::from_wire(alloc, RType::Txt, wire.as_slice()).expect(rt, "strings")
 }
