@@ -6,16 +6,17 @@ ghost use Rattle.record_set.specs.Sets.{key_of};
 ghost use Rattle.r53_model.specs.Changing.{IsThere};
 ghost use Rattle.zone_sets.specs.Placed.{Placed, sets_of};
 ghost use Rattle.zone_table.specs.declared.edits.ZoneEdit.TheVariants.{Change};
-ghost use Rattle.zone_table.specs.Edits.{CanBeAdded, CanChange, IsAllowed, IsKeyOf};
+ghost use Rattle.zone_list.specs.Changes.{CanBeAdded, CanChange, IsKeyOf};
+ghost use Rattle.zone_table.specs.Edits.{IsAllowed};
 ghost use Rattle.zone_table.specs.Looking.{IsApex};
-ghost use Rattle.zone_table.specs.Zones.{CanStand, IsZoneId, IsZoneName, placed_in};
+ghost use Rattle.zone_list.specs.Zones.{CanStand, IsZoneId, IsZoneName, placed_in};
 
 use crate::apart::{are_there, keys_differ};
 use crate::there::{is_key_of, is_there};
 use dns_name::Name;
 use record_set::{RecordSet, SetKey};
 use set_octets::has_spelling;
-use zone_table::{SetKeys, Sets, Zones};
+use zone_table::{SetKeys, Sets, Zones, one_apex};
 
 /// Whether no zone has the number, and none the name or one above it.
 pub fn is_free(zones: &Zones, zone: u32, name: &Name) -> bool
@@ -54,6 +55,7 @@ pub fn is_allowed_change(
     ensures { IsTrue result → IsAllowed zones.now.zones (Change zone remove.now add.now) }
 {
     zones.well_formed();
+    one_apex();
     can_change(name, sets, remove.as_slice(), add.as_slice())
 }
 

@@ -3,7 +3,7 @@
 ghost use Rattle.std.specs.Prelude.{◌≢◌, IsTrue};
 ghost use Rattle.std.specs.List.{AllByRecursion};
 ghost use Rattle.record_set.specs.Sets.{key_of};
-ghost use Rattle.zone_table.specs.Edits.{AreThere, DifferByKey};
+ghost use Rattle.zone_list.specs.Changes.{AreThere, DifferByKey};
 
 use crate::there::{is_same_key, is_there};
 use record_set::{RecordSet, SetKey};

@@ -1,9 +1,9 @@
 //! Edits, one after another.
 
-use crate::sets::{Row, address, change, close, loads, names_none, open, reference};
+use crate::sets::{Row, address, change, close, loads, names_none, open, ready, reference};
 use std::alloc::Global;
 use std::process::Abort;
-use zone_table::Zones;
+use zone_table::{Delta, ZoneEdit, Zones};
 
 /// A set of zone 2.
 fn elsewhere() -> Row {
@@ -117,4 +117,23 @@ fn first_set_of_a_zone(rt: HostRuntime) {
     let its = reference(&rt, &zones, 9, a);
     assert_eq!(rt; delta.added.as_slice(), [its].as_slice(), "its reference");
     loads(&rt, alloc, &zones, its, a);
+}
+
+/// Makes two edits ready, and makes the one that was made ready first.
+fn close_the_first(rt: &impl Abort, alloc: Global, zones: &mut Zones) -> Delta {
+    assert!(rt; zones.apex(1).is_some(), "zone 1");
+    assert!(rt; zones.apex(2).is_some(), "zone 2");
+    let first = ready(rt, alloc, zones, ZoneEdit::Close(1));
+    ready(rt, alloc, zones, ZoneEdit::Close(2));
+    zones.edit(first)
+}
+
+#[test]
+fn made_ready_before_another(rt: HostRuntime) {
+    let alloc = rt.alloc();
+    let mut zones = zones(&rt, alloc);
+    let delta = close_the_first(&rt, alloc, &mut zones);
+    assert_eq!(rt; delta.zone, 1, "the first one");
+    assert!(rt; zones.apex(1).is_none(), "zone 1 is gone");
+    assert!(rt; zones.apex(2).is_some(), "zone 2 stays");
 }

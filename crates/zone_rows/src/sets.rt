@@ -3,9 +3,9 @@
 ghost use Rattle.std.specs.Prelude.{◌≡◌};
 ghost use Rattle.zone_table.specs.declared.edits.ZoneEdit.TheVariants.{Change};
 ghost use Rattle.zone_sets.specs.Placed.{sets_of};
-ghost use Rattle.zone_table.specs.Edits.{IsAllowed};
+ghost use Rattle.zone_table.specs.Edits.{IsAllowed, IsReady, StayReady};
 ghost use Rattle.zone_table.specs.Looking.{IsApex};
-ghost use Rattle.zone_table.specs.Zones.{IsZoneId, placed_in};
+ghost use Rattle.zone_list.specs.Zones.{IsZoneId, placed_in};
 
 use crate::allowed::{can_be_added, is_allowed_change, is_free};
 use dns_name::Name;
@@ -14,7 +14,7 @@ use record_set::{Body, Ident, RecordSet, Routing, SetKey, Values};
 use set_octets::has_spelling;
 use std::alloc::Global;
 use std::process::Abort;
-use zone_table::{Delta, Scratch, SetKeys, SetRef, Sets, ZoneEdit, Zones};
+use zone_table::{Delta, Ready, Scratch, SetKeys, SetRef, Sets, ZoneEdit, Zones};
 
 /// A set with one value: its name, its type, its identifier where it is weighted, and the text of the value.
 #[derive(Clone, Copy)]
@@ -187,8 +187,23 @@ fn sets_in(rt: &impl Abort, alloc: Global, zones: &Zones, zone: u32) -> Vec<Reco
 fn make(rt: &impl Abort, alloc: Global, zones: &mut Zones, edit: ZoneEdit) -> Delta
     requires { IsAllowed zones.old.zones edit }
 {
-    let ready = zones.ready(alloc, edit).ok().expect(rt, "memory");
+    let ready = ready(rt, alloc, zones, edit);
     zones.edit(ready)
+}
+
+/// Makes an edit ready.
+pub fn ready(rt: &impl Abort, alloc: Global, zones: &mut Zones, edit: ZoneEdit) -> Ready
+    requires { IsAllowed zones.old.zones edit }
+    ensures zones { zones.new.zones ≡ zones.old.zones }
+    ensures ready { IsReady zones.new result }
+    ensures others { StayReady zones.old zones.new }
+{
+    let ready = zones.ready(alloc, edit);
+    assert!(rt; ready.is_ok(), "memory");
+    match ready {
+        Ok(ready) => ready,
+        Err(_) => unreachable!(),
+    }
 }
 
 /// The reference of the set with the key of a row.

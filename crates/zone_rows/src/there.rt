@@ -4,7 +4,7 @@ ghost use Rattle.std.specs.Prelude.{◌≡◌, IsTrue, ◌↔◌};
 ghost use Rattle.std.specs.List.{AllByRecursion};
 ghost use Rattle.record_set.specs.Sets.{key_of};
 ghost use Rattle.r53_model.specs.Changing.{IsThere};
-ghost use Rattle.zone_table.specs.Edits.{IsKeyOf};
+ghost use Rattle.zone_list.specs.Changes.{IsKeyOf};
 
 use r53_model::key_cmp;
 use record_set::{RecordSet, SetKey};

@@ -4,7 +4,7 @@ use Rattle.std.specs.Prelude.{◌⊎◌, slice_get, nat_le, min, option_map, unw
 use Rattle.std.specs.List.{AllByRecursion, filter, insert, remove}
 use Rattle.std.specs.declared.alloc.Global.{Global}
 use Rattle.std.proofs.lemmas.List.{map-append, length-append, length-map}
-use Rattle.std.proofs.lemmas.Bool.{cases_eq, leb-true}
+use Rattle.std.proofs.lemmas.Bool.{cases_eq, leb-true, le-leb}
 use Rattle.std.proofs.lemmas.Option.{slice_get-map}
 use Rattle.dns_name.specs.Suffix.{EndsWith}
 use Rattle.record_set.specs.declared.sets.RecordSet.{RecordSet}
@@ -226,6 +226,17 @@ room_grows slab other order shorter same_slab same_order fewer =
     by : (b : Bool) → cond b (min (slab.capacity - length order.items) (vec_capacity order - length order.items)) 0
         ≤ cond b (min (slab.capacity - length shorter.items) (vec_capacity order - length shorter.items)) 0
     by true = omega (arith, fewer)
+    by false = omega arith
+
+pub room_stays : (slab other : Slab RecordSet) (order wider : Vec ℕ Global) → slab.capacity ≤ other.capacity → vec_capacity order ≤ vec_capacity wider
+    → length wider.items ≡ length order.items → other.capacity ≤ 2 ^ 32 → room_of slab order ≤ room_of other wider
+room_stays slab other order wider more_slots more_places same few =
+    subst (λ (b : Bool). room_of slab order ≤ cond b (min (other.capacity - length wider.items) (vec_capacity wider - length wider.items)) 0) (sym (le-leb other.capacity (2 ^ 32) few))
+    (by (nat_le slab.capacity (2 ^ 32)))
+  where
+    by : (b : Bool) → cond b (min (slab.capacity - length order.items) (vec_capacity order - length order.items)) 0
+        ≤ min (other.capacity - length wider.items) (vec_capacity wider - length wider.items)
+    by true = omega (arith, more_slots, more_places, same)
     by false = omega arith
 
 -- ---- a set in a slot

@@ -52,10 +52,11 @@ impl ZoneSets {
         self.order.len();
     }
 
-    /// Makes room for so many more sets.
+    /// Makes room for so many more sets. Room that was there stays where it succeeds.
     pub fn reserve(&mut self, more: usize) -> Result<(), OutOfMemory>
         ensures placed { self.new.placed ≡ self.old.placed }
         ensures room { OnOk result (more ≤ self.new.room) }
+        ensures kept { OnOk result (self.old.room ≤ self.new.room) }
     {
         self.sets.reserve(more)?;
         self.order.reserve(more)?;

@@ -1,4 +1,2 @@
-pub mod Listing
 pub mod Made
-pub mod Members
-pub mod Stepping
+pub mod Once

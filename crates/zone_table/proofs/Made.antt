@@ -12,14 +12,17 @@ use Rattle.zone_sets.proofs.Lists.{all_put, all_taken, drop_map, in_put, in_itse
 use Rattle.zone_table.specs.declared.edits.ZoneEdit.{ZoneEdit}
 use Rattle.zone_table.specs.declared.edits.ZoneEdit.TheVariants as edit
 use Rattle.zone_table.specs.declared.needs.Need.{Need}
-use Rattle.zone_table.specs.declared.refs.SetRef.{SetRef}
-use Rattle.zone_table.specs.Edits.{CanChange, Changes, Edits, HasRoom, IsAllowed, IsReady, Prepared, ref_in}
-use Rattle.zone_table.specs.Kept.{Kept, zones_of, IsAt, IsSplit}
+use Rattle.zone_list.specs.declared.refs.SetRef.{SetRef}
+use Rattle.zone_list.specs.Changes.{CanChange, Changes, ref_in}
+use Rattle.zone_table.specs.Edits.{Edits, HasRoom, IsAllowed, IsReady, Prepared, StayReady}
+use Rattle.zone_list.specs.Kept.{Kept, zones_of}
+use Rattle.zone_list.specs.Found.{IsAt, IsSplit}
 use Rattle.zone_table.specs.Looking.{IsApex}
-use Rattle.zone_table.specs.Needs.{CanTake, Counts, HasRoomFor, IsPrepared, IsReadyFor, IsRoomFor}
-use Rattle.zone_table.specs.Zones.{Zone, Table, AreListed, IsOne, IsZoneId, placed_in}
-use Rattle.zone_table.proofs.Listing.{as_many, kept_at, its_placed, listed_at, one_at, one_zone}
-use Rattle.zone_table.proofs.Members.{in_at, in_all, put_or_in}
+use Rattle.zone_table.specs.Needs.{CanTake, Counts, HasRoomFor, IsPrepared, IsReadyFor, IsRoomFor, KeepsRoom}
+use Rattle.zone_list.specs.Zones.{Zone, AreListed, IsOne, IsZoneId, placed_in}
+use Rattle.zone_table.specs.Tables.{Table}
+use Rattle.zone_list.proofs.Listing.{as_many, kept_at, its_placed, listed_at, one_at, one_zone}
+use Rattle.zone_list.proofs.Members.{in_at, in_all, put_or_in}
 
 -- the order of two zones in the list
 abbrev Before : Zone → Zone → Type 0
@@ -288,6 +291,24 @@ can_take items i id more k kept listed inside at its_id enough j its at_j e = el
     mapped : (j : ℕ) (its : Kept) → slice_get items j ≡ Some its → slice_get (zones_of items) j ≡ Some its.zone
     mapped j its at = slice_get-map (λ (x : Kept). x.zone) items j ∙ ap (λ (o : Option Kept). option_map (λ (x : Kept). x.zone) o) at
 
+-- where a zone has more room the others keep theirs
+pub room_kept : (items : List Kept) (i : ℕ) (k kept : Kept) → i < length items → slice_get items i ≡ Some k → k.room ≤ kept.room
+    → (j : ℕ) (its its_now : Kept) → slice_get items j ≡ Some its → slice_get (slice_set items i kept) j ≡ Some its_now → its.room ≤ its_now.room
+room_kept items i k kept inside at more j its its_now at_j now_j = elim (cases_eq i j) [
+  | inl same ↦
+      (let here : kept ≡ its_now = set_here items i kept its_now inside (subst (λ n. slice_get (slice_set items i kept) n ≡ Some its_now) (sym same) now_j) in
+      let at_i : slice_get items i ≡ Some its = subst (λ n. slice_get items n ≡ Some its) (sym same) at_j in
+      let was : k ≡ its = grind (arith, at, at_i) in
+      let room : k.room ≡ its.room = ap (λ (x : Kept). x.room) was in
+      let room_now : kept.room ≡ its_now.room = ap (λ (x : Kept). x.room) here in
+      omega (arith, more, room, room_now))
+  | inr apart ↦
+      (let at_now : slice_get items j ≡ Some its_now = sym (set_elsewhere items i j kept apart) ∙ now_j in
+      let one : its ≡ its_now = grind (arith, at_j, at_now) in
+      let room : its.room ≡ its_now.room = ap (λ (x : Kept). x.room) one in
+      omega (arith, room))
+]
+
 pub none_to_take : (items : List Kept) (id more : ℕ) → (IsZoneId (zones_of items) id → ⊥) → CanTake items id more
 none_to_take items id more none i its at e =
     let zone_at : slice_get (zones_of items) i ≡ Some its.zone =
@@ -300,6 +321,10 @@ module _ {X E : Type 0} where
   pub ok_so : {P Q : X → Type 0} (r : Result X E) → IfOk r P → ((x : X) → P x → Q x) → IfOk r Q
   ok_so (Ok x) p f = f x p
   ok_so (Err e) p f = tt
+
+  pub on_ok : {P : Type 0} (r : Result X E) → P → OnOk r P
+  on_ok (Ok x) p = p
+  on_ok (Err e) p = tt
 
   pub on_ok_so : {P Q : Type 0} (r : Result X E) → OnOk r P → (P → Q) → OnOk r Q
   on_ok_so (Ok x) p f = f p
@@ -351,6 +376,35 @@ is_ready old now edits made need ready allowed counts same room prepared = recor
               let same_room = k.3 in
               omega (arith, enough, same_room)),
         )
+
+-- the zone at a place, with its room
+kept_of : (items : List Kept) (i : ℕ) (zone : Zone) → slice_get (zones_of items) i ≡ Some zone → (k : Kept) × (slice_get items i ≡ Some k) × (k.zone ≡ zone)
+kept_of [] i zone at = absurd (grind (arith, at))
+kept_of (k ∷ items) zero zone at = (k, refl, grind (arith, at))
+kept_of (k ∷ items) (suc i) zone at = kept_of items i zone at
+
+pub stay_ready : (old now : Vec Kept Global) (edits : ℕ) → zones_of now.items ≡ zones_of old.items → KeepsRoom old now → StayReady (table_of old edits) (table_of now edits)
+stay_ready old now edits same keeps ready is = record {
+  edits = is.edits;
+  allowed = subst (λ zs. IsAllowed zs ready.made) (sym same) is.allowed;
+  room = by ready.made is.room;
+}
+  where
+    by : (m : ZoneEdit) → HasRoom (table_of old edits) ready m → HasRoom (table_of now edits) ready m
+    by (edit.Open zone name sets) room = ((let some = room.0 in let spare = keeps.spare in omega (arith, some, spare)), room.1, room.2)
+    by (edit.Close zone) room = subst (λ zs. length (placed_in zs zone) ≤ ready.removable) (sym same) room
+    by (edit.Change zone remove add) room = (room.0, room.1, enough)
+      where
+        enough : (i : ℕ) (its : Zone) (its_room : ℕ) → slice_get (zones_of now.items) i ≡ Some its → slice_get (map (λ (k : Kept). k.room) now.items) i ≡ Some its_room → its.id ≡ zone → length add ≤ its_room
+        enough i its its_room at at_room e =
+            let after = kept_pair now.items i its its_room at at_room in
+            let before = kept_of old.items i its (subst (λ zs. slice_get zs i ≡ Some its) same at) in
+            let had : length add ≤ before.0.room =
+            room.2 i its before.0.room (subst (λ zs. slice_get zs i ≡ Some its) same at)
+            (slice_get-map (λ (k : Kept). k.room) old.items i ∙ ap (λ (o : Option Kept). option_map (λ (k : Kept). k.room) o) before.1) e in
+            let more = keeps.rooms i before.0 after.0 before.1 after.1 in
+            let same_room = after.3 in
+            omega (arith, had, more, same_room)
 
 pub ready_for : (list : Vec Kept Global) (edits : ℕ) (ready : Prepared) → IsReady (table_of list edits) ready → IsReadyFor list ready
 ready_for list edits ready is = record { allowed = is.allowed; room = by ready.made is.room }

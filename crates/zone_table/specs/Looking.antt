@@ -1,5 +1,5 @@
 -- What is found in a table of zones.
-use Rattle.std.specs.Prelude.{◌≡◌, ◌≤◌, ◌<◌, ◌+◌, ℕ, List, length, Bool, true, false, Option, None, Some}
+use Rattle.std.specs.Prelude.{◌≡◌, ◌≤◌, ◌+◌, ℕ, List, length, Bool, true, false, Option, None, Some}
 use Rattle.dns_name.specs.Suffix.{EndsWith}
 use Rattle.rdata_layout.specs.declared.types.RType.{RType}
 use Rattle.record_set.specs.declared.sets.RecordSet.{RecordSet}
@@ -9,8 +9,8 @@ use Rattle.set_search.specs.declared.bounds.Bound.TheVariants as bound
 use Rattle.set_search.specs.Found.{IsCount, IsGroupAt}
 use Rattle.zone_sets.specs.Placed.{Placed, IsHere, IsSlotAt, sets_of}
 use Rattle.zone_table.specs.declared.refs.Group.{Group}
-use Rattle.zone_table.specs.declared.refs.SetRef.{SetRef}
-use Rattle.zone_table.specs.Zones.{Zone, IsOne, IsZoneId, placed_in}
+use Rattle.zone_list.specs.declared.refs.SetRef.{SetRef}
+use Rattle.zone_list.specs.Zones.{Zone, IsOne, IsZoneId, placed_in}
 
 -- A group of a zone: its sets of this name and type, which stand side by side in zone order.
 pub record IsGroup (zones : List Zone) (id : ℕ) (name : List (List ℕ)) (rtype : RType) (group : Group) : Type 0 where
@@ -61,16 +61,6 @@ pub record Holds (zones : List Zone) (name : List (List ℕ)) (id : ℕ) : Type 
 abbrev pub HoldsOrNone : List Zone → (name : List (List ℕ)) → Option ℕ → Type 0
 HoldsOrNone zones name (Some id) = Holds zones name id
 HoldsOrNone zones name None = (zone : Zone) → IsOne zones zone → EndsWith name zone.apex → ⊥
-
--- The next zone by number.
-pub record IsNextZone (zones : List Zone) (id next : ℕ) : Type 0 where
-  pub there : IsZoneId zones next
-  pub above : id < next
-  pub least : (zone : Zone) → IsOne zones zone → id < zone.id → next ≤ zone.id
-
-abbrev pub NextZoneOrNone : List Zone → (id : ℕ) → Option ℕ → Type 0
-NextZoneOrNone zones id (Some next) = IsNextZone zones id next
-NextZoneOrNone zones id None = (zone : Zone) → IsOne zones zone → zone.id ≤ id
 
 -- the name of the zone with this number
 abbrev pub IsApex : List Zone → ℕ → (name : List (List ℕ)) → Type 0

@@ -1,12 +1,12 @@
 -- What an edit wants of memory.
-use Rattle.std.specs.Prelude.{◌≡◌, ◌≤◌, ◌<◌, ℕ, List, length, slice_get, Some, Vec, vec_capacity, ⊤}
+use Rattle.std.specs.Prelude.{◌≡◌, ◌≤◌, ◌<◌, ◌-◌, ℕ, List, length, slice_get, Some, Vec, vec_capacity, ⊤}
 use Rattle.std.specs.declared.alloc.Global.{Global}
 use Rattle.zone_table.specs.declared.edits.ZoneEdit.{ZoneEdit}
 use Rattle.zone_table.specs.declared.edits.ZoneEdit.TheVariants as edit
 use Rattle.zone_table.specs.declared.needs.Need.{Need}
 use Rattle.zone_table.specs.Edits.{IsAllowed, Prepared}
-use Rattle.zone_table.specs.Kept.{Kept, zones_of}
-use Rattle.zone_table.specs.Zones.{Zone, placed_in}
+use Rattle.zone_list.specs.Kept.{Kept, zones_of}
+use Rattle.zone_list.specs.Zones.{Zone, placed_in}
 
 -- how many sets an edit takes away, how many it puts, and how many of them into a zone that it opens
 abbrev pub Counts : List Zone → ZoneEdit → Need → Type 0
@@ -23,6 +23,11 @@ abbrev pub IsRoomFor : Vec Kept Global → ZoneEdit → Type 0
 IsRoomFor list (edit.Open zone name sets) = length list.items < vec_capacity list
 IsRoomFor list (edit.Close zone) = ⊤
 IsRoomFor list (edit.Change zone remove add) = CanTake list.items zone (length add)
+
+-- there is no less room, for zones and in each zone
+pub record KeepsRoom (before after : Vec Kept Global) : Type 0 where
+  pub spare : vec_capacity before - length before.items ≤ vec_capacity after - length after.items
+  pub rooms : (i : ℕ) (its its_now : Kept) → slice_get before.items i ≡ Some its → slice_get after.items i ≡ Some its_now → its.room ≤ its_now.room
 
 -- nothing of a ready edit wants memory
 abbrev pub HasRoomFor : Vec Kept Global → Prepared → ZoneEdit → Type 0

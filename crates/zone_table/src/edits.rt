@@ -2,12 +2,12 @@ ghost use Rattle.std.specs.Prelude.{◌≡◌, ◌≤◌, length, IfOk};
 ghost use Rattle.zone_table.specs.Needs.{IsPrepared};
 
 use crate::needs::Need;
-use crate::refs::SetRef;
 use dns_name::Name;
 use rdata::OutOfMemory;
 use record_set::{RecordSet, SetKey};
 use std::alloc::Global;
 use std::marker::Model;
+use zone_list::SetRef;
 use zone_sets::ZoneSets;
 
 /// Record sets, in any order.

@@ -4,17 +4,17 @@
 //! keeps its reference.
 #![tactic(auto)]
 
-mod changing;
 mod edits;
-mod finding;
+mod laws;
 mod making;
 mod needs;
 mod refs;
-mod stored;
 mod zones;
 
 pub use edits::{Ready, SetKeys, Sets, ZoneEdit};
+pub use laws::{one_apex, one_edit};
 pub use rdata::OutOfMemory;
-pub use refs::{Delta, Group, SetRef, SetRefs};
+pub use refs::{Delta, Group};
 pub use set_scratch::Scratch;
+pub use zone_list::{SetRef, SetRefs};
 pub use zones::Zones;

@@ -4,19 +4,18 @@ ghost use Rattle.std.specs.Prelude.{◌≡◌, ◌≤◌, ◌<◌, [], length, v
 ghost use Rattle.std.specs.List.{insert};
 ghost use Rattle.zone_table.specs.declared.edits.ZoneEdit.TheVariants.{Open, Close, Change};
 ghost use Rattle.zone_table.specs.Edits.{Edits, IsAllowed};
-ghost use Rattle.zone_table.specs.Kept.{zones_of};
+ghost use Rattle.zone_list.specs.Kept.{zones_of};
 ghost use Rattle.zone_table.specs.Needs.{CanTake, IsReadyFor};
-ghost use Rattle.zone_table.specs.Zones.{AreListed, placed_in};
+ghost use Rattle.zone_list.specs.Zones.{AreListed, placed_in};
 
 use crate::edits::{Ready, SetKeys, Sets, ZoneEdit};
-use crate::finding::{find_zone, first_from};
-use crate::refs::{Delta, SetRef, SetRefs};
-use crate::stored::Stored;
+use crate::refs::Delta;
 use dns_name::Name;
+use zone_list::{SetRef, SetRefs, StoredZone, find_zone, first_from};
 use zone_sets::ZoneSets;
 
 /// Makes an edit that is ready.
-pub fn make(list: &mut Vec<Stored>, ready: Ready) -> Delta
+pub fn make(list: &mut Vec<StoredZone>, ready: Ready) -> Delta
     requires listed { AreListed (zones_of list.old.items) }
     requires ready { IsReadyFor list.old ready }
     ensures listed { AreListed (zones_of list.new.items) }
@@ -38,7 +37,7 @@ pub fn make(list: &mut Vec<Stored>, ready: Ready) -> Delta
 
 /// Opens a zone with these sets.
 fn open(
-    list: &mut Vec<Stored>,
+    list: &mut Vec<StoredZone>,
     zone: u32,
     name: Name,
     sets: Sets,
@@ -57,7 +56,7 @@ fn open(
     ensures listed { AreListed (zones_of list.new.items) }
     ensures edits { Edits (zones_of list.old.items) (Open zone name sets) (zones_of list.new.items) result }
 {
-    let mut opened = Stored::new(zone, name, blank);
+    let mut opened = StoredZone::new(zone, name, blank);
     opened.change(&[], sets.into_vec(), &mut removed, &mut added);
     let place = first_from(list, zone);
     insert_zone(list, place, opened);
@@ -69,7 +68,7 @@ fn open(
 }
 
 /// Puts a zone before the place.
-fn insert_zone(list: &mut Vec<Stored>, place: usize, zone: Stored)
+fn insert_zone(list: &mut Vec<StoredZone>, place: usize, zone: StoredZone)
     requires place { place ≤ length list.old.items }
     requires room { length list.old.items < vec_capacity list.old }
     ensures { list.new.items ≡ insert list.old.items place zone }
@@ -81,7 +80,12 @@ fn insert_zone(list: &mut Vec<Stored>, place: usize, zone: Stored)
 }
 
 /// Closes a zone.
-fn close(list: &mut Vec<Stored>, zone: u32, mut removed: Vec<SetRef>, added: Vec<SetRef>) -> Delta
+fn close(
+    list: &mut Vec<StoredZone>,
+    zone: u32,
+    mut removed: Vec<SetRef>,
+    added: Vec<SetRef>,
+) -> Delta
     requires listed { AreListed (zones_of list.old.items) }
     requires allowed { IsAllowed (zones_of list.old.items) (Close zone) }
     requires none_removed { removed.items ≡ [] }
@@ -104,7 +108,7 @@ fn close(list: &mut Vec<Stored>, zone: u32, mut removed: Vec<SetRef>, added: Vec
 
 /// Changes the sets of a zone.
 fn change(
-    list: &mut Vec<Stored>,
+    list: &mut Vec<StoredZone>,
     zone: u32,
     remove: SetKeys,
     add: Sets,

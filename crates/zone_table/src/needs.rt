@@ -1,15 +1,14 @@
 //! What an edit wants of memory.
 
 ghost use Rattle.std.specs.Prelude.{◌≡◌, length, OnOk};
-ghost use Rattle.zone_table.specs.Kept.{zones_of};
-ghost use Rattle.zone_table.specs.Needs.{CanTake, Counts, IsRoomFor};
-ghost use Rattle.zone_table.specs.Zones.{AreListed, placed_in};
+ghost use Rattle.zone_list.specs.Kept.{zones_of};
+ghost use Rattle.zone_table.specs.Needs.{CanTake, Counts, IsRoomFor, KeepsRoom};
+ghost use Rattle.zone_list.specs.Zones.{AreListed, placed_in};
 
 use crate::edits::ZoneEdit;
-use crate::finding::find_zone;
-use crate::stored::Stored;
 use rdata::OutOfMemory;
 use set_search::SetList;
+use zone_list::{StoredZone, find_zone};
 
 /// How many references and sets an edit is about.
 #[derive(Clone, Copy)]
@@ -23,7 +22,7 @@ pub struct Need {
 }
 
 /// How much an edit wants.
-pub fn need_of(list: &[Stored], edit: &ZoneEdit) -> Need
+pub fn need_of(list: &[StoredZone], edit: &ZoneEdit) -> Need
     requires { AreListed (zones_of list.now) }
     ensures { Counts (zones_of list.now) edit.now result }
 {
@@ -47,7 +46,7 @@ pub fn need_of(list: &[Stored], edit: &ZoneEdit) -> Need
 }
 
 /// How many sets a zone has.
-fn count_sets(list: &[Stored], zone: u32) -> usize
+fn count_sets(list: &[StoredZone], zone: u32) -> usize
     requires { AreListed (zones_of list.now) }
     ensures { result ≡ length (placed_in (zones_of list.now) zone) }
 {
@@ -58,10 +57,11 @@ fn count_sets(list: &[Stored], zone: u32) -> usize
 }
 
 /// Makes room among the zones for an edit.
-pub fn reserve_for(list: &mut Vec<Stored>, edit: &ZoneEdit) -> Result<(), OutOfMemory>
+pub fn reserve_for(list: &mut Vec<StoredZone>, edit: &ZoneEdit) -> Result<(), OutOfMemory>
     requires { AreListed (zones_of list.old.items) }
     ensures zones { zones_of list.new.items ≡ zones_of list.old.items }
     ensures room { OnOk result (IsRoomFor list.new edit.now) }
+    ensures kept { OnOk result (KeepsRoom list.old list.new) }
 {
     match edit {
         ZoneEdit::Open { .. } => {
@@ -74,10 +74,11 @@ pub fn reserve_for(list: &mut Vec<Stored>, edit: &ZoneEdit) -> Result<(), OutOfM
 }
 
 /// Makes room in a zone for so many sets.
-fn reserve_in(list: &mut Vec<Stored>, zone: u32, more: usize) -> Result<(), OutOfMemory>
+fn reserve_in(list: &mut Vec<StoredZone>, zone: u32, more: usize) -> Result<(), OutOfMemory>
     requires { AreListed (zones_of list.old.items) }
     ensures zones { zones_of list.new.items ≡ zones_of list.old.items }
     ensures room { OnOk result (CanTake list.new.items zone more) }
+    ensures kept { OnOk result (KeepsRoom list.old list.new) }
 {
     match find_zone(list, zone) {
         Some(place) => list[place].reserve(more),

@@ -1,17 +1,16 @@
-ghost use Rattle.std.specs.Prelude.{◌≡◌, ◌≢◌, ◌<◌, ◌+◌, ◌%◌, ◌^◌, length, List, ℕ, [], IfOk, IsTrue, ◌↔◌};
+ghost use Rattle.std.specs.Prelude.{◌≡◌, ◌≢◌, ◌<◌, ◌+◌, ◌%◌, ◌^◌, length, List, ℕ, [], IfOk, OnOk, IsTrue, ◌↔◌};
 ghost use Rattle.r53_model.specs.Existing.{Exists, IsAncestor, IsClosest};
 ghost use Rattle.zone_sets.specs.Placed.{IsSlotAt, sets_of};
-ghost use Rattle.zone_table.specs.Kept.{GetsZone};
-ghost use Rattle.zone_table.specs.Edits.{Edits, IsAllowed, IsReady};
-ghost use Rattle.zone_table.specs.Looking.{ApexOrNone, HoldsOrNone, IsApex, IsGroup, IsGroupNow, IsMember, IsNext, Loads, NextZoneOrNone, SlotBehind, bound_of};
-ghost use Rattle.zone_table.specs.Zones.{AreZones, IsZoneId, placed_in};
+ghost use Rattle.zone_list.specs.Kept.{GetsZone};
+ghost use Rattle.zone_table.specs.Edits.{Edits, IsAllowed, IsReady, StayReady};
+ghost use Rattle.zone_table.specs.Looking.{ApexOrNone, HoldsOrNone, IsApex, IsGroup, IsGroupNow, IsMember, IsNext, Loads, SlotBehind, bound_of};
+ghost use Rattle.zone_list.specs.Found.{NextZoneOrNone};
+ghost use Rattle.zone_list.specs.Zones.{AreZones, IsZoneId, placed_in};
 
 use crate::edits::{Ready, ZoneEdit};
-use crate::finding::{find_zone, longest, next_id};
 use crate::making::make;
 use crate::needs::{need_of, reserve_for};
-use crate::refs::{Delta, Group, SetRef};
-use crate::stored::Stored;
+use crate::refs::{Delta, Group};
 use dns_name::Name;
 use rdata::{OutOfMemory, RType};
 use record_set::{RecordSet, SetKey};
@@ -19,20 +18,22 @@ use set_scratch::Scratch;
 use set_search::{Bound, SetList, closest_in, count_before, exists_in, group_in};
 use std::alloc::Global;
 use std::marker::Model;
+use zone_list::{SetRef, StoredZone, find_zone, longest, next_id};
 use zone_sets::ZoneSets;
 
 /// The zones of a server, by rising number.
 #[derive(Drop)]
 pub struct Zones {
-    list: Vec<Stored>,
+    list: Vec<StoredZone>,
     /// How many edits were made, modulo 2^64.
     edits: u64,
 }
 
 impl Model for Zones {
     ghost use Rattle.std.specs.Prelude.{◌-◌, length, map, vec_capacity};
-    ghost use Rattle.zone_table.specs.Kept.{zones_of};
-    ghost use Rattle.zone_table.specs.Zones.{AreListed, Table};
+    ghost use Rattle.zone_list.specs.Kept.{zones_of};
+    ghost use Rattle.zone_list.specs.Zones.{AreListed};
+    ghost use Rattle.zone_table.specs.Tables.{Table};
 
     ghost Value = { Table };
 
@@ -192,13 +193,15 @@ impl Zones {
         }
     }
 
-    /// Makes an edit ready: takes all its memory. The zones stay as they are.
+    /// Makes an edit ready: takes all its memory. The zones stay as they are, and edits that are ready stay ready where it
+    /// succeeds.
     pub fn ready(&mut self, alloc: Global, edit: ZoneEdit) -> Result<Ready, OutOfMemory>
         requires { IsAllowed self.old.zones edit }
         ensures zones { self.new.zones ≡ self.old.zones }
         ensures edits { self.new.edits ≡ self.old.edits }
         ensures made { IfOk result (λ ready. ready.made ≡ edit) }
         ensures ready { IfOk result (λ ready. IsReady self.new ready) }
+        ensures others { OnOk result (StayReady self.old self.new) }
     {
         let need = need_of(&self.list, &edit);
         reserve_for(&mut self.list, &edit)?;
@@ -216,7 +219,7 @@ impl Zones {
     }
 
     /// The zone of a number.
-    fn stored(&self, zone: u32) -> Option<&Stored>
+    fn stored(&self, zone: u32) -> Option<&StoredZone>
         ensures { GetsZone self.now.zones zone result }
     {
         match find_zone(&self.list, zone) {

@@ -1,5 +1,5 @@
 use Rattle.std.proofs.Common.{sym}
-use Rattle.zone_table.specs.Zones.{placed_in}
+use Rattle.zone_list.specs.Zones.{placed_in}
 use Rattle.zone_rows.proofs.Changed.{change_allowed}
 use Rattle.zone_rows.proofs.allowed.is_allowed_change.Goals as goal
 
@@ -7,4 +7,4 @@ pub returns : goal.returns
 returns c h =
     let zones = c.args.zones.now.zones in
     let can = c.can_change.ensures h (placed_in zones c.args.zone) (sym c.requires.sets) in
-    change_allowed zones c.args.zone c.args.name.now c.args.remove.now c.as_slice.result.now c.args.add.now c.as_slice-2.result.now c.well_formed-2.ensures.listed c.requires.name c.as_slice.ensures c.as_slice-2.ensures can
+    change_allowed c.one_apex.ensures zones c.args.zone c.args.name.now c.args.remove.now c.as_slice.result.now c.args.add.now c.as_slice-2.result.now c.well_formed-2.ensures c.requires.name c.as_slice.ensures c.as_slice-2.ensures can

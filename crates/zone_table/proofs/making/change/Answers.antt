@@ -4,8 +4,9 @@ use Rattle.std.proofs.lemmas.Option.{slice_get_read}
 use Rattle.record_set.specs.declared.sets.RecordSet.{RecordSet}
 use Rattle.record_set.specs.declared.sets.SetKey.{SetKey}
 use Rattle.zone_table.specs.declared.edits.ZoneEdit.TheVariants.{Change}
-use Rattle.zone_table.specs.Edits.{CanChange, Changes}
-use Rattle.zone_table.specs.Kept.{Kept, IsAt, zones_of}
+use Rattle.zone_list.specs.Changes.{CanChange, Changes}
+use Rattle.zone_list.specs.Kept.{Kept, zones_of}
+use Rattle.zone_list.specs.Found.{IsAt}
 use Rattle.zone_table.proofs.Made.{it_is, its_can, changed_listed, changed_edits, told}
 use Rattle.zone_table.proofs.making.change.Goals as goal
 

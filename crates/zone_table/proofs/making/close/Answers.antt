@@ -3,8 +3,9 @@ use Rattle.std.specs.Prelude.{vec_capacity}
 use Rattle.zone_sets.specs.Placed.{Placed}
 use Rattle.zone_table.specs.declared.edits.ZoneEdit.TheVariants.{Close}
 use Rattle.zone_table.specs.Edits.{Edits}
-use Rattle.zone_table.specs.Kept.{Kept, IsAt, zones_of}
-use Rattle.zone_table.specs.Zones.{AreListed}
+use Rattle.zone_list.specs.Kept.{Kept, zones_of}
+use Rattle.zone_list.specs.Found.{IsAt}
+use Rattle.zone_list.specs.Zones.{AreListed}
 use Rattle.zone_table.proofs.Made.{it_is, its_sets, closed_listed, closed_edits, told}
 use Rattle.zone_table.proofs.making.close.Goals as goal
 

@@ -1,9 +1,11 @@
 use Rattle.std.proofs.Common.{◌≡◌, ◌∙◌, [], List, ap, sym, subst}
 use Rattle.record_set.specs.declared.sets.RecordSet.{RecordSet}
 use Rattle.zone_table.specs.declared.edits.ZoneEdit.TheVariants.{Open}
-use Rattle.zone_table.specs.Edits.{Changes, Edits}
-use Rattle.zone_table.specs.Kept.{Kept, IsSplit, zones_of}
-use Rattle.zone_table.specs.Zones.{AreListed, Zone}
+use Rattle.zone_list.specs.Changes.{Changes}
+use Rattle.zone_table.specs.Edits.{Edits}
+use Rattle.zone_list.specs.Kept.{Kept, zones_of}
+use Rattle.zone_list.specs.Found.{IsSplit}
+use Rattle.zone_list.specs.Zones.{AreListed, Zone}
 use Rattle.zone_table.proofs.Made.{opened_listed, opened_edits, told}
 use Rattle.zone_table.proofs.making.open.Goals as goal
 

@@ -1,6 +1,6 @@
 use Rattle.std.proofs.Common.{sym, subst}
 use Rattle.zone_table.specs.Edits.{IsReady}
-use Rattle.zone_table.specs.Zones.{Table}
+use Rattle.zone_table.specs.Tables.{Table}
 use Rattle.zone_table.proofs.Made.{ready_for}
 use Rattle.zone_table.proofs.zones.Zones.edit.Goals as goal
 

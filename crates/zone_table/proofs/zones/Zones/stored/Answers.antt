@@ -1,8 +1,10 @@
 use Rattle.std.proofs.Common.{◌≡◌, ◌<◌, ◌∙◌, List, [], ap, length, subst, arith}
 use Rattle.std.proofs.lemmas.Option.{slice_get_within}
-use Rattle.zone_table.specs.Kept.{Kept, IsAt, IsStored, zones_of}
-use Rattle.zone_table.specs.Zones.{Table, IsZoneId, Zone, placed_in}
-use Rattle.zone_table.proofs.Listing.{as_many, kept_at, none_placed, one_at, stored_one}
+use Rattle.zone_list.specs.Kept.{Kept, IsStored, zones_of}
+use Rattle.zone_list.specs.Found.{IsAt}
+use Rattle.zone_table.specs.Tables.{Table}
+use Rattle.zone_list.specs.Zones.{IsZoneId, Zone, placed_in}
+use Rattle.zone_list.proofs.Listing.{as_many, kept_at, none_placed, one_at, stored_one}
 use Rattle.zone_table.proofs.zones.Zones.stored.Goals as goal
 
 pub returns-in-Some : goal.returns-in-Some

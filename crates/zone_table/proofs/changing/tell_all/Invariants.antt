@@ -1,6 +1,0 @@
-use Rattle.std.proofs.Common.{◌≡◌, map, take}
-use Rattle.zone_table.specs.Edits.{ref_in}
-use Rattle.zone_table.proofs.changing.tell_all.Given as goal
-
-abbrev pub invariant-loop-place : goal.invariant-loop-place
-invariant-loop-place l = l.told.items ≡ map (ref_in l.zone) (take l.place l.sets.placed)

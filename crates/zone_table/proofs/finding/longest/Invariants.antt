@@ -1,6 +1,0 @@
-use Rattle.std.proofs.Common.{take}
-use Rattle.zone_table.specs.Kept.{LongestOrNone, zones_of}
-use Rattle.zone_table.proofs.finding.longest.Given as goal
-
-abbrev pub invariant-loop-zone : goal.invariant-loop-zone
-invariant-loop-zone l = LongestOrNone (zones_of (take l.zone-index l.list)) l.name l.found

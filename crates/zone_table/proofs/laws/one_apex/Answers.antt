@@ -1,0 +1,5 @@
+use Rattle.zone_table.proofs.Once as once
+use Rattle.zone_table.proofs.laws.one_apex.Goals as goal
+
+pub returns : goal.returns
+returns c = once.one_apex
