@@ -51,9 +51,20 @@ mixed sets j i x y rising next at_j at_i = (there, here)
               subst (λ s. policy_of x.routing ≢ policy_of s.routing) same (subst (λ s. policy_of s.routing ≢ policy_of set.routing) first h.differs),
             )
 
--- no set stands before the first
-pub first_alone : (sets : List RecordSet) → BreaksAt OnePolicy sets [] 0 → ⊥
-first_alone sets (set, at_set, h) = let lt = h.earlier in omega (arith, lt)
+-- the same where the group is known to begin before it
+pub mixed_within : (sets : List RecordSet) (start j i : ℕ) (x y : RecordSet) → IsRising sets → IsStart sets start i → start < i → j + 1 ≡ i → slice_get sets j ≡ Some x → slice_get sets i ≡ Some y
+    → (policy_of x.routing ≢ policy_of y.routing) ↔ BreaksAt OnePolicy sets [] i
+mixed_within sets start j i x y rising s below next at_j at_i =
+    let m = mixed sets j i x y rising next at_j at_i in
+    let g = (s.same j x y (omega (arith, next)) at_j at_i).0 (omega (arith, below, next)) in
+    ((λ differs. m.0 (g, differs)), λ breaks. (m.1 breaks).1)
+
+-- no set of its group stands before the first
+pub first_alone : (sets : List RecordSet) (i : ℕ) → IsStart sets i i → BreaksAt OnePolicy sets [] i → ⊥
+first_alone sets i s (set, at_set, h) =
+    let earlier = h.earlier in
+    let le = (s.same h.at h.set_before set (omega (arith, earlier)) h.there at_set).1 h.one_group in
+    omega (arith, le, earlier)
 
 -- the group goes on
 pub goes_on : (sets : List RecordSet) (start j i : ℕ) (x y : RecordSet) → j + 1 ≡ i → slice_get sets j ≡ Some x → slice_get sets i ≡ Some y

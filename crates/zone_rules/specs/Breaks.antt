@@ -1,15 +1,26 @@
 -- The first rule that is broken, and where.
-use Rattle.std.specs.Prelude.{◌≡◌, ◌<◌, ℕ, List, length, slice_get, Option, None, Some}
+use Rattle.std.specs.Prelude.{◌≡◌, ◌<◌, ℕ, List, [], length, slice_get, Option, None, Some}
 use Rattle.record_set.specs.declared.sets.RecordSet.{RecordSet}
 use Rattle.record_set.specs.Sets.{key_of}
 use Rattle.r53_model.specs.declared.refusals.BatchRefusal.{BatchRefusal}
 use Rattle.r53_model.specs.declared.refusals.BatchRefusal.TheVariants as batch
 use Rattle.r53_model.specs.Rules.{Rule, OnePolicy, CnameAlone, OwnPlace, GroupSize, rules, BreaksAt, NoneBreaksBefore, MeetsAll, IsFirstBreak}
+use Rattle.zone_rules.specs.Groups.{NoneFarBefore}
 
 -- the place of the first set that breaks a rule, or none
 abbrev pub IsFirstPlace : Rule → List RecordSet → (apex : List (List ℕ)) → Option ℕ → Type 0
 IsFirstPlace rule sets apex None = NoneBreaksBefore rule sets apex (length sets)
 IsFirstPlace rule sets apex (Some i) = (i < length sets) × BreaksAt rule sets apex i × NoneBreaksBefore rule sets apex i
+
+-- the place of the first set before place n that breaks a rule on groups, or none
+abbrev pub IsFirstBefore : Rule → List RecordSet → (n : ℕ) → Option ℕ → Type 0
+IsFirstBefore rule sets n None = NoneBreaksBefore rule sets [] n
+IsFirstBefore rule sets n (Some i) = (i < n) × BreaksAt rule sets [] i × NoneBreaksBefore rule sets [] i
+
+-- where the first group begins that has more than 100 sets before place n, or none
+abbrev pub IsFullBefore : List RecordSet → (n : ℕ) → Option ℕ → Type 0
+IsFullBefore sets n None = NoneFarBefore sets n
+IsFullBefore sets n (Some start) = IsFirstPlace GroupSize sets [] (Some start)
 
 -- the name of the first set that breaks a rule, or none
 abbrev pub IsFirstName : Rule → List RecordSet → (apex : List (List ℕ)) → Option (List (List ℕ)) → Type 0

@@ -2,9 +2,7 @@ ghost use Rattle.r53_model.specs.Zones.{IsRising};
 ghost use Rattle.zone_rules.specs.Breaks.{TellsBreak};
 
 use crate::cname::first_conflict;
-use crate::places::first_same_place;
-use crate::policies::first_mixed;
-use crate::sizes::first_full;
+use crate::findings::look_at_groups;
 use dns_name::Name;
 use r53_model::BatchRefusal;
 use record_set::RecordSet;
@@ -14,16 +12,17 @@ pub fn first_break(sets: &[RecordSet], apex: &Name) -> Option<BatchRefusal>
     requires { IsRising sets.now }
     ensures { TellsBreak sets.now apex.now result }
 {
-    if let Some(i) = first_mixed(sets) {
+    let findings = look_at_groups(sets);
+    if let Some(i) = findings.mixed {
         return Some(BatchRefusal::MixedPolicies(sets[i].key()));
     }
     if let Some(name) = first_conflict(sets, apex) {
         return Some(BatchRefusal::CnameConflict(name));
     }
-    if let Some(i) = first_same_place(sets) {
+    if let Some(i) = findings.same_place {
         return Some(BatchRefusal::SamePlace(sets[i].key()));
     }
-    if let Some(i) = first_full(sets) {
+    if let Some(i) = findings.full {
         return Some(BatchRefusal::GroupFull(sets[i].name, sets[i].rtype));
     }
     None

@@ -1,4 +1,4 @@
-ghost use Rattle.std.specs.Prelude.{◌≡◌, ◌<◌, length, IsTrue, ◌↔◌};
+ghost use Rattle.std.specs.Prelude.{◌≡◌, ◌<◌, ◌⊎◌, length, IsTrue, ◌↔◌};
 ghost use Rattle.r53_model.specs.Rules.{AreOneGroup};
 ghost use Rattle.r53_model.specs.Zones.{IsRising};
 ghost use Rattle.zone_rules.specs.Groups.{IsStart, IsStartBefore};
@@ -25,7 +25,8 @@ pub fn start_of(sets: &[RecordSet], start: usize, i: usize) -> usize
     requires rising { IsRising sets.now }
     requires within { i < length sets.now }
     requires before { IsStartBefore sets.now start i }
-    ensures { IsStart sets.now result i }
+    ensures start { IsStart sets.now result i }
+    ensures which { (result ≡ start) ⊎ (result ≡ i) }
 {
     if i > 0 && is_one_group(&sets[i - 1], &sets[i]) {
         return start;

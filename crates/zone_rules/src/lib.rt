@@ -5,7 +5,9 @@
 
 mod breaks;
 mod cname;
+mod findings;
 mod groups;
+mod marks;
 mod places;
 mod policies;
 mod sizes;

@@ -1,35 +1,33 @@
 ghost use Rattle.std.specs.Prelude.{◌≡◌, ◌<◌, ◌≤◌, [], length, IsTrue, ◌↔◌};
 ghost use Rattle.r53_model.specs.Rules.{OwnPlace, BreaksAt, AreOnePlace};
-ghost use Rattle.r53_model.specs.Zones.{IsRising};
-ghost use Rattle.zone_rules.specs.Breaks.{IsFirstPlace};
 ghost use Rattle.zone_rules.specs.Groups.{IsStart};
+ghost use Rattle.zone_rules.specs.Marks.{AreMarked};
 
-use crate::groups::start_of;
+use crate::marks::{Marks, is_marked};
 use record_set::{RecordSet, Role, Routing};
 
-/// The place of the first set that has the place, failover role or region of an earlier set of its group.
-pub fn first_same_place(sets: &[RecordSet]) -> Option<usize>
-    requires { IsRising sets.now }
-    ensures { IsFirstPlace OwnPlace sets.now [] result }
+/// Whether the set at place `i` has the place, failover role or region of an earlier set of its group, which begins at `start`.
+pub fn has_same_place(sets: &[RecordSet], marks: &Marks, start: usize, i: usize) -> bool
+    requires within { i < length sets.now }
+    requires start { IsStart sets.now start i }
+    requires marks { AreMarked sets.now marks.now start i }
+    ensures { IsTrue result ↔ BreaksAt OwnPlace sets.now [] i }
 {
-    let mut start = 0;
-    for i in 0..sets.len() {
-        start = start_of(sets, start, i);
-        if has_same_place(sets, start, i) {
-            return Some(i);
-        }
+    if !is_marked(marks, &sets[i].routing) {
+        return false;
     }
-    None
+    is_place_taken(sets, start, i)
 }
 
-/// Whether the set at the place has the place, failover role or region of a set from the group's start on.
-fn has_same_place(sets: &[RecordSet], start: usize, i: usize) -> bool
+/// The same by comparing it with each set of its group before it.
+fn is_place_taken(sets: &[RecordSet], start: usize, i: usize) -> bool
     requires within { i < length sets.now }
     requires start { IsStart sets.now start i }
     ensures { IsTrue result ↔ BreaksAt OwnPlace sets.now [] i }
 {
+    let own = &sets[i].routing;
     for k in start..i {
-        if is_one_place(&sets[k].routing, &sets[i].routing) {
+        if is_one_place(&sets[k].routing, own) {
             return true;
         }
     }

@@ -1,34 +1,21 @@
 ghost use Rattle.std.specs.Prelude.{◌≡◌, ◌<◌, [], length, IsTrue, ◌↔◌};
 ghost use Rattle.r53_model.specs.Rules.{OnePolicy, BreaksAt, policy_of};
 ghost use Rattle.r53_model.specs.Zones.{IsRising};
-ghost use Rattle.zone_rules.specs.Breaks.{IsFirstPlace};
+ghost use Rattle.zone_rules.specs.Groups.{IsStart};
 
-use crate::groups::is_one_group;
 use record_set::{RecordSet, Routing};
 
-/// The place of the first set whose policy differs from that of the set before it in its group.
-pub fn first_mixed(sets: &[RecordSet]) -> Option<usize>
-    requires { IsRising sets.now }
-    ensures { IsFirstPlace OnePolicy sets.now [] result }
-{
-    for i in 0..sets.len() {
-        if is_mixed(sets, i) {
-            return Some(i);
-        }
-    }
-    None
-}
-
-/// Whether the set at the place has another policy than the set before it in its group.
-fn is_mixed(sets: &[RecordSet], i: usize) -> bool
+/// Whether the set at place `i` has another policy than the set before it in its group, which begins at `start`.
+pub fn is_mixed(sets: &[RecordSet], start: usize, i: usize) -> bool
     requires rising { IsRising sets.now }
     requires within { i < length sets.now }
+    requires start { IsStart sets.now start i }
     ensures { IsTrue result ↔ BreaksAt OnePolicy sets.now [] i }
 {
-    if i == 0 {
+    if start == i {
         return false;
     }
-    is_one_group(&sets[i - 1], &sets[i]) && !is_one_policy(&sets[i - 1].routing, &sets[i].routing)
+    !is_one_policy(&sets[i - 1].routing, &sets[i].routing)
 }
 
 /// Whether the two have one policy.

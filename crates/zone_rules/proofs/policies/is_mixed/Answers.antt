@@ -1,16 +1,30 @@
-use Rattle.std.proofs.Common.{◌-◌, refl, arith}
-use Rattle.std.proofs.lemmas.Option.{slice_get_read}
-use Rattle.zone_rules.proofs.Runs.{mixed}
+use Rattle.std.proofs.Common.{◌-◌, Bool, true, false, not, get_or, refl, arith, subst}
+use Rattle.std.specs.Prelude.{◌↔◌, IsTrue}
+use Rattle.std.proofs.lemmas.Option.{slice_get-get_or}
+use Rattle.zone_rules.specs.Groups.{IsStart}
+use Rattle.zone_rules.proofs.Runs.{mixed_within, first_alone}
 use Rattle.zone_rules.proofs.policies.is_mixed.Goals as goal
 
-pub returns-else-is_one_group : goal.returns-else-is_one_group
-returns-else-is_one_group c =
+-- what holds where a test fails
+negated : (P Q : Type 0) (test : Bool) → (IsTrue test ↔ P) → ((P → ⊥) ↔ Q) → (IsTrue (not test) ↔ Q)
+negated P Q true t q = ((λ no_test. absurd (grind (arith, no_test))), λ h. absurd (q.1 h (t.0 refl)))
+negated P Q false t q = ((λ e. q.0 (λ p. let yes = t.1 p in grind (arith, yes))), λ h. refl)
+
+pub returns-then-start-i : goal.returns-then-start-i
+returns-then-start-i c =
+    let s = subst (λ n. IsStart c.args.sets.now n c.args.i) c.if-start-i.true c.requires.start in
+    ((λ t. absurd (grind (arith, t))), λ breaks. absurd (first_alone c.args.sets.now c.args.i s breaks))
+
+pub returns : goal.returns
+returns c =
+    let sets = c.args.sets.now in
+    let i = c.args.i in
     let within = c.requires.within in
-    let x = c.index-sets-i in
-    let y = c.index-sets-i-2 in
-    let m = mixed c.args.sets.now (c.args.i - 1) c.args.i x.result y.result c.requires.rising (let n = c.if-i-eq0.false in omega (arith, n))
-    (slice_get_read c.args.sets.now _ (c.args.i - 1) x.result refl (omega (arith, within)) x.is)
-    (slice_get_read c.args.sets.now _ c.args.i y.result refl within y.is) in
-    let e = c.is_one_group.ensures in
-    let f = c.if-is_one_group.false in
-    (λ t. absurd (grind (arith, t, f)), λ b. e.1 (m.1 b).0)
+    let le = c.requires.start.within in
+    let apart = c.if-start-i.false in
+    let x = get_or sets (i - 1) c.index-sets-i.result in
+    let y = get_or sets i c.index-sets-i-2.result in
+    negated _ _ c.is_one_policy.result c.is_one_policy.ensures
+    (mixed_within sets c.args.start (i - 1) i x y c.requires.rising c.requires.start (omega (arith, le, apart)) (omega (arith, le, apart))
+    (slice_get-get_or sets (i - 1) c.index-sets-i.result (omega (arith, within)))
+    (slice_get-get_or sets i c.index-sets-i-2.result within))
