@@ -22,103 +22,114 @@ fn is_on_the_wire(name: &Name, octets: &[u8]) -> bool {
     &into[..n] == octets
 }
 
+/// Tries to read a text that is no name.
+fn has_no_name(rt: &impl Abort, text: &[u8], fault: NameFault) {
+    assert_eq!(rt; Name::from_text(text).err(), Some(fault), "{text:?}");
+}
+
 #[test]
 fn texts_without_a_name(rt: HostRuntime) {
-    let rows = [
-        (b"a..b".as_slice(), NameFault::EmptyLabel(2)),
-        (b"".as_slice(), NameFault::EmptyLabel(0)),
-        (b".a".as_slice(), NameFault::EmptyLabel(0)),
-        (b"..".as_slice(), NameFault::EmptyLabel(0)),
-        (b"a\\9".as_slice(), NameFault::BadEscape(1)),
-        (b"a\\.b".as_slice(), NameFault::BadEscape(1)),
-        (b"\\400".as_slice(), NameFault::BadEscape(0)),
-        (b"\\12".as_slice(), NameFault::BadEscape(0)),
-        (b"a b".as_slice(), NameFault::BadByte(1)),
-        (b"a\x7f".as_slice(), NameFault::BadByte(1)),
-        ([b'a'; 64].as_slice(), NameFault::LabelTooLong(63)),
+    let rows: [(&[u8], NameFault); 10] = [
+        (b"a..b", NameFault::EmptyLabel(2)),
+        (b"", NameFault::EmptyLabel(0)),
+        (b".a", NameFault::EmptyLabel(0)),
+        (b"..", NameFault::EmptyLabel(0)),
+        (b"a\\9", NameFault::BadEscape(1)),
+        (b"a\\.b", NameFault::BadEscape(1)),
+        (b"\\400", NameFault::BadEscape(0)),
+        (b"\\12", NameFault::BadEscape(0)),
+        (b"a b", NameFault::BadByte(1)),
+        (b"a\x7f", NameFault::BadByte(1)),
     ];
     for (text, fault) in rows {
-        assert_eq!(rt; Name::from_text(text).err(), Some(fault), "{text:?}");
+        has_no_name(&rt, text, fault);
     }
+    has_no_name(&rt, &[b'a'; 64], NameFault::LabelTooLong(63));
+}
+
+/// Reads a text and octets, and compares the name with the text that is written and with the octets.
+fn compare(rt: &impl Abort, text: &[u8], written: &[u8], octets: &[u8]) {
+    let read = name(rt, text);
+    assert!(rt; is_written(&read, written), "written: {text:?}");
+    assert!(rt; is_on_the_wire(&read, octets), "on the wire: {text:?}");
+    assert!(rt; name(rt, written) == read, "read again: {text:?}");
+    assert!(rt;
+        Name::from_wire(octets) == Some((read, octets.len())),
+        "from the wire: {text:?}"
+    );
 }
 
 #[test]
 fn texts_of_names(rt: HostRuntime) {
-    let rows = [
-        (b".".as_slice(), b".".as_slice(), b"\0".as_slice()),
+    let rows: [(&[u8], &[u8], &[u8]); 5] = [
+        (b".", b".", b"\0"),
         (
-            b"*.Example.com".as_slice(),
-            b"\\052.example.com.".as_slice(),
-            b"\x01*\x07example\x03com\0".as_slice(),
+            b"*.Example.com",
+            b"\\052.example.com.",
+            b"\x01*\x07example\x03com\0",
         ),
         // RFC 1035, 4.1.4
-        (
-            b"F.ISI.ARPA.".as_slice(),
-            b"f.isi.arpa.".as_slice(),
-            b"\x01f\x03isi\x04arpa\0".as_slice(),
-        ),
+        (b"F.ISI.ARPA.", b"f.isi.arpa.", b"\x01f\x03isi\x04arpa\0"),
         // an escaped letter in upper case, a dot within a label, the highest octet
         (
-            b"\\101.a\\056b.\\377".as_slice(),
-            b"a.a\\056b.\\377.".as_slice(),
-            b"\x01a\x03a.b\x01\xff\0".as_slice(),
+            b"\\101.a\\056b.\\377",
+            b"a.a\\056b.\\377.",
+            b"\x01a\x03a.b\x01\xff\0",
         ),
         (
-            b"_sip._tcp.x-1".as_slice(),
-            b"_sip._tcp.x-1.".as_slice(),
-            b"\x04_sip\x04_tcp\x03x-1\0".as_slice(),
+            b"_sip._tcp.x-1",
+            b"_sip._tcp.x-1.",
+            b"\x04_sip\x04_tcp\x03x-1\0",
         ),
     ];
     for (text, written, octets) in rows {
-        let read = name(&rt, text);
-        assert!(rt; is_written(&read, written), "written: {text:?}");
-        assert!(rt; is_on_the_wire(&read, octets), "on the wire: {text:?}");
-        assert!(rt; name(&rt, written) == read, "read again: {text:?}");
-        assert!(rt;
-            Name::from_wire(octets) == Some((read, octets.len())),
-            "from the wire: {text:?}"
-        );
+        compare(&rt, text, written, octets);
     }
 }
 
 #[test]
 fn octets_without_a_name(rt: HostRuntime) {
-    let rows = [
-        (b"".as_slice(), "nothing"),
-        (b"\x01a".as_slice(), "no end"),
-        (b"\x02a\0".as_slice(), "a label that is cut off"),
-        (b"\xc0\x0c".as_slice(), "a pointer"),
-        (b"\x40a\0".as_slice(), "a length octet of 64"),
+    let rows: [(&[u8], &str); 5] = [
+        (b"", "nothing"),
+        (b"\x01a", "no end"),
+        (b"\x02a\0", "a label that is cut off"),
+        (b"\xc0\x0c", "a pointer"),
+        (b"\x40a\0", "a length octet of 64"),
     ];
     for (octets, row) in rows {
         assert!(rt; Name::from_wire(octets).is_none(), "{row}");
     }
     assert!(rt;
-        Name::from_wire(b"\x01A\0\x01".as_slice()) == Some((name(&rt, b"a".as_slice()), 3)),
+        Name::from_wire(b"\x01A\0\x01") == Some((name(&rt, b"a"), 3)),
         "octets behind the name"
     );
 }
 
-#[test]
-fn parts_of_names(rt: HostRuntime) {
-    let www = name(&rt, b"www.example.com".as_slice());
-    let example = name(&rt, b"example.com".as_slice());
+/// Compares the parts of a name with those of the root.
+fn compare_parts(rt: &impl Abort, www: &Name) {
+    let example = name(rt, b"example.com");
     assert_eq!(rt; www.labels(), 3, "three labels");
     assert_eq!(rt; Name::root().labels(), 0, "the root has none");
     assert!(rt; www.parent() == Some(example), "parent");
     assert!(rt; Name::root().parent().is_none(), "the root has no parent");
     assert!(rt;
-        example.wildcard() == Some(name(&rt, b"*.example.com".as_slice())),
+        example.wildcard() == Some(name(rt, b"*.example.com")),
         "wildcard"
     );
-    let rows = [
-        (b"www.example.com".as_slice(), true, "itself"),
-        (b"example.com".as_slice(), true, "its parent"),
-        (b".".as_slice(), true, "the root"),
-        (b"ample.com".as_slice(), false, "a label's end"),
-        (b"www.example".as_slice(), false, "its first labels"),
-        (b"a.www.example.com".as_slice(), false, "a name below it"),
-        (b"example.org".as_slice(), false, "another"),
+}
+
+#[test]
+fn parts_of_names(rt: HostRuntime) {
+    let www = name(&rt, b"www.example.com");
+    compare_parts(&rt, &www);
+    let rows: [(&[u8], bool, &str); 7] = [
+        (b"www.example.com", true, "itself"),
+        (b"example.com", true, "its parent"),
+        (b".", true, "the root"),
+        (b"ample.com", false, "a label's end"),
+        (b"www.example", false, "its first labels"),
+        (b"a.www.example.com", false, "a name below it"),
+        (b"example.org", false, "another"),
     ];
     for (other, ends, row) in rows {
         assert_eq!(rt; www.ends_with(&name(&rt, other)), ends, "{row}");
@@ -146,17 +157,17 @@ fn a_name_of_255_octets(rt: HostRuntime) {
 #[test]
 fn zone_order(rt: HostRuntime) {
     // RFC 4034, 6.1
-    let rows = [
-        b".".as_slice(),
-        b"example".as_slice(),
-        b"a.example".as_slice(),
-        b"yljkjljk.a.example".as_slice(),
-        b"Z.a.example".as_slice(),
-        b"zABC.a.EXAMPLE".as_slice(),
-        b"z.example".as_slice(),
-        b"\\001.z.example".as_slice(),
-        b"*.z.example".as_slice(),
-        b"\\310.z.example".as_slice(),
+    let rows: [&[u8]; 10] = [
+        b".",
+        b"example",
+        b"a.example",
+        b"yljkjljk.a.example",
+        b"Z.a.example",
+        b"zABC.a.EXAMPLE",
+        b"z.example",
+        b"\\001.z.example",
+        b"*.z.example",
+        b"\\310.z.example",
     ];
     for (i, text) in rows.iter().enumerate() {
         for (j, other) in rows.iter().enumerate() {
