@@ -29,67 +29,72 @@ fn values(rt: &impl Abort, alloc: Global, rtype: RType, wires: &[&[u8]]) -> Body
     }
 }
 
-/// Holds a set, and compares what each reader tells of it: its octets, and its values.
-fn compare(rt: &impl Abort, scratch: &mut Scratch, set: &RecordSet, octets: &[u8], wires: &[&[u8]])
-    ensures { IsHolding scratch.new }
+/// Compares the fields of the set that is held with those of a set.
+fn compare_fields(rt: &impl Abort, scratch: &Scratch, set: &RecordSet, row: &str)
+    requires { IsHolding scratch.now }
 {
-    assert!(rt; has_spelling(set), "a spelling: {octets:?}");
-    scratch.hold(set);
-    assert_eq!(rt; scratch.bytes(), octets, "octets");
-    assert!(rt; scratch.name().is_same(&set.name), "name: {octets:?}");
-    assert_eq!(rt; scratch.rtype(), set.rtype, "type: {octets:?}");
-    assert!(rt;
-        scratch.routing().is_same(&set.routing),
-        "policy: {octets:?}"
-    );
-    assert_eq!(rt; scratch.check(), set.check, "check: {octets:?}");
-    assert_eq!(rt;
-        scratch.values(),
-        wires.len(),
-        "number of values: {octets:?}"
-    );
+    assert!(rt; scratch.name().is_same(&set.name), "name: {row}");
+    assert_eq!(rt; scratch.rtype(), set.rtype, "type: {row}");
+    assert!(rt; scratch.routing().is_same(&set.routing), "policy: {row}");
+    assert_eq!(rt; scratch.check(), set.check, "check: {row}");
+}
+
+/// Compares the values of the set that is held.
+fn compare_values(rt: &impl Abort, scratch: &Scratch, wires: &[&[u8]], row: &str)
+    requires { IsHolding scratch.now }
+{
+    assert_eq!(rt; scratch.values(), wires.len(), "number of values: {row}");
     for i in 0..scratch.values() {
-        assert_eq!(rt;
-            Some(&scratch.value(i)),
-            wires.get(i),
-            "value {i}: {octets:?}"
-        );
+        assert_eq!(rt; Some(&scratch.value(i)), wires.get(i), "value {i}: {row}");
     }
 }
 
-#[test]
-fn sets_one_after_another(rt: HostRuntime) -> Result<(), Fail> {
-    let alloc = rt.alloc();
-    let www = name(&rt, b"WWW.a");
-    let b = name(&rt, b"b");
-    let mut scratch = Scratch::new(alloc)?;
+/// Holds a set, and compares what each reader tells of it: its octets, and its values.
+fn compare(
+    rt: &impl Abort,
+    scratch: &mut Scratch,
+    set: &RecordSet,
+    octets: &[u8],
+    wires: &[&[u8]],
+    row: &str,
+)
+    ensures { IsHolding scratch.new }
+{
+    assert!(rt; has_spelling(set), "a spelling: {row}");
+    scratch.hold(set);
+    assert_eq!(rt; scratch.bytes(), octets, "octets: {row}");
+    compare_fields(rt, scratch, set, row);
+    compare_values(rt, scratch, wires, row);
+}
 
-    // www.a. A, weight 255, identifier `x y`, TTL 300, two values, check 7
-    let addresses = RecordSet {
-        name: www,
+/// Holds www.a. A, weight 255, identifier `x y`, TTL 300, two values, check 7.
+fn hold_addresses(rt: &impl Abort, alloc: Global, scratch: &mut Scratch) {
+    let wires: [&[u8]; 2] = [b"\xc0\0\x02\x01", b"\xc0\0\x02\x02"];
+    let ident = Ident::new(b"x y").expect(rt, "an identifier");
+    let set = RecordSet {
+        name: name(rt, b"WWW.a"),
         rtype: RType::A,
-        routing: Routing::Weighted(Ident::new(b"x y").expect(&rt, "an identifier"), 255),
-        body: values(
-            &rt,
-            alloc,
-            RType::A,
-            &[b"\xc0\0\x02\x01", b"\xc0\0\x02\x02"],
-        ),
+        routing: Routing::Weighted(ident, 255),
+        body: values(rt, alloc, RType::A, &wires),
         check: Some(7),
     };
     compare(
-        &rt,
-        &mut scratch,
-        &addresses,
+        rt,
+        scratch,
+        &set,
         b"\x03www\x01a\0\0\x01\x01\x03x y\xff\0\0\0\x01\x2c\0\x02\0\x04\xc0\0\x02\x01\0\x04\xc0\0\x02\x02\x01\0\0\0\x07",
-        &[b"\xc0\0\x02\x01", b"\xc0\0\x02\x02"],
+        &wires,
+        "addresses",
     );
     assert_eq!(rt; scratch.ttl(), 300, "TTL of addresses");
     assert!(rt; scratch.alias().is_none(), "addresses are no alias");
+}
 
-    // an alias of www.a. AAAA to b. that is evaluated, no check
-    let alias = RecordSet {
-        name: www,
+/// Holds an alias of www.a. AAAA to b. that is evaluated, no check.
+fn hold_alias(rt: &impl Abort, scratch: &mut Scratch) {
+    let b = name(rt, b"b");
+    let set = RecordSet {
+        name: name(rt, b"WWW.a"),
         rtype: RType::Aaaa,
         routing: Routing::Simple,
         body: Body::Alias {
@@ -99,33 +104,46 @@ fn sets_one_after_another(rt: HostRuntime) -> Result<(), Fail> {
         check: None,
     };
     compare(
-        &rt,
-        &mut scratch,
-        &alias,
+        rt,
+        scratch,
+        &set,
         b"\x03www\x01a\0\0\x1c\0\x01\x01b\0\x01\0",
         &[],
+        "an alias",
     );
     assert_eq!(rt; scratch.ttl(), 0, "TTL of an alias");
-    let (target, evaluate) = scratch.alias().expect(&rt, "an alias");
+    let (target, evaluate) = scratch.alias().expect(rt, "an alias");
     assert!(rt; target.is_same(&b), "its target");
     assert!(rt; evaluate, "it is evaluated");
+}
 
-    // b. TXT, TTL 300, three values, no check
-    let strings = RecordSet {
-        name: b,
+/// Holds b. TXT, TTL 300, three values, no check.
+fn hold_strings(rt: &impl Abort, alloc: Global, scratch: &mut Scratch) {
+    let wires: [&[u8]; 3] = [b"\x02ab", b"\0", b"\x01a\x01b"];
+    let set = RecordSet {
+        name: name(rt, b"b"),
         rtype: RType::Txt,
         routing: Routing::Simple,
-        body: values(&rt, alloc, RType::Txt, &[b"\x02ab", b"\0", b"\x01a\x01b"]),
+        body: values(rt, alloc, RType::Txt, &wires),
         check: None,
     };
     compare(
-        &rt,
-        &mut scratch,
-        &strings,
+        rt,
+        scratch,
+        &set,
         b"\x01b\0\0\x10\0\0\0\0\x01\x2c\0\x03\0\x03\x02ab\0\x01\0\0\x04\x01a\x01b\0",
-        &[b"\x02ab", b"\0", b"\x01a\x01b"],
+        &wires,
+        "strings",
     );
     assert_eq!(rt; scratch.ttl(), 300, "TTL of strings");
     assert!(rt; scratch.alias().is_none(), "strings are no alias");
+}
+
+#[test]
+fn sets_one_after_another(rt: HostRuntime) -> Result<(), Fail> {
+    let mut scratch = Scratch::new(rt.alloc())?;
+    hold_addresses(&rt, rt.alloc(), &mut scratch);
+    hold_alias(&rt, &mut scratch);
+    hold_strings(&rt, rt.alloc(), &mut scratch);
     Ok(())
 }
