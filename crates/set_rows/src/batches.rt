@@ -2,31 +2,14 @@
 
 ghost use Rattle.r53_model.specs.Zones.{IsZone};
 
-use crate::sets::{addresses, name, set, values};
-use change_batch::{Action, Batch, BatchRefusal, Change, Changes, prepare};
+use crate::changes::{Row, address, batch_of, cname, servers};
+use crate::sets::name;
+use change_batch::{Action, BatchRefusal, prepare};
 use dns_name::Name;
 use rdata::RType;
-use record_set::{Body, RecordSet, Routing};
+use record_set::RecordSet;
 use std::alloc::Global;
 use std::process::Abort;
-use std::test::Fail;
-
-/// A change of a simple set.
-pub fn change(action: Action, name: Name, rtype: RType, body: Body) -> Change {
-    Change {
-        action,
-        characters: 9,
-        set: set(name, rtype, Routing::Simple, body),
-    }
-}
-
-/// The batch of these changes.
-pub fn batch(changes: Vec<Change>) -> Batch {
-    Batch {
-        zone: 1,
-        changes: Changes::from_vec(changes),
-    }
-}
 
 /// The sets after a batch that is made.
 pub fn made(
@@ -34,12 +17,12 @@ pub fn made(
     alloc: Global,
     sets: &[RecordSet],
     apex: &Name,
-    changes: Vec<Change>,
+    rows: &[Row],
 ) -> Vec<RecordSet>
     requires { IsZone sets.now apex.now }
     ensures { IsZone result.items apex.now }
 {
-    let batch = batch(changes);
+    let batch = batch_of(rt, alloc, rows);
     let after = prepare(alloc, sets, apex, &batch);
     after.ok().expect(rt, "the sets after the batch")
 }
@@ -50,157 +33,132 @@ pub fn refused(
     alloc: Global,
     sets: &[RecordSet],
     apex: &Name,
-    changes: Vec<Change>,
+    rows: &[Row],
 ) -> BatchRefusal
     requires { IsZone sets.now apex.now }
 {
-    let batch = batch(changes);
-    let after = prepare(alloc, sets, apex, &batch);
-    after.err().expect(rt, "the refusal of the batch")
+    let refusal = refusal(rt, alloc, sets, apex, rows);
+    refusal.expect(rt, "the refusal of the batch")
 }
 
 /// Why a batch is refused, if it is.
 pub fn refusal(
+    rt: &impl Abort,
     alloc: Global,
     sets: &[RecordSet],
     apex: &Name,
-    changes: Vec<Change>,
+    rows: &[Row],
 ) -> Option<BatchRefusal>
     requires { IsZone sets.now apex.now }
 {
-    prepare(alloc, sets, apex, &batch(changes)).err()
+    let batch = batch_of(rt, alloc, rows);
+    prepare(alloc, sets, apex, &batch).err()
 }
 
 #[test]
-fn alias_for_addresses(rt: HostRuntime) -> Result<(), Fail> {
+fn alias_for_addresses(rt: HostRuntime) {
+    let alloc = rt.alloc();
     let apex = name(&rt, b"example.com");
-    let w = name(&rt, b"w.example.com");
-    let cname = || values(&rt, rt.alloc(), RType::Cname, &[b"a.b."]);
-    let address = || values(&rt, rt.alloc(), RType::A, &[b"192.0.2.1"]);
-    let mut create = Vec::new(rt.alloc());
-    create.push(change(Action::Create, w, RType::Cname, cname()))?;
-    let zone = made(&rt, rt.alloc(), &[], &apex, create);
-    let mut swap = Vec::new(rt.alloc());
-    swap.push(change(Action::Delete, w, RType::Cname, cname()))?;
-    swap.push(change(Action::Create, w, RType::A, address()))?;
-    let swapped = made(&rt, rt.alloc(), zone.as_slice(), &apex, swap);
+    let [create, delete] = [Action::Create, Action::Delete].map(|action| cname(
+        action,
+        b"w.example.com",
+    ));
+    let beside = address(Action::Create, b"w.example.com");
+    let zone = made(&rt, alloc, &[], &apex, &[create]);
+    let swapped = made(&rt, alloc, zone.as_slice(), &apex, &[delete, beside]);
     assert_eq!(rt; swapped.len(), 1, "the address alone");
-    let mut backwards = Vec::new(rt.alloc());
-    backwards.push(change(Action::Create, w, RType::A, address()))?;
-    backwards.push(change(Action::Delete, w, RType::Cname, cname()))?;
-    let swapped = made(&rt, rt.alloc(), zone.as_slice(), &apex, backwards);
+    let swapped = made(&rt, alloc, zone.as_slice(), &apex, &[beside, delete]);
     assert_eq!(rt; swapped.len(), 1, "the address alone, in the other order");
-    let mut beside = Vec::new(rt.alloc());
-    beside.push(change(Action::Create, w, RType::A, address()))?;
-    let why = refused(&rt, rt.alloc(), zone.as_slice(), &apex, beside);
+    let why = refused(&rt, alloc, zone.as_slice(), &apex, &[beside]);
     assert!(rt;
         matches!(why, BatchRefusal::CnameConflict(_)),
         "an address beside an alias"
     );
-    Ok(())
 }
 
 #[test]
-fn later_change_refused(rt: HostRuntime) -> Result<(), Fail> {
+fn later_change_refused(rt: HostRuntime) {
+    let alloc = rt.alloc();
     let apex = name(&rt, b"example.com");
-    let www = name(&rt, b"www.example.com");
-    let address = || values(&rt, rt.alloc(), RType::A, &[b"192.0.2.1"]);
-    let mut create = Vec::new(rt.alloc());
-    create.push(change(Action::Create, www, RType::A, address()))?;
-    let zone = made(&rt, rt.alloc(), &[], &apex, create);
-    let mut changes = Vec::new(rt.alloc());
-    changes.push(change(
-        Action::Create,
-        name(&rt, b"p.example.com"),
-        RType::A,
-        address(),
-    ))?;
-    changes.push(change(
-        Action::Create,
-        name(&rt, b"q.example.com"),
-        RType::A,
-        address(),
-    ))?;
-    changes.push(change(Action::Create, www, RType::A, address()))?;
-    let why = refused(&rt, rt.alloc(), zone.as_slice(), &apex, changes);
+    let there = address(Action::Create, b"www.example.com");
+    let zone = made(&rt, alloc, &[], &apex, &[there]);
+    let changes = [
+        address(Action::Create, b"p.example.com"),
+        address(Action::Create, b"q.example.com"),
+        there,
+    ];
+    let why = refused(&rt, alloc, zone.as_slice(), &apex, &changes);
     assert!(rt;
         matches!(why, BatchRefusal::AlreadyExists(2)),
         "the third change"
     );
-    Ok(())
+}
+
+/// An UPSERT of so many addresses.
+fn upsert(owner: &'static [u8], count: u16) -> Row {
+    Row::Addresses(Action::Upsert, owner, count)
 }
 
 #[test]
-fn thousand_values(rt: HostRuntime) -> Result<(), Fail> {
+fn thousand_values(rt: HostRuntime) {
+    let alloc = rt.alloc();
     let apex = name(&rt, b"example.com");
-    let a = name(&rt, b"a.example.com");
-    let b = name(&rt, b"b.example.com");
-    let mut upserts = Vec::new(rt.alloc());
-    upserts.push(change(Action::Upsert, a, RType::A, addresses(&rt, rt.alloc(), 400)))?;
-    upserts.push(change(Action::Upsert, b, RType::A, addresses(&rt, rt.alloc(), 100)))?;
-    let zone = made(&rt, rt.alloc(), &[], &apex, upserts);
+    let a = upsert(b"a.example.com", 400);
+    let zone = made(&rt, alloc, &[], &apex, &[a, upsert(b"b.example.com", 100)]);
     assert_eq!(rt; zone.len(), 2, "both sets");
-    let mut one_more = Vec::new(rt.alloc());
-    one_more.push(change(Action::Upsert, a, RType::A, addresses(&rt, rt.alloc(), 400)))?;
-    one_more.push(change(Action::Upsert, b, RType::A, addresses(&rt, rt.alloc(), 101)))?;
-    let why = refused(&rt, rt.alloc(), zone.as_slice(), &apex, one_more);
+    let one_more = [a, upsert(b"b.example.com", 101)];
+    let why = refused(&rt, alloc, zone.as_slice(), &apex, &one_more);
     assert!(rt; matches!(why, BatchRefusal::TooManyValues), "1,002 values");
-    Ok(())
+}
+
+/// A change of two addresses of www.example.com.
+fn two(action: Action, ttl: u32, texts: &'static [&'static [u8]]) -> Row {
+    Row::Values {
+        action,
+        owner: b"www.example.com",
+        rtype: RType::A,
+        ttl,
+        texts,
+    }
+}
+
+/// A zone with its servers, and with two addresses for 300 seconds.
+fn two_sets(rt: &impl Abort, alloc: Global, apex: &Name) -> Vec<RecordSet>
+    ensures { IsZone result.items apex.now }
+{
+    let addresses = two(Action::Create, 300, &[b"192.0.2.1", b"192.0.2.2"]);
+    made(rt, alloc, &[], apex, &[servers(Action::Create), addresses])
 }
 
 #[test]
-fn deleted_as_it_is_there(rt: HostRuntime) -> Result<(), Fail> {
+fn deleted_as_it_is_there(rt: HostRuntime) {
+    let alloc = rt.alloc();
     let apex = name(&rt, b"example.com");
-    let www = name(&rt, b"www.example.com");
-    let two = |texts: [&[u8]; 2]| values(&rt, rt.alloc(), RType::A, &texts);
-    let servers = || values(&rt, rt.alloc(), RType::Ns, &[b"ns1.example.net."]);
-    let mut create = Vec::new(rt.alloc());
-    create.push(change(Action::Create, apex, RType::Ns, servers()))?;
-    create.push(change(
-        Action::Create,
-        www,
-        RType::A,
-        two([b"192.0.2.1", b"192.0.2.2"]),
-    ))?;
-    let zone = made(&rt, rt.alloc(), &[], &apex, create);
-    let sooner = match two([b"192.0.2.1", b"192.0.2.2"]) {
-        Body::Values { values, .. } => Body::Values { ttl: 60, values },
-        alias => alias,
-    };
-    let mut other_time = Vec::new(rt.alloc());
-    other_time.push(change(Action::Delete, www, RType::A, sooner))?;
-    let why = refused(&rt, rt.alloc(), zone.as_slice(), &apex, other_time);
+    let zone = two_sets(&rt, alloc, &apex);
+    let sooner = two(Action::Delete, 60, &[b"192.0.2.1", b"192.0.2.2"]);
+    let why = refused(&rt, alloc, zone.as_slice(), &apex, &[sooner]);
     assert!(rt;
         matches!(why, BatchRefusal::ValuesDiffer(0)),
         "another time to live"
     );
-    let mut other_order = Vec::new(rt.alloc());
-    other_order.push(change(
-        Action::Delete,
-        www,
-        RType::A,
-        two([b"192.0.2.2", b"192.0.2.1"]),
-    ))?;
-    let after = made(&rt, rt.alloc(), zone.as_slice(), &apex, other_order);
+    let other_order = two(Action::Delete, 300, &[b"192.0.2.2", b"192.0.2.1"]);
+    let after = made(&rt, alloc, zone.as_slice(), &apex, &[other_order]);
     assert_eq!(rt; after.len(), 1, "the servers alone");
-    let mut again = Vec::new(rt.alloc());
-    again.push(change(
-        Action::Delete,
-        www,
-        RType::A,
-        two([b"192.0.2.1", b"192.0.2.2"]),
-    ))?;
-    let why = refused(&rt, rt.alloc(), after.as_slice(), &apex, again);
+    let again = two(Action::Delete, 300, &[b"192.0.2.1", b"192.0.2.2"]);
+    let why = refused(&rt, alloc, after.as_slice(), &apex, &[again]);
     assert!(rt;
         matches!(why, BatchRefusal::NotFound(0)),
         "a set that is gone"
     );
-    let mut at_the_apex = Vec::new(rt.alloc());
-    at_the_apex.push(change(Action::Delete, apex, RType::Ns, servers()))?;
-    let why = refused(&rt, rt.alloc(), after.as_slice(), &apex, at_the_apex);
+    let why = refused(
+        &rt,
+        alloc,
+        after.as_slice(),
+        &apex,
+        &[servers(Action::Delete)],
+    );
     assert!(rt;
         matches!(why, BatchRefusal::ApexProtected(0)),
         "the servers of the zone"
     );
-    Ok(())
 }

@@ -1,57 +1,67 @@
-use crate::sets::{name, set, values};
-use command_codec::{
-    Action, Batch, Change, Changes, Command, ReadFault, has_spelling, read, write,
-};
-use rdata::RType;
-use record_set::Routing;
-use std::test::Fail;
+//! Octets of commands, written and read.
+
+use crate::changes::{address, batch_of};
+use crate::sets::name;
+use command_codec::{Action, Batch, Command, ReadFault, has_spelling, read, write};
+use std::alloc::Global;
+use std::process::Abort;
+
+/// Compares the octets of a command.
+fn compare(rt: &impl Abort, alloc: Global, command: Command, octets: &[u8]) {
+    assert!(rt; has_spelling(&command), "a spelling: {octets:?}");
+    let written = write(alloc, &command).ok().expect(rt, "memory");
+    assert_eq!(rt; written.as_slice(), octets);
+    assert!(rt; read(alloc, octets).is_ok(), "read again: {octets:?}");
+    compare_cut(rt, alloc, octets);
+}
+
+/// Reads the octets of a command without the last one.
+fn compare_cut(rt: &impl Abort, alloc: Global, octets: &[u8]) {
+    let (_, first) = octets.split_last().expect(rt, "octets");
+    let cut = read(alloc, first);
+    assert!(rt;
+        matches!(cut, Err(ReadFault::Bad(at)) if at == first.len()),
+        "cut off: {octets:?}"
+    );
+}
+
+/// A zone with its four servers.
+fn create(rt: &impl Abort) -> Command {
+    Command::CreateZone {
+        name: name(rt, b"a"),
+        servers: [
+            name(rt, b"b"),
+            name(rt, b"c"),
+            name(rt, b"d"),
+            name(rt, b"e.f"),
+        ],
+    }
+}
+
+/// A change of one address.
+fn change(rt: &impl Abort, alloc: Global) -> Command {
+    let batch = batch_of(rt, alloc, &[address(Action::Upsert, b"www.a")]);
+    Command::Change(Batch { zone: 258, ..batch })
+}
 
 #[test]
-fn octets_of_commands(rt: HostRuntime) -> Result<(), Fail> {
-    let mut changes = Vec::new(rt.alloc());
-    let address = values(&rt, rt.alloc(), RType::A, &[b"192.0.2.1"]);
-    changes.push(Change {
-        action: Action::Upsert,
-        characters: 9,
-        set: set(name(&rt, b"www.a"), RType::A, Routing::Simple, address),
-    })?;
-    let batch = Batch {
-        zone: 258,
-        changes: Changes::from_vec(changes),
-    };
-    let create = Command::CreateZone {
-        name: name(&rt, b"a"),
-        servers: [
-            name(&rt, b"b"),
-            name(&rt, b"c"),
-            name(&rt, b"d"),
-            name(&rt, b"e.f"),
-        ],
-    };
-    let rows = [
-        (
-            create,
-            b"\x01\x01\x01a\0\x01b\0\x01c\0\x01d\0\x01e\x01f\0".as_slice(),
-        ),
-        (Command::DeleteZone(7), b"\x01\x02\0\0\0\x07".as_slice()),
-        (
-            Command::Change(batch),
-            b"\x01\x03\0\0\x01\x02\0\x01\x03\0\0\0\x09\x03www\x01a\0\0\x01\0\0\0\0\x01\x2c\0\x01\0\x04\xc0\0\x02\x01\0".as_slice(),
-        ),
-    ];
-    for (command, octets) in rows {
-        assert!(rt; has_spelling(&command), "a spelling: {octets:?}");
-        if has_spelling(&command) {
-            let written = write(rt.alloc(), &command)?;
-            assert_eq!(rt; written.as_slice(), octets);
-        }
-        let again = read(rt.alloc(), octets);
-        assert!(rt; again.is_ok(), "read again: {octets:?}");
-        let cut = read(rt.alloc(), &octets[..octets.len() - 1]);
-        assert!(rt;
-            matches!(cut, Err(ReadFault::Bad(at)) if at == octets.len() - 1),
-            "cut off: {octets:?}"
-        );
-    }
-    Ok(())
+fn octets_of_commands(rt: HostRuntime) {
+    compare(
+        &rt,
+        rt.alloc(),
+        create(&rt),
+        b"\x01\x01\x01a\0\x01b\0\x01c\0\x01d\0\x01e\x01f\0",
+    );
+    compare(
+        &rt,
+        rt.alloc(),
+        Command::DeleteZone(7),
+        b"\x01\x02\0\0\0\x07",
+    );
+    compare(
+        &rt,
+        rt.alloc(),
+        change(&rt, rt.alloc()),
+        b"\x01\x03\0\0\x01\x02\0\x01\x03\0\0\0\x09\x03www\x01a\0\0\x01\0\0\0\0\x01\x2c\0\x01\0\x04\xc0\0\x02\x01\0",
+    );
 }

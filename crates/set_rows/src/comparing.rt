@@ -3,7 +3,7 @@
 ghost use Rattle.std.specs.Prelude.{IfOk};
 ghost use Rattle.r53_model.specs.Zones.{IsZone};
 
-use crate::batches::batch;
+use crate::changes::batch;
 use crate::sets::{addresses, ident, name, set};
 use change_batch::{Action, BatchRefusal, Change};
 use dns_name::Name;

@@ -18,17 +18,27 @@ pub fn ident(rt: &impl Abort, text: &[u8]) -> Ident {
     Ident::new(text).expect(rt, "an identifier")
 }
 
-/// The body of values with these texts and a time to live of 300 seconds.
-pub fn values(rt: &impl Abort, alloc: Global, rtype: RType, texts: &[&[u8]]) -> Body {
+/// The values of these texts.
+fn list(rt: &impl Abort, alloc: Global, rtype: RType, texts: &[&[u8]]) -> Values {
     let mut list = Vec::new(alloc);
     for text in texts {
         let value = RData::from_text(alloc, rtype, text).expect(rt, "a value");
         assert!(rt; list.push(value).is_ok(), "memory");
     }
+    Values::from_vec(list)
+}
+
+/// The body of values with these texts and this time to live.
+pub fn lasting(rt: &impl Abort, alloc: Global, ttl: u32, rtype: RType, texts: &[&[u8]]) -> Body {
     Body::Values {
-        ttl: 300,
-        values: Values::from_vec(list),
+        ttl,
+        values: list(rt, alloc, rtype, texts),
     }
+}
+
+/// The body of values with these texts and a time to live of 300 seconds.
+pub fn values(rt: &impl Abort, alloc: Global, rtype: RType, texts: &[&[u8]]) -> Body {
+    lasting(rt, alloc, 300, rtype, texts)
 }
 
 /// So many different addresses.
