@@ -5,6 +5,7 @@ ghost use Rattle.std.specs.Prelude.{◌<◌};
 use r53_cli::{Status, run, status_text};
 use r53_io::{ListSource, VecSink};
 use std::alloc::{AllocError, Global};
+use std::process::Abort;
 use std::test::Fail;
 
 /// What a run answers and writes.
@@ -40,17 +41,28 @@ fn run_over(
     Ok(Outcome { status, sink })
 }
 
-/// Whether a run answers this packet so, in whatever pieces it comes. Both are in hexadecimal digits.
-fn answers(alloc: Global, texts: &[&str], packet: &str, reply: &str) -> Result<bool, Fail> {
-    let packet = hex::decode(alloc, packet)?;
-    let reply = hex::decode(alloc, reply)?;
+/// What is asked, the packet, and the reply, both in hexadecimal digits.
+type Row = (&'static str, &'static str, &'static str);
+
+/// Whether a run answers this packet so, in whatever pieces it comes.
+fn answers(alloc: Global, texts: &[&str], packet: &[u8], reply: &[u8]) -> Result<bool, Fail> {
     for piece in [1, 7, 100] {
-        let outcome = run_over(alloc, texts, &packet, piece, &[], 600)?;
-        if outcome.status != Status::Done || outcome.sink.bytes() != reply.as_slice() {
+        let outcome = run_over(alloc, texts, packet, piece, &[], 600)?;
+        if outcome.status != Status::Done || outcome.sink.bytes() != reply {
             return Ok(false);
         }
     }
     Ok(true)
+}
+
+/// Runs over these words and the packets of the rows, and compares the replies.
+fn compare(rt: &impl Abort, alloc: Global, texts: &[&str], rows: &[Row]) -> Result<(), Fail> {
+    for (what, packet, reply) in rows {
+        let packet = hex::decode(alloc, packet)?;
+        let reply = hex::decode(alloc, reply)?;
+        assert!(rt; answers(alloc, texts, &packet, &reply)?, "{what}");
+    }
+    Ok(())
 }
 
 const WWW: [&str; 4] = ["once", "www.example.com", "300", "192.0.2.1"];
@@ -60,102 +72,92 @@ const ESCAPED: [&str; 4] = ["once", "\\127ww.Example.\\143om.", "300", "192.0.2.
 const ROOT: [&str; 4] = ["once", ".", "2147483647", "255.255.255.255"];
 
 #[test]
-fn answers_packets(rt: HostRuntime) -> Result<(), Fail> {
-    let rows = [
+fn answers_questions(rt: HostRuntime) -> Result<(), Fail> {
+    let www: [Row; 5] = [
         (
             // id 0x1234, RD, one question: wWw.example.com. A IN; the reply repeats the question's octets
             "the record, asked in another case",
-            WWW,
             "12340100000100000000000003775777076578616d706c6503636f6d0000010001",
             "12348500000100010000000003775777076578616d706c6503636f6d0000010001c00c000100010000012c0004c0000201",
         ),
         (
-            // \127 is W and \143 is c
-            "a name with escapes and a final dot",
-            ESCAPED,
-            "12340100000100000000000003777777076578616d706c6503636f6d0000010001",
-            "12348500000100010000000003777777076578616d706c6503636f6d0000010001c00c000100010000012c0004c0000201",
-        ),
-        (
             // the same with type AAAA
             "another type",
-            WWW,
             "12340100000100000000000003775777076578616d706c6503636f6d00001c0001",
             "12348105000100000000000003775777076578616d706c6503636f6d00001c0001",
         ),
         (
             // the same with class CH
             "another class",
-            WWW,
             "12340100000100000000000003775777076578616d706c6503636f6d0000010003",
             "12348105000100000000000003775777076578616d706c6503636f6d0000010003",
         ),
         (
             // without RD, for wwv.example.com.
             "another name",
-            WWW,
             "ffff0000000100000000000003777776076578616d706c6503636f6d0000010001",
             "ffff8005000100000000000003777776076578616d706c6503636f6d0000010001",
         ),
         (
-            // the root as the owner is its zero octet, not a pointer
-            "the root",
-            ROOT,
-            "0001000000010000000000000000010001",
-            "000184000001000100000000000001000100000100017fffffff0004ffffffff",
+            "octets behind the question",
+            "12340100000100000000000003775777076578616d706c6503636f6d0000010001ffff",
+            "12348500000100010000000003775777076578616d706c6503636f6d0000010001c00c000100010000012c0004c0000201",
         ),
-        ("eleven octets", WWW, "1234010000010000000000", ""),
-        ("nothing", WWW, "", ""),
+    ];
+    let escaped: [Row; 1] = [(
+        // \127 is W and \143 is c
+        "a name with escapes and a final dot",
+        "12340100000100000000000003777777076578616d706c6503636f6d0000010001",
+        "12348500000100010000000003777777076578616d706c6503636f6d0000010001c00c000100010000012c0004c0000201",
+    )];
+    let root: [Row; 1] = [(
+        // the root as the owner is its zero octet, not a pointer
+        "the root",
+        "0001000000010000000000000000010001",
+        "000184000001000100000000000001000100000100017fffffff0004ffffffff",
+    )];
+    compare(&rt, rt.alloc(), &WWW, &www)?;
+    compare(&rt, rt.alloc(), &ESCAPED, &escaped)?;
+    compare(&rt, rt.alloc(), &ROOT, &root)
+}
+
+#[test]
+fn answers_nothing_or_a_header(rt: HostRuntime) -> Result<(), Fail> {
+    let rows: [Row; 8] = [
+        ("eleven octets", "1234010000010000000000", ""),
+        ("nothing", "", ""),
         (
             "a response",
-            WWW,
             "12348100000100000000000003775777076578616d706c6503636f6d0000010001",
             "",
         ),
         (
             "opcode 5",
-            WWW,
             "12342900000100000000000003775777076578616d706c6503636f6d0000010001",
             "1234a9040000000000000000",
         ),
         (
             "two questions",
-            WWW,
             "12340100000200000000000003775777076578616d706c6503636f6d0000010001",
             "123481010000000000000000",
         ),
         (
             "a pointer in the question",
-            WWW,
             "123401000001000000000000c00c00010001",
             "123481010000000000000000",
         ),
         (
             "a question without a class",
-            WWW,
             "12340100000100000000000003775777076578616d706c6503636f6d00000100",
             "123481010000000000000000",
         ),
         (
             "an additional record",
-            WWW,
             "12340100000100000000000103775777076578616d706c6503636f6d0000010001",
             "123481040000000000000000",
         ),
-        (
-            "octets behind the question",
-            WWW,
-            "12340100000100000000000003775777076578616d706c6503636f6d0000010001ffff",
-            "12348500000100010000000003775777076578616d706c6503636f6d0000010001c00c000100010000012c0004c0000201",
-        ),
     ];
-    for (what, texts, packet, reply) in rows {
-        assert!(rt;
-            answers(rt.alloc(), texts.as_slice(), packet, reply)?,
-            "{what}"
-        );
-    }
-    Ok(())
+    compare(&rt, rt.alloc(), &WWW, &rows)
 }
 
 #[test]
@@ -171,21 +173,30 @@ fn reads_past_the_packet(rt: HostRuntime) -> Result<(), Fail> {
     Ok(())
 }
 
-#[test]
-fn ends_with_a_status(rt: HostRuntime) -> Result<(), Fail> {
+/// Runs over a packet where the reads of these numbers fail, into so much room. Nothing is written.
+fn ends_with(
+    rt: &impl Abort,
+    alloc: Global,
+    fail: &[u64],
+    room: usize,
+    status: Status,
+) -> Result<(), Fail> {
     let packet = hex::decode(
-        rt.alloc(),
+        alloc,
         "12340100000100000000000003775777076578616d706c6503636f6d0000010001",
     )?;
-    let read = run_over(rt.alloc(), &WWW, &packet, 1, &[0], 600)?;
-    assert_eq!(rt; read.status, Status::ReadFault);
-    assert_eq!(rt; read.sink.bytes().len(), 0);
-    let later = run_over(rt.alloc(), &WWW, &packet, 1, &[33], 600)?;
-    assert_eq!(rt; later.status, Status::ReadFault, "the read of the end");
-    let full = run_over(rt.alloc(), &WWW, &packet, 1, &[], 48)?;
-    assert_eq!(rt; full.status, Status::WriteFault);
-    assert_eq!(rt; full.sink.bytes().len(), 0);
+    let outcome = run_over(alloc, &WWW, &packet, 1, fail, room)?;
+    assert_eq!(rt; outcome.status, status, "{fail:?}");
+    assert_eq!(rt; outcome.sink.bytes().len(), 0, "{fail:?}");
     Ok(())
+}
+
+#[test]
+fn ends_with_a_status(rt: HostRuntime) -> Result<(), Fail> {
+    ends_with(&rt, rt.alloc(), &[0], 600, Status::ReadFault)?;
+    // the read of the end
+    ends_with(&rt, rt.alloc(), &[33], 600, Status::ReadFault)?;
+    ends_with(&rt, rt.alloc(), &[], 48, Status::WriteFault)
 }
 
 #[test]
