@@ -1,6 +1,7 @@
 pub mod Drafts
 pub mod Fields
 pub mod Names
+pub mod Once
 pub mod Pieces
 pub mod Questions
 pub mod Reading

@@ -1,5 +1,5 @@
 -- Laws over the definitions of this crate.
-use Rattle.std.specs.Prelude.{◌≡◌, ℕ, ◌<◌, ◌≤◌, List, [], ◌++◌, length, take, true, false}
+use Rattle.std.specs.Prelude.{◌≡◌, ℕ, ◌<◌, ◌≤◌, List, [], ◌++◌, length, take, Bool, true, false}
 use Rattle.std.specs.List.{AllByRecursion}
 use Rattle.dns_name.specs.Labels.{wire as name_wire, IsRawName, lowered}
 use Rattle.dns_name.specs.Names.{IsName}
@@ -52,3 +52,9 @@ CutRepliesRead =
     → m.rcode < 16
     → IsQuestion m.name m.question
     → Reads (wire m limit) true (without_records m)
+
+-- Octets are read as one reply at most, with one TC.
+abbrev pub OneReading : Type 0
+OneReading =
+    (message : List ℕ) (truncated other_truncated : Bool) (m other : Message)
+    → Reads message truncated m → Reads message other_truncated other → (truncated ≡ other_truncated) × (m ≡ other)

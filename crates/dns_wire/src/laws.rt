@@ -1,6 +1,6 @@
 //! Laws over the definitions, each the contract of a function that does nothing.
 
-ghost use Rattle.dns_wire.specs.Laws.{CutRepliesRead, QueriesAsk, WholeRepliesRead};
+ghost use Rattle.dns_wire.specs.Laws.{CutRepliesRead, OneReading, QueriesAsk, WholeRepliesRead};
 
 /// A query that was read has a question for its name.
 pub fn queries_ask()
@@ -11,4 +11,9 @@ pub fn queries_ask()
 pub fn replies_read()
     ensures whole { WholeRepliesRead }
     ensures cut { CutRepliesRead }
+{}
+
+/// Octets are read as one reply at most.
+pub fn one_reading()
+    ensures { OneReading }
 {}

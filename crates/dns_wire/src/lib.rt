@@ -11,7 +11,7 @@ mod pointers;
 mod record;
 mod reply;
 
-pub use laws::{queries_ask, replies_read};
+pub use laws::{one_reading, queries_ask, replies_read};
 pub use octets::OutOfMemory;
 pub use rdata_layout::RType;
 pub use reply::{Reply, Section};
