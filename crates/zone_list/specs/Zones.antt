@@ -21,8 +21,8 @@ abbrev pub IsZoneId : List Zone → ℕ → Type 0
 IsZoneId zones id = (zone : Zone) × IsOne zones zone × (zone.id ≡ id)
 
 -- a zone has the name
-abbrev pub IsZoneName : List Zone → (name : List (List ℕ)) → Type 0
-IsZoneName zones name = (zone : Zone) × IsOne zones zone × (zone.apex ≡ name)
+abbrev pub HasName : List Zone → (name : List (List ℕ)) → Type 0
+HasName zones name = (zone : Zone) × IsOne zones zone × (zone.apex ≡ name)
 
 -- the sets of the zone with this number; there are none where no zone has it
 abbrev pub placed_in : List Zone → ℕ → List Placed

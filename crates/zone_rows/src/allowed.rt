@@ -9,7 +9,7 @@ ghost use Rattle.zone_table.specs.declared.edits.ZoneEdit.TheVariants.{Change};
 ghost use Rattle.zone_list.specs.Changes.{CanBeAdded, CanChange, IsKeyOf};
 ghost use Rattle.zone_table.specs.Edits.{IsAllowed};
 ghost use Rattle.zone_table.specs.Looking.{IsApex};
-ghost use Rattle.zone_list.specs.Zones.{CanStand, IsZoneId, IsZoneName, placed_in};
+ghost use Rattle.zone_list.specs.Zones.{CanStand, IsZoneId, HasName, placed_in};
 
 use crate::apart::{are_there, keys_differ};
 use crate::there::{is_key_of, is_there};
@@ -21,7 +21,7 @@ use zone_table::{SetKeys, Sets, Zones, one_apex};
 /// Whether no zone has the number, and none the name or one above it.
 pub fn is_free(zones: &Zones, zone: u32, name: &Name) -> bool
     ensures number { IsTrue result → IsZoneId zones.now.zones zone → ⊥ }
-    ensures name { IsTrue result → IsZoneName zones.now.zones name.now → ⊥ }
+    ensures name { IsTrue result → HasName zones.now.zones name.now → ⊥ }
 {
     zones.apex(zone).is_none() && zones.zone_for(name).is_none()
 }

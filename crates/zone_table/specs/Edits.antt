@@ -1,7 +1,7 @@
 -- Edits of a table of zones.
 use Rattle.std.specs.Prelude.{◌≡◌, ◌≢◌, ◌≤◌, ◌<◌, ◌↔◌, ℕ, List, [], length, map, slice_get, Some}
 use Rattle.zone_list.specs.Changes.{CanBeAdded, CanChange, Changes, ref_in}
-use Rattle.zone_list.specs.Zones.{Zone, IsOne, IsZoneId, IsZoneName, placed_in}
+use Rattle.zone_list.specs.Zones.{Zone, IsOne, IsZoneId, HasName, placed_in}
 use Rattle.zone_table.specs.declared.edits.ZoneEdit.{ZoneEdit}
 use Rattle.zone_table.specs.declared.edits.ZoneEdit.TheVariants as edit
 use Rattle.zone_table.specs.declared.refs.Delta.{Delta}
@@ -20,7 +20,7 @@ zone_of (edit.Change zone remove add) = zone
 abbrev pub IsAllowed : List Zone → ZoneEdit → Type 0
 -- no zone has the number or the name
 IsAllowed zones (edit.Open zone name sets) =
-    (IsZoneId zones zone → ⊥) × (IsZoneName zones name → ⊥) × CanBeAdded name sets
+    (IsZoneId zones zone → ⊥) × (HasName zones name → ⊥) × CanBeAdded name sets
 IsAllowed zones (edit.Close zone) = IsZoneId zones zone
 IsAllowed zones (edit.Change zone remove add) =
     IsZoneId zones zone × ((apex : List (List ℕ)) → IsApex zones zone apex → CanChange apex (placed_in zones zone) remove add)

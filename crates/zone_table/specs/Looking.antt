@@ -46,9 +46,9 @@ SlotBehind placed to (Some slot) = (at : ℕ) × IsCount (sets_of placed) to at 
 SlotBehind placed to None = IsCount (sets_of placed) to (length placed)
 
 -- The first set of the zone behind the bound, or none.
-abbrev pub IsNext : List Zone → (zone : ℕ) → Bound → Option SetRef → Type 0
-IsNext zones zone to (Some set) = (set.zone ≡ zone) × SlotBehind (placed_in zones zone) to (Some set.slot)
-IsNext zones zone to None = SlotBehind (placed_in zones zone) to None
+abbrev pub IsNextSet : List Zone → (zone : ℕ) → Bound → Option SetRef → Type 0
+IsNextSet zones zone to (Some set) = (set.zone ≡ zone) × SlotBehind (placed_in zones zone) to (Some set.slot)
+IsNextSet zones zone to None = SlotBehind (placed_in zones zone) to None
 
 -- The zone that holds a name: of those at or above it that of the longest name (RFC 1034, 4.3.2).
 pub record Holds (zones : List Zone) (name : List (List ℕ)) (id : ℕ) : Type 0 where

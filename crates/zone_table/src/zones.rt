@@ -3,7 +3,7 @@ ghost use Rattle.r53_model.specs.Existing.{Exists, IsAncestor, IsClosest};
 ghost use Rattle.zone_sets.specs.Placed.{IsSlotAt, sets_of};
 ghost use Rattle.zone_list.specs.Kept.{GetsZone};
 ghost use Rattle.zone_table.specs.Edits.{Edits, IsAllowed, IsReady, StayReady};
-ghost use Rattle.zone_table.specs.Looking.{ApexOrNone, HoldsOrNone, IsApex, IsGroup, IsGroupNow, IsMember, IsNext, Loads, SlotBehind, bound_of};
+ghost use Rattle.zone_table.specs.Looking.{ApexOrNone, HoldsOrNone, IsApex, IsGroup, IsGroupNow, IsMember, IsNextSet, Loads, SlotBehind, bound_of};
 ghost use Rattle.zone_list.specs.Found.{NextZoneOrNone};
 ghost use Rattle.zone_list.specs.Zones.{AreZones, IsZoneId, placed_in};
 
@@ -182,7 +182,7 @@ impl Zones {
 
     /// The first set of a zone that isn't before the key, or where `past` is set the first that is behind it.
     pub fn next_from(&self, zone: u32, from: &SetKey, past: bool) -> Option<SetRef>
-        ensures { IsNext self.now.zones zone (bound_of from.now past) result }
+        ensures { IsNextSet self.now.zones zone (bound_of from.now past) result }
     {
         let Some(stored) = self.stored(zone) else {
             return None;
