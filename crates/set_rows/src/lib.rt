@@ -1,16 +1,6 @@
-//! Rows by hand over record sets: reasons of refusal, equality, texts of policies, octets, and batches.
+//! Rows by hand over record sets: reasons of refusal, equality, texts of policies, and octets.
 #![tactic(auto)]
 
-#[cfg(test)]
-mod batches;
-#[cfg(test)]
-mod bounds;
-#[cfg(test)]
-mod changes;
-#[cfg(test)]
-mod commands;
-#[cfg(test)]
-mod comparing;
 #[cfg(test)]
 mod equality;
 #[cfg(test)]

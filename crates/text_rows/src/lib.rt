@@ -1,4 +1,4 @@
-//! Rows by hand and from outside: texts of names, and fields, numbers and strings of values, and whole values.
+//! Rows by hand and from outside: texts of names, and fields, numbers and strings of values.
 #![tactic(auto)]
 
 #[cfg(test)]
@@ -7,5 +7,3 @@ mod fields;
 mod names;
 #[cfg(test)]
 mod strings;
-#[cfg(test)]
-mod values;
