@@ -1,10 +1,25 @@
 -- Sets that have a key, from the first one on.
-use Rattle.std.proofs.Common.{◌≡◌, ◌≢◌, ℕ, zero, suc, List, [], ◌∷◌, Bool, refl, sym, subst, arith, Some}
+use Rattle.std.proofs.Common.{◌≡◌, ◌≢◌, ℕ, zero, suc, List, [], ◌∷◌, Bool, true, Ordering, Less, Equal, Greater, is_eq, ap, refl, sym, subst, arith, Some}
+use Rattle.std.proofs.lemmas.Cmp.{tied_itself}
 use Rattle.std.specs.Prelude.{slice_get, IsTrue, ◌↔◌}
 use Rattle.record_set.specs.declared.sets.RecordSet.{RecordSet}
 use Rattle.record_set.specs.declared.sets.SetKey.{SetKey}
 use Rattle.record_set.specs.Sets.{key_of}
 use Rattle.r53_model.specs.Changing.{IsThere}
+use Rattle.r53_model.specs.KeyLaws.{KeysAreOrdered}
+use Rattle.r53_model.specs.Keys.{key_cmp}
+
+-- a test of equal keys, by the order of keys
+pub tie_tests : KeysAreOrdered → (key other : SetKey) → (is_eq (key_cmp key other) ≡ true) ↔ (key ≡ other)
+tie_tests law key other = (there, λ e. subst (λ k. is_eq (key_cmp key k) ≡ true) e (ap is_eq (tied_itself law.total key)))
+  where
+    equal : (o : Ordering) → is_eq o ≡ true → o ≡ Equal
+    equal Less e = absurd (grind (arith, e))
+    equal Equal e = refl
+    equal Greater e = absurd (grind (arith, e))
+
+    there : is_eq (key_cmp key other) ≡ true → key ≡ other
+    there e = law.ties key other (equal (key_cmp key other) e)
 
 pub there_first : (set : RecordSet) (others : List RecordSet) (key : SetKey) → key_of set ≡ key → IsThere (set ∷ others) key
 there_first set others key e = (set, record { there = (0, refl); same_key = e })

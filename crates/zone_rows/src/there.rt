@@ -6,13 +6,14 @@ ghost use Rattle.record_set.specs.Sets.{key_of};
 ghost use Rattle.r53_model.specs.Changing.{IsThere};
 ghost use Rattle.zone_list.specs.Changes.{IsKeyOf};
 
-use r53_model::key_cmp;
+use r53_model::{key_cmp, keys_are_ordered};
 use record_set::{RecordSet, SetKey};
 
 /// Whether two keys are one.
 pub fn is_same_key(key: &SetKey, other: &SetKey) -> bool
     ensures { IsTrue result ↔ (key.now ≡ other.now) }
 {
+    keys_are_ordered();
     key_cmp(key, other).is_eq()
 }
 
