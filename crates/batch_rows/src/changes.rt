@@ -150,14 +150,6 @@ fn change_of(rt: &impl Abort, alloc: Global, row: Row) -> Change {
     }
 }
 
-/// The batch of these changes.
-pub fn batch(changes: Vec<Change>) -> Batch {
-    Batch {
-        zone: 1,
-        changes: Changes::from_vec(changes),
-    }
-}
-
 /// The batch of the changes of these rows.
 pub fn batch_of(rt: &impl Abort, alloc: Global, rows: &[Row]) -> Batch {
     let mut changes = Vec::new(alloc);
@@ -165,5 +157,8 @@ pub fn batch_of(rt: &impl Abort, alloc: Global, rows: &[Row]) -> Batch {
         let change = change_of(rt, alloc, *row);
         assert!(rt; changes.push(change).is_ok(), "memory");
     }
-    batch(changes)
+    Batch {
+        zone: 1,
+        changes: Changes::from_vec(changes),
+    }
 }

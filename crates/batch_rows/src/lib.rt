@@ -10,6 +10,4 @@ mod changes;
 #[cfg(test)]
 mod commands;
 #[cfg(test)]
-mod comparing;
-#[cfg(test)]
 mod sets;

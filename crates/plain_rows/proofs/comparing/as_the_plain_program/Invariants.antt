@@ -1,5 +1,5 @@
 use Rattle.r53_model.specs.Zones.{IsZone}
-use Rattle.batch_rows.proofs.comparing.as_the_plain_program.Given as goal
+use Rattle.plain_rows.proofs.comparing.as_the_plain_program.Given as goal
 
 abbrev pub invariant-loop : goal.invariant-loop
 invariant-loop g l = IsZone l.zone.items l.apex

@@ -3,66 +3,13 @@
 ghost use Rattle.std.specs.Prelude.{IfOk};
 ghost use Rattle.r53_model.specs.Zones.{IsZone};
 
-use crate::changes::batch;
-use crate::sets::{addresses, ident, name, set};
-use change_batch::{Action, BatchRefusal, Change};
+use crate::changes::{change_of, name, next};
+use change_batch::{Batch, BatchRefusal, Change, Changes};
 use dns_name::Name;
-use rdata::RType;
-use record_set::{Body, Place, RecordSet, Role, Routing, same};
+use record_set::{RecordSet, same};
 use std::alloc::Global;
 use std::process::Abort;
 use std::test::Fail;
-
-/// Numbers that look random (the constants of Numerical Recipes).
-fn next(seed: u32) -> u32 {
-    seed.wrapping_mul(1_664_525).wrapping_add(1_013_904_223)
-}
-
-/// A change of a few names, types and policies, told by a number.
-fn change_of(rt: &impl Abort, alloc: Global, seed: u32) -> Change {
-    let action = match seed >> 30 {
-        0 => Action::Delete,
-        1 => Action::Create,
-        _ => Action::Upsert,
-    };
-    let (text, usual): (&[u8], u8) = match seed >> 26 & 7 {
-        0 | 1 => (b"example.com", 0),
-        2..=4 => (b"a.example.com", 1),
-        5 | 6 => (b"b.a.example.com", 2),
-        _ => (b"c.example.net", 0),
-    };
-    let owner = name(rt, text);
-    let rtype = if seed >> 22 & 15 == 0 {
-        RType::Cname
-    } else {
-        RType::A
-    };
-    let id = ident(rt, &[b'a' + (seed >> 20 & 3) as u8]);
-    let policy = if seed >> 16 & 15 == 0 {
-        (seed >> 14 & 3) as u8
-    } else {
-        usual
-    };
-    let routing = match policy {
-        0 => Routing::Simple,
-        1 => Routing::Geolocation(id, Place::Country([b'D', b'A' + (seed >> 11 & 3) as u8])),
-        2 if seed >> 10 & 1 == 0 => Routing::Failover(id, Role::Primary),
-        2 => Routing::Failover(id, Role::Secondary),
-        _ => Routing::Weighted(id, 1),
-    };
-    let body = match rtype {
-        RType::Cname => Body::Alias {
-            target: owner,
-            evaluate: false,
-        },
-        _ => addresses(rt, alloc, (seed >> 8 & 15).min(2) as u16),
-    };
-    Change {
-        action,
-        characters: 9,
-        set: set(owner, rtype, routing, body),
-    }
-}
 
 /// A number for the kind of a refusal, and the place of the change that it tells.
 fn kind_of(why: &BatchRefusal) -> (u8, usize) {
@@ -95,7 +42,10 @@ fn both(
     requires { IsZone sets.now apex.now }
     ensures { IfOk result (λ after. IsZone after.items apex.now) }
 {
-    let batch = batch(changes);
+    let batch = Batch {
+        zone: 1,
+        changes: Changes::from_vec(changes),
+    };
     match change_batch::prepare(alloc, sets, apex, &batch) {
         Ok(after) => {
             let plain = plain_batch::prepare(alloc, sets, apex, &batch);
