@@ -3,7 +3,7 @@
 use crate::sets::{Row, address, change, close, loads, names_none, open, ready, reference};
 use std::alloc::Global;
 use std::process::Abort;
-use zone_table::{Delta, ZoneEdit, Zones};
+use zone_table::{Delta, SetRef, ZoneEdit, Zones};
 
 /// A set of zone 2.
 fn elsewhere() -> Row {
@@ -27,13 +27,22 @@ fn zones(rt: &impl Abort, alloc: Global) -> Zones {
     zones
 }
 
+/// The references of these sets of zone 1.
+fn references(rt: &impl Abort, alloc: Global, zones: &Zones, rows: &[Row]) -> Vec<SetRef> {
+    let mut list = Vec::new(alloc);
+    for row in rows {
+        assert!(rt; list.push(reference(rt, zones, 1, *row)).is_ok(), "memory");
+    }
+    list
+}
+
 #[test]
 fn zone_opened(rt: HostRuntime) {
     let alloc = rt.alloc();
     let mut zones = Zones::new(alloc);
     let [a, b, c] = abc();
     let delta = open(&rt, alloc, &mut zones, 1, b"example.com", &[c, a, b]);
-    let told = [c, a, b].map(|row| reference(&rt, &zones, 1, row));
+    let told = references(&rt, alloc, &zones, &[c, a, b]);
     assert_eq!(rt; delta.zone, 1, "its number");
     assert_eq!(rt; delta.removed.len(), 0, "nothing went");
     assert_eq!(rt;
@@ -52,9 +61,9 @@ fn one_goes_one_is_replaced_one_comes(rt: HostRuntime) {
     let other_b = address(b"b.example.com", b"192.0.2.6");
     let stays = reference(&rt, &zones, 1, a);
     let apart = reference(&rt, &zones, 2, elsewhere());
-    let gone = [c, b].map(|row| reference(&rt, &zones, 1, row));
+    let gone = references(&rt, alloc, &zones, &[c, b]);
     let delta = change(&rt, alloc, &mut zones, 1, &[c, b], &[d, other_b]);
-    let new = [d, other_b].map(|row| reference(&rt, &zones, 1, row));
+    let new = references(&rt, alloc, &zones, &[d, other_b]);
     assert_eq!(rt;
         delta.removed.as_slice(),
         gone.as_slice(),
@@ -66,8 +75,14 @@ fn one_goes_one_is_replaced_one_comes(rt: HostRuntime) {
         "those that came, in the order given"
     );
     loads(&rt, alloc, &zones, stays, a);
-    loads(&rt, alloc, &zones, new[0], d);
-    loads(&rt, alloc, &zones, new[1], other_b);
+    loads(&rt, alloc, &zones, reference(&rt, &zones, 1, d), d);
+    loads(
+        &rt,
+        alloc,
+        &zones,
+        reference(&rt, &zones, 1, other_b),
+        other_b,
+    );
     loads(&rt, alloc, &zones, apart, elsewhere());
 }
 
@@ -76,7 +91,9 @@ fn one_goes(rt: HostRuntime) {
     let alloc = rt.alloc();
     let mut zones = zones(&rt, alloc);
     let [a, b, c] = abc();
-    let [first, middle, last] = [a, b, c].map(|row| reference(&rt, &zones, 1, row));
+    let first = reference(&rt, &zones, 1, a);
+    let middle = reference(&rt, &zones, 1, b);
+    let last = reference(&rt, &zones, 1, c);
     let delta = change(&rt, alloc, &mut zones, 1, &[b], &[]);
     assert_eq!(rt;
         delta.removed.as_slice(),
@@ -94,7 +111,9 @@ fn zone_closed(rt: HostRuntime) {
     let alloc = rt.alloc();
     let mut zones = zones(&rt, alloc);
     let apart = reference(&rt, &zones, 2, elsewhere());
-    let all = abc().map(|row| reference(&rt, &zones, 1, row));
+    let [a, b, c] = abc();
+    let all = references(&rt, alloc, &zones, &[a, b, c]);
+    let first = reference(&rt, &zones, 1, a);
     let delta = close(&rt, alloc, &mut zones, 1);
     assert_eq!(rt;
         delta.removed.as_slice(),
@@ -103,7 +122,7 @@ fn zone_closed(rt: HostRuntime) {
     );
     assert_eq!(rt; delta.added.len(), 0, "nothing came");
     assert!(rt; zones.apex(1).is_none(), "the zone is gone");
-    names_none(&rt, alloc, &zones, all[0], elsewhere());
+    names_none(&rt, alloc, &zones, first, elsewhere());
     loads(&rt, alloc, &zones, apart, elsewhere());
 }
 

@@ -60,7 +60,8 @@ fn zones(rt: &impl Abort, alloc: Global) -> Zones {
     let mut zones = Zones::new(alloc);
     let only = address(b"sub.example.com", b"192.0.2.9");
     open(rt, alloc, &mut zones, 3, b"sub.example.com", &[only]);
-    let given = [6, 3, 1, 7, 4, 2, 0, 5].map(|place| row(rt, place));
+    let [a, b, c, d, e, f, g, h] = rows();
+    let given = [g, d, b, h, e, c, a, f];
     open(rt, alloc, &mut zones, 7, b"example.com", &given);
     zones
 }
