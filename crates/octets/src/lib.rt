@@ -7,6 +7,6 @@ mod memory;
 mod numbers;
 mod places;
 
-pub use memory::{OutOfMemory, zeros};
-pub use numbers::{four_octets, number_at, two_octets};
+pub use memory::{OutOfMemory, append, zeros};
+pub use numbers::{four_octets, long_at, number_at, octal_at, two_octets};
 pub use places::{behind, fill_front, front, put_at};

@@ -1,4 +1,6 @@
-ghost use Rattle.std.specs.Prelude.{◌≡◌, length, IfOk, All};
+//! What takes memory, and says so where there is none.
+
+ghost use Rattle.std.specs.Prelude.{◌≡◌, ◌++◌, length, IfOk, OnOk, OnErr, All};
 
 use std::alloc::{AllocError, AllocFailed, Global};
 
@@ -25,4 +27,13 @@ pub fn zeros(alloc: Global, len: usize) -> Result<Vec<u8>, OutOfMemory>
 {
     let v = vec![in alloc; 0; len]?;
     Ok(v)
+}
+
+/// Puts a piece behind what the vector holds.
+pub fn append(piece: &[u8], into: &mut Vec<u8>) -> Result<(), OutOfMemory>
+    ensures ok { OnOk result (into.new.items ≡ into.old.items ++ piece.now) }
+    ensures err { OnErr result (into.new.items ≡ into.old.items) }
+{
+    into.extend_from_slice(piece)?;
+    Ok(())
 }

@@ -1,9 +1,12 @@
+//! Pieces of slices: what stands before a place and behind it, and copies to a place.
+
 ghost use Rattle.std.specs.Prelude.{◌≡◌, ◌≤◌, ◌+◌, ◌++◌, length, take, drop};
 
 /// Copies a piece to a place of the buffer.
 pub fn put_at(buffer: &mut [u8], at: usize, piece: &[u8])
     requires { at + length piece.now ≤ length buffer.old }
-    ensures whole { buffer.new ≡ take at buffer.old ++ piece.now ++ drop (at + length piece.now) buffer.old }
+    ensures whole { buffer.new
+        ≡ take at buffer.old ++ piece.now ++ drop (at + length piece.now) buffer.old }
     ensures written { take (at + length piece.now) buffer.new ≡ take at buffer.old ++ piece.now }
 {
     buffer[at..at + piece.len()].copy_from_slice(piece);
