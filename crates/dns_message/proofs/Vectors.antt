@@ -1,5 +1,6 @@
 -- Headers octet by octet (RFC 1035, 4.1.1).
 use Rattle.std.proofs.Common.{◌≡◌, ℕ, List, [], ◌∷◌, refl, true}
+use Rattle.dns_message.specs.declared.rcode.TheConstants.{FORMERR, NOTIMP, REFUSED}
 use Rattle.dns_message.specs.Header.{id_of, qr_of, opcode_of, rd_of, qdcount_of, ancount_of, nscount_of, arcount_of}
 
 -- ID 0x1234, opcode 5 (UPDATE), RD, one question and 258 additional records
@@ -36,3 +37,7 @@ authorities = refl
 
 pub additionals : arcount_of update ≡ 258
 additionals = refl
+
+-- RCODE: Format error, Not Implemented and Refused (RFC 1035, 4.1.1)
+pub codes : FORMERR ∷ NOTIMP ∷ REFUSED ∷ [] ≡ 1 ∷ 4 ∷ 5 ∷ []
+codes = refl

@@ -1,3 +1,5 @@
+//! What a packet is read as: a query, a fault with its response code, or nothing to answer.
+
 use dns_name::Name;
 
 /// A query for one name, type and class (RFC 1035, 4.1.2).

@@ -1,3 +1,5 @@
+//! A packet judged by its header first and then by its question, up to the first fault.
+
 ghost use Rattle.std.specs.Prelude.{◌≡◌, ℕ, ◌+◌, ◌-◌, ◌≤◌, List, ◌++◌, length, IsTrue, ◌↔◌, IfSome, IfNone, take, drop, replicate};
 ghost use Rattle.octets.specs.Numbers.{number_at};
 ghost use Rattle.dns_message.specs.Header.{id_of, opcode_of, rd_of, HasQueryCounts};

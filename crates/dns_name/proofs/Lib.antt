@@ -1,5 +1,6 @@
 pub mod Depth
 pub mod Labels
+pub mod Lower
 pub mod Peel
 pub mod Placing
 pub mod Reading

@@ -8,6 +8,7 @@ use Rattle.std.specs.Cmp.Lexicographic.{pointwise, slice_cmp}
 abbrev pub same_labels : (labels others : List (List ℕ)) → Bool
 same_labels labels others = pointwise (pointwise nat_eq) labels others
 
--- The order of names in a zone: label by label from the root, octets compared, a parent before what is below it.
+-- The order of names in a zone: label by label from the root, octets compared, a parent before
+-- what is below it.
 abbrev pub zone_cmp : (labels others : List (List ℕ)) → Ordering
 zone_cmp labels others = slice_cmp (slice_cmp nat_cmp) (reverse labels) (reverse others)

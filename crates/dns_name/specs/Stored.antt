@@ -4,7 +4,8 @@ use Rattle.std.specs.Char.{to_ascii_lowercase}
 use Rattle.std.proofs.Math.ListN.{replicate}
 use Rattle.dns_name.specs.Labels.{wire, IsRawName}
 
--- The labels of a name on the wire, where `need` bytes of the first are still to come: that label, and those after it.
+-- The labels of a name on the wire, where `need` bytes of the first are still to come: that
+-- label, and those after it.
 abbrev pub cut : ℕ → List ℕ → List ℕ × List (List ℕ)
 cut need [] = ([], [])
 cut zero (zero ∷ bytes) = ([], [])

@@ -1,10 +1,14 @@
 -- The texts of names (RFC 1035, 5.1; FORMATS, Texts of names).
-use Rattle.std.specs.Prelude.{ℕ, zero, suc, ◌+◌, ◌-◌, ◌*◌, List, [], ◌∷◌, ◌++◌, length, slice_index, Bool, ◌&&◌, ◌==◌, nat_le, nat_lt, if◌then◌else◌, Result, Ok, Err}
+use Rattle.std.specs.Prelude.{ℕ, zero, suc, ◌+◌, List, [], ◌∷◌, ◌++◌, length, Bool, ◌&&◌, ◌==◌}
+use Rattle.std.specs.Prelude.{nat_le, nat_lt, if◌then◌else◌, Result, Ok, Err}
 use Rattle.std.specs.Str.{bytes_eq}
 use Rattle.std.specs.Result.{result_map_both}
+use Rattle.octets.specs.Octal.{has_octal, octal_of}
 use Rattle.dns_name.specs.Labels.{wire, lowered}
 use Rattle.dns_name.specs.declared.fault.NameFault.{NameFault}
-use Rattle.dns_name.specs.declared.fault.NameFault.TheVariants.{BadEscape, LabelTooLong, NameTooLong, EmptyLabel, BadByte}
+use Rattle.dns_name.specs.declared.fault.NameFault.TheVariants.{BadEscape, LabelTooLong}
+use Rattle.dns_name.specs.declared.fault.NameFault.TheVariants.{NameTooLong, EmptyLabel}
+use Rattle.dns_name.specs.declared.fault.NameFault.TheVariants.{BadByte}
 
 -- `.` and the backslash
 abbrev pub dot : ℕ
@@ -17,21 +21,8 @@ backslash = 0x5C
 abbrev pub is_graphic : ℕ → Bool
 is_graphic b = nat_le 0x21 b && nat_le b 0x7E
 
-abbrev pub is_octal_digit : ℕ → Bool
-is_octal_digit b = nat_le 0x30 b && nat_le b 0x37
-
--- the number of the three octal digits at the front
-abbrev pub octal_of : List ℕ → ℕ
-octal_of rest = (slice_index rest 0 - 0x30) * 64 + (slice_index rest 1 - 0x30) * 8 + (slice_index rest 2 - 0x30)
-
--- three octal digits of value at most 255 stand at the front
-abbrev pub has_octal : List ℕ → Bool
-has_octal rest =
-    is_octal_digit (slice_index rest 0) && is_octal_digit (slice_index rest 1) && is_octal_digit (slice_index rest 2)
-    && nat_le (octal_of rest) 255
-
--- How far a text is read: behind whole labels and a part of the next, where so many bytes of an escape are still to be
--- passed over; or stopped at the first fault.
+-- How far a text is read: behind whole labels and a part of the next, where so many bytes of an
+-- escape are still to be passed over; or stopped at the first fault.
 pub data Progress : Type 0 where
   Reading : (passing : ℕ) (done : List (List ℕ)) (label : List ℕ) → Progress
   Stopped : NameFault → Progress
@@ -40,8 +31,9 @@ pub data Progress : Type 0 where
 abbrev pub add_character : (done : List (List ℕ)) (label : List ℕ) (at value more : ℕ) → Progress
 add_character done label at value more =
     if nat_le 63 (length label) then Stopped (LabelTooLong at)
-    else (if nat_lt 255 (length (wire (done ++ (label ++ value ∷ []) ∷ []))) then Stopped (NameTooLong at)
-    else Reading more done (label ++ value ∷ []))
+    else if nat_lt 255 (length (wire (done ++ (label ++ value ∷ []) ∷ [])))
+    then Stopped (NameTooLong at)
+    else Reading more done (label ++ value ∷ [])
 
 -- the dot behind a label
 abbrev pub end_label : (done : List (List ℕ)) (label : List ℕ) (at : ℕ) → Progress
@@ -52,8 +44,10 @@ end_label done (b ∷ label) at = Reading 0 (done ++ (b ∷ label) ∷ []) []
 abbrev pub take_byte : (done : List (List ℕ)) (label : List ℕ) (at b : ℕ) (rest : List ℕ) → Progress
 take_byte done label at b rest =
     if b == dot then end_label done label at
-    else (if b == backslash then (if has_octal rest then add_character done label at (octal_of rest) 3 else Stopped (BadEscape at))
-    else (if is_graphic b then add_character done label at b 0 else Stopped (BadByte at)))
+    else if b == backslash
+    then (if has_octal rest then add_character done label at (octal_of rest) 3 else Stopped (BadEscape at))
+    else if is_graphic b then add_character done label at b 0
+    else Stopped (BadByte at)
 
 abbrev pub step : Progress → (at b : ℕ) (rest : List ℕ) → Progress
 step (Reading zero done label) at b rest = take_byte done label at b rest
@@ -66,7 +60,8 @@ read_from progress at [] = progress
 read_from progress at (b ∷ rest) = read_from (step progress at b rest) (at + 1) rest
 
 -- at the end of a text: the label so far is the last, and behind a dot there is none more
-abbrev pub ended : (done : List (List ℕ)) (label : List ℕ) (at : ℕ) → Result (List (List ℕ)) NameFault
+abbrev pub ended : (done : List (List ℕ)) (label : List ℕ) (at : ℕ)
+    → Result (List (List ℕ)) NameFault
 ended [] [] at = Err (EmptyLabel at)
 ended (first ∷ done) [] at = Ok (first ∷ done)
 ended done (b ∷ label) at = Ok (done ++ (b ∷ label) ∷ [])
@@ -82,7 +77,8 @@ root_text = dot ∷ []
 -- the labels of a text as it spells them, or its first fault
 abbrev pub labels_of_text : List ℕ → Result (List (List ℕ)) NameFault
 labels_of_text text =
-    if bytes_eq text root_text then Ok [] else at_the_end (read_from (Reading 0 [] []) 0 text) (length text)
+    if bytes_eq text root_text then Ok []
+    else at_the_end (read_from (Reading 0 [] []) 0 text) (length text)
 
 -- the same with the labels in lower case
 abbrev pub name_of_text : List ℕ → Result (List (List ℕ)) NameFault

@@ -1,3 +1,5 @@
+//! What is wrong with the text of a name.
+
 use thiserror::Error;
 
 /// The first fault of a name's text from left to right, with the byte at which it stands.

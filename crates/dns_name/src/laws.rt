@@ -1,6 +1,7 @@
 //! Laws over the definitions, each the contract of a function that does nothing.
 
-ghost use Rattle.dns_name.specs.Laws.{OneNameAtTheFront, OneNameOfAWire, ParentsComeFirst, TextsReadAsNames, WrittenTextReadsBack};
+ghost use Rattle.dns_name.specs.Laws.{OneNameAtTheFront, OneNameOfAWire, ParentsComeFirst};
+ghost use Rattle.dns_name.specs.Laws.{TextsReadAsNames, WrittenTextReadsBack};
 
 /// Bytes begin with one name at most.
 pub fn one_name_at_the_front()

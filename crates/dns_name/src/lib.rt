@@ -1,6 +1,7 @@
 //! Domain names: lists of labels, equal up to ASCII case (RFC 1035, 2.3.3 and 3.1).
 //!
-//! A name is kept in lower case, so a reply that has to repeat the case of a question copies the question's bytes.
+//! A name is kept in lower case, so a reply that has to repeat the case of a question copies the
+//! question's bytes.
 #![tactic(auto)]
 
 mod fault;
@@ -19,3 +20,5 @@ pub use laws::{
     written_text_reads_back,
 };
 pub use name::Name;
+pub use order::octets_cmp;
+pub use scan::lower_name_len;

@@ -1,8 +1,11 @@
-ghost use Rattle.std.specs.Prelude.{◌≡◌, ℕ, ◌≤◌, ◌<◌, List, [], ◌∷◌, ◌++◌, length, IfSome, IfNone, IsTrue, ◌↔◌, map, take, drop};
+//! Names as they are kept: the octets on the wire, in lower case.
+
+ghost use Rattle.std.specs.Prelude.{◌≡◌, ℕ, ◌≤◌, ◌<◌, List, [], ◌∷◌, ◌++◌, length, IfSome, IfNone};
+ghost use Rattle.std.specs.Prelude.{IsTrue, ◌↔◌, map, take, drop};
 ghost use Rattle.std.specs.Char.{to_ascii_lowercase};
 ghost use Rattle.dns_name.specs.Labels.{wire, IsRawName, lowered};
 ghost use Rattle.dns_name.specs.Wildcard.{wildcard};
-ghost use Rattle.dns_name.specs.Names.{IsName};
+ghost use Rattle.dns_name.specs.Names.{IsName, AreOctets};
 ghost use Rattle.dns_name.specs.Stored.{labels_of};
 ghost use Rattle.dns_name.specs.Suffix.{EndsWith};
 ghost use Rattle.dns_name.specs.Whole.{IsWire};
@@ -54,21 +57,21 @@ impl Name {
     pub fn is_same(&self, other: &Name) -> bool
         ensures { IsTrue result ↔ (self.now ≡ other.now) }
     {
-        self.bytes == other.bytes
+        walk::is_same(self.octets(), other.octets())
     }
 
     /// Whether it is the root.
     pub fn is_root(&self) -> bool
         ensures { IsTrue result ↔ (self.now ≡ []) }
     {
-        self.is_same(&Name::root())
+        self.len == 1
     }
 
     /// What every name is, for the premises of laws; it does nothing.
     pub fn well_formed(&self)
         ensures { IsName self.now }
     {
-        walk::name_octets(self.octets());
+        self.octets();
     }
 
     /// How many labels it has.
@@ -78,7 +81,8 @@ impl Name {
         walk::count(self.octets())
     }
 
-    /// Whether its last labels are those of the other name: whether it is the other name, or below it.
+    /// Whether its last labels are those of the other name: whether it is the other name, or
+    /// below it.
     pub fn ends_with(&self, other: &Name) -> bool
         ensures { IsTrue result ↔ EndsWith self.now other.now }
     {
@@ -98,7 +102,8 @@ impl Name {
         Some(Name::of_octets(behind(octets, n + 1)))
     }
 
-    /// The name with the wildcard label in front (RFC 4592, 2.1.1), where that has no more than 255 octets.
+    /// The name with the wildcard label in front (RFC 4592, 2.1.1), where that has no more than
+    /// 255 octets.
     pub fn wildcard(&self) -> Option<Name>
         ensures some { IfSome result (λ name. name ≡ wildcard ∷ self.now) }
         ensures fits { IfSome result (λ name. length (wire (wildcard ∷ self.now)) ≤ 255) }
@@ -125,6 +130,27 @@ impl Name {
         Some((Name::stored(front(bytes, len)), len))
     }
 
+    /// The name's octets on the wire (RFC 1035, 3.1).
+    pub fn octets(&self) -> &[u8]
+        ensures spelled { result.now ≡ wire self.now }
+        ensures octets { AreOctets result.now }
+        ensures name { IsName self.now }
+        ensures whole { IsWire result.now }
+        ensures same { labels_of result.now ≡ self.now }
+    {
+        let octets = self.kept();
+        walk::name_octets(octets);
+        octets
+    }
+
+    /// The octets that are the name's.
+    fn kept(&self) -> &[u8]
+        ensures whole { IsWire result.now }
+        ensures same { labels_of result.now ≡ self.now }
+    {
+        front(&self.bytes, self.len as usize)
+    }
+
     /// Writes the name's octets on the wire to the front (RFC 1035, 3.1), and says how many.
     pub fn write_wire(&self, into: &mut [u8; 255]) -> usize
         ensures size { result ≡ length (wire self.now) }
@@ -134,15 +160,6 @@ impl Name {
         let octets = self.octets();
         fill_front(into, octets);
         octets.len()
-    }
-
-    /// The name on the wire.
-    pub(crate) fn octets(&self) -> &[u8]
-        ensures spelled { result.now ≡ wire self.now }
-        ensures whole { IsWire result.now }
-        ensures same { labels_of result.now ≡ self.now }
-    {
-        front(&self.bytes, self.len as usize)
     }
 
     /// The name of these octets, which are in lower case.
@@ -156,7 +173,8 @@ impl Name {
     /// The name that these bytes spell.
     pub(crate) fn stored(spelled: &[u8]) -> Name
         requires { (raw : List (List ℕ)) × IsRawName raw × (spelled.now ≡ wire raw) }
-        ensures { (raw : List (List ℕ)) → IsRawName raw → spelled.now ≡ wire raw → result ≡ lowered raw }
+        ensures { (raw : List (List ℕ)) → IsRawName raw → spelled.now ≡ wire raw
+            → result ≡ lowered raw }
     {
         let mut bytes = [0; 255];
         lower_into(&mut bytes, spelled);

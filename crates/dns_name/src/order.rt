@@ -3,8 +3,11 @@
 ghost use Rattle.std.specs.Prelude.{◌≡◌, ℕ, ◌≤◌, List, length, drop, refl, Some};
 ghost use Rattle.std.specs.Cmp.Lexicographic.{slice_cmp};
 ghost use Rattle.std.specs.Ordering.{nat_cmp, ordering_then};
+ghost use Rattle.dns_name.specs.Labels.{wire};
+ghost use Rattle.dns_name.specs.Names.{IsName};
 ghost use Rattle.dns_name.specs.Order.{same_labels, zone_cmp};
-ghost use Rattle.dns_name.specs.OrderLaws.{same_labels_laws, same_labels_partial, zone_cmp_ties, zone_cmp_partial, zone_cmp_total};
+ghost use Rattle.dns_name.specs.OrderLaws.{same_labels_laws, same_labels_partial, zone_cmp_ties};
+ghost use Rattle.dns_name.specs.OrderLaws.{zone_cmp_partial, zone_cmp_total};
 ghost use Rattle.dns_name.specs.Stored.{labels_of};
 ghost use Rattle.dns_name.specs.Whole.{IsWire};
 
@@ -47,11 +50,21 @@ impl Ord for Name {
     ghost matches_eq = { zone_cmp_ties };
 
     fn cmp(&self, other: &Name) -> Ordering {
-        order_of(self.octets(), other.octets())
+        octets_cmp(self.octets(), other.octets())
     }
 }
 
-/// The order of two names.
+/// Zone order of two names, told from their octets on the wire.
+pub fn octets_cmp(octets: &[u8], others: &[u8]) -> Ordering
+    requires octets { (name : List (List ℕ)) × IsName name × (octets.now ≡ wire name) }
+    requires others { (other : List (List ℕ)) × IsName other × (others.now ≡ wire other) }
+    ensures { (name other : List (List ℕ)) → IsName name → IsName other
+        → octets.now ≡ wire name → others.now ≡ wire other → result ≡ zone_cmp name other }
+{
+    order_of(octets, others)
+}
+
+/// The order of the labels of two names' octets.
 fn order_of(octets: &[u8], others: &[u8]) -> Ordering
     requires octets { IsWire octets.now }
     requires others { IsWire others.now }

@@ -1,14 +1,16 @@
 //! A name in the making, as its text is read.
 
-ghost use Rattle.std.specs.Prelude.{◌≡◌, ℕ, ◌+◌, ◌<◌, ◌≤◌, List, [], ◌∷◌, ◌++◌, length, drop, true, false, OnOk, IfOk, IfErr, IfSome, IfNone};
-ghost use Rattle.dns_name.specs.Text.{Progress, add_character, end_label, read_from, ended, is_graphic, is_octal_digit, octal_of, has_octal};
+ghost use Rattle.std.specs.Prelude.{◌≡◌, ℕ, ◌+◌, ◌<◌, ◌≤◌, List, [], ◌∷◌, ◌++◌, length, drop, true};
+ghost use Rattle.std.specs.Prelude.{false, OnOk, IfOk, IfErr};
+ghost use Rattle.dns_name.specs.Text.{Progress, add_character, end_label, read_from, ended};
+ghost use Rattle.dns_name.specs.Text.{is_graphic};
 ghost use Rattle.std.specs.Result.{result_map_both};
 ghost use Rattle.dns_name.specs.Labels.{lowered};
 ghost use Rattle.dns_name.specs.Text.Progress.{Reading, Stopped};
 ghost use Rattle.dns_name.specs.Spelling.{Spells, Advances};
 
 use crate::{Name, NameFault};
-use octets::{behind, front};
+use octets::{behind, front, octal_at};
 
 /// Whole labels on the wire, and a part of the next.
 #[derive(Clone, Copy)]
@@ -34,7 +36,8 @@ impl Spelling {
 
     /// A character of this value, which begins at this byte of the text.
     fn add_character(&mut self, at: usize, value: u8) -> Result<(), NameFault>
-        requires { (done : List (List ℕ)) × (label : List ℕ) × Spells self.old.bytes self.old.start self.old.end done label }
+        requires { (done : List (List ℕ)) × (label : List ℕ)
+            × Spells self.old.bytes self.old.start self.old.end done label }
         ensures ok { OnOk result ((done : List (List ℕ)) (label : List ℕ) (more : ℕ)
             → Spells self.old.bytes self.old.start self.old.end done label
             → Spells self.new.bytes self.new.start self.new.end done (label ++ value ∷ [])
@@ -56,7 +59,8 @@ impl Spelling {
 
     /// The dot behind a label, at this byte of the text.
     fn end_label(&mut self, at: usize) -> Result<(), NameFault>
-        requires { (done : List (List ℕ)) × (label : List ℕ) × Spells self.old.bytes self.old.start self.old.end done label }
+        requires { (done : List (List ℕ)) × (label : List ℕ)
+            × Spells self.old.bytes self.old.start self.old.end done label }
         ensures ok { OnOk result ((done : List (List ℕ)) (label : List ℕ)
             → Spells self.old.bytes self.old.start self.old.end done label
             → Spells self.new.bytes self.new.start self.new.end (done ++ label ∷ []) []
@@ -76,7 +80,8 @@ impl Spelling {
 
     /// Takes a dot or a character of the text, and says how many bytes it has.
     pub fn take(&mut self, text: &[u8], at: usize) -> Result<usize, NameFault>
-        requires spelling { (done : List (List ℕ)) × (label : List ℕ) × Spells self.old.bytes self.old.start self.old.end done label }
+        requires spelling { (done : List (List ℕ)) × (label : List ℕ)
+            × Spells self.old.bytes self.old.start self.old.end done label }
         requires within { at < length text.now }
         ensures some { IfOk result (λ n. 0 < n) }
         ensures room { IfOk result (λ n. at + n ≤ length text.now) }
@@ -95,7 +100,7 @@ impl Spelling {
             };
         }
         if b == b'\\' {
-            let Some(value) = octal(behind(text, at + 1)) else {
+            let Some(value) = octal_at(behind(text, at + 1)) else {
                 return Err(NameFault::BadEscape(at));
             };
             return match self.add_character(at, value) {
@@ -114,8 +119,10 @@ impl Spelling {
 
     /// The name, where the text ends at this byte.
     pub fn finish(mut self, at: usize) -> Result<Name, NameFault>
-        requires { (done : List (List ℕ)) × (label : List ℕ) × Spells self.bytes self.start self.end done label }
-        ensures { (done : List (List ℕ)) (label : List ℕ) → Spells self.bytes self.start self.end done label
+        requires { (done : List (List ℕ)) × (label : List ℕ)
+            × Spells self.bytes self.start self.end done label }
+        ensures { (done : List (List ℕ)) (label : List ℕ)
+            → Spells self.bytes self.start self.end done label
             → result ≡ result_map_both lowered (λ fault. fault) (ended done label at) }
     {
         if self.end == self.start + 1 {
@@ -129,7 +136,8 @@ impl Spelling {
 
     /// The name of the whole labels.
     fn last(&mut self, at: usize) -> Result<Name, NameFault>
-        requires { (done : List (List ℕ)) × Spells self.old.bytes self.old.start self.old.end done [] }
+        requires { (done : List (List ℕ))
+            × Spells self.old.bytes self.old.start self.old.end done [] }
         ensures { (done : List (List ℕ)) → Spells self.old.bytes self.old.start self.old.end done []
             → result ≡ result_map_both lowered (λ fault. fault) (ended done [] at) }
     {
@@ -146,31 +154,4 @@ fn is_graphic(b: u8) -> bool
     ensures { result ≡ is_graphic b }
 {
     b >= 0x21 && b <= 0x7e
-}
-
-/// The octet of the three octal digits at the front.
-fn octal(rest: &[u8]) -> Option<u8>
-    ensures some { IfSome result (λ value. value ≡ octal_of rest.now) }
-    ensures found { IfSome result (λ _. has_octal rest.now ≡ true) }
-    ensures room { IfSome result (λ _. 3 ≤ length rest.now) }
-    ensures none { IfNone result (has_octal rest.now ≡ false) }
-{
-    let &[a, b, c, ..] = rest else {
-        return None;
-    };
-    if !(is_octal_digit(a) && is_octal_digit(b) && is_octal_digit(c)) {
-        return None;
-    }
-    let value = u16::from(a - b'0') * 64 + u16::from(b - b'0') * 8 + u16::from(c - b'0');
-    if value > 255 {
-        return None;
-    }
-    Some(value as u8)
-}
-
-/// Whether a byte is an octal digit.
-fn is_octal_digit(b: u8) -> bool
-    ensures { result ≡ is_octal_digit b }
-{
-    b >= b'0' && b <= b'7'
 }

@@ -1,3 +1,5 @@
+//! Names from their texts.
+
 ghost use Rattle.std.specs.Prelude.{◌≡◌, IsTrue, ◌↔◌};
 ghost use Rattle.dns_name.specs.Text.{root_text, name_of_text};
 
@@ -5,7 +7,8 @@ use crate::spelling::Spelling;
 use crate::{Name, NameFault};
 
 impl Name {
-    /// The name of a text: labels with dots between them, `\ooo` for an octet, and an optional final dot.
+    /// The name of a text: labels with dots between them, `\ooo` for an octet, and an optional
+    /// final dot.
     ///
     /// The root is a dot alone. Upper case is read as lower case.
     pub fn from_text(text: &[u8]) -> Result<Name, NameFault>

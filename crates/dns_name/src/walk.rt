@@ -1,7 +1,7 @@
 //! Walks over the labels of a name's octets, by the places of their length octets.
 
 ghost use Rattle.std.specs.Prelude.{◌≡◌, ℕ, ◌≤◌, ◌+◌, List, length, take, drop, IsTrue, ◌↔◌};
-ghost use Rattle.dns_name.specs.Names.{IsName};
+ghost use Rattle.dns_name.specs.Names.{IsName, AreOctets};
 ghost use Rattle.dns_name.specs.Stored.{labels_of};
 ghost use Rattle.dns_name.specs.Suffix.{EndsWith};
 ghost use Rattle.dns_name.specs.Whole.{IsWire};
@@ -11,7 +11,8 @@ use octets::behind;
 /// The labels of octets are a name.
 pub fn name_octets(octets: &[u8])
     requires { IsWire octets.now }
-    ensures { IsName (labels_of octets.now) }
+    ensures octets { AreOctets octets.now }
+    ensures name { IsName (labels_of octets.now) }
 {}
 
 /// How many labels the octets have.
@@ -67,7 +68,7 @@ pub fn ends_with(octets: &[u8], suffix: &[u8]) -> bool
 }
 
 /// Whether the octets are the same.
-fn is_same(octets: &[u8], others: &[u8]) -> bool
+pub fn is_same(octets: &[u8], others: &[u8]) -> bool
     ensures { IsTrue result ↔ (octets.now ≡ others.now) }
 {
     octets == others

@@ -15,7 +15,8 @@ use octets::put_at;
 impl Name {
     /// Writes the name's text to the front, with a dot at its end, and says how long it is.
     ///
-    /// An octet other than a to z, 0 to 9, `-` and `_` is written as `\ooo`, so the text has at most 1,016 bytes.
+    /// An octet other than a to z, 0 to 9, `-` and `_` is written as `\ooo`, so the text has at
+    /// most 1,016 bytes.
     pub fn write_text(&self, into: &mut [u8; 1024]) -> usize
         ensures size { result ≡ length (text_of self.now) }
         ensures written { take result into.new ≡ text_of self.now }

@@ -1,4 +1,7 @@
-ghost use Rattle.std.specs.Prelude.{◌≡◌, ℕ, ◌<◌, ◌≤◌, List, Some, ◌++◌, length, take, drop, min, IfOk, ◌↔◌};
+//! A source in memory.
+
+ghost use Rattle.std.specs.Prelude.{◌≡◌, ℕ, ◌<◌, ◌≤◌, List, Some, ◌++◌, length, take, drop, min};
+ghost use Rattle.std.specs.Prelude.{IfOk, ◌↔◌};
 ghost use Rattle.std.specs.List.{Contains};
 ghost use Rattle.octets.specs.Counts.{Rose, next_count};
 ghost use Rattle.r53_io.specs.Streams.{IsWithin, ReadGives, IfBytes};
@@ -9,7 +12,7 @@ use octets::{OutOfMemory, behind, fill_front, front};
 use std::alloc::Global;
 use std::marker::Model;
 
-/// A source over bytes in memory, which hands them out in pieces and fails at the calls that it is told.
+/// A source over bytes in memory, which hands them out in pieces and fails at the calls it is told.
 #[derive(Drop)]
 pub struct ListSource {
     bytes: Vec<u8>,
@@ -32,7 +35,8 @@ impl Model for ListSource {
 }
 
 impl ListSource {
-    /// A source of these bytes, at most `piece` of them at a time. The calls whose numbers, from 0, are in `fail` fail.
+    /// A source of these bytes, at most `piece` of them at a time. The calls whose numbers, from
+    /// 0, are in `fail` fail.
     pub fn new(
         alloc: Global,
         bytes: &[u8],
@@ -80,6 +84,9 @@ impl Source for ListSource {
         ensures most { IfBytes result (λ n.
             n ≡ min self.old.piece (min (length into.old) (length self.old.left))) }
         ensures after { AfterRead self.old result self.new }
+
+        // What stands in the slice behind what it gives stays.
+        ensures behind { IfBytes result (λ n. drop n into.new ≡ drop n into.old) }
     {
         let call = self.calls;
         self.calls = self.calls.saturating_add(1);
@@ -93,7 +100,8 @@ impl Source for ListSource {
     }
 }
 
-/// Copies the first bytes that are left to the front of the slice, as many as a piece and the slice have room for.
+/// Copies the first bytes that are left to the front of the slice, as many as a piece and the
+/// slice have room for.
 fn fill_some(into: &mut [u8], left: &[u8], piece: usize) -> usize
     ensures most { result ≡ min piece (min (length into.old) (length left.now)) }
     ensures bytes { into.new ≡ take result left.now ++ drop result into.old }

@@ -1,3 +1,5 @@
+//! Rows of fields and numbers.
+
 use std::process::Abort;
 use value_text::{Field, next_field, number};
 

@@ -1,3 +1,5 @@
+//! Rows of names.
+
 use dns_name::{Name, NameFault};
 use std::process::Abort;
 
@@ -47,7 +49,8 @@ fn texts_without_a_name(rt: HostRuntime) {
     has_no_name(&rt, &[b'a'; 64], NameFault::LabelTooLong(63));
 }
 
-/// Reads a text and octets, and compares the name with the text that is written and with the octets.
+/// Reads a text and octets, and compares the name with the text that is written and with the
+/// octets.
 fn compare(rt: &impl Abort, text: &[u8], written: &[u8], octets: &[u8]) {
     let read = name(rt, text);
     assert!(rt; is_written(&read, written), "written: {text:?}");

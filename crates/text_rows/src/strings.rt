@@ -1,3 +1,5 @@
+//! Rows of strings.
+
 ghost use Rattle.std.specs.Prelude.{◌≤◌, length};
 
 use std::process::Abort;

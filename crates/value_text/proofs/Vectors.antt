@@ -1,6 +1,8 @@
--- Texts of values by their bytes: from RFC 1035 and RFC 8659, from the guide to Route 53 (Supported DNS record types, TXT),
+-- Texts of values by their bytes: from RFC 1035 and RFC 8659, from the guide to Route 53 (Supported
+-- DNS record types, TXT),
 -- and worked by hand.
-use Rattle.std.proofs.Common.{◌≡◌, [], ◌∷◌, ◌++◌, drop, replicate, refl, codes, None, Some}
+use Rattle.std.proofs.Common.{◌≡◌, [], ◌∷◌, ◌++◌, drop, replicate, refl, codes, map, None, Some}
+use Rattle.std.specs.List.{flat_map}
 use Rattle.value_text.specs.Fields.{next_field}
 use Rattle.value_text.specs.Numbers.{number}
 use Rattle.value_text.specs.Strings.{string_of_text, string_text}
@@ -9,51 +11,61 @@ use Rattle.value_text.specs.Strings.{string_of_text, string_text}
 pub preference : next_field 0 (codes "10      VENERA") ≡ Some (record { start = 0; end = 2 })
 preference = refl
 
-pub exchange : next_field 2 (drop 2 (codes "10      VENERA")) ≡ Some (record { start = 8; end = 14 })
+pub exchange : next_field 2 (drop 2 (codes "10      VENERA"))
+    ≡ Some (record { start = 8; end = 14 })
 exchange = refl
 
 pub no_third : next_field 14 (drop 14 (codes "10      VENERA")) ≡ None
 no_third = refl
 
 -- CAA (RFC 8659, 4.2): `0 issue "ca1.example.net; account=230123"`
-pub issuer : next_field 7 (0x20 ∷ 0x22 ∷ codes "ca1.example.net; account=230123" ++ 0x22 ∷ []) ≡ Some (record { start = 8; end = 41 })
+pub issuer : next_field 7 (0x20 ∷ 0x22 ∷ codes "ca1.example.net; account=230123" ++ 0x22 ∷ [])
+    ≡ Some (record { start = 8; end = 41 })
 issuer = refl
 
-pub issuer_read : string_of_text (0x22 ∷ codes "ca1.example.net; account=230123" ++ 0x22 ∷ []) ≡ Some (codes "ca1.example.net; account=230123")
+pub issuer_read : string_of_text (0x22 ∷ codes "ca1.example.net; account=230123" ++ 0x22 ∷ [])
+    ≡ Some (codes "ca1.example.net; account=230123")
 issuer_read = refl
 
 -- two tabs and a space in front, and a space behind
-pub blanks : next_field 4 (0x09 ∷ 0x09 ∷ 0x20 ∷ 0x61 ∷ 0x20 ∷ []) ≡ Some (record { start = 7; end = 8 })
+pub blanks : next_field 4 (0x09 ∷ 0x09 ∷ 0x20 ∷ 0x61 ∷ 0x20 ∷ [])
+    ≡ Some (record { start = 7; end = 8 })
 blanks = refl
 
 pub only_blanks : next_field 0 (0x20 ∷ 0x09 ∷ []) ≡ None
 only_blanks = refl
 
 -- `"a""b"` is two fields
-pub first_of_two : next_field 0 (0x22 ∷ 0x61 ∷ 0x22 ∷ 0x22 ∷ 0x62 ∷ 0x22 ∷ []) ≡ Some (record { start = 0; end = 3 })
+pub first_of_two : next_field 0 (0x22 ∷ 0x61 ∷ 0x22 ∷ 0x22 ∷ 0x62 ∷ 0x22 ∷ [])
+    ≡ Some (record { start = 0; end = 3 })
 first_of_two = refl
 
 pub second_of_two : next_field 3 (0x22 ∷ 0x62 ∷ 0x22 ∷ []) ≡ Some (record { start = 3; end = 6 })
 second_of_two = refl
 
 -- `"a b" c`: a space inside quotes
-pub space_inside : next_field 0 (0x22 ∷ 0x61 ∷ 0x20 ∷ 0x62 ∷ 0x22 ∷ 0x20 ∷ 0x63 ∷ []) ≡ Some (record { start = 0; end = 5 })
+pub space_inside : next_field 0 (0x22 ∷ 0x61 ∷ 0x20 ∷ 0x62 ∷ 0x22 ∷ 0x20 ∷ 0x63 ∷ [])
+    ≡ Some (record { start = 0; end = 5 })
 space_inside = refl
 
 -- `"\""`: a quote that is escaped
-pub quote_inside : next_field 0 (0x22 ∷ 0x5C ∷ 0x22 ∷ 0x22 ∷ []) ≡ Some (record { start = 0; end = 4 })
+pub quote_inside : next_field 0 (0x22 ∷ 0x5C ∷ 0x22 ∷ 0x22 ∷ [])
+    ≡ Some (record { start = 0; end = 4 })
 quote_inside = refl
 
 -- `"\\"x`: a backslash that is escaped, and a quote that is not
-pub backslash_inside : next_field 0 (0x22 ∷ 0x5C ∷ 0x5C ∷ 0x22 ∷ 0x78 ∷ []) ≡ Some (record { start = 0; end = 4 })
+pub backslash_inside : next_field 0 (0x22 ∷ 0x5C ∷ 0x5C ∷ 0x22 ∷ 0x78 ∷ [])
+    ≡ Some (record { start = 0; end = 4 })
 backslash_inside = refl
 
 -- `"\1" x`: a backslash that begins no escape takes no quote with it
-pub no_escape : next_field 0 (0x22 ∷ 0x5C ∷ 0x31 ∷ 0x22 ∷ 0x20 ∷ 0x78 ∷ []) ≡ Some (record { start = 0; end = 4 })
+pub no_escape : next_field 0 (0x22 ∷ 0x5C ∷ 0x31 ∷ 0x22 ∷ 0x20 ∷ 0x78 ∷ [])
+    ≡ Some (record { start = 0; end = 4 })
 no_escape = refl
 
 -- `"\042"x`: the octal digits of a quote
-pub octal_inside : next_field 0 (0x22 ∷ 0x5C ∷ 0x30 ∷ 0x34 ∷ 0x32 ∷ 0x22 ∷ 0x78 ∷ []) ≡ Some (record { start = 0; end = 6 })
+pub octal_inside : next_field 0 (0x22 ∷ 0x5C ∷ 0x30 ∷ 0x34 ∷ 0x32 ∷ 0x22 ∷ 0x78 ∷ [])
+    ≡ Some (record { start = 0; end = 6 })
 octal_inside = refl
 
 -- `"a b`: a quote that is not closed takes the rest
@@ -61,7 +73,8 @@ pub unclosed : next_field 0 (0x22 ∷ 0x61 ∷ 0x20 ∷ 0x62 ∷ []) ≡ Some (r
 unclosed = refl
 
 -- `a"b" c`: a quote inside a field that does not begin with one
-pub quote_behind : next_field 0 (0x61 ∷ 0x22 ∷ 0x62 ∷ 0x22 ∷ 0x20 ∷ 0x63 ∷ []) ≡ Some (record { start = 0; end = 4 })
+pub quote_behind : next_field 0 (0x61 ∷ 0x22 ∷ 0x62 ∷ 0x22 ∷ 0x20 ∷ 0x63 ∷ [])
+    ≡ Some (record { start = 0; end = 4 })
 quote_behind = refl
 
 -- EXPIRE of the SOA of RFC 1035, 5.3
@@ -91,17 +104,23 @@ pub colon : number 255 (codes "1:") ≡ None
 colon = refl
 
 -- `"ex\344mple.com"`: the guide's example of an octet outside ASCII
-pub umlaut : string_of_text (0x22 ∷ 0x65 ∷ 0x78 ∷ 0x5C ∷ 0x33 ∷ 0x34 ∷ 0x34 ∷ 0x6D ∷ 0x70 ∷ 0x6C ∷ 0x65 ∷ 0x22 ∷ []) ≡ Some (0x65 ∷ 0x78 ∷ 0xE4 ∷ 0x6D ∷ 0x70 ∷ 0x6C ∷ 0x65 ∷ [])
+pub umlaut : string_of_text (0x22 ∷ 0x65 ∷ 0x78 ∷ 0x5C ∷ 0x33 ∷ 0x34 ∷ 0x34 ∷ 0x6D ∷ 0x70 ∷ 0x6C
+    ∷ 0x65 ∷ 0x22 ∷ []) ≡ Some
+    (0x65 ∷ 0x78 ∷ 0xE4 ∷ 0x6D ∷ 0x70 ∷ 0x6C ∷ 0x65 ∷ [])
 umlaut = refl
 
-pub umlaut_written : string_text (0x65 ∷ 0x78 ∷ 0xE4 ∷ []) ≡ 0x22 ∷ 0x65 ∷ 0x78 ∷ 0x5C ∷ 0x33 ∷ 0x34 ∷ 0x34 ∷ 0x22 ∷ []
+pub umlaut_written : string_text (0x65 ∷ 0x78 ∷ 0xE4 ∷ []) ≡ 0x22 ∷ 0x65 ∷ 0x78 ∷ 0x5C ∷ 0x33 ∷ 0x34
+    ∷ 0x34 ∷ 0x22 ∷ []
 umlaut_written = refl
 
 -- `"\"\\ "`
-pub marks : string_of_text (0x22 ∷ 0x5C ∷ 0x22 ∷ 0x5C ∷ 0x5C ∷ 0x20 ∷ 0x22 ∷ []) ≡ Some (0x22 ∷ 0x5C ∷ 0x20 ∷ [])
+pub marks : string_of_text (0x22 ∷ 0x5C ∷ 0x22 ∷ 0x5C ∷ 0x5C ∷ 0x20 ∷ 0x22 ∷ [])
+    ≡ Some (0x22 ∷ 0x5C ∷ 0x20 ∷ [])
 marks = refl
 
-pub marks_written : string_text (0x22 ∷ 0x5C ∷ 0x20 ∷ 0x7F ∷ 0x00 ∷ []) ≡ 0x22 ∷ 0x5C ∷ 0x22 ∷ 0x5C ∷ 0x5C ∷ 0x20 ∷ 0x5C ∷ 0x31 ∷ 0x37 ∷ 0x37 ∷ 0x5C ∷ 0x30 ∷ 0x30 ∷ 0x30 ∷ 0x22 ∷ []
+pub marks_written : string_text (0x22 ∷ 0x5C ∷ 0x20 ∷ 0x7F ∷ 0x00 ∷ [])
+    ≡ 0x22 ∷ 0x5C ∷ 0x22 ∷ 0x5C ∷ 0x5C ∷ 0x20 ∷ 0x5C ∷ 0x31 ∷
+    0x37 ∷ 0x37 ∷ 0x5C ∷ 0x30 ∷ 0x30 ∷ 0x30 ∷ 0x22 ∷ []
 marks_written = refl
 
 -- `""`
@@ -141,3 +160,26 @@ longest = refl
 
 pub too_long : string_of_text (0x22 ∷ replicate 256 0x61 ++ 0x22 ∷ []) ≡ None
 too_long = refl
+
+-- a 256th byte as an escape, and 255 escapes
+pub too_long_escaped : string_of_text (0x22 ∷ replicate 255 0x61 ++ 0x5C ∷ 0x22 ∷ 0x22 ∷ []) ≡ None
+too_long_escaped = refl
+
+pub longest_escaped : string_of_text (0x22
+    ∷ flat_map (λ b. 0x5C ∷ 0x33 ∷ 0x37 ∷ b ∷ []) (replicate 255 0x37) ++ 0x22 ∷ [])
+    ≡ Some (replicate 255 255)
+longest_escaped = refl
+
+-- The bytes that stand for themselves go from 0x20 to 0x7E, without the quote and the backslash.
+pub own_bytes : string_of_text (0x22 ∷ 0x20 ∷ 0x21 ∷ 0x23 ∷ 0x5B ∷ 0x5D ∷ 0x7E ∷ 0x22 ∷ [])
+    ≡ Some (0x20 ∷ 0x21 ∷ 0x23 ∷ 0x5B ∷ 0x5D ∷ 0x7E ∷ [])
+own_bytes = refl
+
+pub other_bytes : map (λ b. string_of_text (0x22 ∷ b ∷ 0x22 ∷ [])) (0x00 ∷ 0x1F ∷ 0x22 ∷ 0x5C ∷ 0x7F
+    ∷ 0x80 ∷ 0xFF ∷ []) ≡ replicate 7 None
+other_bytes = refl
+
+pub ends_written : string_text (0x1F ∷ 0x20 ∷ 0x21 ∷ 0x23 ∷ 0x5B ∷ 0x5D ∷ 0x7E ∷ 0x7F ∷ 0x80 ∷ [])
+    ≡ 0x22 ∷ 0x5C ∷ 0x30 ∷ 0x33 ∷ 0x37 ∷ 0x20 ∷ 0x21 ∷ 0x23 ∷ 0x5B ∷ 0x5D ∷ 0x7E ∷ 0x5C ∷ 0x31
+    ∷ 0x37 ∷ 0x37 ∷ 0x5C ∷ 0x32 ∷ 0x30 ∷ 0x30 ∷ 0x22 ∷ []
+ends_written = refl

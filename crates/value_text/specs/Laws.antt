@@ -1,5 +1,6 @@
 -- Laws over the definitions of this crate.
-use Rattle.std.specs.Prelude.{◌≡◌, ℕ, ◌+◌, ◌^◌, ◌<◌, ◌≤◌, ◌↔◌, List, ◌++◌, length, All, true, None, Some}
+use Rattle.std.specs.Prelude.{◌≡◌, ℕ, ◌+◌, ◌^◌, ◌<◌, ◌≤◌, ◌↔◌, List, ◌++◌, length, All, true}
+use Rattle.std.specs.Prelude.{None, Some}
 use Rattle.std.specs.Fmt.{decimal}
 use Rattle.value_text.specs.declared.fields.Field.{Field}
 use Rattle.value_text.specs.Fields.{is_blank, next_field}
@@ -8,10 +9,11 @@ use Rattle.value_text.specs.Strings.{string_of_text, string_text}
 
 -- No field is found exactly where nothing but spaces and tabs is left.
 abbrev pub NoFieldInBlanks : Type 0
-NoFieldInBlanks = (at : ℕ) (text : List ℕ) → (next_field at text ≡ None) ↔ All (λ b. is_blank b ≡ true) text
+NoFieldInBlanks = (at : ℕ) (text : List ℕ)
+    → (next_field at text ≡ None) ↔ All (λ b. is_blank b ≡ true) text
 
--- A text that reads as a string is one whole field, whatever stands behind it: strings and fields agree on which quote is
--- escaped.
+-- A text that reads as a string is one whole field, whatever stands behind it: strings and fields
+-- agree on which quote is escaped.
 abbrev pub StringIsOneField : Type 0
 StringIsOneField =
     (at : ℕ) (text behind string : List ℕ) → string_of_text text ≡ Some string
@@ -27,7 +29,8 @@ WrittenStringReadsBack =
     (string : List ℕ) → All (λ b. b < 256) string → length string ≤ 255
     → string_of_text (string_text string) ≡ Some string
 
--- A field stands at the place that it is looked for from or behind it, within the text, and has one byte at least.
+-- A field stands at the place that it is looked for from or behind it, within the text, and has
+-- one byte at least.
 abbrev pub FieldsGoOn : Type 0
 FieldsGoOn =
     (at : ℕ) (text : List ℕ) (field : Field) → next_field at text ≡ Some field

@@ -1,5 +1,6 @@
 -- Numbers in decimal digits (FORMATS, Texts of values).
-use Rattle.std.specs.Prelude.{ℕ, ◌+◌, ◌-◌, ◌*◌, List, [], ◌∷◌, Bool, ◌&&◌, nat_le, if◌then◌else◌, Option, None, Some}
+use Rattle.std.specs.Prelude.{ℕ, ◌+◌, ◌-◌, ◌*◌, List, [], ◌∷◌, Bool, ◌&&◌, nat_le}
+use Rattle.std.specs.Prelude.{if◌then◌else◌, Option, None, Some}
 
 abbrev pub is_digit : ℕ → Bool
 is_digit b = nat_le 0x30 b && nat_le b 0x39
@@ -7,7 +8,8 @@ is_digit b = nat_le 0x30 b && nat_le b 0x39
 -- the number of digits that stand behind digits of this value, where they are all decimal digits
 abbrev pub number_from : (value : ℕ) → List ℕ → Option ℕ
 number_from value [] = Some value
-number_from value (b ∷ rest) = if is_digit b then number_from (value * 10 + (b - 0x30)) rest else None
+number_from value (b ∷ rest) =
+    if is_digit b then number_from (value * 10 + (b - 0x30)) rest else None
 
 abbrev pub up_to : (most : ℕ) → Option ℕ → Option ℕ
 up_to most None = None

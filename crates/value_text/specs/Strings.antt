@@ -1,6 +1,9 @@
 -- Strings of 0 to 255 bytes and their texts (RFC 1035, 3.3 and 5.1; FORMATS, Texts of values).
-use Rattle.std.specs.Prelude.{ℕ, zero, suc, ◌+◌, ◌-◌, ◌*◌, ◌/◌, ◌%◌, List, [], ◌∷◌, ◌++◌, length, slice_index, Bool, ◌&&◌, ◌||◌, ◌==◌, nat_le, if◌then◌else◌, Option, None, Some}
+use Rattle.std.specs.Prelude.{ℕ, zero, suc, ◌+◌, ◌/◌, ◌%◌, List, [], ◌∷◌, ◌++◌, length}
+use Rattle.std.specs.Prelude.{slice_index, Bool, ◌&&◌, ◌||◌, ◌==◌}
+use Rattle.std.specs.Prelude.{nat_le, if◌then◌else◌, Option, None, Some}
 use Rattle.std.specs.List.{flat_map}
+use Rattle.octets.specs.Octal.{has_octal, octal_of}
 use Rattle.value_text.specs.Fields.{quote, backslash}
 use Rattle.value_text.specs.declared.strings.Character.{Character}
 
@@ -11,19 +14,6 @@ is_printable b = nat_le 0x20 b && nat_le b 0x7E
 -- the bytes that stand for themselves behind a backslash, and not without one
 abbrev pub is_escaped : ℕ → Bool
 is_escaped b = b == quote || b == backslash
-
-abbrev pub is_octal_digit : ℕ → Bool
-is_octal_digit b = nat_le 0x30 b && nat_le b 0x37
-
--- the number of the three octal digits at the front
-abbrev pub octal_of : List ℕ → ℕ
-octal_of rest = (slice_index rest 0 - 0x30) * 64 + (slice_index rest 1 - 0x30) * 8 + (slice_index rest 2 - 0x30)
-
--- three octal digits of value at most 255 stand at the front
-abbrev pub has_octal : List ℕ → Bool
-has_octal rest =
-    is_octal_digit (slice_index rest 0) && is_octal_digit (slice_index rest 1) && is_octal_digit (slice_index rest 2)
-    && nat_le (octal_of rest) 255
 
 -- the character of a backslash, with what stands behind it
 abbrev pub escape : List ℕ → Option Character
@@ -37,8 +27,9 @@ character b rest =
     if b == backslash then escape rest
     else (if is_printable b then Some (record { value = b; more = 0 }) else None)
 
--- How far a text is read: before its opening quote; behind so many characters, where so many bytes of the last are still
--- to be passed over; behind the closing quote; or not the text of a string.
+-- How far a text is read: before its opening quote; behind so many characters, where so many
+-- bytes of the last are still to be passed over; behind the closing quote; or not the text of a
+-- string.
 pub data Progress : Type 0 where
   Opening : Progress
   Reading : (passing : ℕ) (string : List ℕ) → Progress
@@ -52,7 +43,8 @@ add_character string (Some c) = Reading c.more (string ++ c.value ∷ [])
 -- the byte at a place, with what stands behind it
 abbrev pub step : Progress → (b : ℕ) (rest : List ℕ) → Progress
 step Opening b rest = if b == quote then Reading 0 [] else Broken
-step (Reading zero string) b rest = if b == quote then Closed string else add_character string (character b rest)
+step (Reading zero string) b rest =
+    if b == quote then Closed string else add_character string (character b rest)
 step (Reading (suc passing) string) b rest = Reading passing string
 step (Closed string) b rest = Broken
 step Broken b rest = Broken

@@ -1,3 +1,5 @@
+//! The fields of a text.
+
 ghost use Rattle.std.specs.Prelude.{◌≡◌, ◌+◌, ◌<◌, ◌≤◌, ◌==◌, length, drop, false, IfSome};
 ghost use Rattle.value_text.specs.Fields.{is_blank, plain_len, quoted_len, field_len, next_field};
 
@@ -10,7 +12,8 @@ pub struct Field {
 
 /// The first field from this place of the text on, or none where only spaces and tabs are left.
 ///
-/// A field that begins with a quote takes its closing quote, or the rest of the text where it has none.
+/// A field that begins with a quote takes its closing quote, or the rest of the text where it has
+/// none.
 pub fn next_field(text: &[u8], at: usize) -> Option<Field>
     requires { at ≤ length text.now }
     ensures exact { result ≡ next_field at (drop at text.now) }

@@ -1,6 +1,7 @@
 //! Laws over the definitions, each the contract of a function that does nothing.
 
-ghost use Rattle.value_text.specs.Laws.{FieldsGoOn, NoFieldInBlanks, StringIsOneField, WrittenNumberReadsBack, WrittenStringReadsBack};
+ghost use Rattle.value_text.specs.Laws.{FieldsGoOn, NoFieldInBlanks, StringIsOneField};
+ghost use Rattle.value_text.specs.Laws.{WrittenNumberReadsBack, WrittenStringReadsBack};
 
 /// A field stands within the text, behind the place that it is looked for from, and isn't empty.
 pub fn fields_go_on()

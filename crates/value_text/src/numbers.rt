@@ -1,7 +1,10 @@
+//! Numbers in decimal digits.
+
 ghost use Rattle.std.specs.Prelude.{◌≡◌};
 ghost use Rattle.value_text.specs.Numbers.{is_digit, number};
 
-/// The number of a field of decimal digits, or none where it is no such field or its number is above `most`.
+/// The number of a field of decimal digits, or none where it is no such field or its number is
+/// above `most`.
 ///
 /// Leading zeros are let through, however many there are.
 pub fn number(field: &[u8], most: u32) -> Option<u32>

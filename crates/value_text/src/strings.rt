@@ -1,7 +1,11 @@
-ghost use Rattle.std.specs.Prelude.{◌≡◌, ◌+◌, ◌*◌, ◌<◌, ◌≤◌, ◌++◌, length, take, drop, slice_index, true, false, Some, None, IfSome, IfNone};
-ghost use Rattle.value_text.specs.Strings.{is_printable, is_escaped, is_octal_digit, octal_of, has_octal, escape, character, string_of_text, character_text, string_text};
+//! Strings in quotes.
 
-use octets::{behind, put_at};
+ghost use Rattle.std.specs.Prelude.{◌≡◌, ◌+◌, ◌*◌, ◌<◌, ◌≤◌, ◌++◌, length, take, drop, slice_index};
+ghost use Rattle.std.specs.Prelude.{true, false, Some, None, IfSome, IfNone};
+ghost use Rattle.value_text.specs.Strings.{is_printable, is_escaped, escape, character};
+ghost use Rattle.value_text.specs.Strings.{string_of_text, character_text, string_text};
+
+use octets::{behind, octal_at, put_at};
 
 /// A character of a string's text.
 #[derive(Clone, Copy)]
@@ -14,7 +18,8 @@ struct Character {
 
 /// Reads the string of a field in quotes into the front of the array, and says how long it is.
 ///
-/// None exactly where the field is no string of at most 255 bytes: the front of the array may have changed then.
+/// None exactly where the field is no string of at most 255 bytes: the front of the array may
+/// have changed then.
 pub fn read_string(field: &[u8], into: &mut [u8; 255]) -> Option<usize>
     ensures some { IfSome result (λ len. string_of_text field.now ≡ Some (take len into.new)) }
     ensures fits { IfSome result (λ len. len ≤ 255) }
@@ -80,35 +85,16 @@ fn escape(rest: &[u8]) -> Option<Character>
             more: 1,
         });
     }
-    let Some(value) = octal(rest) else {
+    let Some(value) = octal_at(rest) else {
         return None;
     };
     Some(Character { value, more: 3 })
 }
 
-/// The byte of the three octal digits at the front.
-fn octal(rest: &[u8]) -> Option<u8>
-    ensures some { IfSome result (λ value. value ≡ octal_of rest.now) }
-    ensures found { IfSome result (λ _. has_octal rest.now ≡ true) }
-    ensures room { IfSome result (λ _. 3 ≤ length rest.now) }
-    ensures none { IfNone result (has_octal rest.now ≡ false) }
-{
-    let &[a, b, c, ..] = rest else {
-        return None;
-    };
-    if !(is_octal_digit(a) && is_octal_digit(b) && is_octal_digit(c)) {
-        return None;
-    }
-    let value = u16::from(a - b'0') * 64 + u16::from(b - b'0') * 8 + u16::from(c - b'0');
-    if value > 255 {
-        return None;
-    }
-    Some(value as u8)
-}
-
 /// Writes a string in quotes at this place, and says where its text ends.
 ///
-/// There is room for the text of any string of this length: four bytes for each of its bytes, and the quotes.
+/// There is room for the text of any string of this length: four bytes for each of its bytes, and
+/// the quotes.
 pub fn write_string(string: &[u8], into: &mut [u8], at: usize) -> usize
     requires { at + 4 * length string.now + 2 ≤ length into.old }
     ensures end { result ≡ at + length (string_text string.now) }
@@ -167,11 +153,4 @@ fn is_escaped(b: u8) -> bool
     ensures { result ≡ is_escaped b }
 {
     b == b'"' || b == b'\\'
-}
-
-/// Whether a byte is an octal digit.
-fn is_octal_digit(b: u8) -> bool
-    ensures { result ≡ is_octal_digit b }
-{
-    b >= b'0' && b <= b'7'
 }

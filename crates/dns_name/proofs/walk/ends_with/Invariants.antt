@@ -9,7 +9,8 @@ use Rattle.dns_name.proofs.walk.ends_with.Given as goal
 pub record IsPassed (octets suffix : List ℕ) (at : ℕ) : Type 0 where
   pub rest : IsWire (drop at octets)
   pub within : at ≤ length octets
-  pub same : EndsWith (labels_of octets) (labels_of suffix) ↔ EndsWith (labels_of (drop at octets)) (labels_of suffix)
+  pub same : EndsWith (labels_of octets) (labels_of suffix)
+      ↔ EndsWith (labels_of (drop at octets)) (labels_of suffix)
 
 abbrev pub invariant-loop-at : goal.invariant-loop-at
 invariant-loop-at l = IsPassed l.octets l.suffix l.at

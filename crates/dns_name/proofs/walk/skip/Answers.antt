@@ -8,7 +8,9 @@ bounds-octets-at c = inside c.args.octets.now c.loop-left.at c.loop-left.invaria
 pub loop-left-preserved : goal.loop-left-preserved
 loop-left-preserved c =
     let i = c.loop-left.invariant in
-    let s = step c.args.octets.now c.loop-left.at i.rest (some_left c.args.octets.now c.loop-left.at i.rest (omega (arith, i.there, c.loop-left-test.true))) in
+    let s = step c.args.octets.now c.loop-left.at i.rest
+    (some_left c.args.octets.now c.loop-left.at i.rest
+    (omega (arith, i.there, c.loop-left-test.true))) in
     record {
       rest = s.rest;
       within = omega (arith, s.room);

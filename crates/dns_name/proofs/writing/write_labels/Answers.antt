@@ -13,8 +13,12 @@ loop-at-preserved c =
     let w = c.write_label-end.ensures in
     let s = step c.args.octets.now c.loop-at.at i.rest c.loop-at-test.true in
     let text = text_of_label c.part.result.now in
-    let later = flat_map text_of_label (labels_of (drop (c.loop-at.at + (get_or c.args.octets.now c.loop-at.at 0 + 1)) c.args.octets.now)) in
-    let size : length c.part.result.now ≡ get_or c.args.octets.now c.loop-at.at 0 = ap length c.part.ensures ∙ s.size in
+    let later =
+    flat_map text_of_label
+    (labels_of
+    (drop (c.loop-at.at + (get_or c.args.octets.now c.loop-at.at 0 + 1)) c.args.octets.now)) in
+    let size : length c.part.result.now ≡ get_or c.args.octets.now c.loop-at.at 0 =
+    ap length c.part.ensures ∙ s.size in
     let there : c.loop-at.end ≡ 0 + length i.done = omega (arith, i.behind) in
     record {
       rest = s.rest;
@@ -24,6 +28,15 @@ loop-at-preserved c =
           ∙ ap (λ l. i.done ++ (text_of_label l ++ later)) (sym c.part.ensures)
           ∙ sym (append_assoc i.done text later);
       behind = w.end ∙ omega (arith, i.behind, length-append i.done text);
-      so_far = w.written ∙ ap (λ t. placed t c.loop-at.end text) i.so_far ∙ placed_twice c.args.into.now 0 i.done text c.loop-at.end there (omega (arith, c.requires.room, w.end, w.within, i.within, size, s.room));
+      so_far = w.written ∙ ap (λ t. placed t c.loop-at.end text) i.so_far
+          ∙ placed_twice c.args.into.now 0 i.done text c.loop-at.end there (omega (
+            arith,
+            c.requires.room,
+            w.end,
+            w.within,
+            i.within,
+            size,
+            s.room,
+          ));
       within = omega (arith, w.within, i.within, size);
     }

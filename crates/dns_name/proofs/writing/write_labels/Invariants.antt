@@ -10,7 +10,8 @@ use Rattle.dns_name.proofs.writing.write_labels.Given as goal
 pub record IsWritten (buffer into octets : List ℕ) (at end : ℕ) : Type 0 where
   pub rest : IsWire (drop at octets)
   pub done : List ℕ
-  pub whole : flat_map text_of_label (labels_of octets) ≡ done ++ flat_map text_of_label (labels_of (drop at octets))
+  pub whole : flat_map text_of_label (labels_of octets) ≡ done
+      ++ flat_map text_of_label (labels_of (drop at octets))
   pub behind : end ≡ length done
   pub so_far : into ≡ placed buffer 0 done
   pub within : end ≤ 4 * at

@@ -8,6 +8,7 @@ abbrev pub invariant-loop-b : goal.invariant-loop-b
 invariant-loop-b l = record {
   room : l.end ≤ l.fn.at + 4 * l.b-index + 1;
   end_is : l.end ≡ l.fn.at + length (quote ∷ flat_map character_text (take l.b-index l.string));
-  written : take l.end l.into ≡ take l.fn.at l.fn.into ++ (quote ∷ flat_map character_text (take l.b-index l.string));
+  written : take l.end l.into ≡ take l.fn.at l.fn.into
+      ++ (quote ∷ flat_map character_text (take l.b-index l.string));
   kept : drop l.end l.into ≡ drop l.end l.fn.into;
 }

@@ -6,4 +6,5 @@ pub stored-requires : goal.stored-requires
 stored-requires c = (_, raw_name _ c.requires, c.requires.spelled)
 
 pub returns : goal.returns
-returns c = c.stored.ensures _ (raw_name _ c.requires) c.requires.spelled ∙ lowered_same _ c.requires.lower
+returns c = c.stored.ensures _ (raw_name _ c.requires) c.requires.spelled
+    ∙ lowered_same _ c.requires.lower
