@@ -11,13 +11,18 @@ use Rattle.std.proofs.NetLemmas.Ipv6.{read_ipv6_complete, EndsGroups-nil}
 use Rattle.std.proofs.NetLemmas.Texts.{AllSegments, IsColonHex-hex_groups_text}
 use Rattle.address_text.specs.Spelling.{SpellsIpv6, colon_hex}
 
-pub one_ipv4 : (text octets others : List ℕ) → IsDotted text octets → IsDotted text others → octets ≡ others
+pub one_ipv4 : (text octets others : List ℕ) → IsDotted text octets → IsDotted text others
+    → octets ≡ others
 one_ipv4 text octets others h k =
-    (same_parts octets others [] [] (sym (read_ipv4_complete text octets [] h (lit≤ tt)) ∙ read_ipv4_complete text others [] k (lit≤ tt))).0
+    (same_parts octets others [] [] (sym (read_ipv4_complete text octets [] h (lit≤ tt))
+    ∙ read_ipv4_complete text others [] k (lit≤ tt))).0
 
-pub one_ipv6 : (text octets others : List ℕ) → SpellsIpv6 text octets → SpellsIpv6 text others → octets ≡ others
+pub one_ipv6 : (text octets others : List ℕ) → SpellsIpv6 text octets → SpellsIpv6 text others
+    → octets ≡ others
 one_ipv6 text octets others h k =
-    let same = (same_parts h.0 k.0 [] [] (sym (read_ipv6_complete text h.0 [] h.1 EndsGroups-nil) ∙ read_ipv6_complete text k.0 [] k.1 EndsGroups-nil)).0 in
+    let same =
+    (same_parts h.0 k.0 [] [] (sym (read_ipv6_complete text h.0 [] h.1 EndsGroups-nil)
+    ∙ read_ipv6_complete text k.0 [] k.1 EndsGroups-nil)).0 in
     h.2 ∙ ap octets_of same ∙ sym k.2
 
 -- no address stands in an empty text
@@ -40,14 +45,18 @@ segments_fit (a ∷ b ∷ octets) h k =
     let later = segments_fit octets h.1.1 in
     let high : a < 256 = h.0 in
     let low : b < 256 = h.1.0 in
-    elim k as (λ j. get_or ((a * 256 + b) ∷ segments_of octets) j 0 < 2 ^ 16) [ zero ↦ omega arith | suc j ↦ later j ]
+    elim k as (λ j. get_or ((a * 256 + b) ∷ segments_of octets) j 0 < 2 ^ 16) [
+      | zero ↦ omega arith
+      | suc j ↦ later j
+    ]
 
 half : (octets : List ℕ) → length (segments_of octets) ≡ length octets / 2
 half [] = refl
 half (a ∷ []) = refl
 half (a ∷ b ∷ octets) = let later = half octets in omega arith
 
-segments_back : (octets : List ℕ) → AreBytes octets → length octets % 2 ≡ 0 → octets ≡ octets_of (segments_of octets)
+segments_back : (octets : List ℕ) → AreBytes octets → length octets % 2 ≡ 0
+    → octets ≡ octets_of (segments_of octets)
 segments_back [] h e = refl
 segments_back (a ∷ []) h e = absurd (omega arith)
 segments_back (a ∷ b ∷ octets) h e =
@@ -56,11 +65,14 @@ segments_back (a ∷ b ∷ octets) h e =
     let first : a ≡ (a * 256 + b) / 256 = omega arith in
     let second : b ≡ (a * 256 + b) % 256 = omega arith in
     let later = segments_back octets h.1.1 (omega arith) in
-    ap₂ (λ x y. x ∷ b ∷ y) first later ∙ ap (λ y. ((a * 256 + b) / 256) ∷ y ∷ octets_of (segments_of octets)) second
+    ap₂ (λ x y. x ∷ b ∷ y) first later
+    ∙ ap (λ y. ((a * 256 + b) / 256) ∷ y ∷ octets_of (segments_of octets)) second
 
-pub ipv6_reads_back : (octets : List ℕ) → length octets ≡ 16 → AreBytes octets → SpellsIpv6 (colon_hex octets) octets
+pub ipv6_reads_back : (octets : List ℕ) → length octets ≡ 16 → AreBytes octets
+    → SpellsIpv6 (colon_hex octets) octets
 ipv6_reads_back octets sixteen bytes = (
   segments_of octets,
-  IsColonHex-hex_groups_text (segments_of octets) (omega (arith, half octets)) (segments_fit octets bytes),
+  IsColonHex-hex_groups_text (segments_of octets) (omega (arith, half octets))
+      (segments_fit octets bytes),
   segments_back octets bytes (omega arith),
 )

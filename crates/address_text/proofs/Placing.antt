@@ -6,7 +6,8 @@ use Rattle.address_text.specs.Wrote.{Wrote}
 pub drop_on : (m n : ℕ) (xs ys : List ℕ) → m ≤ n → drop m xs ≡ drop m ys → drop n xs ≡ drop n ys
 drop_on m n xs ys h e =
     let sum : m + (n - m) ≡ n = omega arith in
-    ap (λ k. drop k xs) (sym sum) ∙ sym (drop-drop (n - m) m xs) ∙ ap (drop (n - m)) e ∙ drop-drop (n - m) m ys ∙ ap (λ k. drop k ys) sum
+    ap (λ k. drop k xs) (sym sum) ∙ sym (drop-drop (n - m) m xs) ∙ ap (drop (n - m)) e
+    ∙ drop-drop (n - m) m ys ∙ ap (λ k. drop k ys) sum
 
 infixl 5 ◌then◌
 module _ {a b c : List ℕ} {at m e : ℕ} {t u : List ℕ} where
@@ -19,6 +20,8 @@ module _ {a b c : List ℕ} {at m e : ℕ} {t u : List ℕ} where
   }
 
 -- the whole buffer
-pub whole : {a b : List ℕ} {at e : ℕ} {t : List ℕ} → Wrote a b at e t → b ≡ take at a ++ t ++ drop e a
+pub whole : {a b : List ℕ} {at e : ℕ} {t : List ℕ} → Wrote a b at e t
+    → b ≡ take at a ++ t ++ drop e a
 whole {a} {b} {at} {e} {t} w =
-    sym (take-append-drop e b) ∙ ap (λ x. x ++ drop e b) w.written ∙ ap (λ x. take at a ++ t ++ x) w.kept
+    sym (take-append-drop e b) ∙ ap (λ x. x ++ drop e b) w.written
+    ∙ ap (λ x. take at a ++ t ++ x) w.kept

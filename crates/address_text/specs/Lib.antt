@@ -1,3 +1,4 @@
+pub mod AddressOfText
 pub mod Laws
 pub mod Spelling
 pub mod Wrote

@@ -1,3 +1,5 @@
+//! Pieces that are written to a place of a buffer.
+
 ghost use Rattle.std.specs.Prelude.{◌+◌, ◌≤◌, length};
 ghost use Rattle.std.specs.Fmt.{decimal};
 ghost use Rattle.address_text.specs.Wrote.{Wrote};

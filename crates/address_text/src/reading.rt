@@ -1,3 +1,5 @@
+//! The octets of the texts of addresses.
+
 ghost use Rattle.std.specs.Prelude.{◌≡◌, ℕ, List, IfSome, IfNone};
 ghost use Rattle.std.specs.Net.Grammar.{IsDotted};
 ghost use Rattle.address_text.specs.Spelling.{SpellsIpv6};
@@ -15,8 +17,8 @@ pub fn read_ipv4(text: &[u8]) -> Option<[u8; 4]>
     Some(address.octets())
 }
 
-/// The octets of an IPv6 address: eight groups, or fewer with one `::`, of which the last two may be dotted decimal
-/// (RFC 4291, 2.2).
+/// The octets of an IPv6 address: eight groups, or fewer with one `::`, of which the last two may
+/// be dotted decimal (RFC 4291, 2.2).
 pub fn read_ipv6(text: &[u8]) -> Option<[u8; 16]>
     ensures some { IfSome result (λ octets. SpellsIpv6 text.now octets) }
     ensures none { IfNone result ((octets : List ℕ) → SpellsIpv6 text.now octets → ⊥) }

@@ -1,3 +1,5 @@
+//! The texts of addresses, written to a place of a buffer.
+
 ghost use Rattle.std.specs.Prelude.{◌≡◌, ◌+◌, ◌≤◌, ◌++◌, length, take, drop, codes};
 ghost use Rattle.std.specs.Net.Addr.{segments_of};
 ghost use Rattle.std.specs.Net.Text.{ipv4_text, groups_text, hex_groups_text};
@@ -12,7 +14,8 @@ use std::net::Ipv6Addr;
 /// The fewest zero segments that `::` stands for (RFC 5952, 4.2.2).
 const FEWEST_ELIDED: usize = 2;
 
-/// Writes the four octets of an IPv4 address in dotted decimal at a place, and says where the text ends.
+/// Writes the four octets of an IPv4 address in dotted decimal at a place, and says where the text
+/// ends.
 pub fn write_ipv4(octets: &[u8], into: &mut [u8], at: usize) -> usize
     requires octets { length octets.now ≡ 4 }
     requires room { at + 15 ≤ length into.old }
@@ -29,7 +32,8 @@ pub fn write_ipv4(octets: &[u8], into: &mut [u8], at: usize) -> usize
     put_decimal(octets[3], into, end)
 }
 
-/// Writes the sixteen octets of an IPv6 address as groups at a place, and says where the text ends (RFC 5952, 4).
+/// Writes the sixteen octets of an IPv6 address as groups at a place, and says where the text ends
+/// (RFC 5952, 4).
 pub fn write_ipv6(octets: &[u8], into: &mut [u8], at: usize) -> usize
     requires octets { length octets.now ≡ 16 }
     requires room { at + 39 ≤ length into.old }
@@ -64,7 +68,8 @@ fn write_around(before: &[u16], behind: &[u16], into: &mut [u8], at: usize) -> u
     requires few { length before.now + length behind.now ≤ 7 }
     requires room { at + 39 ≤ length into.old }
     ensures short { result ≤ at + 39 }
-    ensures wrote { Wrote into.old into.new at result (groups_text before.now ++ codes "::" ++ groups_text behind.now) }
+    ensures wrote { Wrote into.old into.new at result
+        (groups_text before.now ++ codes "::" ++ groups_text behind.now) }
 {
     let mut end = write_groups(before, into, at);
     end = put(b"::", into, end);

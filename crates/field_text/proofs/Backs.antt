@@ -22,12 +22,14 @@ byte_at (b ∷ octets) h k =
     elim k as (λ j. get_or (b ∷ octets) j 0 < 256) [ zero ↦ h.0 | suc j ↦ later j ]
 
 -- numbers of one, two and four octets
-one_back : (octets : List ℕ) → length octets ≡ 1 → AreOctets octets → Spells field.Number8 (text_of_field field.Number8 octets) octets
+one_back : (octets : List ℕ) → length octets ≡ 1 → AreOctets octets
+    → Spells field.Number8 (text_of_field field.Number8 octets) octets
 one_back [] e h = absurd (omega arith)
 one_back (a ∷ []) e h = (a, number_back a 255 (omega (arith, h.0)) (omega (arith, h.0)), refl)
 one_back (a ∷ b ∷ octets) e h = absurd (omega arith)
 
-two_back : (octets : List ℕ) → length octets ≡ 2 → AreOctets octets → Spells field.Number16 (text_of_field field.Number16 octets) octets
+two_back : (octets : List ℕ) → length octets ≡ 2 → AreOctets octets
+    → Spells field.Number16 (text_of_field field.Number16 octets) octets
 two_back [] e h = absurd (omega arith)
 two_back (a ∷ []) e h = absurd (omega arith)
 two_back (a ∷ b ∷ []) e h =
@@ -39,7 +41,8 @@ two_back (a ∷ b ∷ []) e h =
     (n, number_back n 65535 (omega arith) (omega arith), cc)
 two_back (a ∷ b ∷ c ∷ octets) e h = absurd (omega arith)
 
-four_back : (octets : List ℕ) → length octets ≡ 4 → AreOctets octets → Spells field.Number32 (text_of_field field.Number32 octets) octets
+four_back : (octets : List ℕ) → length octets ≡ 4 → AreOctets octets
+    → Spells field.Number32 (text_of_field field.Number32 octets) octets
 four_back [] e h = absurd (omega arith)
 four_back (a ∷ []) e h = absurd (omega arith)
 four_back (a ∷ b ∷ []) e h = absurd (omega arith)
@@ -57,10 +60,12 @@ four_back (a ∷ b ∷ c ∷ d ∷ []) e h =
     (n, number_back n 4294967295 (omega arith) (omega arith), cc)
 four_back (a ∷ b ∷ c ∷ d ∷ x ∷ octets) e h = absurd (omega arith)
 
-pub spelled_back : (field : Field) (octets : List ℕ) → IsField field octets → AreOctets octets → Spells field (text_of_field field octets) octets
+pub spelled_back : (field : Field) (octets : List ℕ) → IsField field octets → AreOctets octets
+    → Spells field (text_of_field field octets) octets
 spelled_back field.Ipv4 octets f h = IsDotted-ipv4_text octets f (byte_at octets h)
 spelled_back field.Ipv6 octets f h = ipv6_reads_back octets f h
-spelled_back field.Name octets f h = (f.0, ap (λ l. name_of_text (text_of l)) (its_labels octets f) ∙ reads_back f.0 f.1, f.2)
+spelled_back field.Name octets f h =
+    (f.0, ap (λ l. name_of_text (text_of l)) (its_labels octets f) ∙ reads_back f.0 f.1, f.2)
 spelled_back field.Number8 octets f h = one_back octets f h
 spelled_back field.Number16 octets f h = two_back octets f h
 spelled_back field.Number32 octets f h = four_back octets f h

@@ -1,4 +1,5 @@
 pub mod Backs
+pub mod Functions
 pub mod Names
 pub mod OneField
 pub mod Spelled

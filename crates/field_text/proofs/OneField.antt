@@ -23,7 +23,8 @@ use Rattle.address_text.specs.Spelling.{colon_hex}
 use Rattle.address_text.proofs.Addresses.{segments_fit}
 use Rattle.field_text.specs.Laws.{EndsField}
 use Rattle.field_text.specs.Spelling.{Spells}
-use Rattle.field_text.specs.Written.{text_of_field, number_of_four}
+use Rattle.octets.specs.Numbers.{long_at}
+use Rattle.field_text.specs.Written.{text_of_field}
 use Rattle.field_text.proofs.Backs.{spelled_back, byte_at}
 use Rattle.field_text.proofs.Spelled.{no_field}
 
@@ -34,25 +35,34 @@ abbrev AreDark : List ℕ → Type 0
 AreDark text = AllByRecursion IsDark text
 
 no_blank : (b : ℕ) → IsDark b → is_blank b ≡ false
-no_blank b h = or_from (b == 0x20) (b == 0x09) (ne_eqb b 0x20 (λ e. omega arith)) (ne_eqb b 0x09 (λ e. omega arith))
+no_blank b h =
+    or_from (b == 0x20) (b == 0x09) (ne_eqb b 0x20 (λ e. omega arith))
+    (ne_eqb b 0x09 (λ e. omega arith))
 
 -- a field goes on to the end of dark bytes
-goes_on : (text behind : List ℕ) → AreDark text → EndsField behind → plain_len (text ++ behind) ≡ length text
+goes_on : (text behind : List ℕ) → AreDark text → EndsField behind
+    → plain_len (text ++ behind) ≡ length text
 goes_on [] [] h e = refl
 goes_on [] (b ∷ behind) h e = ap (λ t. cond t 0 (suc (plain_len behind))) e
 goes_on (b ∷ text) behind h e =
-    ap (λ t. cond t 0 (suc (plain_len (text ++ behind)))) (no_blank b h.0) ∙ ap suc (goes_on text behind h.1 e)
+    ap (λ t. cond t 0 (suc (plain_len (text ++ behind)))) (no_blank b h.0)
+    ∙ ap suc (goes_on text behind h.1 e)
 
-dark_field : (at : ℕ) (text behind : List ℕ) → (text ≡ [] → ⊥) → AreDark text → EndsField behind → next_field at (text ++ behind) ≡ Some (record { start = at; end = at + length text })
+dark_field : (at : ℕ) (text behind : List ℕ) → (text ≡ [] → ⊥) → AreDark text → EndsField behind
+    → next_field at (text ++ behind) ≡ Some (record { start = at; end = at + length text })
 dark_field at [] behind some h e = absurd (some refl)
 dark_field at (b ∷ text) behind some h e =
-    ap (λ t. cond t (next_field (at + 1) (text ++ behind)) (Some (record { start = at; end = at + field_len (b ∷ (text ++ behind)) }))) (no_blank b h.0)
+    ap (λ t. cond t (next_field (at + 1) (text ++ behind))
+    (Some (record { start = at; end = at + field_len (b ∷ (text ++ behind)) })))
+    (no_blank b h.0)
     ∙ ap (λ n. Some (record { start = at; end = at + n }))
-    (ap (λ t. cond t (suc (quoted_len false (text ++ behind))) (suc (plain_len (text ++ behind)))) (ne_eqb b quote (λ q. omega (arith, h.0)))
+    (ap (λ t. cond t (suc (quoted_len false (text ++ behind))) (suc (plain_len (text ++ behind))))
+    (ne_eqb b quote (λ q. omega (arith, h.0)))
     ∙ ap suc (goes_on text behind h.1 e))
 
 -- dark texts
-from_all : (P : ℕ → Type 0) → ((b : ℕ) → P b → IsDark b) → (text : List ℕ) → All P text → AreDark text
+from_all : (P : ℕ → Type 0) → ((b : ℕ) → P b → IsDark b) → (text : List ℕ) → All P text
+    → AreDark text
 from_all P f [] h = tt
 from_all P f (b ∷ text) h = (f b (All-head P b text h), from_all P f text (All-tail P b text h))
 
@@ -70,7 +80,15 @@ hexed b (inr h) = omega (arith, h.0)
 
 digit : (b : ℕ) → digit_value b < 10 → IsDark b
 digit b h = elim (cases_lt b 48) [
-  | inl low ↦ absurd (omega (arith, cond-true (nat_lt b 48) 36 (cond (nat_lt b 58) (b - 48) (cond (nat_lt b 65) 36 (cond (nat_lt b 91) (b - 55) (cond (nat_lt b 97) 36 (cond (nat_lt b 123) (b - 87) 36))))) (lt-ltb b 48 low)))
+  | inl low ↦ absurd (omega (
+    arith,
+    cond-true (nat_lt b 48) 36
+        (cond (nat_lt b 58) (b - 48)
+        (cond (nat_lt b 65) 36
+        (cond (nat_lt b 91) (b - 55)
+        (cond (nat_lt b 97) 36 (cond (nat_lt b 123) (b - 87) 36)))))
+        (lt-ltb b 48 low),
+  ))
   | inr high ↦ omega arith
 ]
 
@@ -88,7 +106,11 @@ range b low high h k = omega (arith, leb-true low b (and_parts (nat_le low b) (n
 plain_octet : (b : ℕ) → is_plain b ≡ true → IsDark b
 plain_octet b h = elim (or_cases _ _ h) [
   | inl g ↦ elim (or_cases _ _ g) [
-    | inl f ↦ elim (or_cases _ _ f) [ inl e ↦ range b 0x61 0x7A (omega arith) e | inr e ↦ range b 0x30 0x39 (omega arith) e ]
+    | inl f ↦
+        elim (or_cases _ _ f) [
+          | inl e ↦ range b 0x61 0x7A (omega arith) e
+          | inr e ↦ range b 0x30 0x39 (omega arith) e
+        ]
     | inr f ↦ omega (arith, eqb-true b 0x2D f)
   ]
   | inr g ↦ omega (arith, eqb-true b 0x5F g)
@@ -96,7 +118,11 @@ plain_octet b h = elim (or_cases _ _ h) [
 
 letter : (b : ℕ) → is_letter_or_digit b ≡ true → IsDark b
 letter b h = elim (or_cases _ _ h) [
-  | inl g ↦ elim (or_cases _ _ g) [ inl e ↦ range b 0x41 0x5A (omega arith) e | inr e ↦ range b 0x61 0x7A (omega arith) e ]
+  | inl g ↦
+      elim (or_cases _ _ g) [
+        | inl e ↦ range b 0x41 0x5A (omega arith) e
+        | inr e ↦ range b 0x61 0x7A (omega arith) e
+      ]
   | inr g ↦ range b 0x30 0x39 (omega arith) g
 ]
 
@@ -105,7 +131,11 @@ letters [] h = tt
 letters (b ∷ text) h = (letter b h.0, letters text h.1)
 
 octet : (b : ℕ) → AreDark (text_of_octet b)
-octet b = cond_both (is_plain b) (b ∷ []) (backslash ∷ (0x30 + b / 64) ∷ (0x30 + b / 8 % 8) ∷ (0x30 + b % 8) ∷ []) AreDark (λ e. (plain_octet b e, tt)) (λ e. (omega arith, (omega arith, (omega arith, (omega arith, tt)))))
+octet b =
+    cond_both (is_plain b) (b ∷ []) (backslash ∷ (0x30 + b / 64) ∷ (0x30 + b / 8 % 8)
+    ∷ (0x30 + b % 8) ∷ []) AreDark
+    (λ e. (plain_octet b e, tt))
+    (λ e. (omega arith, (omega arith, (omega arith, (omega arith, tt)))))
 
 octets : (label : List ℕ) → AreDark (flat_map text_of_octet label)
 octets [] = tt
@@ -116,21 +146,38 @@ label_text label = both (flat_map text_of_octet label) (dot ∷ []) (octets labe
 
 labels_text : (labels : List (List ℕ)) → AreDark (flat_map text_of_label labels)
 labels_text [] = tt
-labels_text (label ∷ labels) = both (text_of_label label) (flat_map text_of_label labels) (label_text label) (labels_text labels)
+labels_text (label ∷ labels) =
+    both (text_of_label label) (flat_map text_of_label labels) (label_text label)
+    (labels_text labels)
 
 name_text : (labels : List (List ℕ)) → AreDark (text_of labels)
 name_text [] = (omega arith, tt)
 name_text (label ∷ labels) = labels_text (label ∷ labels)
 
-dark : (field : Field) (octets : List ℕ) → IsField field octets → AreOctets octets → AreDark (text_of_field field octets)
-dark field.Ipv4 octets f h = from_all IsDigitOrDot dotted (ipv4_text octets) (All-ipv4_text octets (byte_at octets h))
-dark field.Ipv6 octets f h = from_all IsHexOrColon hexed (colon_hex octets) (All-hex_groups_text (segments_of octets) (segments_fit octets h))
+dark : (field : Field) (octets : List ℕ) → IsField field octets → AreOctets octets
+    → AreDark (text_of_field field octets)
+dark field.Ipv4 octets f h =
+    from_all IsDigitOrDot dotted (ipv4_text octets) (All-ipv4_text octets (byte_at octets h))
+dark field.Ipv6 octets f h =
+    from_all IsHexOrColon hexed (colon_hex octets)
+    (All-hex_groups_text (segments_of octets) (segments_fit octets h))
 dark field.Name octets f h = name_text (labels_of octets)
 dark field.Number8 octets f h = decimals (get_or octets 0 0) (omega (arith, byte_at octets h 0))
-dark field.Number16 octets f h = decimals (get_or octets 0 0 * 256 + get_or octets 1 0) (omega (arith, byte_at octets h 0, byte_at octets h 1))
-dark field.Number32 octets f h = decimals (number_of_four octets) (omega (arith, byte_at octets h 0, byte_at octets h 1, byte_at octets h 2, byte_at octets h 3))
-dark field.Tag octets f h = letters (drop 1 octets) (subst (λ t. AllByRecursion (λ b. is_letter_or_digit b ≡ true) t) (ap (drop 1) (sym f.2)) f.1.plain)
+dark field.Number16 octets f h =
+    decimals (get_or octets 0 0 * 256 + get_or octets 1 0)
+    (omega (arith, byte_at octets h 0, byte_at octets h 1))
+dark field.Number32 octets f h = decimals (long_at octets 0)
+    (omega (arith, byte_at octets h 0, byte_at octets h 1, byte_at octets h 2, byte_at octets h 3))
+dark field.Tag octets f h = letters (drop 1 octets)
+    (subst (λ t. AllByRecursion (λ b. is_letter_or_digit b ≡ true) t) (ap (drop 1) (sym f.2))
+    f.1.plain)
 
-pub one_field : (field : Field) (octets : List ℕ) → IsField field octets → AreOctets octets → (at : ℕ) (behind : List ℕ) → EndsField behind → next_field at (text_of_field field octets ++ behind) ≡ Some (record { start = at; end = at + length (text_of_field field octets) })
+pub one_field : (field : Field) (octets : List ℕ) → IsField field octets → AreOctets octets
+    → (at : ℕ) (behind : List ℕ) → EndsField behind
+    → next_field at (text_of_field field octets ++ behind)
+    ≡ Some (record { start = at; end = at + length (text_of_field field octets) })
 one_field field octets f h at behind e =
-    dark_field at (text_of_field field octets) behind (λ none. no_field field octets (subst (λ t. Spells field t octets) none (spelled_back field octets f h))) (dark field octets f h) e
+    dark_field at (text_of_field field octets) behind
+    (λ none. no_field field octets
+    (subst (λ t. Spells field t octets) none (spelled_back field octets f h)))
+    (dark field octets f h) e

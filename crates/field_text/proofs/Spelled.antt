@@ -15,13 +15,18 @@ use Rattle.address_text.proofs.Addresses.{one_ipv4, one_ipv6, no_ipv4, no_ipv6}
 use Rattle.field_text.specs.Spelling.{Spells}
 
 -- one field
-pub one_reading : (field : Field) (text octets others : List ℕ) → Spells field text octets → Spells field text others → octets ≡ others
+pub one_reading : (field : Field) (text octets others : List ℕ) → Spells field text octets
+    → Spells field text others → octets ≡ others
 one_reading field.Ipv4 text octets others h k = one_ipv4 text octets others h k
 one_reading field.Ipv6 text octets others h k = one_ipv6 text octets others h k
-one_reading field.Name text octets others h k = let e : h.0 ≡ k.0 = (let s = sym h.1 ∙ k.1 in cc) in h.2 ∙ ap wire e ∙ sym k.2
-one_reading field.Number8 text octets others h k = let e : h.0 ≡ k.0 = (let s = sym h.1 ∙ k.1 in cc) in h.2 ∙ ap (λ n. n ∷ []) e ∙ sym k.2
-one_reading field.Number16 text octets others h k = let e : h.0 ≡ k.0 = (let s = sym h.1 ∙ k.1 in cc) in h.2 ∙ ap two_octets e ∙ sym k.2
-one_reading field.Number32 text octets others h k = let e : h.0 ≡ k.0 = (let s = sym h.1 ∙ k.1 in cc) in h.2 ∙ ap four_octets e ∙ sym k.2
+one_reading field.Name text octets others h k = let e : h.0 ≡ k.0 = (let s = sym h.1 ∙ k.1 in cc) in
+    h.2 ∙ ap wire e ∙ sym k.2
+one_reading field.Number8 text octets others h k = let e : h.0 ≡ k.0 =
+    (let s = sym h.1 ∙ k.1 in cc) in h.2 ∙ ap (λ n. n ∷ []) e ∙ sym k.2
+one_reading field.Number16 text octets others h k = let e : h.0 ≡ k.0 =
+    (let s = sym h.1 ∙ k.1 in cc) in h.2 ∙ ap two_octets e ∙ sym k.2
+one_reading field.Number32 text octets others h k = let e : h.0 ≡ k.0 =
+    (let s = sym h.1 ∙ k.1 in cc) in h.2 ∙ ap four_octets e ∙ sym k.2
 one_reading field.Tag text octets others h k = h.1 ∙ sym k.1
 
 -- sixteen octets
@@ -30,16 +35,25 @@ eight text segments (inl h) = h.1
 eight text segments (inr h) =
     let zeros : List ℕ = replicate (8 - length h.head - length h.tail) 0 in
     let gap : length zeros ≡ 8 - length h.head - length h.tail = length-replicate _ _ in
-    omega (arith, h.room, ap length h.value, length-append (h.head ++ zeros) h.tail, length-append h.head zeros, gap)
+    omega (
+      arith,
+      h.room,
+      ap length h.value,
+      length-append (h.head ++ zeros) h.tail,
+      length-append h.head zeros,
+      gap,
+    )
 
 twice : (segments : List ℕ) → length (octets_of segments) ≡ 2 * length segments
 twice [] = omega arith
 twice (s ∷ segments) = omega (arith, twice segments)
 
-pub is_field : (field : Field) (text octets : List ℕ) → Spells field text octets → IsField field octets × (length octets ≤ 255)
+pub is_field : (field : Field) (text octets : List ℕ) → Spells field text octets
+    → IsField field octets × (length octets ≤ 255)
 is_field field.Ipv4 text octets h = let four = ap length h.value in (four, omega arith)
 is_field field.Ipv6 text octets h =
-    let sixteen : length octets ≡ 16 = omega (arith, ap length h.2, twice h.0, eight text h.0 h.1) in
+    let sixteen : length octets ≡ 16 =
+    omega (arith, ap length h.2, twice h.0, eight text h.0 h.1) in
     (sixteen, omega arith)
 is_field field.Name text octets h =
     let name = reads_names text h.0 h.1 in

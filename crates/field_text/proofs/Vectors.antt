@@ -1,4 +1,5 @@
--- Fields of records in RFC 1035, RFC 2782, RFC 3596, RFC 4592, RFC 5952 and RFC 8659, and texts that spell none.
+-- Fields of records in RFC 1035, RFC 2782, RFC 3596, RFC 4592, RFC 5952 and RFC 8659, and texts
+-- that spell none.
 use Rattle.std.proofs.Common.{◌≡◌, ℕ, List, [], ◌∷◌, refl, sym, ◌∙◌, codes, None, Err, arith}
 use Rattle.std.specs.Fmt.{digits}
 use Rattle.std.proofs.lemmas.Bool.{true≢false}
@@ -16,7 +17,8 @@ use Rattle.field_text.specs.Written.{text_of_field}
 abbrev SpellsNone : Field → List ℕ → Type 0
 SpellsNone kind text = (octets : List ℕ) → Spells kind text octets → ⊥
 
-no_name : (text : List ℕ) (fault : NameFault) → name_of_text text ≡ Err fault → SpellsNone field.Name text
+no_name : (text : List ℕ) (fault : NameFault) → name_of_text text ≡ Err fault
+    → SpellsNone field.Name text
 no_name text fault e octets h = let both = sym e ∙ h.1 in absurd (cc)
 
 no_octet : (text : List ℕ) → number 255 text ≡ None → SpellsNone field.Number8 text
@@ -29,20 +31,28 @@ no_long_number : (text : List ℕ) → number 4294967295 text ≡ None → Spell
 no_long_number text e octets h = none-some h.0 (sym e ∙ h.1)
 
 -- names: the first of RFC 1035, 4.1.4, in lower case and with a dot at its end
-pub read_name : Spells field.Name (codes "F.ISI.ARPA") (1 ∷ 0x66 ∷ 3 ∷ 0x69 ∷ 0x73 ∷ 0x69 ∷ 4 ∷ 0x61 ∷ 0x72 ∷ 0x70 ∷ 0x61 ∷ 0 ∷ [])
+pub read_name : Spells field.Name (codes "F.ISI.ARPA") (1 ∷ 0x66 ∷ 3 ∷ 0x69 ∷ 0x73 ∷ 0x69 ∷ 4 ∷ 0x61
+    ∷ 0x72 ∷ 0x70 ∷ 0x61 ∷ 0 ∷ [])
 read_name = (codes "f" ∷ codes "isi" ∷ codes "arpa" ∷ [], refl, refl)
 
-pub written_name : text_of_field field.Name (1 ∷ 0x66 ∷ 3 ∷ 0x69 ∷ 0x73 ∷ 0x69 ∷ 4 ∷ 0x61 ∷ 0x72 ∷ 0x70 ∷ 0x61 ∷ 0 ∷ []) ≡ codes "f.isi.arpa."
+pub written_name : text_of_field field.Name (1 ∷ 0x66 ∷ 3 ∷ 0x69 ∷ 0x73 ∷ 0x69 ∷ 4 ∷ 0x61 ∷ 0x72
+    ∷ 0x70 ∷ 0x61 ∷ 0 ∷ []) ≡ codes "f.isi.arpa."
 written_name = refl
 
 -- the wildcard of RFC 4592, 2.1.1, as itself and as an escape; it is written as an escape
-pub read_wildcard : Spells field.Name (codes "*.example.com") (1 ∷ 0x2A ∷ 7 ∷ 0x65 ∷ 0x78 ∷ 0x61 ∷ 0x6D ∷ 0x70 ∷ 0x6C ∷ 0x65 ∷ 3 ∷ 0x63 ∷ 0x6F ∷ 0x6D ∷ 0 ∷ [])
+pub read_wildcard : Spells field.Name (codes "*.example.com")
+    (1 ∷ 0x2A ∷ 7 ∷ 0x65 ∷ 0x78 ∷ 0x61 ∷ 0x6D ∷ 0x70 ∷ 0x6C ∷ 0x65 ∷ 3 ∷ 0x63 ∷ 0x6F ∷ 0x6D ∷ 0
+    ∷ [])
 read_wildcard = (codes "*" ∷ codes "example" ∷ codes "com" ∷ [], refl, refl)
 
-pub read_escaped_wildcard : Spells field.Name (codes "\\052.example.com") (1 ∷ 0x2A ∷ 7 ∷ 0x65 ∷ 0x78 ∷ 0x61 ∷ 0x6D ∷ 0x70 ∷ 0x6C ∷ 0x65 ∷ 3 ∷ 0x63 ∷ 0x6F ∷ 0x6D ∷ 0 ∷ [])
+pub read_escaped_wildcard : Spells field.Name (codes "\\052.example.com")
+    (1 ∷ 0x2A ∷ 7 ∷ 0x65 ∷ 0x78 ∷ 0x61 ∷ 0x6D ∷ 0x70 ∷ 0x6C ∷ 0x65 ∷ 3 ∷ 0x63 ∷ 0x6F ∷ 0x6D ∷ 0
+    ∷ [])
 read_escaped_wildcard = (codes "*" ∷ codes "example" ∷ codes "com" ∷ [], refl, refl)
 
-pub written_wildcard : text_of_field field.Name (1 ∷ 0x2A ∷ 7 ∷ 0x65 ∷ 0x78 ∷ 0x61 ∷ 0x6D ∷ 0x70 ∷ 0x6C ∷ 0x65 ∷ 3 ∷ 0x63 ∷ 0x6F ∷ 0x6D ∷ 0 ∷ []) ≡ codes "\\052.example.com."
+pub written_wildcard : text_of_field field.Name (1 ∷ 0x2A ∷ 7 ∷ 0x65 ∷ 0x78 ∷ 0x61 ∷ 0x6D ∷ 0x70
+    ∷ 0x6C ∷ 0x65 ∷ 3 ∷ 0x63 ∷ 0x6F ∷ 0x6D ∷ 0 ∷ [])
+    ≡ codes "\\052.example.com."
 written_wildcard = refl
 
 -- the root, as the target of an SRV record without a service (RFC 2782)
@@ -73,7 +83,8 @@ pub written_expire : text_of_field field.Number32 (0 ∷ 0x36 ∷ 0xEE ∷ 0x80 
 unfolding digits
 written_expire = refl
 
--- priority and port of an SRV record in RFC 2782; leading zeros are let through, and none is written
+-- priority and port of an SRV record in RFC 2782; leading zeros are let through, and none is
+-- written
 pub priority : Spells field.Number16 (codes "0") (0 ∷ 0 ∷ [])
 priority = (0, refl, refl)
 
@@ -105,7 +116,8 @@ highest_16 = (65535, refl, refl)
 pub highest_32 : Spells field.Number32 (codes "4294967295") (0xFF ∷ 0xFF ∷ 0xFF ∷ 0xFF ∷ [])
 highest_32 = (4294967295, refl, refl)
 
-pub written_highest_32 : text_of_field field.Number32 (0xFF ∷ 0xFF ∷ 0xFF ∷ 0xFF ∷ []) ≡ codes "4294967295"
+pub written_highest_32 : text_of_field field.Number32 (0xFF ∷ 0xFF ∷ 0xFF ∷ 0xFF ∷ [])
+    ≡ codes "4294967295"
 unfolding digits
 written_highest_32 = refl
 
@@ -133,13 +145,57 @@ no_digits = no_number (codes "") refl
 
 -- tags of RFC 8659, 4.2 to 4.4, and the longest
 pub issue : Spells field.Tag (codes "issue") (5 ∷ 0x69 ∷ 0x73 ∷ 0x73 ∷ 0x75 ∷ 0x65 ∷ [])
-issue = (record { filled = omega arith; short = omega arith; plain = (refl, (refl, (refl, (refl, (refl, tt))))) }, refl)
+issue = (
+  record {
+    filled = omega arith;
+    short = omega arith;
+    plain =
+        (refl, (refl, (refl, (refl, (refl, tt)))));
+  },
+  refl,
+)
 
-pub issuewild : Spells field.Tag (codes "issuewild") (9 ∷ 0x69 ∷ 0x73 ∷ 0x73 ∷ 0x75 ∷ 0x65 ∷ 0x77 ∷ 0x69 ∷ 0x6C ∷ 0x64 ∷ [])
-issuewild = (record { filled = omega arith; short = omega arith; plain = (refl, (refl, (refl, (refl, (refl, (refl, (refl, (refl, (refl, tt))))))))) }, refl)
+pub issuewild : Spells field.Tag (codes "issuewild") (9 ∷ 0x69 ∷ 0x73 ∷ 0x73 ∷ 0x75 ∷ 0x65 ∷ 0x77
+    ∷ 0x69 ∷ 0x6C ∷ 0x64 ∷ [])
+issuewild = (
+  record {
+    filled = omega arith;
+    short = omega arith;
+    plain =
+        (refl, (refl, (refl, (refl, (refl, (refl, (refl, (refl, (refl, tt)))))))));
+  },
+  refl,
+)
 
-pub fifteen_letters : Spells field.Tag (codes "abcdefghijklmno") (0x0F ∷ 0x61 ∷ 0x62 ∷ 0x63 ∷ 0x64 ∷ 0x65 ∷ 0x66 ∷ 0x67 ∷ 0x68 ∷ 0x69 ∷ 0x6A ∷ 0x6B ∷ 0x6C ∷ 0x6D ∷ 0x6E ∷ 0x6F ∷ [])
-fifteen_letters = (record { filled = omega arith; short = omega arith; plain = (refl, (refl, (refl, (refl, (refl, (refl, (refl, (refl, (refl, (refl, (refl, (refl, (refl, (refl, (refl, tt))))))))))))))) }, refl)
+pub fifteen_letters : Spells field.Tag (codes "abcdefghijklmno")
+    (0x0F ∷ 0x61 ∷ 0x62 ∷ 0x63 ∷ 0x64 ∷ 0x65 ∷ 0x66 ∷ 0x67 ∷ 0x68 ∷ 0x69 ∷ 0x6A ∷ 0x6B ∷ 0x6C ∷ 0x6D
+    ∷ 0x6E ∷ 0x6F ∷ [])
+fifteen_letters = (
+  record {
+    filled = omega arith;
+    short = omega arith;
+    plain = (
+      refl,
+      (
+        refl,
+        (
+          refl,
+          (
+            refl,
+            (
+              refl,
+              (
+                refl,
+                (refl, (refl, (refl, (refl, (refl, (refl, (refl, (refl, (refl, tt))))))))),
+              ),
+            ),
+          ),
+        ),
+      ),
+    );
+  },
+  refl,
+)
 
 pub written_issue : text_of_field field.Tag (5 ∷ codes "issue") ≡ codes "issue"
 written_issue = refl
@@ -155,10 +211,12 @@ pub no_letters : SpellsNone field.Tag []
 no_letters octets h = omega (arith, h.0.filled)
 
 -- addresses: RFC 3596, 2.5, and one that RFC 5952, 4.1, shortens
-pub query_example : Spells field.Ipv6 (codes "4321:0:1:2:3:4:567:89ab") (0x43 ∷ 0x21 ∷ 0 ∷ 0 ∷ 0 ∷ 1 ∷ 0 ∷ 2 ∷ 0 ∷ 3 ∷ 0 ∷ 4 ∷ 5 ∷ 0x67 ∷ 0x89 ∷ 0xAB ∷ [])
+pub query_example : Spells field.Ipv6 (codes "4321:0:1:2:3:4:567:89ab")
+    (0x43 ∷ 0x21 ∷ 0 ∷ 0 ∷ 0 ∷ 1 ∷ 0 ∷ 2 ∷ 0 ∷ 3 ∷ 0 ∷ 4 ∷ 5 ∷ 0x67 ∷ 0x89 ∷ 0xAB ∷ [])
 query_example = Addresses.query_example
 
-pub shortened : text_of_field field.Ipv6 (0x20 ∷ 1 ∷ 0x0D ∷ 0xB8 ∷ 0 ∷ 0 ∷ 0 ∷ 0 ∷ 0 ∷ 0 ∷ 0 ∷ 0 ∷ 0 ∷ 0 ∷ 0 ∷ 1 ∷ []) ≡ codes "2001:db8::1"
+pub shortened : text_of_field field.Ipv6 (0x20 ∷ 1 ∷ 0x0D ∷ 0xB8 ∷ 0 ∷ 0 ∷ 0 ∷ 0 ∷ 0 ∷ 0 ∷ 0 ∷ 0 ∷ 0
+    ∷ 0 ∷ 0 ∷ 1 ∷ []) ≡ codes "2001:db8::1"
 shortened = Addresses.leading_zeros
 
 pub three_colons : SpellsNone field.Ipv6 (codes "1:::2")

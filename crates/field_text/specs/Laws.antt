@@ -1,19 +1,28 @@
 -- Laws over the definitions of this crate.
-use Rattle.std.specs.Prelude.{◌≡◌, ℕ, ◌+◌, ◌≤◌, List, [], ◌∷◌, ◌++◌, length, true, Some}
+use Rattle.std.specs.Prelude.{◌≡◌, ℕ, ◌+◌, ◌≤◌, ◌↔◌, List, [], ◌∷◌, ◌++◌, length, true, Some}
 use Rattle.dns_name.specs.Names.{AreOctets}
 use Rattle.rdata_layout.specs.Fields.{IsField}
 use Rattle.rdata_layout.specs.declared.fields.Field.{Field}
 use Rattle.value_text.specs.Fields.{is_blank, next_field}
+use Rattle.field_text.specs.OctetsOfText.{octets_of_text}
 use Rattle.field_text.specs.Spelling.{Spells}
 use Rattle.field_text.specs.Written.{text_of_field}
 
 -- A text spells one field of a kind at most.
 abbrev pub OneReading : Type 0
-OneReading = (field : Field) (text octets others : List ℕ) → Spells field text octets → Spells field text others → octets ≡ others
+OneReading = (field : Field) (text octets others : List ℕ) → Spells field text octets
+    → Spells field text others → octets ≡ others
 
 -- What a text spells is a field of that kind, of at most 255 octets.
 abbrev pub SpelledIsField : Type 0
-SpelledIsField = (field : Field) (text octets : List ℕ) → Spells field text octets → IsField field octets × (length octets ≤ 255)
+SpelledIsField = (field : Field) (text octets : List ℕ) → Spells field text octets
+    → IsField field octets × (length octets ≤ 255)
+
+-- The octets of a text are those that it spells, and there are none where it spells no field.
+abbrev pub OctetsOfText : Type 0
+OctetsOfText =
+    (field : Field) (text octets : List ℕ)
+    → (octets_of_text field text ≡ Some octets) ↔ Spells field text octets
 
 -- The text written of a field spells that field.
 abbrev pub WrittenFieldReadsBack : Type 0

@@ -1,18 +1,13 @@
 -- The written texts of fields: one text for each field (FORMATS, Texts of values).
-use Rattle.std.specs.Prelude.{ℕ, ◌+◌, ◌*◌, List, slice_index, drop}
+use Rattle.std.specs.Prelude.{ℕ, List, slice_index, drop}
 use Rattle.std.specs.Fmt.{decimal}
 use Rattle.std.specs.Net.Text.{ipv4_text}
-use Rattle.octets.specs.Numbers.{number_at}
+use Rattle.octets.specs.Numbers.{number_at, long_at}
 use Rattle.dns_name.specs.Stored.{labels_of}
 use Rattle.dns_name.specs.Written.{text_of}
 use Rattle.rdata_layout.specs.declared.fields.Field.{Field}
 use Rattle.rdata_layout.specs.declared.fields.Field.TheVariants as field
 use Rattle.address_text.specs.Spelling.{colon_hex}
-
--- the number of four octets, the highest first (RFC 1035, 2.3.2)
-abbrev pub number_of_four : List ℕ → ℕ
-number_of_four octets =
-    slice_index octets 0 * 16777216 + slice_index octets 1 * 65536 + slice_index octets 2 * 256 + slice_index octets 3
 
 -- the text that is written of a field's octets
 abbrev pub text_of_field : Field → (octets : List ℕ) → List ℕ
@@ -25,6 +20,6 @@ text_of_field field.Name octets = text_of (labels_of octets)
 -- decimal digits without leading zeros
 text_of_field field.Number8 octets = decimal (slice_index octets 0)
 text_of_field field.Number16 octets = decimal (number_at octets 0)
-text_of_field field.Number32 octets = decimal (number_of_four octets)
+text_of_field field.Number32 octets = decimal (long_at octets 0)
 -- the tag without its length
 text_of_field field.Tag octets = drop 1 octets

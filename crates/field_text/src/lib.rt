@@ -1,7 +1,8 @@
 //! The texts of single fields of records' values, read and written.
 //!
-//! Many texts spell one field, as numbers with leading zeros and names in upper case do, and one of them is written. The
-//! written text of a field has no spaces in it, so that fields may stand one behind another.
+//! Many texts spell one field, as numbers with leading zeros and names in upper case do, and one of
+//! them is written. The written text of a field has no spaces in it, so that fields may stand one
+//! behind another.
 #![tactic(auto)]
 
 mod laws;
@@ -9,7 +10,8 @@ mod reading;
 mod writing;
 
 pub use laws::{
-    one_reading, spelled_is_field, written_field_is_one_field, written_field_reads_back,
+    octets_of_text, one_reading, spelled_is_field, written_field_is_one_field,
+    written_field_reads_back,
 };
 pub use reading::read_field;
 pub use writing::write_field;

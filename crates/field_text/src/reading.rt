@@ -1,3 +1,5 @@
+//! The octets of the texts of fields.
+
 ghost use Rattle.std.specs.Prelude.{◌≡◌, ℕ, ◌+◌, ◌≤◌, List, ◌∷◌, length, take, drop, IfSome, IfNone, IsTrue, ◌↔◌, true};
 ghost use Rattle.std.specs.List.{AllByRecursion};
 ghost use Rattle.rdata_layout.specs.Fields.{IsTag, is_letter_or_digit};

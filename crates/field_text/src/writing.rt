@@ -1,24 +1,28 @@
+//! The texts of fields, written to a place of a buffer.
+
 ghost use Rattle.std.specs.Prelude.{◌≡◌, ◌+◌, ◌*◌, ◌≤◌, ◌++◌, length, take, drop};
 ghost use Rattle.std.specs.Fmt.{decimal};
 ghost use Rattle.dns_name.specs.Stored.{labels_of};
 ghost use Rattle.dns_name.specs.Written.{text_of};
 ghost use Rattle.rdata_layout.specs.Fields.{IsField};
-ghost use Rattle.field_text.specs.Written.{text_of_field, number_of_four};
+ghost use Rattle.field_text.specs.Written.{text_of_field};
 
 use address_text::{write_ipv4, write_ipv6};
 use dns_name::Name;
 use itoa::Buffer;
-use octets::{behind, front, number_at, put_at};
+use octets::{behind, front, long_at, number_at, put_at};
 use rdata_layout::Field;
 
 /// Writes the text of a field's octets at a place, and says where it ends.
 ///
-/// There is room for the text of any field of so many octets: four bytes for each, of which one is left over.
+/// There is room for the text of any field of so many octets: four bytes for each, of which one is
+/// left over.
 pub fn write_field(field: Field, octets: &[u8], into: &mut [u8], at: usize) -> usize
     requires field { IsField field octets.now }
     requires room { at + 4 * length octets.now ≤ length into.old }
     ensures end { result ≡ at + length (text_of_field field octets.now) }
-    ensures written { into.new ≡ take at into.old ++ text_of_field field octets.now ++ drop result into.old }
+    ensures written { into.new ≡ take at into.old ++ text_of_field field octets.now
+        ++ drop result into.old }
     ensures short { result + 1 ≤ at + 4 * length octets.now }
 {
     match field {
@@ -27,7 +31,7 @@ pub fn write_field(field: Field, octets: &[u8], into: &mut [u8], at: usize) -> u
         Field::Name => write_name(octets, into, at),
         Field::Number8 => write_octet(octets[0], into, at),
         Field::Number16 => write_number(number_at(octets, 0), into, at),
-        Field::Number32 => write_long_number(number_of_four(octets), into, at),
+        Field::Number32 => write_long_number(long_at(octets, 0), into, at),
         Field::Tag => put(behind(octets, 1), into, at),
     }
 }
@@ -37,7 +41,8 @@ fn write_name(octets: &[u8], into: &mut [u8], at: usize) -> usize
     requires name { IsField Field.Name octets.now }
     requires room { at + 4 * length octets.now ≤ length into.old }
     ensures end { result ≡ at + length (text_of (labels_of octets.now)) }
-    ensures written { into.new ≡ take at into.old ++ text_of (labels_of octets.now) ++ drop result into.old }
+    ensures written { into.new ≡ take at into.old ++ text_of (labels_of octets.now)
+        ++ drop result into.old }
     ensures short { result + 1 ≤ at + 4 * length octets.now }
 {
     let mut text = [0; 1024];
@@ -86,17 +91,6 @@ fn write_long_number(n: u32, into: &mut [u8], at: usize) -> usize
     ensures short { result ≤ at + 10 }
 {
     put(Buffer::new().format(n).as_bytes(), into, at)
-}
-
-/// The number of four octets.
-fn number_of_four(octets: &[u8]) -> u32
-    requires { length octets.now ≡ 4 }
-    ensures { result ≡ number_of_four octets.now }
-{
-    u32::from(octets[0]) * 16_777_216
-        + u32::from(octets[1]) * 65_536
-        + u32::from(octets[2]) * 256
-        + u32::from(octets[3])
 }
 
 /// Writes a piece at a place, and says where it ends.

@@ -27,7 +27,9 @@ module _ (ps : List Prefix) (p : Prefix) (new : List Prefix) (is : new ≡ ps ++
   pub all_prefixes : AllPrefixes ps → IsPrefix p.address p.length → AllPrefixes new
   all_prefixes all prefix r h = elim (cases_lt r (length ps)) [
     | inl old ↦ subst (λ q. IsPrefix q.address q.length) (sym (before r old)) (all r old)
-    | inr over ↦ subst (λ k. IsPrefix (prefix_at new k).address (prefix_at new k).length) (end r h over) (subst (λ q. IsPrefix q.address q.length) (sym last) prefix)
+    | inr over ↦
+        subst (λ k. IsPrefix (prefix_at new k).address (prefix_at new k).length) (end r h over)
+        (subst (λ q. IsPrefix q.address q.length) (sym last) prefix)
   ]
 
   pub are_apart : AreApart ps → (HasPrefix ps p → ⊥) → AreApart new
@@ -53,8 +55,10 @@ module _ (ps : List Prefix) (p : Prefix) (new : List Prefix) (is : new ≡ ps ++
       deeper = kid.deeper;
       told = kid.told;
       start = kid.start;
-      bits = ap (λ (q : Prefix). first_bits ((node_at nodes i).depth + 1) q.address) (same_here k kid.within) ∙ kid.bits
-          ∙ ap (λ (q : Prefix). 2 * first_bits (node_at nodes i).depth q.address + bit) (sym (same_here i h));
+      bits = ap (λ (q : Prefix). first_bits ((node_at nodes i).depth + 1) q.address)
+          (same_here k kid.within) ∙ kid.bits
+          ∙ ap (λ (q : Prefix). 2 * first_bits (node_at nodes i).depth q.address + bit)
+          (sym (same_here i h));
     }
 
     pub tree_on : IsTree new nodes width
@@ -67,7 +71,8 @@ module _ (ps : List Prefix) (p : Prefix) (new : List Prefix) (is : new ≡ ps ++
         depth = omega (arith, node.depth, ap (λ (q : Prefix). q.length) (same_here i h));
         long = node.long ∙ ap (λ (q : Prefix). q.length) (sym (same_here i h));
         low = node.low;
-        behind = node.behind ∙ ap (λ (q : Prefix). window (node_at nodes i).start q.address) (sym (same_here i h));
+        behind = node.behind
+            ∙ ap (λ (q : Prefix). window (node_at nodes i).start q.address) (sym (same_here i h));
         children = λ bit low some. kids i bit _ h (node.children bit low some);
       };
       apart = tree.apart;
@@ -77,19 +82,28 @@ module _ (ps : List Prefix) (p : Prefix) (new : List Prefix) (is : new ≡ ps ++
     -- all rows but the last stand as before
     pub others_on : AllStand ps nodes width (length ps) → AllStand new nodes width (length ps)
     others_on all r h family ne = elim (cases_lt r (length ps)) [
-      | inl old ↦ all r old (ap (λ (q : Prefix). width_of q.address) (sym (before r old)) ∙ family) ne
+      | inl old ↦
+          all r old (ap (λ (q : Prefix). width_of q.address) (sym (before r old)) ∙ family) ne
       | inr over ↦ absurd (ne (sym (end r h over)))
     ]
 
     -- a row of another family changes nothing
-    pub all_stand_on : width_of p.address ≢ width → AllStand ps nodes width (length ps) → AllStand new nodes width (length new)
+    pub all_stand_on : width_of p.address ≢ width → AllStand ps nodes width (length ps)
+        → AllStand new nodes width (length new)
     all_stand_on other all r h family ne = elim (cases_lt r (length ps)) [
-      | inl old ↦ all r old (ap (λ (q : Prefix). width_of q.address) (sym (before r old)) ∙ family) (λ e. absurd (omega arith))
-      | inr over ↦ absurd (other (ap (λ (q : Prefix). width_of q.address) (sym last) ∙ ap (λ k. width_of (prefix_at new k).address) (end r h over) ∙ family))
+      | inl old ↦
+          all r old (ap (λ (q : Prefix). width_of q.address) (sym (before r old))
+          ∙ family) (λ e. absurd (omega arith))
+      | inr over ↦
+          absurd (other (ap (λ (q : Prefix). width_of q.address) (sym last)
+          ∙ ap (λ k. width_of (prefix_at new k).address) (end r h over)
+          ∙ family))
     ]
 
 -- prefixes and values side by side, with one more of both
-pub zip_push : {V : Type 0} → (ps : List Prefix) (vs : List V) (p : Prefix) (v : V) → length vs ≡ length ps → zip (ps ++ p ∷ []) (vs ++ v ∷ []) ≡ zip ps vs ++ (p, v) ∷ []
+pub zip_push : {V : Type 0} → (ps : List Prefix) (vs : List V) (p : Prefix) (v : V)
+    → length vs ≡ length ps
+    → zip (ps ++ p ∷ []) (vs ++ v ∷ []) ≡ zip ps vs ++ (p, v) ∷ []
 zip_push [] [] p v e = refl
 zip_push [] (w ∷ vs) p v e = absurd (omega arith)
 zip_push (q ∷ ps) [] p v e = absurd (omega arith)

@@ -2,8 +2,8 @@
 use Rattle.std.proofs.Common.{◌≡◌, ℕ, ◌<◌, ◌≤◌, List, [], ◌∷◌, get_or, Some, refl, sym, subst, inl, inr, arith, zero, suc, lit<, lit≤}
 use Rattle.std.specs.Prelude.{Contains}
 use Rattle.std.proofs.lemmas.Bool.{cases_lt}
-use Rattle.r53_io.specs.declared.address.IpAddress.{IpAddress}
-use Rattle.r53_io.specs.declared.address.IpAddress.TheVariants.{V4, V6}
+use Rattle.address_text.specs.declared.address.IpAddress.{IpAddress}
+use Rattle.address_text.specs.declared.address.IpAddress.TheVariants.{V4, V6}
 use Rattle.ip_table.specs.Bits.{number_of, first_bits, SharesFirst}
 use Rattle.ip_table.specs.Location.{IsFound, IsScope, HasLongerInside}
 use Rattle.ip_table.specs.Prefixes.{Prefix, IsPrefix, Covers}
@@ -91,7 +91,8 @@ unfolding number_of
 apart_at_24 s = absurd (omega (arith, s.bits))
 
 -- a row is one of the two
-which : (P : Prefix × ℕ → Type 0) → P row_51 → P row_200 → (row : Prefix × ℕ) → Contains rows row → P row
+which : (P : Prefix × ℕ → Type 0) → P row_51 → P row_200 → (row : Prefix × ℕ) → Contains rows row
+    → P row
 which P first second row c = at c.0 c.1 c.2
   where
     at : (k : ℕ) → k < 2 → get_or rows k row ≡ row → P row
@@ -99,18 +100,27 @@ which P first second row c = at c.0 c.1 c.2
     at (suc zero) h e = subst P e second
     at (suc (suc k)) h e = absurd (omega arith)
 
--- 198.51.0.0/16 and 198.51.200.0/24: the client is in the first, and the answer holds for its first 17 bits
+-- 198.51.0.0/16 and 198.51.200.0/24: the client is in the first, and the answer holds for its first
+-- 17 bits
 found_16 : IsFound rows client (Some row_51)
-found_16 = ((0, omega arith, refl), shares_16, which (λ row. Covers row.0 client → row.0.length ≤ 16) (λ c. omega arith) (λ c. absurd (apart_at_24 c)))
+found_16 = (
+  (0, omega arith, refl),
+  shares_16,
+  which (λ row. Covers row.0 client → row.0.length ≤ 16) (λ c. omega arith)
+      (λ c. absurd (apart_at_24 c)),
+)
 
 scope_17 : IsScope rows client (Some row_51) 17
 scope_17 = record {
   from = lit≤ tt;
-  apart = λ inside. which (λ row. 16 < row.0.length → SharesFirst 17 row.0.address client → ⊥) (λ longer s. omega arith) (λ longer s. apart_at_17 s) inside.0 inside.1 inside.2 inside.3.1;
+  apart = λ inside. which (λ row. 16 < row.0.length → SharesFirst 17 row.0.address client
+      → ⊥) (λ longer s. omega arith) (λ longer s. apart_at_17 s)
+      inside.0 inside.1 inside.2 inside.3.1;
   least = λ n low none. elim (cases_lt n 17) [
     | inl under ↦
         let at : 16 ≡ n = omega arith in
-        absurd (subst (λ m. HasLongerInside rows (Some row_51) m client → ⊥) (sym at) none (row_200, (1, omega arith, refl), omega arith, (omega arith, shares_16_with_200)))
+        absurd (subst (λ m. HasLongerInside rows (Some row_51) m client → ⊥) (sym at) none
+        (row_200, (1, omega arith, refl), omega arith, (omega arith, shares_16_with_200)))
     | inr over ↦ over
   ];
 }

@@ -1,7 +1,7 @@
 -- One node more on the way of a walk.
 use Rattle.std.proofs.Common.{◌≡◌, ℕ, ◌+◌, ◌-◌, ◌*◌, ◌%◌, ◌<◌, ◌≤◌, ◌⊎◌, ◌↔◌, List, length, max, sym, ap, ◌∙◌, subst, inl, inr, arith}
 use Rattle.std.proofs.lemmas.Bool.{cases_lt, cases_eq}
-use Rattle.r53_io.specs.declared.address.IpAddress.{IpAddress}
+use Rattle.address_text.specs.declared.address.IpAddress.{IpAddress}
 use Rattle.ip_table.specs.declared.tree.Node.{Node}
 use Rattle.ip_table.specs.declared.tree.Seen.{Seen}
 use Rattle.ip_table.specs.Bits.{width_of, first_bits, SharesFirst}
@@ -12,19 +12,35 @@ use Rattle.ip_table.proofs.Sightings.{done_past, sound_past}
 use Rattle.ip_table.proofs.Walks.{Here, On, shallow, row_bits, ways}
 
 -- whether the address has the bits of a node, by how many bits of its row it shares
-pub same_way : (prefixes : List Prefix) (nodes : List Node) (a : IpAddress) (width at : ℕ) → IsNode prefixes nodes width at → (node : Node) → node ≡ node_at nodes at
-    → (shared : ℕ) → ((n : ℕ) → n ≤ (prefix_at prefixes node.row).length → (n ≤ shared ↔ (first_bits n (prefix_at prefixes node.row).address ≡ first_bits n a)))
-    → (node_at nodes at).depth ≤ shared ↔ (first_bits (node_at nodes at).depth (here prefixes nodes at).address ≡ first_bits (node_at nodes at).depth a)
+pub same_way : (prefixes : List Prefix) (nodes : List Node) (a : IpAddress) (width at : ℕ)
+    → IsNode prefixes nodes width at → (node : Node)
+    → node ≡ node_at nodes at
+    → (shared : ℕ) → ((n : ℕ) → n ≤ (prefix_at prefixes node.row).length
+    → (n ≤ shared ↔ (first_bits n (prefix_at prefixes node.row).address ≡ first_bits n a)))
+    → (node_at nodes at).depth ≤ shared
+    ↔ (first_bits (node_at nodes at).depth (here prefixes nodes at).address
+    ≡ first_bits (node_at nodes at).depth a)
 same_way prefixes nodes a width at ok node is shared same =
-    subst (λ (n : Node). n.depth ≤ shared ↔ (first_bits n.depth (prefix_at prefixes n.row).address ≡ first_bits n.depth a)) is
-    (same node.depth (omega (arith, ok.depth, ap (λ (n : Node). n.depth) is, ap (λ (n : Node). (prefix_at prefixes n.row).length) is)))
+    subst (λ (n : Node). n.depth ≤ shared
+    ↔ (first_bits n.depth (prefix_at prefixes n.row).address ≡ first_bits n.depth a)) is
+    (same node.depth
+    (omega (
+      arith,
+      ok.depth,
+      ap (λ (n : Node). n.depth) is,
+      ap (λ (n : Node). (prefix_at prefixes n.row).length) is,
+    )))
 
-module _ (prefixes : List Prefix) (nodes : List Node) (a : IpAddress) (all : AllPrefixes prefixes) (tree : IsTree prefixes nodes (width_of a))
+module _ (prefixes : List Prefix) (nodes : List Node) (a : IpAddress) (all : AllPrefixes prefixes)
+    (tree : IsTree prefixes nodes (width_of a))
     (at : ℕ) (within : at < length nodes) where
-  -- The address shares fewer bits with the row that stands here than all rows here and below do: so it does with each.
+  -- The address shares fewer bits with the row that stands here than all rows here and below do: so
+  -- it does with each.
   module _ (seen : Seen) (done : IsDone prefixes a seen (node_at nodes at).row)
-      (differ : ¬ (first_bits (node_at nodes at).depth (here prefixes nodes at).address ≡ first_bits (node_at nodes at).depth a)) where
-    covers_not : (row : ℕ) → Stands nodes at row → (n : ℕ) → (node_at nodes at).depth ≤ n → SharesFirst n (prefix_at prefixes row).address a → ⊥
+      (differ : ¬ (first_bits (node_at nodes at).depth (here prefixes nodes at).address
+      ≡ first_bits (node_at nodes at).depth a)) where
+    covers_not : (row : ℕ) → Stands nodes at row → (n : ℕ) → (node_at nodes at).depth ≤ n
+        → SharesFirst n (prefix_at prefixes row).address a → ⊥
     covers_not row s n more shares =
         let b = row_bits prefixes nodes (width_of a) all tree at row within s in
         differ (sym b.1 ∙ fewer (node_at nodes at).depth n _ a more shares.bits)
@@ -37,40 +53,62 @@ module _ (prefixes : List Prefix) (nodes : List Node) (a : IpAddress) (all : All
         record {
           covers = λ c. absurd (covers_not row s (prefix_at prefixes row).length b.0 c);
           apart = λ n shares. elim (cases_lt seen.past d) [
-            | inl less ↦ done.apart (λ c. differ (fewer d (here prefixes nodes at).length _ a node.depth c.bits)) record {
-              family = node.family;
-              bits = sym (fewer seen.past d _ _ (omega arith) b.1) ∙ shares.bits;
-            }
+            | inl less ↦
+                done.apart
+                (λ c. differ (fewer d (here prefixes nodes at).length _ a node.depth c.bits))
+                record {
+                  family = node.family;
+                  bits = sym (fewer seen.past d _ _ (omega arith) b.1) ∙ shares.bits;
+                }
             | inr more ↦ covers_not row s seen.past more shares
           ];
         }
 
   -- The address has the bits that all rows here and below have in common.
-  module _ (way : first_bits (node_at nodes at).depth (here prefixes nodes at).address ≡ first_bits (node_at nodes at).depth a)
+  module _ (way : first_bits (node_at nodes at).depth (here prefixes nodes at).address
+      ≡ first_bits (node_at nodes at).depth a)
       (mid new : Seen) (other next : ℕ)
       (other_is : other ≡ child (node_at nodes at) (1 - bit_behind (node_at nodes at).depth a))
       (next_is : next ≡ child (node_at nodes at) (bit_behind (node_at nodes at).depth a))
       (same : new.found ≡ mid.found) (kept : new.long ≡ mid.long)
-      (past : ((new.past ≡ max mid.past ((node_at nodes at).depth + 1)) × (0 < other)) ⊎ ((new.past ≡ mid.past) × (other ≡ 0))) where
+      (past : ((new.past ≡ max mid.past ((node_at nodes at).depth + 1)) × (0 < other))
+      ⊎ ((new.past ≡ mid.past) × (other ≡ 0))) where
     -- a row that stands aside begins with the bits of the way so far, and then with the other bit
-    sound_aside : new.past ≡ max mid.past ((node_at nodes at).depth + 1) → 0 < other → IsSound prefixes a mid → IsSound prefixes a new
+    sound_aside : new.past ≡ max mid.past ((node_at nodes at).depth + 1) → 0 < other
+        → IsSound prefixes a mid → IsSound prefixes a new
     sound_aside more some s =
         let d = (node_at nodes at).depth in
         let bit = bit_behind d a in
-        let kid : IsChild prefixes nodes at (1 - bit) other = subst (λ i. IsChild prefixes nodes at (1 - bit) i) (sym other_is)
-        ((tree.each at within).children (1 - bit) (omega arith) (subst (λ i. 0 < i) other_is some)) in
+        let kid : IsChild prefixes nodes at (1 - bit) other =
+        subst (λ i. IsChild prefixes nodes at (1 - bit) i) (sym other_is)
+        ((tree.each at within).children (1 - bit) (omega arith) (subst (λ i. 0 < i) other_is some))
+        in
         let node = tree.each other kid.within in
         let own = (here prefixes nodes other).address in
-        let low : d < 128 = omega (arith, kid.deeper, shallow prefixes nodes (width_of a) all tree other kid.within) in
-        let turn : first_bits (d + 1) own ≡ 2 * first_bits d a + (1 - bit) = kid.bits ∙ ap (λ x. 2 * x + (1 - bit)) way in
+        let low : d < 128 =
+        omega (arith, kid.deeper, shallow prefixes nodes (width_of a) all tree other kid.within)
+        in
+        let turn : first_bits (d + 1) own ≡ 2 * first_bits d a + (1 - bit) = kid.bits
+        ∙ ap (λ x. 2 * x + (1 - bit)) way in
         let start : first_bits d own ≡ first_bits d a = omega (arith, halves d own low, turn) in
         sound_past prefixes a mid new (d + 1) (node_at nodes other).row node.row
-        (λ c. absurd (omega (arith, turn, one_more d a low, (shares_fewer (d + 1) (here prefixes nodes other).length own a (omega (arith, node.depth, kid.deeper)) c).bits)))
+        (λ c. absurd (omega (
+          arith,
+          turn,
+          one_more d a low,
+          (shares_fewer (d + 1) (here prefixes nodes other).length own a
+              (omega (arith, node.depth, kid.deeper)) c).bits,
+        )))
         (λ n less. record { family = node.family; bits = fewer n d own a (omega arith) start })
         same kept more s
 
     sound_same : new.past ≡ mid.past → IsSound prefixes a mid → IsSound prefixes a new
-    sound_same e s = record { found = λ r f. let b = s.found r (sym same ∙ f) in (b.0, b.1, kept ∙ b.2); below = λ n h. s.below n (omega arith) }
+    sound_same e s =
+        record {
+          found = λ r f. let b = s.found r (sym same ∙ f) in (b.0, b.1, kept ∙ b.2);
+          below =
+              λ n h. s.below n (omega arith);
+        }
 
     pub sound : IsSound prefixes a mid → IsSound prefixes a new
     sound s = elim past [ inl more ↦ sound_aside more.0 more.1 s | inr none ↦ sound_same none.0 s ]
@@ -80,11 +118,15 @@ module _ (prefixes : List Prefix) (nodes : List Node) (a : IpAddress) (all : All
     goes some =
         let d = (node_at nodes at).depth in
         let bit = bit_behind d a in
-        let kid : IsChild prefixes nodes at bit next = subst (λ i. IsChild prefixes nodes at bit i) (sym next_is)
+        let kid : IsChild prefixes nodes at bit next =
+        subst (λ i. IsChild prefixes nodes at bit i) (sym next_is)
         ((tree.each at within).children bit (omega arith) (subst (λ i. 0 < i) next_is some)) in
         let own = (here prefixes nodes next).address in
-        let low : d < 128 = omega (arith, kid.deeper, shallow prefixes nodes (width_of a) all tree next kid.within) in
-        let begin : first_bits d own ≡ first_bits d a = omega (arith, halves d own low, kid.bits, way) in
+        let low : d < 128 =
+        omega (arith, kid.deeper, shallow prefixes nodes (width_of a) all tree next kid.within)
+        in
+        let begin : first_bits d own ≡ first_bits d a =
+        omega (arith, halves d own low, kid.bits, way) in
         record {
           within = kid.within;
           deeper = kid.deeper;
@@ -95,36 +137,56 @@ module _ (prefixes : List Prefix) (nodes : List Node) (a : IpAddress) (all : All
     no_less = elim past [ inl more ↦ omega (arith, more.0) | inr none ↦ omega (arith, none.0) ]
 
     -- a row behind the other bit is not on the way
-    aside : (row : ℕ) → row < length prefixes → (0 < child (node_at nodes at) (bit_behind (node_at nodes at).depth (prefix_at prefixes row).address))
-        → Stands nodes (child (node_at nodes at) (bit_behind (node_at nodes at).depth (prefix_at prefixes row).address)) row
-        → bit_behind (node_at nodes at).depth (prefix_at prefixes row).address ≡ bit_behind (node_at nodes at).depth a ⊎ IsDone prefixes a new row
-    aside row h some s = elim (cases_eq (bit_behind (node_at nodes at).depth (prefix_at prefixes row).address) (bit_behind (node_at nodes at).depth a)) [
-      | inl one ↦ inl one
-      | inr two ↦
-          let d = (node_at nodes at).depth in
-          let own = (prefix_at prefixes row).address in
-          let kid = (tree.each at within).children (bit_behind d own) (omega arith) some in
-          let b = row_bits prefixes nodes (width_of a) all tree (child (node_at nodes at) (bit_behind d own)) row kid.within s in
-          let long : d + 1 ≤ (prefix_at prefixes row).length = omega (arith, kid.deeper, b.0) in
-          let differ : first_bits (d + 1) own ≡ first_bits (d + 1) a → ⊥ = λ e. two (ap (λ x. x % 2) e) in
-          let turned : bit_behind d own ≡ 1 - bit_behind d a = omega arith in
-          elim past [
-            | inl more ↦ inr record {
-              covers = λ c. absurd (differ (shares_fewer (d + 1) _ _ a long c).bits);
-              apart = λ n shares. differ (shares_fewer (d + 1) new.past _ a (omega (arith, more.0)) shares).bits;
-            }
-            | inr none ↦ absurd (omega (arith, subst (λ b. 0 < child (node_at nodes at) b) turned some, other_is, none.1))
-          ]
-    ]
+    aside : (row : ℕ) → row < length prefixes
+        → (0 < child (node_at nodes at)
+        (bit_behind (node_at nodes at).depth (prefix_at prefixes row).address))
+        → Stands nodes
+        (child (node_at nodes at)
+        (bit_behind (node_at nodes at).depth (prefix_at prefixes row).address)) row
+        → bit_behind (node_at nodes at).depth (prefix_at prefixes row).address
+        ≡ bit_behind (node_at nodes at).depth a ⊎ IsDone prefixes a new row
+    aside row h some s =
+        elim (cases_eq (bit_behind (node_at nodes at).depth (prefix_at prefixes row).address)
+        (bit_behind (node_at nodes at).depth a)) [
+          | inl one ↦ inl one
+          | inr two ↦
+              let d = (node_at nodes at).depth in
+              let own = (prefix_at prefixes row).address in
+              let kid = (tree.each at within).children (bit_behind d own) (omega arith) some in
+              let b = row_bits prefixes nodes (width_of a) all tree
+              (child (node_at nodes at) (bit_behind d own)) row kid.within s in
+              let long : d + 1 ≤ (prefix_at prefixes row).length = omega (arith, kid.deeper, b.0) in
+              let differ : first_bits (d + 1) own ≡ first_bits (d + 1) a
+              → ⊥ = λ e. two (ap (λ x. x % 2) e) in
+              let turned : bit_behind d own ≡ 1 - bit_behind d a = omega arith in
+              elim past [
+                | inl more ↦ inr record {
+                  covers = λ c. absurd (differ (shares_fewer (d + 1) _ _ a long c).bits);
+                  apart = λ n shares.
+                      differ (shares_fewer (d + 1) new.past _ a (omega (arith, more.0))
+                      shares).bits;
+                }
+                | inr none ↦
+                    absurd (omega (
+                      arith,
+                      subst (λ b. 0 < child (node_at nodes at) b) turned some,
+                      other_is,
+                      none.1,
+                    ))
+              ]
+        ]
 
-    pub each : (old : Seen) → IsDone prefixes a mid (node_at nodes at).row → ((r : ℕ) → IsDone prefixes a old r → IsDone prefixes a mid r)
+    pub each : (old : Seen) → IsDone prefixes a mid (node_at nodes at).row
+        → ((r : ℕ) → IsDone prefixes a old r → IsDone prefixes a mid r)
         → (row : ℕ) → row < length prefixes → (Stands nodes at row ⊎ IsDone prefixes a old row)
         → ((0 < next) × Stands nodes next row) ⊎ IsDone prefixes a new row
     each old done keeps row h before =
         elim before [
           | inr over ↦ inr (done_past prefixes a mid new no_less same row (keeps row over))
           | inl ahead ↦ elim (ways prefixes nodes (width_of a) all tree at row within ahead) [
-            | Here is ↦ inr (done_past prefixes a mid new no_less same row (subst (λ r. IsDone prefixes a mid r) is done))
+            | Here is ↦
+                inr (done_past prefixes a mid new no_less same row
+                (subst (λ r. IsDone prefixes a mid r) is done))
             | On some stands ↦ elim (aside row h some stands) [
               | inr over ↦ inr over
               | inl one ↦

@@ -1,8 +1,8 @@
 -- The bits of an address, the highest bit of the first octet first.
 use Rattle.std.specs.Prelude.{◌≡◌, ℕ, ◌-◌, ◌*◌, ◌/◌, ◌^◌, ◌<◌, List, length, slice_index}
 use Rattle.std.specs.Int.{from_be_bytes, w32, w128}
-use Rattle.r53_io.specs.declared.address.IpAddress.{IpAddress}
-use Rattle.r53_io.specs.declared.address.IpAddress.TheVariants.{V4, V6}
+use Rattle.address_text.specs.declared.address.IpAddress.{IpAddress}
+use Rattle.address_text.specs.declared.address.IpAddress.TheVariants.{V4, V6}
 
 -- how many bits an address has
 abbrev pub width_of : IpAddress → ℕ

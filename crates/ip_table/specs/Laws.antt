@@ -1,6 +1,6 @@
 -- What the definitions of a location come to.
 use Rattle.std.specs.Prelude.{◌≡◌, ℕ, ◌≤◌, List, Option}
-use Rattle.r53_io.specs.declared.address.IpAddress.{IpAddress}
+use Rattle.address_text.specs.declared.address.IpAddress.{IpAddress}
 use Rattle.ip_table.specs.Bits.{SharesFirst}
 use Rattle.ip_table.specs.Location.{IsFound, IsScope, Locates, length_of}
 use Rattle.ip_table.specs.Prefixes.{Prefix, IsPrefix}
@@ -10,7 +10,8 @@ use Rattle.ip_table.specs.Rows.{AreRows}
 abbrev pub ScopeReaches : Type 0 → Type 0
 ScopeReaches V =
     (rows : List (Prefix × V)) (a b : IpAddress) (found : Option (Prefix × V)) (scope : ℕ)
-    → IsFound rows a found → IsScope rows a found scope → SharesFirst scope a b → IsFound rows b found
+    → IsFound rows a found → IsScope rows a found scope → SharesFirst scope a b
+    → IsFound rows b found
 
 -- No smaller length has this that is at least the row's.
 abbrev pub NoShorterReaches : Type 0 → Type 0

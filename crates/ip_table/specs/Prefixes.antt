@@ -1,6 +1,6 @@
 -- Prefixes of addresses (RFC 4632, 3.1; RFC 4291, 2.3).
 use Rattle.std.specs.Prelude.{◌≡◌, ℕ, ◌-◌, ◌%◌, ◌^◌, ◌≤◌}
-use Rattle.r53_io.specs.declared.address.IpAddress.{IpAddress}
+use Rattle.address_text.specs.declared.address.IpAddress.{IpAddress}
 use Rattle.ip_table.specs.Bits.{width_of, number_of, SharesFirst, IsAddress}
 
 -- a prefix: its first address, and how many bits of it count

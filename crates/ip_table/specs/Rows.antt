@@ -11,12 +11,19 @@ HasRow {V} rows prefix = (value : V) × Contains rows (prefix, value)
 -- what the rows of a table are
 pub record AreRows {V : Type 0} (rows : List (Prefix × V)) : Type 0 where
   pub prefixes : (row : Prefix × V) → Contains rows row → IsPrefix row.0.address row.0.length
-  pub apart : (i j : ℕ) (p q : Prefix × V) → slice_get rows i ≡ Some p → slice_get rows j ≡ Some q → p.0 ≡ q.0 → i ≡ j
+  pub apart : (i j : ℕ) (p q : Prefix × V) → slice_get rows i ≡ Some p → slice_get rows j ≡ Some q
+      → p.0 ≡ q.0 → i ≡ j
   pub few : length rows ≤ 100000
 
--- What an insert answers and leaves: the row at the end, or the value handed back and the rows as they were.
-abbrev pub Inserts : {V : Type 0} → (old : List (Prefix × V)) → Prefix → V → Result (Unit {0}) (InsertFault V) → (new : List (Prefix × V)) → Type 0
-Inserts old prefix value (Ok done) new = (¬ HasRow old prefix) × (length old < 100000) × (new ≡ old ++ (prefix, value) ∷ [])
-Inserts old prefix value (Err (Duplicate back)) new = HasRow old prefix × (back ≡ value) × (new ≡ old)
-Inserts old prefix value (Err (Full back)) new = (¬ HasRow old prefix) × (length old ≡ 100000) × (back ≡ value) × (new ≡ old)
-Inserts old prefix value (Err (OutOfMemory back)) new = (¬ HasRow old prefix) × (length old < 100000) × (back ≡ value) × (new ≡ old)
+-- What an insert answers and leaves: the row at the end, or the value handed back and the rows as
+-- they were.
+abbrev pub Inserts : {V : Type 0} → (old : List (Prefix × V)) → Prefix → V
+    → Result (Unit {0}) (InsertFault V) → (new : List (Prefix × V)) → Type 0
+Inserts old prefix value (Ok done) new =
+    (¬ HasRow old prefix) × (length old < 100000) × (new ≡ old ++ (prefix, value) ∷ [])
+Inserts old prefix value (Err (Duplicate back)) new =
+    HasRow old prefix × (back ≡ value) × (new ≡ old)
+Inserts old prefix value (Err (Full back)) new =
+    (¬ HasRow old prefix) × (length old ≡ 100000) × (back ≡ value) × (new ≡ old)
+Inserts old prefix value (Err (OutOfMemory back)) new =
+    (¬ HasRow old prefix) × (length old < 100000) × (back ≡ value) × (new ≡ old)

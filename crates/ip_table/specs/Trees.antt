@@ -1,8 +1,8 @@
--- How the rows of one family stand in a tree. All rows at a node and below it begin with the same bits, as many as the node
--- is deep, and have at least so many.
+-- How the rows of one family stand in a tree. All rows at a node and below it begin with the same
+-- bits, as many as the node is deep, and have at least so many.
 use Rattle.std.specs.Prelude.{◌≡◌, ◌≢◌, ℕ, ◌+◌, ◌-◌, ◌*◌, ◌/◌, ◌%◌, ◌^◌, ◌<◌, ◌≤◌, List, [], length, slice_index_or, slice_set, ◌∷◌, ◌++◌, Option, Some, None, zero, suc}
-use Rattle.r53_io.specs.declared.address.IpAddress.{IpAddress}
-use Rattle.r53_io.specs.declared.address.IpAddress.TheVariants.{V4}
+use Rattle.address_text.specs.declared.address.IpAddress.{IpAddress}
+use Rattle.address_text.specs.declared.address.IpAddress.TheVariants.{V4}
 use Rattle.ip_table.specs.declared.tree.Node.{Node}
 use Rattle.ip_table.specs.declared.tree.Seen.{Seen}
 use Rattle.ip_table.specs.Bits.{width_of, number_of, first_bits, SharesFirst}
@@ -14,7 +14,15 @@ prefix_at prefixes row = slice_index_or prefixes row (record { address = V4 []; 
 
 -- a node for no row yet, of this depth, whose window begins behind so many bits
 abbrev pub bare : (start depth : ℕ) → Node
-bare start depth = record { row = 0; window = 0; start = start; long = 0; depth = depth; zero = 0; one = 0 }
+bare start depth = record {
+  row = 0;
+  window = 0;
+  start = start;
+  long = 0;
+  depth = depth;
+  zero = 0;
+  one = 0;
+}
 
 abbrev pub node_at : List Node → ℕ → Node
 node_at nodes at = slice_index_or nodes at (bare 0 0)
@@ -51,16 +59,18 @@ window start address = number_of address / 2 ^ (96 - start) % 2 ^ 32
 -- The address has the bits that stand before the window of a node.
 abbrev pub Meets : List Prefix → List Node → IpAddress → (at : ℕ) → Type 0
 Meets prefixes nodes address at =
-    first_bits (node_at nodes at).start (here prefixes nodes at).address ≡ first_bits (node_at nodes at).start address
+    first_bits (node_at nodes at).start (here prefixes nodes at).address
+    ≡ first_bits (node_at nodes at).start address
 
 -- So many steps lead from a node to another, each by a bit.
 abbrev pub Leads : List Node → (steps above at : ℕ) → Type 0
 Leads nodes zero above at = above ≡ at
 Leads nodes (suc steps) above at =
-    (bit : ℕ) × (bit < 2) × (0 < child (node_at nodes above) bit) × Leads nodes steps (child (node_at nodes above) bit) at
+    (bit : ℕ) × (bit < 2) × (0 < child (node_at nodes above) bit)
+    × Leads nodes steps (child (node_at nodes above) bit) at
 
--- What a node leads to by a bit is deeper, as deep as the node tells, begins with the node's bits and then that bit, and has
--- its window behind bits of the node.
+-- What a node leads to by a bit is deeper, as deep as the node tells, begins with the node's bits
+-- and then that bit, and has its window behind bits of the node.
 pub record IsChild (prefixes : List Prefix) (nodes : List Node) (above bit at : ℕ) : Type 0 where
   pub within : at < length nodes
   pub deeper : (node_at nodes above).depth < (node_at nodes at).depth
@@ -75,15 +85,18 @@ pub record IsNode (prefixes : List Prefix) (nodes : List Node) (width at : ℕ) 
   pub depth : (node_at nodes at).depth ≤ (here prefixes nodes at).length
   pub long : (node_at nodes at).long ≡ (here prefixes nodes at).length
   pub low : (node_at nodes at).start ≤ 96
-  pub behind : (node_at nodes at).window ≡ window (node_at nodes at).start (here prefixes nodes at).address
-  pub children : (bit : ℕ) → bit < 2 → 0 < child (node_at nodes at) bit → IsChild prefixes nodes at bit (child (node_at nodes at) bit)
+  pub behind : (node_at nodes at).window
+      ≡ window (node_at nodes at).start (here prefixes nodes at).address
+  pub children : (bit : ℕ) → bit < 2 → 0 < child (node_at nodes at) bit
+      → IsChild prefixes nodes at bit (child (node_at nodes at) bit)
 
 -- A tree of rows of one family, none of them twice, from a root of depth 0.
 pub record IsTree (prefixes : List Prefix) (nodes : List Node) (width : ℕ) : Type 0 where
   pub root : (node_at nodes 0).depth ≡ 0
   pub begin : (node_at nodes 0).start ≡ 0
   pub each : (at : ℕ) → at < length nodes → IsNode prefixes nodes width at
-  pub apart : (i j : ℕ) → i < length nodes → j < length nodes → (node_at nodes i).row ≡ (node_at nodes j).row → i ≡ j
+  pub apart : (i j : ℕ) → i < length nodes → j < length nodes
+      → (node_at nodes i).row ≡ (node_at nodes j).row → i ≡ j
 
 -- A row stands at a node or below it.
 pub record Stands (nodes : List Node) (above row : ℕ) : Type 0 where
@@ -96,28 +109,37 @@ pub record Stands (nodes : List Node) (above row : ℕ) : Type 0 where
 -- Each row of the family but one stands in the tree.
 abbrev pub AllStand : List Prefix → List Node → (width but : ℕ) → Type 0
 AllStand prefixes nodes width but =
-    (row : ℕ) → row < length prefixes → width_of (prefix_at prefixes row).address ≡ width → row ≢ but → Stands nodes 0 row
+    (row : ℕ) → row < length prefixes → width_of (prefix_at prefixes row).address ≡ width
+    → row ≢ but → Stands nodes 0 row
 
 -- Each row is a prefix.
 abbrev pub AllPrefixes : List Prefix → Type 0
-AllPrefixes prefixes = (row : ℕ) → row < length prefixes → IsPrefix (prefix_at prefixes row).address (prefix_at prefixes row).length
+AllPrefixes prefixes = (row : ℕ) → row < length prefixes
+    → IsPrefix (prefix_at prefixes row).address (prefix_at prefixes row).length
 
 -- a row of at least this length was found
 abbrev pub HasLength : List Prefix → Option ℕ → ℕ → Type 0
 HasLength prefixes None length = ⊥
 HasLength prefixes (Some found) length = length ≤ (prefix_at prefixes found).length
 
--- What was found contains the address, and each number of bits below `past` is shared by a row that doesn't.
+-- What was found contains the address, and each number of bits below `past` is shared by a row that
+-- doesn't.
 pub record IsSound (prefixes : List Prefix) (address : IpAddress) (seen : Seen) : Type 0 where
   pub found : (row : ℕ) → seen.found ≡ Some row
-      → (row < length prefixes) × Covers (prefix_at prefixes row) address × (seen.long ≡ (prefix_at prefixes row).length)
+      → (row < length prefixes) × Covers (prefix_at prefixes row) address
+      × (seen.long ≡ (prefix_at prefixes row).length)
   pub below : (n : ℕ) → n < seen.past
-      → (row : ℕ) × (row < length prefixes) × (¬ Covers (prefix_at prefixes row) address) × SharesFirst n (prefix_at prefixes row).address address
+      → (row : ℕ) × (row < length prefixes) × (¬ Covers (prefix_at prefixes row) address)
+      × SharesFirst n (prefix_at prefixes row).address address
 
--- A row is no longer than what was found, or doesn't contain the address and shares fewer bits than `past`.
-pub record IsDone (prefixes : List Prefix) (address : IpAddress) (seen : Seen) (row : ℕ) : Type 0 where
-  pub covers : Covers (prefix_at prefixes row) address → HasLength prefixes seen.found (prefix_at prefixes row).length
-  pub apart : ¬ Covers (prefix_at prefixes row) address → ¬ SharesFirst seen.past (prefix_at prefixes row).address address
+-- A row is no longer than what was found, or doesn't contain the address and shares fewer bits than
+-- `past`.
+pub record IsDone (prefixes : List Prefix) (address : IpAddress) (seen : Seen)
+    (row : ℕ) : Type 0 where
+  pub covers : Covers (prefix_at prefixes row) address
+      → HasLength prefixes seen.found (prefix_at prefixes row).length
+  pub apart : ¬ Covers (prefix_at prefixes row) address
+      → ¬ SharesFirst seen.past (prefix_at prefixes row).address address
 
 -- What was seen sums up all rows.
 pub record SumsUp (prefixes : List Prefix) (address : IpAddress) (seen : Seen) : Type 0 where
@@ -125,16 +147,19 @@ pub record SumsUp (prefixes : List Prefix) (address : IpAddress) (seen : Seen) :
   pub each : (row : ℕ) → row < length prefixes → IsDone prefixes address seen row
 
 -- A walk goes on from a node to one that is deeper.
-pub record Goes (prefixes : List Prefix) (nodes : List Node) (address : IpAddress) (above at : ℕ) : Type 0 where
+pub record Goes (prefixes : List Prefix) (nodes : List Node) (address : IpAddress)
+    (above at : ℕ) : Type 0 where
   pub within : at < length nodes
   pub deeper : (node_at nodes above).depth < (node_at nodes at).depth
   pub meets : Meets prefixes nodes address at
 
 -- No two rows have one prefix.
 abbrev pub AreApart : List Prefix → Type 0
-AreApart prefixes = (i j : ℕ) → i < length prefixes → j < length prefixes → prefix_at prefixes i ≡ prefix_at prefixes j → i ≡ j
+AreApart prefixes = (i j : ℕ) → i < length prefixes → j < length prefixes
+    → prefix_at prefixes i ≡ prefix_at prefixes j → i ≡ j
 
--- A row that begins with the bits of a node is carried to it. All others of the family stand in the tree.
+-- A row that begins with the bits of a node is carried to it. All others of the family stand in the
+-- tree.
 pub record IsCarried (prefixes : List Prefix) (nodes : List Node) (width at row : ℕ) : Type 0 where
   pub tree : IsTree prefixes nodes width
   pub within : row < length prefixes
@@ -167,7 +192,8 @@ linked node (suc bit) word = record node { one = word }
 
 -- the tree with one more node, below a node
 abbrev pub grown : List Node → (above bit : ℕ) → Node → List Node
-grown nodes above bit node = slice_set nodes above (linked (node_at nodes above) bit (told_of (length nodes) node.depth)) ++ node ∷ []
+grown nodes above bit node = slice_set nodes above
+    (linked (node_at nodes above) bit (told_of (length nodes) node.depth)) ++ node ∷ []
 
 -- Some row has this prefix.
 abbrev pub HasPrefix : List Prefix → Prefix → Type 0

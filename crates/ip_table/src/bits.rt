@@ -1,9 +1,11 @@
+//! The bits of an address as a number, and windows of them.
+
 ghost use Rattle.std.specs.Prelude.{◌≡◌, ◌+◌, ◌-◌, ◌^◌, ◌/◌, ◌≤◌, ◌↔◌, ℕ, cond};
-ghost use Rattle.r53_io.specs.declared.address.IpAddress.{IpAddress};
+ghost use Rattle.address_text.specs.declared.address.IpAddress.{IpAddress};
 ghost use Rattle.ip_table.specs.Bits.{width_of, number_of, first_bits};
 ghost use Rattle.ip_table.specs.Trees.{bit_behind, window};
 
-use r53_io::IpAddress;
+use address_text::IpAddress;
 
 /// The highest of 128 bits.
 const TOP: u128 = 1 << 127;
@@ -68,7 +70,8 @@ pub(crate) fn window_of(depth: u8, number: u128) -> u32
     (number >> (96 - depth) & 0xffff_ffff) as u32
 }
 
-/// How many first bits two addresses have in common that differ in the 32 bits behind the first ones.
+/// How many first bits two addresses have in common that differ in the 32 bits behind the first
+/// ones.
 pub(crate) fn shared_before(depth: u8, a: u32, b: u32) -> u8
     requires { depth ≤ 96 }
     ensures { (m : ℕ) → m ≤ 32 → (depth + m ≤ result ↔ (a / 2 ^ (32 - m) ≡ b / 2 ^ (32 - m))) }

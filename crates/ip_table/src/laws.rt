@@ -1,3 +1,5 @@
+//! Laws over the definitions, each the contract of a function that does nothing.
+
 ghost use Rattle.ip_table.specs.Laws.{ScopeReaches, NoShorterReaches, OneLocation, OnePrefix};
 
 /// Any two addresses that share the first bits of the one's scope find the same row, or both none.

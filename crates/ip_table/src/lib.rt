@@ -1,6 +1,8 @@
-//! Rows by prefixes of addresses: the longest one that contains an address, and how far the answer reaches.
+//! Rows by prefixes of addresses: the longest one that contains an address, and how far the answer
+//! reaches.
 //!
-//! The scope may be longer than the row that was found: it ends where no longer row can be met any more.
+//! The scope may be longer than the row that was found: it ends where no longer row can be met any
+//! more.
 #![tactic(auto)]
 
 mod bits;

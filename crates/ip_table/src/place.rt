@@ -1,3 +1,5 @@
+//! Where a row is placed in the tree, and what it moves.
+
 ghost use Rattle.std.specs.Prelude.{◌≡◌, ◌≢◌, ℕ, ◌+◌, ◌^◌, ◌<◌, ◌≤◌, length, ◌↔◌, [], ◌∷◌, ◌++◌, slice_set, vec_len, vec_capacity};
 ghost use Rattle.ip_table.specs.Bits.{width_of, first_bits};
 ghost use Rattle.ip_table.specs.Prefixes.{IsPrefix};
@@ -66,7 +68,8 @@ fn between(prefixes: &[IpPrefix], start: u8, depth: u8, row: u32, next: u32, bel
     requires below { below.row < length prefixes.now }
     requires low { start ≤ 96 }
     requires next { next < 2 ^ 24 }
-    ensures { result ≡ linked (leaf prefixes.now start depth row) (bit_behind depth (prefix_at prefixes.now below.row).address)
+    ensures { result ≡ linked (leaf prefixes.now start depth row)
+        (bit_behind depth (prefix_at prefixes.now below.row).address)
         (told_of next below.depth) }
 {
     let bit = bit_of(depth, number_of(prefix_of(prefixes, below.row).address()));
@@ -79,7 +82,8 @@ fn put_row(prefixes: &[IpPrefix], nodes: &mut Vec<Node>, at: u32, row: u32) -> u
     requires row { row < length prefixes.now }
     requires low { (node_at nodes.old.items at).start ≤ 96 }
     ensures taken { result ≡ (node_at nodes.old.items at).row }
-    ensures items { nodes.new.items ≡ slice_set nodes.old.items at (taken_by (node_at nodes.old.items at) prefixes.now row) }
+    ensures items { nodes.new.items ≡ slice_set nodes.old.items at
+        (taken_by (node_at nodes.old.items at) prefixes.now row) }
     ensures len { vec_len nodes.new ≡ vec_len nodes.old }
     ensures capacity { vec_capacity nodes.new ≡ vec_capacity nodes.old }
 {
@@ -101,12 +105,15 @@ fn add_node(nodes: &mut Vec<Node>, above: u32, bit: u8, node: Node)
     nodes.push_reserved(node);
 }
 
-/// Puts the row that is carried at this node, where it can go no deeper, and answers which row goes on.
+/// Puts the row that is carried at this node, where it can go no deeper, and answers which row goes
+/// on.
 fn settle(prefixes: &[IpPrefix], nodes: &mut Vec<Node>, at: u32, carried: u32) -> u32
     requires prefixes { AllPrefixes prefixes.now }
     requires apart { AreApart prefixes.now }
-    requires carried { IsCarried prefixes.now nodes.old.items (width_of (prefix_at prefixes.now carried).address) at carried }
-    ensures carried { IsCarried prefixes.now nodes.new.items (width_of (prefix_at prefixes.now carried).address) at result }
+    requires carried { IsCarried prefixes.now nodes.old.items
+        (width_of (prefix_at prefixes.now carried).address) at carried }
+    ensures carried { IsCarried prefixes.now nodes.new.items
+        (width_of (prefix_at prefixes.now carried).address) at result }
     ensures deeper { (node_at nodes.new.items at).depth < (prefix_at prefixes.now result).length }
     ensures depth { (node_at nodes.new.items at).depth ≡ (node_at nodes.old.items at).depth }
     ensures length { length nodes.new.items ≡ length nodes.old.items }
@@ -130,19 +137,25 @@ fn shared_with(prefixes: &[IpPrefix], row: u32, other: u32) -> u8
     shared_bits(prefix_of(prefixes, row).address(), prefix.address()).min(prefix.length())
 }
 
-/// Puts the row that is carried below a node, and answers 0; or answers the node below to which it is carried on.
+/// Puts the row that is carried below a node, and answers 0; or answers the node below to which it
+/// is carried on.
 ///
 /// Where it hasn't all bits of the rows there, it gets a node between.
 fn carry(prefixes: &[IpPrefix], nodes: &mut Vec<Node>, above: u32, carried: u32) -> u32
     requires prefixes { AllPrefixes prefixes.now }
-    requires carried { IsCarried prefixes.now nodes.old.items (width_of (prefix_at prefixes.now carried).address) above carried }
-    requires deeper { (node_at nodes.old.items above).depth < (prefix_at prefixes.now carried).length }
+    requires carried { IsCarried prefixes.now nodes.old.items
+        (width_of (prefix_at prefixes.now carried).address) above carried }
+    requires deeper { (node_at nodes.old.items above).depth
+        < (prefix_at prefixes.now carried).length }
     requires few { length nodes.old.items < 2 ^ 24 }
     requires room { vec_len nodes.old < vec_capacity nodes.old }
-    ensures added { result ≡ 0 → IsGrown prefixes.now nodes.new.items (width_of (prefix_at prefixes.now carried).address) (length nodes.old.items) }
+    ensures added { result ≡ 0 → IsGrown prefixes.now nodes.new.items
+        (width_of (prefix_at prefixes.now carried).address) (length nodes.old.items) }
     ensures stays { 0 < result → nodes.new.items ≡ nodes.old.items }
-    ensures on { 0 < result → IsCarried prefixes.now nodes.old.items (width_of (prefix_at prefixes.now carried).address) result carried }
-    ensures further { 0 < result → (node_at nodes.old.items above).depth < (node_at nodes.old.items result).depth }
+    ensures on { 0 < result → IsCarried prefixes.now nodes.old.items
+        (width_of (prefix_at prefixes.now carried).address) result carried }
+    ensures further { 0 < result → (node_at nodes.old.items above).depth
+        < (node_at nodes.old.items result).depth }
     ensures len { 0 < result → vec_len nodes.new ≡ vec_len nodes.old }
     ensures capacity { vec_capacity nodes.new ≡ vec_capacity nodes.old }
 {
@@ -176,18 +189,22 @@ fn carry(prefixes: &[IpPrefix], nodes: &mut Vec<Node>, above: u32, carried: u32)
 
 /// Puts a row of the family into the tree.
 ///
-/// A row stands no deeper than it is long: there it takes the place of a longer one, which goes on further down.
+/// A row stands no deeper than it is long: there it takes the place of a longer one, which goes on
+/// further down.
 fn place(prefixes: &[IpPrefix], nodes: &mut Vec<Node>, row: u32)
     requires prefixes { AllPrefixes prefixes.now }
     requires apart { AreApart prefixes.now }
     requires row { row < length prefixes.now }
     requires some { 0 < length nodes.old.items }
-    requires tree { IsTree prefixes.now nodes.old.items (width_of (prefix_at prefixes.now row).address) }
+    requires tree { IsTree prefixes.now nodes.old.items
+        (width_of (prefix_at prefixes.now row).address) }
     requires fresh { (i : ℕ) → i < length nodes.old.items → (node_at nodes.old.items i).row ≢ row }
-    requires others { AllStand prefixes.now nodes.old.items (width_of (prefix_at prefixes.now row).address) row }
+    requires others { AllStand prefixes.now nodes.old.items
+        (width_of (prefix_at prefixes.now row).address) row }
     requires few { length nodes.old.items < 2 ^ 24 }
     requires room { vec_len nodes.old < vec_capacity nodes.old }
-    ensures grown { IsGrown prefixes.now nodes.new.items (width_of (prefix_at prefixes.now row).address) (length nodes.old.items) }
+    ensures grown { IsGrown prefixes.now nodes.new.items
+        (width_of (prefix_at prefixes.now row).address) (length nodes.old.items) }
     ensures capacity { vec_capacity nodes.new ≡ vec_capacity nodes.old }
 {
     let mut carried = row;
@@ -207,7 +224,8 @@ pub(crate) fn add_row(prefixes: &mut Vec<IpPrefix>, nodes: &mut Vec<Node>, prefi
     requires prefixes { AllPrefixes prefixes.old.items }
     requires apart { AreApart prefixes.old.items }
     requires tree { IsTree prefixes.old.items nodes.old.items (width_of prefix.address) }
-    requires all { AllStand prefixes.old.items nodes.old.items (width_of prefix.address) (length prefixes.old.items) }
+    requires all { AllStand prefixes.old.items nodes.old.items (width_of prefix.address)
+        (length prefixes.old.items) }
     requires prefix { IsPrefix prefix.address prefix.length }
     requires absent { ¬ HasPrefix prefixes.old.items prefix }
     requires few { length prefixes.old.items + 1 < 2 ^ 24 }
@@ -215,7 +233,8 @@ pub(crate) fn add_row(prefixes: &mut Vec<IpPrefix>, nodes: &mut Vec<Node>, prefi
     requires room { vec_len prefixes.old < vec_capacity prefixes.old }
     requires node_room { vec_len nodes.old < vec_capacity nodes.old }
     ensures items { prefixes.new.items ≡ prefixes.old.items ++ prefix ∷ [] }
-    ensures grown { IsGrown prefixes.new.items nodes.new.items (width_of prefix.address) (length nodes.old.items) }
+    ensures grown { IsGrown prefixes.new.items nodes.new.items (width_of prefix.address)
+        (length nodes.old.items) }
 {
     let row = prefixes.len() as u32;
     prefixes.push_reserved(prefix);

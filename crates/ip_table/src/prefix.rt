@@ -1,8 +1,10 @@
+//! Prefixes: the addresses of one family that begin with the same bits.
+
 ghost use Rattle.std.specs.Prelude.{◌≡◌, ◌%◌, ◌^◌, ◌≤◌, SomeIff, IsTrue, ◌↔◌};
 ghost use Rattle.ip_table.specs.Prefixes.{Prefix, IsPrefix};
 
 use crate::bits::{number_of, width_of};
-use r53_io::IpAddress;
+use address_text::IpAddress;
 use std::marker::Model;
 
 /// The addresses of one family that begin with the same bits.
@@ -27,7 +29,8 @@ impl Model for IpPrefix {
 impl IpPrefix {
     /// The prefix of an address with so many bits. None where it has fewer, or a later bit is set.
     pub fn new(address: IpAddress, length: u8) -> Option<IpPrefix>
-        ensures { SomeIff result (IsPrefix address length) (record { address = address; length = length }) }
+        ensures { SomeIff result (IsPrefix address length)
+            (record { address = address; length = length }) }
     {
         if !is_prefix(address, length) {
             return None;

@@ -1,3 +1,5 @@
+//! What a walk has seen of the rows, one row more.
+
 ghost use Rattle.std.specs.Prelude.{◌≡◌, ℕ, ◌<◌, ◌≤◌, length, max, Some, ◌⊎◌, ◌↔◌};
 ghost use Rattle.ip_table.specs.Bits.{width_of, first_bits};
 ghost use Rattle.ip_table.specs.Prefixes.{IsPrefix};
@@ -5,9 +7,10 @@ ghost use Rattle.ip_table.specs.Trees.{IsSound, IsDone, HasLength, prefix_at};
 
 use crate::IpPrefix;
 use crate::tree::Seen;
-use r53_io::IpAddress;
+use address_text::IpAddress;
 
-/// What has been seen with one more row of the address's family, of this length, that shares so many of its bits.
+/// What has been seen with one more row of the address's family, of this length, that shares so
+/// many of its bits.
 pub(crate) fn with_row(
     prefixes: &[IpPrefix],
     row: u32,
@@ -17,7 +20,8 @@ pub(crate) fn with_row(
     seen: Seen,
 ) -> Seen
     requires row { row < length prefixes.now }
-    requires prefix { IsPrefix (prefix_at prefixes.now row).address (prefix_at prefixes.now row).length }
+    requires prefix { IsPrefix (prefix_at prefixes.now row).address
+        (prefix_at prefixes.now row).length }
     requires long { long ≡ (prefix_at prefixes.now row).length }
     requires family { width_of (prefix_at prefixes.now row).address ≡ width_of address }
     requires shared { (n : ℕ) → n ≤ (prefix_at prefixes.now row).length
@@ -25,7 +29,8 @@ pub(crate) fn with_row(
     requires sound { IsSound prefixes.now address seen }
     ensures sound { IsSound prefixes.now address result }
     ensures done { IsDone prefixes.now address result row }
-    ensures keeps { (r : ℕ) → IsDone prefixes.now address seen r → IsDone prefixes.now address result r }
+    ensures keeps { (r : ℕ) → IsDone prefixes.now address seen r
+        → IsDone prefixes.now address result r }
 {
     if long <= shared {
         return with_found(prefixes, row, long, seen);
@@ -49,7 +54,8 @@ fn with_found(prefixes: &[IpPrefix], row: u32, long: u8, seen: Seen) -> Seen
     ensures found { (result.found ≡ Some row) × (result.long ≡ long)
         ⊎ (result.found ≡ seen.found) × (result.long ≡ seen.long) }
     ensures long { HasLength prefixes.now result.found long }
-    ensures keeps { (n : ℕ) → HasLength prefixes.now seen.found n → HasLength prefixes.now result.found n }
+    ensures keeps { (n : ℕ) → HasLength prefixes.now seen.found n
+        → HasLength prefixes.now result.found n }
 {
     if let Some(_found) = seen.found {
         if long <= seen.long {

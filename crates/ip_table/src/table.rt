@@ -1,3 +1,5 @@
+//! A table of rows by prefixes, in a tree for each family.
+
 ghost use Rattle.std.specs.Prelude.{◌≡◌, ◌<◌, [], IsTrue, ◌↔◌, vec_len, vec_capacity, length};
 ghost use Rattle.std.specs.Option.{option_copied};
 ghost use Rattle.ip_table.specs.Location.{Locates};
@@ -7,7 +9,7 @@ use crate::IpPrefix;
 use crate::place::add_row;
 use crate::tree::Node;
 use crate::walk::{is_there, sum_up};
-use r53_io::IpAddress;
+use address_text::IpAddress;
 use std::alloc::Global;
 use std::marker::Model;
 

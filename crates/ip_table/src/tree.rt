@@ -1,4 +1,5 @@
-/// A place in the tree of one family. The rows here and below begin with the same bits, as many as the node is deep.
+/// A place in the tree of one family. The rows here and below begin with the same bits, as many as
+/// the node is deep.
 #[derive(Clone, Copy)]
 pub struct Node {
     /// The row that stands here.
@@ -11,8 +12,8 @@ pub struct Node {
     pub long: u8,
     /// How many bits all rows here and below have in common.
     pub depth: u8,
-    /// The nodes below, by the next bit, each times 256 and with its depth, so that a walk needn't wait for the node to
-    /// know its next bit; 0 for none: the root is below no node.
+    /// The nodes below, by the next bit, each times 256 and with its depth, so that a walk needn't
+    /// wait for the node to know its next bit; 0 for none: the root is below no node.
     pub zero: u32,
     pub one: u32,
 }
@@ -24,6 +25,7 @@ pub struct Seen {
     pub found: Option<u32>,
     /// How many bits that row has, 0 for none.
     pub long: u8,
-    /// One more than the most first bits that the address shares with a row that doesn't contain it; 0 for none.
+    /// One more than the most first bits that the address shares with a row that doesn't contain
+    /// it; 0 for none.
     pub past: u8,
 }

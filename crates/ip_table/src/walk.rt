@@ -1,3 +1,5 @@
+//! The walk from the root along an address's bits.
+
 ghost use Rattle.std.specs.Prelude.{◌≡◌, ℕ, ◌+◌, ◌<◌, ◌≤◌, ◌⊎◌, length, IsTrue, ◌↔◌, max, None, cond};
 ghost use Rattle.ip_table.specs.Bits.{width_of, number_of, first_bits};
 ghost use Rattle.ip_table.specs.Prefixes.{IsPrefix};
@@ -7,7 +9,7 @@ use crate::IpPrefix;
 use crate::bits::{bit_of, has_bit, number_of, shared_before, shared_bits, window_of};
 use crate::seen::{prefix_of, with_past, with_row};
 use crate::tree::{Node, Seen};
-use r53_io::IpAddress;
+use address_text::IpAddress;
 
 /// What a walk has seen at one more node, and where it goes on.
 #[derive(Clone, Copy)]
@@ -40,7 +42,8 @@ fn at_node(
     ensures sound { IsSound prefixes.now address result.seen }
 
     // A row that was ahead is ahead still, or done.
-    ensures each { (row : ℕ) → row < length prefixes.now → width_of (prefix_at prefixes.now row).address ≡ width_of address
+    ensures each { (row : ℕ) → row < length prefixes.now
+        → width_of (prefix_at prefixes.now row).address ≡ width_of address
         → Stands nodes.now at row ⊎ IsDone prefixes.now address seen row
         → ((0 < result.next) × Stands nodes.now result.next row) ⊎ IsDone prefixes.now address result.seen row }
 {
@@ -70,14 +73,16 @@ fn word_of(node: Node, on: bool) -> u32
     if on { node.one } else { node.zero }
 }
 
-/// How many first bits the row at a node shares with an address that has those before its window; where it shares all of
-/// its own, not how many more.
+/// How many first bits the row at a node shares with an address that has those before its window;
+/// where it shares all of its own, not how many more.
 fn shared_at(prefixes: &[IpPrefix], node: Node, address: IpAddress, number: u128) -> u8
     requires row { node.row < length prefixes.now }
-    requires prefix { IsPrefix (prefix_at prefixes.now node.row).address (prefix_at prefixes.now node.row).length }
+    requires prefix { IsPrefix (prefix_at prefixes.now node.row).address
+        (prefix_at prefixes.now node.row).length }
     requires low { node.start ≤ 96 }
     requires long { node.long ≡ (prefix_at prefixes.now node.row).length }
-    requires meets { first_bits node.start (prefix_at prefixes.now node.row).address ≡ first_bits node.start address }
+    requires meets { first_bits node.start (prefix_at prefixes.now node.row).address
+        ≡ first_bits node.start address }
     requires window { node.window ≡ window node.start (prefix_at prefixes.now node.row).address }
     requires number { number ≡ number_of address }
     ensures { (n : ℕ) → n ≤ (prefix_at prefixes.now node.row).length

@@ -8,15 +8,17 @@ abbrev pub IsWithin : Got → ℕ → Type 0
 IsWithin (Bytes n) most = n ≤ most
 IsWithin Failed most = ⊤
 
--- A read that answers n: the first n of the bytes left lie at the front of the slice, and the rest is left.
--- It answers 0 into a slice with room only at the end.
-pub record Takes (left : List ℕ) (after : Option (List ℕ)) (n : ℕ) (room : ℕ) (into : List ℕ) : Type 0 where
+-- A read that answers n: the first n of the bytes left lie at the front of the slice, and the
+-- rest is left. It answers 0 into a slice with room only at the end.
+pub record Takes (left : List ℕ) (after : Option (List ℕ)) (n : ℕ) (room : ℕ)
+    (into : List ℕ) : Type 0 where
   pub within : n ≤ length left
   pub after_it : after ≡ Some (drop n left)
   pub bytes : take n into ≡ take n left
   pub at_end : n ≡ 0 → 0 < room → left ≡ []
 
--- What a read leaves of the source's bytes and puts into the slice. One that fails takes and gives nothing.
+-- What a read leaves of the source's bytes and puts into the slice. One that fails takes and
+-- gives nothing.
 abbrev pub ReadGives : (left : List ℕ) (after : Option (List ℕ)) → Got → (old new : List ℕ) → Type 0
 ReadGives left after (Bytes n) old new = Takes left after n (length old) new
 ReadGives left after Failed old new = (after ≡ Some left) × (new ≡ old)

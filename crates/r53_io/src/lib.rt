@@ -1,14 +1,14 @@
-//! What the server asks of the outside: a source of bytes and a sink for them, and both over memory.
+//! What the server asks of the outside: a source of bytes and a sink for them, and both over
+//! memory.
 //!
 //! Each object counts its faults. A call answers Failed only where that count rose in it.
 #![tactic(auto)]
 
-mod address;
 mod list_source;
 mod streams;
 mod vec_sink;
 
-pub use address::IpAddress;
+pub use address_text::IpAddress;
 pub use list_source::ListSource;
 pub use octets::OutOfMemory;
 pub use streams::{Got, Sink, Source};

@@ -1,3 +1,5 @@
+//! Sources and sinks of bytes.
+
 ghost use Rattle.std.specs.Prelude.{◌≡◌, ℕ, ◌<◌, ◌≤◌, List, Option, Some, length};
 ghost use Rattle.octets.specs.Counts.{Rose};
 ghost use Rattle.r53_io.specs.Streams.{IsWithin, ReadGives, WriteLeaves};

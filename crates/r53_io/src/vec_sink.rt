@@ -1,4 +1,7 @@
-ghost use Rattle.std.specs.Prelude.{◌≡◌, ℕ, ◌+◌, ◌<◌, ◌≤◌, List, [], Some, length, take, IfOk, ◌↔◌, ◌⊎◌};
+//! A sink in memory.
+
+ghost use Rattle.std.specs.Prelude.{◌≡◌, ℕ, ◌+◌, ◌<◌, ◌≤◌, List, [], Some, length, take, IfOk, ◌↔◌};
+ghost use Rattle.std.specs.Prelude.{◌⊎◌};
 ghost use Rattle.std.specs.List.{Contains};
 ghost use Rattle.octets.specs.Counts.{Rose};
 ghost use Rattle.r53_io.specs.Streams.{IsWithin, WriteLeaves, IfBytes};
@@ -9,7 +12,8 @@ use octets::{OutOfMemory, front, put_at, zeros};
 use std::alloc::Global;
 use std::marker::Model;
 
-/// A sink in memory with a fixed room, which takes each piece whole and fails at the calls that it is told.
+/// A sink in memory with a fixed room, which takes each piece whole and fails at the calls that
+/// it is told.
 #[derive(Drop)]
 pub struct VecSink {
     buffer: Vec<u8>,
@@ -73,9 +77,11 @@ impl Sink for VecSink {
             → WriteLeaves bytes (Some self.new.held) result from.now }
         ensures counts { self.old.faults ≤ self.new.faults }
         ensures failed { result ≡ Got.Failed → Rose self.old.faults self.new.faults }
-        ensures stuck { result ≡ Got.Bytes 0 → 0 < length from.now → Rose self.old.faults self.new.faults }
+        ensures stuck { result ≡ Got.Bytes 0 → 0 < length from.now
+            → Rose self.old.faults self.new.faults }
 
-        // It fails exactly at the calls that it was told and past its room, and else takes the piece whole.
+        // It fails exactly at the calls that it was told and past its room, and else takes the
+        // piece whole.
         ensures exact { result ≡ Got.Failed ↔ (Contains self.old.fail self.old.calls
             ⊎ (self.old.room < length self.old.held + length from.now)) }
         ensures whole { IfBytes result (λ n. n ≡ length from.now) }

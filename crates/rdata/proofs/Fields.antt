@@ -15,18 +15,27 @@ abbrev field_of : Option Field → Field → Field
 field_of None other = other
 field_of (Some field) other = field
 
-pub begins : (text : List ℕ) (at : ℕ) (field : Field) (fields : List Field) → next_field at (drop at text) ≡ Some field → AreTheFields text at fields → Begins text field fields
+pub begins : (text : List ℕ) (at : ℕ) (field : Field) (fields : List Field)
+    → next_field at (drop at text) ≡ Some field → AreTheFields text at fields
+    → Begins text field fields
 begins text at field [] next are = absurd cc
 begins text at field (first ∷ rest) next are =
     let same : first ≡ field = ap (λ o. field_of o field) (sym are.0 ∙ next) in
-    record { rest = rest; whole = ap (λ f. f ∷ rest) same; are = subst (λ f. AreTheFields text f.end rest) same are.1 }
+    record {
+      rest = rest;
+      whole = ap (λ f. f ∷ rest) same;
+      are =
+          subst (λ f. AreTheFields text f.end rest) same are.1;
+    }
 
-pub none_left : (text : List ℕ) (at : ℕ) (fields : List Field) → next_field at (drop at text) ≡ None → AreTheFields text at fields → fields ≡ []
+pub none_left : (text : List ℕ) (at : ℕ) (fields : List Field) → next_field at (drop at text) ≡ None
+    → AreTheFields text at fields → fields ≡ []
 none_left text at [] next are = refl
 none_left text at (first ∷ rest) next are = absurd cc
 
 -- every text has its fields
-pub the_fields : FieldsGoOn → (text : List ℕ) (n at : ℕ) → length text ≤ at + n → (fields : List Field) × AreTheFields text at fields
+pub the_fields : FieldsGoOn → (text : List ℕ) (n at : ℕ) → length text ≤ at + n
+    → (fields : List Field) × AreTheFields text at fields
 the_fields go text zero at h = ([], go_nil (drop at text) refl)
   where
     go_nil : (rest : List ℕ) → drop at text ≡ rest → next_field at (drop at text) ≡ None
@@ -34,7 +43,9 @@ the_fields go text zero at h = ([], go_nil (drop at text) refl)
     go_nil (b ∷ rest) e = absurd (omega (arith, ap length e, length-drop at text))
 the_fields go text (suc n) at h = next (the_fields go text n) (next_field at (drop at text)) refl
   where
-    next : ((later : ℕ) → length text ≤ later + n → (fields : List Field) × AreTheFields text later fields) → (o : Option Field) → next_field at (drop at text) ≡ o → (fields : List Field) × AreTheFields text at fields
+    next : ((later : ℕ) → length text ≤ later + n
+        → (fields : List Field) × AreTheFields text later fields) → (o : Option Field)
+        → next_field at (drop at text) ≡ o → (fields : List Field) × AreTheFields text at fields
     next more None e = ([], e)
     next more (Some field) e =
         let g = go at (drop at text) field e in

@@ -1,9 +1,11 @@
 pub mod Fields
 pub mod Fronts
+pub mod Functions
 pub mod Layouts
 pub mod Placing
 pub mod Progress
+pub mod Vectors
 pub mod Whole
+pub mod Octets
 pub mod One
 pub mod Backs
-pub mod Addresses

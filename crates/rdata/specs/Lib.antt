@@ -4,7 +4,10 @@ pub mod Laws
 pub mod Reading
 pub mod Steps
 pub mod TextFields
+pub mod ValueOfText
 pub mod Written
+pub use Rattle.field_text.specs.AddressOfText
+pub use Rattle.field_text.specs.OctetsOfText
 pub use Rattle.rdata_layout.specs.Fields
 pub use Rattle.rdata_layout.specs.Layout
 pub use Rattle.rdata_layout.specs.Types

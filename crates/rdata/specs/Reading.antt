@@ -1,4 +1,5 @@
--- What a text gives as a value of a type: its octets, or the first fault from the left (FORMATS, Texts of values).
+-- What a text gives as a value of a type: its octets, or the first fault from the left (FORMATS,
+-- Texts of values).
 use Rattle.std.specs.Prelude.{◌≡◌, ℕ, ◌<◌, ◌≤◌, ◌⊎◌, List, [], ◌∷◌, ◌++◌, length, Option, Some, None, Result, Ok, Err}
 use Rattle.value_text.specs.declared.fields.Field.{Field}
 use Rattle.value_text.specs.Strings.{string_of_text}
@@ -23,32 +24,38 @@ at_the_end [] = Ok []
 at_the_end (field ∷ fields) = Err (SurplusField field.start)
 
 -- a string's field, in front of what the rest gives
-abbrev pub string_first : Field → Option (List ℕ) → (List ℕ → List ℕ) → Result (List ℕ) ValueFault → Result (List ℕ) ValueFault
+abbrev pub string_first : Field → Option (List ℕ) → (List ℕ → List ℕ) → Result (List ℕ) ValueFault
+    → Result (List ℕ) ValueFault
 string_first field None octets rest = Err (BadField field.start)
 string_first field (Some string) octets rest = in_front (octets string) rest
 
 -- each field a string
 abbrev pub strings_of : (text : List ℕ) → List Field → Result (List ℕ) ValueFault
 strings_of text [] = Ok []
-strings_of text (field ∷ fields) = string_first field (string_of_text (bytes_of text field)) string_octets (strings_of text fields)
+strings_of text (field ∷ fields) =
+    string_first field (string_of_text (bytes_of text field)) string_octets (strings_of text fields)
 
--- What the fields behind the first ones give: none for most types; one string or more, each with its octet of length; one
--- string, whose bytes stand there alone.
+-- What the fields behind the first ones give: none for most types; one string or more, each with
+-- its octet of length; one string, whose bytes stand there alone.
 abbrev pub tail_gives : (text : List ℕ) → Tail → List Field → Result (List ℕ) ValueFault
 tail_gives text tail.Nothing fields = at_the_end fields
 tail_gives text tail.Strings [] = Err (MissingField (length text))
 tail_gives text tail.Strings (field ∷ fields) = strings_of text (field ∷ fields)
 tail_gives text tail.Value [] = Err (MissingField (length text))
-tail_gives text tail.Value (field ∷ fields) = string_first field (string_of_text (bytes_of text field)) (λ string. string) (at_the_end fields)
+tail_gives text tail.Value (field ∷ fields) =
+    string_first field (string_of_text (bytes_of text field)) (λ string. string) (at_the_end fields)
 
--- What fields give that are of these kinds, one after another, and then the tail. Where a text has a field less, the fault
--- stands at its end.
-abbrev pub ReadsFields : (text : List ℕ) → List kind.Field → Tail → List Field → Result (List ℕ) ValueFault → Type 0
+-- What fields give that are of these kinds, one after another, and then the tail. Where a text has
+-- a field less, the fault stands at its end.
+abbrev pub ReadsFields : (text : List ℕ) → List kind.Field → Tail → List Field
+    → Result (List ℕ) ValueFault → Type 0
 ReadsFields text [] end fields read = read ≡ tail_gives text end fields
 ReadsFields text (first ∷ kinds) end [] read = read ≡ Err (MissingField (length text))
 ReadsFields text (first ∷ kinds) end (field ∷ fields) read =
-    (((octets : List ℕ) → Spells first (bytes_of text field) octets → ⊥) × (read ≡ Err (BadField field.start)))
-    ⊎ ((octets : List ℕ) × (rest : Result (List ℕ) ValueFault) × Spells first (bytes_of text field) octets
+    (((octets : List ℕ) → Spells first (bytes_of text field) octets → ⊥)
+    × (read ≡ Err (BadField field.start)))
+    ⊎ ((octets : List ℕ) × (rest : Result (List ℕ) ValueFault)
+    × Spells first (bytes_of text field) octets
     × ReadsFields text kinds end fields rest × (read ≡ in_front octets rest))
 
 -- the most bytes of a text (own)

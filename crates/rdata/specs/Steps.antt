@@ -17,32 +17,41 @@ FailsWith Reads (SurplusField at) = Reads (Err (SurplusField at))
 FailsWith Reads TooLong = Reads (Err TooLong)
 FailsWith Reads OutOfMemory = ⊤
 
--- Of all fields these are left, and what they give as these kinds and the tail stands behind the octets so far.
-pub record Left (text : List ℕ) (kinds rest : List Field) (end : Tail) (all : List text_field.Field) (at : ℕ) (octets : List ℕ) : Type 0 where
+-- Of all fields these are left, and what they give as these kinds and the tail stands behind the
+-- octets so far.
+pub record Left (text : List ℕ) (kinds rest : List Field) (end : Tail) (all : List text_field.Field)
+    (at : ℕ) (octets : List ℕ) : Type 0 where
   pub left : List text_field.Field
   pub fields : AreTheFields text at left
-  pub goes : (read : Result (List ℕ) ValueFault) → ReadsFields text rest end left read → ReadsFields text kinds end all (in_front octets read)
+  pub goes : (read : Result (List ℕ) ValueFault) → ReadsFields text rest end left read
+      → ReadsFields text kinds end all (in_front octets read)
 
 -- A text is read up to a place, and fields of these kinds are still to come.
-abbrev pub Passes : (text : List ℕ) → (kinds rest : List Field) → (at : ℕ) → (octets : List ℕ) → Type 0
+abbrev pub Passes : (text : List ℕ) → (kinds rest : List Field) → (at : ℕ) → (octets : List ℕ)
+    → Type 0
 Passes text kinds rest at octets =
-    (end : Tail) (all : List text_field.Field) → AreTheFields text 0 all → Left text kinds rest end all at octets
+    (end : Tail) (all : List text_field.Field) → AreTheFields text 0 all
+    → Left text kinds rest end all at octets
 
 -- what the fields of a text give as these kinds, whatever stands behind them
 abbrev pub ReadsAll : (text : List ℕ) → List Field → Result (List ℕ) ValueFault → Type 0
 ReadsAll text kinds read =
-    (end : Tail) (all : List text_field.Field) → AreTheFields text 0 all → ReadsFields text kinds end all read
+    (end : Tail) (all : List text_field.Field) → AreTheFields text 0 all
+    → ReadsFields text kinds end all read
 
 -- what the fields from a place on give as a tail
 abbrev pub ReadsTail : (text : List ℕ) → (at : ℕ) → Tail → Result (List ℕ) ValueFault → Type 0
-ReadsTail text at end read = (left : List text_field.Field) → AreTheFields text at left → tail_gives text end left ≡ read
+ReadsTail text at end read = (left : List text_field.Field) → AreTheFields text at left
+    → tail_gives text end left ≡ read
 
 -- what they give as strings
 abbrev pub ReadsStrings : (text : List ℕ) → (at : ℕ) → Result (List ℕ) ValueFault → Type 0
-ReadsStrings text at read = (left : List text_field.Field) → AreTheFields text at left → strings_of text left ≡ read
+ReadsStrings text at read = (left : List text_field.Field) → AreTheFields text at left
+    → strings_of text left ≡ read
 
 -- Of these fields some are left, and what they give as strings stands behind the octets so far.
-pub record StringsLeft (text : List ℕ) (fields : List text_field.Field) (at : ℕ) (octets : List ℕ) : Type 0 where
+pub record StringsLeft (text : List ℕ) (fields : List text_field.Field) (at : ℕ)
+    (octets : List ℕ) : Type 0 where
   pub left : List text_field.Field
   pub are : AreTheFields text at left
   pub goes : strings_of text fields ≡ in_front octets (strings_of text left)
@@ -53,7 +62,8 @@ pub record PassesStrings (text : List ℕ) (from at : ℕ) (before after : List 
   pub appended : after ≡ before ++ octets
   pub size : from + length octets ≤ at
   pub within : at ≤ length text
-  pub left : (fields : List text_field.Field) → AreTheFields text from fields → StringsLeft text fields at octets
+  pub left : (fields : List text_field.Field) → AreTheFields text from fields
+      → StringsLeft text fields at octets
 
 -- the most octets of a tail
 abbrev pub tail_most : (text : List ℕ) → Tail → ℕ

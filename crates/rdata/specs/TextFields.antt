@@ -10,4 +10,5 @@ bytes_of text field = take (field.end - field.start) (drop field.start text)
 -- These are the fields that a text has from a place on, all of them.
 abbrev pub AreTheFields : (text : List ℕ) (at : ℕ) → List Field → Type 0
 AreTheFields text at [] = next_field at (drop at text) ≡ None
-AreTheFields text at (field ∷ fields) = (next_field at (drop at text) ≡ Some field) × AreTheFields text field.end fields
+AreTheFields text at (field ∷ fields) =
+    (next_field at (drop at text) ≡ Some field) × AreTheFields text field.end fields

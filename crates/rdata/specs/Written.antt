@@ -9,7 +9,8 @@ use Rattle.rdata_layout.specs.Fields.{field_size}
 use Rattle.rdata_layout.specs.Layout.{fields_of, tail_of}
 use Rattle.field_text.specs.Written.{text_of_field}
 
--- The strings of octets, where `need` octets of the first are still to come: that string, and those behind it.
+-- The strings of octets, where `need` octets of the first are still to come: that string, and those
+-- behind it.
 abbrev pub cut_strings : (need : ℕ) → List ℕ → List ℕ × List (List ℕ)
 cut_strings need [] = ([], [])
 cut_strings zero (n ∷ octets) = let r = cut_strings n octets in ([], r.0 ∷ r.1)
@@ -27,7 +28,8 @@ tail_texts tail.Value octets = string_text octets ∷ []
 abbrev pub field_texts : List Field → Tail → List ℕ → List (List ℕ)
 field_texts [] end octets = tail_texts end octets
 field_texts (first ∷ fields) end octets =
-    text_of_field first (take (field_size first octets) octets) ∷ field_texts fields end (drop (field_size first octets) octets)
+    text_of_field first (take (field_size first octets) octets)
+    ∷ field_texts fields end (drop (field_size first octets) octets)
 
 -- a text that another stands behind: with a space at its end, where it isn't empty
 abbrev pub separated : List ℕ → List ℕ

@@ -1,3 +1,5 @@
+//! What may be wrong with the text or the octets of a value.
+
 use std::alloc::{AllocError, AllocFailed};
 use thiserror::Error;
 

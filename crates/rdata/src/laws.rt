@@ -1,26 +1,32 @@
 //! Laws over the definitions, each the contract of a function that does nothing.
 
-ghost use Rattle.rdata.specs.Laws.{AddressesAreValues, OneReading, WireReadsBack, WrittenTextReadsBack};
+ghost use Rattle.rdata.specs.Laws.{OneReading, TextsReadAsValues, ValueOfText, WireReadsBack, WrittenTextReadsBack};
 
-use field_text::{one_reading as one_field, written_field_is_one_field, written_field_reads_back};
-use value_text::{
-    fields_go_on, no_field_in_blanks, string_is_one_field, written_string_reads_back,
+use field_text::{
+    octets_of_text, one_reading as one_field, written_field_is_one_field, written_field_reads_back,
 };
-
-/// A text without a blank gives an address exactly where it spells it.
-pub fn addresses_are_values()
-    ensures { AddressesAreValues }
-{
-    fields_go_on();
-    no_field_in_blanks();
-    written_text_reads_back();
-}
+use value_text::{string_is_one_field, written_string_reads_back};
 
 /// A text gives one value, or one fault.
 pub fn one_reading()
     ensures { OneReading }
 {
     one_field();
+}
+
+/// The function `value_of_text` gives what a text gives.
+pub fn value_of_text()
+    ensures { ValueOfText }
+{
+    octets_of_text();
+    one_field();
+}
+
+/// Reading a text answers what `value_of_text` gives, or want of memory.
+pub fn texts_read_as_values()
+    ensures { TextsReadAsValues }
+{
+    value_of_text();
 }
 
 /// The written text of a value, where it isn't too long to be read, gives that value.

@@ -1,6 +1,7 @@
 //! Values of records: read from texts and octets, and written as both (RFC 1035, 3.3 and 5.1).
 //!
-//! A value is kept as its octets, with names uncompressed and in lower case: values are equal where these are.
+//! A value is kept as its octets, with names uncompressed and in lower case: values are equal where
+//! these are.
 #![tactic(auto)]
 
 mod faults;
@@ -10,7 +11,10 @@ mod value;
 mod writing;
 
 pub use faults::{ValueFault, WireFault};
-pub use laws::{addresses_are_values, one_reading, wire_reads_back, written_text_reads_back};
+pub use laws::{
+    one_reading, texts_read_as_values, value_of_text, wire_reads_back, written_text_reads_back,
+};
 pub use octets::OutOfMemory;
 pub use rdata_layout::RType;
 pub use value::RData;
+pub use writing::write_text;

@@ -13,7 +13,8 @@ use octets::{behind, front};
 use rdata_layout::{Field, Tail};
 use value_text::{next_field, read_string};
 
-/// Reads fields of these kinds from the front of the text, and says where the last one ends. Their octets are appended.
+/// Reads fields of these kinds from the front of the text, and says where the last one ends. Their
+/// octets are appended.
 pub(crate) fn read_fields(
     kinds: &[Field],
     text: &[u8],
@@ -79,7 +80,8 @@ fn read_end(text: &[u8], at: usize) -> Result<(), ValueFault>
 /// Reads strings, and appends each behind its length.
 fn read_strings(text: &[u8], at: usize, into: &mut Vec<u8>) -> Result<(), ValueFault>
     requires { at ≤ length text.now }
-    ensures ok { OnOk result ((octets : List ℕ) × (into.new.items ≡ into.old.items ++ octets) × ReadsStrings text.now at (Ok octets) × (length octets ≤ length text.now)) }
+    ensures ok { OnOk result ((octets : List ℕ) × (into.new.items ≡ into.old.items ++ octets)
+        × ReadsStrings text.now at (Ok octets) × (length octets ≤ length text.now)) }
     ensures err { IfErr result (FailsWith (ReadsStrings text.now at)) }
 {
     let mut place = at;

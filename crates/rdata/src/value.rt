@@ -1,21 +1,25 @@
+//! A value: its type and its octets, made of a text or of octets.
+
 ghost use Rattle.std.specs.Prelude.{◌≡◌, ◌≤◌, ◌++◌, ◌↔◌, [], length, take, drop, IsTrue, Ok, OnOk, OnErr, IfOk, IfErr};
 ghost use Rattle.rdata.specs.Reading.{IsRead, most_text};
 ghost use Rattle.rdata.specs.Steps.{FailsWith};
 ghost use Rattle.rdata.specs.Written.{text_of};
 ghost use Rattle.rdata.specs.Gives.{ReadsWire, ReadsText};
 ghost use Rattle.rdata_layout.specs.Layout.{IsLayout};
+ghost use Rattle.dns_name.specs.Names.{AreOctets};
 
 use crate::faults::{ValueFault, WireFault};
 use crate::reading::{read_fields, read_tail};
-use crate::writing::write_fields;
+use crate::writing::write_text;
 use field_text::spelled_is_field;
-use octets::OutOfMemory;
+use octets::{OutOfMemory, append};
 use rdata_layout::{RType, fields_of, is_layout, tail_of};
 use std::alloc::Global;
 use std::marker::Model;
 use value_text::fields_go_on;
 
-/// A value of a record: its type, and its octets on the wire with names uncompressed and in lower case.
+/// A value of a record: its type, and its octets on the wire with names uncompressed and in lower
+/// case.
 #[derive(Debug, Drop)]
 pub struct RData {
     rtype: RType,
@@ -76,7 +80,9 @@ impl RData {
     pub fn wire(&self) -> &[u8]
         ensures octets { result.now ≡ self.now.wire }
         ensures layout { IsLayout self.now.rtype self.now.wire }
+        ensures bytes { AreOctets self.now.wire }
     {
+        bytes_are_octets(&self.wire);
         &self.wire
     }
 
@@ -85,7 +91,7 @@ impl RData {
         ensures { IfOk result (λ copy. copy ≡ self.now) }
     {
         let mut wire = Vec::new(alloc);
-        wire.extend_from_slice(&self.wire)?;
+        append(&self.wire, &mut wire)?;
         Ok(RData {
             rtype: self.rtype,
             wire,
@@ -105,12 +111,7 @@ impl RData {
         ensures size { result ≡ length (text_of self.now.rtype self.now.wire) }
         ensures rest { drop result into.new ≡ drop result into.old }
     {
-        write_fields(
-            fields_of(self.rtype),
-            tail_of(self.rtype),
-            self.wire(),
-            into,
-        )
+        write_text(self.rtype, self.wire(), into)
     }
 
     /// Appends its octets on the wire. Where there is no memory, nothing is appended.
@@ -118,10 +119,14 @@ impl RData {
         ensures ok { OnOk result (into.new.items ≡ into.old.items ++ self.now.wire) }
         ensures err { OnErr result (into.new.items ≡ into.old.items) }
     {
-        into.extend_from_slice(&self.wire)?;
-        Ok(())
+        append(&self.wire, into)
     }
 }
+
+/// What all bytes are, for the premises of laws; it does nothing.
+fn bytes_are_octets(bytes: &[u8])
+    ensures { AreOctets bytes.now }
+{}
 
 /// Reads a text that isn't too long, and leaves the octets of its value.
 fn read_value(rtype: RType, text: &[u8], into: &mut Vec<u8>) -> Result<(), ValueFault>

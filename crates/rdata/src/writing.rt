@@ -1,23 +1,36 @@
-//! The text of a value, field by field, with a space between.
+//! The text of a value, field by field, with a space between, written from its octets.
 
 ghost use Rattle.std.specs.Prelude.{◌≡◌, ℕ, ◌+◌, ◌*◌, ◌≤◌, ◌<◌, List, [], ◌++◌, length, take, drop, map};
 ghost use Rattle.value_text.specs.Strings.{string_text};
 ghost use Rattle.rdata_layout.specs.Fields.{IsField};
-ghost use Rattle.rdata_layout.specs.Layout.{AreFields, AreStrings, IsTail};
+ghost use Rattle.rdata_layout.specs.Layout.{AreFields, AreStrings, IsLayout, IsTail};
 ghost use Rattle.field_text.specs.Written.{text_of_field};
-ghost use Rattle.rdata.specs.Written.{strings_of, tail_texts, field_texts, separated, joined_from};
+ghost use Rattle.rdata.specs.Written.{strings_of, tail_texts, field_texts, separated, joined_from, text_of};
 ghost use Rattle.rdata_layout.specs.Fields.{field_size};
 
 use field_text::write_field;
 use octets::{behind, front};
-use rdata_layout::{Field, Tail, field_len};
+use rdata_layout::{Field, RType, Tail, field_len, fields_of, tail_of};
 use value_text::write_string;
 
-/// Writes the text of octets that are fields of these kinds and the tail to the front, and says how long it is.
-pub(crate) fn write_fields(kinds: &[Field], tail: Tail, octets: &[u8], into: &mut [u8]) -> usize
+/// Writes the text of octets in the type's layout to the front, and says how long it is (FORMATS,
+/// Texts of values).
+pub fn write_text(rtype: RType, wire: &[u8], into: &mut [u8; 16384]) -> usize
+    requires { IsLayout rtype wire.now }
+    ensures written { take result into.new ≡ text_of rtype wire.now }
+    ensures size { result ≡ length (text_of rtype wire.now) }
+    ensures rest { drop result into.new ≡ drop result into.old }
+{
+    write_fields(fields_of(rtype), tail_of(rtype), wire, into)
+}
+
+/// Writes the text of octets that are fields of these kinds and the tail to the front, and says how
+/// long it is.
+fn write_fields(kinds: &[Field], tail: Tail, octets: &[u8], into: &mut [u8]) -> usize
     requires layout { AreFields kinds.now tail octets.now }
     requires room { 4 * length octets.now + 3 ≤ length into.old }
-    ensures written { take result into.new ≡ joined_from [] (field_texts kinds.now tail octets.now) }
+    ensures written { take result into.new
+        ≡ joined_from [] (field_texts kinds.now tail octets.now) }
     ensures kept { drop result into.new ≡ drop result into.old }
     ensures within { result ≤ length into.old }
 {
@@ -33,7 +46,8 @@ pub(crate) fn write_fields(kinds: &[Field], tail: Tail, octets: &[u8], into: &mu
 
 /// The field of this kind that octets begin with.
 fn field_in_front(kind: Field, octets: &[u8]) -> &[u8]
-    requires { (piece : List ℕ) × (rest : List ℕ) × IsField kind piece × (octets.now ≡ piece ++ rest) }
+    requires { (piece : List ℕ) × (rest : List ℕ) × IsField kind piece
+        × (octets.now ≡ piece ++ rest) }
     ensures front { result.now ≡ take (field_size kind octets.now) octets.now }
     ensures field { IsField kind result.now }
     ensures len { length result.now ≡ field_size kind octets.now }
@@ -49,7 +63,8 @@ fn field_in_front(kind: Field, octets: &[u8]) -> &[u8]
 fn write_next(kind: Field, piece: &[u8], into: &mut [u8], at: usize) -> usize
     requires field { IsField kind piece.now }
     requires room { at + 4 * length piece.now + 1 ≤ length into.old }
-    ensures written { take result into.new ≡ separated (take at into.old) ++ text_of_field kind piece.now }
+    ensures written { take result into.new ≡ separated (take at into.old)
+        ++ text_of_field kind piece.now }
     ensures kept { drop result into.new ≡ drop result into.old }
     ensures later { at ≤ result }
     ensures short { result ≤ at + 4 * length piece.now }
@@ -62,7 +77,8 @@ fn write_next(kind: Field, piece: &[u8], into: &mut [u8], at: usize) -> usize
 fn write_tail(tail: Tail, octets: &[u8], into: &mut [u8], at: usize) -> usize
     requires tail { IsTail tail octets.now }
     requires room { at + 4 * length octets.now + 3 ≤ length into.old }
-    ensures written { take result into.new ≡ joined_from (take at into.old) (tail_texts tail octets.now) }
+    ensures written { take result into.new
+        ≡ joined_from (take at into.old) (tail_texts tail octets.now) }
     ensures kept { drop result into.new ≡ drop result into.old }
     ensures later { at ≤ result }
     ensures within { result ≤ length into.old }
@@ -78,7 +94,8 @@ fn write_tail(tail: Tail, octets: &[u8], into: &mut [u8], at: usize) -> usize
 fn write_strings(octets: &[u8], into: &mut [u8], at: usize) -> usize
     requires strings { AreStrings octets.now }
     requires room { at + 4 * length octets.now + 3 ≤ length into.old }
-    ensures written { take result into.new ≡ joined_from (take at into.old) (map string_text (strings_of octets.now)) }
+    ensures written { take result into.new
+        ≡ joined_from (take at into.old) (map string_text (strings_of octets.now)) }
     ensures kept { drop result into.new ≡ drop result into.old }
     ensures later { at ≤ result }
     ensures within { result ≤ length into.old }
@@ -96,7 +113,8 @@ fn write_strings(octets: &[u8], into: &mut [u8], at: usize) -> usize
 /// Writes the text of a string behind what stands before a place, and says where it ends.
 fn write_next_string(string: &[u8], into: &mut [u8], at: usize) -> usize
     requires { at + 4 * length string.now + 3 ≤ length into.old }
-    ensures written { take result into.new ≡ separated (take at into.old) ++ string_text string.now }
+    ensures written { take result into.new ≡ separated (take at into.old)
+        ++ string_text string.now }
     ensures kept { drop result into.new ≡ drop result into.old }
     ensures later { at ≤ result }
     ensures short { result ≤ at + 4 * length string.now + 3 }
@@ -105,7 +123,8 @@ fn write_next_string(string: &[u8], into: &mut [u8], at: usize) -> usize
     write_string(string, into, start)
 }
 
-/// Writes a space behind what stands before a place, where that isn't the front, and says where it ends.
+/// Writes a space behind what stands before a place, where that isn't the front, and says where it
+/// ends.
 fn separate(into: &mut [u8], at: usize) -> usize
     requires { at < length into.old }
     ensures written { take result into.new ≡ separated (take at into.old) }

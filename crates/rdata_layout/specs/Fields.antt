@@ -9,7 +9,8 @@ use Rattle.rdata_layout.specs.declared.fields.Field.TheVariants as field
 
 -- A to Z, a to z and 0 to 9
 abbrev pub is_letter_or_digit : ℕ → Bool
-is_letter_or_digit b = (nat_le 0x41 b && nat_le b 0x5A) || (nat_le 0x61 b && nat_le b 0x7A) || (nat_le 0x30 b && nat_le b 0x39)
+is_letter_or_digit b = (nat_le 0x41 b && nat_le b 0x5A) || (nat_le 0x61 b && nat_le b 0x7A)
+    || (nat_le 0x30 b && nat_le b 0x39)
 
 -- the tag of a CAA property: 1 to 15 letters and digits (RFC 8659, 4.1)
 pub record IsTag (tag : List ℕ) : Type 0 where

@@ -9,13 +9,14 @@ use Rattle.rdata_layout.specs.declared.fields.Tail.{Tail}
 use Rattle.rdata_layout.specs.declared.fields.Tail.TheVariants as tail
 use Rattle.rdata_layout.specs.Fields.{IsField}
 
--- The fields that every value of the type has, in their order: A, NS, CNAME, SOA, PTR and MX (RFC 1035, 3.3 and 3.4.1),
--- AAAA (RFC 3596, 2.2), SRV (RFC 2782), CAA (RFC 8659, 4.1).
+-- The fields that every value of the type has, in their order: A, NS, CNAME, SOA, PTR and MX
+-- (RFC 1035, 3.3 and 3.4.1), AAAA (RFC 3596, 2.2), SRV (RFC 2782), CAA (RFC 8659, 4.1).
 abbrev pub fields_of : RType → List Field
 fields_of A = field.Ipv4 ∷ []
 fields_of Ns = field.Name ∷ []
 fields_of Cname = field.Name ∷ []
-fields_of Soa = field.Name ∷ field.Name ∷ field.Number32 ∷ field.Number32 ∷ field.Number32 ∷ field.Number32 ∷ field.Number32 ∷ []
+fields_of Soa = field.Name ∷ field.Name ∷ field.Number32 ∷ field.Number32 ∷ field.Number32
+    ∷ field.Number32 ∷ field.Number32 ∷ []
 fields_of Ptr = field.Name ∷ []
 fields_of Mx = field.Number16 ∷ field.Name ∷ []
 fields_of Txt = []
@@ -24,7 +25,8 @@ fields_of Srv = field.Number16 ∷ field.Number16 ∷ field.Number16 ∷ field.N
 fields_of Spf = []
 fields_of Caa = field.Number8 ∷ field.Tag ∷ []
 
--- What stands behind them: nothing; for TXT (RFC 1035, 3.3.14) and SPF one or more strings; for CAA the property's value.
+-- What stands behind them: nothing; for TXT (RFC 1035, 3.3.14) and SPF one or more strings; for CAA
+-- the property's value.
 abbrev pub tail_of : RType → Tail
 tail_of A = tail.Nothing
 tail_of Ns = tail.Nothing
@@ -62,7 +64,8 @@ IsTail tail.Value octets = IsShort octets
 abbrev pub AreFields : List Field → Tail → List ℕ → Type 0
 AreFields [] end octets = IsTail end octets
 AreFields (first ∷ fields) end octets =
-    (piece rest : List ℕ) × IsField first piece × (octets ≡ piece ++ rest) × AreFields fields end rest
+    (piece rest : List ℕ) × IsField first piece × (octets ≡ piece ++ rest)
+    × AreFields fields end rest
 
 -- the most octets of a value (own)
 abbrev pub most_octets : ℕ

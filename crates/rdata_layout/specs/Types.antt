@@ -1,4 +1,5 @@
--- The types of records: their numbers and texts (RFC 1035, 3.2.2; RFC 3596, 2.1; RFC 2782; RFC 8659, 4.1; RFC 4408, 3.1.1).
+-- The types of records: their numbers and texts (RFC 1035, 3.2.2; RFC 3596, 2.1; RFC 2782;
+-- RFC 8659, 4.1; RFC 4408, 3.1.1).
 use Rattle.std.specs.Prelude.{ℕ, List, codes}
 use Rattle.rdata_layout.specs.declared.types.RType.{RType}
 use Rattle.rdata_layout.specs.declared.types.RType.TheVariants.{A, Ns, Cname, Soa, Ptr, Mx, Txt, Aaaa, Srv, Spf, Caa}

@@ -1,3 +1,5 @@
+//! The kinds of fields that a value has, and of what stands behind them.
+
 /// A field that says by itself where it ends.
 #[derive(Clone, Copy, Debug, PartialEq, Eq)]
 pub enum Field {

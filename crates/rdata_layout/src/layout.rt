@@ -1,3 +1,5 @@
+//! The fields of each type, and whether octets are a value of it.
+
 ghost use Rattle.std.specs.Prelude.{◌≡◌, ◌≤◌, length, drop, IsTrue, ◌↔◌};
 ghost use Rattle.rdata_layout.specs.Layout.{fields_of, tail_of, AreFields, AreStrings, IsLayout, IsTail, IsShort};
 

@@ -1,25 +1,27 @@
+//! How long the field, string or tag is that octets begin with.
+
 ghost use Rattle.std.specs.Prelude.{◌≡◌, ℕ, ◌≤◌, ◌<◌, List, ◌∷◌, ◌++◌, length, take, drop, IfSome, IfNone, IsTrue, ◌↔◌, ◌+◌, true};
 ghost use Rattle.std.specs.List.{AllByRecursion};
-ghost use Rattle.dns_name.specs.Labels.{wire};
-ghost use Rattle.dns_name.specs.Names.{IsName};
 ghost use Rattle.rdata_layout.specs.Fields.{IsField, IsTag, is_letter_or_digit};
 ghost use Rattle.rdata_layout.specs.Layout.{string_octets, IsShort};
 
 use crate::Field;
-use dns_name::Name;
+use dns_name::lower_name_len;
 use octets::{behind, front};
 
 /// How many octets at the front are a field of this kind. There is one such front at most.
 pub fn field_len(field: Field, octets: &[u8]) -> Option<usize>
     ensures within { IfSome result (λ n. n ≤ length octets.now) }
     ensures some { IfSome result (λ n. IsField field (take n octets.now)) }
-    ensures only { IfSome result (λ n. (piece rest : List ℕ) → IsField field piece → octets.now ≡ piece ++ rest → length piece ≡ n) }
-    ensures none { IfNone result ((piece rest : List ℕ) → IsField field piece → octets.now ≡ piece ++ rest → ⊥) }
+    ensures only { IfSome result (λ n. (piece rest : List ℕ) → IsField field piece
+        → octets.now ≡ piece ++ rest → length piece ≡ n) }
+    ensures none { IfNone result
+        ((piece rest : List ℕ) → IsField field piece → octets.now ≡ piece ++ rest → ⊥) }
 {
     match field {
         Field::Ipv4 => fixed_len(4, octets),
         Field::Ipv6 => fixed_len(16, octets),
-        Field::Name => name_len(octets),
+        Field::Name => lower_name_len(octets),
         Field::Number8 => fixed_len(1, octets),
         Field::Number16 => fixed_len(2, octets),
         Field::Number32 => fixed_len(4, octets),
@@ -38,40 +40,14 @@ fn fixed_len(len: usize, octets: &[u8]) -> Option<usize>
     Some(len)
 }
 
-/// How many octets at the front are a name in lower case.
-fn name_len(octets: &[u8]) -> Option<usize>
-    ensures within { IfSome result (λ n. n ≤ length octets.now) }
-    ensures some { IfSome result (λ n. (labels : List (List ℕ)) × IsName labels × (take n octets.now ≡ wire labels)) }
-    ensures only { IfSome result (λ n. (labels : List (List ℕ)) (rest : List ℕ) → IsName labels → octets.now ≡ wire labels ++ rest → length (wire labels) ≡ n) }
-    ensures none { IfNone result ((labels : List (List ℕ)) (rest : List ℕ) → IsName labels → octets.now ≡ wire labels ++ rest → ⊥) }
-{
-    let Some((name, len)) = Name::from_wire(octets) else {
-        return None;
-    };
-    if !is_spelled(&name, octets, len) {
-        return None;
-    }
-    Some(len)
-}
-
-/// Whether so many octets at the front are those of the name.
-fn is_spelled(name: &Name, octets: &[u8], len: usize) -> bool
-    requires { len ≤ length octets.now }
-    ensures name { IsName name.now }
-    ensures spelled { IsTrue result ↔ (take len octets.now ≡ wire name.now) }
-{
-    name.well_formed();
-    let mut wire = [0; 255];
-    let n = name.write_wire(&mut wire);
-    front(octets, len) == front(&wire, n)
-}
-
 /// How many octets at the front are a tag and its length.
 fn tag_len(octets: &[u8]) -> Option<usize>
     ensures within { IfSome result (λ n. n ≤ length octets.now) }
     ensures some { IfSome result (λ n. IsField Field.Tag (take n octets.now)) }
-    ensures only { IfSome result (λ n. (tag rest : List ℕ) → IsTag tag → octets.now ≡ length tag ∷ tag ++ rest → length tag + 1 ≡ n) }
-    ensures none { IfNone result ((tag rest : List ℕ) → IsTag tag → octets.now ≡ length tag ∷ tag ++ rest → ⊥) }
+    ensures only { IfSome result (λ n. (tag rest : List ℕ) → IsTag tag
+        → octets.now ≡ length tag ∷ tag ++ rest → length tag + 1 ≡ n) }
+    ensures none { IfNone result
+        ((tag rest : List ℕ) → IsTag tag → octets.now ≡ length tag ∷ tag ++ rest → ⊥) }
 {
     let len = string_len(octets)?;
     if !is_tag(behind(front(octets, len), 1)) {
@@ -83,9 +59,12 @@ fn tag_len(octets: &[u8]) -> Option<usize>
 /// How many octets at the front are a string and its length.
 pub fn string_len(octets: &[u8]) -> Option<usize>
     ensures within { IfSome result (λ n. n ≤ length octets.now) }
-    ensures some { IfSome result (λ n. (string rest : List ℕ) × IsShort string × (octets.now ≡ string_octets string ++ rest) × (n ≡ length string + 1)) }
-    ensures only { IfSome result (λ n. (string rest : List ℕ) → octets.now ≡ string_octets string ++ rest → length string + 1 ≡ n) }
-    ensures none { IfNone result ((string rest : List ℕ) → octets.now ≡ string_octets string ++ rest → ⊥) }
+    ensures some { IfSome result (λ n. (string rest : List ℕ) × IsShort string
+        × (octets.now ≡ string_octets string ++ rest) × (n ≡ length string + 1)) }
+    ensures only { IfSome result (λ n. (string rest : List ℕ)
+        → octets.now ≡ string_octets string ++ rest → length string + 1 ≡ n) }
+    ensures none { IfNone result
+        ((string rest : List ℕ) → octets.now ≡ string_octets string ++ rest → ⊥) }
 {
     let [n, rest @ ..] = octets else {
         return None;

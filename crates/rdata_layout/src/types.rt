@@ -1,3 +1,5 @@
+//! The types of records, with their numbers and texts.
+
 ghost use Rattle.std.specs.Prelude.{◌≡◌, ◌≢◌, IfSome, IfNone};
 ghost use Rattle.rdata_layout.specs.Types.{number_of, text_of};
 

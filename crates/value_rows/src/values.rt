@@ -1,4 +1,6 @@
-use rdata::{RData, RType, ValueFault, WireFault};
+//! Texts and octets of values: what each is read as, and the text that is written.
+
+use rdata::{RData, RType, ValueFault, WireFault, write_text};
 use std::alloc::Global;
 use std::process::Abort;
 
@@ -21,7 +23,8 @@ fn is_same(read: Option<RData>, value: &RData) -> bool {
     }
 }
 
-/// Reads a text as a value of these octets, which is written as that text, and read again from both.
+/// Reads a text as a value of these octets, which is written as that text, and read again from
+/// both.
 fn is_read(rt: &impl Abort, alloc: Global, rtype: RType, text: &[u8], wire: &[u8], written: &[u8]) {
     let read = RData::from_text(alloc, rtype, text);
     assert!(rt; read.is_ok(), "read: {text:?}");
@@ -295,6 +298,28 @@ fn longest(rt: &impl Abort, alloc: Global) -> RData {
     RData::from_wire(alloc, RType::Txt, &wire).expect(rt, "4,000 octets")
 }
 
+/// 15 strings of 255 letters and one of 143, side by side: 4,000 bytes of text.
+fn read_full_text(rt: &impl Abort, alloc: Global) -> RData {
+    let mut text = [b'a'; 4000];
+    for i in 0..15 {
+        text[257 * i] = b'"';
+        text[257 * i + 256] = b'"';
+    }
+    text[3855] = b'"';
+    text[3999] = b'"';
+    RData::from_text(alloc, RType::Txt, &text).expect(rt, "4,000 bytes of text")
+}
+
+/// Copies a value, and compares the copy with it.
+fn is_copied(rt: &impl Abort, alloc: Global, value: &RData) {
+    let copy = value.copy(alloc).ok();
+    assert!(rt;
+        is_same(copy, value),
+        "a copy of {} octets",
+        value.wire().len()
+    );
+}
+
 /// The octets of a value behind another octet.
 fn behind_another(rt: &impl Abort, alloc: Global, value: &RData) -> Vec<u8> {
     let mut octets = Vec::new(alloc);
@@ -309,12 +334,29 @@ fn the_longest_values(rt: HostRuntime) {
     let longest = longest(&rt, rt.alloc());
     let mut into = [0; 16384];
     assert_eq!(rt; longest.write_text(&mut into), 15_983, "the longest text");
+    let octets = (longest.rtype(), longest.wire());
+    assert_eq!(rt;
+        write_text(octets.0, octets.1, &mut into),
+        15_983,
+        "from its octets"
+    );
+    is_copied(&rt, rt.alloc(), &longest);
     let octets = behind_another(&rt, rt.alloc(), &longest);
     assert_eq!(rt; octets.len(), 4001, "behind what stands there");
     assert!(rt;
         RData::from_wire(rt.alloc(), RType::Txt, &octets).is_err(),
         "4,001 octets"
     );
+}
+
+#[test]
+fn the_longest_text(rt: HostRuntime) {
+    let value = read_full_text(&rt, rt.alloc());
+    assert_eq!(rt; value.wire().len(), 3984, "the octets");
+    assert_eq!(rt; value.wire()[3840], 143, "the last string");
+    is_copied(&rt, rt.alloc(), &value);
+    let octets = behind_another(&rt, rt.alloc(), &value);
+    assert_eq!(rt; octets.len(), 3985, "behind what stands there");
 }
 
 /// Compares the type of a text with that of a number.

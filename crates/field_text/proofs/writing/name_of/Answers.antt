@@ -8,9 +8,15 @@ unreachable-requires c = c.in-None.ensures.none c.requires.0 _ (begins c.args.oc
 
 pub returns-clause-same : goal.returns-clause-same
 returns-clause-same c =
-    sym (c.in-Some.ensures.only c.requires.0 _ (begins c.args.octets.now c.requires)).0 ∙ sym (its_labels c.args.octets.now c.requires)
+    sym (c.in-Some.ensures.only c.requires.0 _ (begins c.args.octets.now c.requires)).0
+    ∙ sym (its_labels c.args.octets.now c.requires)
 
 pub returns-clause-short : goal.returns-clause-short
 returns-clause-short c =
     let same = (c.in-Some.ensures.only c.requires.0 _ (begins c.args.octets.now c.requires)).0 in
-    omega (arith, ap (λ labels. length (text_of labels)) same, text_size c.requires.0, ap length c.requires.2)
+    omega (
+      arith,
+      ap (λ labels. length (text_of labels)) same,
+      text_size c.requires.0,
+      ap length c.requires.2,
+    )

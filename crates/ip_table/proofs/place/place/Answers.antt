@@ -20,8 +20,11 @@ loop-row-init c =
         inside = c.requires.some;
         steps = 0;
         leads = refl;
-        bits = subst (λ d. first_bits d (here ps nodes 0).address ≡ first_bits d own) (sym c.requires.tree.root)
-            (no_bits _ own (number_low _ (c.requires.prefixes (node_at nodes 0).row root.row).octets) (number_low own (c.requires.prefixes c.args.row c.requires.row).octets));
+        bits = subst (λ d. first_bits d (here ps nodes 0).address
+            ≡ first_bits d own) (sym c.requires.tree.root)
+            (no_bits _ own
+            (number_low _ (c.requires.prefixes (node_at nodes 0).row root.row).octets)
+            (number_low own (c.requires.prefixes c.args.row c.requires.row).octets));
         long = omega (arith, c.requires.tree.root);
         others = c.requires.others;
       };

@@ -6,7 +6,8 @@ use Rattle.ip_table.proofs.place.place.Given as goal
 
 abbrev pub invariant-loop-row : goal.invariant-loop-row
 invariant-loop-row l = record {
-  carried : IsCarried l.prefixes l.nodes.items (width_of (prefix_at l.prefixes l.fn.row).address) l.at l.carried;
+  carried : IsCarried l.prefixes l.nodes.items (width_of (prefix_at l.prefixes l.fn.row).address)
+      l.at l.carried;
   long : length l.nodes.items ≡ length l.fn.nodes.items;
   len : vec_len l.nodes ≡ vec_len l.fn.nodes;
   room : vec_capacity l.nodes ≡ vec_capacity l.fn.nodes;

@@ -9,21 +9,27 @@ use Rattle.ip_table.proofs.place.settle.Goals as goal
 pub returns-clause-carried : goal.returns-clause-carried
 returns-clause-carried c =
     let width = width_of (prefix_at c.args.prefixes.now c.args.carried).address in
-    subst (λ r. IsCarried c.args.prefixes.now c.put_row.new.nodes.items width c.args.at r) (sym c.put_row.ensures.taken)
-    (carried_on c.args.prefixes.now c.args.nodes.now.items width c.args.at c.args.carried c.requires.prefixes c.requires.carried
+    subst (λ r. IsCarried c.args.prefixes.now c.put_row.new.nodes.items width c.args.at r)
+    (sym c.put_row.ensures.taken)
+    (carried_on c.args.prefixes.now c.args.nodes.now.items width c.args.at c.args.carried
+    c.requires.prefixes c.requires.carried
     c.put_row.new.nodes.items c.put_row.ensures.items)
 
 pub returns-clause-deeper : goal.returns-clause-deeper
 returns-clause-deeper c =
     let width = width_of (prefix_at c.args.prefixes.now c.args.carried).address in
-    let short : (prefix_at c.args.prefixes.now c.args.carried).length ≡ (node_at c.args.nodes.now.items c.args.at).depth = omega (
+    let short : (prefix_at c.args.prefixes.now c.args.carried).length
+    ≡ (node_at c.args.nodes.now.items c.args.at).depth = omega (
       arith,
       c.if-node_of-length.false,
       c.requires.carried.long,
       c.length.ensures.value,
       ap (λ (p : Prefix). p.length) c.prefix_of.ensures,
-      ap (λ (n : Node). n.depth) (c.node_of.ensures ∙ ap (λ (ns : List Node). node_at ns c.args.at) c.deref.ensures.value),
+      ap (λ (n : Node). n.depth) (c.node_of.ensures
+          ∙ ap (λ (ns : List Node). node_at ns c.args.at) c.deref.ensures.value),
     ) in
-    subst (λ r. (node_at c.put_row.new.nodes.items c.args.at).depth < (prefix_at c.args.prefixes.now r).length) (sym c.put_row.ensures.taken)
-    (goes_deeper c.args.prefixes.now c.args.nodes.now.items width c.args.at c.args.carried c.requires.prefixes c.requires.carried
+    subst (λ r. (node_at c.put_row.new.nodes.items c.args.at).depth <
+    (prefix_at c.args.prefixes.now r).length) (sym c.put_row.ensures.taken)
+    (goes_deeper c.args.prefixes.now c.args.nodes.now.items width c.args.at c.args.carried
+    c.requires.prefixes c.requires.carried
     c.put_row.new.nodes.items c.put_row.ensures.items c.requires.apart short)

@@ -7,14 +7,20 @@ with_found-requires-clause-found c = λ r e. (c.requires.sound.found r e).2
 
 pub returns-clause-sound : goal.returns-clause-sound
 returns-clause-sound c =
-    sound_row c.args.prefixes.now c.args.address c.args.seen c.with_past.result c.args.row c.args.shared c.requires.row c.requires.family
-    c.requires.shared (omega (arith, c.if-long-shared.false, c.requires.long)) c.with_past.ensures.found c.with_past.ensures.long c.with_past.ensures.past c.requires.sound
+    sound_row c.args.prefixes.now c.args.address c.args.seen c.with_past.result c.args.row
+    c.args.shared c.requires.row c.requires.family
+    c.requires.shared (omega (arith, c.if-long-shared.false, c.requires.long))
+    c.with_past.ensures.found c.with_past.ensures.long
+    c.with_past.ensures.past c.requires.sound
 
 pub returns-clause-keeps : goal.returns-clause-keeps
 returns-clause-keeps c =
-    done_past c.args.prefixes.now c.args.address c.args.seen c.with_past.result (omega (arith, c.with_past.ensures.past)) c.with_past.ensures.found
+    done_past c.args.prefixes.now c.args.address c.args.seen c.with_past.result
+    (omega (arith, c.with_past.ensures.past)) c.with_past.ensures.found
 
 pub returns-clause-done : goal.returns-clause-done
 returns-clause-done c =
-    done_row c.args.prefixes.now c.args.address c.args.seen c.with_past.result c.args.row c.args.shared
-    c.requires.shared (omega (arith, c.if-long-shared.false, c.requires.long)) c.with_past.ensures.past
+    done_row c.args.prefixes.now c.args.address c.args.seen c.with_past.result c.args.row
+    c.args.shared
+    c.requires.shared (omega (arith, c.if-long-shared.false, c.requires.long))
+    c.with_past.ensures.past

@@ -11,27 +11,43 @@ use Rattle.ip_table.proofs.walk.is_there.Goals as goal
 use Rattle.ip_table.proofs.walk.is_there.Goals.{After-child_of-next}
 
 pub returns-then-is_empty : goal.returns-then-is_empty
-returns-then-is_empty c =
-    (λ t. absurd (false≢true t), λ has. absurd (not_there c.args.prefixes.now c.args.nodes.now c.args.prefix (grind (arith, nat_tests)) c.requires.all has))
+returns-then-is_empty c = (
+  λ t. absurd (false≢true t),
+  λ has. absurd
+      (not_there c.args.prefixes.now c.args.nodes.now c.args.prefix (grind (arith, nat_tests))
+      c.requires.all has),
+)
 
 -- the row that stands here has another prefix
-other : (c : After-child_of-next) → here c.args.prefixes.now c.args.nodes.now c.loop-prefix.at ≡ c.args.prefix → ⊥
+other : (c : After-child_of-next)
+    → here c.args.prefixes.now c.args.nodes.now c.loop-prefix.at ≡ c.args.prefix → ⊥
 other c same =
-    let row : c.prefix_of.result ≡ here c.args.prefixes.now c.args.nodes.now c.loop-prefix.at = c.prefix_of.ensures ∙ ap (λ (n : Node). prefix_at c.args.prefixes.now n.row) c.node_of-node.ensures in
+    let row : c.prefix_of.result ≡ here c.args.prefixes.now c.args.nodes.now c.loop-prefix.at =
+    c.prefix_of.ensures
+    ∙ ap (λ (n : Node). prefix_at c.args.prefixes.now n.row) c.node_of-node.ensures in
     absurd (false≢true (sym c.if-is_same.false ∙ c.is_same.ensures.1 (row ∙ same)))
 
-next_is : (c : After-child_of-next) → c.child_of-next.result ≡ child (node_at c.args.nodes.now c.loop-prefix.at) (bit_behind (node_at c.args.nodes.now c.loop-prefix.at).depth c.args.prefix.address)
+next_is : (c : After-child_of-next)
+    → c.child_of-next.result ≡ child (node_at c.args.nodes.now c.loop-prefix.at)
+    (bit_behind (node_at c.args.nodes.now c.loop-prefix.at).depth c.args.prefix.address)
 next_is c =
     c.child_of-next.ensures
-    ∙ ap (child c.node_of-node.result) (c.bit_of.ensures c.args.prefix.address (c.number_of-number.ensures ∙ ap number_of c.address.ensures.value))
+    ∙ ap (child c.node_of-node.result)
+    (c.bit_of.ensures c.args.prefix.address (c.number_of-number.ensures
+    ∙ ap number_of c.address.ensures.value))
     ∙ ap (λ (n : Node). child n (bit_behind n.depth c.args.prefix.address)) c.node_of-node.ensures
 
-kid : (c : After-child_of-next) → 0 < c.child_of-next.result → IsChild c.args.prefixes.now c.args.nodes.now c.loop-prefix.at (bit_behind (node_at c.args.nodes.now c.loop-prefix.at).depth c.args.prefix.address) c.child_of-next.result
+kid : (c : After-child_of-next) → 0 < c.child_of-next.result
+    → IsChild c.args.prefixes.now c.args.nodes.now c.loop-prefix.at
+    (bit_behind (node_at c.args.nodes.now c.loop-prefix.at).depth c.args.prefix.address)
+    c.child_of-next.result
 kid c some =
     let bit = bit_behind (node_at c.args.nodes.now c.loop-prefix.at).depth c.args.prefix.address in
     let low : bit < 2 = omega arith in
-    subst (λ i. IsChild c.args.prefixes.now c.args.nodes.now c.loop-prefix.at bit i) (sym (next_is c))
-    ((c.requires.tree.each c.loop-prefix.at c.loop-prefix.invariant.within).children bit low (subst (λ i. 0 < i) (next_is c) some))
+    subst (λ i. IsChild c.args.prefixes.now c.args.nodes.now c.loop-prefix.at bit i)
+    (sym (next_is c))
+    ((c.requires.tree.each c.loop-prefix.at c.loop-prefix.invariant.within).children bit low
+    (subst (λ i. 0 < i) (next_is c) some))
 
 pub returns-then-next-eq0 : goal.returns-then-next-eq0
 returns-then-next-eq0 c =
@@ -40,7 +56,9 @@ returns-then-next-eq0 c =
       λ has. absurd (omega (
         arith,
         sym (next_is s) ∙ c.if-next-eq0.true,
-        (stands_on c.args.prefixes.now c.args.nodes.now c.args.prefix c.requires.prefixes c.requires.tree c.loop-prefix.at c.loop-prefix.invariant.within (other s) has.0 has.2
+        (stands_on c.args.prefixes.now c.args.nodes.now c.args.prefix c.requires.prefixes
+            c.requires.tree c.loop-prefix.at
+            c.loop-prefix.invariant.within (other s) has.0 has.2
             (c.loop-prefix.invariant.ahead has.0 has.1 has.2)).0,
       )),
     )
@@ -50,7 +68,8 @@ loop-prefix-init c =
     let some : 0 < length c.args.nodes.now = grind (arith, nat_tests) in
     record {
       within = some;
-      ahead = λ row h same. c.requires.all row h (ap (λ (q : Prefix). width_of q.address) same) (λ e. absurd (omega arith));
+      ahead = λ row h same. c.requires.all row h (ap (λ (q : Prefix). width_of q.address) same)
+          (λ e. absurd (omega arith));
     }
 
 pub loop-prefix-preserved : goal.loop-prefix-preserved
@@ -59,7 +78,9 @@ loop-prefix-preserved c =
     record {
       within = (kid s (omega arith)).within;
       ahead = λ row h same. subst (λ i. Stands c.args.nodes.now i row) (sym (next_is s))
-          (stands_on c.args.prefixes.now c.args.nodes.now c.args.prefix c.requires.prefixes c.requires.tree c.loop-prefix.at c.loop-prefix.invariant.within (other s) row same
+          (stands_on c.args.prefixes.now c.args.nodes.now c.args.prefix c.requires.prefixes
+          c.requires.tree c.loop-prefix.at
+          c.loop-prefix.invariant.within (other s) row same
           (c.loop-prefix.invariant.ahead row h same)).1;
     }
 
@@ -67,4 +88,10 @@ pub loop-prefix-smaller : goal.loop-prefix-smaller
 loop-prefix-smaller c =
     let s = (goal.at.loop-prefix-smaller c).After-child_of-next in
     let next = kid s (omega arith) in
-    omega (arith, next.deeper, shallow c.args.prefixes.now c.args.nodes.now (width_of c.args.prefix.address) c.requires.prefixes c.requires.tree c.child_of-next.result next.within)
+    omega (
+      arith,
+      next.deeper,
+      shallow c.args.prefixes.now c.args.nodes.now (width_of c.args.prefix.address)
+          c.requires.prefixes c.requires.tree
+          c.child_of-next.result next.within,
+    )

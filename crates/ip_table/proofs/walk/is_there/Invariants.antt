@@ -6,7 +6,8 @@ use Rattle.ip_table.proofs.walk.is_there.Given as goal
 abbrev pub invariant-loop-prefix : goal.invariant-loop-prefix
 invariant-loop-prefix l = record {
   within : l.at < length l.nodes;
-  ahead : (row : ℕ) → row < length l.prefixes → prefix_at l.prefixes row ≡ l.prefix → Stands l.nodes l.at row;
+  ahead : (row : ℕ) → row < length l.prefixes → prefix_at l.prefixes row ≡ l.prefix
+      → Stands l.nodes l.at row;
 }
 
 abbrev pub decreases-loop-prefix : goal.decreases-loop-prefix

@@ -13,14 +13,20 @@ returns-then-node-window c = λ n h.
     shared_windows d own c.args.address c.requires.low c.requires.meets
     (λ e. c.if-node-window.true (c.requires.window ∙ e ∙ sym theirs))
     r
-    (subst (λ w. (m : ℕ) → m ≤ 32 → (d + m ≤ r ↔ (w / 2 ^ (32 - m) ≡ window d c.args.address / 2 ^ (32 - m)))) c.requires.window
-    (subst (λ w. (m : ℕ) → m ≤ 32 → (d + m ≤ r ↔ (c.args.node.window / 2 ^ (32 - m) ≡ w / 2 ^ (32 - m)))) theirs c.shared_before.ensures))
+    (subst (λ w. (m : ℕ) → m ≤ 32
+    → (d + m ≤ r ↔ (w / 2 ^ (32 - m) ≡ window d c.args.address / 2 ^ (32 - m))))
+    c.requires.window
+    (subst (λ w. (m : ℕ) → m ≤ 32
+    → (d + m ≤ r ↔ (c.args.node.window / 2 ^ (32 - m) ≡ w / 2 ^ (32 - m)))) theirs
+    c.shared_before.ensures))
     n (omega (arith, h, c.requires.prefix.within, width_low own))
 
 pub returns-then-node : goal.returns-then-node
 returns-then-node c = λ n h.
     let own = (prefix_at c.args.prefixes.now c.args.node.row).address in
     let theirs = c.window_of-window.ensures c.args.address c.requires.number in (
-      λ few. same_windows c.args.node.start n own c.args.address c.requires.low c.requires.meets (sym c.requires.window ∙ c.if-node-window.false ∙ theirs) (omega (arith, few, c.if-node.true)),
+      λ few. same_windows c.args.node.start n own c.args.address c.requires.low c.requires.meets
+          (sym c.requires.window ∙ c.if-node-window.false
+          ∙ theirs) (omega (arith, few, c.if-node.true)),
       λ e. omega (arith, h, c.requires.long),
     )

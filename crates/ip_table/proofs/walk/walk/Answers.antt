@@ -16,8 +16,12 @@ loop-address-init c =
       within = c.requires.some;
       level = sym c.requires.tree.root;
       meets = subst (λ n. first_bits n own ≡ first_bits n a) (sym c.requires.tree.begin)
-          (no_bits own a (number_low own (c.requires.prefixes (node_at c.args.nodes.now 0).row root.row).octets) (subst (λ n. n < 2 ^ 128) c.number_of-number.ensures (omega arith)));
-      sound = subst (λ s. IsSound c.args.prefixes.now a s) (sym c.nothing-seen.ensures) (sound_nothing c.args.prefixes.now a);
+          (no_bits own a
+          (number_low own
+          (c.requires.prefixes (node_at c.args.nodes.now 0).row root.row).octets)
+          (subst (λ n. n < 2 ^ 128) c.number_of-number.ensures (omega arith)));
+      sound = subst (λ s. IsSound c.args.prefixes.now a s) (sym c.nothing-seen.ensures)
+          (sound_nothing c.args.prefixes.now a);
       each = λ row h family. inl (c.requires.all row h family (λ e. absurd (omega arith)));
     }
 
@@ -30,7 +34,13 @@ returns-then-visited-eq0 c =
 pub loop-address-smaller : goal.loop-address-smaller
 loop-address-smaller c =
     let goes = c.at_node-visited.ensures.goes (omega arith) in
-    omega (arith, goes.deeper, shallow c.args.prefixes.now c.args.nodes.now (width_of c.args.address) c.requires.prefixes c.requires.tree c.at_node-visited.result.next goes.within)
+    omega (
+      arith,
+      goes.deeper,
+      shallow c.args.prefixes.now c.args.nodes.now (width_of c.args.address) c.requires.prefixes
+          c.requires.tree
+          c.at_node-visited.result.next goes.within,
+    )
 
 pub loop-address-preserved : goal.loop-address-preserved
 loop-address-preserved c =
@@ -41,8 +51,9 @@ loop-address-preserved c =
       level = e.depth (omega arith);
       meets = goes.meets;
       sound = e.sound;
-      each = λ row h family. elim (e.each row h family (c.loop-address.invariant.each row h family)) [
-        | inl ahead ↦ inl ahead.1
-        | inr done ↦ inr done
-      ];
+      each = λ row h family.
+          elim (e.each row h family (c.loop-address.invariant.each row h family)) [
+            | inl ahead ↦ inl ahead.1
+            | inr done ↦ inr done
+          ];
     }

@@ -10,7 +10,8 @@ invariant-loop-address l = record {
   level : l.depth ≡ (node_at l.nodes l.at).depth;
   meets : Meets l.prefixes l.nodes l.address l.at;
   sound : IsSound l.prefixes l.address l.seen;
-  each : (row : ℕ) → row < length l.prefixes → width_of (prefix_at l.prefixes row).address ≡ width_of l.address
+  each : (row : ℕ) → row < length l.prefixes
+      → width_of (prefix_at l.prefixes row).address ≡ width_of l.address
       → Stands l.nodes l.at row ⊎ IsDone l.prefixes l.address l.seen row;
 }
 

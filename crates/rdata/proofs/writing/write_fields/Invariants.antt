@@ -6,10 +6,12 @@ use Rattle.rdata.specs.Written.{field_texts, joined_from}
 use Rattle.rdata.proofs.writing.write_fields.Given as goal
 
 -- The fields before a place are written, and those behind it and the tail are left.
-pub record AreWritten (kinds : List Field) (tail : Tail) (octets old into : List ℕ) (passed at end : ℕ) : Type 0 where
+pub record AreWritten (kinds : List Field) (tail : Tail) (octets old into : List ℕ)
+    (passed at end : ℕ) : Type 0 where
   pub within : at ≤ length octets
   pub fields : AreFields (drop passed kinds) tail (drop at octets)
-  pub written : joined_from (take end into) (field_texts (drop passed kinds) tail (drop at octets)) ≡ joined_from [] (field_texts kinds tail octets)
+  pub written : joined_from (take end into) (field_texts (drop passed kinds) tail (drop at octets))
+      ≡ joined_from [] (field_texts kinds tail octets)
   pub kept : drop end into ≡ drop end old
   pub room : end ≤ 4 * at
   pub size : length into ≡ length old

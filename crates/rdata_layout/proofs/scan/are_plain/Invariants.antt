@@ -5,4 +5,5 @@ use Rattle.rdata_layout.specs.Fields.{is_letter_or_digit}
 use Rattle.rdata_layout.proofs.scan.are_plain.Given as goal
 
 abbrev pub invariant-loop-b : goal.invariant-loop-b
-invariant-loop-b l = AllByRecursion (λ b. is_letter_or_digit b ≡ true) l.octets ↔ AllByRecursion (λ b. is_letter_or_digit b ≡ true) (drop l.b-index l.octets)
+invariant-loop-b l = AllByRecursion (λ b. is_letter_or_digit b ≡ true) l.octets
+    ↔ AllByRecursion (λ b. is_letter_or_digit b ≡ true) (drop l.b-index l.octets)

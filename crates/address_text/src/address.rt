@@ -1,3 +1,5 @@
+//! An address of either version of the Internet Protocol.
+
 /// An address of the Internet Protocol, in network order.
 #[derive(Clone, Copy, Debug, PartialEq, Eq)]
 pub enum IpAddress {
