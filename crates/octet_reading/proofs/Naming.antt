@@ -23,59 +23,93 @@ pub record Begins (octets : List ℕ) (left : ℕ) : Type 0 where
   pub spelled : octets ≡ wire labels ++ rest
   pub left_is : length rest ≡ left
 
-pub whole_begins : (octets : List ℕ) (left : ℕ) → IsBytes octets → front_of octets ≡ Whole left → Begins octets left
+pub whole_begins : (octets : List ℕ) (left : ℕ) → IsBytes octets → front_of octets ≡ Whole left
+    → Begins octets left
 whole_begins octets left bytes e =
     let f = found_from 255 0 octets left bytes (omega arith) e in
     record {
       labels = f.labels;
       rest = f.rest;
-      name = record { raw = record { each = f.each; fits = f.fits }; lower = f.lower; octets = f.small };
-      spelled = f.spelled ∙ ap (λ t. t ++ (wire f.labels ++ f.rest)) (nil_from_length f.part f.size);
+      name = record {
+        raw = record { each = f.each; fits = f.fits };
+        lower = f.lower;
+        octets =
+            f.small;
+      };
+      spelled = f.spelled
+          ∙ ap (λ t. t ++ (wire f.labels ++ f.rest)) (nil_from_length f.part f.size);
       left_is = f.left_is;
     }
 
-pub is_short : (octets : List ℕ) (front : Front) → front ≡ front_of octets → front ≡ Short → name_at octets ≡ Err 0
+pub is_short : (octets : List ℕ) (front : Front) → front ≡ front_of octets → front ≡ Short
+    → name_at octets ≡ Err 0
 unfolding name_at
 is_short octets front e s = ap (named octets) (sym e ∙ s)
 
-pub is_broken : (octets : List ℕ) (front : Front) → front ≡ front_of octets → front ≡ Broken → name_at octets ≡ Err (length octets)
+pub is_broken : (octets : List ℕ) (front : Front) → front ≡ front_of octets → front ≡ Broken
+    → name_at octets ≡ Err (length octets)
 unfolding name_at
 is_broken octets front e s = ap (named octets) (sym e ∙ s)
 
-pub is_name : (octets : List ℕ) (front : Front) (left : ℕ) (labels : List (List ℕ)) (n : ℕ) (rest : List ℕ) → IsBytes octets → front ≡ front_of octets → front ≡ Whole left
+pub is_name : (octets : List ℕ) (front : Front) (left : ℕ) (labels : List (List ℕ)) (n : ℕ)
+    (rest : List ℕ) → IsBytes octets
+    → front ≡ front_of octets → front ≡ Whole left
     → BeginsWithName octets labels n → rest ≡ drop n octets → name_at octets ≡ Ok (labels, rest)
 unfolding name_at
 is_name octets front left labels n rest bytes e s b r =
     let w = whole_begins octets left bytes (sym e ∙ s) in
-    let same = one_name octets labels n b w.labels (length (wire w.labels)) (begins octets w.rest w.labels w.name w.spelled) in
-    let cut : labels_of octets ≡ labels = ap labels_of w.spelled ∙ labels_of-wire w.labels w.rest w.name.raw.each ∙ same.0 in
-    let size : length octets - left ≡ n = omega (arith, ap length w.spelled, length-append (wire w.labels) w.rest, w.left_is, same.1) in
+    let same =
+    one_name octets labels n b w.labels (length (wire w.labels))
+    (begins octets w.rest w.labels w.name w.spelled) in
+    let cut : labels_of octets ≡ labels = ap labels_of w.spelled
+    ∙ labels_of-wire w.labels w.rest w.name.raw.each ∙ same.0 in
+    let size : length octets - left ≡ n =
+    omega (
+      arith,
+      ap length w.spelled,
+      length-append (wire w.labels) w.rest,
+      w.left_is,
+      same.1,
+    ) in
     ap (named octets) (sym e ∙ s) ∙ cc (cut, size, r)
 
-pub no_name : (octets : List ℕ) (front : Front) (left : ℕ) → IsBytes octets → front ≡ front_of octets → front ≡ Whole left → BeginsWithNone octets → ⊥
+pub no_name : (octets : List ℕ) (front : Front) (left : ℕ) → IsBytes octets
+    → front ≡ front_of octets → front ≡ Whole left → BeginsWithNone octets → ⊥
 no_name octets front left bytes e s none =
     let w = whole_begins octets left bytes (sym e ∙ s) in
     none w.labels (length (wire w.labels)) (begins octets w.rest w.labels w.name w.spelled)
 
 -- a name that is read stands there
-pub name_stands : (octets : List ℕ) (x : List (List ℕ) × List ℕ) → IsBytes octets → name_at octets ≡ Ok x → (octets ≡ wire x.0 ++ x.1) × IsName x.0
+pub name_stands : (octets : List ℕ) (x : List (List ℕ) × List ℕ) → IsBytes octets
+    → name_at octets ≡ Ok x → (octets ≡ wire x.0 ++ x.1) × IsName x.0
 unfolding name_at
 name_stands octets x bytes e = go (front_of octets) refl e
   where
-    go : (front : Front) → front_of octets ≡ front → named octets front ≡ Ok x → (octets ≡ wire x.0 ++ x.1) × IsName x.0
+    go : (front : Front) → front_of octets ≡ front → named octets front ≡ Ok x
+        → (octets ≡ wire x.0 ++ x.1) × IsName x.0
     go (Whole left) f h =
         let w = whole_begins octets left bytes f in
-        let labels : labels_of octets ≡ w.labels = ap labels_of w.spelled ∙ labels_of-wire w.labels w.rest w.name.raw.each in
-        let size : length octets - left ≡ length (wire w.labels) = omega (arith, ap length w.spelled, length-append (wire w.labels) w.rest, w.left_is) in
-        let rest : drop (length octets - left) octets ≡ w.rest = ap (λ k. drop k octets) size ∙ ap (drop (length (wire w.labels))) w.spelled ∙ drop-append_seam (wire w.labels) w.rest in
-        let first : w.labels ≡ x.0 = sym labels ∙ ap (λ (p : List (List ℕ) × List ℕ). p.0) (ok_is (labels_of octets, drop (length octets - left) octets) x h) in
-        let second : w.rest ≡ x.1 = sym rest ∙ ap (λ (p : List (List ℕ) × List ℕ). p.1) (ok_is (labels_of octets, drop (length octets - left) octets) x h) in
+        let labels : labels_of octets ≡ w.labels = ap labels_of w.spelled
+        ∙ labels_of-wire w.labels w.rest w.name.raw.each in
+        let size : length octets - left ≡ length (wire w.labels) =
+        omega (arith, ap length w.spelled, length-append (wire w.labels) w.rest, w.left_is) in
+        let rest : drop (length octets - left) octets ≡ w.rest =
+        ap (λ k. drop k octets) size ∙ ap (drop (length (wire w.labels))) w.spelled
+        ∙ drop-append_seam (wire w.labels) w.rest in
+        let first : w.labels ≡ x.0 = sym labels
+        ∙ ap (λ (p : List (List ℕ) × List ℕ). p.0)
+        (ok_is (labels_of octets, drop (length octets - left) octets) x h) in
+        let second : w.rest ≡ x.1 = sym rest
+        ∙ ap (λ (p : List (List ℕ) × List ℕ). p.1)
+        (ok_is (labels_of octets, drop (length octets - left) octets) x h) in
         (w.spelled ∙ cc (first, second), subst IsName first w.name)
     go Short f h = absurd cc
     go Broken f h = absurd cc
 
 -- a name that was written is read again
-pub name_again : (labels : List (List ℕ)) (rest : List ℕ) → IsName labels → name_at (wire labels ++ rest) ≡ Ok (labels, rest)
+pub name_again : (labels : List (List ℕ)) (rest : List ℕ) → IsName labels
+    → name_at (wire labels ++ rest) ≡ Ok (labels, rest)
 unfolding name_at
 name_again labels rest name =
-    ap (named (wire labels ++ rest)) (front_again labels rest name) ∙ cc (labels_of-wire labels rest name.raw.each, behind_found labels rest)
+    ap (named (wire labels ++ rest)) (front_again labels rest name)
+    ∙ cc (labels_of-wire labels rest name.raw.each, behind_found labels rest)

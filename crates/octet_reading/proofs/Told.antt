@@ -39,31 +39,57 @@ passed : (b : Bool) (x y : Front) → b ≡ true → x ≡ y → cond b x Broken
 passed true x y t e = e
 passed false x y t e = absurd cc
 
-goes_on : (room need : ℕ) (octets : List ℕ) → IsBytes octets → front_from room need octets ≡ Short → GoesOn room need octets
-goes_on room zero [] bytes e = record { more = 0 ∷ []; bytes = one_byte 0 [] (omega arith) no_bytes; whole = refl }
+goes_on : (room need : ℕ) (octets : List ℕ) → IsBytes octets → front_from room need octets ≡ Short
+    → GoesOn room need octets
+goes_on room zero [] bytes e =
+    record { more = 0 ∷ []; bytes = one_byte 0 [] (omega arith) no_bytes; whole = refl }
 goes_on room (suc need) [] bytes e =
     let r = goes_on room need [] no_bytes refl in
-    record { more = 0x61 ∷ r.more; bytes = one_byte 0x61 r.more (omega arith) r.bytes; whole = r.whole }
+    record {
+      more = 0x61 ∷ r.more;
+      bytes = one_byte 0x61 r.more (omega arith) r.bytes;
+      whole =
+          r.whole;
+    }
 goes_on room zero (zero ∷ octets) bytes e = absurd cc
 goes_on room zero (suc n ∷ octets) bytes e =
-    let t = taken_or (nat_lt n 63 && nat_le (n + 3) room) (front_from (room - (n + 2)) (suc n) octets) e in
+    let t = taken_or (nat_lt n 63
+    && nat_le (n + 3) room) (front_from (room - (n + 2)) (suc n) octets) e in
     let r = goes_on (room - (n + 2)) (suc n) octets (later_bytes (suc n) octets bytes) t.1 in
-    record { more = r.more; bytes = one_byte (suc n) (octets ++ r.more) (bytes 0) r.bytes; whole = passed (nat_lt n 63 && nat_le (n + 3) room) (front_from (room - (n + 2)) (suc n) (octets ++ r.more)) (Whole 0) t.0 r.whole }
+    record {
+      more = r.more;
+      bytes = one_byte (suc n) (octets ++ r.more)
+          (bytes 0) r.bytes;
+      whole = passed (nat_lt n 63 && nat_le (n + 3) room)
+          (front_from (room - (n + 2)) (suc n) (octets ++ r.more)) (Whole 0) t.0 r.whole;
+    }
 goes_on room (suc need) (b ∷ octets) bytes e =
     let t = taken_or (is_lower b) (front_from room need octets) e in
     let r = goes_on room need octets (later_bytes b octets bytes) t.1 in
-    record { more = r.more; bytes = one_byte b (octets ++ r.more) (bytes 0) r.bytes; whole = passed (is_lower b) (front_from room need (octets ++ r.more)) (Whole 0) t.0 r.whole }
+    record {
+      more = r.more;
+      bytes = one_byte b (octets ++ r.more) (bytes 0) r.bytes;
+      whole = passed (is_lower b)
+          (front_from room need (octets ++ r.more)) (Whole 0) t.0 r.whole;
+    }
 
 -- what is broken stays so, whatever follows
-stopped : (b : Bool) (x y : Front) → (x ≡ Broken → y ≡ Broken) → cond b x Broken ≡ Broken → cond b y Broken ≡ Broken
+stopped : (b : Bool) (x y : Front) → (x ≡ Broken → y ≡ Broken) → cond b x Broken ≡ Broken
+    → cond b y Broken ≡ Broken
 stopped true x y h e = h e
 stopped false x y h e = refl
 
-stays_broken : (room need : ℕ) (octets more : List ℕ) → front_from room need octets ≡ Broken → front_from room need (octets ++ more) ≡ Broken
+stays_broken : (room need : ℕ) (octets more : List ℕ) → front_from room need octets ≡ Broken
+    → front_from room need (octets ++ more) ≡ Broken
 stays_broken room need [] more e = absurd cc
 stays_broken room zero (zero ∷ octets) more e = absurd cc
-stays_broken room zero (suc n ∷ octets) more e = stopped (nat_lt n 63 && nat_le (n + 3) room) (front_from (room - (n + 2)) (suc n) octets) (front_from (room - (n + 2)) (suc n) (octets ++ more)) (stays_broken (room - (n + 2)) (suc n) octets more) e
-stays_broken room (suc need) (b ∷ octets) more e = stopped (is_lower b) (front_from room need octets) (front_from room need (octets ++ more)) (stays_broken room need octets more) e
+stays_broken room zero (suc n ∷ octets) more e =
+    stopped (nat_lt n 63 && nat_le (n + 3) room) (front_from (room - (n + 2)) (suc n) octets)
+    (front_from (room - (n + 2)) (suc n) (octets ++ more))
+    (stays_broken (room - (n + 2)) (suc n) octets more) e
+stays_broken room (suc need) (b ∷ octets) more e =
+    stopped (is_lower b) (front_from room need octets) (front_from room need (octets ++ more))
+    (stays_broken room need octets more) e
 
 can_go_on : (octets : List ℕ) → IsBytes octets → front_of octets ≡ Short → CanGoOn octets
 can_go_on octets bytes e =
@@ -72,17 +98,27 @@ can_go_on octets bytes e =
     record {
       labels = w.labels;
       more = r.more;
-      begins = record { name = w.name; spelled = w.spelled ∙ ap (λ t. wire w.labels ++ t) (nil_from_length w.rest w.left_is) };
-      not_yet = λ others rest b. let k : Whole (length rest) ≡ Short = sym (ap front_of b.spelled ∙ front_again others rest b.name) ∙ e in absurd cc;
+      begins = record {
+        name = w.name;
+        spelled = w.spelled
+            ∙ ap (λ t. wire w.labels ++ t) (nil_from_length w.rest w.left_is);
+      };
+      not_yet = λ others rest b. let k : Whole (length rest) ≡ Short =
+          sym (ap front_of b.spelled ∙ front_again others rest b.name) ∙ e in absurd cc;
     }
 
 can_be_none : (octets : List ℕ) → front_of octets ≡ Broken → CanBeNoName octets
 can_be_none octets e more labels rest b =
-    let k : Whole (length rest) ≡ Broken = sym (ap front_of b.spelled ∙ front_again labels rest b.name) ∙ stays_broken 255 0 octets more e in
+    let k : Whole (length rest) ≡ Broken =
+    sym (ap front_of b.spelled ∙ front_again labels rest b.name)
+    ∙ stays_broken 255 0 octets more e in
     absurd cc
 
-told : (octets : List ℕ) (front : Front) → IsBytes octets → front_of octets ≡ front → name_at octets ≡ named octets front → TellsName octets (named octets front)
-told octets (Whole left) bytes f e = let s = name_stands octets _ bytes e in record { name = s.1; spelled = s.0 }
+told : (octets : List ℕ) (front : Front) → IsBytes octets → front_of octets ≡ front
+    → name_at octets ≡ named octets front
+    → TellsName octets (named octets front)
+told octets (Whole left) bytes f e = let s = name_stands octets _ bytes e in
+    record { name = s.1; spelled = s.0 }
 told octets Short bytes f e = inl (refl, can_go_on octets bytes f)
 told octets Broken bytes f e = inr (refl, can_be_none octets f)
 
@@ -91,4 +127,5 @@ unfolding name_at
 names_are_told octets are = told octets (front_of octets) (are_bytes octets are) refl refl
 
 pub layouts_are_told : LayoutsAreTold
-layouts_are_told type octets are = (layout_is type octets (are_bytes octets are), layout_again type octets)
+layouts_are_told type octets are =
+    (layout_is type octets (are_bytes octets are), layout_again type octets)

@@ -18,24 +18,30 @@ ok_within le = record { holds = le }
 pub err_within : {A : Type 0} {size left : ℕ} → left ≤ size → Within {A = A} size (Err left)
 err_within le = record { holds = le }
 
-wider : {A : Type 0} (few size : ℕ) (read : Result (A × List ℕ) ℕ) → few ≤ size → IsWithin few read → IsWithin size read
+wider : {A : Type 0} (few size : ℕ) (read : Result (A × List ℕ) ℕ) → few ≤ size → IsWithin few read
+    → IsWithin size read
 wider few size (Ok x) le w = omega (arith, le, w)
 wider few size (Err left) le w = omega (arith, le, w)
 
-pub widen : {A : Type 0} {few size : ℕ} {read : Result (A × List ℕ) ℕ} → few ≤ size → Within few read → Within size read
-widen {few = few} {size = size} {read = read} le w = record { holds = wider few size read le w.holds }
+pub widen : {A : Type 0} {few size : ℕ} {read : Result (A × List ℕ) ℕ} → few ≤ size
+    → Within few read → Within size read
+widen {few = few} {size = size} {read = read} le w =
+    record { holds = wider few size read le w.holds }
 
 -- a step, and one behind it
-step_within : {A B : Type 0} (size : ℕ) (read : Result (A × List ℕ) ℕ) (f : A × List ℕ → Result (B × List ℕ) ℕ) → IsWithin size read
+step_within : {A B : Type 0} (size : ℕ) (read : Result (A × List ℕ) ℕ) (f : A × List ℕ
+    → Result (B × List ℕ) ℕ) → IsWithin size read
     → ((x : A × List ℕ) → length x.1 ≤ size → Within size (f x)) → Within size (read >>= f)
 step_within size (Ok x) f w h = h x w
 step_within size (Err left) f w h = record { holds = w }
 
-pub then_within : {A B : Type 0} {size : ℕ} {read : Result (A × List ℕ) ℕ} {f : A × List ℕ → Result (B × List ℕ) ℕ} → Within size read
+pub then_within : {A B : Type 0} {size : ℕ} {read : Result (A × List ℕ) ℕ} {f : A × List ℕ
+    → Result (B × List ℕ) ℕ} → Within size read
     → ((x : A × List ℕ) → length x.1 ≤ size → Within size (f x)) → Within size (read >>= f)
 then_within {size = size} {read = read} {f = f} w h = step_within size read f w.holds h
 
-pub cond_within : {A : Type 0} (b : Bool) {size : ℕ} (x y : Result (A × List ℕ) ℕ) → Within size x → Within size y → Within size (cond b x y)
+pub cond_within : {A : Type 0} (b : Bool) {size : ℕ} (x y : Result (A × List ℕ) ℕ) → Within size x
+    → Within size y → Within size (cond b x y)
 cond_within true x y v w = v
 cond_within false x y v w = w
 

@@ -21,16 +21,19 @@ pub record CanGoOn (octets : List ℕ) : Type 0 where
 
 -- octets that begin with no name, whatever follows them
 abbrev pub CanBeNoName : List ℕ → Type 0
-CanBeNoName octets = (more : List ℕ) (labels : List (List ℕ)) (rest : List ℕ) → BeginsWithName (octets ++ more) labels rest → ⊥
+CanBeNoName octets = (more : List ℕ) (labels : List (List ℕ)) (rest : List ℕ)
+    → BeginsWithName (octets ++ more) labels rest → ⊥
 
 -- What reading a name tells. The three exclude one another.
 abbrev pub TellsName : List ℕ → Result (List (List ℕ) × List ℕ) ℕ → Type 0
 TellsName octets (Ok x) = BeginsWithName octets x.0 x.1
-TellsName octets (Err left) = ((left ≡ 0) × CanGoOn octets) ⊎ ((left ≡ length octets) × CanBeNoName octets)
+TellsName octets (Err left) =
+    ((left ≡ 0) × CanGoOn octets) ⊎ ((left ≡ length octets) × CanBeNoName octets)
 
 abbrev pub NamesAreTold : Type 0
 NamesAreTold = (octets : List ℕ) → AreOctets octets → TellsName octets (name_at octets)
 
 -- The test of layouts holds of those octets that are a value of the type.
 abbrev pub LayoutsAreTold : Type 0
-LayoutsAreTold = (type : RType) (octets : List ℕ) → AreOctets octets → (is_layout type octets ≡ true) ↔ IsLayout type octets
+LayoutsAreTold = (type : RType) (octets : List ℕ) → AreOctets octets
+    → (is_layout type octets ≡ true) ↔ IsLayout type octets

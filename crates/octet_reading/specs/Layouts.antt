@@ -1,5 +1,7 @@
 -- A test of layouts: whether octets are a value of a type, told from their front on.
-use Rattle.std.specs.Prelude.{ℕ, zero, suc, ◌-◌, List, [], ◌∷◌, length, take, drop, Bool, true, false, ◌&&◌, nat_le, nat_lt, ◌==◌, Option, None, Some, if◌then◌else◌}
+use Rattle.std.specs.Prelude.{ℕ, zero, suc, ◌-◌, List, [], ◌∷◌, length, take, drop, Bool, true}
+use Rattle.std.specs.Prelude.{false, ◌&&◌, nat_le, nat_lt, ◌==◌}
+use Rattle.std.specs.Prelude.{Option, None, Some, if◌then◌else◌}
 use Rattle.std.specs.List.{list_all}
 use Rattle.rdata_layout.specs.declared.types.RType.{RType}
 use Rattle.rdata_layout.specs.declared.fields.Field.{Field}
@@ -26,7 +28,8 @@ behind_name octets Broken = None
 abbrev pub behind_tag : List ℕ → Option (List ℕ)
 behind_tag [] = None
 behind_tag (n ∷ octets) =
-    if nat_le 1 n && nat_le n 15 && nat_le n (length octets) && list_all is_letter_or_digit (take n octets) then Some (drop n octets) else None
+    if nat_le 1 n && nat_le n 15 && nat_le n (length octets)
+    && list_all is_letter_or_digit (take n octets) then Some (drop n octets) else None
 
 -- what stands behind the field that octets begin with
 abbrev pub behind_field : Field → List ℕ → Option (List ℕ)
@@ -57,7 +60,9 @@ holds_of (Some rest) test = test rest
 -- these fields one after another, and then the tail
 abbrev pub are_fields : List Field → Tail → List ℕ → Bool
 are_fields [] end octets = is_tail end octets
-are_fields (first ∷ fields) end octets = holds_of (behind_field first octets) (are_fields fields end)
+are_fields (first ∷ fields) end octets =
+    holds_of (behind_field first octets) (are_fields fields end)
 
 unfoldable pub is_layout : RType → List ℕ → Bool
-is_layout type octets = nat_le (length octets) most_octets && are_fields (fields_of type) (tail_of type) octets
+is_layout type octets =
+    nat_le (length octets) most_octets && are_fields (fields_of type) (tail_of type) octets

@@ -1,5 +1,6 @@
 -- The name at the front of octets, in lower case and without pointers (RFC 1035, 2.3.4 and 3.1).
-use Rattle.std.specs.Prelude.{ℕ, zero, suc, ◌+◌, ◌-◌, List, [], ◌∷◌, length, drop, Bool, ◌&&◌, not, nat_le, nat_lt, Result, Ok, Err, if◌then◌else◌}
+use Rattle.std.specs.Prelude.{ℕ, zero, suc, ◌+◌, ◌-◌, List, [], ◌∷◌, length, drop, Bool, ◌&&◌}
+use Rattle.std.specs.Prelude.{not, nat_le, nat_lt, Result, Ok, Err, if◌then◌else◌}
 use Rattle.dns_name.specs.Stored.{labels_of}
 use Rattle.octet_reading.specs.declared.names.Front.{Front}
 use Rattle.octet_reading.specs.declared.names.Front.TheVariants.{Whole, Short, Broken}
@@ -8,12 +9,15 @@ use Rattle.octet_reading.specs.declared.names.Front.TheVariants.{Whole, Short, B
 abbrev pub is_lower : ℕ → Bool
 is_lower b = not (nat_le 0x41 b && nat_le b 0x5A)
 
--- What octets are for a name, where `need` octets of a label are still to come, and the name may have `room` more behind
--- them. A label has 1 to 63 octets; behind each there is room for one octet more, the length 0 of the root's label.
+-- What octets are for a name, where `need` octets of a label are still to come, and the name may
+-- have `room` more behind them. A label has 1 to 63 octets; behind each there is room for one
+-- octet more, the length 0 of the root's label.
 abbrev pub front_from : (room need : ℕ) → List ℕ → Front
 front_from room need [] = Short
 front_from room zero (zero ∷ octets) = Whole (length octets)
-front_from room zero (suc n ∷ octets) = if nat_lt n 63 && nat_le (n + 3) room then front_from (room - (n + 2)) (suc n) octets else Broken
+front_from room zero (suc n ∷ octets) =
+    if nat_lt n 63 && nat_le (n + 3) room then front_from (room - (n + 2)) (suc n) octets
+    else Broken
 front_from room (suc need) (b ∷ octets) = if is_lower b then front_from room need octets else Broken
 
 -- a name has 255 octets or less

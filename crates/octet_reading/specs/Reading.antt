@@ -1,6 +1,9 @@
--- Reading octets from left to right, with the first fault that is met. A fault is the number of octets that stand from its
--- place on: 0 where octets are missing, and all octets that are left where the field that they begin with is faulty.
-use Rattle.std.specs.Prelude.{◌≡◌, ℕ, zero, suc, ◌+◌, ◌*◌, List, [], ◌∷◌, length, Bool, true, false, Result, Ok, Err, ⊤}
+-- Reading octets from left to right, with the first fault that is met. A fault is the number of
+-- octets that stand from its place on: 0 where octets are missing, and all octets that are left
+-- where the field that they begin with is faulty.
+use Rattle.std.specs.Prelude.{◌≡◌, ℕ, zero, suc, ◌+◌, ◌*◌, List, [], ◌∷◌, length, Bool, true}
+use Rattle.std.specs.Prelude.{false, Result, Ok, Err, ⊤}
+use Rattle.octet_reading.specs.declared.stop.Fault.{Fault}
 use Rattle.octet_reading.specs.declared.stop.Stop.{Stop}
 use Rattle.octet_reading.specs.declared.stop.Stop.TheVariants as stop
 
@@ -10,14 +13,19 @@ abbrev pub ◌>>=◌ : {A B : Type 0} → Result A ℕ → (A → Result B ℕ) 
 (Ok x) >>= f = f x
 (Err left) >>= f = Err left
 
--- What a function returned, seen by view, is what reading gives, unless memory ran out.
+-- What a function that takes no memory returned, seen by view, is what reading gives.
+abbrev pub Gives : {X Y : Type 0} → (X → Y) → Result X Fault → Result Y ℕ → Type 0
+Gives view (Ok x) read = read ≡ Ok (view x)
+Gives view (Err fault) read = read ≡ Err fault.0
+
+-- The same of a function that takes memory: it may also stop since there was none.
 abbrev pub Stops : {Y : Type 0} → Stop → Result Y ℕ → Type 0
 Stops (stop.Bad left) read = read ≡ Err left
 Stops stop.OutOfMemory read = ⊤
 
-abbrev pub Gives : {X Y : Type 0} → (X → Y) → Result X Stop → Result Y ℕ → Type 0
-Gives view (Ok x) read = read ≡ Ok (view x)
-Gives view (Err e) read = Stops e read
+abbrev pub GivesOrStops : {X Y : Type 0} → (X → Y) → Result X Stop → Result Y ℕ → Type 0
+GivesOrStops view (Ok x) read = read ≡ Ok (view x)
+GivesOrStops view (Err e) read = Stops e read
 
 -- A field is a value and the octets behind it. Numbers have their highest octet first.
 abbrev pub octet_at : List ℕ → Result (ℕ × List ℕ) ℕ

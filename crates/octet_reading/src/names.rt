@@ -1,10 +1,12 @@
+//! The name at the front of octets.
+
 ghost use Rattle.std.specs.Prelude.{◌≡◌, length};
 ghost use Rattle.std.specs.List.{list_all};
 ghost use Rattle.octet_reading.specs.Reading.{Gives};
 ghost use Rattle.octet_reading.specs.Names.{is_lower, front_of, name_at};
 
 use crate::numbers::parts;
-use crate::stop::Stop;
+use crate::stop::Fault;
 use dns_name::Name;
 use octets::behind;
 
@@ -20,15 +22,15 @@ pub(crate) enum Front {
 }
 
 /// The name at the front, in lower case and without pointers, and what stands behind it.
-pub fn name_at(bytes: &[u8]) -> Result<(Name, &[u8]), Stop>
+pub fn name_at(bytes: &[u8]) -> Result<(Name, &[u8]), Fault>
     ensures { Gives (λ x. (x.0, x.1.now)) result (name_at bytes.now) }
 {
     match front_of(bytes) {
-        Front::Short => Err(Stop::Bad(0)),
-        Front::Broken => Err(Stop::Bad(bytes.len())),
+        Front::Short => Err(Fault(0)),
+        Front::Broken => Err(Fault(bytes.len())),
         Front::Whole(_) => {
             let Some((name, len)) = Name::from_wire(bytes) else {
-                return Err(Stop::Bad(bytes.len()));
+                return Err(Fault(bytes.len()));
             };
             Ok((name, behind(bytes, len)))
         }
