@@ -1,12 +1,15 @@
 -- A set has one first reason.
-use Rattle.std.proofs.Common.{◌≡◌, ℕ, List, refl, sym, Option, None, Some}
+use Rattle.std.proofs.Common.{◌≡◌, ℕ, List, refl, Option, None, Some}
 use Rattle.record_set.specs.declared.sets.RecordSet.{RecordSet}
 use Rattle.record_set.specs.declared.reasons.Reason.{Reason}
-use Rattle.record_set.specs.declared.reasons.Reason.TheVariants.{NoValues, TooManyValuesInSet, RepeatedValue, OneValueOnly, SoaNotAtApex, PolicyNotAllowed, WildcardNs}
+use Rattle.record_set.specs.declared.reasons.Reason.TheVariants.{NoValues, TooManyValuesInSet, RepeatedValue}
+use Rattle.record_set.specs.declared.reasons.Reason.TheVariants.{OneValueOnly, SoaNotAtApex, PolicyNotAllowed}
+use Rattle.record_set.specs.declared.reasons.Reason.TheVariants.{WildcardNs}
 use Rattle.record_set.specs.Reasons.{Holds, IsFirst, NoneHolds, reasons}
 
 -- of all reasons none holds
-none_holds : (reason : Reason) (set : RecordSet) (apex : List (List ℕ)) → NoneHolds reasons set apex → Holds reason set apex → ⊥
+none_holds : (reason : Reason) (set : RecordSet) (apex : List (List ℕ)) → NoneHolds reasons set apex
+    → Holds reason set apex → ⊥
 none_holds NoValues set apex none h = none.0 h
 none_holds TooManyValuesInSet set apex none h = none.1.0 h
 none_holds RepeatedValue set apex none h = none.1.1.0 h
@@ -15,7 +18,8 @@ none_holds SoaNotAtApex set apex none h = none.1.1.1.1.0 h
 none_holds PolicyNotAllowed set apex none h = none.1.1.1.1.1.0 h
 none_holds WildcardNs set apex none h = none.1.1.1.1.1.1.0 h
 
-pub one_first : (set : RecordSet) (apex : List (List ℕ)) (reason other : Option Reason) → IsFirst reason set apex → IsFirst other set apex → reason ≡ other
+pub one_first : (set : RecordSet) (apex : List (List ℕ)) (reason other : Option Reason)
+    → IsFirst reason set apex → IsFirst other set apex → reason ≡ other
 one_first set apex None None h k = refl
 one_first set apex None (Some reason) h k = absurd (none_holds reason set apex h k.0)
 one_first set apex (Some reason) None h k = absurd (none_holds reason set apex k h.0)

@@ -38,6 +38,7 @@ IsMultivalue (routing.Weighted ident weight) = ⊥
 IsMultivalue (routing.Failover ident role) = ⊥
 IsMultivalue (routing.Geolocation ident place) = ⊥
 IsMultivalue (routing.Latency ident region) = ⊥
+IsMultivalue (routing.Cidr ident collection location) = ⊥
 
 -- A name has one canonical name, and a zone one start of authority (RFC 1034, 3.6.2 and 4.2.1).
 abbrev pub HasOneValue : RType → Type 0

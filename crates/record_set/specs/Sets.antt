@@ -13,6 +13,7 @@ ident_of (routing.Failover ident role) = Some ident
 ident_of (routing.Geolocation ident place) = Some ident
 ident_of (routing.Latency ident region) = Some ident
 ident_of (routing.Multivalue ident) = Some ident
+ident_of (routing.Cidr ident collection location) = Some ident
 
 -- a set's name, type and identifier
 abbrev pub key_of : RecordSet → SetKey

@@ -1,7 +1,11 @@
+//! The rules that one set meets by itself, and the first one that it breaks.
+
 ghost use Rattle.std.specs.Prelude.{◌≡◌, ◌<◌, [], ◌∷◌, ℕ, List, length, IsTrue, ◌↔◌};
 ghost use Rattle.dns_name.specs.Wildcard.{wildcard};
 ghost use Rattle.routing.specs.declared.policies.Routing.TheVariants as policy;
-ghost use Rattle.record_set.specs.Reasons.{HasRepeated, WithValues, IsAlias, IsMultivalue, HasOneValue, IsOfZone, RoutesZone, AnswersSeveral, IsFirst};
+ghost use Rattle.record_set.specs.Reasons.{HasRepeated, WithValues, IsAlias, IsMultivalue};
+ghost use Rattle.record_set.specs.Reasons.{HasOneValue, IsOfZone, RoutesZone, AnswersSeveral};
+ghost use Rattle.record_set.specs.Reasons.{IsFirst};
 
 use crate::sets::{Body, RecordSet};
 use dns_name::Name;
@@ -24,7 +28,8 @@ pub enum Reason {
     OneValueOnly,
     /// It is of type SOA, and not at the zone's apex.
     SoaNotAtApex,
-    /// It is of type NS or SOA and an alias or not simple; or multivalue, and of type CNAME, NS or SOA or an alias.
+    /// It is of type NS or SOA and an alias or not simple; or multivalue, and of type CNAME, NS or
+    /// SOA or an alias.
     PolicyNotAllowed,
     /// It is of type NS, and its first label is `*`.
     WildcardNs,

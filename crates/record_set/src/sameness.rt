@@ -1,3 +1,5 @@
+//! When two sets are equal.
+
 ghost use Rattle.std.specs.Prelude.{◌≡◌, ℕ, ◌≤◌, length, slice_get, Some, IsTrue, ◌↔◌};
 ghost use Rattle.rdata.specs.Datum.{Datum};
 ghost use Rattle.record_set.specs.Sameness.{once, times, SameValues, SameBody, Same};
@@ -65,7 +67,8 @@ fn same_values(values: &[RData], others: &[RData]) -> bool
 
 /// Whether each of the first values stands as often in the second.
 fn are_as_often(values: &[RData], others: &[RData]) -> bool
-    ensures { IsTrue result ↔ ((i : ℕ) (datum : Datum) → slice_get values.now i ≡ Some datum → times datum values.now ≡ times datum others.now) }
+    ensures { IsTrue result ↔ ((i : ℕ) (datum : Datum) → slice_get values.now i ≡ Some datum
+        → times datum values.now ≡ times datum others.now) }
 {
     for value in values {
         if times(value, values) != times(value, others) {

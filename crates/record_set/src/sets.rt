@@ -1,3 +1,5 @@
+//! A record set, what it answers, and what names it within its zone.
+
 ghost use Rattle.std.specs.Prelude.{◌≡◌, IfOk};
 ghost use Rattle.record_set.specs.Sets.{ident_of, key_of};
 
@@ -99,6 +101,7 @@ fn ident_of(routing: &Routing) -> Option<Ident>
         | Routing::Failover(ident, _)
         | Routing::Geolocation(ident, _)
         | Routing::Latency(ident, _)
-        | Routing::Multivalue(ident) => Some(*ident),
+        | Routing::Multivalue(ident)
+        | Routing::Cidr(ident, _, _) => Some(*ident),
     }
 }

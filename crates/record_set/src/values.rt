@@ -1,3 +1,5 @@
+//! The values of a set.
+
 ghost use Rattle.std.specs.Prelude.{◌≡◌, length, IfOk};
 
 use rdata::{OutOfMemory, RData};
@@ -25,6 +27,13 @@ impl Values {
         ensures { result ≡ list.items }
     {
         Values { list }
+    }
+
+    /// The values as they were given. It takes no memory.
+    pub fn into_vec(self) -> Vec<RData>
+        ensures { result.items ≡ self }
+    {
+        self.list
     }
 
     /// The values as a slice.

@@ -4,8 +4,11 @@
 #![tactic(auto)]
 
 mod alphabet;
+mod locations;
 mod policies;
 mod texts;
 
+pub use alphabet::{is_location_byte, is_printable, is_region_byte, is_subdivision_byte};
+pub use locations::is_location;
 pub use policies::{Continent, Place, Role, Routing};
 pub use texts::{Ident, Region, Sub};

@@ -1,3 +1,5 @@
+//! The policies, and what tells the sets of one policy apart.
+
 ghost use Rattle.std.specs.Prelude.{◌≡◌, ◌↔◌, IsTrue};
 
 use crate::texts::{Ident, Region, Sub};
@@ -50,6 +52,8 @@ pub enum Routing {
     Geolocation(Ident, Place),
     Latency(Ident, Region),
     Multivalue(Ident),
+    /// IP-based: the number of a collection of address blocks, and one of its locations.
+    Cidr(Ident, u32, Ident),
 }
 
 impl Place {
@@ -89,6 +93,12 @@ impl Routing {
                 x.is_same(y) && region.is_same(other_region)
             }
             (Routing::Multivalue(x), Routing::Multivalue(y)) => x.is_same(y),
+            (
+                Routing::Cidr(x, collection, location),
+                Routing::Cidr(y, other_collection, other_location),
+            ) => {
+                x.is_same(y) && collection == other_collection && location.is_same(other_location)
+            }
             _ => false,
         }
     }

@@ -1,3 +1,6 @@
+//! Texts of bounded length in fixed arrays: identifiers, the names of regions and the codes of
+//! subdivisions.
+
 ghost use Rattle.std.specs.Prelude.{◌≡◌, ◌↔◌, IsTrue, SomeIff};
 ghost use Rattle.routing.specs.Texts.{IsIdent, IsRegion, IsSubdivision};
 
@@ -117,7 +120,8 @@ impl Region {
     }
 }
 
-/// The code of a country's subdivision: 1 to 3 bytes of A to Z and 0 to 9 (ISO 3166-2, behind the hyphen).
+/// The code of a country's subdivision: 1 to 3 bytes of A to Z and 0 to 9 (ISO 3166-2, behind the
+/// hyphen).
 #[derive(Clone, Copy, Debug, PartialEq, Eq)]
 pub struct Sub {
     bytes: [u8; 3],

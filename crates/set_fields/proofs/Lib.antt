@@ -1,4 +1,3 @@
 pub mod Fields
 pub mod Numbered
-pub mod Steps
 pub mod Textual

@@ -1,81 +1,186 @@
 -- Letters and texts.
-use Rattle.std.proofs.Common.{◌≡◌, ℕ, ◌+◌, Bool, true, false, not, List, [], ◌∷◌, ◌++◌, length, take, drop, arith, ap, ◌∙◌, sym, refl, subst, cond, length-append, Ok, Err}
-use Rattle.std.specs.Prelude.{◌&&◌, ◌||◌, nat_lt}
-use Rattle.std.specs.List.{list_all}
-use Rattle.std.proofs.lemmas.Bool.{ltb-false, le-ltb, and_from, and_parts, or_from, or_parts, not_from_true}
-use Rattle.std.proofs.lemmas.List.{take-append-drop, length-take-le}
-use Rattle.std.proofs.Math.Seq.{take-append_seam, drop-append_seam}
+use Rattle.std.proofs.Common.{◌≡◌, inl, inr, ℕ, suc, ◌+◌, ◌≤◌, ap, ◌∙◌, Bool, true, false, List, [], ◌∷◌}
+use Rattle.std.proofs.Common.{◌++◌, length, drop, arith, sym, refl, subst, cond, Result, Ok, Err}
+use Rattle.std.specs.Prelude.{◌==◌, ◌&&◌}
+use Rattle.std.specs.List.{AllByRecursion}
+use Rattle.std.proofs.Math.Bool.{and-false}
+use Rattle.std.proofs.lemmas.Bool.{true_from_ne_false, eqb-true, and_from, and_parts}
+use Rattle.octet_reading.specs.Readers.{text_at}
+use Rattle.octet_reading.specs.Rules.{IsReadAs}
+use Rattle.octet_reading.proofs.Base.{read_as}
 use Rattle.octet_reading.proofs.Digits.{ok_is}
-use Rattle.octet_reading.proofs.Texts.{all_from, all_to}
+use Rattle.octet_reading.proofs.Found.{IsBytes}
+use Rattle.dns_name.specs.Names.{AreOctets}
+use Rattle.octet_reading.proofs.Plain.{text_read}
+use Rattle.octet_reading.proofs.Rules.{alike}
 use Rattle.octet_reading.proofs.Within.{Within, ok_within, err_within, cond_within, drop_within}
-use Rattle.routing.specs.Texts.{IsText}
+use Rattle.routing.specs.Texts.{IsText, IsIdent, IsLocation, is_printable, is_location_byte}
 use Rattle.set_octets.specs.Octets.{text_octets, is_capital, AreCapitals}
-use Rattle.set_fields.specs.declared.texts.Text.{Text}
 use Rattle.set_fields.specs.Laws.{IsCountry}
-use Rattle.set_fields.specs.Texts.{is_plain, most_of, text_at, country_at}
-use Rattle.set_fields.proofs.Steps.{guard_ok, kept}
+use Rattle.set_fields.specs.Texts.{begins_with_star, location_at, country_at}
 
-not_false : (b : Bool) → not b ≡ false → b ≡ true
-not_false true e = refl
-not_false false e = absurd cc
+-- a text of an alphabet
+pub texts_read : (is_plain : ℕ → Bool) (most : ℕ)
+    → IsReadAs (IsText is_plain most) text_octets (text_at is_plain most)
+texts_read is_plain most = alike (text_read is_plain most)
+    (λ text is. (record { filled = is.filled; short = is.short; plain = is.plain }, refl))
+    (λ text is. record { filled = is.filled; short = is.short; plain = is.plain })
 
-pub text_is : (kind : Text) (octets text rest : List ℕ) → text_at kind octets ≡ Ok (text, rest) → (octets ≡ text_octets text ++ rest) × IsText (is_plain kind) (most_of kind) text
-unfolding text_at
-text_is kind [] text rest e = absurd cc
-text_is kind (n ∷ octets) text rest e =
-    let bad = nat_lt n 1 || nat_lt (most_of kind) n || not (list_all (is_plain kind) (take n octets)) in
-    let a = guard_ok bad (length octets + 1) (cond (nat_lt (length octets) n) (Err 0) (Ok (take n octets, drop n octets))) (text, rest) e in
-    let b = guard_ok (nat_lt (length octets) n) 0 (Ok (take n octets, drop n octets)) (text, rest) a.1 in
-    let both = ok_is (take n octets, drop n octets) (text, rest) b.1 in
-    let front : take n octets ≡ text = ap (λ (p : List ℕ × List ℕ). p.0) both in
-    let back : drop n octets ≡ rest = ap (λ (p : List ℕ × List ℕ). p.1) both in
-    let p = or_parts (nat_lt n 1 || nat_lt (most_of kind) n) (not (list_all (is_plain kind) (take n octets))) a.0 in
-    let q = or_parts (nat_lt n 1) (nat_lt (most_of kind) n) p.0 in
-    let some = ltb-false n 1 q.0 in
-    let fits = ltb-false (most_of kind) n q.1 in
-    let size : length text ≡ n = ap length (sym front) ∙ length-take-le n octets (ltb-false (length octets) n b.0) in
-    let whole : octets ≡ text ++ rest = sym (take-append-drop n octets) ∙ cc (front, back) in
-    (cc (size, whole), record { filled = omega (arith, size, some); short = omega (arith, size, fits); plain = all_from (is_plain kind) text (ap (list_all (is_plain kind)) (sym front) ∙ not_false _ p.1) })
+-- a text that was read is one
+pub are_octets : (octets : List ℕ) → IsBytes octets → AreOctets octets
+are_octets [] bytes = tt
+are_octets (b ∷ octets) bytes = (bytes 0, are_octets octets (λ i. bytes (suc i)))
 
-pub text_again : (kind : Text) (text rest : List ℕ) → IsText (is_plain kind) (most_of kind) text → text_at kind (text_octets text ++ rest) ≡ Ok (text, rest)
-unfolding text_at
-text_again kind text rest is =
-    let plain : list_all (is_plain kind) (take (length text) (text ++ rest)) ≡ true = ap (list_all (is_plain kind)) (take-append_seam text rest) ∙ all_to (is_plain kind) text is.plain in
-    let good : (nat_lt (length text) 1 || nat_lt (most_of kind) (length text) || not (list_all (is_plain kind) (take (length text) (text ++ rest)))) ≡ false =
-    or_from _ _ (or_from _ _ (le-ltb (length text) 1 is.filled) (le-ltb (most_of kind) (length text) is.short)) (not_from_true _ plain) in
-    let there : nat_lt (length (text ++ rest)) (length text) ≡ false = le-ltb _ _ (omega (arith, length-append text rest)) in
-    rw (good, there, take-append_seam text rest, drop-append_seam text rest) refl
+pub text_stands : (is_plain : ℕ → Bool) (most : ℕ) (octets text rest : List ℕ) → IsBytes octets
+    → text_at is_plain most octets ≡ Ok (text, rest)
+    → IsText is_plain most text
+text_stands is_plain most octets text rest bytes e =
+    ((texts_read is_plain most).stands octets text rest (are_octets octets bytes) e).1
 
-pub text_within : (kind : Text) (octets : List ℕ) → Within (length octets) (text_at kind octets)
-unfolding text_at
-text_within kind [] = err_within (omega arith)
-text_within kind (n ∷ rest) = cond_within _ _ _ (err_within {left = length rest + 1} (omega arith)) (cond_within _ _ _ (err_within {left = 0} (omega arith)) (ok_within {x = (take n rest, drop n rest)} (omega (arith, drop_within n rest))))
+-- a test that lets through
+kept : {A : Type 0} (b : Bool) (left : ℕ) (x y : A) → cond b (Ok x) (Err left) ≡ Ok y
+    → (b ≡ true) × (x ≡ y)
+kept true left x y e = (refl, ok_is x y e)
+kept false left x y e = absurd cc
 
-both_fail : {A : Type 0} (b : Bool) (left other : ℕ) (x : A) → cond b (Err left) (Err other) ≡ Ok x → ⊥
+both_fail : {A : Type 0} (b : Bool) (left other : ℕ) (x : A) → cond b (Err left) (Err other) ≡ Ok x
+    → ⊥
 both_fail true left other x e = cc
 both_fail false left other x e = cc
 
-pub country_stands : (octets : List ℕ) (x : List ℕ × List ℕ) → country_at octets ≡ Ok x → (octets ≡ x.0 ++ x.1) × IsCountry x.0
+country_stands : (octets : List ℕ) (x : List ℕ × List ℕ) → country_at octets ≡ Ok x
+    → (octets ≡ x.0 ++ x.1) × IsCountry x.0
 unfolding country_at
 country_stands [] x e = absurd cc
 country_stands (a ∷ []) x e = absurd (both_fail (is_capital a) 0 1 x e)
 country_stands (a ∷ b ∷ rest) x e =
     let k = kept (is_capital a && is_capital b) (length rest + 2) (a ∷ b ∷ [], rest) x e in
     let p = and_parts (is_capital a) (is_capital b) k.0 in
-    subst (λ (y : List ℕ × List ℕ). (a ∷ b ∷ rest ≡ y.0 ++ y.1) × IsCountry y.0) k.1 (refl, record { two = refl; capital = (p.0, (p.1, tt)) })
+    subst (λ (y : List ℕ × List ℕ). (a ∷ b ∷ rest ≡ y.0 ++ y.1)
+    × IsCountry y.0) k.1 (refl, record { two = refl; capital = (p.0, (p.1, tt)) })
 
-country_from : (letters rest : List ℕ) → length letters ≡ 2 → AreCapitals letters → country_at (letters ++ rest) ≡ Ok (letters, rest)
+country_from : (letters rest : List ℕ) → length letters ≡ 2 → AreCapitals letters
+    → country_at (letters ++ rest) ≡ Ok (letters, rest)
 unfolding country_at
 country_from [] rest two are = absurd (omega (arith, two))
 country_from (a ∷ []) rest two are = absurd (omega (arith, two))
-country_from (a ∷ b ∷ []) rest two are = let h = and_from (is_capital a) (is_capital b) are.0 are.1.0 in rw h refl
+country_from (a ∷ b ∷ []) rest two are = let h =
+    and_from (is_capital a) (is_capital b) are.0 are.1.0 in rw h refl
 country_from (a ∷ b ∷ d ∷ letters) rest two are = absurd (omega (arith, two))
 
-pub country_again : (letters rest : List ℕ) → IsCountry letters → country_at (letters ++ rest) ≡ Ok (letters, rest)
+country_again : (letters rest : List ℕ) → IsCountry letters
+    → country_at (letters ++ rest) ≡ Ok (letters, rest)
 country_again letters rest is = country_from letters rest is.two is.capital
 
-pub country_within : (octets : List ℕ) → Within (length octets) (country_at octets)
+country_within : (octets : List ℕ) → Within (length octets) (country_at octets)
 unfolding country_at
 country_within [] = err_within (omega arith)
 country_within (a ∷ []) = cond_within _ _ _ (err_within (omega arith)) (err_within (omega arith))
-country_within (a ∷ b ∷ rest) = cond_within _ _ _ (ok_within (omega arith)) (err_within (omega arith))
+country_within (a ∷ b ∷ rest) =
+    cond_within _ _ _ (ok_within (omega arith)) (err_within (omega arith))
+
+pub country_read : IsReadAs IsCountry (λ letters. letters) country_at
+country_read = read_as country_again (λ octets x bytes e. country_stands octets x e) country_within
+
+-- the text `*` behind its length
+star_is : (octets : List ℕ) → begins_with_star octets ≡ true → octets ≡ 1 ∷ 0x2A ∷ drop 2 octets
+star_is [] e = absurd cc
+star_is (n ∷ []) e = absurd cc
+star_is (n ∷ b ∷ rest) e =
+    let p = and_parts (n == 1) (b == 0x2A) e in
+    let one = eqb-true n 1 p.0 in
+    let star = eqb-true b 0x2A p.1 in
+    cc
+
+-- no name begins as that text does
+no_star : (text rest : List ℕ) → IsText is_location_byte 16 text
+    → begins_with_star (text_octets text ++ rest) ≡ false
+no_star [] rest is = absurd (omega (arith, is.filled))
+no_star (b ∷ text) rest is = by_byte (b == 0x2A) refl
+  where
+    by_byte : (t : Bool) → (b == 0x2A) ≡ t
+        → begins_with_star (text_octets (b ∷ text) ++ rest) ≡ false
+    by_byte false e = rw e (and-false (length (b ∷ text) == 1))
+    by_byte true e =
+        let star = eqb-true b 0x2A e in
+        let plain : is_location_byte 0x2A ≡ true =
+        subst (λ k. is_location_byte k ≡ true) star is.plain.0 in
+        absurd cc
+
+-- each name is an identifier
+location_printable : (b : ℕ) → is_location_byte b ≡ true → is_printable b ≡ true
+location_printable b e =
+    true_from_ne_false (is_printable b) (λ h. let k : ⊥ = grind (arith, h, e) in k)
+
+all_printable : (text : List ℕ) → AllByRecursion (λ b. is_location_byte b ≡ true) text
+    → AllByRecursion (λ b. is_printable b ≡ true) text
+all_printable [] are = tt
+all_printable (b ∷ text) are = (location_printable b are.0, all_printable text are.1)
+
+pub location_ident : (text : List ℕ) → IsLocation text → IsIdent text
+location_ident text (inl is) =
+    record {
+      filled = is.filled;
+      short = omega (arith, is.short);
+      plain =
+          all_printable text is.plain;
+    }
+location_ident text (inr e) =
+    rw e (record { filled = omega arith; short = omega arith; plain = (refl, tt) })
+
+location_names : IsReadAs (IsText is_location_byte 16) text_octets (text_at is_location_byte 16)
+location_names = texts_read is_location_byte 16
+
+location_again : (text rest : List ℕ) → IsLocation text
+    → location_at (text_octets text ++ rest) ≡ Ok (text, rest)
+unfolding location_at
+location_again text rest (inl is) = rw (no_star text rest is) (location_names.again text rest is)
+location_again text rest (inr e) =
+    subst (λ t. location_at (text_octets t ++ rest) ≡ Ok (t, rest)) (sym e) refl
+
+-- the text `*`, and what stands behind it
+abbrev star_of : List ℕ → Result (List ℕ × List ℕ) ℕ
+star_of octets = Ok (0x2A ∷ [], drop 2 octets)
+
+-- either the one text or the others
+either : {A : Type 0} (b : Bool) (x y : A) (P : A → Type 0) → (b ≡ true → P x) → (b ≡ false → P y)
+    → P (cond b x y)
+either true x y P h k = h refl
+either false x y P h k = k refl
+
+star_left : (octets text rest : List ℕ) → star_of octets ≡ Ok (text, rest)
+    → (0x2A ∷ [] ≡ text) × (drop 2 octets ≡ rest)
+star_left octets text rest e =
+    let same = ok_is (0x2A ∷ [], drop 2 octets) (text, rest) e in
+    (ap (λ (p : List ℕ × List ℕ). p.0) same, ap (λ (p : List ℕ × List ℕ). p.1) same)
+
+pub location_read : IsReadAs IsLocation text_octets location_at
+unfolding location_at
+location_read = record {
+  again = location_again;
+  stands = λ octets text rest are e.
+      either (begins_with_star octets) (star_of octets) (text_at is_location_byte 16 octets)
+      (λ r. r ≡ Ok (text, rest) → (octets ≡ text_octets text ++ rest) × IsLocation text)
+      (λ star f.
+      let s = star_left octets text rest f in (
+        star_is octets star ∙ ap (λ t. 1 ∷ 0x2A ∷ t) s.1
+            ∙ ap (λ t. text_octets t ++ rest) s.0,
+        inr (sym s.0),
+      ))
+      (λ star f. let s = location_names.stands octets text rest are f in (s.0, inl s.1)) e;
+  left = λ octets text rest e.
+      either (begins_with_star octets) (star_of octets) (text_at is_location_byte 16 octets)
+      (λ r. r ≡ Ok (text, rest) → length rest ≤ length octets)
+      (λ star f. omega (arith, ap length (star_left octets text rest f).1, drop_within 2 octets))
+      (λ star f. location_names.left octets text rest f) e;
+  fault = λ octets left e.
+      either (begins_with_star octets) (star_of octets) (text_at is_location_byte 16 octets)
+      (λ r. r ≡ Err left → left ≤ length octets)
+      (λ star f. absurd (let k : star_of octets ≡ Err left = f in cc))
+      (λ star f. location_names.fault octets left f) e;
+}
+
+pub location_stands : (octets text rest : List ℕ) → IsBytes octets
+    → location_at octets ≡ Ok (text, rest) → IsIdent text
+location_stands octets text rest bytes e =
+    location_ident text (location_read.stands octets text rest (are_octets octets bytes) e).1

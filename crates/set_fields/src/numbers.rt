@@ -2,20 +2,21 @@
 
 ghost use Rattle.std.specs.Prelude.{◌≡◌};
 ghost use Rattle.octet_reading.specs.Reading.{Gives};
-ghost use Rattle.set_fields.specs.Numbers.{type_of, type_at, continent_of, continent_at, role_of, role_at, ttl_at};
+ghost use Rattle.set_fields.specs.Numbers.{type_of, type_at, continent_of, continent_at, role_of};
+ghost use Rattle.set_fields.specs.Numbers.{role_at, ttl_at};
 
-use octet_reading::{Stop, four_at, octet_at, two_at};
+use octet_reading::{Fault, four_at, octet_at, two_at};
 use rdata_layout::RType;
 use record_set::{Continent, Role};
 
 /// A type, by its number, and what stands behind it.
 #[tactic(auto, unfolding(crate::specs::Numbers::type_at))]
-pub fn type_at(bytes: &[u8]) -> Result<(RType, &[u8]), Stop>
+pub fn type_at(bytes: &[u8]) -> Result<(RType, &[u8]), Fault>
     ensures { Gives (λ x. (x.0, x.1.now)) result (type_at bytes.now) }
 {
     let (n, rest) = two_at(bytes)?;
     let Some(rtype) = type_of(n) else {
-        return Err(Stop::Bad(bytes.len()));
+        return Err(Fault(bytes.len()));
     };
     Ok((rtype, rest))
 }
@@ -29,12 +30,12 @@ fn type_of(n: u16) -> Option<RType>
 
 /// A continent, by its number, and what stands behind it.
 #[tactic(auto, unfolding(crate::specs::Numbers::continent_at))]
-pub fn continent_at(bytes: &[u8]) -> Result<(Continent, &[u8]), Stop>
+pub fn continent_at(bytes: &[u8]) -> Result<(Continent, &[u8]), Fault>
     ensures { Gives (λ x. (x.0, x.1.now)) result (continent_at bytes.now) }
 {
     let (n, rest) = octet_at(bytes)?;
     let Some(continent) = continent_of(n) else {
-        return Err(Stop::Bad(bytes.len()));
+        return Err(Fault(bytes.len()));
     };
     Ok((continent, rest))
 }
@@ -57,12 +58,12 @@ fn continent_of(n: u8) -> Option<Continent>
 
 /// The part of a failover set, by its number, and what stands behind it.
 #[tactic(auto, unfolding(crate::specs::Numbers::role_at))]
-pub fn role_at(bytes: &[u8]) -> Result<(Role, &[u8]), Stop>
+pub fn role_at(bytes: &[u8]) -> Result<(Role, &[u8]), Fault>
     ensures { Gives (λ x. (x.0, x.1.now)) result (role_at bytes.now) }
 {
     let (n, rest) = octet_at(bytes)?;
     let Some(role) = role_of(n) else {
-        return Err(Stop::Bad(bytes.len()));
+        return Err(Fault(bytes.len()));
     };
     Ok((role, rest))
 }
@@ -80,12 +81,12 @@ fn role_of(n: u8) -> Option<Role>
 
 /// A time to live, seconds below 2^31, and what stands behind it.
 #[tactic(auto, unfolding(crate::specs::Numbers::ttl_at))]
-pub fn ttl_at(bytes: &[u8]) -> Result<(u32, &[u8]), Stop>
+pub fn ttl_at(bytes: &[u8]) -> Result<(u32, &[u8]), Fault>
     ensures { Gives (λ x. (x.0, x.1.now)) result (ttl_at bytes.now) }
 {
     let (ttl, rest) = four_at(bytes)?;
     if ttl >= 0x8000_0000 {
-        return Err(Stop::Bad(bytes.len()));
+        return Err(Fault(bytes.len()));
     }
     Ok((ttl, rest))
 }

@@ -1,2 +1,1 @@
-pub mod Longer
 pub mod Octets

@@ -5,6 +5,8 @@ use Rattle.octets.specs.Numbers.{two_octets, four_octets}
 use Rattle.dns_name.specs.Labels.{wire}
 use Rattle.rdata.specs.Datum.{Datum}
 use Rattle.rdata_layout.specs.Types.{number_of}
+use Rattle.rdata_layout.specs.declared.types.RType.{RType}
+use Rattle.routing.specs.Texts.{IsLocation}
 use Rattle.routing.specs.declared.policies.Continent.{Continent}
 use Rattle.routing.specs.declared.policies.Continent.TheVariants as continent
 use Rattle.routing.specs.declared.policies.Place.{Place}
@@ -47,6 +49,8 @@ routing_octets (routing.Failover ident part) = 2 ∷ (text_octets ident ++ role_
 routing_octets (routing.Geolocation ident where_to) = 3 ∷ (text_octets ident ++ place_octets where_to)
 routing_octets (routing.Latency ident region) = 4 ∷ (text_octets ident ++ text_octets region)
 routing_octets (routing.Multivalue ident) = 5 ∷ text_octets ident
+routing_octets (routing.Cidr ident collection location) =
+    6 ∷ (text_octets ident ++ four_octets collection ++ text_octets location)
 
 -- a value: the number of its octets, and these
 abbrev pub value_octets : Datum → List ℕ
@@ -64,10 +68,13 @@ abbrev pub check_octets : Option ℕ → List ℕ
 check_octets None = 0 ∷ []
 check_octets (Some check) = 1 ∷ four_octets check
 
+-- what stands before the body: name, type and policy
+abbrev pub head_octets : RecordSet → List ℕ
+head_octets set = wire set.name ++ two_octets (number_of set.rtype) ++ routing_octets set.routing
+
 -- name, type, policy, body and check, one after another
 abbrev pub set_octets : RecordSet → List ℕ
-set_octets set =
-    wire set.name ++ two_octets (number_of set.rtype) ++ routing_octets set.routing ++ body_octets set.body ++ check_octets set.check
+set_octets set = head_octets set ++ body_octets set.body ++ check_octets set.check
 
 -- A to Z
 abbrev pub is_capital : ℕ → Bool
@@ -83,6 +90,7 @@ IsSpelledPlace (place.Country letters) = AreCapitals letters
 IsSpelledPlace (place.Subdivision letters part) = AreCapitals letters
 IsSpelledPlace place.Anywhere = ⊤
 
+-- and a location is one that sets may name
 abbrev pub IsSpelledRouting : Routing → Type 0
 IsSpelledRouting routing.Simple = ⊤
 IsSpelledRouting (routing.Weighted ident weight) = ⊤
@@ -90,18 +98,25 @@ IsSpelledRouting (routing.Failover ident part) = ⊤
 IsSpelledRouting (routing.Geolocation ident where_to) = IsSpelledPlace where_to
 IsSpelledRouting (routing.Latency ident region) = ⊤
 IsSpelledRouting (routing.Multivalue ident) = ⊤
+IsSpelledRouting (routing.Cidr ident collection location) = IsLocation location
 
 -- a time to live below 2^31 (RFC 2181, 8), and no more values than can be counted
 abbrev pub IsSpelledBody : Body → Type 0
 IsSpelledBody (body.Values ttl values) = (ttl < 2 ^ 31) × (length values < 2 ^ 16)
 IsSpelledBody (body.Alias target evaluate) = ⊤
 
+-- each value is of the type; an alias has none
+abbrev pub AreOfType : RType → Body → Type 0
+AreOfType type (body.Values ttl values) = AllByRecursion (λ value. value.rtype ≡ type) values
+AreOfType type (body.Alias target evaluate) = ⊤
+
 -- the most octets of a set (own)
 abbrev pub most_octets : ℕ
 most_octets = 65536
 
--- What has a spelling.
+-- What has a spelling. The type of values is not among their octets: it is the set's.
 pub record HasSpelling (set : RecordSet) : Type 0 where
   pub routing : IsSpelledRouting set.routing
   pub body : IsSpelledBody set.body
+  pub of_type : AreOfType set.rtype set.body
   pub short : length (set_octets set) ≤ most_octets

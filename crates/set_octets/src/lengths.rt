@@ -1,9 +1,10 @@
-//! How many octets a set has, as far as that is more than it may have.
+//! How many octets a set has, and whether they are more than a set may have.
 
 ghost use Rattle.std.specs.Prelude.{◌≡◌, ◌<◌, ◌≤◌, length, IsTrue, ◌↔◌};
 ghost use Rattle.std.specs.List.{flat_map};
 ghost use Rattle.dns_name.specs.Labels.{wire};
-ghost use Rattle.set_octets.specs.Octets.{place_octets, routing_octets, value_octets, body_octets, check_octets, set_octets, most_octets};
+ghost use Rattle.set_octets.specs.Octets.{place_octets, routing_octets, value_octets, head_octets};
+ghost use Rattle.set_octets.specs.Octets.{body_octets, check_octets, set_octets, most_octets};
 
 use dns_name::Name;
 use rdata::RData;
@@ -18,13 +19,52 @@ pub const MOST_OCTETS: usize = 65_536;
 pub fn is_long(set: &RecordSet) -> bool
     ensures { IsTrue result ↔ (most_octets < length (set_octets set.now)) }
 {
-    let head = name_len(&set.name) + 2 + routing_len(&set.routing) + check_len(set.check);
-    is_long_body(&set.body, MOST_OCTETS - head)
+    let others = head_len(set) + check_len(set.check);
+    is_long_body(&set.body, MOST_OCTETS - others)
+}
+
+/// How many octets a set has, which is not too long.
+pub fn set_len(set: &RecordSet) -> usize
+    requires short { length (set_octets set.now) ≤ most_octets }
+    ensures { result ≡ length (set_octets set.now) }
+{
+    head_len(set) + body_len(&set.body) + check_len(set.check)
+}
+
+/// How many octets stand before a set's body.
+pub fn head_len(set: &RecordSet) -> usize
+    ensures exact { result ≡ length (head_octets set.now) }
+    ensures few { result ≤ 520 }
+{
+    name_len(&set.name) + 2 + routing_len(&set.routing)
+}
+
+/// How many octets a body has.
+fn body_len(body: &Body) -> usize
+    requires { length (body_octets body.now) ≤ most_octets }
+    ensures { result ≡ length (body_octets body.now) }
+{
+    match body {
+        Body::Values { values, .. } => values_len(values.as_slice()) + 7,
+        Body::Alias { target, .. } => name_len(target) + 2,
+    }
+}
+
+/// How many octets values have, with those of their lengths.
+fn values_len(values: &[RData]) -> usize
+    requires { length (flat_map value_octets values.now) ≤ most_octets }
+    ensures { result ≡ length (flat_map value_octets values.now) }
+{
+    let mut len = 0;
+    for value in values {
+        len += value_len(value);
+    }
+    len
 }
 
 /// Whether a body has more octets than there is room for.
 fn is_long_body(body: &Body, room: usize) -> bool
-    requires { 1000 < room }
+    requires { 260 < room }
     ensures { IsTrue result ↔ (room < length (body_octets body.now)) }
 {
     match body {
@@ -61,13 +101,13 @@ fn name_len(name: &Name) -> usize
     ensures exact { result ≡ length (wire name.now) }
     ensures few { result ≤ 255 }
 {
-    name.write_wire(&mut [0; 255])
+    name.octets().len()
 }
 
 /// How many octets a policy has.
 fn routing_len(routing: &Routing) -> usize
     ensures exact { result ≡ length (routing_octets routing.now) }
-    ensures few { result ≤ 200 }
+    ensures few { result ≤ 263 }
 {
     match routing {
         Routing::Simple => 1,
@@ -75,6 +115,7 @@ fn routing_len(routing: &Routing) -> usize
         Routing::Geolocation(ident, place) => ident.bytes().len() + 2 + place_len(place),
         Routing::Latency(ident, region) => ident.bytes().len() + region.bytes().len() + 3,
         Routing::Multivalue(ident) => ident.bytes().len() + 2,
+        Routing::Cidr(ident, _, location) => ident.bytes().len() + location.bytes().len() + 7,
     }
 }
 

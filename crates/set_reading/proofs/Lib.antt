@@ -1,9 +1,5 @@
-pub mod Again
-pub mod Fields
-pub mod Inside
-pub mod Loop
+pub mod Parts
 pub mod Policies
-pub mod Spelled
 pub mod Values
 pub mod Vectors
 pub mod Whole

@@ -1,25 +1,49 @@
--- The policy of a set that is read stands there.
-use Rattle.std.proofs.Common.{◌≡◌, ℕ, inl, inr, List, [], ◌∷◌, ◌++◌, length, ap, sym, refl, subst, cond, eqb, Result, Ok, Err}
-use Rattle.std.proofs.lemmas.Bool.{eqb-true}
-use Rattle.octet_reading.specs.Reading.{◌>>=◌, octet_at}
-use Rattle.octet_reading.proofs.Digits.{bind_ok, ok_is, joined, octet_is}
-use Rattle.octet_reading.proofs.Found.{IsBytes, rest_bytes}
+-- Places and policies, each by its kind.
+use Rattle.std.proofs.Common.{◌≡◌, ℕ, List, [], ◌∷◌, refl, true}
+use Rattle.std.specs.Prelude.{⊤}
+use Rattle.octets.specs.Numbers.{four_octets}
+use Rattle.octet_reading.specs.Readers.{has_kind}
+use Rattle.octet_reading.specs.Reading.{octet_at, four_at}
+use Rattle.octet_reading.specs.Rules.{IsReadAs}
+use Rattle.octet_reading.proofs.Base.{read_as}
+use Rattle.octet_reading.proofs.Composed.{in_turn_read}
+use Rattle.octet_reading.proofs.Digits.{octet_is, four_is, four_again}
+use Rattle.octet_reading.proofs.OfKind.{kinds_read}
+use Rattle.octet_reading.proofs.Rules.{alike, nothing_read, seen_read}
+use Rattle.octet_reading.proofs.Within.{octet_within, four_within}
+use Rattle.routing.specs.Texts.{IsIdent, IsRegion, IsSubdivision, IsLocation}
+use Rattle.routing.specs.declared.policies.Continent.{Continent}
 use Rattle.routing.specs.declared.policies.Place.{Place}
 use Rattle.routing.specs.declared.policies.Place.TheVariants as place
+use Rattle.routing.specs.declared.policies.Role.{Role}
 use Rattle.routing.specs.declared.policies.Routing.{Routing}
 use Rattle.routing.specs.declared.policies.Routing.TheVariants as routing
-use Rattle.set_octets.specs.Octets.{text_octets, place_octets, role_number, routing_octets, IsSpelledPlace, IsSpelledRouting}
-use Rattle.set_fields.specs.Laws.{FieldsAreRead}
-use Rattle.set_fields.specs.Numbers.{continent_at, role_at}
-use Rattle.set_fields.specs.Texts.{country_at, ident_at, region_at, sub_at}
-use Rattle.set_reading.specs.Reading.{subdivision_at, place_at, weighted_at, failover_at, geolocation_at, latency_at, multivalue_at, routing_at}
+use Rattle.set_octets.specs.Octets.{place_octets, routing_octets, IsSpelledPlace, IsSpelledRouting}
+use Rattle.set_fields.specs.Laws.{FieldsAreRead, IsCountry}
+use Rattle.set_fields.proofs.Textual.{location_ident}
+use Rattle.set_reading.specs.Reading.{subdivision_at, places, place_at, weighted_at, failover_at}
+use Rattle.set_reading.specs.Reading.{geolocation_at, latency_at, multivalue_at, cidr_at, policies}
+use Rattle.set_reading.specs.Reading.{routing_at}
 use Rattle.set_reading.specs.Sets.{IsPlace, IsRouting}
-use Rattle.set_reading.proofs.Fields.{stands_as, chosen, failed}
 
--- a value and what stands behind it, where its octets stand in front
-pub record Stands {A : Type 0} (text : A → List ℕ) (Is : A → Type 0) (octets : List ℕ) (x : A × List ℕ) : Type 0 where
-  pub parts : octets ≡ text x.0 ++ x.1
-  pub is : Is x.0
+-- numbers, as sets have them: no bound is asked of them
+octet_read : IsReadAs (λ n. ⊤) (λ n. n ∷ []) octet_at
+octet_read =
+    read_as (λ n rest is. refl) (λ octets x bytes e. (octet_is octets x e, tt)) octet_within
+
+pub four_read : IsReadAs (λ n. ⊤) four_octets four_at
+four_read =
+    read_as (λ n rest is. four_again n rest) (λ octets x bytes e. (four_is octets x bytes e, tt))
+    four_within
+
+-- the first octet, and those behind it
+abbrev pub first : List ℕ → ℕ
+first [] = 0
+first (n ∷ octets) = n
+
+abbrev pub others : List ℕ → List ℕ
+others [] = []
+others (n ∷ octets) = octets
 
 -- what places and policies are
 abbrev pub IsGoodPlace : Place → Type 0
@@ -28,135 +52,228 @@ IsGoodPlace where_to = IsPlace where_to × IsSpelledPlace where_to
 abbrev pub IsGoodRouting : Routing → Type 0
 IsGoodRouting policy = IsRouting policy × IsSpelledRouting policy
 
--- a policy of a kind
-abbrev routing_of_kind : ℕ → List ℕ → ℕ → Result (Routing × List ℕ) ℕ
-routing_of_kind kind rest left = cond (eqb kind 0) (Ok (routing.Simple, rest)) (cond (eqb kind 1) (weighted_at rest) (cond (eqb kind 2) (failover_at rest) (cond (eqb kind 3) (geolocation_at rest) (cond (eqb kind 4) (latency_at rest) (cond (eqb kind 5) (multivalue_at rest) (Err left))))))
+abbrev place_kind : Place → ℕ
+place_kind where_to = first (place_octets where_to)
+
+abbrev place_later : Place → List ℕ
+place_later where_to = others (place_octets where_to)
+
+abbrev kind : Routing → ℕ
+kind policy = first (routing_octets policy)
+
+abbrev later : Routing → List ℕ
+later policy = others (routing_octets policy)
+
+-- the places of a kind
+abbrev PlaceOf : ℕ → Place → Type 0
+PlaceOf n where_to = IsGoodPlace where_to × (place_kind where_to ≡ n)
+
+continent_from : (x : Place) → PlaceOf 1 x → (p : Continent) × (⊤) × (place.Continent p ≡ x)
+continent_from (place.Continent where_to) h = (where_to, tt, refl)
+continent_from (place.Country letters) h = absurd cc
+continent_from (place.Subdivision letters part) h = absurd cc
+continent_from place.Anywhere h = absurd cc
+
+country_from : (x : Place) → PlaceOf 2 x → (p : List ℕ) × (IsCountry p) × (place.Country p ≡ x)
+country_from (place.Continent where_to) h = absurd cc
+country_from (place.Country letters) h = (letters, record { two = h.0.0; capital = h.0.1 }, refl)
+country_from (place.Subdivision letters part) h = absurd cc
+country_from place.Anywhere h = absurd cc
+
+subdivision_from : (x : Place) → PlaceOf 3 x
+    → (p : List ℕ × List ℕ) × (IsCountry p.0 × IsSubdivision p.1) × (place.Subdivision p.0 p.1 ≡ x)
+subdivision_from (place.Continent where_to) h = absurd cc
+subdivision_from (place.Country letters) h = absurd cc
+subdivision_from (place.Subdivision letters part) h =
+    ((letters, part), (record { two = h.0.0.0; capital = h.0.1 }, h.0.0.1), refl)
+subdivision_from place.Anywhere h = absurd cc
+
+anywhere_from : (x : Place) → PlaceOf 4 x → x ≡ place.Anywhere
+anywhere_from (place.Continent where_to) h = absurd cc
+anywhere_from (place.Country letters) h = absurd cc
+anywhere_from (place.Subdivision letters part) h = absurd cc
+anywhere_from place.Anywhere h = refl
+
+place_parts : (x : Place) → place_kind x ∷ place_later x ≡ place_octets x
+place_parts (place.Continent where_to) = refl
+place_parts (place.Country letters) = refl
+place_parts (place.Subdivision letters part) = refl
+place_parts place.Anywhere = refl
+
+place_there : (x : Place) → has_kind places (place_kind x) ≡ true
+place_there (place.Continent where_to) = refl
+place_there (place.Country letters) = refl
+place_there (place.Subdivision letters part) = refl
+place_there place.Anywhere = refl
+
+-- the policies of a kind
+abbrev Of : ℕ → Routing → Type 0
+Of n policy = IsGoodRouting policy × (kind policy ≡ n)
+
+simple_from : (x : Routing) → Of 0 x → x ≡ routing.Simple
+simple_from routing.Simple h = refl
+simple_from (routing.Weighted ident weight) h = absurd cc
+simple_from (routing.Failover ident part) h = absurd cc
+simple_from (routing.Geolocation ident where_to) h = absurd cc
+simple_from (routing.Latency ident region) h = absurd cc
+simple_from (routing.Multivalue ident) h = absurd cc
+simple_from (routing.Cidr ident collection location) h = absurd cc
+
+weighted_from : (x : Routing) → Of 1 x → (p : List ℕ × ℕ) × (IsIdent p.0 × ⊤)
+    × (routing.Weighted p.0 p.1 ≡ x)
+weighted_from routing.Simple h = absurd cc
+weighted_from (routing.Weighted ident weight) h = ((ident, weight), (h.0.0, tt), refl)
+weighted_from (routing.Failover ident part) h = absurd cc
+weighted_from (routing.Geolocation ident where_to) h = absurd cc
+weighted_from (routing.Latency ident region) h = absurd cc
+weighted_from (routing.Multivalue ident) h = absurd cc
+weighted_from (routing.Cidr ident collection location) h = absurd cc
+
+failover_from : (x : Routing) → Of 2 x → (p : List ℕ × Role) × (IsIdent p.0 × ⊤)
+    × (routing.Failover p.0 p.1 ≡ x)
+failover_from routing.Simple h = absurd cc
+failover_from (routing.Weighted ident weight) h = absurd cc
+failover_from (routing.Failover ident part) h = ((ident, part), (h.0.0, tt), refl)
+failover_from (routing.Geolocation ident where_to) h = absurd cc
+failover_from (routing.Latency ident region) h = absurd cc
+failover_from (routing.Multivalue ident) h = absurd cc
+failover_from (routing.Cidr ident collection location) h = absurd cc
+
+geolocation_from : (x : Routing) → Of 3 x → (p : List ℕ × Place) × (IsIdent p.0 × IsGoodPlace p.1)
+    × (routing.Geolocation p.0 p.1 ≡ x)
+geolocation_from routing.Simple h = absurd cc
+geolocation_from (routing.Weighted ident weight) h = absurd cc
+geolocation_from (routing.Failover ident part) h = absurd cc
+geolocation_from (routing.Geolocation ident where_to) h =
+    ((ident, where_to), (h.0.0.0, (h.0.0.1, h.0.1)), refl)
+geolocation_from (routing.Latency ident region) h = absurd cc
+geolocation_from (routing.Multivalue ident) h = absurd cc
+geolocation_from (routing.Cidr ident collection location) h = absurd cc
+
+latency_from : (x : Routing) → Of 4 x → (p : List ℕ × List ℕ) × (IsIdent p.0 × IsRegion p.1)
+    × (routing.Latency p.0 p.1 ≡ x)
+latency_from routing.Simple h = absurd cc
+latency_from (routing.Weighted ident weight) h = absurd cc
+latency_from (routing.Failover ident part) h = absurd cc
+latency_from (routing.Geolocation ident where_to) h = absurd cc
+latency_from (routing.Latency ident region) h = ((ident, region), (h.0.0.0, h.0.0.1), refl)
+latency_from (routing.Multivalue ident) h = absurd cc
+latency_from (routing.Cidr ident collection location) h = absurd cc
+
+multivalue_from : (x : Routing) → Of 5 x → (p : List ℕ) × (IsIdent p) × (routing.Multivalue p ≡ x)
+multivalue_from routing.Simple h = absurd cc
+multivalue_from (routing.Weighted ident weight) h = absurd cc
+multivalue_from (routing.Failover ident part) h = absurd cc
+multivalue_from (routing.Geolocation ident where_to) h = absurd cc
+multivalue_from (routing.Latency ident region) h = absurd cc
+multivalue_from (routing.Multivalue ident) h = (ident, h.0.0, refl)
+multivalue_from (routing.Cidr ident collection location) h = absurd cc
+
+cidr_from : (x : Routing) → Of 6 x
+    → (p : (List ℕ × ℕ) × List ℕ) × ((IsIdent p.0.0 × ⊤) × IsLocation p.1)
+    × (routing.Cidr p.0.0 p.0.1 p.1 ≡ x)
+cidr_from routing.Simple h = absurd cc
+cidr_from (routing.Weighted ident weight) h = absurd cc
+cidr_from (routing.Failover ident part) h = absurd cc
+cidr_from (routing.Geolocation ident where_to) h = absurd cc
+cidr_from (routing.Latency ident region) h = absurd cc
+cidr_from (routing.Multivalue ident) h = absurd cc
+cidr_from (routing.Cidr ident collection location) h =
+    (((ident, collection), location), ((h.0.0.0, tt), h.0.1), refl)
+
+parts : (x : Routing) → kind x ∷ later x ≡ routing_octets x
+parts routing.Simple = refl
+parts (routing.Weighted ident weight) = refl
+parts (routing.Failover ident part) = refl
+parts (routing.Geolocation ident where_to) = refl
+parts (routing.Latency ident region) = refl
+parts (routing.Multivalue ident) = refl
+parts (routing.Cidr ident collection location) = refl
+
+there : (x : Routing) → has_kind policies (kind x) ≡ true
+there routing.Simple = refl
+there (routing.Weighted ident weight) = refl
+there (routing.Failover ident part) = refl
+there (routing.Geolocation ident where_to) = refl
+there (routing.Latency ident region) = refl
+there (routing.Multivalue ident) = refl
+there (routing.Cidr ident collection location) = refl
 
 module _ (fields : FieldsAreRead) where
-  subdivision_stands : (octets : List ℕ) (x : Place × List ℕ) → IsBytes octets → subdivision_at octets ≡ Ok x → Stands place_octets IsGoodPlace (3 ∷ octets) x
+  subdivision_read : IsReadAs (PlaceOf 3) place_later subdivision_at
   unfolding subdivision_at
-  subdivision_stands octets x bytes e =
-      let a = bind_ok (country_at octets) (λ country. sub_at country.1 >>= λ part. Ok (place.Subdivision country.0 part.0, part.1)) x e in
-      let b = bind_ok (sub_at a.0.1) (λ part. Ok (place.Subdivision a.0.0 part.0, part.1)) x a.2 in
-      let c = stands_as fields.countries octets a.0 bytes a.1 in
-      let t = stands_as fields.subdivisions a.0.1 b.0 (rest_bytes octets a.0.0 a.0.1 bytes c.0) b.1 in
-      let made : Place × List ℕ = (place.Subdivision a.0.0 b.0.0, b.0.1) in
-      subst (λ y. Stands place_octets IsGoodPlace (3 ∷ octets) y) {x = made} (ok_is made x b.2)
-      (record { parts = ap (λ l. 3 ∷ l) (joined octets a.0.0 a.0.1 (text_octets b.0.0) b.0.1 c.0 t.0); is = ((c.1.two, t.1), c.1.capital) })
+  subdivision_read =
+      seen_read (λ x. place.Subdivision x.0 x.1) (in_turn_read fields.countries fields.subdivisions)
+      (λ x h. ((((h.0.two, h.1), h.0.capital), refl), refl)) subdivision_from
 
-  place_of_kind : (kind : ℕ) (rest : List ℕ) (left : ℕ) (x : Place × List ℕ) → IsBytes rest
-      → cond (eqb kind 1) (continent_at rest >>= λ x. Ok (place.Continent x.0, x.1)) (cond (eqb kind 2) (country_at rest >>= λ x. Ok (place.Country x.0, x.1)) (cond (eqb kind 3) (subdivision_at rest) (cond (eqb kind 4) (Ok (place.Anywhere, rest)) (Err left)))) ≡ Ok x
-      → Stands place_octets IsGoodPlace (kind ∷ rest) x
-  place_of_kind kind rest left x bytes e =
-      elim (chosen (eqb kind 1) _ _ _ e) [
-        | inl h ↦
-            let a = bind_ok (continent_at rest) (λ x. Ok (place.Continent x.0, x.1)) x h.1 in
-            let made : Place × List ℕ = (place.Continent a.0.0, a.0.1) in
-            rw (eqb-true kind 1 h.0) (subst (λ y. Stands place_octets IsGoodPlace (1 ∷ rest) y) {x = made} (ok_is made x a.2) (record { parts = ap (λ l. 1 ∷ l) (stands_as fields.continents rest a.0 bytes a.1).0; is = (tt, tt) }))
-        | inr f ↦ elim (chosen (eqb kind 2) _ _ _ f.1) [
-          | inl h ↦
-              let a = bind_ok (country_at rest) (λ x. Ok (place.Country x.0, x.1)) x h.1 in
-              let c = stands_as fields.countries rest a.0 bytes a.1 in
-              let made : Place × List ℕ = (place.Country a.0.0, a.0.1) in
-              rw (eqb-true kind 2 h.0) (subst (λ y. Stands place_octets IsGoodPlace (2 ∷ rest) y) {x = made} (ok_is made x a.2) (record { parts = ap (λ l. 2 ∷ l) c.0; is = (c.1.two, c.1.capital) }))
-          | inr g ↦ elim (chosen (eqb kind 3) _ _ _ g.1) [
-            | inl h ↦ rw (eqb-true kind 3 h.0) (subdivision_stands rest x bytes h.1)
-            | inr i ↦ elim (chosen (eqb kind 4) _ _ _ i.1) [
-              | inl h ↦
-                  let made : Place × List ℕ = (place.Anywhere, rest) in
-                  rw (eqb-true kind 4 h.0) (subst (λ y. Stands place_octets IsGoodPlace (4 ∷ rest) y) {x = made} (ok_is made x h.1) (record { parts = refl; is = (tt, tt) }))
-              | inr j ↦ absurd (failed left x j.1)
-            ]
-          ]
-        ]
-      ]
-
-  place_stands : (octets : List ℕ) (x : Place × List ℕ) → IsBytes octets → place_at octets ≡ Ok x → Stands place_octets IsGoodPlace octets x
+  pub place_read : IsReadAs IsGoodPlace place_octets place_at
   unfolding place_at
-  place_stands octets x bytes e =
-      let a = bind_ok (octet_at octets) (λ kind. cond (eqb kind.0 1) (continent_at kind.1 >>= λ x. Ok (place.Continent x.0, x.1)) (cond (eqb kind.0 2) (country_at kind.1 >>= λ x. Ok (place.Country x.0, x.1)) (cond (eqb kind.0 3) (subdivision_at kind.1) (cond (eqb kind.0 4) (Ok (place.Anywhere, kind.1)) (Err (length octets)))))) x e in
-      let kind = octet_is octets a.0 a.1 in
-      subst (λ l. Stands place_octets IsGoodPlace l x) (sym kind) (place_of_kind a.0.0 a.0.1 (length octets) x (rest_bytes octets (a.0.0 ∷ []) a.0.1 bytes kind) a.2)
+  place_read = alike
+      (kinds_read place_kind IsGoodPlace place_later places (
+        seen_read (λ x. place.Continent x) fields.continents (λ x h. (((tt, tt), refl), refl))
+            continent_from,
+        (
+          seen_read (λ x. place.Country x) fields.countries
+              (λ x h. (((h.two, h.capital), refl), refl)) country_from,
+          (
+            subdivision_read,
+            (
+              alike (nothing_read place.Anywhere) (λ x e. rw e (((tt, tt), refl), refl))
+                  anywhere_from,
+              tt,
+            ),
+          ),
+        ),
+      ) (λ x is. place_there x))
+      (λ x is. (is, place_parts x)) (λ x is. is)
 
-  weighted_stands : (octets : List ℕ) (x : Routing × List ℕ) → IsBytes octets → weighted_at octets ≡ Ok x → Stands routing_octets IsGoodRouting (1 ∷ octets) x
+  weighted_read : IsReadAs (Of 1) later weighted_at
   unfolding weighted_at
-  weighted_stands octets x bytes e =
-      let a = bind_ok (ident_at octets) (λ ident. octet_at ident.1 >>= λ weight. Ok (routing.Weighted ident.0 weight.0, weight.1)) x e in
-      let b = bind_ok (octet_at a.0.1) (λ weight. Ok (routing.Weighted a.0.0 weight.0, weight.1)) x a.2 in
-      let t = stands_as fields.idents octets a.0 bytes a.1 in
-      let w = octet_is a.0.1 b.0 b.1 in
-      let made : Routing × List ℕ = (routing.Weighted a.0.0 b.0.0, b.0.1) in
-      subst (λ y. Stands routing_octets IsGoodRouting (1 ∷ octets) y) {x = made} (ok_is made x b.2)
-      (record { parts = ap (λ l. 1 ∷ l) (joined octets (text_octets a.0.0) a.0.1 (b.0.0 ∷ []) b.0.1 t.0 w); is = (t.1, tt) })
+  weighted_read = seen_read (λ x. routing.Weighted x.0 x.1) (in_turn_read fields.idents octet_read)
+      (λ x h. (((h.0, tt), refl), refl)) weighted_from
 
-  failover_stands : (octets : List ℕ) (x : Routing × List ℕ) → IsBytes octets → failover_at octets ≡ Ok x → Stands routing_octets IsGoodRouting (2 ∷ octets) x
+  failover_read : IsReadAs (Of 2) later failover_at
   unfolding failover_at
-  failover_stands octets x bytes e =
-      let a = bind_ok (ident_at octets) (λ ident. role_at ident.1 >>= λ part. Ok (routing.Failover ident.0 part.0, part.1)) x e in
-      let b = bind_ok (role_at a.0.1) (λ part. Ok (routing.Failover a.0.0 part.0, part.1)) x a.2 in
-      let t = stands_as fields.idents octets a.0 bytes a.1 in
-      let made : Routing × List ℕ = (routing.Failover a.0.0 b.0.0, b.0.1) in
-      subst (λ y. Stands routing_octets IsGoodRouting (2 ∷ octets) y) {x = made} (ok_is made x b.2)
-      (record { parts = ap (λ l. 2 ∷ l) (joined octets (text_octets a.0.0) a.0.1 (role_number b.0.0 ∷ []) b.0.1 t.0 (stands_as fields.roles a.0.1 b.0 (rest_bytes octets (text_octets a.0.0) a.0.1 bytes t.0) b.1).0); is = (t.1, tt) })
+  failover_read =
+      seen_read (λ x. routing.Failover x.0 x.1) (in_turn_read fields.idents fields.roles)
+      (λ x h. (((h.0, tt), refl), refl)) failover_from
 
-  geolocation_stands : (octets : List ℕ) (x : Routing × List ℕ) → IsBytes octets → geolocation_at octets ≡ Ok x → Stands routing_octets IsGoodRouting (3 ∷ octets) x
+  geolocation_read : IsReadAs (Of 3) later geolocation_at
   unfolding geolocation_at
-  geolocation_stands octets x bytes e =
-      let a = bind_ok (ident_at octets) (λ ident. place_at ident.1 >>= λ where_to. Ok (routing.Geolocation ident.0 where_to.0, where_to.1)) x e in
-      let b = bind_ok (place_at a.0.1) (λ where_to. Ok (routing.Geolocation a.0.0 where_to.0, where_to.1)) x a.2 in
-      let t = stands_as fields.idents octets a.0 bytes a.1 in
-      let p = place_stands a.0.1 b.0 (rest_bytes octets (text_octets a.0.0) a.0.1 bytes t.0) b.1 in
-      let made : Routing × List ℕ = (routing.Geolocation a.0.0 b.0.0, b.0.1) in
-      subst (λ y. Stands routing_octets IsGoodRouting (3 ∷ octets) y) {x = made} (ok_is made x b.2)
-      (record { parts = ap (λ l. 3 ∷ l) (joined octets (text_octets a.0.0) a.0.1 (place_octets b.0.0) b.0.1 t.0 p.parts); is = ((t.1, p.is.0), p.is.1) })
+  geolocation_read =
+      seen_read (λ x. routing.Geolocation x.0 x.1) (in_turn_read fields.idents place_read)
+      (λ x h. ((((h.0, h.1.0), h.1.1), refl), refl)) geolocation_from
 
-  latency_stands : (octets : List ℕ) (x : Routing × List ℕ) → IsBytes octets → latency_at octets ≡ Ok x → Stands routing_octets IsGoodRouting (4 ∷ octets) x
+  latency_read : IsReadAs (Of 4) later latency_at
   unfolding latency_at
-  latency_stands octets x bytes e =
-      let a = bind_ok (ident_at octets) (λ ident. region_at ident.1 >>= λ region. Ok (routing.Latency ident.0 region.0, region.1)) x e in
-      let b = bind_ok (region_at a.0.1) (λ region. Ok (routing.Latency a.0.0 region.0, region.1)) x a.2 in
-      let t = stands_as fields.idents octets a.0 bytes a.1 in
-      let r = stands_as fields.regions a.0.1 b.0 (rest_bytes octets (text_octets a.0.0) a.0.1 bytes t.0) b.1 in
-      let made : Routing × List ℕ = (routing.Latency a.0.0 b.0.0, b.0.1) in
-      subst (λ y. Stands routing_octets IsGoodRouting (4 ∷ octets) y) {x = made} (ok_is made x b.2)
-      (record { parts = ap (λ l. 4 ∷ l) (joined octets (text_octets a.0.0) a.0.1 (text_octets b.0.0) b.0.1 t.0 r.0); is = ((t.1, r.1), tt) })
+  latency_read =
+      seen_read (λ x. routing.Latency x.0 x.1) (in_turn_read fields.idents fields.regions)
+      (λ x h. (((h, tt), refl), refl)) latency_from
 
-  multivalue_stands : (octets : List ℕ) (x : Routing × List ℕ) → IsBytes octets → multivalue_at octets ≡ Ok x → Stands routing_octets IsGoodRouting (5 ∷ octets) x
+  multivalue_read : IsReadAs (Of 5) later multivalue_at
   unfolding multivalue_at
-  multivalue_stands octets x bytes e =
-      let a = bind_ok (ident_at octets) (λ ident. Ok (routing.Multivalue ident.0, ident.1)) x e in
-      let t = stands_as fields.idents octets a.0 bytes a.1 in
-      let made : Routing × List ℕ = (routing.Multivalue a.0.0, a.0.1) in
-      subst (λ y. Stands routing_octets IsGoodRouting (5 ∷ octets) y) {x = made} (ok_is made x a.2)
-      (record { parts = ap (λ l. 5 ∷ l) t.0; is = (t.1, tt) })
+  multivalue_read =
+      seen_read (λ x. routing.Multivalue x) fields.idents (λ x h. (((h, tt), refl), refl))
+      multivalue_from
 
-  kind_stands : (kind : ℕ) (rest : List ℕ) (left : ℕ) (x : Routing × List ℕ) → IsBytes rest → routing_of_kind kind rest left ≡ Ok x → Stands routing_octets IsGoodRouting (kind ∷ rest) x
-  kind_stands kind rest left x bytes e =
-      elim (chosen (eqb kind 0) _ _ _ e) [
-        | inl h ↦
-            let made : Routing × List ℕ = (routing.Simple, rest) in
-            rw (eqb-true kind 0 h.0) (subst (λ y. Stands routing_octets IsGoodRouting (0 ∷ rest) y) {x = made} (ok_is made x h.1) (record { parts = refl; is = (tt, tt) }))
-        | inr f0 ↦ elim (chosen (eqb kind 1) _ _ _ f0.1) [
-          | inl h ↦ rw (eqb-true kind 1 h.0) (weighted_stands rest x bytes h.1)
-          | inr f1 ↦ elim (chosen (eqb kind 2) _ _ _ f1.1) [
-            | inl h ↦ rw (eqb-true kind 2 h.0) (failover_stands rest x bytes h.1)
-            | inr f2 ↦ elim (chosen (eqb kind 3) _ _ _ f2.1) [
-              | inl h ↦ rw (eqb-true kind 3 h.0) (geolocation_stands rest x bytes h.1)
-              | inr f3 ↦ elim (chosen (eqb kind 4) _ _ _ f3.1) [
-                | inl h ↦ rw (eqb-true kind 4 h.0) (latency_stands rest x bytes h.1)
-                | inr f4 ↦ elim (chosen (eqb kind 5) _ _ _ f4.1) [
-                  | inl h ↦ rw (eqb-true kind 5 h.0) (multivalue_stands rest x bytes h.1)
-                  | inr f5 ↦ absurd (failed left x f5.1)
-                ]
-              ]
-            ]
-          ]
-        ]
-      ]
+  cidr_read : IsReadAs (Of 6) later cidr_at
+  unfolding cidr_at
+  cidr_read =
+      seen_read (λ x. routing.Cidr x.0.0 x.0.1 x.1)
+      (in_turn_read (in_turn_read fields.idents four_read) fields.locations)
+      (λ x h. ((((h.0.0, location_ident x.1 h.1), h.1), refl), refl)) cidr_from
 
-  pub routing_stands : (octets : List ℕ) (x : Routing × List ℕ) → IsBytes octets → routing_at octets ≡ Ok x → Stands routing_octets IsGoodRouting octets x
+  pub routing_read : IsReadAs IsGoodRouting routing_octets routing_at
   unfolding routing_at
-  routing_stands octets x bytes e =
-      let a = bind_ok (octet_at octets) (λ kind. routing_of_kind kind.0 kind.1 (length octets)) x e in
-      let kind = octet_is octets a.0 a.1 in
-      subst (λ l. Stands routing_octets IsGoodRouting l x) (sym kind) (kind_stands a.0.0 a.0.1 (length octets) x (rest_bytes octets (a.0.0 ∷ []) a.0.1 bytes kind) a.2)
+  routing_read = alike
+      (kinds_read kind IsGoodRouting later policies (
+        alike (nothing_read routing.Simple) (λ x e. rw e (((tt, tt), refl), refl)) simple_from,
+        (
+          weighted_read,
+          (
+            failover_read,
+            (geolocation_read, (latency_read, (multivalue_read, (cidr_read, tt)))),
+          ),
+        ),
+      ) (λ x is. there x))
+      (λ x is. (is, parts x)) (λ x is. is)

@@ -2,9 +2,7 @@
 use Rattle.std.specs.Prelude.{◌≡◌, ℕ, List, ◌++◌, length, ⊤}
 use Rattle.std.specs.List.{AllByRecursion}
 use Rattle.dns_name.specs.Names.{IsName}
-use Rattle.rdata.specs.Datum.{Datum}
-use Rattle.rdata_layout.specs.Layout.{IsLayout}
-use Rattle.rdata_layout.specs.declared.types.RType.{RType}
+use Rattle.record_set.specs.Values.{IsInLayout}
 use Rattle.routing.specs.Texts.{IsIdent, IsRegion, IsSubdivision}
 use Rattle.routing.specs.declared.policies.Place.{Place}
 use Rattle.routing.specs.declared.policies.Place.TheVariants as place
@@ -30,31 +28,18 @@ IsRouting (routing.Failover ident part) = IsIdent ident
 IsRouting (routing.Geolocation ident where_to) = IsIdent ident × IsPlace where_to
 IsRouting (routing.Latency ident region) = IsIdent ident × IsRegion region
 IsRouting (routing.Multivalue ident) = IsIdent ident
-
--- a value of the type
-pub record IsValue (type : RType) (value : Datum) : Type 0 where
-  pub rtype : value.rtype ≡ type
-  pub layout : IsLayout type value.wire
+IsRouting (routing.Cidr ident collection location) = IsIdent ident × IsIdent location
 
 -- the values of records, and the target of an alias
-abbrev pub IsBody : RType → Body → Type 0
-IsBody type (body.Values ttl values) = AllByRecursion (IsValue type) values
-IsBody type (body.Alias target evaluate) = IsName target
+abbrev pub IsBody : Body → Type 0
+IsBody (body.Values ttl values) = AllByRecursion IsInLayout values
+IsBody (body.Alias target evaluate) = IsName target
 
--- the values are of the type
-abbrev pub AreOfType : RType → Body → Type 0
-AreOfType type (body.Values ttl values) = AllByRecursion (λ value. value.rtype ≡ type) values
-AreOfType type (body.Alias target evaluate) = ⊤
-
--- a value in the layout of its own type
-abbrev pub IsInLayout : Datum → Type 0
-IsInLayout value = IsLayout value.rtype value.wire
-
--- What every set is, and besides that its values are of its type.
+-- What every set is.
 pub record IsSet (set : RecordSet) : Type 0 where
   pub name : IsName set.name
   pub routing : IsRouting set.routing
-  pub body : IsBody set.rtype set.body
+  pub body : IsBody set.body
 
 -- These octets begin with the set's, which are the first n.
 pub record BeginsWithSet (octets : List ℕ) (set : RecordSet) (n : ℕ) : Type 0 where

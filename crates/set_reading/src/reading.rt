@@ -3,18 +3,23 @@
 ghost use Rattle.std.specs.Prelude.{◌≡◌, ℕ, length, take, drop, IfOk, Ok};
 ghost use Rattle.record_set.specs.declared.sets.RecordSet.{RecordSet};
 ghost use Rattle.set_reading.specs.Sets.{BeginsWithSet};
-ghost use Rattle.octet_reading.specs.Reading.{Gives};
+ghost use Rattle.octet_reading.specs.Reading.{Gives, GivesOrStops};
 ghost use Rattle.set_reading.specs.Gives.{IsInside, ReadsSet, ReadsValue};
-ghost use Rattle.set_reading.specs.Reading.{place_at, subdivision_at, weighted_at, failover_at, geolocation_at, latency_at, multivalue_at, routing_at, value_at, values_at, records_at, alias_at, body_at, check_at, set_at, read};
+ghost use Rattle.set_reading.specs.Reading.{place_at, subdivision_at, weighted_at, failover_at};
+ghost use Rattle.set_reading.specs.Reading.{geolocation_at, latency_at, multivalue_at, cidr_at};
+ghost use Rattle.set_reading.specs.Reading.{routing_at, value_at, records_at, alias_at, body_at};
+ghost use Rattle.set_reading.specs.Reading.{check_at, set_at, read};
 
 use crate::faults::ReadFault;
-use octet_reading::{Stop, flag_at, four_at, name_at, octet_at, parts, two_at};
+use octet_reading::{
+    Fault, Field, Stop, flag_at, four_at, list_at, name_at, octet_at, parts, two_at,
+};
 use rdata::{RData, WireFault};
 use rdata_layout::RType;
 use record_set::{Body, Place, RecordSet, Routing, Values};
 use set_fields::{
-    continent_at, country_at, fields_are_read, ident_at, region_at, role_at, sub_at, ttl_at,
-    type_at,
+    continent_at, country_at, fields_are_read, ident_at, location_at, region_at, role_at, sub_at,
+    ttl_at, type_at,
 };
 use set_octets::MOST_OCTETS;
 use std::alloc::Global;
@@ -56,16 +61,16 @@ fn read(alloc: Global, bytes: &[u8]) -> Result<(RecordSet, usize), ReadFault>
 /// The fields of a set.
 #[tactic(auto, unfolding(crate::specs::Reading::set_at))]
 fn set_at(alloc: Global, bytes: &[u8]) -> Result<(RecordSet, &[u8]), Stop>
-    ensures { Gives (λ x. (x.0, x.1.now)) result (set_at bytes.now) }
+    ensures { GivesOrStops (λ x. (x.0, x.1.now)) result (set_at bytes.now) }
 {
     let (name, rest) = match name_at(bytes) {
         Ok(read) => read,
-        Err(stop) => return Err(stop),
+        Err(fault) => return Err(Stop::Bad(fault.0)),
     };
     let (rtype, rest) = type_at(rest)?;
     let (routing, rest) = match routing_at(rest) {
         Ok(read) => read,
-        Err(stop) => return Err(stop),
+        Err(fault) => return Err(Stop::Bad(fault.0)),
     };
     let (body, rest) = match body_at(alloc, rtype, rest) {
         Ok(read) => read,
@@ -84,7 +89,7 @@ fn set_at(alloc: Global, bytes: &[u8]) -> Result<(RecordSet, &[u8]), Stop>
 
 /// A policy.
 #[tactic(auto, unfolding(crate::specs::Reading::routing_at))]
-fn routing_at(bytes: &[u8]) -> Result<(Routing, &[u8]), Stop>
+fn routing_at(bytes: &[u8]) -> Result<(Routing, &[u8]), Fault>
     ensures { Gives (λ x. (x.0, x.1.now)) result (routing_at bytes.now) }
 {
     let (kind, rest) = octet_at(bytes)?;
@@ -95,18 +100,19 @@ fn routing_at(bytes: &[u8]) -> Result<(Routing, &[u8]), Stop>
         3 => geolocation_at(rest),
         4 => latency_at(rest),
         5 => multivalue_at(rest),
-        _ => Err(Stop::Bad(bytes.len())),
+        6 => cidr_at(rest),
+        _ => Err(Fault(bytes.len())),
     }
 }
 
 /// The identifier and the weight of a weighted set.
 #[tactic(auto, unfolding(crate::specs::Reading::weighted_at))]
-fn weighted_at(bytes: &[u8]) -> Result<(Routing, &[u8]), Stop>
+fn weighted_at(bytes: &[u8]) -> Result<(Routing, &[u8]), Fault>
     ensures { Gives (λ x. (x.0, x.1.now)) result (weighted_at bytes.now) }
 {
     let (ident, rest) = match ident_at(bytes) {
         Ok(read) => read,
-        Err(stop) => return Err(stop),
+        Err(fault) => return Err(fault),
     };
     let (weight, rest) = octet_at(rest)?;
     Ok((Routing::Weighted(ident, weight), rest))
@@ -114,12 +120,12 @@ fn weighted_at(bytes: &[u8]) -> Result<(Routing, &[u8]), Stop>
 
 /// The identifier and the role of a failover set.
 #[tactic(auto, unfolding(crate::specs::Reading::failover_at))]
-fn failover_at(bytes: &[u8]) -> Result<(Routing, &[u8]), Stop>
+fn failover_at(bytes: &[u8]) -> Result<(Routing, &[u8]), Fault>
     ensures { Gives (λ x. (x.0, x.1.now)) result (failover_at bytes.now) }
 {
     let (ident, rest) = match ident_at(bytes) {
         Ok(read) => read,
-        Err(stop) => return Err(stop),
+        Err(fault) => return Err(fault),
     };
     let (role, rest) = role_at(rest)?;
     Ok((Routing::Failover(ident, role), rest))
@@ -127,51 +133,68 @@ fn failover_at(bytes: &[u8]) -> Result<(Routing, &[u8]), Stop>
 
 /// The identifier and the place of a geolocation set.
 #[tactic(auto, unfolding(crate::specs::Reading::geolocation_at))]
-fn geolocation_at(bytes: &[u8]) -> Result<(Routing, &[u8]), Stop>
+fn geolocation_at(bytes: &[u8]) -> Result<(Routing, &[u8]), Fault>
     ensures { Gives (λ x. (x.0, x.1.now)) result (geolocation_at bytes.now) }
 {
     let (ident, rest) = match ident_at(bytes) {
         Ok(read) => read,
-        Err(stop) => return Err(stop),
+        Err(fault) => return Err(fault),
     };
     let (place, rest) = match place_at(rest) {
         Ok(read) => read,
-        Err(stop) => return Err(stop),
+        Err(fault) => return Err(fault),
     };
     Ok((Routing::Geolocation(ident, place), rest))
 }
 
 /// The identifier and the region of a latency set.
 #[tactic(auto, unfolding(crate::specs::Reading::latency_at))]
-fn latency_at(bytes: &[u8]) -> Result<(Routing, &[u8]), Stop>
+fn latency_at(bytes: &[u8]) -> Result<(Routing, &[u8]), Fault>
     ensures { Gives (λ x. (x.0, x.1.now)) result (latency_at bytes.now) }
 {
     let (ident, rest) = match ident_at(bytes) {
         Ok(read) => read,
-        Err(stop) => return Err(stop),
+        Err(fault) => return Err(fault),
     };
     let (region, rest) = match region_at(rest) {
         Ok(read) => read,
-        Err(stop) => return Err(stop),
+        Err(fault) => return Err(fault),
     };
     Ok((Routing::Latency(ident, region), rest))
 }
 
 /// The identifier of a multivalue set.
 #[tactic(auto, unfolding(crate::specs::Reading::multivalue_at))]
-fn multivalue_at(bytes: &[u8]) -> Result<(Routing, &[u8]), Stop>
+fn multivalue_at(bytes: &[u8]) -> Result<(Routing, &[u8]), Fault>
     ensures { Gives (λ x. (x.0, x.1.now)) result (multivalue_at bytes.now) }
 {
     let (ident, rest) = match ident_at(bytes) {
         Ok(read) => read,
-        Err(stop) => return Err(stop),
+        Err(fault) => return Err(fault),
     };
     Ok((Routing::Multivalue(ident), rest))
 }
 
+/// The identifier, the collection and the location of an IP-based set.
+#[tactic(auto, unfolding(crate::specs::Reading::cidr_at))]
+fn cidr_at(bytes: &[u8]) -> Result<(Routing, &[u8]), Fault>
+    ensures { Gives (λ x. (x.0, x.1.now)) result (cidr_at bytes.now) }
+{
+    let (ident, rest) = match ident_at(bytes) {
+        Ok(read) => read,
+        Err(fault) => return Err(fault),
+    };
+    let (collection, rest) = four_at(rest)?;
+    let (location, rest) = match location_at(rest) {
+        Ok(read) => read,
+        Err(fault) => return Err(fault),
+    };
+    Ok((Routing::Cidr(ident, collection, location), rest))
+}
+
 /// A place.
 #[tactic(auto, unfolding(crate::specs::Reading::place_at))]
-fn place_at(bytes: &[u8]) -> Result<(Place, &[u8]), Stop>
+fn place_at(bytes: &[u8]) -> Result<(Place, &[u8]), Fault>
     ensures { Gives (λ x. (x.0, x.1.now)) result (place_at bytes.now) }
 {
     let (kind, rest) = octet_at(bytes)?;
@@ -186,19 +209,19 @@ fn place_at(bytes: &[u8]) -> Result<(Place, &[u8]), Stop>
         }
         3 => subdivision_at(rest),
         4 => Ok((Place::Anywhere, rest)),
-        _ => Err(Stop::Bad(bytes.len())),
+        _ => Err(Fault(bytes.len())),
     }
 }
 
 /// A country and its subdivision.
 #[tactic(auto, unfolding(crate::specs::Reading::subdivision_at))]
-fn subdivision_at(bytes: &[u8]) -> Result<(Place, &[u8]), Stop>
+fn subdivision_at(bytes: &[u8]) -> Result<(Place, &[u8]), Fault>
     ensures { Gives (λ x. (x.0, x.1.now)) result (subdivision_at bytes.now) }
 {
     let (country, rest) = country_at(bytes)?;
     let (sub, rest) = match sub_at(rest) {
         Ok(read) => read,
-        Err(stop) => return Err(stop),
+        Err(fault) => return Err(fault),
     };
     Ok((Place::Subdivision(country, sub), rest))
 }
@@ -206,12 +229,15 @@ fn subdivision_at(bytes: &[u8]) -> Result<(Place, &[u8]), Stop>
 /// What a set of the type answers.
 #[tactic(auto, unfolding(crate::specs::Reading::body_at))]
 fn body_at(alloc: Global, rtype: RType, bytes: &[u8]) -> Result<(Body, &[u8]), Stop>
-    ensures { Gives (λ x. (x.0, x.1.now)) result (body_at rtype bytes.now) }
+    ensures { GivesOrStops (λ x. (x.0, x.1.now)) result (body_at rtype bytes.now) }
 {
     let (kind, rest) = octet_at(bytes)?;
     match kind {
         0 => records_at(alloc, rtype, rest),
-        1 => alias_at(rest),
+        1 => match alias_at(rest) {
+            Ok(read) => Ok(read),
+            Err(fault) => Err(Stop::Bad(fault.0)),
+        },
         _ => Err(Stop::Bad(bytes.len())),
     }
 }
@@ -219,32 +245,34 @@ fn body_at(alloc: Global, rtype: RType, bytes: &[u8]) -> Result<(Body, &[u8]), S
 /// The time to live and the values of records.
 #[tactic(auto, unfolding(crate::specs::Reading::records_at))]
 fn records_at(alloc: Global, rtype: RType, bytes: &[u8]) -> Result<(Body, &[u8]), Stop>
-    ensures { Gives (λ x. (x.0, x.1.now)) result (records_at rtype bytes.now) }
+    ensures { GivesOrStops (λ x. (x.0, x.1.now)) result (records_at rtype bytes.now) }
 {
     let (ttl, rest) = ttl_at(bytes)?;
-    let (count, rest) = two_at(rest)?;
-    let (values, rest) = values_at(alloc, rtype, count, rest)?;
+    let (list, rest) = list_at(alloc, &ValuesOf(rtype), rest)?;
+    let values = Values::from_vec(list);
     Ok((Body::Values { ttl, values }, rest))
 }
 
-/// So many values.
-fn values_at(alloc: Global, rtype: RType, count: u16, bytes: &[u8]) -> Result<(Values, &[u8]), Stop>
-    ensures { Gives (λ x. (x.0, x.1.now)) result (values_at rtype count bytes.now) }
-{
-    let mut values = Vec::new(alloc);
-    let mut rest = bytes;
-    for _ in 0..count {
-        let (value, after) = value_at(alloc, rtype, rest)?;
-        values.push(value)?;
-        rest = after;
+/// The values of a type, each behind the number of its octets, as the items of a list.
+#[derive(Clone, Copy)]
+struct ValuesOf(RType);
+
+impl Field for ValuesOf {
+    type Value = RData;
+
+    ghost use Rattle.set_reading.specs.Reading.{value_at};
+
+    ghost reading = { λ a. value_at a.0 };
+
+    fn read<'a>(&self, alloc: Global, bytes: &'a [u8]) -> Result<(RData, &'a [u8]), Stop> {
+        value_at(alloc, self.0, bytes)
     }
-    Ok((Values::from_vec(values), rest))
 }
 
 /// A value behind the number of its octets.
 #[tactic(auto, unfolding(crate::specs::Reading::value_at))]
 fn value_at(alloc: Global, rtype: RType, bytes: &[u8]) -> Result<(RData, &[u8]), Stop>
-    ensures { Gives (λ x. (x.0, x.1.now)) result (value_at rtype bytes.now) }
+    ensures { GivesOrStops (λ x. (x.0, x.1.now)) result (value_at rtype bytes.now) }
 {
     let (len, rest) = two_at(bytes)?;
     let len = len as usize;
@@ -268,12 +296,12 @@ fn value_of(alloc: Global, rtype: RType, wire: &[u8]) -> Result<RData, WireFault
 
 /// The target of an alias, and whether its health counts.
 #[tactic(auto, unfolding(crate::specs::Reading::alias_at))]
-fn alias_at(bytes: &[u8]) -> Result<(Body, &[u8]), Stop>
+fn alias_at(bytes: &[u8]) -> Result<(Body, &[u8]), Fault>
     ensures { Gives (λ x. (x.0, x.1.now)) result (alias_at bytes.now) }
 {
     let (target, rest) = match name_at(bytes) {
         Ok(read) => read,
-        Err(stop) => return Err(stop),
+        Err(fault) => return Err(fault),
     };
     let (evaluate, rest) = flag_at(rest)?;
     Ok((Body::Alias { target, evaluate }, rest))
@@ -281,7 +309,7 @@ fn alias_at(bytes: &[u8]) -> Result<(Body, &[u8]), Stop>
 
 /// The number of a check, where there is one.
 #[tactic(auto, unfolding(crate::specs::Reading::check_at))]
-fn check_at(bytes: &[u8]) -> Result<(Option<u32>, &[u8]), Stop>
+fn check_at(bytes: &[u8]) -> Result<(Option<u32>, &[u8]), Fault>
     ensures { Gives (λ x. (x.0, x.1.now)) result (check_at bytes.now) }
 {
     let (flag, rest) = flag_at(bytes)?;

@@ -2,15 +2,15 @@
 
 ghost use Rattle.std.specs.Prelude.{◌≡◌, length};
 ghost use Rattle.std.specs.List.{AllByRecursion};
-ghost use Rattle.rdata_layout.specs.declared.types.RType.{RType};
-ghost use Rattle.set_reading.specs.Sets.{AreOfType, IsBody, IsInLayout, IsPlace, IsRouting, IsSet};
+ghost use Rattle.record_set.specs.Values.{IsInLayout};
+ghost use Rattle.set_reading.specs.Sets.{IsBody, IsPlace, IsRouting, IsSet};
 
 use rdata::RData;
 use record_set::{Body, Place, RecordSet, Routing};
 
-/// What every set is whose values are of its type, for the premises of laws; it does nothing.
+/// What every set is, for the premises of laws; it does nothing.
 pub fn well_formed(set: &RecordSet)
-    ensures { AreOfType set.now.rtype set.now.body → IsSet set.now }
+    ensures { IsSet set.now }
 {
     set.name.well_formed();
     routing_parts(&set.routing);
@@ -33,6 +33,10 @@ fn routing_parts(routing: &Routing)
         Routing::Latency(ident, region) => {
             ident.bytes();
             region.bytes();
+        }
+        Routing::Cidr(ident, _, location) => {
+            ident.bytes();
+            location.bytes();
         }
     }
 }
@@ -60,7 +64,7 @@ fn two_letters(letters: &[u8; 2])
 
 /// The parts of what a set answers.
 fn body_parts(body: &Body)
-    ensures { (type : RType) → AreOfType type body.now → IsBody type body.now }
+    ensures { IsBody body.now }
 {
     match body {
         Body::Values { values, .. } => values_in_layout(values.as_slice()),

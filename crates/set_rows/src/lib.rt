@@ -4,6 +4,8 @@
 #[cfg(test)]
 mod equality;
 #[cfg(test)]
+mod large;
+#[cfg(test)]
 mod reasons;
 #[cfg(test)]
 mod sets;

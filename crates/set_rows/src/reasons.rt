@@ -77,12 +77,14 @@ fn compare_policies(rt: &impl Abort, alloc: Global) {
     let a = ident(rt, b"a");
     let refused = Some(Reason::PolicyNotAllowed);
     compare_policy(rt, alloc, RType::Ns, Routing::Weighted(a, 0), b"ns1.");
+    compare_policy(rt, alloc, RType::Ns, Routing::Cidr(a, 1, a), b"ns1.");
     compare_policy(rt, alloc, RType::Cname, Routing::Multivalue(a), b"a.");
     compare_alias(rt, APEX, RType::Soa, Routing::Simple, refused);
     compare_alias(rt, WWW, RType::A, Routing::Multivalue(a), refused);
     compare_alias(rt, WWW, RType::A, Routing::Simple, None);
     let primary = Routing::Failover(a, Role::Primary);
     compare_alias(rt, WWW, RType::A, primary, None);
+    compare_alias(rt, WWW, RType::A, Routing::Cidr(a, 1, a), None);
 }
 
 #[test]

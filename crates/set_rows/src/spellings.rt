@@ -60,6 +60,11 @@ fn texas(rt: &impl Abort) -> Routing {
     Routing::Geolocation(ident(rt, b"t"), Place::Subdivision(*b"US", texas))
 }
 
+/// The policy of a set for a location of the collection 258.
+fn office(rt: &impl Abort) -> Routing {
+    Routing::Cidr(ident(rt, b"c"), 258, ident(rt, b"office"))
+}
+
 /// An alias to the root that is evaluated, in a region.
 fn alias(rt: &impl Abort) -> RecordSet {
     let region = Region::new(b"eu-west-1").expect(rt, "a region");
@@ -94,6 +99,13 @@ fn octets_of_sets(rt: HostRuntime) {
         address(&rt, rt.alloc(), texas(&rt)),
         b"\x03www\x01a\0\0\x01\x03\x01t\x03US\x02TX\0\0\0\x01\x2c\0\x01\0\x04\xc0\0\x02\x01\0",
     );
+    // the location `office` of the collection 258
+    compare(
+        &rt,
+        rt.alloc(),
+        address(&rt, rt.alloc(), office(&rt)),
+        b"\x03www\x01a\0\0\x01\x06\x01c\0\0\x01\x02\x06office\0\0\0\x01\x2c\0\x01\0\x04\xc0\0\x02\x01\0",
+    );
     // an alias to the root that is evaluated, in a region
     compare(
         &rt,
@@ -112,10 +124,13 @@ fn places_of_faults(rt: HostRuntime) {
         // a name with a capital letter, a type that is none, a policy that is none
         (b"\x01A\0\0\x01".as_slice(), 0),
         (b"\0\0\x07".as_slice(), 1),
-        (b"\0\0\x01\x06".as_slice(), 3),
+        (b"\0\0\x01\x07".as_slice(), 3),
         // an identifier of no bytes, and one with a tab
         (b"\0\0\x01\x05\0".as_slice(), 4),
         (b"\0\0\x01\x05\x01\x09".as_slice(), 4),
+        // a location that is no name, and `*` without a body behind it
+        (b"\0\0\x01\x06\x01i\0\0\0\x01\x02**".as_slice(), 10),
+        (b"\0\0\x01\x06\x01i\0\0\0\x01\x01*".as_slice(), 12),
         // a time to live of 2^31, an address of five octets, a flag of 2
         (b"\0\0\x01\0\0\x80\0\0\0".as_slice(), 5),
         (

@@ -3,11 +3,12 @@ use Rattle.std.specs.Prelude.{◌≡◌, ℕ, ◌≤◌, List, length, take, map
 use Rattle.std.specs.List.{AllByRecursion}
 use Rattle.rdata.specs.Datum.{Datum}
 use Rattle.rdata_layout.specs.Layout.{IsLayout}
+use Rattle.rdata_layout.specs.declared.types.RType.{RType}
 use Rattle.record_set.specs.declared.sets.RecordSet.{RecordSet}
 use Rattle.record_set.specs.declared.sets.Body.{Body}
 use Rattle.record_set.specs.declared.sets.Body.TheVariants as body
 use Rattle.set_octets.specs.Octets.{set_octets, most_octets}
-use Rattle.set_scratch.specs.Spans.{datum_at, EndsWithin}
+use Rattle.set_scratch.specs.Spans.{wire_at, EndsWithin}
 use Rattle.set_scratch.specs.declared.fields.Fields.{Fields}
 use Rattle.set_scratch.specs.declared.fields.Kind.{Kind}
 use Rattle.set_scratch.specs.declared.fields.Kind.TheVariants as kind
@@ -42,30 +43,33 @@ set_of fields values = record {
   check = fields.check;
 }
 
--- the values whose octets stand at these places
-abbrev pub values_at : List ℕ → List Span → List Datum
-values_at octets spans = map (datum_at octets) spans
-
--- a value in the layout of its own type
-abbrev pub IsInLayout : Datum → Type 0
-IsInLayout value = IsLayout value.rtype value.wire
+-- the values of a type whose octets stand at these places
+abbrev pub values_at : RType → List ℕ → List Span → List Datum
+values_at type octets spans =
+    map (λ span. record { rtype = type; wire = wire_at octets span }) spans
 
 -- the set that is held, if any
 abbrev pub held_of : Option Fields → List ℕ → List Span → Option RecordSet
 held_of None octets spans = None
-held_of (Some fields) octets spans = Some (set_of fields (values_at octets spans))
+held_of (Some fields) octets spans = Some (set_of fields (values_at fields.rtype octets spans))
+
+-- each value is one of the set's type
+abbrev pub AreLaidOut : Option Fields → List ℕ → List Span → Type 0
+AreLaidOut None octets spans = ⊤
+AreLaidOut (Some fields) octets spans =
+    AllByRecursion (IsLayout fields.rtype) (map (wire_at octets) spans)
 
 -- the octets are those of the set that is held
 abbrev pub AreOf : List ℕ → Option RecordSet → Type 0
 AreOf octets None = ⊤
 AreOf octets (Some set) = octets ≡ set_octets set
 
--- The buffer and the places have room for any set, each value is one of its type, and the first octets are those of the
+-- The buffer and the places have room for any set, each value is one of the set's type, and the first octets are those of the
 -- set that is held.
 pub record IsKept (fields : Option Fields) (octets : List ℕ) (len : ℕ) (spans : List Span) (places : ℕ) : Type 0 where
   pub size : length octets ≡ most_octets
   pub places_for_all : most_values ≤ places
   pub used : len ≤ length octets
   pub within : AllByRecursion (EndsWithin (length octets)) spans
-  pub layouts : AllByRecursion IsInLayout (values_at octets spans)
+  pub layouts : AreLaidOut fields octets spans
   pub first : AreOf (take len octets) (held_of fields octets spans)

@@ -1,5 +1,4 @@
 pub mod Bodies
 pub mod Holding
 pub mod Kept
-pub mod Parts
 pub mod Spans

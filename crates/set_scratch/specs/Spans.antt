@@ -3,11 +3,11 @@ use Rattle.std.specs.Prelude.{ℕ, ◌+◌, ◌≤◌, List, [], ◌∷◌, leng
 use Rattle.rdata.specs.Datum.{Datum}
 use Rattle.set_scratch.specs.declared.spans.Span.{Span}
 
--- the value whose octets stand there
-abbrev pub datum_at : List ℕ → Span → Datum
-datum_at octets span = record { rtype = span.rtype; wire = take span.len (drop span.start octets) }
+-- the octets that stand there
+abbrev pub wire_at : List ℕ → Span → List ℕ
+wire_at octets span = take span.len (drop span.start octets)
 
--- its octets end within so many
+-- they end within so many
 abbrev pub EndsWithin : ℕ → Span → Type 0
 EndsWithin most span = span.start + span.len ≤ most
 
@@ -15,4 +15,4 @@ EndsWithin most span = span.start + span.len ≤ most
 abbrev pub spans_of : ℕ → List Datum → List Span
 spans_of at [] = []
 spans_of at (value ∷ rest) =
-    record { rtype = value.rtype; start = at + 2; len = length value.wire } ∷ spans_of (at + (length value.wire + 2)) rest
+    record { start = at + 2; len = length value.wire } ∷ spans_of (at + (length value.wire + 2)) rest

@@ -1,20 +1,23 @@
-ghost use Rattle.std.specs.Prelude.{◌≡◌, ◌≢◌, ◌≤◌, length, Option, None, Some, IfOk, IfSome, slice_get, take, vec_capacity};
+//! Room for one set, and readers of the set that it holds.
+
+ghost use Rattle.std.specs.Prelude.{◌≡◌, ◌≢◌, ◌≤◌, length, map, Option, None, Some, IfOk, IfSome};
+ghost use Rattle.std.specs.Prelude.{slice_get, take, vec_capacity};
 ghost use Rattle.std.specs.List.{AllByRecursion};
+ghost use Rattle.dns_name.specs.Names.{AreOctets};
 ghost use Rattle.rdata_layout.specs.Layout.{IsLayout};
-ghost use Rattle.set_octets.specs.Octets.{most_octets, set_octets};
+ghost use Rattle.set_octets.specs.Octets.{most_octets, set_octets, AreOfType};
 ghost use Rattle.set_scratch.specs.Bodies.{alias_of, ttl_of, values_of, wires_of};
 ghost use Rattle.set_scratch.specs.Holding.{HasValue, IsHolding};
-ghost use Rattle.set_scratch.specs.Kept.{IsInLayout, most_values, values_at};
-ghost use Rattle.set_scratch.specs.Spans.{EndsWithin};
+ghost use Rattle.set_scratch.specs.Kept.{most_values, values_at};
+ghost use Rattle.set_scratch.specs.Spans.{EndsWithin, wire_at};
 
 use crate::fields::{Fields, Kind, fields_of};
 use crate::spans::{Span, place_values, wire_at};
-use crate::writing::{put_head, put_tail};
 use dns_name::Name;
 use octets::{OutOfMemory, front, zeros};
 use rdata::RType;
 use record_set::{RecordSet, Routing};
-use set_octets::MOST_OCTETS;
+use set_octets::{MOST_OCTETS, fill_set, head_len};
 use std::alloc::Global;
 use std::marker::Model;
 
@@ -64,6 +67,7 @@ impl Scratch {
     /// Copies a set into it, over the one that it held.
     pub fn hold(&mut self, set: &RecordSet)
         requires short { length (set_octets set.now) ≤ most_octets }
+        requires of_type { AreOfType set.now.rtype set.now.body }
         ensures { self.new ≡ Some set.now }
     {
         self.len = copy(self.octets.as_mut_slice(), &mut self.spans, set);
@@ -147,29 +151,37 @@ impl Scratch {
     pub fn value(&self, i: usize) -> &[u8]
         requires { HasValue self.now i }
         ensures wire { IfSome self.now (λ set. slice_get (wires_of set.body) i ≡ Some result.now) }
-        ensures layout { IfSome self.now (λ set. IfSome (slice_get (values_of set.body) i)
-            (λ value. IsLayout value.rtype result.now)) }
+        ensures layout { IfSome self.now (λ set. IsLayout set.rtype result.now) }
+        ensures octets { AreOctets result.now }
     {
-        wire_at(&self.octets, &self.spans, i)
+        let wire = wire_at(&self.octets, &self.spans, i);
+        known_octets(wire);
+        wire
     }
 }
 
-/// Copies a set's octets to the front and puts the places of its values over others. The answer is how many octets
-/// it has.
+/// The octets of a slice are octets; it does nothing.
+fn known_octets(octets: &[u8])
+    ensures { AreOctets octets.now }
+{}
+
+/// Copies a set's octets to the front and puts the places of its values over others. The answer is
+/// how many octets it has.
 fn copy(octets: &mut [u8], spans: &mut Vec<Span>, set: &RecordSet) -> usize
     requires size { length octets.old ≡ most_octets }
     requires room { most_values ≤ vec_capacity spans.old }
     requires short { length (set_octets set.now) ≤ most_octets }
+    requires of_type { AreOfType set.now.rtype set.now.body }
     ensures used { result ≤ most_octets }
     ensures octets { take result octets.new ≡ set_octets set.now }
-    ensures values { values_at octets.new spans.new.items ≡ values_of set.now.body }
+    ensures values { values_at set.now.rtype octets.new spans.new.items ≡ values_of set.now.body }
     ensures within { AllByRecursion (EndsWithin (length octets.new)) spans.new.items }
-    ensures layouts { AllByRecursion IsInLayout (values_of set.now.body) }
+    ensures layouts { AllByRecursion (IsLayout set.now.rtype)
+        (map (wire_at octets.new) spans.new.items) }
     ensures capacity { vec_capacity spans.new ≡ vec_capacity spans.old }
 {
-    let at = put_head(octets, set);
-    place_values(spans, at, &set.body);
-    put_tail(octets, at, set)
+    place_values(spans, head_len(set), &set.body);
+    fill_set(set, octets, 0)
 }
 
 /// The fields of the set that is held.

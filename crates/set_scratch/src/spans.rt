@@ -1,23 +1,25 @@
 //! Where the values of a set stand among its octets.
 
-ghost use Rattle.std.specs.Prelude.{◌≡◌, ◌+◌, ◌<◌, ◌≤◌, [], length, map, Some, IfSome, slice_get, vec_capacity};
+ghost use Rattle.std.specs.Prelude.{◌≡◌, ◌+◌, ◌<◌, ◌≤◌, [], length, map, Some, slice_get};
+ghost use Rattle.std.specs.Prelude.{vec_capacity};
 ghost use Rattle.std.specs.List.{AllByRecursion, flat_map};
 ghost use Rattle.rdata_layout.specs.Layout.{IsLayout};
+ghost use Rattle.rdata_layout.specs.declared.types.RType.{RType};
+ghost use Rattle.record_set.specs.Values.{IsInLayout};
 ghost use Rattle.set_octets.specs.Octets.{body_octets, most_octets, value_octets};
 ghost use Rattle.set_scratch.specs.Bodies.{values_of};
-ghost use Rattle.set_scratch.specs.Kept.{IsInLayout, values_at};
-ghost use Rattle.set_scratch.specs.Spans.{EndsWithin, spans_of};
+ghost use Rattle.set_scratch.specs.Kept.{values_at};
+ghost use Rattle.set_scratch.specs.Spans.{EndsWithin, spans_of, wire_at};
 
 use octets::{behind, front};
-use rdata::{RData, RType};
+use rdata::RData;
 use record_set::Body;
 
 /// Where a value's octets on the wire stand.
 #[derive(Clone, Copy)]
 pub(crate) struct Span {
-    pub rtype: RType,
-    pub start: usize,
-    pub len: usize,
+    pub start: u32,
+    pub len: u32,
 }
 
 /// The octets of a body before its values: a zero, four of the time to live, two of their number.
@@ -50,22 +52,23 @@ fn fill(spans: &mut Vec<Span>, at: usize, values: &[RData])
     for value in values {
         let len = value.wire().len();
         spans.push_reserved(Span {
-            rtype: value.rtype(),
-            start: start + 2,
-            len,
+            start: (start + 2) as u32,
+            len: len as u32,
         });
         start += len + 2;
     }
 }
 
 /// The octets of the value at a place.
-pub(crate) fn wire_at<'a>(octets: &'a [u8], spans: &[Span], i: usize) -> &'a [u8]
+pub(crate) fn wire_at<'a>(bytes: &'a [u8], spans: &[Span], i: usize) -> &'a [u8]
     requires there { i < length spans.now }
-    requires within { AllByRecursion (EndsWithin (length octets.now)) spans.now }
-    requires layouts { AllByRecursion IsInLayout (values_at octets.now spans.now) }
-    ensures wire { slice_get (map (λ value. value.wire) (values_at octets.now spans.now)) i ≡ Some result.now }
-    ensures layout { IfSome (slice_get (values_at octets.now spans.now) i) (λ value. IsLayout value.rtype result.now) }
+    requires within { AllByRecursion (EndsWithin (length bytes.now)) spans.now }
+    ensures wire { (type : RType)
+        → slice_get (map (λ value. value.wire) (values_at type bytes.now spans.now)) i ≡ Some result.now }
+    ensures layout { (type : RType)
+        → AllByRecursion (IsLayout type) (map (wire_at bytes.now) spans.now)
+        → IsLayout type result.now }
 {
     let span = spans[i];
-    front(behind(octets, span.start), span.len)
+    front(behind(bytes, span.start as usize), span.len as usize)
 }

@@ -1,3 +1,5 @@
+//! Sets that are held one after another, and what each reader tells of them.
+
 ghost use Rattle.set_scratch.specs.Holding.{IsHolding};
 
 use crate::Scratch;

@@ -6,5 +6,6 @@ pub loop-other-preserved : goal.loop-other-preserved
 loop-other-preserved c =
     let i = c.loop-other.invariant in
     let e = c.once-count.ensures in
-    let s = times_step c.args.value.now c.other-item.result c.args.values.now c.loop-other.other-index c.loop-other-test.true c.other-item.is in
+    let s = times_step c.args.value.now c.other-item.result c.args.values.now
+    c.loop-other.other-index c.loop-other-test.true c.other-item.is in
     record { few = omega (arith, i.few, e.most); left = omega (arith, i.left, e.exact, s) }

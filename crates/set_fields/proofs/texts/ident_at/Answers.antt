@@ -1,6 +1,10 @@
-use Rattle.set_fields.specs.declared.texts.Text.TheVariants.{Identifier}
-use Rattle.set_fields.proofs.Textual.{text_is}
+use Rattle.std.proofs.Common.{arith}
+use Rattle.routing.specs.Texts.{is_printable}
+use Rattle.set_fields.proofs.Textual.{text_stands}
 use Rattle.set_fields.proofs.texts.ident_at.Goals as goal
 
 pub returns-in_default : goal.returns-in_default
-returns-in_default c = absurd (c.in_default.ensures (text_is Identifier c.args.bytes.now c.in_ok-text.text.now c.in_ok-text.rest.now c.in_ok-text.ensures).1)
+returns-in_default c =
+    absurd (c.in_default.ensures
+    (text_stands is_printable 128 c.args.bytes.now c.in_ok-text.text.now c.in_ok-text.rest.now
+    (λ i. omega (arith, c.type_inv.bytes i)) c.in_ok-text.ensures))
