@@ -1,3 +1,3 @@
 pub mod Tests
-pub use Rattle.r53_model.specs.Batches
-pub use Rattle.r53_model.specs.Limits
+pub use Rattle.batch_model.specs.Batches
+pub use Rattle.batch_model.specs.Limits

@@ -1,11 +1,11 @@
 -- What a batch meets by itself.
 use Rattle.std.specs.Prelude.{◌≡◌, ◌⊎◌, ℕ, List, [], length, Option, None, Some}
 use Rattle.record_set.specs.declared.reasons.Reason.{Reason}
-use Rattle.r53_model.specs.declared.batches.Change.{Change}
-use Rattle.r53_model.specs.declared.refusals.BatchRefusal.{BatchRefusal}
-use Rattle.r53_model.specs.declared.refusals.BatchRefusal.TheVariants as batch
-use Rattle.r53_model.specs.Batches.{AreValidBefore, IsFirstInvalid, IsValid, IsWithinLimits}
-use Rattle.r53_model.specs.Limits.{HasTooManyValues, HasTooManyCharacters, HasLongSet}
+use Rattle.batch_model.specs.declared.batches.Change.{Change}
+use Rattle.batch_model.specs.declared.refusals.BatchRefusal.{BatchRefusal}
+use Rattle.batch_model.specs.declared.refusals.BatchRefusal.TheVariants as batch
+use Rattle.batch_model.specs.Batches.{AreValidBefore, IsFirstInvalid, IsValid, IsWithinLimits}
+use Rattle.batch_model.specs.Limits.{HasTooManyValues, HasTooManyCharacters, HasLongSet}
 
 -- the first change whose set is refused by itself, or none
 abbrev pub IsFirstInvalidOrNone : List Change → (apex : List (List ℕ)) → Option (ℕ × Reason) → Type 0

@@ -1,11 +1,11 @@
 //! What a batch meets by itself.
 
 ghost use Rattle.std.specs.Prelude.{◌≡◌, ◌+◌, ◌<◌, IfSome, IfNone, IsTrue, ◌↔◌};
-ghost use Rattle.r53_model.specs.Limits.{counted, elements_in, HasTooManyValues, HasTooManyCharacters, HasLongSet};
+ghost use Rattle.batch_model.specs.Limits.{counted, elements_in, HasTooManyValues, HasTooManyCharacters, HasLongSet};
 ghost use Rattle.batch_limits.specs.Tests.{IsFirstInvalidOrNone, TellsLimits};
 
+use batch_model::{Action, BatchRefusal, Change};
 use dns_name::Name;
-use r53_model::{Action, BatchRefusal, Change};
 use record_set::{Body, Reason, check_set};
 use set_octets::is_long;
 

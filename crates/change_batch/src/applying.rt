@@ -5,13 +5,13 @@ ghost use Rattle.std.specs.List.{insert, remove};
 ghost use Rattle.dns_name.specs.Suffix.{EndsWith};
 ghost use Rattle.record_set.specs.Reasons.{IsOfZone};
 ghost use Rattle.record_set.specs.Sets.{key_of};
-ghost use Rattle.r53_model.specs.declared.batches.Action.TheVariants.{Create, Delete, Upsert};
-ghost use Rattle.r53_model.specs.Changing.{Gives, IsProtected, IsThereAsGiven};
-ghost use Rattle.r53_model.specs.Zones.{IsRising};
+ghost use Rattle.batch_model.specs.declared.batches.Action.TheVariants.{Create, Delete, Upsert};
+ghost use Rattle.batch_model.specs.Changing.{Gives, IsProtected, IsThereAsGiven};
+ghost use Rattle.zone_model.specs.Zones.{IsRising};
 ghost use Rattle.set_search.specs.Found.{Finds, FindsAt};
 
+use batch_model::{Action, Change, ChangeRefusal};
 use dns_name::Name;
-use r53_model::{Action, Change, ChangeRefusal};
 use rdata::{OutOfMemory, RType};
 use record_set::{RecordSet, same};
 use set_search::find;

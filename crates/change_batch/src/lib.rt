@@ -8,5 +8,5 @@ mod applying;
 mod preparing;
 mod whole;
 
+pub use batch_model::{Action, Batch, BatchRefusal, Change, Changes};
 pub use preparing::prepare;
-pub use r53_model::{Action, Batch, BatchRefusal, Change, Changes};

@@ -1,12 +1,14 @@
+//! A batch made whole, or its first refusal.
+
 ghost use Rattle.std.specs.Prelude.{◌≡◌, IfOk, IfErr};
-ghost use Rattle.r53_model.specs.Batches.{Prepares};
-ghost use Rattle.r53_model.specs.Zones.{IsZone};
-ghost use Rattle.r53_model.specs.Telling.{with_items};
+ghost use Rattle.batch_model.specs.Batches.{Prepares};
+ghost use Rattle.zone_model.specs.Zones.{IsZone};
+ghost use Rattle.batch_model.specs.Telling.{with_items};
 
 use crate::whole::apply_all;
 use batch_limits::check_limits;
+use batch_model::{Batch, BatchRefusal};
 use dns_name::Name;
-use r53_model::{Batch, BatchRefusal};
 use record_set::RecordSet;
 use std::alloc::Global;
 use zone_rules::first_break;

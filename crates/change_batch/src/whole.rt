@@ -1,12 +1,12 @@
 //! All changes of a batch, applied one after another.
 
 ghost use Rattle.std.specs.Prelude.{◌≡◌, IfOk, IfErr, Err};
-ghost use Rattle.r53_model.specs.Batches.{IsWithinLimits, Leaves, Prepares};
-ghost use Rattle.r53_model.specs.Zones.{IsZone};
+ghost use Rattle.batch_model.specs.Batches.{IsWithinLimits, Leaves, Prepares};
+ghost use Rattle.zone_model.specs.Zones.{IsZone};
 
 use crate::applying::apply;
+use batch_model::{BatchRefusal, Change};
 use dns_name::Name;
-use r53_model::{BatchRefusal, Change};
 use rdata::OutOfMemory;
 use record_set::RecordSet;
 use std::alloc::Global;

@@ -13,9 +13,10 @@ use Rattle.dns_name.specs.Order.{zone_cmp}
 use Rattle.dns_name.specs.OrderLaws.{zone_cmp_total}
 use Rattle.dns_name.specs.Suffix.{EndsWith}
 use Rattle.record_set.specs.declared.sets.RecordSet.{RecordSet}
-use Rattle.r53_model.specs.Existing.{Exists, IsAncestor, IsClosest}
-use Rattle.r53_model.specs.Zones.{IsRising}
-use Rattle.r53_model.proofs.Places.{ordered_at}
+use Rattle.zone_model.specs.Existing.{Exists, IsAncestor, IsClosest}
+use Rattle.zone_model.specs.Zones.{IsRising}
+use Rattle.zone_model.proofs.Among.{among_at, place_of}
+use Rattle.zone_model.proofs.Places.{ordered_at}
 use Rattle.set_search.specs.Found.{IsFirstNamed}
 use Rattle.set_search.proofs.Lookups.{below_or_not}
 
@@ -27,33 +28,47 @@ abbrev path_cmp : Path → Path → Ordering
 path_cmp = slice_cmp (slice_cmp nat_cmp)
 
 labels_tie : (label other : List ℕ) → slice_cmp nat_cmp label other ≡ Equal → label ≡ other
-labels_tie label other e = (slice_eq-Decides Decides-eqb label other (pointwise nat_eq label other) refl).0 (texts_ties label other ∙ ap is_eq e)
+labels_tie label other e =
+    (slice_eq-Decides Decides-eqb label other (pointwise nat_eq label other) refl).0
+    (texts_ties label other ∙ ap is_eq e)
 
-turned : (label other : List ℕ) (o : Ordering) → slice_cmp nat_cmp label other ≡ o → slice_cmp nat_cmp other label ≡ ordering_reverse o
+turned : (label other : List ℕ) (o : Ordering) → slice_cmp nat_cmp label other ≡ o
+    → slice_cmp nat_cmp other label ≡ ordering_reverse o
 turned label other o e = nat_list_cmp_total.antisymm other label ∙ ap ordering_reverse e
 
 -- what lies between a path and one that begins with it begins with it
-between : (path more middle : Path) → is_gt (path_cmp path middle) ≡ false → is_gt (path_cmp middle (path ++ more)) ≡ false
+between : (path more middle : Path) → is_gt (path_cmp path middle) ≡ false
+    → is_gt (path_cmp middle (path ++ more)) ≡ false
     → (rest : Path) × (middle ≡ path ++ rest)
 between [] more middle low high = (middle, refl)
 between (label ∷ path) more [] low high = absurd (grind (arith, low))
-between (label ∷ path) more (other ∷ middle) low high = by (slice_cmp nat_cmp label other) refl (between path more middle)
+between (label ∷ path) more (other ∷ middle) low high =
+    by (slice_cmp nat_cmp label other) refl (between path more middle)
   where
     by : (o : Ordering) → slice_cmp nat_cmp label other ≡ o
-        → (is_gt (path_cmp path middle) ≡ false → is_gt (path_cmp middle (path ++ more)) ≡ false → (rest : Path) × (middle ≡ path ++ rest))
+        → (is_gt (path_cmp path middle) ≡ false → is_gt (path_cmp middle (path ++ more)) ≡ false
+        → (rest : Path) × (middle ≡ path ++ rest))
         → (rest : Path) × (other ∷ middle ≡ label ∷ (path ++ rest))
     by Less e further =
         let up : slice_cmp nat_cmp other label ≡ Greater = turned label other Less e in
-        let h : is_gt (ordering_then Greater (path_cmp middle (path ++ more))) ≡ false = subst (λ o. is_gt (ordering_then o (path_cmp middle (path ++ more))) ≡ false) up high in
+        let h : is_gt (ordering_then Greater (path_cmp middle (path ++ more))) ≡ false =
+        subst (λ o. is_gt (ordering_then o (path_cmp middle (path ++ more))) ≡ false) up high in
         absurd (grind (arith, h))
     by Equal e further =
         let back : slice_cmp nat_cmp other label ≡ Equal = turned label other Equal e in
-        let h : is_gt (path_cmp middle (path ++ more)) ≡ false = subst (λ o. is_gt (ordering_then o (path_cmp middle (path ++ more))) ≡ false) back high in
-        let l : is_gt (path_cmp path middle) ≡ false = subst (λ o. is_gt (ordering_then o (path_cmp path middle)) ≡ false) e low in
-        let rest = further l h in
-        (rest.0, ap (λ x. x ∷ middle) (sym (labels_tie label other e)) ∙ ap (λ xs. label ∷ xs) rest.1)
+        let h : is_gt (path_cmp middle (path ++ more)) ≡ false =
+        subst (λ o. is_gt (ordering_then o (path_cmp middle (path ++ more)))
+        ≡ false) back high in
+        let l : is_gt (path_cmp path middle) ≡ false =
+        subst (λ o. is_gt (ordering_then o (path_cmp path middle)) ≡ false) e low in
+        let rest = further l h in (
+          rest.0,
+          ap (λ x. x ∷ middle) (sym (labels_tie label other e))
+              ∙ ap (λ xs. label ∷ xs) rest.1,
+        )
     by Greater e further =
-        let l : is_gt (ordering_then Greater (path_cmp path middle)) ≡ false = subst (λ o. is_gt (ordering_then o (path_cmp path middle)) ≡ false) e low in
+        let l : is_gt (ordering_then Greater (path_cmp path middle)) ≡ false =
+        subst (λ o. is_gt (ordering_then o (path_cmp path middle)) ≡ false) e low in
         absurd (grind (arith, l))
 
 -- a path isn't behind one that begins with it
@@ -61,12 +76,14 @@ front_first : (path more : Path) → is_gt (path_cmp path (path ++ more)) ≡ fa
 front_first [] [] = refl
 front_first [] (label ∷ more) = refl
 front_first (label ∷ path) more =
-    subst (λ o. is_gt (ordering_then o (path_cmp path (path ++ more))) ≡ false) (sym (tied label)) (front_first path more)
+    subst (λ o. is_gt (ordering_then o (path_cmp path (path ++ more)))
+    ≡ false) (sym (tied label)) (front_first path more)
   where
     tied : (label : List ℕ) → slice_cmp nat_cmp label label ≡ Equal
     tied label = itself (slice_cmp nat_cmp label label) refl
       where
-        itself : (o : Ordering) → slice_cmp nat_cmp label label ≡ o → slice_cmp nat_cmp label label ≡ Equal
+        itself : (o : Ordering) → slice_cmp nat_cmp label label ≡ o
+            → slice_cmp nat_cmp label label ≡ Equal
         itself Less e = absurd (let t = turned label label Less e in grind (arith, e, t))
         itself Equal e = e
         itself Greater e = absurd (let t = turned label label Greater e in grind (arith, e, t))
@@ -75,15 +92,24 @@ front_first (label ∷ path) more =
 pub not_behind : (name below : Path) → EndsWith below name → is_gt (zone_cmp name below) ≡ false
 not_behind name below (first, e) =
     subst (λ n. is_gt (zone_cmp name n) ≡ false) (sym e)
-    (subst (λ p. is_gt (path_cmp (reverse name) p) ≡ false) (sym (reverse-append first name)) (front_first (reverse name) (reverse first)))
+    (subst (λ p. is_gt (path_cmp (reverse name) p) ≡ false) (sym (reverse-append first name))
+    (front_first (reverse name) (reverse first)))
 
 -- what lies between a name and one below it is below it
-pub below_between : (name middle below : Path) → EndsWith below name → is_gt (zone_cmp name middle) ≡ false → is_gt (zone_cmp middle below) ≡ false → EndsWith middle name
+pub below_between : (name middle below : Path) → EndsWith below name
+    → is_gt (zone_cmp name middle) ≡ false → is_gt (zone_cmp middle below) ≡ false
+    → EndsWith middle name
 below_between name middle below (first, e) low high =
     let h : is_gt (path_cmp (reverse middle) (reverse name ++ reverse first)) ≡ false =
-    subst (λ p. is_gt (path_cmp (reverse middle) p) ≡ false) (ap reverse e ∙ reverse-append first name) high in
-    let rest = between (reverse name) (reverse first) (reverse middle) low h in
-    (reverse rest.0, sym (reverse-reverse middle) ∙ (ap reverse rest.1 ∙ (reverse-append (reverse name) rest.0 ∙ ap (λ xs. reverse rest.0 ++ xs) (reverse-reverse name))))
+    subst (λ p. is_gt (path_cmp (reverse middle) p) ≡ false) (ap reverse e
+    ∙ reverse-append first name) high in
+    let rest = between (reverse name) (reverse first) (reverse middle) low h in (
+      reverse rest.0,
+      sym (reverse-reverse middle)
+          ∙ (ap reverse rest.1
+          ∙ (reverse-append (reverse name) rest.0
+          ∙ ap (λ xs. reverse rest.0 ++ xs) (reverse-reverse name))),
+    )
 
 not_less : (o : Ordering) → o ≢ Less → is_gt (ordering_reverse o) ≡ false
 not_less Less n = absurd (n refl)
@@ -96,16 +122,19 @@ not_up Equal e = λ h. absurd (grind (arith, h))
 not_up Greater e = λ h. absurd (grind (arith, h))
 
 -- of two sets in order the names are
-names_rise : (sets : List RecordSet) (j k : ℕ) (x y : RecordSet) → IsRising sets → j ≤ k → slice_get sets j ≡ Some x → slice_get sets k ≡ Some y
+names_rise : (sets : List RecordSet) (j k : ℕ) (x y : RecordSet) → IsRising sets → j ≤ k
+    → slice_get sets j ≡ Some x → slice_get sets k ≡ Some y
     → is_gt (zone_cmp x.name y.name) ≡ false
-names_rise sets j k x y rising le at_j at_k = name_part (zone_cmp x.name y.name) _ (ordered_at sets j k x y rising le at_j at_k)
+names_rise sets j k x y rising le at_j at_k =
+    name_part (zone_cmp x.name y.name) _ (ordered_at sets j k x y rising le at_j at_k)
   where
     name_part : (o p : Ordering) → is_gt (ordering_then o p) ≡ false → is_gt o ≡ false
     name_part Less p e = refl
     name_part Equal p e = refl
     name_part Greater p e = e
 
-module _ (sets : List RecordSet) (name : Path) (n : ℕ) (rising : IsRising sets) (first : IsFirstNamed sets name n) where
+module _ (sets : List RecordSet) (name : Path) (n : ℕ) (rising : IsRising sets)
+    (first : IsFirstNamed sets name n) where
   -- a set of the name or below it stands from place n on
   not_before : (k : ℕ) (x : RecordSet) → slice_get sets k ≡ Some x → EndsWith x.name name → n ≤ k
   not_before k x at below = by (below_or_not k n)
@@ -113,24 +142,31 @@ module _ (sets : List RecordSet) (name : Path) (n : ℕ) (rising : IsRising sets
       by : (k < n) ⊎ (n ≤ k) → n ≤ k
       by (inl lt) =
           let up : is_gt (zone_cmp name x.name) ≡ false = not_behind name x.name below in
-          let turned_up : is_gt (ordering_reverse (zone_cmp x.name name)) ≡ false = subst (λ o. is_gt o ≡ false) (zone_cmp_total.antisymm name x.name) up in
+          let turned_up : is_gt (ordering_reverse (zone_cmp x.name name)) ≡ false =
+          subst (λ o. is_gt o ≡ false) (zone_cmp_total.antisymm name x.name) up in
           absurd (not_up (zone_cmp x.name name) turned_up (first.before k x lt at))
       by (inr le) = le
 
   -- the first one tells whether the name exists
-  pub first_tells : (x : RecordSet) → slice_get sets n ≡ Some x → EndsWith x.name name ↔ Exists sets name
-  first_tells x at = (λ below. (x, (n, at), below), back)
+  pub first_tells : (x : RecordSet) → slice_get sets n ≡ Some x → EndsWith x.name name
+      ↔ Exists sets name
+  first_tells x at = (λ below. (x, among_at sets n x at, below), back)
     where
       back : Exists sets name → EndsWith x.name name
-      back (other, (k, at_k), below) =
+      back (other, there, below) =
+          let place = place_of sets other there in
           let low : is_gt (zone_cmp name x.name) ≡ false =
-          subst (λ o. is_gt o ≡ false) (sym (zone_cmp_total.antisymm name x.name)) (not_less (zone_cmp x.name name) (first.behind n x (omega arith) at)) in
-          below_between name x.name other.name below low (names_rise sets n k x other rising (not_before k other at_k below) at at_k)
+          subst (λ o. is_gt o ≡ false) (sym (zone_cmp_total.antisymm name x.name))
+          (not_less (zone_cmp x.name name) (first.behind n x (omega arith) at)) in
+          below_between name x.name other.name below low
+          (names_rise sets n place.0 x other rising (not_before place.0 other place.1 below) at
+          place.1)
 
   pub none_exists : length sets ≤ n → Exists sets name → ⊥
-  none_exists past (other, (k, at_k), below) =
-      let inside = slice_get_within sets k other at_k in
-      let from = not_before k other at_k below in
+  none_exists past (other, there, below) =
+      let place = place_of sets other there in
+      let inside = slice_get_within sets place.0 other place.1 in
+      let from = not_before place.0 other place.1 below in
       omega (arith, past, inside, from)
 
 -- a name ends with itself
@@ -143,16 +179,23 @@ no_longer name other (first, e) =
     omega (arith, n)
 
 -- an ancestor of a name is its parent or an ancestor of that
-pub parent_or_above : (label : List ℕ) (parent other : Path) → IsAncestor (label ∷ parent) other → EndsWith parent other
+pub parent_or_above : (label : List ℕ) (parent other : Path) → IsAncestor (label ∷ parent) other
+    → EndsWith parent other
 parent_or_above label parent other (([], e), apart) = absurd (apart e)
-parent_or_above label parent other ((first ∷ rest, e), apart) = (rest, (let p : parent ≡ rest ++ other = cc in p))
+parent_or_above label parent other ((first ∷ rest, e), apart) =
+    (rest, (let p : parent ≡ rest ++ other = cc in p))
 
 -- a parent is an ancestor of what it is the parent of
 pub parent_is_above : (label : List ℕ) (parent : Path) → IsAncestor (label ∷ parent) parent
-parent_is_above label parent = ((label ∷ [], refl), λ e. (let n : suc (length parent) ≡ length parent = ap length e in omega (arith, n)))
+parent_is_above label parent = (
+  (label ∷ [], refl),
+  λ e. (let n : suc (length parent) ≡ length parent = ap length e in omega (arith, n)),
+)
 
-pub ends_further : (name middle other : Path) → EndsWith name middle → EndsWith middle other → EndsWith name other
-ends_further name middle other (first, e) (second, f) = (first ++ second, e ∙ (ap (λ m. first ++ m) f ∙ sym (append_assoc first second other)))
+pub ends_further : (name middle other : Path) → EndsWith name middle → EndsWith middle other
+    → EndsWith name other
+ends_further name middle other (first, e) (second, f) =
+    (first ++ second, e ∙ (ap (λ m. first ++ m) f ∙ sym (append_assoc first second other)))
 
 -- All existing ancestors of the name are above the one that is looked at.
 pub record AreAbove (sets : List RecordSet) (name at : Path) : Type 0 where
@@ -160,14 +203,20 @@ pub record AreAbove (sets : List RecordSet) (name at : Path) : Type 0 where
   pub ancestors : (other : Path) → IsAncestor name other → Exists sets other → IsAncestor at other
 
 pub above_itself : (sets : List RecordSet) (name : Path) → AreAbove sets name name
-above_itself sets name = record { suffix = ends_itself name; ancestors = λ other ancestor exists. ancestor }
+above_itself sets name =
+    record { suffix = ends_itself name; ancestors = λ other ancestor exists. ancestor }
 
-module _ (sets : List RecordSet) (name at : Path) (label : List ℕ) (parent : Path) (is : at ≡ label ∷ parent) (above : AreAbove sets name at) where
+module _ (sets : List RecordSet) (name at : Path) (label : List ℕ) (parent : Path) (is : at
+    ≡ label ∷ parent) (above : AreAbove sets name at) where
   of_parent : (other : Path) → IsAncestor name other → Exists sets other → EndsWith parent other
-  of_parent other ancestor exists = parent_or_above label parent other (subst (λ a. IsAncestor a other) is (above.ancestors other ancestor exists))
+  of_parent other ancestor exists =
+      parent_or_above label parent other
+      (subst (λ a. IsAncestor a other) is (above.ancestors other ancestor exists))
 
   name_above : EndsWith name parent
-  name_above = ends_further name at parent above.suffix (subst (λ a. EndsWith a parent) (sym is) (label ∷ [], refl))
+  name_above =
+      ends_further name at parent above.suffix
+      (subst (λ a. EndsWith a parent) (sym is) (label ∷ [], refl))
 
   parent_apart : name ≢ parent
   parent_apart e =
@@ -186,13 +235,19 @@ module _ (sets : List RecordSet) (name at : Path) (label : List ℕ) (parent : P
   pub further_up : (Exists sets parent → ⊥) → AreAbove sets name parent
   further_up none = record {
     suffix = name_above;
-    ancestors = λ other ancestor exists. (of_parent other ancestor exists, λ e. none (subst (λ p. Exists sets p) (sym e) exists));
+    ancestors =
+        λ other ancestor exists. (
+          of_parent other ancestor exists,
+          λ e. none (subst (λ p. Exists sets p) (sym e) exists),
+        );
   }
 
 -- the root has no ancestor
-pub root_ends : (sets : List RecordSet) (name at : Path) → AreAbove sets name at → at ≡ [] → (other : Path) → IsAncestor name other → Exists sets other → ⊥
+pub root_ends : (sets : List RecordSet) (name at : Path) → AreAbove sets name at → at ≡ []
+    → (other : Path) → IsAncestor name other → Exists sets other → ⊥
 root_ends sets name at above e other ancestor exists =
-    let a : IsAncestor [] other = subst (λ p. IsAncestor p other) e (above.ancestors other ancestor exists) in
+    let a : IsAncestor [] other =
+    subst (λ p. IsAncestor p other) e (above.ancestors other ancestor exists) in
     empty_apart other a
   where
     empty_apart : (other : Path) → IsAncestor [] other → ⊥

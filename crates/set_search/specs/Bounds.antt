@@ -7,7 +7,7 @@ use Rattle.rdata_layout.specs.Types.{number_of}
 use Rattle.rdata_layout.specs.declared.types.RType.{RType}
 use Rattle.record_set.specs.declared.sets.RecordSet.{RecordSet}
 use Rattle.record_set.specs.Sets.{key_of}
-use Rattle.r53_model.specs.Keys.{key_cmp}
+use Rattle.zone_model.specs.Keys.{key_cmp}
 use Rattle.set_search.specs.declared.bounds.Bound.{Bound}
 use Rattle.set_search.specs.declared.bounds.Bound.TheVariants as bound
 

@@ -7,8 +7,8 @@ use Rattle.rdata_layout.specs.declared.types.RType.{RType}
 use Rattle.record_set.specs.declared.sets.RecordSet.{RecordSet}
 use Rattle.record_set.specs.declared.sets.SetKey.{SetKey}
 use Rattle.record_set.specs.Sets.{key_of}
-use Rattle.r53_model.specs.Changing.{comes_before, comes_behind, Keeps, IsThere}
-use Rattle.r53_model.specs.Zones.{group}
+use Rattle.zone_model.specs.Placing.{comes_before, comes_behind, Keeps, IsThere}
+use Rattle.zone_model.specs.Zones.{group}
 use Rattle.set_search.specs.declared.bounds.Bound.{Bound}
 use Rattle.set_search.specs.declared.bounds.Bound.TheVariants as bound
 use Rattle.set_search.specs.Bounds.{is_before}
@@ -41,6 +41,7 @@ pub record FindsAt (sets : List RecordSet) (key : SetKey) (n : ℕ) : Type 0 whe
   pub kept : RecordSet
   pub there : slice_get sets n ≡ Some kept
   pub same_key : key_of kept ≡ key
+  pub keeps : Keeps sets key kept
   pub only : (other : RecordSet) → Keeps sets key other → other ≡ kept
   pub before : (k : ℕ) (x : RecordSet) → k < n → slice_get sets k ≡ Some x → comes_before key x ≡ true
   pub behind : (k : ℕ) (x : RecordSet) → n < k → slice_get sets k ≡ Some x → comes_behind key x ≡ true

@@ -1,5 +1,5 @@
 pub mod Bounds
 pub mod Found
-pub use Rattle.r53_model.specs.Changing
-pub use Rattle.r53_model.specs.Existing
-pub use Rattle.r53_model.specs.Zones
+pub use Rattle.zone_model.specs.Placing
+pub use Rattle.zone_model.specs.Existing
+pub use Rattle.zone_model.specs.Zones

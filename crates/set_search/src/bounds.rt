@@ -1,3 +1,5 @@
+//! The gaps between sets in zone order that a search may ask for.
+
 use dns_name::Name;
 use rdata::RType;
 use record_set::SetKey;

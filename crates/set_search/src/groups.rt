@@ -1,5 +1,7 @@
+//! The sets of one name and type: all that stands between two bounds.
+
 ghost use Rattle.std.specs.Prelude.{◌≡◌};
-ghost use Rattle.r53_model.specs.Zones.{IsRising};
+ghost use Rattle.zone_model.specs.Zones.{IsRising};
 ghost use Rattle.set_search.specs.Found.{IsGroupAt};
 
 use crate::bounds::Bound;

@@ -1,3 +1,5 @@
+//! Sets that are looked at by place, wherever they are stored.
+
 ghost use Rattle.std.specs.Prelude.{◌≡◌, ◌<◌, ℕ, List, length, slice_get, Some};
 ghost use Rattle.record_set.specs.declared.sets.RecordSet.{RecordSet};
 

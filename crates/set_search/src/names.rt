@@ -1,8 +1,8 @@
 //! Names that exist, since a set has them or a name below them.
 
 ghost use Rattle.std.specs.Prelude.{◌≡◌, ◌+◌, ℕ, List, length, IsTrue, ◌↔◌};
-ghost use Rattle.r53_model.specs.Existing.{Exists, IsAncestor, IsClosest};
-ghost use Rattle.r53_model.specs.Zones.{IsRising};
+ghost use Rattle.zone_model.specs.Existing.{Exists, IsAncestor, IsClosest};
+ghost use Rattle.zone_model.specs.Zones.{IsRising};
 ghost use Rattle.set_search.specs.Found.{IsFirstNamed};
 
 use crate::bounds::Bound;

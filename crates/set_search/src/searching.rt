@@ -2,17 +2,17 @@
 
 ghost use Rattle.std.specs.Prelude.{◌≡◌, ◌≤◌, ◌<◌, ◌-◌, length, true, IsTrue, ◌↔◌};
 ghost use Rattle.record_set.specs.Sets.{key_of};
-ghost use Rattle.r53_model.specs.Zones.{IsRising};
+ghost use Rattle.zone_model.specs.Zones.{IsRising};
 ghost use Rattle.set_search.specs.Bounds.{is_before, group_cmp};
 ghost use Rattle.set_search.specs.Found.{IsBracket, IsCount, Finds};
 
 use crate::bounds::Bound;
 use crate::lists::SetList;
 use dns_name::Name;
-use r53_model::key_cmp;
 use rdata::RType;
 use record_set::{RecordSet, SetKey};
 use std::cmp::Ordering;
+use zone_model::key_cmp;
 
 /// How many sets stand before a bound, which is the place of the first one behind it.
 pub fn count_before<S: SetList>(sets: &S, bound: &Bound) -> usize

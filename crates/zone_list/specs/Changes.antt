@@ -4,8 +4,9 @@ use Rattle.std.specs.List.{AllByRecursion}
 use Rattle.record_set.specs.declared.sets.RecordSet.{RecordSet}
 use Rattle.record_set.specs.declared.sets.SetKey.{SetKey}
 use Rattle.record_set.specs.Sets.{key_of}
-use Rattle.r53_model.specs.Changing.{IsThere}
-use Rattle.zone_sets.specs.Placed.{Placed, IsHere, IsIn, AreOfZone, sets_of}
+use Rattle.zone_model.specs.Placing.{IsThere}
+use Rattle.zone_model.specs.Zones.{IsAmong}
+use Rattle.zone_sets.specs.Placed.{Placed, IsHere, AreOfZone, sets_of}
 use Rattle.zone_list.specs.declared.refs.SetRef.{SetRef}
 use Rattle.zone_list.specs.Zones.{CanStand}
 
@@ -23,7 +24,7 @@ DifferByKey (set ∷ sets) = AllByRecursion (λ other. key_of set ≢ key_of oth
 
 -- the key is one of these
 abbrev pub IsKeyOf : List SetKey → SetKey → Type 0
-IsKeyOf keys key = IsIn keys key
+IsKeyOf keys key = IsAmong keys key
 
 -- Sets that can be added to a zone: each can stand in it, and their keys differ.
 pub record CanBeAdded (apex : List (List ℕ)) (add : List RecordSet) : Type 0 where

@@ -3,6 +3,6 @@ pub mod Found
 pub mod Kept
 pub mod Steps
 pub mod Zones
-pub use Rattle.r53_model.specs.Changing
-pub use Rattle.r53_model.specs.Zones as Sets
+pub use Rattle.zone_model.specs.Placing
+pub use Rattle.zone_model.specs.Zones as Sets
 pub use Rattle.zone_sets.specs.Placed

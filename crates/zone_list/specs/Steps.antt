@@ -4,7 +4,7 @@ use Rattle.std.specs.List.{AllByRecursion}
 use Rattle.record_set.specs.declared.sets.RecordSet.{RecordSet}
 use Rattle.record_set.specs.declared.sets.SetKey.{SetKey}
 use Rattle.record_set.specs.Sets.{key_of}
-use Rattle.r53_model.specs.Changing.{IsThere}
+use Rattle.zone_model.specs.Placing.{IsThere}
 use Rattle.zone_sets.specs.Placed.{Placed, IsPut, IsTaken}
 use Rattle.zone_list.specs.declared.refs.SetRef.{SetRef}
 

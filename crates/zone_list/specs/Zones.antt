@@ -3,8 +3,9 @@ use Rattle.std.specs.Prelude.{◌≡◌, ◌≢◌, ◌≤◌, ◌<◌, ◌==◌
 use Rattle.std.specs.List.{AllByRecursion}
 use Rattle.dns_name.specs.Suffix.{EndsWith}
 use Rattle.record_set.specs.declared.sets.RecordSet.{RecordSet}
-use Rattle.set_octets.specs.Octets.{set_octets, most_octets}
-use Rattle.zone_sets.specs.Placed.{Placed, AreOfZone, IsIn}
+use Rattle.set_octets.specs.Octets.{HasSpelling}
+use Rattle.zone_model.specs.Zones.{IsAmong}
+use Rattle.zone_sets.specs.Placed.{Placed, AreOfZone}
 
 -- A zone: its number, the name of its apex, and its sets in zone order, each with its slot.
 pub record Zone : Type 0 where
@@ -14,7 +15,7 @@ pub record Zone : Type 0 where
 
 -- one of the zones
 abbrev pub IsOne : List Zone → Zone → Type 0
-IsOne zones zone = IsIn zones zone
+IsOne zones zone = IsAmong zones zone
 
 -- a zone has the number
 abbrev pub IsZoneId : List Zone → ℕ → Type 0
@@ -29,10 +30,10 @@ abbrev pub placed_in : List Zone → ℕ → List Placed
 placed_in [] id = []
 placed_in (zone ∷ zones) id = if zone.id == id then zone.placed else placed_in zones id
 
--- A set can stand in a zone: it is at or below the apex, and has at most 65,536 octets.
+-- A set can stand in a zone: it is at or below the apex, and has a spelling (which says that each value is of its type).
 pub record CanStand (apex : List (List ℕ)) (set : RecordSet) : Type 0 where
   pub inside : EndsWith set.name apex
-  pub short : length (set_octets set) ≤ most_octets
+  pub spelled : HasSpelling set
 
 -- A zone by itself: its sets are in zone order and in slots of their own, and each can stand in it.
 pub record StandsAlone (zone : Zone) : Type 0 where

@@ -1,3 +1,5 @@
+//! References: a zone and a slot, good as long as the set stays.
+
 ghost use Rattle.std.specs.Prelude.{◌≡◌, length};
 
 use std::marker::Model;

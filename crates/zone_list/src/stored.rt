@@ -1,3 +1,5 @@
+//! A zone as it is stored: its number, its name and its sets.
+
 ghost use Rattle.std.specs.Prelude.{◌≡◌, ◌≤◌, [], length, map, OnOk, vec_capacity};
 ghost use Rattle.zone_list.specs.Changes.{CanChange, Changes, ref_in};
 ghost use Rattle.zone_list.specs.Zones.{StandsAlone};

@@ -1,4 +1,4 @@
-//! Slots that are used again.
+//! Slots that are used again, and more slots and zones than memory is first taken for.
 
 use crate::sets::{Row, address, change, loads, open, reference};
 use std::alloc::Global;
@@ -31,4 +31,55 @@ fn three_rounds(rt: HostRuntime) {
         round(&rt, alloc, &mut zones, text, stays);
         loads(&rt, alloc, &zones, its, stays);
     }
+}
+
+/// Twelve names of a zone, so that its slots and places grow more than once.
+const NAMES: [&[u8]; 12] = [
+    b"a.example.com",
+    b"b.example.com",
+    b"c.example.com",
+    b"d.example.com",
+    b"e.example.com",
+    b"f.example.com",
+    b"g.example.com",
+    b"h.example.com",
+    b"i.example.com",
+    b"j.example.com",
+    b"k.example.com",
+    b"l.example.com",
+];
+
+#[test]
+fn twelve_sets_of_a_zone(rt: HostRuntime) {
+    let alloc = rt.alloc();
+    let mut zones = Zones::new(alloc);
+    open(&rt, alloc, &mut zones, 1, b"example.com", &[]);
+    for owner in NAMES {
+        let row = address(owner, b"192.0.2.1");
+        change(&rt, alloc, &mut zones, 1, &[], &[row]);
+    }
+    for owner in NAMES {
+        let row = address(owner, b"192.0.2.1");
+        loads(&rt, alloc, &zones, reference(&rt, &zones, 1, row), row);
+    }
+}
+
+#[test]
+fn six_zones(rt: HostRuntime) {
+    let alloc = rt.alloc();
+    let mut zones = Zones::new(alloc);
+    let apexes: [(u32, &[u8]); 6] = [
+        (1, b"a"),
+        (2, b"b"),
+        (3, b"c"),
+        (4, b"d"),
+        (5, b"e"),
+        (6, b"f"),
+    ];
+    for (zone, apex) in apexes {
+        let row = address(apex, b"192.0.2.1");
+        open(&rt, alloc, &mut zones, zone, apex, &[row]);
+        loads(&rt, alloc, &zones, reference(&rt, &zones, zone, row), row);
+    }
+    assert_eq!(rt; zones.zone_after(5), Some(6), "the last zone");
 }

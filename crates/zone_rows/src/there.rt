@@ -3,11 +3,11 @@
 ghost use Rattle.std.specs.Prelude.{◌≡◌, IsTrue, ◌↔◌};
 ghost use Rattle.std.specs.List.{AllByRecursion};
 ghost use Rattle.record_set.specs.Sets.{key_of};
-ghost use Rattle.r53_model.specs.Changing.{IsThere};
+ghost use Rattle.zone_model.specs.Placing.{IsThere};
 ghost use Rattle.zone_list.specs.Changes.{IsKeyOf};
 
-use r53_model::{key_cmp, keys_are_ordered};
 use record_set::{RecordSet, SetKey};
+use zone_model::{key_cmp, keys_are_ordered};
 
 /// Whether two keys are one.
 pub fn is_same_key(key: &SetKey, other: &SetKey) -> bool

@@ -2,9 +2,9 @@
 use Rattle.std.specs.Prelude.{◌≡◌, ◌<◌, ℕ, List, [], length, slice_get, Option, None, Some}
 use Rattle.record_set.specs.declared.sets.RecordSet.{RecordSet}
 use Rattle.record_set.specs.Sets.{key_of}
-use Rattle.r53_model.specs.declared.refusals.BatchRefusal.{BatchRefusal}
-use Rattle.r53_model.specs.declared.refusals.BatchRefusal.TheVariants as batch
-use Rattle.r53_model.specs.Rules.{Rule, OnePolicy, CnameAlone, OwnPlace, GroupSize, rules, BreaksAt, NoneBreaksBefore, MeetsAll, IsFirstBreak}
+use Rattle.batch_model.specs.declared.refusals.BatchRefusal.{BatchRefusal}
+use Rattle.batch_model.specs.declared.refusals.BatchRefusal.TheVariants as batch
+use Rattle.batch_model.specs.Rules.{Rule, OnePolicy, CnameAlone, OwnPlace, GroupSize, rules, BreaksAt, NoneBreaksBefore, MeetsAll, IsFirstBreak}
 use Rattle.zone_rules.specs.Groups.{NoneFarBefore}
 
 -- the place of the first set that breaks a rule, or none

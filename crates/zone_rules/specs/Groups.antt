@@ -2,7 +2,7 @@
 use Rattle.std.specs.Prelude.{◌≡◌, ◌≢◌, ◌≤◌, ◌<◌, ◌+◌, ◌⊎◌, ◌↔◌, ℕ, List, slice_get, Some}
 use Rattle.rdata_layout.specs.declared.types.RType.TheVariants as rtype
 use Rattle.record_set.specs.declared.sets.RecordSet.{RecordSet}
-use Rattle.r53_model.specs.Rules.{AreOneGroup}
+use Rattle.zone_model.specs.Zones.{AreOneGroup}
 
 -- The group of the set at place i begins at this place.
 pub record IsStart (sets : List RecordSet) (start i : ℕ) : Type 0 where

@@ -1,11 +1,11 @@
--- Marks of places: a number for each, so that two policies of one place, failover role or region have one mark.
+-- Marks of places: a number for each, so that two policies of one place, failover role, region or location have one mark.
 use Rattle.std.specs.Prelude.{◌≡◌, ℕ, ◌+◌, ◌*◌, ◌%◌, ◌≤◌, ◌<◌, List, [], ◌∷◌, Bool, true, false, Option, None, Some, slice_get, slice_index_or}
 use Rattle.routing.specs.declared.policies.Place.{Place}
 use Rattle.routing.specs.declared.policies.Place.TheVariants as place
 use Rattle.routing.specs.declared.policies.Routing.{Routing}
 use Rattle.routing.specs.declared.policies.Routing.TheVariants as routing
 use Rattle.record_set.specs.declared.sets.RecordSet.{RecordSet}
-use Rattle.r53_model.specs.Rules.{AreOnePlace}
+use Rattle.batch_model.specs.Rules.{AreOnePlace}
 
 -- the mark of a text that goes on with this byte
 abbrev pub next_mark : (mark byte : ℕ) → ℕ
@@ -23,7 +23,7 @@ place_mark (place.Country country) = text_mark 0 country
 place_mark (place.Subdivision country part) = text_mark (text_mark 0 country) part
 place_mark place.Anywhere = 0
 
--- the mark of a place, failover role or region; other policies have none
+-- the mark of a place, failover role, region or location; other policies have none
 abbrev pub mark_of : Routing → Option ℕ
 mark_of routing.Simple = None
 mark_of (routing.Weighted ident weight) = None
@@ -31,6 +31,7 @@ mark_of (routing.Failover ident role) = Some 0
 mark_of (routing.Geolocation ident place) = Some (place_mark place)
 mark_of (routing.Latency ident region) = Some (text_mark 0 region)
 mark_of (routing.Multivalue ident) = None
+mark_of (routing.Cidr ident collection location) = Some (text_mark 0 location)
 
 -- there is a mark, and it was made
 abbrev pub IsMarked : (marks : List Bool) → Option ℕ → Type 0

@@ -1,10 +1,12 @@
-ghost use Rattle.r53_model.specs.Zones.{IsRising};
+//! The first rule that the sets of a zone break together, and the set that breaks it.
+
+ghost use Rattle.zone_model.specs.Zones.{IsRising};
 ghost use Rattle.zone_rules.specs.Breaks.{TellsBreak};
 
 use crate::cname::first_conflict;
 use crate::findings::look_at_groups;
+use batch_model::BatchRefusal;
 use dns_name::Name;
-use r53_model::BatchRefusal;
 use record_set::RecordSet;
 
 /// Why the sets can't be those of the zone with this apex: the first rule that is broken, and the first set that breaks it.

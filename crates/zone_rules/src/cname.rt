@@ -1,7 +1,9 @@
+//! The rule that a CNAME set is alone at its name, which is not the apex.
+
 ghost use Rattle.std.specs.Prelude.{◌≡◌, ◌<◌, length, IsTrue, ◌↔◌};
 ghost use Rattle.rdata_layout.specs.declared.types.RType.TheVariants.{Cname};
-ghost use Rattle.r53_model.specs.Rules.{CnameAlone};
-ghost use Rattle.r53_model.specs.Zones.{IsRising};
+ghost use Rattle.batch_model.specs.Rules.{CnameAlone};
+ghost use Rattle.zone_model.specs.Zones.{IsRising};
 ghost use Rattle.zone_rules.specs.Breaks.{IsFirstName};
 ghost use Rattle.zone_rules.specs.Groups.{IsConflicted, IsOther};
 

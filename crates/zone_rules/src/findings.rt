@@ -1,6 +1,8 @@
+//! What one walk over the groups finds: the first set that breaks each rule on groups.
+
 ghost use Rattle.std.specs.Prelude.{◌≡◌, []};
-ghost use Rattle.r53_model.specs.Rules.{OnePolicy, OwnPlace, GroupSize};
-ghost use Rattle.r53_model.specs.Zones.{IsRising};
+ghost use Rattle.batch_model.specs.Rules.{OnePolicy, OwnPlace, GroupSize};
+ghost use Rattle.zone_model.specs.Zones.{IsRising};
 ghost use Rattle.zone_rules.specs.Breaks.{IsFirstPlace};
 
 use crate::groups::start_of;

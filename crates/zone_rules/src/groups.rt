@@ -1,6 +1,8 @@
+//! Where groups begin.
+
 ghost use Rattle.std.specs.Prelude.{◌≡◌, ◌<◌, ◌⊎◌, length, IsTrue, ◌↔◌};
-ghost use Rattle.r53_model.specs.Rules.{AreOneGroup};
-ghost use Rattle.r53_model.specs.Zones.{IsRising};
+ghost use Rattle.zone_model.specs.Zones.{AreOneGroup};
+ghost use Rattle.zone_model.specs.Zones.{IsRising};
 ghost use Rattle.zone_rules.specs.Groups.{IsStart, IsStartBefore};
 
 use rdata::RType;

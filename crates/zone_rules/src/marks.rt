@@ -1,10 +1,11 @@
 //! Marks of the places in a group, so that a set is compared with the others only where one of them may have its place.
 //!
-//! A mark is a number. Two policies of one place, failover role or region have one mark, and others seldom have the same.
+//! A mark is a number. Two policies of one place, failover role, region or location have one mark, and others seldom have
+//! the same.
 
 ghost use Rattle.std.specs.Prelude.{◌≡◌, ℕ, ◌+◌, ◌<◌, Option, length, IsTrue, ◌↔◌};
 ghost use Rattle.routing.specs.declared.policies.Routing.{Routing};
-ghost use Rattle.r53_model.specs.Rules.{AreOnePlace};
+ghost use Rattle.batch_model.specs.Rules.{AreOnePlace};
 ghost use Rattle.zone_rules.specs.Marks.{next_mark, text_mark, place_mark, mark_of, IsMarked, AreMarked};
 
 use record_set::{Place, RecordSet, Routing};
@@ -44,7 +45,7 @@ fn mark(marks: &mut Marks, policy: &Routing)
     }
 }
 
-/// The mark of the policy's place, failover role or region; other policies have none.
+/// The mark of the policy's place, failover role, region or location; other policies have none.
 fn mark_of(policy: &Routing) -> Option<u8>
     ensures { result ≡ mark_of policy.now }
 {
@@ -53,6 +54,7 @@ fn mark_of(policy: &Routing) -> Option<u8>
         Routing::Failover(..) => Some(0),
         Routing::Geolocation(_, place) => Some(place_mark(place)),
         Routing::Latency(_, region) => Some(text_mark(0, region.bytes())),
+        Routing::Cidr(_, _, location) => Some(text_mark(0, location.bytes())),
     }
 }
 

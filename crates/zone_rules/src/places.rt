@@ -1,12 +1,15 @@
+//! The rule that each set of a group has a place of its own.
+
 ghost use Rattle.std.specs.Prelude.{◌≡◌, ◌<◌, ◌≤◌, [], length, IsTrue, ◌↔◌};
-ghost use Rattle.r53_model.specs.Rules.{OwnPlace, BreaksAt, AreOnePlace};
+ghost use Rattle.batch_model.specs.Rules.{OwnPlace, BreaksAt, AreOnePlace};
 ghost use Rattle.zone_rules.specs.Groups.{IsStart};
 ghost use Rattle.zone_rules.specs.Marks.{AreMarked};
 
 use crate::marks::{Marks, is_marked};
 use record_set::{RecordSet, Role, Routing};
 
-/// Whether the set at place `i` has the place, failover role or region of an earlier set of its group, which begins at `start`.
+/// Whether the set at place `i` has the place, failover role, region or location of an earlier set of its group, which
+/// begins at `start`.
 pub fn has_same_place(sets: &[RecordSet], marks: &Marks, start: usize, i: usize) -> bool
     requires within { i < length sets.now }
     requires start { IsStart sets.now start i }
@@ -34,7 +37,7 @@ fn is_place_taken(sets: &[RecordSet], start: usize, i: usize) -> bool
     false
 }
 
-/// Whether the two have one place, one failover role or one region.
+/// Whether the two have one place, one failover role, one region or one location.
 pub fn is_one_place(policy: &Routing, other: &Routing) -> bool
     ensures { IsTrue result ↔ AreOnePlace policy.now other.now }
 {
@@ -47,6 +50,9 @@ pub fn is_one_place(policy: &Routing, other: &Routing) -> bool
         }
         (Routing::Latency(_, region), Routing::Latency(_, other_region)) => {
             region.is_same(other_region)
+        }
+        (Routing::Cidr(_, _, location), Routing::Cidr(_, _, other_location)) => {
+            location.is_same(other_location)
         }
         _ => false,
     }

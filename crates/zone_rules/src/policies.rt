@@ -1,6 +1,8 @@
+//! The rule that the sets of a group have one policy.
+
 ghost use Rattle.std.specs.Prelude.{◌≡◌, ◌<◌, [], length, IsTrue, ◌↔◌};
-ghost use Rattle.r53_model.specs.Rules.{OnePolicy, BreaksAt, policy_of};
-ghost use Rattle.r53_model.specs.Zones.{IsRising};
+ghost use Rattle.batch_model.specs.Rules.{OnePolicy, BreaksAt, policy_of};
+ghost use Rattle.zone_model.specs.Zones.{IsRising};
 ghost use Rattle.zone_rules.specs.Groups.{IsStart};
 
 use record_set::{RecordSet, Routing};
@@ -22,19 +24,20 @@ pub fn is_mixed(sets: &[RecordSet], start: usize, i: usize) -> bool
 pub fn is_one_policy(policy: &Routing, other: &Routing) -> bool
     ensures { IsTrue result ↔ (policy_of policy.now ≡ policy_of other.now) }
 {
-    policy_number(policy) == policy_number(other)
+    policy_of(policy) == policy_of(other)
 }
 
-/// A number for each policy.
-fn policy_number(policy: &Routing) -> u8
+/// A number for each policy, and for IP-based routing that of its collection.
+fn policy_of(policy: &Routing) -> (u8, u32)
     ensures { result ≡ policy_of policy.now }
 {
     match policy {
-        Routing::Simple => 0,
-        Routing::Weighted(..) => 1,
-        Routing::Failover(..) => 2,
-        Routing::Geolocation(..) => 3,
-        Routing::Latency(..) => 4,
-        Routing::Multivalue(_) => 5,
+        Routing::Simple => (0, 0),
+        Routing::Weighted(..) => (1, 0),
+        Routing::Failover(..) => (2, 0),
+        Routing::Geolocation(..) => (3, 0),
+        Routing::Latency(..) => (4, 0),
+        Routing::Multivalue(_) => (5, 0),
+        Routing::Cidr(_, collection, _) => (6, *collection),
     }
 }

@@ -1,3 +1,5 @@
+//! The rule that a group has no more than 100 sets.
+
 ghost use Rattle.std.specs.Prelude.{◌≤◌, ◌+◌, IsTrue, ◌↔◌};
 
 /// The most sets of a group.

@@ -6,9 +6,9 @@ use Rattle.rdata_layout.specs.declared.types.RType.TheVariants as rtype
 use Rattle.routing.specs.declared.policies.Routing.TheVariants as routing
 use Rattle.record_set.specs.declared.sets.RecordSet.{RecordSet}
 use Rattle.record_set.specs.declared.sets.Body.TheVariants as body
-use Rattle.r53_model.specs.Zones.{IsRising}
+use Rattle.zone_model.specs.Zones.{IsAmong, IsRising}
 use Rattle.slab.specs.Slab.{Slab, get, slab_len}
-use Rattle.zone_sets.specs.Placed.{Placed, IsIn, sets_of}
+use Rattle.zone_sets.specs.Placed.{Placed, sets_of}
 
 -- what stands for the set of an empty slot
 abbrev pub no_set : RecordSet
@@ -37,7 +37,7 @@ HasSet slab k = (set : RecordSet) × (get slab k ≡ Some set)
 -- The slots are those of the sets that are stored, in zone order, and each is below 2^32.
 pub record IsIndex (slab : Slab RecordSet) (order : List ℕ) : Type 0 where
   pub present : AllByRecursion (λ k. HasSet slab k) order
-  pub only : (k : ℕ) (set : RecordSet) → get slab k ≡ Some set → IsIn order k
+  pub only : (k : ℕ) (set : RecordSet) → get slab k ≡ Some set → IsAmong order k
   pub distinct : AreDistinct order
   pub few : AllByRecursion (λ k. k < 2 ^ 32) order
   pub rising : IsRising (sets_of (placed_of slab order))

@@ -5,7 +5,7 @@ use Rattle.std.specs.List.{AllByRecursion, insert, remove}
 use Rattle.record_set.specs.declared.sets.RecordSet.{RecordSet}
 use Rattle.record_set.specs.declared.sets.SetKey.{SetKey}
 use Rattle.record_set.specs.Sets.{key_of}
-use Rattle.r53_model.specs.Zones.{IsRising}
+use Rattle.zone_model.specs.Zones.{IsAmong, IsRising}
 
 -- A set, and the slot by which it is referred to.
 pub record Placed : Type 0 where
@@ -15,14 +15,9 @@ pub record Placed : Type 0 where
 abbrev pub sets_of : List Placed → List RecordSet
 sets_of placed = map (λ p. p.set) placed
 
--- one of these
-abbrev pub IsIn : {X : Type 0} → List X → X → Type 0
-IsIn [] x = ⊥
-IsIn (y ∷ ys) x = (y ≡ x) ⊎ IsIn ys x
-
 -- the set is here, in its slot
 abbrev pub IsHere : List Placed → Placed → Type 0
-IsHere placed p = IsIn placed p
+IsHere placed p = IsAmong placed p
 
 -- no slot stands twice
 abbrev pub HaveOwnSlots : List Placed → Type 0

@@ -1,17 +1,19 @@
+//! A slab of sets and their order beside it, so that an edit moves numbers and no sets.
+
 ghost use Rattle.std.specs.Prelude.{◌≡◌, ◌<◌, ◌≤◌, ◌+◌, [], length, IfOk, OnOk};
 ghost use Rattle.record_set.specs.Sets.{key_of};
-ghost use Rattle.r53_model.specs.Changing.{IsThere};
+ghost use Rattle.zone_model.specs.Placing.{IsThere};
 ghost use Rattle.set_search.specs.Found.{FindsAt, FindsNone};
 ghost use Rattle.zone_sets.specs.Placed.{AreOfZone, Gets, IsPut, IsSlotAt, IsTaken, IsTakenAt, sets_of};
 
 use crate::order::{insert_slot, remove_slot};
-use r53_model::zones_stay;
 use rdata::OutOfMemory;
 use record_set::{RecordSet, SetKey};
 use set_search::{SetList, find};
 use slab::Slab;
 use std::alloc::Global;
 use std::marker::Model;
+use zone_model::placed_rise;
 
 /// The most slots of a zone.
 const MOST_SLOTS: usize = 1 << 32;
@@ -87,7 +89,7 @@ impl ZoneSets {
         ensures placed { IsPut self.old.placed (record { slot = result; set = set }) self.new.placed }
         ensures room { self.old.room ≤ self.new.room + 1 }
     {
-        zones_stay();
+        placed_rise();
         let slot = self.sets.insert_reserved(set);
         insert_slot(&mut self.order, place, slot);
         slot as u32

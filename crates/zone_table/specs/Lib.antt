@@ -3,8 +3,8 @@ pub mod Laws
 pub mod Looking
 pub mod Needs
 pub mod Tables
-pub use Rattle.r53_model.specs.Existing
-pub use Rattle.r53_model.specs.Zones as Sets
+pub use Rattle.zone_model.specs.Existing
+pub use Rattle.zone_model.specs.Zones as Sets
 pub use Rattle.set_search.specs.Bounds
 pub use Rattle.set_search.specs.Found
 pub use Rattle.zone_sets.specs.Placed

@@ -1,3 +1,5 @@
+//! Changes of the zones, as they are asked for and as they are once their memory is taken.
+
 ghost use Rattle.std.specs.Prelude.{◌≡◌, ◌≤◌, length, IfOk};
 ghost use Rattle.zone_table.specs.Needs.{IsPrepared};
 

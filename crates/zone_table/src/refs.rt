@@ -1,3 +1,5 @@
+//! What look-ups and edits answer: places of a group, and references that went and came.
+
 use zone_list::SetRefs;
 
 /// The sets of one name and type of a zone, by their places in zone order.

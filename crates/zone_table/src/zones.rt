@@ -1,5 +1,7 @@
+//! The zones of a server: each look-up and each edit, one call a question.
+
 ghost use Rattle.std.specs.Prelude.{◌≡◌, ◌≢◌, ◌<◌, ◌+◌, ◌%◌, ◌^◌, length, List, ℕ, [], IfOk, OnOk, IsTrue, ◌↔◌};
-ghost use Rattle.r53_model.specs.Existing.{Exists, IsAncestor, IsClosest};
+ghost use Rattle.zone_model.specs.Existing.{Exists, IsAncestor, IsClosest};
 ghost use Rattle.zone_sets.specs.Placed.{IsSlotAt, sets_of};
 ghost use Rattle.zone_list.specs.Kept.{GetsZone};
 ghost use Rattle.zone_table.specs.Edits.{Edits, IsAllowed, IsReady, StayReady};

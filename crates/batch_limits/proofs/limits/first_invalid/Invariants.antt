@@ -1,4 +1,4 @@
-use Rattle.r53_model.specs.Batches.{AreValidBefore}
+use Rattle.batch_model.specs.Batches.{AreValidBefore}
 use Rattle.batch_limits.proofs.limits.first_invalid.Given as goal
 
 abbrev pub invariant-loop-i : goal.invariant-loop-i

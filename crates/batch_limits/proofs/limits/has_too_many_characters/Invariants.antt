@@ -1,6 +1,6 @@
 use Rattle.std.proofs.Common.{◌≡◌, ◌+◌, take}
 use Rattle.std.specs.List.{sum_by}
-use Rattle.r53_model.specs.Limits.{characters_of}
+use Rattle.batch_model.specs.Limits.{characters_of}
 use Rattle.batch_limits.proofs.limits.has_too_many_characters.Given as goal
 
 abbrev pub invariant-loop-change : goal.invariant-loop-change

@@ -1,6 +1,6 @@
 use Rattle.std.proofs.Common.{◌∙◌, sym, subst, arith}
 use Rattle.record_set.specs.Sets.{key_of}
-use Rattle.r53_model.specs.Changing.{Makes, IsThereAsGiven}
+use Rattle.batch_model.specs.Changing.{Makes, IsThereAsGiven}
 use Rattle.set_search.specs.Found.{FindsAt}
 use Rattle.change_batch.proofs.Told.{removed}
 use Rattle.change_batch.proofs.applying.delete.Goals as goal
@@ -10,9 +10,15 @@ returns-clause-ok c =
     let given = c.args.change.now.set in
     let sets = c.args.sets.now.items in
     let found : FindsAt sets (key_of given) c.in-Ok.place = c.in-Ok.ensures in
-    let there : IsThereAsGiven sets given = subst (λ s. IsThereAsGiven s given) c.as_slice.ensures.value (c.is_as_given.ensures.0 c.if-not-is_as_given.false) in
+    let there : IsThereAsGiven sets given =
+    subst (λ s. IsThereAsGiven s given) c.as_slice.ensures.value
+    (c.is_as_given.ensures.0 c.if-not-is_as_given.false) in
     let not_protected = c.if-is_protected.false in (
       c.requires.inside,
-      subst (λ a. Makes a given sets c.args.apex.now c.take_away.new.sets.items) (sym c.requires.action)
-          (there, (λ h. let t = c.is_protected.ensures.1 h in grind (arith, t, not_protected)), c.take_away.ensures ∙ removed sets (key_of given) c.in-Ok.place found),
+      subst (λ a. Makes a given sets c.args.apex.now c.take_away.new.sets.items)
+          (sym c.requires.action) (
+            there,
+            (λ h. let t = c.is_protected.ensures.1 h in grind (arith, t, not_protected)),
+            c.take_away.ensures ∙ removed sets (key_of given) c.in-Ok.place found,
+          ),
     )

@@ -9,7 +9,10 @@ pub returns : goal.returns
 returns c =
     let x = c.index-sets-place in
     let f = c.requires in
-    let it : x.result ≡ f.kept = x.is ∙ get_or_from_slice_get c.args.sets.now c.args.place f.kept x.result f.there in (
-      (λ t. as_given c.args.sets.now c.args.given.now c.args.place f (subst (λ (s : RecordSet). Same s c.args.given.now) it (c.same.ensures.0 t))),
-      λ h. c.same.ensures.1 (subst (λ (s : RecordSet). Same s c.args.given.now) (f.only h.0 h.1 ∙ sym it) h.2),
+    let it : x.result ≡ f.kept = x.is
+    ∙ get_or_from_slice_get c.args.sets.now c.args.place f.kept x.result f.there in (
+      (λ t. as_given c.args.sets.now c.args.given.now c.args.place f
+          (subst (λ (s : RecordSet). Same s c.args.given.now) it (c.same.ensures.0 t))),
+      λ h. c.same.ensures.1 (subst (λ (s : RecordSet). Same s c.args.given.now) (f.only h.0 h.1
+          ∙ sym it) h.2),
     )

@@ -1,6 +1,6 @@
 use Rattle.std.proofs.Common.{◌∙◌, sym, subst}
 use Rattle.record_set.specs.Sets.{key_of}
-use Rattle.r53_model.specs.Changing.{Makes}
+use Rattle.batch_model.specs.Changing.{Makes}
 use Rattle.set_search.specs.Found.{FindsAt}
 use Rattle.change_batch.proofs.Told.{put_in_place}
 use Rattle.change_batch.proofs.applying.upsert.Goals as goal
@@ -11,6 +11,7 @@ returns-in-Ok-replace_by_copy-clause-ok c =
     let sets = c.args.sets.now.items in
     let found : FindsAt sets (key_of given) c.in-Ok.place = c.in-Ok.ensures in (
       c.requires.inside,
-      subst (λ a. Makes a given sets c.args.apex.now c.replace_by_copy.new.sets.items) (sym c.requires.action)
+      subst (λ a. Makes a given sets c.args.apex.now c.replace_by_copy.new.sets.items)
+          (sym c.requires.action)
           (c.in-Ok-replace_by_copy.ensures ∙ put_in_place sets given c.in-Ok.place found),
     )

@@ -1,11 +1,14 @@
 use Rattle.std.proofs.Common.{subst}
-use Rattle.r53_model.specs.Batches.{IsWithinLimits, Leaves}
-use Rattle.r53_model.specs.Rules.{MeetsAll, rules}
+use Rattle.batch_model.specs.Batches.{IsWithinLimits, Leaves}
+use Rattle.batch_model.specs.Rules.{MeetsAll, rules}
 use Rattle.change_batch.proofs.preparing.prepare.Goals as goal
 
 pub returns-clause-answer : goal.returns-clause-answer
 returns-clause-answer c = (
-  subst (λ changes. IsWithinLimits changes c.args.apex.now) c.as_slice-changes.ensures c.in_default.ensures,
-  subst (λ changes. Leaves c.args.sets.now c.args.apex.now changes c.in-Ok.after.items) c.as_slice-changes.ensures c.in-Ok.ensures.leaves,
-  subst (λ sets. MeetsAll rules sets c.args.apex.now) c.as_slice.ensures.value c.in_default-first_break.ensures,
+  subst (λ changes. IsWithinLimits changes c.args.apex.now) c.as_slice-changes.ensures
+      c.in_default.ensures,
+  subst (λ changes. Leaves c.args.sets.now c.args.apex.now changes c.in-Ok.after.items)
+      c.as_slice-changes.ensures c.in-Ok.ensures.leaves,
+  subst (λ sets. MeetsAll rules sets c.args.apex.now) c.as_slice.ensures.value
+      c.in_default-first_break.ensures,
 )

@@ -5,17 +5,20 @@ use Rattle.set_search.proofs.names.closest_in.Goals as goal
 pub returns-then-exists_in : goal.returns-then-exists_in
 returns-then-exists_in g c =
     let parent = c.in-Some.ensures.some in
-    found_closest (g.S.SetList.sets c.args.sets.now) c.args.name.now c.loop-parent.closest parent.0 c.in-Some.parent parent.1 c.loop-parent.invariant
+    found_closest (g.S.SetList.sets c.args.sets.now) c.args.name.now c.loop-parent.closest parent.0
+    c.in-Some.parent parent.1 c.loop-parent.invariant
     (c.exists_in.ensures.0 c.if-exists_in.true)
 
 pub loop-parent-preserved : goal.loop-parent-preserved
 loop-parent-preserved g c =
     let parent = c.in-Some.ensures.some in
     let no = c.if-exists_in.false in
-    further_up (g.S.SetList.sets c.args.sets.now) c.args.name.now c.loop-parent.closest parent.0 c.in-Some.parent parent.1 c.loop-parent.invariant
+    further_up (g.S.SetList.sets c.args.sets.now) c.args.name.now c.loop-parent.closest parent.0
+    c.in-Some.parent parent.1 c.loop-parent.invariant
     (λ h. let t = c.exists_in.ensures.1 h in grind (arith, t, no))
 
 pub returns : goal.returns
 returns g c =
     let some = c.requires.some in
-    absurd (root_ends (g.S.SetList.sets c.args.sets.now) c.args.name.now c.loop-parent.closest c.loop-parent.invariant c.in_default.ensures.none some.0 some.1 some.2)
+    absurd (root_ends (g.S.SetList.sets c.args.sets.now) c.args.name.now c.loop-parent.closest
+    c.loop-parent.invariant c.in_default.ensures.none some.0 some.1 some.2)

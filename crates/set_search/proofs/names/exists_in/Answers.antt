@@ -4,7 +4,9 @@ use Rattle.set_search.proofs.names.exists_in.Goals as goal
 
 pub returns-then-first-count : goal.returns-then-first-count
 returns-then-first-count g c =
-    let t = first_tells (g.S.SetList.sets c.args.sets.now) c.args.name.now c.first_named-first.result c.requires c.first_named-first.ensures c.at.result.now c.at.ensures in
+    let t = first_tells (g.S.SetList.sets c.args.sets.now) c.args.name.now
+    c.first_named-first.result c.requires c.first_named-first.ensures c.at.result.now
+    c.at.ensures in
     (λ h. t.0 (c.ends_with.ensures.0 h), λ h. c.ends_with.ensures.1 (t.1 h))
 
 pub returns-else-first-count : goal.returns-else-first-count
@@ -12,5 +14,7 @@ returns-else-first-count g c =
     let count = c.count.ensures in
     let past = c.if-first-count.false in (
       (λ h. absurd (grind (arith, h, past))),
-      λ h. absurd (none_exists (g.S.SetList.sets c.args.sets.now) c.args.name.now c.first_named-first.result c.requires c.first_named-first.ensures (omega (arith, count, past)) h),
+      λ h. absurd
+          (none_exists (g.S.SetList.sets c.args.sets.now) c.args.name.now c.first_named-first.result
+          c.requires c.first_named-first.ensures (omega (arith, count, past)) h),
     )

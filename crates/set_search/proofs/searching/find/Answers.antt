@@ -8,7 +8,8 @@ use Rattle.set_search.proofs.searching.find.Goals.{else-place-count-via-then-pla
 
 pub returns-then-has_key : goal.returns-then-has_key
 returns-then-has_key g c =
-    found (g.S.SetList.sets c.args.sets.now) c.args.key.now c.requires c.count_before-place.result c.at.result.now c.count_before-place.ensures
+    found (g.S.SetList.sets c.args.sets.now) c.args.key.now c.requires c.count_before-place.result
+    c.at.result.now c.count_before-place.ensures
     c.at.ensures (c.has_key.ensures.0 c.if-has_key.true)
 
 pub returns : goal.returns
@@ -19,7 +20,8 @@ returns g c =
     (λ x at_n same. elim c.else-place-count.branch [
       | else-place-count-via-then-place-count+else-has_key w ↦
           (let it : x ≡ w.at.result.now = at_one sets n x w.at.result.now at_n w.at.ensures in
-          let t = w.has_key.ensures.1 (subst (λ (s : RecordSet). key_of s ≡ c.args.key.now) it same) in
+          let t = w.has_key.ensures.1 (subst (λ (s : RecordSet). key_of s ≡ c.args.key.now) it same)
+          in
           let f = w.if-has_key.false in
           grind (arith, t, f))
       | else-place-count-via-else-place-count w ↦

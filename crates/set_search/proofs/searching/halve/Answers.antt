@@ -9,7 +9,8 @@ returns-then-is_before-clause-bracket g c =
     let m = c.args.low + (c.args.high - c.args.low) / 2 in
     let below : m < c.args.high = omega (arith, apart) in
     let x = c.at in
-    low_up (g.S.SetList.sets c.args.sets.now) c.args.bound.now c.requires.rising c.args.low c.args.high m x.result.now c.requires.bracket (omega arith) below
+    low_up (g.S.SetList.sets c.args.sets.now) c.args.bound.now c.requires.rising c.args.low
+    c.args.high m x.result.now c.requires.bracket (omega arith) below
     x.ensures (sym c.is_before.ensures ∙ c.if-is_before.true)
 
 pub returns-clause-bracket : goal.returns-clause-bracket
@@ -19,5 +20,6 @@ returns-clause-bracket g c =
     let m = c.args.low + (c.args.high - c.args.low) / 2 in
     let below : m < c.args.high = omega (arith, apart) in
     let x = c.at in
-    high_down (g.S.SetList.sets c.args.sets.now) c.args.bound.now c.requires.rising c.args.low c.args.high m x.result.now c.requires.bracket (omega arith) below
+    high_down (g.S.SetList.sets c.args.sets.now) c.args.bound.now c.requires.rising c.args.low
+    c.args.high m x.result.now c.requires.bracket (omega arith) below
     x.ensures (sym c.is_before.ensures ∙ c.if-is_before.false)

@@ -10,7 +10,8 @@ invariant-loop-set l = record {
   next : (goal.iterator-loop-set).can_next l.set-iterator;
   finite : (goal.iterator-loop-set).is_finite l.set-iterator;
   new : AreNew (sets_of l.sets.placed) (into_iter_items l.set-iterator);
-  put : (told : List SetRef) (after : List Placed) → Puts l.zone l.sets.placed (into_iter_items l.set-iterator) told after
+  put : (told : List SetRef) (after : List Placed)
+      → Puts l.zone l.sets.placed (into_iter_items l.set-iterator) told after
       → Puts l.zone l.fn.sets.placed l.fn.add.items (l.added.items ++ told) after;
   room : length (into_iter_items l.set-iterator) ≤ l.sets.room;
   refs : length l.added.items + length (into_iter_items l.set-iterator) ≤ vec_capacity l.added;

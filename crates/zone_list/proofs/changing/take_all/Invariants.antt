@@ -8,7 +8,8 @@ use Rattle.zone_list.proofs.changing.take_all.Given as goal
 abbrev pub invariant-loop-key : goal.invariant-loop-key
 invariant-loop-key l = record {
   there : AreThere (sets_of l.sets.placed) (drop l.key-index l.keys);
-  taken : (told : List SetRef) (after : List Placed) → Takes l.zone l.sets.placed (drop l.key-index l.keys) told after
+  taken : (told : List SetRef) (after : List Placed)
+      → Takes l.zone l.sets.placed (drop l.key-index l.keys) told after
       → Takes l.zone l.fn.sets.placed l.keys (l.removed.items ++ told) after;
   room : l.fn.sets.room ≤ l.sets.room;
   refs : length l.removed.items + length (drop l.key-index l.keys) ≤ vec_capacity l.removed;

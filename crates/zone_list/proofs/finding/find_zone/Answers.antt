@@ -10,8 +10,10 @@ returns-then-place-list c =
     let list = c.args.list.now in
     let many = as_many list in
     let test = c.if-place-list.true in
-    not_found (zones_of list) c.args.id c.requires c.first_from-place.result c.first_from-place.ensures
-    (λ x at e. (let inside = slice_get_within (zones_of list) c.first_from-place.result x at in omega (arith, many, test, inside)))
+    not_found (zones_of list) c.args.id c.requires c.first_from-place.result
+    c.first_from-place.ensures
+    (λ x at e. (let inside = slice_get_within (zones_of list) c.first_from-place.result x at in
+    omega (arith, many, test, inside)))
 
 pub returns-then-id : goal.returns-then-id
 returns-then-id c =
@@ -23,8 +25,11 @@ returns-then-id c =
     let y = c.index-list-place in
     let other = c.if-id.true in
     let its_id = c.id.ensures in
-    not_found (zones_of list) c.args.id c.requires c.first_from-place.result c.first_from-place.ensures
-    (λ x at e. (let same = one_at (zones_of list) c.first_from-place.result x y.result.zone at (kept_at list c.first_from-place.result y.result inside y.is) in
+    not_found (zones_of list) c.args.id c.requires c.first_from-place.result
+    c.first_from-place.ensures
+    (λ x at e. (let same =
+    one_at (zones_of list) c.first_from-place.result x y.result.zone at
+    (kept_at list c.first_from-place.result y.result inside y.is) in
     let h : x.id ≡ y.result.zone.id = ap (λ (z : Zone). z.id) same in
     omega (arith, h, e, other, its_id)))
 
@@ -38,4 +43,10 @@ returns c =
     let y = c.index-list-place in
     let same = c.if-id.false in
     let its_id = c.id.ensures in
-    record { zone = y.result.zone; there = kept_at list c.first_from-place.result y.result inside y.is; its_id = omega (arith, same, its_id) }
+    record {
+      zone = y.result.zone;
+      there =
+          kept_at list c.first_from-place.result y.result inside y.is;
+      its_id =
+          omega (arith, same, its_id);
+    }

@@ -13,7 +13,8 @@ returns-then-id c =
     let y = c.index-list-place in
     let above = c.if-id.true in
     let its_id = c.id.ensures in
-    past_at (zones_of list) c.args.id c.requires c.first_from-place.result y.result.zone c.first_from-place.ensures
+    past_at (zones_of list) c.args.id c.requires c.first_from-place.result y.result.zone
+    c.first_from-place.ensures
     (kept_at list c.first_from-place.result y.result inside y.is) (omega (arith, above, its_id))
 
 pub returns : goal.returns
@@ -26,5 +27,6 @@ returns c =
     let y = c.index-list-place in
     let above = c.if-id.false in
     let its_id = c.id.ensures in
-    past_behind (zones_of list) c.args.id c.requires c.first_from-place.result y.result.zone c.first_from-place.ensures
+    past_behind (zones_of list) c.args.id c.requires c.first_from-place.result y.result.zone
+    c.first_from-place.ensures
     (kept_at list c.first_from-place.result y.result inside y.is) (omega (arith, above, its_id))

@@ -15,7 +15,8 @@ returns-then-id-clause-bracket c =
     let x = c.index-list-middle in
     let its_id = c.id.ensures in
     let test = c.if-id.true in
-    low_up (zones_of list) c.args.id c.requires.listed c.args.low c.args.high m x.result.zone c.requires.bracket (omega arith) below
+    low_up (zones_of list) c.args.id c.requires.listed c.args.low c.args.high m x.result.zone
+    c.requires.bracket (omega arith) below
     (kept_at list m x.result inside x.is) (omega (arith, its_id, test))
 
 pub returns-clause-bracket : goal.returns-clause-bracket
@@ -30,5 +31,6 @@ returns-clause-bracket c =
     let x = c.index-list-middle in
     let its_id = c.id.ensures in
     let test = c.if-id.false in
-    high_down (zones_of list) c.args.id c.requires.listed c.args.low c.args.high m x.result.zone c.requires.bracket (omega arith) below
+    high_down (zones_of list) c.args.id c.requires.listed c.args.low c.args.high m x.result.zone
+    c.requires.bracket (omega arith) below
     (kept_at list m x.result inside x.is) (λ h. omega (arith, its_id, test, h))

@@ -12,6 +12,9 @@ loop-zone-preserved c =
     let list = c.args.list.now in
     let i = c.loop-zone.zone-index in
     let test = c.loop-zone-test.true in
-    let at : slice_get list i ≡ Some c.zone-item.result = slice_get_read list (length list) i c.zone-item.result refl (omega (arith, test)) c.zone-item.is in
-    subst (λ (zones : List Zone). LongestOrNone zones c.args.name.now c.longer-found.result) (sym (map_more (λ (k : Kept). k.zone) list i c.zone-item.result at))
+    let at : slice_get list i ≡ Some c.zone-item.result =
+    slice_get_read list (length list) i c.zone-item.result refl (omega (arith, test))
+    c.zone-item.is in
+    subst (λ (zones : List Zone). LongestOrNone zones c.args.name.now c.longer-found.result)
+    (sym (map_more (λ (k : Kept). k.zone) list i c.zone-item.result at))
     (c.longer-found.ensures (zones_of (take i list)) c.loop-zone.invariant)

@@ -9,7 +9,8 @@ returns-then-place-list c =
     let list = c.args.list.now in
     let many = as_many list in
     let test = c.if-place-list.true in
-    no_next (zones_of list) c.args.id c.requires c.first_past-place.result c.first_past-place.ensures (omega (arith, many, test))
+    no_next (zones_of list) c.args.id c.requires c.first_past-place.result
+    c.first_past-place.ensures (omega (arith, many, test))
 
 pub returns : goal.returns
 returns c =
@@ -20,4 +21,5 @@ returns c =
     let inside : c.first_past-place.result < length list = omega (arith, many, test, within) in
     let y = c.index-list-place in
     subst (λ n. IsNextZone (zones_of list) c.args.id n) (sym c.id.ensures)
-    (next_zone (zones_of list) c.args.id c.requires c.first_past-place.result y.result.zone c.first_past-place.ensures (kept_at list c.first_past-place.result y.result inside y.is))
+    (next_zone (zones_of list) c.args.id c.requires c.first_past-place.result y.result.zone
+    c.first_past-place.ensures (kept_at list c.first_past-place.result y.result inside y.is))

@@ -1,4 +1,4 @@
-use Rattle.r53_model.specs.Rules.{OnePolicy, OwnPlace}
+use Rattle.batch_model.specs.Rules.{OnePolicy, OwnPlace}
 use Rattle.zone_rules.specs.Breaks.{IsFirstBefore, IsFullBefore}
 use Rattle.zone_rules.specs.Groups.{IsStartBefore}
 use Rattle.zone_rules.specs.Marks.{AreMarked}

@@ -1,6 +1,6 @@
 use Rattle.std.proofs.Common.{◌≡◌, ◌-◌, ◌+◌, refl, arith, subst, inl, inr}
 use Rattle.std.proofs.lemmas.Option.{slice_get_read}
-use Rattle.r53_model.specs.Rules.{AreOneGroup}
+use Rattle.zone_model.specs.Zones.{AreOneGroup}
 use Rattle.zone_rules.proofs.FullGroups.{filled}
 use Rattle.zone_rules.proofs.Runs.{goes_on, begins, at_one, moved}
 use Rattle.zone_rules.proofs.groups.start_of.Goals as goal
@@ -15,7 +15,8 @@ returns-then-is_one_group c =
     let next : (c.args.i - 1) + 1 ≡ c.args.i = omega (arith, positive) in
     record {
       start = goes_on c.args.sets.now c.args.start (c.args.i - 1) c.args.i x.result y.result next
-          (slice_get_read c.args.sets.now _ (c.args.i - 1) x.result refl (omega (arith, within)) x.is)
+          (slice_get_read c.args.sets.now _ (c.args.i - 1) x.result refl (omega (arith, within))
+          x.is)
           (slice_get_read c.args.sets.now _ c.args.i y.result refl within y.is)
           (c.is_one_group.ensures.0 c.if-is_one_group.true)
           (c.requires.before (c.args.i - 1) next);
@@ -33,13 +34,24 @@ returns c = record {
             let y = t.index-sets-i-then-i-gt0 in
             let positive = t.if-i-gt0.true in
             let same : c.args.i - 1 ≡ j = omega (arith, next) in
-            let first : v ≡ x.result = at_one c.args.sets.now j v x.result at_j (moved c.args.sets.now (c.args.i - 1) j x.result same (slice_get_read c.args.sets.now _ (c.args.i - 1) x.result refl (omega (arith, within)) x.is)) in
-            let second : w ≡ y.result = at_one c.args.sets.now c.args.i w y.result at_i (slice_get_read c.args.sets.now _ c.args.i y.result refl within y.is) in
-            let yes = t.is_one_group.ensures.1 (subst (λ s. AreOneGroup x.result s) second (subst (λ s. AreOneGroup s w) first g)) in
+            let first : v ≡ x.result =
+            at_one c.args.sets.now j v x.result at_j
+            (moved c.args.sets.now (c.args.i - 1) j x.result same
+            (slice_get_read c.args.sets.now _ (c.args.i - 1) x.result refl
+            (omega (arith, within)) x.is)) in
+            let second : w ≡ y.result =
+            at_one c.args.sets.now c.args.i w y.result at_i
+            (slice_get_read c.args.sets.now _ c.args.i y.result refl within y.is) in
+            let yes =
+            t.is_one_group.ensures.1
+            (subst (λ s. AreOneGroup x.result s) second (subst (λ s. AreOneGroup s w) first g))
+            in
             let no_group = t.if-is_one_group.false in
             absurd (grind (arith, yes, no_group)))
-        | else-i-gt0-via-else-i-gt0 t ↦ (let zero = t.if-i-gt0.false in absurd (omega (arith, zero, next)))
+        | else-i-gt0-via-else-i-gt0 t ↦
+            (let zero = t.if-i-gt0.false in absurd (omega (arith, zero, next)))
       ])
-      (λ j next. filled c.args.sets.now j (let within = c.requires.within in omega (arith, within, next)));
+      (λ j next. filled c.args.sets.now j (let within = c.requires.within in
+      omega (arith, within, next)));
   which = inr refl;
 }

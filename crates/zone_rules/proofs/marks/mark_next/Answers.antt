@@ -12,7 +12,10 @@ returns c =
     let i = c.args.i in
     let before : AreMarked sets c.if-start-i.marks start i = elim c.if-start-i.branch [
       | then-start-i w ↦ none_to_mark sets c.if-start-i.marks start i w.if-start-i.true
-      | else-start-i w ↦ subst (λ marks. AreMarked sets marks start i) (sym w.marks-is) c.requires.before
+      | else-start-i w ↦
+          subst (λ marks. AreMarked sets marks start i) (sym w.marks-is) c.requires.before
     ] in
-    marked_next sets c.if-start-i.marks c.mark.new.marks start i (get_or sets i c.index-sets-i.result) (slice_get-get_or sets i c.index-sets-i.result c.requires.within)
+    marked_next sets c.if-start-i.marks c.mark.new.marks start i
+    (get_or sets i c.index-sets-i.result)
+    (slice_get-get_or sets i c.index-sets-i.result c.requires.within)
     c.mark.ensures.kept c.mark.ensures.marked before

@@ -9,6 +9,10 @@ returns-then-not-is_marked c =
     let i = c.args.i in
     let no_mark = c.if-not-is_marked.true in (
       (λ t. absurd (grind (arith, t))),
-      λ breaks. absurd (unmarked sets c.args.marks.now c.args.start i (get_or sets i c.index-sets-i.result) (slice_get-get_or sets i c.index-sets-i.result c.requires.within) c.requires.start c.requires.marks
+      λ breaks.
+          absurd (unmarked sets c.args.marks.now c.args.start i
+          (get_or sets i c.index-sets-i.result)
+          (slice_get-get_or sets i c.index-sets-i.result c.requires.within) c.requires.start
+          c.requires.marks
           (λ mark. let t = c.is_marked.ensures.1 mark in grind (arith, t, no_mark)) breaks),
     )

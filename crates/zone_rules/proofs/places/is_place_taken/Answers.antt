@@ -2,7 +2,7 @@ use Rattle.std.proofs.Common.{◌≡◌, get_or, refl, arith, Some, subst, inl, 
 use Rattle.std.specs.Prelude.{slice_get}
 use Rattle.std.proofs.lemmas.Option.{slice_get-get_or}
 use Rattle.record_set.specs.declared.sets.RecordSet.{RecordSet}
-use Rattle.r53_model.specs.Rules.{AreOnePlace}
+use Rattle.batch_model.specs.Rules.{AreOnePlace}
 use Rattle.zone_rules.proofs.Runs.{at_one, moved, up_to}
 use Rattle.zone_rules.proofs.places.is_place_taken.Goals as goal
 
@@ -14,8 +14,10 @@ returns-then-is_one_place c =
     let below = c.loop-k-test.true in
     let x = get_or sets k c.index-sets-k.result in
     let y = get_or sets c.args.i c.index-sets-i.result in
-    let at_k : slice_get sets k ≡ Some x = slice_get-get_or sets k c.index-sets-k.result (omega (arith, within, below)) in
-    let at_i : slice_get sets c.args.i ≡ Some y = slice_get-get_or sets c.args.i c.index-sets-i.result within in
+    let at_k : slice_get sets k ≡ Some x =
+    slice_get-get_or sets k c.index-sets-k.result (omega (arith, within, below)) in
+    let at_i : slice_get sets c.args.i ≡ Some y =
+    slice_get-get_or sets c.args.i c.index-sets-i.result within in
     let from = c.loop-k.auto.k in
     let to = c.loop-k.auto.k-end in
     let start = c.requires.start.within in
@@ -28,7 +30,9 @@ returns-then-is_one_place c =
           earlier = below;
           other = x;
           there = at_k;
-          one_group = (c.requires.start.same k x y (omega (arith, below)) at_k at_i).0 (omega (arith, from, to, start));
+          one_group =
+              (c.requires.start.same k x y (omega (arith, below)) at_k at_i).0
+              (omega (arith, from, to, start));
           one_place = place;
         },
       )),
@@ -43,8 +47,10 @@ loop-k-preserved c j x y from lt at_j at_i place =
     let k = c.loop-k.k in
     let v = get_or sets k c.index-sets-k.result in
     let w = get_or sets c.args.i c.index-sets-i.result in
-    let at_k : slice_get sets k ≡ Some v = slice_get-get_or sets k c.index-sets-k.result (omega (arith, within, below)) in
-    let at_end : slice_get sets c.args.i ≡ Some w = slice_get-get_or sets c.args.i c.index-sets-i.result within in
+    let at_k : slice_get sets k ≡ Some v =
+    slice_get-get_or sets k c.index-sets-k.result (omega (arith, within, below)) in
+    let at_end : slice_get sets c.args.i ≡ Some w =
+    slice_get-get_or sets c.args.i c.index-sets-i.result within in
     let no_place = c.if-is_one_place.false in
     let yes = c.is_one_place.ensures.1 in
     elim (up_to j k (omega (arith, lt))) [
@@ -52,6 +58,8 @@ loop-k-preserved c j x y from lt at_j at_i place =
       | inr e ↦
           (let first : x ≡ v = at_one sets k x v (moved sets j k x e at_j) at_k in
           let second : y ≡ w = at_one sets c.args.i y w at_i at_end in
-          let t = yes (subst (λ (s : RecordSet). AreOnePlace v.routing s.routing) second (subst (λ (s : RecordSet). AreOnePlace s.routing y.routing) first place)) in
+          let t = yes
+          (subst (λ (s : RecordSet). AreOnePlace v.routing s.routing) second
+          (subst (λ (s : RecordSet). AreOnePlace s.routing y.routing) first place)) in
           grind (arith, t, no_place))
     ]

@@ -7,13 +7,16 @@ use Rattle.zone_rules.proofs.policies.is_mixed.Goals as goal
 
 -- what holds where a test fails
 negated : (P Q : Type 0) (test : Bool) → (IsTrue test ↔ P) → ((P → ⊥) ↔ Q) → (IsTrue (not test) ↔ Q)
-negated P Q true t q = ((λ no_test. absurd (grind (arith, no_test))), λ h. absurd (q.1 h (t.0 refl)))
+negated P Q true t q =
+    ((λ no_test. absurd (grind (arith, no_test))), λ h. absurd (q.1 h (t.0 refl)))
 negated P Q false t q = ((λ e. q.0 (λ p. let yes = t.1 p in grind (arith, yes))), λ h. refl)
 
 pub returns-then-start-i : goal.returns-then-start-i
 returns-then-start-i c =
-    let s = subst (λ n. IsStart c.args.sets.now n c.args.i) c.if-start-i.true c.requires.start in
-    ((λ t. absurd (grind (arith, t))), λ breaks. absurd (first_alone c.args.sets.now c.args.i s breaks))
+    let s = subst (λ n. IsStart c.args.sets.now n c.args.i) c.if-start-i.true c.requires.start in (
+      (λ t. absurd (grind (arith, t))),
+      λ breaks. absurd (first_alone c.args.sets.now c.args.i s breaks),
+    )
 
 pub returns : goal.returns
 returns c =
@@ -25,6 +28,7 @@ returns c =
     let x = get_or sets (i - 1) c.index-sets-i.result in
     let y = get_or sets i c.index-sets-i-2.result in
     negated _ _ c.is_one_policy.result c.is_one_policy.ensures
-    (mixed_within sets c.args.start (i - 1) i x y c.requires.rising c.requires.start (omega (arith, le, apart)) (omega (arith, le, apart))
+    (mixed_within sets c.args.start (i - 1) i x y c.requires.rising c.requires.start
+    (omega (arith, le, apart)) (omega (arith, le, apart))
     (slice_get-get_or sets (i - 1) c.index-sets-i.result (omega (arith, within)))
     (slice_get-get_or sets i c.index-sets-i-2.result within))

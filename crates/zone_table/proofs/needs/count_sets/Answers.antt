@@ -13,7 +13,9 @@ returns-in-Some c =
     let it = it_is list c.args.zone c.in-Some.place c.in-Some.ensures k c.index-list-place.is in
     c.count.ensures
     ∙ (length-map c.sets.result.now.placed (λ (p : Placed). p.set)
-    ∙ ap (λ (ps : List Placed). length ps) (c.sets.ensures ∙ sym (its_sets list c.args.zone c.in-Some.place k c.requires it.1 it.2)))
+    ∙ ap (λ (ps : List Placed). length ps) (c.sets.ensures
+    ∙ sym (its_sets list c.args.zone c.in-Some.place k c.requires it.1 it.2)))
 
 pub returns-in-None : goal.returns-in-None
-returns-in-None c = sym (ap length (none_placed (zones_of c.args.list.now) c.args.zone c.in-None.ensures))
+returns-in-None c =
+    sym (ap length (none_placed (zones_of c.args.list.now) c.args.zone c.in-None.ensures))

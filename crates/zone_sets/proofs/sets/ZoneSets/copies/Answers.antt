@@ -9,6 +9,8 @@ pub loop-place-preserved : goal.loop-place-preserved
 loop-place-preserved c =
     let sets = sets_of c.args.self.now.placed in
     let copy = c.in_ok-copy.field-0 in
-    let at : slice_get sets c.loop-place.place ≡ Some copy = c.at.ensures ∙ ap Some (sym c.in_ok-copy.ensures) in
+    let at : slice_get sets c.loop-place.place ≡ Some copy = c.at.ensures
+    ∙ ap Some (sym c.in_ok-copy.ensures) in
     c.in_ok-push.ensures.items
-    ∙ (ap (λ (done : List RecordSet). done ++ copy ∷ []) c.loop-place.invariant ∙ sym (take_more sets c.loop-place.place copy at))
+    ∙ (ap (λ (done : List RecordSet). done ++ copy ∷ []) c.loop-place.invariant
+    ∙ sym (take_more sets c.loop-place.place copy at))

@@ -7,7 +7,10 @@ use Rattle.zone_sets.proofs.sets.ZoneSets.take.Goals as goal
 
 pub returns-clause-placed : goal.returns-clause-placed
 returns-clause-placed c =
-    let found : FindsAt (sets_of c.args.self.now.placed) c.args.key.now c.in-Ok.place = c.in-Ok.ensures in
+    let found : FindsAt (sets_of c.args.self.now.placed) c.args.key.now c.in-Ok.place =
+    c.in-Ok.ensures in
     let taken = c.take_at.ensures.placed in
-    let same : taken.set ≡ found.kept = mapped_at (λ (p : Placed). p.set) c.args.self.now.placed c.in-Ok.place _ found.kept taken.there found.there in
+    let same : taken.set ≡ found.kept =
+    mapped_at (λ (p : Placed). p.set) c.args.self.now.placed c.in-Ok.place _ found.kept
+    taken.there found.there in
     record { at = c.in-Ok.place; taken = taken; same_key = ap key_of same ∙ found.same_key }

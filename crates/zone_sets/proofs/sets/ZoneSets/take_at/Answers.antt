@@ -9,15 +9,19 @@ pub invariant_of-self : goal.invariant_of-self
 invariant_of-self c =
     let slot = c.remove_slot-slot in
     subst (λ (o : List ℕ). IsIndex c.remove.new.self o) (sym slot.ensures.items)
-    (taken_index c.self.inside.sets c.remove.new.self c.self.inside.order.items c.args.place slot.result c.self.invariant slot.ensures.slot
+    (taken_index c.self.inside.sets c.remove.new.self c.self.inside.order.items c.args.place
+    slot.result c.self.invariant slot.ensures.slot
     c.remove.ensures.updates c.remove.ensures.len)
 
 pub returns-clause-placed : goal.returns-clause-placed
 returns-clause-placed c =
     let slot = c.remove_slot-slot in
-    subst (λ (h : Held). IsTakenAt h.placed c.args.place slot.result (placed_of c.remove.new.self slot.new.order.items)) c.self.view_is
-    (subst (λ (o : List ℕ). IsTakenAt (placed_of c.self.inside.sets c.self.inside.order.items) c.args.place slot.result (placed_of c.remove.new.self o)) (sym slot.ensures.items)
-    (taken_is c.self.inside.sets c.remove.new.self c.self.inside.order.items c.args.place slot.result c.self.invariant slot.ensures.slot
+    subst (λ (h : Held). IsTakenAt h.placed c.args.place slot.result
+    (placed_of c.remove.new.self slot.new.order.items)) c.self.view_is
+    (subst (λ (o : List ℕ). IsTakenAt (placed_of c.self.inside.sets c.self.inside.order.items)
+    c.args.place slot.result (placed_of c.remove.new.self o)) (sym slot.ensures.items)
+    (taken_is c.self.inside.sets c.remove.new.self c.self.inside.order.items c.args.place
+    slot.result c.self.invariant slot.ensures.slot
     c.remove.ensures.updates c.remove.ensures.len))
 
 pub returns-clause-room : goal.returns-clause-room
@@ -26,4 +30,5 @@ returns-clause-room c =
     let shorter = removed_is_shorter c.self.inside.order.items c.args.place in
     let n = ap length slot.ensures.items in
     subst (λ (h : Held). h.room ≤ room_of c.remove.new.self slot.new.order) c.self.view_is
-    (room_grows c.self.inside.sets c.remove.new.self c.self.inside.order slot.new.order c.remove.ensures.capacity slot.ensures.capacity (omega (arith, shorter, n)))
+    (room_grows c.self.inside.sets c.remove.new.self c.self.inside.order slot.new.order
+    c.remove.ensures.capacity slot.ensures.capacity (omega (arith, shorter, n)))

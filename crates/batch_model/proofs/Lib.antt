@@ -1,0 +1,4 @@
+pub mod Answering
+pub mod Staying
+pub mod Telling
+pub mod Vectors

@@ -1,0 +1,14 @@
+pub mod Batches
+pub mod Changing
+pub mod Laws
+pub mod Limits
+pub mod Rules
+pub mod Telling
+pub use Rattle.dns_name.specs.Suffix
+pub use Rattle.rdata.specs.Datum
+pub use Rattle.record_set.specs.Reasons
+pub use Rattle.record_set.specs.Sameness
+pub use Rattle.record_set.specs.Sets
+pub use Rattle.set_octets.specs.Octets
+pub use Rattle.zone_model.specs.Placing
+pub use Rattle.zone_model.specs.Zones

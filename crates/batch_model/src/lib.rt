@@ -1,0 +1,12 @@
+//! Batches of changes to the sets of a zone, and by which rules a batch is made whole or refused.
+//!
+//! The rules are definitions over plain lists, for contracts to cite; what runs here only holds changes and refusals.
+#![tactic(auto)]
+
+mod batches;
+mod laws;
+mod refusals;
+
+pub use batches::{Action, Batch, Change, Changes};
+pub use laws::{one_answer, zones_stay};
+pub use refusals::{BatchRefusal, ChangeRefusal};

@@ -1,8 +1,0 @@
-use Rattle.std.proofs.Common.{below_more, arith}
-use Rattle.plain_batch.proofs.rules.first_same_place.Goals as goal
-
-pub loop-i-preserved : goal.loop-i-preserved
-loop-i-preserved c = below_more _ _ c.loop-i.invariant (λ b. let t = c.has_same_place.ensures.1 b in let f = c.if-has_same_place.false in grind (arith, t, f))
-
-pub returns : goal.returns
-returns c = λ i h. c.loop-i.invariant i (let t = c.loop-i-test.false in omega (arith, t, h))

@@ -1,8 +1,0 @@
-use Rattle.std.proofs.Common.{◌≡◌, ◌<◌, ℕ, Some}
-use Rattle.std.specs.Prelude.{slice_get}
-use Rattle.record_set.specs.declared.sets.RecordSet.{RecordSet}
-use Rattle.rdata_layout.specs.declared.types.RType.TheVariants.{Cname}
-use Rattle.plain_batch.proofs.rules.has_cname.Given as goal
-
-abbrev pub invariant-loop-set : goal.invariant-loop-set
-invariant-loop-set l = (j : ℕ) (x : RecordSet) → j < l.set-index → slice_get l.sets j ≡ Some x → x.name ≡ l.name → x.rtype ≡ Cname → ⊥

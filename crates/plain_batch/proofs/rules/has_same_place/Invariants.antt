@@ -1,8 +1,0 @@
-use Rattle.std.proofs.Common.{◌≡◌, ◌<◌, ℕ, Some}
-use Rattle.std.specs.Prelude.{slice_get}
-use Rattle.record_set.specs.declared.sets.RecordSet.{RecordSet}
-use Rattle.r53_model.specs.Rules.{AreOneGroup, AreOnePlace}
-use Rattle.plain_batch.proofs.rules.has_same_place.Given as goal
-
-abbrev pub invariant-loop-k : goal.invariant-loop-k
-invariant-loop-k l = (j : ℕ) (x y : RecordSet) → j < l.k → slice_get l.sets j ≡ Some x → slice_get l.sets l.i ≡ Some y → AreOneGroup x y → AreOnePlace x.routing y.routing → ⊥

@@ -1,5 +1,0 @@
-use Rattle.r53_model.proofs.Decided as decided
-use Rattle.r53_model.proofs.laws.one_decision.Goals as goal
-
-pub returns : goal.returns
-returns c = decided.one_decision

@@ -1,0 +1,5 @@
+pub mod Among
+pub mod Ordered
+pub mod Places
+pub mod Staying
+pub mod Vectors

@@ -1,0 +1,11 @@
+pub mod Existing
+pub mod KeyLaws
+pub mod Keys
+pub mod Laws
+pub mod Placing
+pub mod Walks
+pub mod Zones
+pub use Rattle.dns_name.specs.Suffix
+pub use Rattle.rdata.specs.Datum
+pub use Rattle.record_set.specs.Reasons
+pub use Rattle.record_set.specs.Sets
