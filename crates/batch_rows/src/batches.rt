@@ -1,6 +1,6 @@
 //! Batches made and refused, from a zone without sets on.
 
-ghost use Rattle.r53_model.specs.Zones.{IsZone};
+ghost use Rattle.zone_model.specs.Zones.{IsZone};
 
 use crate::changes::{Row, address, batch_of, cname, servers};
 use crate::sets::name;
@@ -161,4 +161,21 @@ fn deleted_as_it_is_there(rt: HostRuntime) {
         matches!(why, BatchRefusal::ApexProtected(0)),
         "the servers of the zone"
     );
+}
+
+#[test]
+fn thousand_changes(rt: HostRuntime) {
+    let apex = name(&rt, b"example.com");
+    let mut rows = Vec::new(rt.alloc());
+    for n in 0..1000 {
+        let action = if n % 2 == 0 {
+            Action::Create
+        } else {
+            Action::Delete
+        };
+        let row = address(action, b"w.example.com");
+        assert!(rt; rows.push(row).is_ok(), "memory");
+    }
+    let zone = made(&rt, rt.alloc(), &[], &apex, rows.as_slice());
+    assert_eq!(rt; zone.len(), 0, "each set that came is gone");
 }

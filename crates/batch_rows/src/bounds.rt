@@ -1,6 +1,6 @@
 //! The bounds of a batch, and the order in which its refusals come.
 
-ghost use Rattle.r53_model.specs.Zones.{IsZone};
+ghost use Rattle.zone_model.specs.Zones.{IsZone};
 
 use crate::batches::{made, refusal, refused};
 use crate::changes::{Row, address, cname, servers};

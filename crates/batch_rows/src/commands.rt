@@ -50,18 +50,49 @@ fn octets_of_commands(rt: HostRuntime) {
         &rt,
         rt.alloc(),
         create(&rt),
-        b"\x01\x01\x01a\0\x01b\0\x01c\0\x01d\0\x01e\x01f\0",
+        b"\x02\x01\x01a\0\x01b\0\x01c\0\x01d\0\x01e\x01f\0",
     );
     compare(
         &rt,
         rt.alloc(),
         Command::DeleteZone(7),
-        b"\x01\x02\0\0\0\x07",
+        b"\x02\x02\0\0\0\x07",
     );
     compare(
         &rt,
         rt.alloc(),
         change(&rt, rt.alloc()),
-        b"\x01\x03\0\0\x01\x02\0\x01\x03\0\0\0\x09\x03www\x01a\0\0\x01\0\0\0\0\x01\x2c\0\x01\0\x04\xc0\0\x02\x01\0",
+        b"\x02\x03\0\0\x01\x02\0\x01\x03\0\0\0\x09\x03www\x01a\0\0\x01\0\0\0\0\x01\x2c\0\x01\0\x04\xc0\0\x02\x01\0",
     );
+}
+
+#[test]
+fn first_version_read(rt: HostRuntime) {
+    let command = read(rt.alloc(), b"\x01\x02\0\0\0\x07");
+    assert!(rt; matches!(command, Ok(Command::DeleteZone(7))), "version 1");
+    let command = read(rt.alloc(), b"\x03\x02\0\0\0\x07");
+    assert!(rt; matches!(command, Err(ReadFault::Bad(0))), "version 3");
+}
+
+/// A change of so many addresses.
+fn changes(rt: &impl Abort, alloc: Global, count: usize) -> Command {
+    let mut rows = Vec::new(alloc);
+    for _ in 0..count {
+        let row = address(Action::Upsert, b"www.a");
+        assert!(rt; rows.push(row).is_ok(), "memory");
+    }
+    Command::Change(batch_of(rt, alloc, rows.as_slice()))
+}
+
+#[test]
+fn changes_above_a_thousand(rt: HostRuntime) {
+    let command = changes(&rt, rt.alloc(), 1200);
+    assert!(rt; has_spelling(&command), "a spelling");
+    let written = write(rt.alloc(), &command).ok().expect(&rt, "memory");
+    // 8 octets, and 29 a change: 4 for the characters, 24 for the set
+    assert_eq!(rt; written.len(), 8 + 1200 * 29);
+    let Ok(Command::Change(batch)) = read(rt.alloc(), written.as_slice()) else {
+        panic!(rt; "a change of a zone");
+    };
+    assert_eq!(rt; batch.changes.len(), 1200, "all changes");
 }

@@ -1,6 +1,3 @@
-pub mod Again
-pub mod Inside
-pub mod Loop
-pub mod Spelled
+pub mod Commands
+pub mod Fields
 pub mod Vectors
-pub mod Whole

@@ -3,19 +3,23 @@ use Rattle.std.specs.Prelude.{◌≡◌, ◌≤◌, ℕ, List, ◌++◌, length,
 use Rattle.dns_name.specs.Names.{AreOctets}
 use Rattle.command_octets.specs.declared.commands.Command.{Command}
 use Rattle.command_codec.specs.Commands.{IsCommand, Spells}
-use Rattle.command_octets.specs.Octets.{command_octets, HasSpelling}
+use Rattle.command_octets.specs.Octets.{IsVersion, spelling, HasSpelling}
 use Rattle.command_codec.specs.Reading.{read}
 
--- One command has one spelling, and no spelling begins another: octets begin with the spelling of one command at most.
+-- In each version one command has one spelling, and no spelling of either version begins another: octets begin with the
+-- spelling of one command in one version at most.
 abbrev pub OneSpelling : Type 0
 OneSpelling =
-    (command other : Command) (rest others : List ℕ) → IsCommand command → IsCommand other → HasSpelling command → HasSpelling other
-    → command_octets command ++ rest ≡ command_octets other ++ others → (command ≡ other) × (rest ≡ others)
+    (version other_version : ℕ) (command other : Command) (rest others : List ℕ) → IsVersion version → IsVersion other_version
+    → IsCommand command → IsCommand other → HasSpelling version command → HasSpelling other_version other
+    → spelling version command ++ rest ≡ spelling other_version other ++ others
+    → (version ≡ other_version) × (command ≡ other) × (rest ≡ others)
 
--- What is written is read again.
+-- What is written, in either version, is read again.
 abbrev pub WrittenReadsBack : Type 0
 WrittenReadsBack =
-    (command : Command) → IsCommand command → HasSpelling command → read (command_octets command) ≡ Ok command
+    (version : ℕ) (command : Command) → IsVersion version → IsCommand command → HasSpelling version command
+    → read (spelling version command) ≡ Ok command
 
 -- The octets of a command are read as nothing else.
 abbrev pub ReadAsNothingElse : Type 0

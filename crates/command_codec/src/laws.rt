@@ -2,18 +2,20 @@
 
 ghost use Rattle.command_codec.specs.Laws.{CommandsAreTold, OneSpelling, ReadAsNothingElse, WrittenReadsBack};
 
-/// One command has one spelling, and no spelling begins another.
+/// In each version one command has one spelling, and no spelling of either version begins another.
 pub fn one_spelling()
     ensures { OneSpelling }
 {
     set_reading::written_reads_back();
+    set_reading::sets_are_told();
 }
 
-/// What is written is read again.
+/// What is written, in either version, is read again.
 pub fn written_reads_back()
     ensures { WrittenReadsBack }
 {
     set_reading::written_reads_back();
+    set_reading::sets_are_told();
 }
 
 /// The octets of a command are read as nothing else.
@@ -21,6 +23,7 @@ pub fn read_as_nothing_else()
     ensures { ReadAsNothingElse }
 {
     set_reading::written_reads_back();
+    set_reading::sets_are_told();
 }
 
 /// Reading tells the command that octets are, or that they are none.

@@ -3,15 +3,15 @@
 ghost use Rattle.std.specs.Prelude.{◌≡◌, length};
 ghost use Rattle.std.specs.List.{AllByRecursion};
 ghost use Rattle.dns_name.specs.Names.{IsName};
-ghost use Rattle.command_codec.specs.Commands.{AreTyped, IsSound, IsCommand};
+ghost use Rattle.command_codec.specs.Commands.{HasSet, IsCommand};
 
+use batch_model::Change;
 use command_octets::Command;
 use dns_name::Name;
-use r53_model::Change;
 
-/// What every command is whose sets have values of their types, for the premises of laws; it does nothing.
+/// What every command is, for the premises of laws; it does nothing.
 pub fn well_formed(command: &Command)
-    ensures { AreTyped command.now → IsCommand command.now }
+    ensures { IsCommand command.now }
 {
     match command {
         Command::CreateZone { name, servers } => {
@@ -35,7 +35,7 @@ fn four_names(servers: &[Name; 4])
 
 /// The sets of changes.
 fn sets_in_changes(changes: &[Change])
-    ensures { AllByRecursion IsSound changes.now }
+    ensures { AllByRecursion HasSet changes.now }
 {
     for change in changes {
         set_reading::well_formed(&change.set);

@@ -1,17 +1,17 @@
 //! Reading a command from left to right.
 
 ghost use Rattle.std.specs.Prelude.{◌≡◌, ◌≤◌, ℕ, length, take, drop, IfOk, Ok};
-ghost use Rattle.octet_reading.specs.Reading.{Gives};
+ghost use Rattle.octet_reading.specs.Reading.{Gives, GivesOrStops};
 ghost use Rattle.command_octets.specs.declared.commands.Command.{Command};
 ghost use Rattle.command_codec.specs.Commands.{Spells};
 ghost use Rattle.command_codec.specs.Gives.{IsInside, ReadsCommand};
-ghost use Rattle.command_codec.specs.Reading.{version_at, servers_at, create_at, delete_at, action_of, action_at, set_at, change_at, changes_at, batch_at, command_at, front_at, whole_at, read};
+ghost use Rattle.command_codec.specs.Reading.{version_at, servers_at, create_at, delete_at, action_of, action_at, set_at, change_at, batch_at, command_at, front_at, read};
 
+use batch_model::{Action, Batch, Change, Changes};
 use command_octets::Command;
 use dns_name::Name;
-use octet_reading::{Stop, four_at, name_at, octet_at, two_at};
+use octet_reading::{Fault, Field, Stop, four_at, list_at, name_at, octet_at};
 use octets::behind;
-use r53_model::{Action, Batch, Change, Changes};
 use record_set::RecordSet;
 use set_reading::{ReadFault, read_set};
 use std::alloc::Global;
@@ -32,64 +32,59 @@ pub fn read(alloc: Global, bytes: &[u8]) -> Result<Command, ReadFault>
     read_whole(alloc, bytes)
 }
 
-/// The command, or the place of the first fault.
+/// The command, or the place of the first fault. Nothing may stand behind a command.
 #[tactic(auto, unfolding(crate::specs::Reading::read))]
 fn read_whole(alloc: Global, bytes: &[u8]) -> Result<Command, ReadFault>
     ensures exact { ReadsCommand result (read bytes.now) }
     ensures inside { IsInside (length bytes.now) result }
 {
-    match whole_at(alloc, bytes) {
-        Ok(command) => Ok(command),
+    set_reading::written_reads_back();
+    set_reading::sets_are_told();
+    match front_at(alloc, bytes) {
+        Ok((_, command, rest)) => {
+            if rest.len() > 0 {
+                return Err(ReadFault::Bad(bytes.len() - rest.len()));
+            }
+            Ok(command)
+        }
         Err(Stop::Bad(left)) => Err(ReadFault::Bad(bytes.len() - left)),
         Err(Stop::OutOfMemory) => Err(ReadFault::OutOfMemory),
     }
 }
 
-/// A command, and nothing behind it.
-#[tactic(auto, unfolding(crate::specs::Reading::whole_at))]
-fn whole_at(alloc: Global, bytes: &[u8]) -> Result<Command, Stop>
-    ensures { Gives (λ x. x) result (whole_at bytes.now) }
-{
-    let (command, rest) = match front_at(alloc, bytes) {
-        Ok(read) => read,
-        Err(stop) => return Err(stop),
-    };
-    if rest.len() > 0 {
-        return Err(Stop::Bad(rest.len()));
-    }
-    Ok(command)
-}
-
 /// The version and a command behind it.
 #[tactic(auto, unfolding(crate::specs::Reading::front_at))]
-fn front_at(alloc: Global, bytes: &[u8]) -> Result<(Command, &[u8]), Stop>
-    ensures { Gives (λ x. (x.0, x.1.now)) result (front_at bytes.now) }
+fn front_at(alloc: Global, bytes: &[u8]) -> Result<(u8, Command, &[u8]), Stop>
+    ensures { GivesOrStops (λ x. ((x.0, x.1), x.2.now)) result (front_at bytes.now) }
 {
-    let rest = version_at(bytes)?;
-    command_at(alloc, rest)
+    let (version, rest) = version_at(bytes)?;
+    match command_at(alloc, rest) {
+        Ok((command, rest)) => Ok((version, command, rest)),
+        Err(stop) => Err(stop),
+    }
 }
 
 /// The version of the spelling.
 #[tactic(auto, unfolding(crate::specs::Reading::version_at))]
-fn version_at(bytes: &[u8]) -> Result<&[u8], Stop>
-    ensures { Gives (λ x. (1, x.now)) result (version_at bytes.now) }
+fn version_at(bytes: &[u8]) -> Result<(u8, &[u8]), Fault>
+    ensures { Gives (λ x. (x.0, x.1.now)) result (version_at bytes.now) }
 {
     let (version, rest) = octet_at(bytes)?;
-    if version != 1 {
-        return Err(Stop::Bad(bytes.len()));
+    match version {
+        1 | 2 => Ok((version, rest)),
+        _ => Err(Fault(bytes.len())),
     }
-    Ok(rest)
 }
 
 /// A command behind the version.
 #[tactic(auto, unfolding(crate::specs::Reading::command_at))]
 fn command_at(alloc: Global, bytes: &[u8]) -> Result<(Command, &[u8]), Stop>
-    ensures { Gives (λ x. (x.0, x.1.now)) result (command_at bytes.now) }
+    ensures { GivesOrStops (λ x. (x.0, x.1.now)) result (command_at bytes.now) }
 {
     let (kind, rest) = octet_at(bytes)?;
     match kind {
-        1 => create_at(rest),
-        2 => delete_at(rest),
+        1 => Ok(create_at(rest)?),
+        2 => Ok(delete_at(rest)?),
         3 => batch_at(alloc, rest),
         _ => Err(Stop::Bad(bytes.len())),
     }
@@ -97,7 +92,7 @@ fn command_at(alloc: Global, bytes: &[u8]) -> Result<(Command, &[u8]), Stop>
 
 /// The name of a zone and its servers.
 #[tactic(auto, unfolding(crate::specs::Reading::create_at))]
-fn create_at(bytes: &[u8]) -> Result<(Command, &[u8]), Stop>
+fn create_at(bytes: &[u8]) -> Result<(Command, &[u8]), Fault>
     ensures { Gives (λ x. (x.0, x.1.now)) result (create_at bytes.now) }
 {
     let (name, rest) = match name_at(bytes) {
@@ -113,7 +108,7 @@ fn create_at(bytes: &[u8]) -> Result<(Command, &[u8]), Stop>
 
 /// Four names.
 #[tactic(auto, unfolding(crate::specs::Reading::servers_at))]
-fn servers_at(bytes: &[u8]) -> Result<([Name; 4], &[u8]), Stop>
+fn servers_at(bytes: &[u8]) -> Result<([Name; 4], &[u8]), Fault>
     ensures { Gives (λ x. (x.0, x.1.now)) result (servers_at bytes.now) }
 {
     let (first, rest) = match name_at(bytes) {
@@ -137,7 +132,7 @@ fn servers_at(bytes: &[u8]) -> Result<([Name; 4], &[u8]), Stop>
 
 /// The number of a zone.
 #[tactic(auto, unfolding(crate::specs::Reading::delete_at))]
-fn delete_at(bytes: &[u8]) -> Result<(Command, &[u8]), Stop>
+fn delete_at(bytes: &[u8]) -> Result<(Command, &[u8]), Fault>
     ensures { Gives (λ x. (x.0, x.1.now)) result (delete_at bytes.now) }
 {
     let (zone, rest) = four_at(bytes)?;
@@ -147,32 +142,33 @@ fn delete_at(bytes: &[u8]) -> Result<(Command, &[u8]), Stop>
 /// The number of a zone, and the changes to its sets.
 #[tactic(auto, unfolding(crate::specs::Reading::batch_at))]
 fn batch_at(alloc: Global, bytes: &[u8]) -> Result<(Command, &[u8]), Stop>
-    ensures { Gives (λ x. (x.0, x.1.now)) result (batch_at bytes.now) }
+    ensures { GivesOrStops (λ x. (x.0, x.1.now)) result (batch_at bytes.now) }
 {
     let (zone, rest) = four_at(bytes)?;
-    let (count, rest) = two_at(rest)?;
-    let (changes, rest) = changes_at(alloc, count, rest)?;
+    let (changes, rest) = list_at(alloc, &OneChange, rest)?;
+    let changes = Changes::from_vec(changes);
     Ok((Command::Change(Batch { zone, changes }), rest))
 }
 
-/// So many changes.
-fn changes_at(alloc: Global, count: u16, bytes: &[u8]) -> Result<(Changes, &[u8]), Stop>
-    ensures { Gives (λ x. (x.0, x.1.now)) result (changes_at count bytes.now) }
-{
-    let mut changes = Vec::new(alloc);
-    let mut rest = bytes;
-    for _ in 0..count {
-        let (change, after) = change_at(alloc, rest)?;
-        changes.push(change)?;
-        rest = after;
+/// A change, as an item of a list.
+struct OneChange;
+
+impl Field for OneChange {
+    type Value = Change;
+
+    ghost use Rattle.command_codec.specs.Reading.{change_at};
+
+    ghost reading = { λ _. change_at };
+
+    fn read<'a>(&self, alloc: Global, bytes: &'a [u8]) -> Result<(Change, &'a [u8]), Stop> {
+        change_at(alloc, bytes)
     }
-    Ok((Changes::from_vec(changes), rest))
 }
 
 /// A change to a set.
 #[tactic(auto, unfolding(crate::specs::Reading::change_at))]
 fn change_at(alloc: Global, bytes: &[u8]) -> Result<(Change, &[u8]), Stop>
-    ensures { Gives (λ x. (x.0, x.1.now)) result (change_at bytes.now) }
+    ensures { GivesOrStops (λ x. (x.0, x.1.now)) result (change_at bytes.now) }
 {
     let (action, rest) = action_at(bytes)?;
     let (characters, rest) = four_at(rest)?;
@@ -190,12 +186,12 @@ fn change_at(alloc: Global, bytes: &[u8]) -> Result<(Change, &[u8]), Stop>
 
 /// An action, by its number.
 #[tactic(auto, unfolding(crate::specs::Reading::action_at))]
-fn action_at(bytes: &[u8]) -> Result<(Action, &[u8]), Stop>
+fn action_at(bytes: &[u8]) -> Result<(Action, &[u8]), Fault>
     ensures { Gives (λ x. (x.0, x.1.now)) result (action_at bytes.now) }
 {
     let (n, rest) = octet_at(bytes)?;
     let Some(action) = action_of(n) else {
-        return Err(Stop::Bad(bytes.len()));
+        return Err(Fault(bytes.len()));
     };
     Ok((action, rest))
 }
@@ -215,7 +211,7 @@ fn action_of(n: u8) -> Option<Action>
 /// A set.
 #[tactic(auto, unfolding(crate::specs::Reading::set_at))]
 fn set_at(alloc: Global, bytes: &[u8]) -> Result<(RecordSet, &[u8]), Stop>
-    ensures { Gives (λ x. (x.0, x.1.now)) result (set_at bytes.now) }
+    ensures { GivesOrStops (λ x. (x.0, x.1.now)) result (set_at bytes.now) }
 {
     match read_set(alloc, bytes) {
         Ok((set, len)) => Ok((set, behind(bytes, len))),

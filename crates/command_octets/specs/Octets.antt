@@ -1,12 +1,12 @@
--- The octets of commands, version 1: one spelling each (FORMATS, Octets of commands).
-use Rattle.std.specs.Prelude.{ℕ, ◌^◌, ◌<◌, List, ◌∷◌, ◌++◌, length, ⊤}
+-- The octets of commands: one spelling each in a version (FORMATS, Octets of commands).
+use Rattle.std.specs.Prelude.{ℕ, ◌≡◌, ◌^◌, ◌<◌, ◌⊎◌, List, ◌∷◌, ◌++◌, length, ⊤}
 use Rattle.std.specs.List.{flat_map, AllByRecursion}
 use Rattle.octets.specs.Numbers.{two_octets, four_octets}
 use Rattle.dns_name.specs.Labels.{wire}
-use Rattle.r53_model.specs.declared.batches.Action.{Action}
-use Rattle.r53_model.specs.declared.batches.Action.TheVariants as action
-use Rattle.r53_model.specs.declared.batches.Batch.{Batch}
-use Rattle.r53_model.specs.declared.batches.Change.{Change}
+use Rattle.batch_model.specs.declared.batches.Action.{Action}
+use Rattle.batch_model.specs.declared.batches.Action.TheVariants as action
+use Rattle.batch_model.specs.declared.batches.Batch.{Batch}
+use Rattle.batch_model.specs.declared.batches.Change.{Change}
 use Rattle.set_octets.specs.Octets.{set_octets}
 use Rattle.set_octets.specs.Octets as sets
 use Rattle.command_octets.specs.declared.commands.Command.{Command}
@@ -25,11 +25,29 @@ change_octets change = action_number change.action ∷ (four_octets change.chara
 abbrev pub batch_octets : Batch → List ℕ
 batch_octets batch = four_octets batch.zone ++ two_octets (length batch.changes) ++ flat_map change_octets batch.changes
 
--- the version, the kind, and the fields of that kind
+-- The versions: journals may hold both, and commands are written in the second.
+abbrev pub IsVersion : ℕ → Type 0
+IsVersion version = (version ≡ 1) ⊎ (version ≡ 2)
+
+-- the kinds of commands
+abbrev pub kind_of : Command → ℕ
+kind_of (command.CreateZone name servers) = 1
+kind_of (command.DeleteZone zone) = 2
+kind_of (command.Change batch) = 3
+
+-- the fields of a command
+abbrev pub field_octets : Command → List ℕ
+field_octets (command.CreateZone name servers) = wire name ++ flat_map wire servers
+field_octets (command.DeleteZone zone) = four_octets zone
+field_octets (command.Change batch) = batch_octets batch
+
+-- the octets of a command in a version: the version, the kind, and the fields of that kind
+abbrev pub spelling : (version : ℕ) → Command → List ℕ
+spelling version command = version ∷ kind_of command ∷ field_octets command
+
+-- a command as it is written
 abbrev pub command_octets : Command → List ℕ
-command_octets (command.CreateZone name servers) = 1 ∷ 1 ∷ (wire name ++ flat_map wire servers)
-command_octets (command.DeleteZone zone) = 1 ∷ 2 ∷ four_octets zone
-command_octets (command.Change batch) = 1 ∷ 3 ∷ batch_octets batch
+command_octets command = spelling 2 command
 
 -- a change whose set has a spelling
 abbrev pub HasSpelledSet : Change → Type 0
@@ -40,8 +58,8 @@ pub record IsSpelledBatch (batch : Batch) : Type 0 where
   pub count : length batch.changes < 2 ^ 16
   pub each : AllByRecursion HasSpelledSet batch.changes
 
--- What has a spelling.
-abbrev pub HasSpelling : Command → Type 0
-HasSpelling (command.CreateZone name servers) = ⊤
-HasSpelling (command.DeleteZone zone) = ⊤
-HasSpelling (command.Change batch) = IsSpelledBatch batch
+-- What has a spelling in a version.
+abbrev pub HasSpelling : (version : ℕ) → Command → Type 0
+HasSpelling version (command.CreateZone name servers) = ⊤
+HasSpelling version (command.DeleteZone zone) = ⊤
+HasSpelling version (command.Change batch) = IsSpelledBatch batch

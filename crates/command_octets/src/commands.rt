@@ -1,5 +1,7 @@
+//! Commands: what a client asks to be changed.
+
+use batch_model::Batch;
 use dns_name::Name;
-use r53_model::Batch;
 
 /// What a client asks to be changed.
 #[derive(Drop)]

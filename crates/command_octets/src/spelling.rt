@@ -5,11 +5,11 @@ ghost use Rattle.std.specs.List.{AllByRecursion};
 ghost use Rattle.command_octets.specs.Octets.{HasSpelledSet, HasSpelling};
 
 use crate::commands::Command;
-use r53_model::Change;
+use batch_model::Change;
 
-/// Whether a command has a spelling: its changes and their sets are within their bounds.
+/// Whether a command has a spelling in the version that is written: its changes and their sets are within their bounds.
 pub fn has_spelling(command: &Command) -> bool
-    ensures { IsTrue result ↔ HasSpelling command.now }
+    ensures { IsTrue result ↔ HasSpelling 2 command.now }
 {
     match command {
         Command::CreateZone { .. } | Command::DeleteZone(_) => true,

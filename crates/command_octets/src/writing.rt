@@ -1,4 +1,4 @@
-//! The octets of commands: one spelling each.
+//! Commands as octets, in the version that is written.
 
 ghost use Rattle.std.specs.Prelude.{◌≡◌, ◌<◌, ◌^◌, ◌∷◌, [], ◌++◌, length, OnOk, IfOk};
 ghost use Rattle.std.specs.List.{AllByRecursion, flat_map};
@@ -6,15 +6,18 @@ ghost use Rattle.dns_name.specs.Labels.{wire};
 ghost use Rattle.command_octets.specs.Octets.{action_number, change_octets, batch_octets, command_octets, HasSpelledSet, IsSpelledBatch, HasSpelling};
 
 use crate::commands::Command;
+use batch_model::{Action, Batch, Change};
 use dns_name::Name;
-use octets::{OutOfMemory, four_octets, front, two_octets};
-use r53_model::{Action, Batch, Change};
+use octets::{OutOfMemory, append, four_octets, two_octets};
 use set_octets::write_set;
 use std::alloc::Global;
 
-/// The octets of a command.
+/// The version that is written.
+const VERSION: u8 = 2;
+
+/// The octets of a command, in version 2.
 pub fn write(alloc: Global, command: &Command) -> Result<Vec<u8>, OutOfMemory>
-    requires { HasSpelling command.now }
+    requires { HasSpelling 2 command.now }
     ensures { IfOk result (λ octets. octets.items ≡ command_octets command.now) }
 {
     let mut octets = Vec::new(alloc);
@@ -24,41 +27,31 @@ pub fn write(alloc: Global, command: &Command) -> Result<Vec<u8>, OutOfMemory>
 
 /// Appends a command.
 fn append_command(command: &Command, into: &mut Vec<u8>) -> Result<(), OutOfMemory>
-    requires { HasSpelling command.now }
+    requires { HasSpelling 2 command.now }
     ensures { OnOk result (into.new.items ≡ into.old.items ++ command_octets command.now) }
 {
     match command {
         Command::CreateZone { name, servers } => {
-            append(&[1, 1], into)?;
+            append(&[VERSION, 1], into)?;
             append_name(name, into)?;
             append_names(servers, into)
         }
         Command::DeleteZone(zone) => {
-            append(&[1, 2], into)?;
+            append(&[VERSION, 2], into)?;
             append(&four_octets(*zone), into)
         }
         Command::Change(batch) => {
-            append(&[1, 3], into)?;
+            append(&[VERSION, 3], into)?;
             append_batch(batch, into)
         }
     }
-}
-
-/// Appends a piece.
-fn append(piece: &[u8], into: &mut Vec<u8>) -> Result<(), OutOfMemory>
-    ensures { OnOk result (into.new.items ≡ into.old.items ++ piece.now) }
-{
-    into.extend_from_slice(piece)?;
-    Ok(())
 }
 
 /// Appends a name on the wire.
 fn append_name(name: &Name, into: &mut Vec<u8>) -> Result<(), OutOfMemory>
     ensures { OnOk result (into.new.items ≡ into.old.items ++ wire name.now) }
 {
-    let mut octets = [0; 255];
-    let len = name.write_wire(&mut octets);
-    append(front(&octets, len), into)
+    append(name.octets(), into)
 }
 
 /// Appends names on the wire.

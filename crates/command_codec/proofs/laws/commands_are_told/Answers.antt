@@ -1,4 +1,4 @@
-use Rattle.command_codec.proofs.Whole.{commands_are_told}
+use Rattle.command_codec.proofs.Commands.{commands_are_told}
 use Rattle.command_codec.proofs.laws.commands_are_told.Goals as goal
 
 pub returns : goal.returns

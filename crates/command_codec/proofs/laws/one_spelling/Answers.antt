@@ -1,5 +1,5 @@
-use Rattle.command_codec.proofs.Whole.{one_spelling}
+use Rattle.command_codec.proofs.Commands.{one_command}
 use Rattle.command_codec.proofs.laws.one_spelling.Goals as goal
 
 pub returns : goal.returns
-returns c = one_spelling c.written_reads_back.ensures
+returns c = one_command c.written_reads_back.ensures c.sets_are_told.ensures

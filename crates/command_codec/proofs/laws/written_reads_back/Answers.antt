@@ -1,5 +1,5 @@
-use Rattle.command_codec.proofs.Whole.{written_reads_back}
+use Rattle.command_codec.proofs.Commands.{written_reads_back}
 use Rattle.command_codec.proofs.laws.written_reads_back.Goals as goal
 
 pub returns : goal.returns
-returns c = written_reads_back c.written_reads_back.ensures
+returns c = written_reads_back c.written_reads_back.ensures c.sets_are_told.ensures

@@ -5,4 +5,5 @@ use Rattle.dns_name.specs.Names.{IsName}
 use Rattle.command_codec.proofs.parts.four_names.Given as goal
 
 abbrev pub invariant-loop-server : goal.invariant-loop-server
-invariant-loop-server l = AllByRecursion IsName l.servers ↔ AllByRecursion IsName (drop l.server-index l.servers)
+invariant-loop-server l = AllByRecursion IsName l.servers
+    ↔ AllByRecursion IsName (drop l.server-index l.servers)

@@ -5,4 +5,5 @@ use Rattle.command_octets.specs.Octets.{HasSpelledSet}
 use Rattle.command_octets.proofs.spelling.have_spellings.Given as goal
 
 abbrev pub invariant-loop-change : goal.invariant-loop-change
-invariant-loop-change l = AllByRecursion HasSpelledSet l.changes ↔ AllByRecursion HasSpelledSet (drop l.change-index l.changes)
+invariant-loop-change l = AllByRecursion HasSpelledSet l.changes
+    ↔ AllByRecursion HasSpelledSet (drop l.change-index l.changes)

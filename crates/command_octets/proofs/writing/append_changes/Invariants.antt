@@ -5,4 +5,5 @@ use Rattle.command_octets.proofs.writing.append_changes.Given as goal
 
 abbrev pub invariant-loop-change : goal.invariant-loop-change
 invariant-loop-change l =
-    (l.into.items ≡ l.fn.into.items ++ flat_map change_octets (take l.change-index l.changes)) × AllByRecursion HasSpelledSet (drop l.change-index l.changes)
+    (l.into.items ≡ l.fn.into.items ++ flat_map change_octets (take l.change-index l.changes))
+    × AllByRecursion HasSpelledSet (drop l.change-index l.changes)

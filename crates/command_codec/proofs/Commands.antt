@@ -1,0 +1,93 @@
+-- What is told of a command that octets are as a whole.
+use Rattle.std.proofs.Common.{◌≡◌, ℕ, suc, ◌≤◌, ◌<◌, List, [], ◌∷◌, length, ap, ◌∙◌, sym, subst, Result, Ok, Err}
+use Rattle.std.specs.Prelude.{IfOk, slice_index}
+use Rattle.dns_name.specs.Names.{AreOctets}
+use Rattle.octet_reading.specs.declared.stop.Stop.{Stop}
+use Rattle.octet_reading.specs.declared.stop.Stop.TheVariants as stop
+use Rattle.octet_reading.specs.Reading.{Stops}
+use Rattle.octet_reading.specs.Readers.{whole}
+use Rattle.octet_reading.specs.Rules.{IsReadAs, TellsWhole}
+use Rattle.octet_reading.proofs.Rules.{one_spelling}
+use Rattle.octet_reading.proofs.Whole.{whole_again, tells_whole}
+use Rattle.set_reading.specs.declared.faults.ReadFault.{ReadFault}
+use Rattle.set_reading.specs.Laws as set_laws
+use Rattle.command_octets.specs.declared.commands.Command.{Command}
+use Rattle.command_codec.specs.Commands.{Spells}
+use Rattle.command_codec.specs.Gives.{ReadsCommand}
+use Rattle.command_codec.specs.Laws as laws
+use Rattle.command_codec.specs.Reading.{front_at, unversioned, read}
+use Rattle.command_codec.proofs.Fields.{IsIn, octets_in, front_read}
+
+-- what reading as a whole tells, with the version, it tells of the command
+told_of : (octets : List ℕ) (found : Result (ℕ × Command) ℕ)
+    → TellsWhole IsIn octets_in octets found → laws.TellsCommand octets (unversioned found)
+told_of octets (Ok x) t = record {
+  version = x.0;
+  is_version = t.1.0;
+  is = t.1.1.0;
+  has_spelling = t.1.1.1;
+  spelled = t.0;
+}
+told_of octets (Err place) t =
+    (t.0, λ what s. t.1 (s.version, what) (s.is_version, (s.is, s.has_spelling)) s.spelled)
+
+module _ (written : set_laws.WrittenReadsBack) (told : set_laws.SetsAreTold) where
+  front : IsReadAs IsIn octets_in front_at
+  front = front_read written told
+
+  -- ---- laws
+
+  pub written_reads_back : laws.WrittenReadsBack
+  unfolding read
+  written_reads_back version what v is has =
+      ap unversioned (whole_again front (version, what) (v, (is, has)))
+
+  pub commands_are_told : laws.CommandsAreTold
+  unfolding read
+  commands_are_told octets are =
+      told_of octets (whole front_at octets) (tells_whole front octets are)
+
+  read_again : (octets : List ℕ) (what : Command) → Spells octets what → read octets ≡ Ok what
+  read_again octets what s = ap read s.spelled
+      ∙ written_reads_back s.version what s.is_version s.is s.has_spelling
+
+  pub one_command : laws.OneSpelling
+  one_command version other_version what other rest others v w is other_is has other_has e =
+      let same =
+      one_spelling front (version, what) (other_version, other) rest others (v, (is, has)) (
+        w,
+        (other_is, other_has),
+      ) e in
+      (ap (λ (p : ℕ × Command). p.0) same.0, ap (λ (p : ℕ × Command). p.1) same.0, same.1)
+
+  pub read_as_nothing_else : laws.ReadAsNothingElse
+  read_as_nothing_else octets what other s e = sym e ∙ read_again octets what s
+
+  -- ---- what the call answers
+
+  pub is_only : (octets : List ℕ) (result : Result Command ReadFault)
+      → ReadsCommand result (read octets) → (what : Command) → Spells octets what
+      → ReadsCommand result (Ok what)
+  is_only octets result e what s = subst (ReadsCommand result) (read_again octets what s) e
+
+  pub is_found : (octets : List ℕ) (result : Result Command ReadFault) → AreOctets octets
+      → ReadsCommand result (read octets)
+      → IfOk result (λ what. Spells octets what)
+  is_found octets (Ok what) are e =
+      subst (laws.TellsCommand octets) e (commands_are_told octets are)
+  is_found octets (Err fault) are e = tt
+
+  -- what stands behind a command, or from a fault on, is no more than the octets
+  pub rest_within : (octets : List ℕ) (x : ℕ × Command) (rest : List ℕ)
+      → front_at octets ≡ Ok (x, rest) → length rest ≤ length octets
+  rest_within octets x rest e = front.left octets x rest e
+
+  pub fault_within : (octets : List ℕ) (fault : Stop) (left : ℕ) → fault ≡ stop.Bad left
+      → Stops fault (front_at octets) → left ≤ length octets
+  fault_within octets fault left is e =
+      front.fault octets left (subst (λ f. Stops f (front_at octets)) is e)
+
+-- octets of a slice are octets
+pub are_octets : (octets : List ℕ) → ((i : ℕ) → slice_index octets i < 256) → AreOctets octets
+are_octets [] bytes = tt
+are_octets (b ∷ octets) bytes = (bytes 0, are_octets octets (λ i. bytes (suc i)))
