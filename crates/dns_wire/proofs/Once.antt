@@ -19,8 +19,11 @@ use Rattle.dns_wire.specs.Reading.NameAt.{ends, goes_on, points}
 -- the type of a number
 abbrev type_of : ℕ → RType
 type_of n =
-    if n == 1 then A else (if n == 2 then Ns else (if n == 5 then Cname else (if n == 6 then Soa else (if n == 12 then Ptr
-    else (if n == 15 then Mx else (if n == 16 then Txt else (if n == 28 then Aaaa else (if n == 33 then Srv
+    if n == 1 then A
+    else (if n == 2 then Ns
+    else (if n == 5 then Cname else (if n == 6 then Soa else (if n == 12 then Ptr
+    else (if n == 15 then Mx
+    else (if n == 16 then Txt else (if n == 28 then Aaaa else (if n == 33 then Srv
     else (if n == 99 then Spf else Caa)))))))))
 
 type_back : (rtype : RType) → type_of (number_of rtype) ≡ rtype
@@ -40,27 +43,36 @@ one_number : (rtype other : RType) → number_of rtype ≡ number_of other → r
 one_number rtype other e = sym (type_back rtype) ∙ (ap type_of e ∙ type_back other)
 
 module _ (message : List ℕ) where
-  from_place : (place : ℕ) (piece : List ℕ) (s : Stands message place piece) → drop place message ≡ piece ++ s.rest
-  from_place place piece s = ap (λ m. drop place m) s.there ∙ drop_at s.front (piece ++ s.rest) place s.size
+  from_place : (place : ℕ) (piece : List ℕ) (s : Stands message place piece)
+      → drop place message ≡ piece ++ s.rest
+  from_place place piece s = ap (λ m. drop place m) s.there
+      ∙ drop_at s.front (piece ++ s.rest) place s.size
 
-  same_piece : (place : ℕ) (a b : List ℕ) → length a ≡ length b → Stands message place a → Stands message place b → a ≡ b
+  same_piece : (place : ℕ) (a b : List ℕ) → length a ≡ length b → Stands message place a
+      → Stands message place b → a ≡ b
   same_piece place a b e s t =
       sym (take_at a s.rest (length a) refl)
-      ∙ (ap (λ l. take (length a) l) (sym (from_place place a s) ∙ from_place place b t) ∙ take_at b t.rest (length a) (sym e))
+      ∙ (ap (λ l. take (length a) l) (sym (from_place place a s) ∙ from_place place b t)
+      ∙ take_at b t.rest (length a) (sym e))
 
-  same_first : (place x y : ℕ) (xs ys : List ℕ) → Stands message place (x ∷ xs) → Stands message place (y ∷ ys) → x ≡ y
-  same_first place x y xs ys s t = ap (λ l. get_or l 0 0) (sym (from_place place (x ∷ xs) s) ∙ from_place place (y ∷ ys) t)
+  same_first : (place x y : ℕ) (xs ys : List ℕ) → Stands message place (x ∷ xs)
+      → Stands message place (y ∷ ys) → x ≡ y
+  same_first place x y xs ys s t =
+      ap (λ l. get_or l 0 0) (sym (from_place place (x ∷ xs) s) ∙ from_place place (y ∷ ys) t)
 
-  same_target : (place target other : ℕ) → Stands message place (pointer_octets target) → Stands message place (pointer_octets other) → target ≡ other
+  same_target : (place target other : ℕ) → Stands message place (pointer_octets target)
+      → Stands message place (pointer_octets other) → target ≡ other
   same_target place target other s t =
       let octets = same_piece place (pointer_octets target) (pointer_octets other) refl s t in
       let first : 192 + target / 256 ≡ 192 + other / 256 = ap (λ l. get_or l 0 0) octets in
       let second : target % 256 ≡ other % 256 = ap (λ l. get_or l 1 0) octets in
       omega (arith, first, second)
 
-  same_label : (place : ℕ) (label other : List ℕ) → Stands message place (frame label) → Stands message place (frame other) → label ≡ other
+  same_label : (place : ℕ) (label other : List ℕ) → Stands message place (frame label)
+      → Stands message place (frame other) → label ≡ other
   same_label place label other s t =
-      let many : length label ≡ length other = same_first place (length label) (length other) label other s t in
+      let many : length label ≡ length other =
+      same_first place (length label) (length other) label other s t in
       ap (λ l. drop 1 l) (same_piece place (frame label) (frame other) (omega (arith, many)) s t)
 
   -- ---- names
@@ -69,20 +81,28 @@ module _ (message : List ℕ) where
   abbrev Step : (place : ℕ) → List (List ℕ) → (next : ℕ) → Type 0
   Step place labels next =
       ((labels ≡ []) × (next ≡ place + 1) × Stands message place (0 ∷ []))
-      ⊎ ((label : List ℕ) × (rest : List (List ℕ)) × IsRawLabel label × Stands message place (frame label)
-      × (labels ≡ map to_ascii_lowercase label ∷ rest) × NameAt message (place + length (frame label)) rest next)
-      ⊎ ((target behind : ℕ) × Stands message place (pointer_octets target) × NameAt message target labels behind × (next ≡ place + 2))
+      ⊎ ((label : List ℕ) × (rest : List (List ℕ)) × IsRawLabel label
+      × Stands message place (frame label)
+      × (labels ≡ map to_ascii_lowercase label ∷ rest)
+      × NameAt message (place + length (frame label)) rest next)
+      ⊎ ((target behind : ℕ) × Stands message place (pointer_octets target)
+      × NameAt message target labels behind × (next ≡ place + 2))
 
-  step_of : (place : ℕ) (labels : List (List ℕ)) (next : ℕ) → NameAt message place labels next → Step place labels next
+  step_of : (place : ℕ) (labels : List (List ℕ)) (next : ℕ) → NameAt message place labels next
+      → Step place labels next
   step_of _ _ _ (ends place s) = inl (refl, refl, s)
-  step_of _ _ _ (goes_on place next label labels raw s name) = inr (inl (label, labels, raw, s, refl, name))
-  step_of _ _ _ (points place target next labels lt s name) = inr (inr (target, next, s, name, refl))
+  step_of _ _ _ (goes_on place next label labels raw s name) =
+      inr (inl (label, labels, raw, s, refl, name))
+  step_of _ _ _ (points place target next labels lt s name) =
+      inr (inr (target, next, s, name, refl))
 
   -- what stands at a place is the name that is known there
   abbrev Known : (place : ℕ) → List (List ℕ) → (next : ℕ) → Type 0
-  Known place labels next = (other : List (List ℕ)) (other_next : ℕ) → NameAt message place other other_next → (labels ≡ other) × (next ≡ other_next)
+  Known place labels next = (other : List (List ℕ)) (other_next : ℕ)
+      → NameAt message place other other_next → (labels ≡ other) × (next ≡ other_next)
 
-  at_end : (place : ℕ) → Stands message place (0 ∷ []) → (other : List (List ℕ)) (other_next : ℕ) → Step place other other_next → ([] ≡ other) × (place + 1 ≡ other_next)
+  at_end : (place : ℕ) → Stands message place (0 ∷ []) → (other : List (List ℕ)) (other_next : ℕ)
+      → Step place other other_next → ([] ≡ other) × (place + 1 ≡ other_next)
   at_end place s other other_next (inl (none, end, t)) = (sym none, sym end)
   at_end place s other other_next (inr (inl (label, rest, raw, t, e, more))) =
       let size = same_first place 0 (length label) [] label s t in
@@ -92,74 +112,119 @@ module _ (message : List ℕ) where
       let first = same_first place 0 (192 + target / 256) [] (target % 256 ∷ []) s t in
       absurd (omega (arith, first))
 
-  at_label : (place next : ℕ) (label : List ℕ) (labels : List (List ℕ)) → IsRawLabel label → Stands message place (frame label) → Known (place + length (frame label)) labels next
-      → (other : List (List ℕ)) (other_next : ℕ) → Step place other other_next → (map to_ascii_lowercase label ∷ labels ≡ other) × (next ≡ other_next)
+  at_label : (place next : ℕ) (label : List ℕ) (labels : List (List ℕ)) → IsRawLabel label
+      → Stands message place (frame label) → Known (place + length (frame label)) labels next
+      → (other : List (List ℕ)) (other_next : ℕ) → Step place other other_next
+      → (map to_ascii_lowercase label ∷ labels ≡ other) × (next ≡ other_next)
   at_label place next label labels raw s known other other_next (inl (none, end, t)) =
       let size = same_first place (length label) 0 label [] s t in
       let some = raw.filled in
       absurd (omega (arith, size, some))
-  at_label place next label labels raw s known other other_next (inr (inl (its_label, rest, its_raw, t, e, more))) =
+  at_label place next label labels raw s known other other_next
+      (inr (inl (its_label, rest, its_raw, t, e, more))) =
       let same : label ≡ its_label = same_label place label its_label s t in
-      let later = known rest other_next (subst (λ l. NameAt message (place + length (frame l)) rest other_next) (sym same) more) in
-      (ap (λ l. map to_ascii_lowercase l ∷ labels) same ∙ (ap (λ ls. map to_ascii_lowercase its_label ∷ ls) later.0 ∙ sym e), later.1)
-  at_label place next label labels raw s known other other_next (inr (inr (target, behind, t, more, e))) =
-      let first = same_first place (length label) (192 + target / 256) label (target % 256 ∷ []) s t in
+      let later =
+      known rest other_next
+      (subst (λ l. NameAt message (place + length (frame l)) rest other_next) (sym same) more)
+      in (
+        ap (λ l. map to_ascii_lowercase l ∷ labels) same
+            ∙ (ap (λ ls. map to_ascii_lowercase its_label ∷ ls) later.0 ∙ sym e),
+        later.1,
+      )
+  at_label place next label labels raw s known other other_next
+      (inr (inr (target, behind, t, more, e))) =
+      let first =
+      same_first place (length label) (192 + target / 256) label (target % 256 ∷ []) s t in
       let short = raw.short in
       absurd (omega (arith, first, short))
 
-  at_pointer : (place target next : ℕ) (labels : List (List ℕ)) → Stands message place (pointer_octets target) → Known target labels next
-      → (other : List (List ℕ)) (other_next : ℕ) → Step place other other_next → (labels ≡ other) × (place + 2 ≡ other_next)
+  at_pointer : (place target next : ℕ) (labels : List (List ℕ))
+      → Stands message place (pointer_octets target) → Known target labels next
+      → (other : List (List ℕ)) (other_next : ℕ) → Step place other other_next
+      → (labels ≡ other) × (place + 2 ≡ other_next)
   at_pointer place target next labels s known other other_next (inl (none, end, t)) =
       let first = same_first place (192 + target / 256) 0 (target % 256 ∷ []) [] s t in
       absurd (omega (arith, first))
-  at_pointer place target next labels s known other other_next (inr (inl (label, rest, raw, t, e, more))) =
-      let first = same_first place (192 + target / 256) (length label) (target % 256 ∷ []) label s t in
+  at_pointer place target next labels s known other other_next
+      (inr (inl (label, rest, raw, t, e, more))) =
+      let first =
+      same_first place (192 + target / 256) (length label) (target % 256 ∷ []) label s t in
       let short = raw.short in
       absurd (omega (arith, first, short))
-  at_pointer place target next labels s known other other_next (inr (inr (its_target, behind, t, more, e))) =
+  at_pointer place target next labels s known other other_next
+      (inr (inr (its_target, behind, t, more, e))) =
       let same : target ≡ its_target = same_target place target its_target s t in
       ((known other behind (subst (λ n. NameAt message n other behind) (sym same) more)).0, sym e)
 
-  one_name : (place : ℕ) (labels : List (List ℕ)) (next : ℕ) → NameAt message place labels next → Known place labels next
-  one_name _ _ _ (ends place s) other other_next name = at_end place s other other_next (step_of place other other_next name)
+  one_name : (place : ℕ) (labels : List (List ℕ)) (next : ℕ) → NameAt message place labels next
+      → Known place labels next
+  one_name _ _ _ (ends place s) other other_next name =
+      at_end place s other other_next (step_of place other other_next name)
   one_name _ _ _ (goes_on place next label labels raw s more) other other_next name =
-      at_label place next label labels raw s (one_name (place + length (frame label)) labels next more) other other_next (step_of place other other_next name)
+      at_label place next label labels raw s
+      (one_name (place + length (frame label)) labels next more) other other_next
+      (step_of place other other_next name)
   one_name _ _ _ (points place target next labels lt s more) other other_next name =
-      at_pointer place target next labels s (one_name target labels next more) other other_next (step_of place other other_next name)
+      at_pointer place target next labels s (one_name target labels next more) other other_next
+      (step_of place other other_next name)
 
   -- ---- records
 
-  sized : (place : ℕ) (a b : List ℕ) (next other : ℕ) → length a ≡ length b → PlainAt message place a next → PlainAt message place b other → (a ≡ b) × (next ≡ other)
-  sized place a b next other e h g = (same_piece place a b e h.stands g.stands, h.size ∙ (ap (λ n. place + n) e ∙ sym g.size))
+  sized : (place : ℕ) (a b : List ℕ) (next other : ℕ) → length a ≡ length b
+      → PlainAt message place a next → PlainAt message place b other → (a ≡ b) × (next ≡ other)
+  sized place a b next other e h g =
+      (same_piece place a b e h.stands g.stands, h.size ∙ (ap (λ n. place + n) e ∙ sym g.size))
 
-  one_field : (f : Field) (place : ℕ) (a b : List ℕ) (next other : ℕ) → FieldAt message f place a next → FieldAt message f place b other → (a ≡ b) × (next ≡ other)
+  one_field : (f : Field) (place : ℕ) (a b : List ℕ) (next other : ℕ)
+      → FieldAt message f place a next → FieldAt message f place b other → (a ≡ b) × (next ≡ other)
   one_field field.Name place a b next other h g =
       let name = one_name place h.labels next h.name g.labels other g.name in
       (h.spelled ∙ (ap name_wire name.0 ∙ sym g.spelled), name.1)
   one_field field.Ipv4 place a b next other h g = sized place a b next other (h.0 ∙ sym g.0) h.1 g.1
   one_field field.Ipv6 place a b next other h g = sized place a b next other (h.0 ∙ sym g.0) h.1 g.1
-  one_field field.Number8 place a b next other h g = sized place a b next other (h.0 ∙ sym g.0) h.1 g.1
-  one_field field.Number16 place a b next other h g = sized place a b next other (h.0 ∙ sym g.0) h.1 g.1
-  one_field field.Number32 place a b next other h g = sized place a b next other (h.0 ∙ sym g.0) h.1 g.1
-  one_field field.Tag place a b next other ((tag, is_tag, spelled), plain) ((its_tag, its_is_tag, its_spelled), its_plain) =
+  one_field field.Number8 place a b next other h g =
+      sized place a b next other (h.0 ∙ sym g.0) h.1 g.1
+  one_field field.Number16 place a b next other h g =
+      sized place a b next other (h.0 ∙ sym g.0) h.1 g.1
+  one_field field.Number32 place a b next other h g =
+      sized place a b next other (h.0 ∙ sym g.0) h.1 g.1
+  one_field field.Tag place a b next other (
+    (tag, is_tag, spelled),
+    plain,
+  ) ((its_tag, its_is_tag, its_spelled), its_plain) =
       let many : length tag ≡ length its_tag =
-      same_first place (length tag) (length its_tag) tag its_tag (subst (Stands message place) spelled plain.stands) (subst (Stands message place) its_spelled its_plain.stands) in
-      sized place a b next other (ap length spelled ∙ (ap suc many ∙ sym (ap length its_spelled))) plain its_plain
+      same_first place (length tag) (length its_tag) tag its_tag
+      (subst (Stands message place) spelled plain.stands)
+      (subst (Stands message place) its_spelled its_plain.stands) in
+      sized place a b next other (ap length spelled
+      ∙ (ap suc many ∙ sym (ap length its_spelled))) plain its_plain
 
-  one_list : (fields : List Field) (place : ℕ) (a b : List ℕ) (end other : ℕ) → FieldsAt message fields place a end → FieldsAt message fields place b other → a ≡ b
+  one_list : (fields : List Field) (place : ℕ) (a b : List ℕ) (end other : ℕ)
+      → FieldsAt message fields place a end → FieldsAt message fields place b other → a ≡ b
   one_list [] place a b end other h g = h.0 ∙ sym g.0
-  one_list (f ∷ fields) place a b end other (piece, rest, next, at, spelled, more) (its_piece, its_rest, its_next, its_at, its_spelled, its_more) =
+  one_list (f ∷ fields) place a b end other (piece, rest, next, at, spelled, more) (
+    its_piece,
+    its_rest,
+    its_next,
+    its_at,
+    its_spelled,
+    its_more,
+  ) =
       let first = one_field f place piece its_piece next its_next at its_at in
-      let later : rest ≡ its_rest = one_list fields next rest its_rest end other more (subst (λ n. FieldsAt message fields n its_rest other) (sym first.1) its_more) in
+      let later : rest ≡ its_rest =
+      one_list fields next rest its_rest end other more
+      (subst (λ n. FieldsAt message fields n its_rest other) (sym first.1) its_more) in
       spelled ∙ (ap (λ p. p ++ rest) first.0 ∙ (ap (λ r. its_piece ++ r) later ∙ sym its_spelled))
 
-  plain : (place : ℕ) (a b : List ℕ) (end : ℕ) → PlainAt message place a end → PlainAt message place b end → a ≡ b
+  plain : (place : ℕ) (a b : List ℕ) (end : ℕ) → PlainAt message place a end
+      → PlainAt message place b end → a ≡ b
   plain place a b end h g =
       let here = h.size in
       let there = g.size in
       same_piece place a b (omega (arith, here, there)) h.stands g.stands
 
-  one_data : (rtype : RType) (place : ℕ) (a b : List ℕ) (end : ℕ) → DataAt message rtype place a end → DataAt message rtype place b end → a ≡ b
+  one_data : (rtype : RType) (place : ℕ) (a b : List ℕ) (end : ℕ) → DataAt message rtype place a end
+      → DataAt message rtype place b end → a ≡ b
   one_data A place a b end h g = plain place a b end h g
   one_data Ns place a b end h g = one_list (fields_of Ns) place a b end end h g
   one_data Cname place a b end h g = one_list (fields_of Cname) place a b end end h g
@@ -179,17 +244,22 @@ module _ (message : List ℕ) where
     rdlength : next ≡ behind + 10 + number_at message (behind + 8)
     rdata : DataAt message r.rtype (behind + 10) r.rdata next
 
-  tail_of : (place : ℕ) (r : Record) (next : ℕ) (h : RecordAt message place r next) → Tail h.behind r next
-  tail_of place r next h = record { rtype = h.rtype; ttl = h.ttl; rdlength = h.rdlength; rdata = h.rdata }
+  tail_of : (place : ℕ) (r : Record) (next : ℕ) (h : RecordAt message place r next)
+      → Tail h.behind r next
+  tail_of place r next h =
+      record { rtype = h.rtype; ttl = h.ttl; rdlength = h.rdlength; rdata = h.rdata }
 
   abbrev record_of : List (List ℕ) → RType → (ttl : ℕ) → List ℕ → Record
-  record_of owner rtype ttl rdata = record { owner = owner; rtype = rtype; ttl = ttl; rdata = rdata }
+  record_of owner rtype ttl rdata =
+      record { owner = owner; rtype = rtype; ttl = ttl; rdata = rdata }
 
-  same_record : (behind : ℕ) (r q : Record) (next other : ℕ) → r.owner ≡ q.owner → Tail behind r next → Tail behind q other → (r ≡ q) × (next ≡ other)
+  same_record : (behind : ℕ) (r q : Record) (next other : ℕ) → r.owner ≡ q.owner
+      → Tail behind r next → Tail behind q other → (r ≡ q) × (next ≡ other)
   same_record behind r q next other owner h g = (
     ap (λ o. record_of o r.rtype r.ttl r.rdata) owner
         ∙ (ap (λ t. record_of q.owner t r.ttl r.rdata) rtype
-        ∙ (ap (λ n. record_of q.owner q.rtype n r.rdata) (sym h.ttl ∙ g.ttl) ∙ ap (λ d. record_of q.owner q.rtype q.ttl d) rdata)),
+        ∙ (ap (λ n. record_of q.owner q.rtype n r.rdata) (sym h.ttl ∙ g.ttl)
+        ∙ ap (λ d. record_of q.owner q.rtype q.ttl d) rdata)),
     end,
   )
     where
@@ -202,27 +272,46 @@ module _ (message : List ℕ) where
       rdata : r.rdata ≡ q.rdata
       rdata =
           one_data q.rtype (behind + 10) r.rdata q.rdata other
-          (subst (λ n. DataAt message q.rtype (behind + 10) r.rdata n) end (subst (λ t. DataAt message t (behind + 10) r.rdata next) rtype h.rdata)) g.rdata
+          (subst (λ n. DataAt message q.rtype (behind + 10) r.rdata n) end
+          (subst (λ t. DataAt message t (behind + 10) r.rdata next) rtype h.rdata)) g.rdata
 
-  one_record : (place : ℕ) (r q : Record) (next other : ℕ) → RecordAt message place r next → RecordAt message place q other → (r ≡ q) × (next ≡ other)
+  one_record : (place : ℕ) (r q : Record) (next other : ℕ) → RecordAt message place r next
+      → RecordAt message place q other → (r ≡ q) × (next ≡ other)
   one_record place r q next other h g =
       let name = one_name place r.owner h.behind h.owner q.owner g.behind g.owner in
-      same_record h.behind r q next other name.0 (tail_of place r next h) (subst (λ n. Tail n q other) (sym name.1) (tail_of place q other g))
+      same_record h.behind r q next other name.0 (tail_of place r next h)
+      (subst (λ n. Tail n q other) (sym name.1) (tail_of place q other g))
 
-  one_section : (place : ℕ) (rs qs : List Record) (end other : ℕ) → length rs ≡ length qs → RecordsAt message place rs end → RecordsAt message place qs other → (rs ≡ qs) × (end ≡ other)
+  one_section : (place : ℕ) (rs qs : List Record) (end other : ℕ) → length rs ≡ length qs
+      → RecordsAt message place rs end → RecordsAt message place qs other
+      → (rs ≡ qs) × (end ≡ other)
   one_section place [] [] end other many h g = (refl, h ∙ sym g)
   one_section place [] (q ∷ qs) end other many h g = absurd (omega (arith, many))
   one_section place (r ∷ rs) [] end other many h g = absurd (omega (arith, many))
   one_section place (r ∷ rs) (q ∷ qs) end other many (next, at, more) (its_next, its_at, its_more) =
       let first = one_record place r q next its_next at its_at in
-      let later = one_section next rs qs end other (omega (arith, many)) more (subst (λ n. RecordsAt message n qs other) (sym first.1) its_more) in
+      let later =
+      one_section next rs qs end other (omega (arith, many)) more
+      (subst (λ n. RecordsAt message n qs other) (sym first.1) its_more) in
       (ap (λ x. x ∷ rs) first.0 ∙ ap (λ xs. q ∷ xs) later.0, later.1)
 
 -- ---- the whole message
 
-abbrev message_of : (id : ℕ) (aa rd : Bool) (rcode : ℕ) → List (List ℕ) → List ℕ → (answers authorities additionals : List Record) → Message
+abbrev message_of : (id : ℕ) (aa rd : Bool) (rcode : ℕ) → List (List ℕ) → List ℕ
+    → (answers authorities additionals : List Record) → Message
 message_of id aa rd rcode name question answers authorities additionals =
-    record { id = id; aa = aa; rd = rd; rcode = rcode; name = name; question = question; answers = answers; authorities = authorities; additionals = additionals }
+    record {
+      id = id;
+      aa = aa;
+      rd = rd;
+      rcode = rcode;
+      name = name;
+      question = question;
+      answers =
+          answers;
+      authorities = authorities;
+      additionals = additionals;
+    }
 
 pub one_reading : OneReading
 one_reading message truncated other_truncated m n h g = (sym h.tc ∙ g.tc, whole)
@@ -231,34 +320,49 @@ one_reading message truncated other_truncated m n h g = (sym h.tc ∙ g.tc, whol
     names = one_name message 12 m.name h.name_end h.name n.name g.name_end g.name
 
     as_long : length m.question ≡ length n.question
-    as_long = let here = h.type_and_class in let there = g.type_and_class in let end = names.1 in omega (arith, here, there, end)
+    as_long = let here = h.type_and_class in let there = g.type_and_class in let end = names.1 in
+        omega (arith, here, there, end)
 
     question : m.question ≡ n.question
     question = same_piece message 12 m.question n.question as_long h.question g.question
 
     answers : (m.answers ≡ n.answers) × (h.answers_end ≡ g.answers_end)
     answers =
-        one_section message (12 + length m.question) m.answers n.answers h.answers_end g.answers_end (sym h.answer_count ∙ g.answer_count) h.answers
+        one_section message (12 + length m.question) m.answers n.answers h.answers_end g.answers_end
+        (sym h.answer_count ∙ g.answer_count) h.answers
         (subst (λ k. RecordsAt message (12 + k) n.answers g.answers_end) (sym as_long) g.answers)
 
     authorities : (m.authorities ≡ n.authorities) × (h.authorities_end ≡ g.authorities_end)
     authorities =
-        one_section message h.answers_end m.authorities n.authorities h.authorities_end g.authorities_end (sym h.authority_count ∙ g.authority_count) h.authorities
-        (subst (λ k. RecordsAt message k n.authorities g.authorities_end) (sym answers.1) g.authorities)
+        one_section message h.answers_end m.authorities n.authorities h.authorities_end
+        g.authorities_end (sym h.authority_count ∙ g.authority_count) h.authorities
+        (subst (λ k. RecordsAt message k n.authorities g.authorities_end) (sym answers.1)
+        g.authorities)
 
     additionals : (m.additionals ≡ n.additionals) × (length message ≡ length message)
     additionals =
-        one_section message h.authorities_end m.additionals n.additionals (length message) (length message) (sym h.additional_count ∙ g.additional_count) h.additionals
-        (subst (λ k. RecordsAt message k n.additionals (length message)) (sym authorities.1) g.additionals)
+        one_section message h.authorities_end m.additionals n.additionals (length message)
+        (length message) (sym h.additional_count ∙ g.additional_count) h.additionals
+        (subst (λ k. RecordsAt message k n.additionals (length message)) (sym authorities.1)
+        g.additionals)
 
     whole : m ≡ n
     whole =
-        ap (λ x. message_of x m.aa m.rd m.rcode m.name m.question m.answers m.authorities m.additionals) (sym h.id ∙ g.id)
-        ∙ (ap (λ x. message_of n.id x m.rd m.rcode m.name m.question m.answers m.authorities m.additionals) (sym h.aa ∙ g.aa)
-        ∙ (ap (λ x. message_of n.id n.aa x m.rcode m.name m.question m.answers m.authorities m.additionals) (sym h.rd ∙ g.rd)
-        ∙ (ap (λ x. message_of n.id n.aa n.rd x m.name m.question m.answers m.authorities m.additionals) (sym h.rcode ∙ g.rcode)
-        ∙ (ap (λ x. message_of n.id n.aa n.rd n.rcode x m.question m.answers m.authorities m.additionals) names.0
-        ∙ (ap (λ x. message_of n.id n.aa n.rd n.rcode n.name x m.answers m.authorities m.additionals) question
-        ∙ (ap (λ x. message_of n.id n.aa n.rd n.rcode n.name n.question x m.authorities m.additionals) answers.0
-        ∙ (ap (λ x. message_of n.id n.aa n.rd n.rcode n.name n.question n.answers x m.additionals) authorities.0
-        ∙ ap (λ x. message_of n.id n.aa n.rd n.rcode n.name n.question n.answers n.authorities x) additionals.0)))))))
+        ap (λ x. message_of x m.aa m.rd m.rcode m.name m.question m.answers m.authorities
+        m.additionals) (sym h.id ∙ g.id)
+        ∙ (ap (λ x. message_of n.id x m.rd m.rcode m.name m.question m.answers m.authorities
+        m.additionals) (sym h.aa ∙ g.aa)
+        ∙ (ap (λ x. message_of n.id n.aa x m.rcode m.name m.question m.answers m.authorities
+        m.additionals) (sym h.rd ∙ g.rd)
+        ∙ (ap (λ x. message_of n.id n.aa n.rd x m.name m.question m.answers m.authorities
+        m.additionals) (sym h.rcode ∙ g.rcode)
+        ∙ (ap (λ x. message_of n.id n.aa n.rd n.rcode x m.question m.answers m.authorities
+        m.additionals) names.0
+        ∙ (ap (λ x. message_of n.id n.aa n.rd n.rcode n.name x m.answers m.authorities
+        m.additionals) question
+        ∙ (ap (λ x. message_of n.id n.aa n.rd n.rcode n.name n.question x m.authorities
+        m.additionals) answers.0
+        ∙ (ap (λ x. message_of n.id n.aa n.rd n.rcode n.name n.question n.answers x m.additionals)
+        authorities.0
+        ∙ ap (λ x. message_of n.id n.aa n.rd n.rcode n.name n.question n.answers n.authorities x)
+        additionals.0)))))))

@@ -10,13 +10,15 @@ use Rattle.dns_wire.specs.Data.{data_octets}
 use Rattle.dns_wire.specs.Pointers.{name_octets}
 
 -- opcode 5 (UPDATE) with RD, answered NOTIMP
-pub not_implemented : short_reply 0x1234 5 true 4 ≡ 0x12 ∷ 0x34 ∷ 0xA9 ∷ 0x04 ∷ 0 ∷ 0 ∷ 0 ∷ 0 ∷ 0 ∷ 0 ∷ 0 ∷ 0 ∷ []
+pub not_implemented : short_reply 0x1234 5 true 4 ≡ 0x12 ∷ 0x34 ∷ 0xA9 ∷ 0x04 ∷ 0 ∷ 0 ∷ 0 ∷ 0 ∷ 0
+    ∷ 0 ∷ 0 ∷ 0 ∷ []
 not_implemented = refl
 
 abbrev example : List (List ℕ)
 example = codes "example" ∷ codes "com" ∷ []
 
--- Names against a question for x.sub.example.com: that name, one that ends with sub.example.com, one that ends with com,
+-- Names against a question for x.sub.example.com: that name, one that ends with sub.example.com,
+-- one that ends with com,
 -- a sibling whose label ends alike, the root, and one with nothing in common.
 abbrev asked : List (List ℕ)
 asked = codes "x" ∷ codes "sub" ∷ example
@@ -27,10 +29,12 @@ itself = refl
 pub parent : name_octets asked (codes "sub" ∷ example) ≡ 0xC0 ∷ 14 ∷ []
 parent = refl
 
-pub beside : name_octets asked (codes "ns1" ∷ codes "sub" ∷ example) ≡ 3 ∷ 0x6E ∷ 0x73 ∷ 0x31 ∷ 0xC0 ∷ 14 ∷ []
+pub beside : name_octets asked (codes "ns1" ∷ codes "sub" ∷ example)
+    ≡ 3 ∷ 0x6E ∷ 0x73 ∷ 0x31 ∷ 0xC0 ∷ 14 ∷ []
 beside = refl
 
-pub top : name_octets asked (codes "net" ∷ codes "com" ∷ []) ≡ 3 ∷ 0x6E ∷ 0x65 ∷ 0x74 ∷ 0xC0 ∷ 26 ∷ []
+pub top : name_octets asked (codes "net" ∷ codes "com" ∷ []) ≡ 3 ∷ 0x6E ∷ 0x65 ∷ 0x74 ∷ 0xC0 ∷ 26
+    ∷ []
 top = refl
 
 pub within_label : name_octets asked (codes "b" ∷ []) ≡ 1 ∷ 0x62 ∷ 0 ∷ []
@@ -39,16 +43,19 @@ within_label = refl
 pub root : name_octets asked [] ≡ 0 ∷ []
 root = refl
 
--- the first of two equal labels is not the end of the question's name (RFC 1035, 4.1.4: a pointer is to the end of a name)
+-- the first of two equal labels is not the end of the question's name (RFC 1035, 4.1.4: a pointer
+-- is to the end of a name)
 pub repeated : name_octets (codes "a" ∷ codes "a" ∷ []) (codes "a" ∷ []) ≡ 0xC0 ∷ 14 ∷ []
 repeated = refl
 
 -- an exchange is compressed, and the preference before it stays
-pub exchange : data_octets example Mx (0 ∷ 10 ∷ name_wire (codes "mail" ∷ example)) ≡ 0 ∷ 10 ∷ 4 ∷ 0x6D ∷ 0x61 ∷ 0x69 ∷ 0x6C ∷ 0xC0 ∷ 12 ∷ []
+pub exchange : data_octets example Mx (0 ∷ 10 ∷ name_wire (codes "mail" ∷ example))
+    ≡ 0 ∷ 10 ∷ 4 ∷ 0x6D ∷ 0x61 ∷ 0x69 ∷ 0x6C ∷ 0xC0 ∷ 12 ∷ []
 exchange = refl
 
 -- the target of SRV is whole (RFC 2782)
-pub target : data_octets example Srv (0 ∷ 1 ∷ 0 ∷ 2 ∷ 0x01 ∷ 0xBB ∷ name_wire example) ≡ 0 ∷ 1 ∷ 0 ∷ 2 ∷ 0x01 ∷ 0xBB ∷ name_wire example
+pub target : data_octets example Srv (0 ∷ 1 ∷ 0 ∷ 2 ∷ 0x01 ∷ 0xBB ∷ name_wire example)
+    ≡ 0 ∷ 1 ∷ 0 ∷ 2 ∷ 0x01 ∷ 0xBB ∷ name_wire example
 target = refl
 
 -- an address of `a`, TTL 300, with AA and RD
@@ -59,7 +66,8 @@ pub address : wire (record {
   rcode = 0;
   name = (0x61 ∷ []) ∷ [];
   question = 1 ∷ 0x61 ∷ 0 ∷ 0 ∷ 1 ∷ 0 ∷ 1 ∷ [];
-  answers = record { owner = (0x61 ∷ []) ∷ []; rtype = A; ttl = 300; rdata = 192 ∷ 0 ∷ 2 ∷ 1 ∷ [] } ∷ [];
+  answers = record { owner = (0x61 ∷ []) ∷ []; rtype = A; ttl = 300; rdata = 192 ∷ 0 ∷ 2 ∷ 1 ∷ [] }
+      ∷ [];
   authorities = [];
   additionals = [];
 }) 512 ≡ 0x12 ∷ 0x34 ∷ 0x85 ∷ 0x00 ∷ 0 ∷ 1 ∷ 0 ∷ 1 ∷ 0 ∷ 0 ∷ 0 ∷ 0
@@ -76,10 +84,12 @@ pub cut_address : wire (record {
   rcode = 0;
   name = (0x61 ∷ []) ∷ [];
   question = 1 ∷ 0x61 ∷ 0 ∷ 0 ∷ 1 ∷ 0 ∷ 1 ∷ [];
-  answers = record { owner = (0x61 ∷ []) ∷ []; rtype = A; ttl = 300; rdata = 192 ∷ 0 ∷ 2 ∷ 1 ∷ [] } ∷ [];
+  answers = record { owner = (0x61 ∷ []) ∷ []; rtype = A; ttl = 300; rdata = 192 ∷ 0 ∷ 2 ∷ 1 ∷ [] }
+      ∷ [];
   authorities = [];
   additionals = [];
-}) 34 ≡ 0x12 ∷ 0x34 ∷ 0x87 ∷ 0x00 ∷ 0 ∷ 1 ∷ 0 ∷ 0 ∷ 0 ∷ 0 ∷ 0 ∷ 0 ∷ 1 ∷ 0x61 ∷ 0 ∷ 0 ∷ 1 ∷ 0 ∷ 1 ∷ []
+}) 34 ≡ 0x12 ∷ 0x34 ∷ 0x87 ∷ 0x00 ∷ 0 ∷ 1 ∷ 0 ∷ 0 ∷ 0 ∷ 0 ∷ 0 ∷ 0 ∷ 1 ∷ 0x61 ∷ 0 ∷ 0 ∷ 1 ∷ 0 ∷ 1
+    ∷ []
 unfolding wire
 cut_address = refl
 
@@ -98,7 +108,8 @@ pub refused : wire (record {
 unfolding wire
 refused = refl
 
--- NXDOMAIN for nope.example.com: the SOA of example.com with TTL 900, whose second name ends with com too
+-- NXDOMAIN for nope.example.com: the SOA of example.com with TTL 900, whose second name ends with
+-- com too
 pub no_such_name : wire (record {
   id = 0x1234;
   aa = true;
@@ -113,17 +124,21 @@ pub no_such_name : wire (record {
     ttl = 900;
     rdata = name_wire (codes "ns1" ∷ codes "r53" ∷ codes "invalid" ∷ [])
         ++ (name_wire (codes "awsdns-hostmaster" ∷ codes "amazon" ∷ codes "com" ∷ [])
-        ++ (four_octets 1 ++ four_octets 7200 ++ four_octets 900 ++ four_octets 1209600 ++ four_octets 86400));
+        ++ (four_octets 1 ++ four_octets 7200 ++ four_octets 900 ++ four_octets 1209600
+        ++ four_octets 86400));
   } ∷ [];
   additionals = [];
 }) 512 ≡ 0x12 ∷ 0x34 ∷ 0x85 ∷ 3 ∷ 0 ∷ 1 ∷ 0 ∷ 0 ∷ 0 ∷ 1 ∷ 0 ∷ 0
-    ∷ 4 ∷ 0x6E ∷ 0x6F ∷ 0x70 ∷ 0x65 ∷ 7 ∷ 0x65 ∷ 0x78 ∷ 0x61 ∷ 0x6D ∷ 0x70 ∷ 0x6C ∷ 0x65 ∷ 3 ∷ 0x63 ∷ 0x6F ∷ 0x6D ∷ 0 ∷ 0 ∷ 1 ∷ 0 ∷ 1
+    ∷ 4 ∷ 0x6E ∷ 0x6F ∷ 0x70 ∷ 0x65 ∷ 7 ∷ 0x65 ∷ 0x78 ∷ 0x61 ∷ 0x6D ∷ 0x70 ∷ 0x6C ∷ 0x65 ∷ 3 ∷ 0x63
+    ∷ 0x6F ∷ 0x6D ∷ 0 ∷ 0 ∷ 1 ∷ 0 ∷ 1
     ∷ 0xC0 ∷ 0x11 ∷ 0 ∷ 6 ∷ 0 ∷ 1 ∷ 0 ∷ 0 ∷ 3 ∷ 0x84
     ∷ 0 ∷ 0x40 ∷ 3 ∷ 0x6E ∷ 0x73 ∷ 0x31 ∷ 3 ∷ 0x72 ∷ 0x35 ∷ 0x33
     ∷ 7 ∷ 0x69 ∷ 0x6E ∷ 0x76 ∷ 0x61 ∷ 0x6C ∷ 0x69 ∷ 0x64 ∷ 0
-    ∷ 0x11 ∷ 0x61 ∷ 0x77 ∷ 0x73 ∷ 0x64 ∷ 0x6E ∷ 0x73 ∷ 0x2D ∷ 0x68 ∷ 0x6F ∷ 0x73 ∷ 0x74 ∷ 0x6D ∷ 0x61 ∷ 0x73 ∷ 0x74 ∷ 0x65 ∷ 0x72
+    ∷ 0x11 ∷ 0x61 ∷ 0x77 ∷ 0x73 ∷ 0x64 ∷ 0x6E ∷ 0x73 ∷ 0x2D ∷ 0x68 ∷ 0x6F ∷ 0x73 ∷ 0x74 ∷ 0x6D
+    ∷ 0x61 ∷ 0x73 ∷ 0x74 ∷ 0x65 ∷ 0x72
     ∷ 6 ∷ 0x61 ∷ 0x6D ∷ 0x61 ∷ 0x7A ∷ 0x6F ∷ 0x6E ∷ 0xC0 ∷ 0x19
-    ∷ 0 ∷ 0 ∷ 0 ∷ 1 ∷ 0 ∷ 0 ∷ 0x1C ∷ 0x20 ∷ 0 ∷ 0 ∷ 3 ∷ 0x84 ∷ 0 ∷ 0x12 ∷ 0x75 ∷ 0 ∷ 0 ∷ 1 ∷ 0x51 ∷ 0x80 ∷ []
+    ∷ 0 ∷ 0 ∷ 0 ∷ 1 ∷ 0 ∷ 0 ∷ 0x1C ∷ 0x20 ∷ 0 ∷ 0 ∷ 3 ∷ 0x84 ∷ 0 ∷ 0x12 ∷ 0x75 ∷ 0 ∷ 0 ∷ 1 ∷ 0x51
+    ∷ 0x80 ∷ []
 unfolding wire
 no_such_name = refl
 
@@ -149,8 +164,11 @@ pub referral : wire (record {
     rdata = 192 ∷ 0 ∷ 2 ∷ 53 ∷ [];
   } ∷ [];
 }) 512 ≡ 0x12 ∷ 0x34 ∷ 0x81 ∷ 0 ∷ 0 ∷ 1 ∷ 0 ∷ 0 ∷ 0 ∷ 1 ∷ 0 ∷ 1
-    ∷ 1 ∷ 0x78 ∷ 3 ∷ 0x73 ∷ 0x75 ∷ 0x62 ∷ 7 ∷ 0x65 ∷ 0x78 ∷ 0x61 ∷ 0x6D ∷ 0x70 ∷ 0x6C ∷ 0x65 ∷ 3 ∷ 0x63 ∷ 0x6F ∷ 0x6D ∷ 0 ∷ 0 ∷ 1 ∷ 0 ∷ 1
-    ∷ 0xC0 ∷ 0x0E ∷ 0 ∷ 2 ∷ 0 ∷ 1 ∷ 0 ∷ 0 ∷ 0x0E ∷ 0x10 ∷ 0 ∷ 6 ∷ 3 ∷ 0x6E ∷ 0x73 ∷ 0x31 ∷ 0xC0 ∷ 0x0E
-    ∷ 3 ∷ 0x6E ∷ 0x73 ∷ 0x31 ∷ 0xC0 ∷ 0x0E ∷ 0 ∷ 1 ∷ 0 ∷ 1 ∷ 0 ∷ 0 ∷ 0x0E ∷ 0x10 ∷ 0 ∷ 4 ∷ 0xC0 ∷ 0 ∷ 2 ∷ 0x35 ∷ []
+    ∷ 1 ∷ 0x78 ∷ 3 ∷ 0x73 ∷ 0x75 ∷ 0x62 ∷ 7 ∷ 0x65 ∷ 0x78 ∷ 0x61 ∷ 0x6D ∷ 0x70 ∷ 0x6C ∷ 0x65 ∷ 3
+    ∷ 0x63 ∷ 0x6F ∷ 0x6D ∷ 0 ∷ 0 ∷ 1 ∷ 0 ∷ 1
+    ∷ 0xC0 ∷ 0x0E ∷ 0 ∷ 2 ∷ 0 ∷ 1 ∷ 0 ∷ 0 ∷ 0x0E ∷ 0x10 ∷ 0 ∷ 6 ∷ 3 ∷ 0x6E ∷ 0x73 ∷ 0x31 ∷ 0xC0
+    ∷ 0x0E
+    ∷ 3 ∷ 0x6E ∷ 0x73 ∷ 0x31 ∷ 0xC0 ∷ 0x0E ∷ 0 ∷ 1 ∷ 0 ∷ 1 ∷ 0 ∷ 0 ∷ 0x0E ∷ 0x10 ∷ 0 ∷ 4 ∷ 0xC0 ∷ 0
+    ∷ 2 ∷ 0x35 ∷ []
 unfolding wire
 referral = refl

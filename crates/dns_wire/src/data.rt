@@ -9,7 +9,7 @@ ghost use Rattle.rdata_layout.specs.declared.fields.Tail.{Tail};
 ghost use Rattle.dns_wire.specs.Data.{BeginsWith, data_octets, field_octets, fields_octets, has_pointers};
 ghost use Rattle.rdata_layout.specs.Fields.{field_size};
 
-use crate::pointers::{add_octets, append, octets_of};
+use crate::pointers::{add_octets, append};
 use dns_name::Name;
 use octets::{behind, front};
 use rdata_layout::{Field, RType, field_len, fields_of};
@@ -31,15 +31,7 @@ pub(crate) fn add_data(
     if !has_pointers(rtype) {
         return append(buffer, at, wire);
     }
-    let mut asked_octets = [0; 255];
-    let asked_len = octets_of(asked, &mut asked_octets);
-    add_fields(
-        buffer,
-        at,
-        front(&asked_octets, asked_len),
-        fields_of(rtype),
-        wire,
-    )
+    add_fields(buffer, at, asked.octets(), fields_of(rtype), wire)
 }
 
 /// Whether names in data of the type may be pointers.

@@ -1,3 +1,5 @@
+//! The twelve octets in front of every reply (RFC 1035, 4.1.1).
+
 ghost use Rattle.std.specs.Prelude.{◌≡◌, ◌<◌};
 ghost use Rattle.dns_wire.specs.Header.{header_octets};
 

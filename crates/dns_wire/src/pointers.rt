@@ -35,26 +35,7 @@ pub(crate) fn add_name(buffer: &mut [u8], at: usize, asked: &Name, name: &Name) 
     if name.is_same(asked) {
         return append(buffer, at, &pointer(QUESTION_NAME));
     }
-    let mut asked_octets = [0; 255];
-    let asked_len = octets_of(asked, &mut asked_octets);
-    let mut octets = [0; 255];
-    let len = octets_of(name, &mut octets);
-    add_octets(
-        buffer,
-        at,
-        front(&asked_octets, asked_len),
-        front(&octets, len),
-    )
-}
-
-/// Writes a name's octets to the front of an array, and says how many.
-pub(crate) fn octets_of(name: &Name, into: &mut [u8; 255]) -> usize
-    ensures within { result ≤ 255 }
-    ensures whole { IsWire (take result into.new) }
-    ensures same { labels_of (take result into.new) ≡ name.now }
-{
-    name.well_formed();
-    name.write_wire(into)
+    add_octets(buffer, at, asked.octets(), name.octets())
 }
 
 /// Writes the name of these octets, and says where it ends.

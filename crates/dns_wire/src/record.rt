@@ -1,3 +1,5 @@
+//! One record: its owner, ten octets, and its data with their length (RFC 1035, 4.1.3).
+
 ghost use Rattle.std.specs.Prelude.{◌≡◌, ◌+◌, ◌≤◌, ◌++◌, length, take};
 ghost use Rattle.rdata_layout.specs.Layout.{IsLayout};
 ghost use Rattle.dns_wire.specs.Kept.{most_of_record};

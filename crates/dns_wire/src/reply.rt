@@ -1,3 +1,5 @@
+//! A reply in the making: the question, then records as long as they fit, and the header last.
+
 ghost use Rattle.std.specs.Prelude.{◌≡◌, ℕ, ◌+◌, ◌<◌, ◌≤◌, List, [], ◌∷◌, ◌++◌, length, take, drop, replicate, IfOk, IsTrue, ◌↔◌};
 ghost use Rattle.rdata_layout.specs.Layout.{IsLayout};
 ghost use Rattle.dns_wire.specs.Draft.{Follows, StandsFor, with_record, reply_to};

@@ -27,17 +27,21 @@ same_datum x y types wires =
     ap make same
 
 -- a text is that of one address at most
-pub one_address : OneReading → (text : List ℕ) (x y : Datum) → IsAddress text x → IsAddress text y → x ≡ y
+pub one_address : OneReading → (text : List ℕ) (x y : Datum) → IsAddress text x → IsAddress text y
+    → x ≡ y
 one_address law text x y is also =
     let same : Ok x.wire ≡ Ok y.wire = law A text (Ok x.wire) (Ok y.wire) is.reads also.reads in
     same_datum x y (is.rtype_is ∙ sym also.rtype_is) (ap octets_of same)
 
 -- where a text has a fault it is none
-pub no_address : OneReading → (text : List ℕ) (fault : ValueFault) → Reads A text (Err fault) → (address : Datum) → IsAddress text address → ⊥
+pub no_address : OneReading → (text : List ℕ) (fault : ValueFault) → Reads A text (Err fault)
+    → (address : Datum) → IsAddress text address → ⊥
 no_address law text fault read address is =
-    let same : Ok address.wire ≡ Err fault = law A text (Ok address.wire) (Err fault) is.reads read in
+    let same : Ok address.wire ≡ Err fault =
+    law A text (Ok address.wire) (Err fault) is.reads read in
     subst IsOk same tt
 
-pub ok_so : {X E : Type 0} {P Q : X → Type 0} (r : Result X E) → IfOk r P → ((x : X) → P x → Q x) → IfOk r Q
+pub ok_so : {X E : Type 0} {P Q : X → Type 0} (r : Result X E) → IfOk r P → ((x : X) → P x → Q x)
+    → IfOk r Q
 ok_so (Ok x) p f = f x p
 ok_so (Err e) p f = tt

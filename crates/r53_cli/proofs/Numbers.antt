@@ -20,7 +20,10 @@ no_plus text h = go (slice_index text 0 == 43) refl
     go false e = subst (λ b. drop (cond b 1 0) text ≡ text) (sym e) refl
 
 -- what `parse` reads of a text without a plus or a leading zero is that number in decimal digits
-pub read_is_decimal : (text : List ℕ) (n : ℕ) → IsUnpadded text → IsNumeral 10 (without_leading_plus text) → digits_value 10 (without_leading_plus text) < 2 ^ 32 → n ≡ digits_value 10 (without_leading_plus text) → text ≡ decimal n
+pub read_is_decimal : (text : List ℕ) (n : ℕ) → IsUnpadded text
+    → IsNumeral 10 (without_leading_plus text)
+    → digits_value 10 (without_leading_plus text) < 2 ^ 32
+    → n ≡ digits_value 10 (without_leading_plus text) → text ≡ decimal n
 read_is_decimal text n u numeral fits value =
     let same = no_plus text u.0 in
     let here : IsNumeral 10 text = subst (IsNumeral 10) same numeral in
@@ -38,12 +41,17 @@ decimal_unpadded (suc m) h =
     (λ k. absurd (omega arith), λ k. absurd (omega arith))
 
 -- a text that `parse` refuses is no number in decimal digits
-pub refused_is_none : (text : List ℕ) → (IsNumeral 10 (without_leading_plus text) × (digits_value 10 (without_leading_plus text) < 2 ^ 32) → ⊥) → (n : ℕ) → n < 2 ^ 32 → text ≢ decimal n
+pub refused_is_none : (text : List ℕ)
+    → (IsNumeral 10 (without_leading_plus text)
+    × (digits_value 10 (without_leading_plus text) < 2 ^ 32) → ⊥) → (n : ℕ) → n < 2 ^ 32
+    → text ≢ decimal n
 refused_is_none text never n h e =
-    let same : without_leading_plus text ≡ decimal n = no_plus text (subst IsUnpadded (sym e) (decimal_unpadded n (omega arith))).0 ∙ e in
+    let same : without_leading_plus text ≡ decimal n =
+    no_plus text (subst IsUnpadded (sym e) (decimal_unpadded n (omega arith))).0 ∙ e in
     let d = decimal_is_IsNumeral n (omega arith) in
     never (subst (IsNumeral 10) (sym same) d.0, omega (arith, ap (digits_value 10) same, d.1))
 
 -- another number in decimal digits is another text
-pub same_number : (text : List ℕ) (m n : ℕ) → m < 2 ^ 64 → n < 2 ^ 64 → text ≡ decimal m → text ≡ decimal n → m ≡ n
+pub same_number : (text : List ℕ) (m n : ℕ) → m < 2 ^ 64 → n < 2 ^ 64 → text ≡ decimal m
+    → text ≡ decimal n → m ≡ n
 same_number text m n a b p q = decimal_injective m n a b (sym p ∙ q)

@@ -1,3 +1,5 @@
+//! A reader and a writer of the system as a source and a sink, of which the errors alone are told.
+
 ghost use Rattle.std.specs.Prelude.{◌≡◌, ℕ, ◌<◌, ◌≤◌, List, Option, Some, None, length};
 ghost use Rattle.octets.specs.Counts.{Rose, next_count};
 ghost use Rattle.r53_io.specs.Streams.{IsWithin, ReadGives, WriteLeaves, IfBytes};

@@ -1,3 +1,5 @@
+//! Reading to the end: the first 65,535 bytes are kept, and the rest is counted and let go.
+
 ghost use Rattle.std.specs.Prelude.{◌≡◌, ℕ, ◌≤◌, ◌<◌, List, Some, length};
 ghost use Rattle.octets.specs.Counts.{Rose};
 ghost use Rattle.r53_cli.specs.Streams.{IntakeOf, IntakeWithin, DrainOf, PacketOf, PacketWithin};

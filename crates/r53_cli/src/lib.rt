@@ -1,4 +1,4 @@
-//! The program's top call: from words, input and random source to what is written, with its theorem.
+//! The program's top call: from words and input to what is written, with its theorem.
 //!
 //! `run` knows nothing of files or sockets: `main` hands in adapters, and a test hands in objects in memory.
 #![tactic(auto)]

@@ -1,3 +1,5 @@
+//! The one record of a run, and the reply to a packet that asks for it or for something else.
+
 ghost use Rattle.std.specs.Prelude.{◌≡◌, ◌≤◌, [], IsTrue, ◌↔◌, IfSome, IfNone, length};
 
 use dns_message::rcode::REFUSED;

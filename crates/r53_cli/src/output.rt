@@ -1,3 +1,5 @@
+//! Writing to the end, whatever part of it a sink takes at a time.
+
 ghost use Rattle.std.specs.Prelude.{◌≡◌, ℕ, ◌≤◌, List, Some, length};
 ghost use Rattle.octets.specs.Counts.{Rose};
 ghost use Rattle.r53_cli.specs.Streams.{OutputOf};

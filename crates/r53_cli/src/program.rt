@@ -1,3 +1,5 @@
+//! The top call, step by step: words, then memory, then input, then the reply.
+
 ghost use Rattle.std.specs.Prelude.{◌≡◌, ℕ, ◌<◌, List, Some, length, IfOk, OnErr, map};
 ghost use Rattle.std.specs.String.{string_bytes};
 ghost use Rattle.octets.specs.Counts.{Rose};

@@ -1,3 +1,5 @@
+//! How a run ends: the number and the line of each status.
+
 ghost use Rattle.std.specs.Prelude.{◌≡◌, length, take, ◌≤◌, ◌++◌, drop};
 ghost use Rattle.r53_cli.specs.Status.{number_of, text_of};
 

@@ -6,7 +6,9 @@ invariant-loop-budget g l = record {
   room : 0 < length l.buffer;
   budget_is : l.budget ≤ l.most;
   counts : g.S.Source.faults l.fn.input ≤ g.S.Source.faults l.input;
-  reads : (left : List ℕ) → g.S.Source.left l.fn.input ≡ Some left → (l.most - l.budget ≤ length left) × (g.S.Source.left l.input ≡ Some (drop (l.most - l.budget) left));
+  reads : (left : List ℕ) → g.S.Source.left l.fn.input ≡ Some left
+      → (l.most - l.budget ≤ length left)
+      × (g.S.Source.left l.input ≡ Some (drop (l.most - l.budget) left));
 }
 
 abbrev pub decreases-loop-budget : goal.decreases-loop-budget

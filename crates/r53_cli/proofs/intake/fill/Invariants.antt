@@ -6,7 +6,8 @@ abbrev pub invariant-loop-at : goal.invariant-loop-at
 invariant-loop-at g l = record {
   within : l.at ≤ length l.buffer;
   counts : g.S.Source.faults l.fn.input ≤ g.S.Source.faults l.input;
-  reads : (left : List ℕ) → g.S.Source.left l.fn.input ≡ Some left → Fills left (g.S.Source.left l.input) l.at l.buffer;
+  reads : (left : List ℕ) → g.S.Source.left l.fn.input ≡ Some left
+      → Fills left (g.S.Source.left l.input) l.at l.buffer;
 }
 
 abbrev pub decreases-loop-at : goal.decreases-loop-at

@@ -9,8 +9,10 @@ returns-in-Ended-clause-reads g c = λ left h.
 
 pub returns-in-TooLong-clause-reads : goal.returns-in-TooLong-clause-reads
 returns-in-TooLong-clause-reads g c = λ left h.
-    too_long left _ _ _ _ (c.in-Full.ensures.reads left h) (omega (arith, c.requires.packet)) c.in-TooLong.ensures.reads
+    too_long left _ _ _ _ (c.in-Full.ensures.reads left h) (omega (arith, c.requires.packet))
+    c.in-TooLong.ensures.reads
 
 pub returns-in-Ended-drain-clause-reads : goal.returns-in-Ended-drain-clause-reads
 returns-in-Ended-drain-clause-reads g c = λ left h.
-    long_packet left _ _ _ _ (c.in-Full.ensures.reads left h) (omega (arith, c.requires.packet)) c.in-Ended-drain.ensures.reads
+    long_packet left _ _ _ _ (c.in-Full.ensures.reads left h) (omega (arith, c.requires.packet))
+    c.in-Ended-drain.ensures.reads

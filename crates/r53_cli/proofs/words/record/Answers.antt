@@ -12,5 +12,9 @@ returns-in_default-clause-none c = λ once s.
 pub returns-in-Ok-None-clause-none : goal.returns-in-Ok-None-clause-none
 returns-in-Ok-None-clause-none c = λ once s.
     let never : (address : Datum) → IsAddress c.as_bytes-2.result.now address → ⊥ =
-    subst (λ (found : Option Datum). IfNone found ((address : Datum) → IsAddress c.as_bytes-2.result.now address → ⊥)) c.in-Ok-None.field-0-is c.in-Ok-None.ensures.none in
-    never once.address (subst (λ (text : List ℕ). IsAddress text once.address) (sym c.as_bytes-2.ensures.value) s.address_is)
+    subst (λ (found : Option Datum). IfNone found ((address : Datum)
+    → IsAddress c.as_bytes-2.result.now address → ⊥)) c.in-Ok-None.field-0-is
+    c.in-Ok-None.ensures.none in
+    never once.address
+    (subst (λ (text : List ℕ). IsAddress text once.address) (sym c.as_bytes-2.ensures.value)
+    s.address_is)

@@ -5,4 +5,9 @@ use Rattle.dns_wire.specs.Message.{Message}
 use Rattle.r53_rows.proofs.replies.reply_with.Given as goal
 
 abbrev pub invariant-loop-last : goal.invariant-loop-last
-invariant-loop-last l = record { some : (m : Message) × StandsFor m l.reply × Follows Answer m; room : 512 ≤ l.reply.room }
+invariant-loop-last l =
+    record {
+      some : (m : Message) × StandsFor m l.reply
+          × Follows Answer m;
+      room : 512 ≤ l.reply.room;
+    }
