@@ -3,10 +3,13 @@ use Rattle.std.proofs.Common.{◌≡◌, [], ◌∷◌, ◌++◌, refl}
 use Rattle.gate_journal.specs.Layout.{front, generation_of}
 use Rattle.gate_journal.specs.Closing.{closed_file}
 
-pub file : front 1 (7 ∷ []) ((8 ∷ 9 ∷ []) ∷ []) ++ 0 ∷ [] ≡ 1 ∷ 0x52 ∷ 0x35 ∷ 0x33 ∷ 0x5a ∷ 0x4a ∷ 0x30 ∷ 0x31 ∷ 0 ∷ 0 ∷ 0 ∷ 0 ∷ 0 ∷ 0 ∷ 0 ∷ 1 ∷ 0 ∷ 0 ∷ 0 ∷ 1 ∷ 7 ∷ 1 ∷ 0 ∷ 0 ∷ 0 ∷ 2 ∷ 8 ∷ 9 ∷ 0 ∷ []
+pub file : front 1 (7 ∷ []) ((8 ∷ 9 ∷ []) ∷ []) ++ 0 ∷ [] ≡ 1 ∷ 0x52 ∷ 0x35 ∷ 0x33 ∷ 0x5a ∷ 0x4a
+    ∷ 0x30 ∷ 0x31 ∷ 0 ∷ 0 ∷ 0 ∷ 0 ∷ 0 ∷ 0 ∷ 0 ∷ 1 ∷ 0 ∷ 0 ∷ 0 ∷ 1 ∷ 7 ∷ 1 ∷ 0 ∷ 0 ∷ 0 ∷ 2 ∷ 8 ∷ 9
+    ∷ 0 ∷ []
 file = refl
 
-pub generation : generation_of (1 ∷ 0x52 ∷ 0x35 ∷ 0x33 ∷ 0x5a ∷ 0x4a ∷ 0x30 ∷ 0x31 ∷ 0 ∷ 0 ∷ 0 ∷ 0 ∷ 0 ∷ 0 ∷ 1 ∷ 2 ∷ []) ≡ 258
+pub generation : generation_of (1 ∷ 0x52 ∷ 0x35 ∷ 0x33 ∷ 0x5a ∷ 0x4a ∷ 0x30 ∷ 0x31 ∷ 0 ∷ 0 ∷ 0 ∷ 0
+    ∷ 0 ∷ 0 ∷ 1 ∷ 2 ∷ []) ≡ 258
 generation = refl
 
 -- an open gate is closed, a closed one stays whatever it reads, and an empty file gets one

@@ -32,6 +32,13 @@ AppendLeaves (appended.Full n) generation snapshot entries entry file = OpensTo 
 AppendLeaves appended.DiskFault generation snapshot entries entry file =
     IsBeforeOrAfter generation snapshot entries entry file
 
+-- What a crash may leave at each moment of an append, by its answer: where it is Full, the old entries alone.
+abbrev pub MayLeave : Appended → ℕ → List ℕ → List (List ℕ) → List ℕ → List ℕ → Type 0
+MayLeave appended.Done generation snapshot entries entry file = IsBeforeOrAfter generation snapshot entries entry file
+MayLeave (appended.Full n) generation snapshot entries entry file = OpensTo file generation snapshot entries
+MayLeave appended.DiskFault generation snapshot entries entry file =
+    IsBeforeOrAfter generation snapshot entries entry file
+
 -- the place of the closed gate after an append of n bytes
 abbrev pub MovesOn : Appended → (old n new : ℕ) → Type 0
 MovesOn appended.Done old n new = new ≡ old + (5 + n)
@@ -49,3 +56,9 @@ abbrev pub UnlessFault : Appended → Type 0 → Type 0
 UnlessFault appended.Done P = P
 UnlessFault (appended.Full n) P = P
 UnlessFault appended.DiskFault P = ⊤
+
+-- P, where the entry does not fit
+abbrev pub OnFull : Appended → Type 0 → Type 0
+OnFull appended.Done P = ⊤
+OnFull (appended.Full n) P = P
+OnFull appended.DiskFault P = ⊤

@@ -1,7 +1,7 @@
 -- What the calls that read a journal give.
-use Rattle.std.specs.Prelude.{◌≡◌, ◌⊎◌, ℕ, ◌+◌, ◌<◌, ◌^◌, List, [], ◌∷◌, ◌++◌, length, drop, Option, Some, None, Result, Ok, Err, ⊤, Vec}
+use Rattle.std.specs.Prelude.{◌≡◌, ◌⊎◌, ℕ, ◌+◌, ◌<◌, ◌^◌, List, [], ◌∷◌, ◌++◌, length, take, drop, Option, Some, None, Result, Ok, Err, ⊤, Vec}
 use Rattle.std.specs.declared.alloc.Global.{Global}
-use Rattle.byteorder.specs.Endian.{big_number}
+use Rattle.byteorder.specs.Endian.{big_bytes, big_number}
 use Rattle.r53_disk.specs.Disk.{Only}
 use Rattle.gate_journal.specs.Layout.{front, AreShort, OpensTo, IsOpen, generation_of}
 use Rattle.gate_journal.specs.declared.answers.Look.{Look}
@@ -9,9 +9,10 @@ use Rattle.gate_journal.specs.declared.answers.Look.TheVariants as look
 use Rattle.gate_journal.specs.declared.answers.JournalFault.{JournalFault}
 use Rattle.gate_journal.specs.declared.answers.JournalFault.TheVariants as fault
 
--- what a look finds
+-- What a look finds: an open file, and the generation that its bytes 8 to 15 spell.
 abbrev pub LookTells : Look → List ℕ → Type 0
-LookTells (look.Open generation) bytes = IsOpen bytes × (generation ≡ generation_of bytes)
+LookTells (look.Open generation) bytes =
+    IsOpen bytes × (generation ≡ generation_of bytes) × (big_bytes 8 generation ≡ take 8 (drop 8 bytes))
 LookTells look.NotOpen bytes = ¬ IsOpen bytes
 LookTells look.DiskFault bytes = ⊤
 
@@ -23,6 +24,13 @@ pub record IsRead (at : ℕ) (file : List ℕ) (generation : ℕ) (snapshot : Li
   pub snapshot_fits : length snapshot < 2 ^ 32
   pub entries_fit : AreShort entries
 
+-- What stands up to a place of a file is one thing.
+abbrev pub ReadToOne : Type 0
+ReadToOne =
+    (at : ℕ) (file : List ℕ) (g h : ℕ) (s t : List ℕ) (xs ys : List (List ℕ))
+    → IsRead at file g s xs → IsRead at file h t ys → (g ≡ h) × (s ≡ t) × (xs ≡ ys)
+
+-- the file up to this place is a header, some snapshot and some entries
 pub record IsReadSo (at : ℕ) (file : List ℕ) : Type 0 where
   pub generation : ℕ
   pub snapshot : List ℕ
@@ -39,10 +47,11 @@ abbrev pub IsBroken : List ℕ → Type 0
 IsBroken rest = (rest ≡ [])
     ⊎ ((behind : List ℕ) × (rest ≡ 1 ∷ behind) × ((length behind < 4) ⊎ (length behind < 4 + big_number 4 behind)))
 
--- What is read at a gate: the entry behind an open one, nothing more at a closed one, or a fault at its place. The place
+-- What is read at a gate: the entry behind an open one, whose gate is at the old place, nothing more at a closed one, or a fault at its place. The place
 -- moves on behind an entry and stays else.
 abbrev pub NextGives : Result (Option (Vec ℕ Global)) JournalFault → (at after : ℕ) → List ℕ → ℕ → List ℕ → List (List ℕ) → Type 0
-NextGives (Ok (Some entry)) at after file g s es = IsRead after file g s (es ++ entry.items ∷ [])
+NextGives (Ok (Some entry)) at after file g s es =
+    IsRead after file g s (es ++ entry.items ∷ []) × (after ≡ at + (5 + length entry.items))
 NextGives (Ok None) at after file g s es = (after ≡ at) × OpensTo file g s es
 NextGives (Err (fault.Bad p)) at after file g s es = (after ≡ at) × (p ≡ at) × IsBroken (drop at file)
 NextGives (Err fault.DiskFault) at after file g s es = after ≡ at
@@ -53,6 +62,20 @@ abbrev pub OnNone : Result (Option (Vec ℕ Global)) JournalFault → Type 0 →
 OnNone (Ok None) P = P
 OnNone (Ok (Some entry)) P = ⊤
 OnNone (Err e) P = ⊤
+
+-- P, but where an entry was read
+abbrev pub UnlessSome : Result (Option (Vec ℕ Global)) JournalFault → Type 0 → Type 0
+UnlessSome (Ok None) P = P
+UnlessSome (Ok (Some entry)) P = ⊤
+UnlessSome (Err e) P = P
+
+-- no entry more, or the disk failed
+abbrev pub IsNoMore : Result (Option (Vec ℕ Global)) JournalFault → Type 0
+IsNoMore (Ok None) = ⊤
+IsNoMore (Ok (Some entry)) = ⊥
+IsNoMore (Err (fault.Bad place)) = ⊥
+IsNoMore (Err fault.DiskFault) = ⊤
+IsNoMore (Err fault.OutOfMemory) = ⊥
 
 -- The journal and the snapshot of an open file; Bad 0 where it is not open, Bad 20 where the snapshot is not whole.
 abbrev pub BeginGives : Result (ℕ × Vec ℕ Global) JournalFault → List ℕ → Type 0

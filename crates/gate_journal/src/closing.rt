@@ -1,3 +1,5 @@
+//! Closing a file's gate, so that nothing in it counts until it is built anew.
+
 ghost use Rattle.std.specs.Prelude.{◌≡◌, ◌≤◌, ℕ, List, Some, None};
 ghost use Rattle.octets.specs.Counts.{Rose};
 ghost use Rattle.r53_disk.specs.Disk.{Only, LeavesOnly};

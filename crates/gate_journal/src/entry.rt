@@ -1,3 +1,5 @@
+//! An entry with all its memory taken, laid out as it will stand on the disk.
+
 ghost use Rattle.std.specs.Prelude.{◌≡◌, ◌<◌, ◌≤◌, ◌+◌, ◌^◌, ◌++◌, ◌∷◌, [], length, IfOk, IsTrue, ◌↔◌};
 ghost use Rattle.gate_journal.specs.Layout.{body, most};
 

@@ -1,12 +1,13 @@
+//! What the first twenty bytes of a file say: whether it is open, and of which generation.
+
 ghost use Rattle.std.specs.Prelude.{◌≡◌, ◌≤◌, ◌↔◌, ℕ, List, length, Some, IsTrue};
 ghost use Rattle.octets.specs.Counts.{Rose};
 ghost use Rattle.r53_disk.specs.Disk.{Rests};
-ghost use Rattle.gate_journal.specs.Layout.{IsOpen, generation_of};
+ghost use Rattle.gate_journal.specs.Layout.{IsOpen};
 ghost use Rattle.gate_journal.specs.Read.{LookTells};
 
 use crate::Look;
-use byteorder::{BigEndian, ByteOrder};
-use octets::behind;
+use crate::read::generation_in;
 use r53_disk::{Disk, Done, Size};
 
 /// Looks at a file's gate, its text and its generation.
@@ -29,7 +30,7 @@ pub fn look<D: Disk>(disk: &mut D) -> Look
         return Look::DiskFault;
     };
     if is_open(&header) {
-        Look::Open(generation_in(&header))
+        Look::Open(generation_in(&header[8..16]))
     } else {
         Look::NotOpen
     }
@@ -41,11 +42,4 @@ fn is_open(header: &[u8]) -> bool
     ensures { IsTrue result ↔ IsOpen header.now }
 {
     header[0] == 1 && &header[1..8] == b"R53ZJ01".as_slice()
-}
-
-fn generation_in(header: &[u8]) -> u64
-    requires { 20 ≤ length header.now }
-    ensures { result ≡ generation_of header.now }
-{
-    BigEndian::read_u64(behind(header, 8))
 }

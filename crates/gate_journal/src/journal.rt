@@ -1,11 +1,13 @@
+//! Reading entries up to the closed gate, and putting one behind it before the gate is opened.
+
 ghost use Rattle.std.specs.Prelude.{◌≡◌, ◌≤◌, ◌+◌, ◌-◌, ◌++◌, [], ◌∷◌, List, ℕ, length, Some, None, IfOk, IsErrOf};
 ghost use Rattle.octets.specs.Counts.{Rose};
 ghost use Rattle.r53_disk.specs.Disk.{LeavesOnly, Only, Rests};
 ghost use Rattle.gate_journal.specs.Layout.{OpensTo, most};
-ghost use Rattle.gate_journal.specs.Read.{IsRead, ReadsOn, BeginGives, NextGives, OnNone};
-ghost use Rattle.gate_journal.specs.Append.{EndsAt, StandsOn, IsBeforeOrAfter, AppendLeaves, MovesOn, HasCause, UnlessFault};
+ghost use Rattle.gate_journal.specs.Read.{IsRead, ReadsOn, BeginGives, NextGives, OnNone, UnlessSome, IsNoMore};
+ghost use Rattle.gate_journal.specs.Append.{EndsAt, StandsOn, AppendLeaves, MayLeave, MovesOn, HasCause, UnlessFault, OnFull};
 
-use crate::read::{read_byte, read_count, read_generation, read_whole};
+use crate::read::{read_byte, read_count, read_whole};
 use crate::{Appended, Entry, JournalFault, Look, fits, look};
 use octets::zeros;
 use r53_disk::{Disk, Done, Size, write_synced};
@@ -71,9 +73,6 @@ impl Journal {
             Look::NotOpen => return Err(JournalFault::Bad(0)),
             Look::DiskFault => return Err(JournalFault::DiskFault),
         }
-        let Some(_) = read_generation(disk, 8) else {
-            return Err(JournalFault::DiskFault);
-        };
         let Some(count) = read_count(disk, 16) else {
             return Err(JournalFault::DiskFault);
         };
@@ -102,6 +101,10 @@ impl Journal {
             → NextGives result self.old self.new bytes g s es }
         ensures reads_on { ReadsOn D.reading D.images self.new disk.new }
         ensures at_end { OnNone result (StandsOn D.reading D.images self.new disk.new) }
+
+        // It moves on behind an entry alone, and at the closed gate there is none.
+        ensures stays { UnlessSome result (self.new ≡ self.old) }
+        ensures ended { (bytes : List ℕ) → D.reading disk.old ≡ Some bytes → EndsAt self.old bytes → IsNoMore result }
         ensures rests { Rests D.reading D.images D.moment D.images_since disk.old disk.new }
 
         // It fails only where the disk's count rose.
@@ -151,10 +154,14 @@ impl Journal {
         ensures untold { D.reading disk.old ≡ None → D.reading disk.new ≡ None }
         ensures moves { MovesOn result self.old (length entry.now) self.new }
 
-        // At each moment of the call a crash leaves the old entries, with the new one or without.
+        // At each moment of the call a crash leaves the old entries, with the new one or without; where it is Full,
+        // without.
         ensures any_moment { (g : ℕ) (s : List ℕ) (es : List (List ℕ)) (bytes : List ℕ)
             → D.reading disk.old ≡ Some bytes → OpensTo bytes g s es
-            → LeavesOnly D.moment D.images_since disk.old disk.new (IsBeforeOrAfter g s es entry.now) }
+            → LeavesOnly D.moment D.images_since disk.old disk.new (MayLeave result g s es entry.now) }
+
+        // Where it is Full the disk is as it was: nothing is asked of it.
+        ensures full { OnFull result (disk.new ≡ disk.old) }
 
         // It is Full exactly by the sum, and fails only where the disk's count rose.
         ensures cause { HasCause result self.old (length entry.now) }

@@ -16,5 +16,5 @@ pub use closing::close_file;
 pub use entry::{Entry, fits};
 pub use header::look;
 pub use journal::Journal;
-pub use laws::opens_to_one;
+pub use laws::{opens_to_one, read_to_one};
 pub use octets::OutOfMemory;

@@ -1,6 +1,6 @@
 //! Reads of a few bytes at a place, each None where the disk failed.
 
-ghost use Rattle.std.specs.Prelude.{◌<◌, ◌^◌, ◌≡◌, ◌≤◌, ◌+◌, ℕ, List, length, take, drop, Some, None, IfSome, ◌∷◌, []};
+ghost use Rattle.std.specs.Prelude.{◌≡◌, ◌≤◌, ◌+◌, ℕ, List, length, take, drop, Some, None, IfSome, ◌∷◌, []};
 ghost use Rattle.byteorder.specs.Endian.{big_bytes};
 ghost use Rattle.octets.specs.Counts.{Rose};
 ghost use Rattle.r53_disk.specs.Disk.{Reaches, Rests};
@@ -47,24 +47,8 @@ fn count_in(bytes: &[u8]) -> u32
     BigEndian::read_u32(bytes)
 }
 
-/// The number in the eight bytes at a place.
-pub(crate) fn read_generation<D: Disk>(disk: &mut D, at: u64) -> Option<u64>
-    requires { Reaches (D.reading disk.old) (at + 8) }
-    ensures generation { (bytes : List ℕ) → D.reading disk.old ≡ Some bytes
-        → IfSome result (λ n. big_bytes 8 n ≡ take 8 (drop at bytes)) }
-    ensures fits { IfSome result (λ n. n < 2 ^ 64) }
-    ensures rests { Rests D.reading D.images D.moment D.images_since disk.old disk.new }
-    ensures counts { D.faults disk.old ≤ D.faults disk.new }
-    ensures failed { result ≡ None → Rose (D.faults disk.old) (D.faults disk.new) }
-{
-    let mut generation = [0; 8];
-    match disk.read_at(at, &mut generation) {
-        Done::Whole => Some(generation_in(&generation)),
-        Done::Failed => None,
-    }
-}
-
-fn generation_in(bytes: &[u8]) -> u64
+/// The number in eight bytes.
+pub(crate) fn generation_in(bytes: &[u8]) -> u64
     requires { length bytes.now ≡ 8 }
     ensures { big_bytes 8 result ≡ bytes.now }
 {

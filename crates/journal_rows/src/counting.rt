@@ -1,3 +1,5 @@
+//! A disk as large as one likes, since it keeps no byte.
+
 ghost use Rattle.std.specs.Prelude.{◌≡◌, ℕ, List, None};
 
 use r53_disk::{Disk, Done, Size};

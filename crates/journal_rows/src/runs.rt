@@ -1,3 +1,5 @@
+//! Runs that make a store, fill, open and compact it, over disks of any kind.
+
 ghost use Rattle.std.specs.Prelude.{◌≡◌, ◌≤◌, None, IfOk, IsTrue, length};
 ghost use Rattle.zone_journal.specs.Standing.{StandsOn};
 
@@ -144,6 +146,61 @@ pub fn open_and_compact<D: Disk>(
 {
     let (mut journal, _, _) = open_all(alloc, a, b)?;
     Ok(compact(&mut journal, a, b, entry, snapshot))
+}
+
+/// Opens a store and compacts it in at most four pieces.
+pub fn open_and_compact_in_four<D: Disk>(
+    alloc: Global,
+    a: &mut D,
+    b: &mut D,
+    snapshot: Vec<u8>,
+) -> Result<[Option<Piece>; 4], OpenFault>
+    requires { length snapshot.items ≤ 268435435 }
+{
+    let (mut journal, _, _) = open_all(alloc, a, b)?;
+    let mut pieces = [None; 4];
+    begins_in_place::<D>();
+    let Begun::Begun = journal.compact_begin(snapshot) else {
+        return Ok(pieces);
+    };
+    let first = journal.compact_piece(a, b);
+    pieces[0] = Some(first);
+    let Piece::Running(_) = first else {
+        return Ok(pieces);
+    };
+    let second = journal.compact_piece(a, b);
+    pieces[1] = Some(second);
+    let Piece::Running(_) = second else {
+        return Ok(pieces);
+    };
+    let third = journal.compact_piece(a, b);
+    pieces[2] = Some(third);
+    let Piece::Running(_) = third else {
+        return Ok(pieces);
+    };
+    pieces[3] = Some(journal.compact_piece(a, b));
+    Ok(pieces)
+}
+
+/// Opens a store and appends an entry.
+pub fn open_and_append<D: Disk>(
+    alloc: Global,
+    a: &mut D,
+    b: &mut D,
+    entry: &Entry,
+) -> Result<Appended, OpenFault> {
+    let (mut journal, _, _) = open_all(alloc, a, b)?;
+    Ok(journal.append(a, b, entry))
+}
+
+/// Opens a store and reads its first entry.
+pub fn open_and_read<D: Disk>(
+    alloc: Global,
+    a: &mut D,
+    b: &mut D,
+) -> Result<Option<Vec<u8>>, OpenFault> {
+    let (mut journal, _) = ZoneJournal::open(alloc, a, b)?;
+    journal.next(alloc, a, b)
 }
 
 /// How many entries a store has, with the one that a snapshot of one byte stands for.

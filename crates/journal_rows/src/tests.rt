@@ -1,4 +1,9 @@
-use crate::{CountingDisk, Run, count_all, make_and_fill, open_and_begin, open_and_compact};
+//! The bytes of a store after each run, and what is left where each device call fails in turn.
+
+use crate::{
+    CountingDisk, Run, count_all, make_and_fill, open_all, open_and_append, open_and_begin,
+    open_and_compact, open_and_compact_in_four, open_and_read,
+};
 use gate_journal::Journal;
 use octets::OutOfMemory;
 use r53_disk::{MemoryDisk, Torn};
@@ -6,26 +11,28 @@ use std::alloc::Global;
 use std::test::Fail;
 use zone_journal::{Appended, Begun, Entry, Init, OpenFault, Piece, Side, init};
 
-const ROOM: u64 = 4096;
+const ROOM: u64 = 200_000;
 
 /// What a crash may leave of what is not on the disk.
 const TORN: [Torn; 3] = [Torn::Kept, Torn::Lost, Torn::Filled(1)];
 
 /// The bytes of a file of a store with nothing in it.
 const EMPTY: [u8; 34] = [
-    0x01, 0x52, 0x35, 0x33, 0x5a, 0x4a, 0x30, 0x31, 0, 0, 0, 0, 0, 0, 0, 1, 0, 0, 0, 13, 1, 0, 0,
+    0x01, 0x52, 0x35, 0x33, 0x5a, 0x4a, 0x30, 0x31, 0, 0, 0, 0, 0, 0, 0, 1, 0, 0, 0, 13, 2, 0, 0,
     0, 1, 0, 0, 0, 1, 0, 0, 0, 0, 0,
 ];
 
-/// That store after the entry 01 04 01 03 00 was appended in a compaction.
-const COMPACTED: [u8; 44] = [
-    0x01, 0x52, 0x35, 0x33, 0x5a, 0x4a, 0x30, 0x31, 0, 0, 0, 0, 0, 0, 0, 2, 0, 0, 0, 13, 1, 0, 0,
-    0, 1, 0, 0, 0, 1, 0, 0, 0, 0, 1, 0, 0, 0, 5, 1, 4, 1, 3, 0, 0,
+/// That store after the entry 02 04 01 03 00 00 was appended in a compaction.
+const COMPACTED: [u8; 45] = [
+    0x01, 0x52, 0x35, 0x33, 0x5a, 0x4a, 0x30, 0x31, 0, 0, 0, 0, 0, 0, 0, 2, 0, 0, 0, 13, 2, 0, 0,
+    0, 1, 0, 0, 0, 1, 0, 0, 0, 0, 1, 0, 0, 0, 6, 2, 4, 1, 3, 0, 0, 0,
 ];
 
-const SNAPSHOT: [u8; 13] = [1, 0, 0, 0, 1, 0, 0, 0, 1, 0, 0, 0, 0];
+/// Nothing: version 2, next zone 1, next check 1, no checks, no zones.
+const SNAPSHOT: [u8; 13] = [2, 0, 0, 0, 1, 0, 0, 0, 1, 0, 0, 0, 0];
 
-const CREATE: [u8; 5] = [1, 4, 1, 3, 0];
+/// A health check over one endpoint is created: version 2, kind 4, threshold 3, neither inverted nor disabled.
+const CREATE: [u8; 6] = [2, 4, 1, 3, 0, 0];
 
 fn memory(alloc: Global, bytes: &[u8], fail: &[u64]) -> Result<MemoryDisk, OutOfMemory> {
     let room = ROOM.max(bytes.len() as u64);
@@ -94,6 +101,49 @@ fn a_compaction_in_pieces(rt: HostRuntime) -> Result<(), Fail> {
         Some(1),
         "opened again"
     );
+    Ok(())
+}
+
+#[test]
+fn a_snapshot_of_two_pieces(rt: HostRuntime) -> Result<(), Fail> {
+    let alloc = rt.alloc();
+    let mut a = memory(alloc, &EMPTY, &[])?;
+    let mut b = memory(alloc, &[], &[])?;
+    let snapshot = vec![in alloc; 7; 70_000]?;
+    let came = open_and_compact_in_four(alloc, &mut a, &mut b, snapshot)?;
+    assert_eq!(rt;
+        came,
+        [
+            Some(Piece::Running(70_021)),
+            Some(Piece::Running(4_485)),
+            Some(Piece::Running(2)),
+            Some(Piece::Done(2))
+        ],
+        "65,536 bytes at most are copied by a piece"
+    );
+    let file = b.image(Torn::Lost)?;
+    assert_eq!(rt; file.len(), 70_021, "the file of b");
+    assert_eq!(rt;
+        snapshot_in(alloc, &a.image(Torn::Lost)?, &file)?,
+        vec![in alloc; 7; 70_000]?,
+        "opened again"
+    );
+    assert_eq!(rt; b.starved(), 0, "with ample memory");
+    Ok(())
+}
+
+#[test]
+fn a_long_entry(rt: HostRuntime) -> Result<(), Fail> {
+    let alloc = rt.alloc();
+    let mut a = memory(alloc, &EMPTY, &[])?;
+    let mut b = memory(alloc, &[], &[])?;
+    let bytes = vec![in alloc; 9; 5_000]?;
+    let entry = Entry::new(alloc, &bytes)?;
+    let appended = open_and_append(alloc, &mut a, &mut b, &entry)?;
+    assert_eq!(rt; appended, Appended::Done);
+    let found = open_and_read(alloc, &mut a, &mut b)?;
+    assert_eq!(rt; found, Some(bytes), "opened again");
+    assert_eq!(rt; a.starved(), 0, "with ample memory");
     Ok(())
 }
 
@@ -183,4 +233,12 @@ fn entries_in(alloc: Global, x: &[u8], y: &[u8]) -> Result<Option<u64>, OutOfMem
         Err(OpenFault::NotAStore(Side::A, 0)) => Ok(None),
         Err(_) => Err(OutOfMemory),
     }
+}
+
+/// The snapshot of the store that two files are.
+fn snapshot_in(alloc: Global, x: &[u8], y: &[u8]) -> Result<Vec<u8>, Fail> {
+    let mut a = memory(alloc, x, &[])?;
+    let mut b = memory(alloc, y, &[])?;
+    let (_, snapshot, _) = open_all(alloc, &mut a, &mut b)?;
+    Ok(snapshot)
 }

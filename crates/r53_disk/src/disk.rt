@@ -1,3 +1,5 @@
+//! What a store asks of a file: to be read, written and synced, and to say what a crash may leave.
+
 ghost use Rattle.std.specs.Prelude.{◌≡◌, ◌≤◌, ◌+◌, ℕ, List, length, Option, Some, None};
 ghost use Rattle.octets.specs.Counts.{Rose};
 ghost use Rattle.r53_disk.specs.Disk.{Reaches, Rests, GivesSize, GivesBytes, WriteLeaves, Frees, Settles, Elapses};
@@ -45,6 +47,8 @@ pub trait Disk {
         ensures failed { result ≡ Size.Failed → Rose (faults self.old) (faults self.new) };
 
     /// Fills the slice with the bytes that stand at a place.
+    ///
+    /// After a read that failed the slice may hold anything.
     fn read_at(&mut self, at: u64, into: &mut [u8]) -> Done
         requires { Reaches (reading self.old) (at + length into.old) }
         ensures bytes { (bytes : List ℕ) → reading self.old ≡ Some bytes

@@ -1,3 +1,5 @@
+//! A disk that keeps its calls, so that it knows every image a crash may leave.
+
 ghost use Rattle.std.specs.Prelude.{◌≡◌, ◌⊎◌, ◌↔◌, ℕ, ◌+◌, ◌<◌, ◌≤◌, List, [], ◌∷◌, ◌++◌, length, take, drop, Some, IfOk, OnOk, OnErr};
 ghost use Rattle.octets.specs.Counts.{Rose};
 ghost use Rattle.r53_disk.specs.Disk.{Rests, GivesSize, GivesBytes, WriteLeaves, Frees, Settles, Elapses};
@@ -120,6 +122,7 @@ impl MemoryDisk {
         ensures after { AfterRead self.old result self.new }
         ensures counts { self.old.faults ≤ self.new.faults }
         ensures bytes { GivesBytes result (reading_of self.old) at into.new }
+        ensures stays { result ≡ Done.Failed → into.new ≡ into.old }
     {
         let call = self.calls;
         self.calls = self.calls.saturating_add(1);
@@ -215,8 +218,9 @@ impl Disk for MemoryDisk {
         ensures counts { self.old.faults ≤ self.new.faults }
         ensures failed { result ≡ Done.Failed → Rose self.old.faults self.new.faults }
 
-        // It fails exactly at the calls that it was told.
+        // It fails exactly at the calls that it was told, and the slice stays then.
         ensures after { AfterRead self.old result self.new }
+        ensures stays { result ≡ Done.Failed → into.new ≡ into.old }
     {
         self.read(at, into)
     }

@@ -1,3 +1,5 @@
+//! A write with the sync that makes it stay.
+
 ghost use Rattle.std.specs.Prelude.{◌≡◌, ◌≤◌, ℕ, List, length, Some, None};
 ghost use Rattle.octets.specs.Counts.{Rose};
 ghost use Rattle.r53_disk.specs.Disk.{Reaches, LeavesOnly};

@@ -1,9 +1,8 @@
 mod Appends
-mod Gates
 mod Openings
 mod PairLemmas
-mod PartLemmas
 mod Pieces
 mod Sides
-mod Stores
+pub mod Stores
+mod Syncs
 mod Vectors

@@ -4,7 +4,8 @@ use Rattle.gate_journal.specs.Layout.{most}
 use Rattle.gate_journal.specs.declared.answers.Appended.{Appended}
 use Rattle.gate_journal.specs.declared.answers.Appended.TheVariants as appended
 use Rattle.zone_journal.specs.Pairs.{OpensPair}
-use Rattle.zone_journal.specs.Standing.{State, Plan, planned_length}
+use Rattle.file_building.specs.Building.{Plan}
+use Rattle.zone_journal.specs.Standing.{State, planned_length}
 
 -- the files open to the entries, with one more or without it
 abbrev pub IsBeforeOrAfter : ℕ → List ℕ → List (List ℕ) → List ℕ → (x y : List ℕ) → Type 0
@@ -15,6 +16,12 @@ abbrev pub AppendLeaves : Appended → ℕ → List ℕ → List (List ℕ) → 
 AppendLeaves appended.Done g s es entry x y = OpensPair x y g s (es ++ entry ∷ [])
 AppendLeaves (appended.Full n) g s es entry x y = OpensPair x y g s es
 AppendLeaves appended.DiskFault g s es entry x y = IsBeforeOrAfter g s es entry x y
+
+-- What a crash may leave at each moment of an append, by its answer: where it is Full, the old entries alone.
+abbrev pub MayLeave : Appended → ℕ → List ℕ → List (List ℕ) → List ℕ → (x y : List ℕ) → Type 0
+MayLeave appended.Done g s es entry x y = IsBeforeOrAfter g s es entry x y
+MayLeave (appended.Full n) g s es entry x y = OpensPair x y g s es
+MayLeave appended.DiskFault g s es entry x y = IsBeforeOrAfter g s es entry x y
 
 -- the journal after an append of n bytes: its closed gate moves on, and all else stays
 abbrev pub MovesOn : Appended → (old : State) (n : ℕ) (new : State) → Type 0

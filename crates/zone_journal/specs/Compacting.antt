@@ -1,9 +1,9 @@
 -- What a compaction leaves, piece by piece.
-use Rattle.std.specs.Prelude.{◌≡◌, ◌⊎◌, ℕ, ◌+◌, ◌-◌, ◌<◌, ◌≤◌, ◌^◌, min, List, [], ◌∷◌, ◌++◌, length, drop, Option, Some, None, ⊤}
-use Rattle.r53_disk.specs.Disk.{written}
+use Rattle.std.specs.Prelude.{◌≡◌, ◌⊎◌, ℕ, ◌+◌, ◌-◌, ◌<◌, ◌≤◌, ◌^◌, min, List, ◌++◌, length, Option, Some, None, ⊤}
 use Rattle.gate_journal.specs.Layout.{front, OpensTo}
 use Rattle.zone_journal.specs.Pairs.{OpensPair, Yields, opposite}
-use Rattle.zone_journal.specs.Standing.{State, Plan, Stands, planned_length, left_of}
+use Rattle.file_building.specs.Building.{Plan}
+use Rattle.zone_journal.specs.Standing.{State, Stands, planned_length, left_of}
 use Rattle.zone_journal.specs.declared.answers.Begun.{Begun}
 use Rattle.zone_journal.specs.declared.answers.Begun.TheVariants as begun
 use Rattle.zone_journal.specs.declared.answers.Piece.{Piece}
@@ -30,21 +30,26 @@ pub record IsSince (generation : ℕ) (p : Plan) (active : List ℕ) (since : Li
 abbrev pub IsLast : State → Plan → Type 0
 IsLast v p = (1 ≤ p.next) × (left_of v p ≡ 2)
 
+-- the byte that is written next after a piece of up to 65,536 bytes, where so many were left
+abbrev pub next_place : (next left : ℕ) → ℕ
+next_place next left = next + min 65536 (left - 2)
+
 -- The byte that is written next after a piece that is not the last: the first one closes the gate, and each later one
 -- copies up to 65,536 bytes.
 abbrev pub IsNext : State → Plan → ℕ → Type 0
 IsNext v p next =
     ((p.next ≡ 0) × (next ≡ 1))
-    ⊎ ((1 ≤ p.next) × (2 < left_of v p) × (next ≡ p.next + min 65536 (left_of v p - 2)))
+    ⊎ ((1 ≤ p.next) × (2 < left_of v p) × (next ≡ next_place p.next (left_of v p)))
 
--- The journal after a piece. At Done the new file is the active one. After a fault it stands on the disks no more.
+-- The journal after a piece. At Done the new file is the active one. After a fault the compaction is dropped, and the
+-- journal stands on the disks no more.
 abbrev pub PieceMoves : Piece → (old : State) → Plan → (new : State) → Type 0
 PieceMoves (piece.Running left) old p new =
     (next : ℕ) × IsNext old p next × (new ≡ with_plan old (record p { next = next })) × (left ≡ left_of old (record p { next = next }))
 PieceMoves (piece.Done generation) old p new =
     IsLast old p × (generation ≡ old.generation + 1)
     × (new ≡ record { side = opposite old.side; generation = old.generation + 1; at = planned_length old p - 1; plan = None })
-PieceMoves piece.DiskFault old p new = ⊤
+PieceMoves piece.DiskFault old p new = new ≡ record old { plan = None }
 
 -- The files open to the old snapshot and all its entries; only the last piece may leave the new snapshot and the entries
 -- since.
@@ -80,7 +85,3 @@ abbrev pub UnlessFault : Piece → Type 0 → Type 0
 UnlessFault (piece.Running left) P = P
 UnlessFault (piece.Done generation) P = P
 UnlessFault piece.DiskFault P = ⊤
-
--- a shut file with a closed gate written at a place of it, and then opened
-abbrev pub gate_opened : List ℕ → ℕ → List ℕ
-gate_opened file next = 1 ∷ drop 1 (written file next (0 ∷ []))

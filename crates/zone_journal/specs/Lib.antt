@@ -9,3 +9,4 @@ pub use Rattle.r53_disk.specs.Disk
 pub use Rattle.gate_journal.specs.Append
 pub use Rattle.gate_journal.specs.Layout
 pub use Rattle.gate_journal.specs.Read
+pub use Rattle.file_building.specs.Building

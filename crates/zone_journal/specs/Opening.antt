@@ -6,7 +6,7 @@ use Rattle.gate_journal.specs.Layout.{IsOpen, OpensTo, generation_of}
 use Rattle.gate_journal.specs.Read.{IsRead, IsBroken}
 use Rattle.gate_journal.specs.declared.answers.JournalFault.{JournalFault}
 use Rattle.gate_journal.specs.declared.answers.JournalFault.TheVariants as journal
-use Rattle.zone_journal.specs.Pairs.{active_of, other_of, IsActive, Yields}
+use Rattle.zone_journal.specs.Pairs.{active_of, other_of, IsActive, Yields, NoneSynced, OneSynced, BothSynced}
 use Rattle.zone_journal.specs.Standing.{State}
 use Rattle.zone_journal.specs.declared.answers.Side.{Side}
 use Rattle.zone_journal.specs.declared.answers.Side.TheVariants.{A, B}
@@ -57,6 +57,16 @@ OpenGives (Err (fault.NotAStore side place)) x y = IsNoStore side place x y
 OpenGives (Err fault.DiskFault) x y = ⊤
 OpenGives (Err fault.OutOfMemory) x y = ⊤
 
+-- What a crash leaves of the files x and y after the opening, by its answer. Both were synced before either was looked
+-- at; memory can be short before the first sync, or behind both.
+abbrev pub OpenSyncs : {D : Type 0} → (D → List ℕ → Type 0) → Result (State × Vec ℕ Global) OpenFault → (x y : List ℕ) → (a_old a_new b_old b_new : D) → Type 0
+OpenSyncs images (Ok opened) x y a_old a_new b_old b_new = BothSynced images x y a_new b_new
+OpenSyncs images (Err (fault.NotAStore side place)) x y a_old a_new b_old b_new = BothSynced images x y a_new b_new
+OpenSyncs images (Err fault.DiskFault) x y a_old a_new b_old b_new =
+    NoneSynced images a_old a_new b_old b_new ⊎ OneSynced images x a_new b_old b_new ⊎ BothSynced images x y a_new b_new
+OpenSyncs images (Err fault.OutOfMemory) x y a_old a_new b_old b_new =
+    NoneSynced images a_old a_new b_old b_new ⊎ BothSynced images x y a_new b_new
+
 -- what a read of the file of this side came to
 abbrev pub on_side : Side → Result (Option (Vec ℕ Global)) JournalFault → Result (Option (Vec ℕ Global)) OpenFault
 on_side side (Ok entry) = Ok entry
@@ -64,11 +74,12 @@ on_side side (Err (journal.Bad place)) = Err (fault.NotAStore side place)
 on_side side (Err journal.DiskFault) = Err fault.DiskFault
 on_side side (Err journal.OutOfMemory) = Err fault.OutOfMemory
 
--- What is read at a gate of the file that decides: the entry behind an open one, nothing more at a closed one, or a fault
--- at its place. The journal moves on behind an entry and stays else.
+-- What is read at a gate of the file that decides: the entry behind an open one, whose gate is at the old place, nothing
+-- more at a closed one, or a fault at its place. The journal moves on behind an entry and stays else.
 abbrev pub NextGives : Result (Option (Vec ℕ Global)) OpenFault → (old new : State) → (active : List ℕ) → List ℕ → List (List ℕ) → Type 0
 NextGives (Ok (Some entry)) old new active s es =
-    IsRead new.at active old.generation s (es ++ entry.items ∷ []) × (new ≡ record old { at = new.at })
+    IsRead new.at active old.generation s (es ++ entry.items ∷ [])
+    × (new ≡ record old { at = old.at + (5 + length entry.items) })
 NextGives (Ok None) old new active s es = OpensTo active old.generation s es × (new ≡ old)
 NextGives (Err (fault.NotAStore side place)) old new active s es =
     (side ≡ old.side) × (place ≡ old.at) × IsBroken (drop old.at active) × (new ≡ old)
@@ -80,3 +91,17 @@ abbrev pub OnNone : Result (Option (Vec ℕ Global)) OpenFault → Type 0 → Ty
 OnNone (Ok None) P = P
 OnNone (Ok (Some entry)) P = ⊤
 OnNone (Err e) P = ⊤
+
+-- P, but where an entry was read
+abbrev pub UnlessSome : Result (Option (Vec ℕ Global)) OpenFault → Type 0 → Type 0
+UnlessSome (Ok None) P = P
+UnlessSome (Ok (Some entry)) P = ⊤
+UnlessSome (Err e) P = P
+
+-- no entry more, or a disk failed
+abbrev pub IsNoMore : Result (Option (Vec ℕ Global)) OpenFault → Type 0
+IsNoMore (Ok None) = ⊤
+IsNoMore (Ok (Some entry)) = ⊥
+IsNoMore (Err (fault.NotAStore side place)) = ⊥
+IsNoMore (Err fault.DiskFault) = ⊤
+IsNoMore (Err fault.OutOfMemory) = ⊥

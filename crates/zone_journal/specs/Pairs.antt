@@ -1,5 +1,6 @@
 -- What a pair of files opens to, and what a crash leaves of a pair.
 use Rattle.std.specs.Prelude.{◌≡◌, ◌⊎◌, ℕ, ◌<◌, ◌≤◌, List, Option, Some}
+use Rattle.r53_disk.specs.Disk.{Only, Same}
 use Rattle.gate_journal.specs.Layout.{IsOpen, OpensTo, generation_of}
 use Rattle.zone_journal.specs.declared.answers.Side.{Side}
 use Rattle.zone_journal.specs.declared.answers.Side.TheVariants.{A, B}
@@ -49,6 +50,9 @@ PairOpensToOne =
 
 -- Each image pair since the moments old has P: any image of `a` since then with any of `b`.
 pub record EachPair {D : Type 0} (moment : D → ℕ) (images_since : D → ℕ → List ℕ → Type 0) (a_old a_new b_old b_new : D) (P : List ℕ → List ℕ → Type 0) : Type 0 where
+  -- both moments go on, so that this holds of what a crash leaves now
+  pub a_later : moment a_old ≤ moment a_new
+  pub b_later : moment b_old ≤ moment b_new
   pub each : (x y : List ℕ) → images_since a_new (moment a_old) x → images_since b_new (moment b_old) y → P x y
   -- for a run that began at an earlier moment of the one disk and has left the other one
   pub from_a : (t : ℕ) (x y : List ℕ) → t ≤ moment a_old → images_since a_new t x → images_since b_new (moment b_old) y → images_since a_old t x ⊎ P x y
@@ -68,3 +72,15 @@ pub record Unwritten {D : Type 0} (reading : D → Option (List ℕ)) (images : 
   pub leaves : (c : List ℕ) → images new c → images old c
   pub later : moment old ≤ moment new
   pub before : (t : ℕ) (c : List ℕ) → t ≤ moment old → images_since new t c → images_since old t c
+
+-- No sync of the two files was done: a crash leaves what it left before.
+abbrev pub NoneSynced : {D : Type 0} → (D → List ℕ → Type 0) → (a_old a_new b_old b_new : D) → Type 0
+NoneSynced images a_old a_new b_old b_new = Same (images a_old) (images a_new) × Same (images b_old) (images b_new)
+
+-- `a` alone was synced, with the file x.
+abbrev pub OneSynced : {D : Type 0} → (D → List ℕ → Type 0) → (x : List ℕ) → (a_new b_old b_new : D) → Type 0
+OneSynced images x a_new b_old b_new = Only x (images a_new) × Same (images b_old) (images b_new)
+
+-- Both were synced, with the files x and y.
+abbrev pub BothSynced : {D : Type 0} → (D → List ℕ → Type 0) → (x y : List ℕ) → (a_new b_new : D) → Type 0
+BothSynced images x y a_new b_new = Only x (images a_new) × Only y (images b_new)

@@ -1,18 +1,13 @@
 -- What a journal over two disks stands on.
-use Rattle.std.specs.Prelude.{◌≡◌, ℕ, ◌+◌, ◌-◌, ◌<◌, ◌≤◌, ◌^◌, List, ◌∷◌, ◌++◌, length, take, drop, Option, Some, None}
+use Rattle.std.specs.Prelude.{◌≡◌, ◌⊎◌, ℕ, ◌+◌, ◌-◌, ◌<◌, ◌≤◌, ◌^◌, List, ◌++◌, length, take, drop, Option, Some, None}
 use Rattle.r53_disk.specs.Disk.{Only}
 use Rattle.gate_journal.specs.Layout.{front, inner, opened, OpensTo, generation_of, most}
 use Rattle.gate_journal.specs.Append.{StandsOn as EndsOn}
 use Rattle.gate_journal.specs.Read.{ReadsOn as ReadsFile}
+use Rattle.file_building.specs.Building.{Plan, IsShut}
 use Rattle.zone_journal.specs.Pairs.{active_of, other_of, Yields}
+use Rattle.zone_journal.specs.declared.answers.Progress.{Progress}
 use Rattle.zone_journal.specs.declared.answers.Side.{Side}
-
--- A compaction: the new file's snapshot, the place in the active file from which on entries are copied, and the place of
--- the byte that is written next, which is 0 until the gate is closed.
-pub record Plan : Type 0 where
-  pub snapshot : List ℕ
-  pub from : ℕ
-  pub next : ℕ
 
 -- A journal: the side that decides, its file's generation, the gate of it that is read next, or the closed one, and the
 -- compaction that is in progress.
@@ -30,6 +25,14 @@ planned_length v p = 21 + length p.snapshot + (v.at - p.from)
 abbrev pub left_of : State → Plan → ℕ
 left_of v p = planned_length v p - (p.next - 1)
 
+-- how far the compaction is: its planned length, and the bytes that count as written
+abbrev pub progress_with : State → Option Plan → Option Progress
+progress_with v None = None
+progress_with v (Some p) = Some (record { length = planned_length v p; written = p.next - 1 })
+
+abbrev pub progress_of : State → Option Progress
+progress_of v = progress_with v v.plan
+
 -- the planned file from byte 1 to its closed gate, with these entries appended since the compaction began
 abbrev pub planned : ℕ → List ℕ → List (List ℕ) → List ℕ
 planned generation snapshot since = inner generation snapshot ++ opened since
@@ -44,13 +47,6 @@ pub record PlanFits (v : State) (p : Plan) : Type 0 where
 -- No byte of a new file is written, and the other file's gate stands as it was.
 abbrev pub IsIdle : State → Type 0
 IsIdle v = (p : Plan) → v.plan ≡ Some p → p.next ≡ 0
-
--- a file whose gate is closed
-pub record IsShut (file : List ℕ) : Type 0 where
-  pub gate : ℕ
-  pub rest : List ℕ
-  pub is : file ≡ gate ∷ rest
-  pub closed : gate ≡ 1 → ⊥
 
 -- The other file while it is built: every crash leaves it shut.
 pub record IsUnderway (next : ℕ) (other : List ℕ) (images : List ℕ → Type 0) : Type 0 where
@@ -94,3 +90,8 @@ pub record Reads {D : Type 0} (reading : D → Option (List ℕ)) (images : D �
 -- The journal reads on the two disks.
 abbrev pub ReadsOn : {D : Type 0} → (D → Option (List ℕ)) → (D → List ℕ → Type 0) → State → (a b : D) → Type 0
 ReadsOn reading images v a b = Reads reading images v (active_of v.side a b) (other_of v.side a b)
+
+-- The journal is at a gate of its file: it reads on there, or it stands at the closed gate, with a compaction in progress
+-- or without.
+abbrev pub IsOn : {D : Type 0} → (D → Option (List ℕ)) → (D → List ℕ → Type 0) → State → (a b : D) → Type 0
+IsOn reading images v a b = ReadsOn reading images v a b ⊎ StandsOn reading images v a b

@@ -43,3 +43,12 @@ pub enum Piece {
     /// A disk failed. The journal stands on the disks no more: open it again.
     DiskFault,
 }
+
+/// How far a compaction is.
+#[derive(Clone, Copy, Debug, PartialEq, Eq)]
+pub struct Progress {
+    /// The length of the file that is built.
+    pub length: u64,
+    /// How many of its bytes are written. The file gate counts as unwritten until the end.
+    pub written: u64,
+}

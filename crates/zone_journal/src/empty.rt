@@ -1,3 +1,5 @@
+//! Making a store with nothing in it, where no file is open.
+
 ghost use Rattle.std.specs.Prelude.{◌≡◌, ◌⊎◌, ◌≤◌, ℕ, List, length, Some, None};
 ghost use Rattle.octets.specs.Counts.{Rose};
 ghost use Rattle.r53_disk.specs.Disk.{Only, LeavesOnly};
@@ -15,7 +17,7 @@ const EMPTY_STORE: [u8; 33] = [
     0x52, 0x35, 0x33, 0x5a, 0x4a, 0x30, 0x31, // R53ZJ01
     0, 0, 0, 0, 0, 0, 0, 1, // generation 1
     0, 0, 0, 13, // a snapshot of 13 bytes
-    1, 0, 0, 0, 1, 0, 0, 0, 1, 0, 0, 0, 0, // nothing in it
+    2, 0, 0, 0, 1, 0, 0, 0, 1, 0, 0, 0, 0, // version 2, and nothing in it
     0, // a closed gate
 ];
 

@@ -1,19 +1,21 @@
+//! A store in use: entries read and appended, while pieces of the other file are built.
+
 ghost use Rattle.std.specs.Prelude.{◌≡◌, ◌⊎◌, ◌≤◌, ◌+◌, ◌<◌, ◌++◌, ◌∷◌, [], List, ℕ, length, Some, None, IfOk, IsErrOf, IsSome, MatchOption, ◌^◌};
 ghost use Rattle.octets.specs.Counts.{Rose};
 ghost use Rattle.r53_disk.specs.Disk.{Only, LeavesOnly, Rests};
-ghost use Rattle.gate_journal.specs.Append.{UnlessFault as UnlessAppendFault, AppendLeaves as FileLeaves, IsBeforeOrAfter as FileBeforeOrAfter};
+ghost use Rattle.gate_journal.specs.Append.{UnlessFault as UnlessAppendFault, OnFull, AppendLeaves as FileLeaves, MayLeave as FileMayLeave};
 ghost use Rattle.gate_journal.specs.Layout.{OpensTo, front};
 ghost use Rattle.gate_journal.specs.Read.{IsRead};
 ghost use Rattle.zone_journal.specs.Pairs.{OpensPair, EachPair, Leaves, Unwritten, active_of, other_of, opposite};
-ghost use Rattle.zone_journal.specs.Standing.{Plan, PlanFits, left_of, StandsOn, ReadsOn, Stands, Reads};
-ghost use Rattle.zone_journal.specs.Appending.{AppendLeaves, MovesOn, HasCause, IsBeforeOrAfter, Fits, RefusesBy};
+ghost use Rattle.file_building.specs.Building.{Plan};
+ghost use Rattle.zone_journal.specs.Standing.{PlanFits, left_of, progress_of, StandsOn, ReadsOn, IsOn, Stands, Reads};
+ghost use Rattle.zone_journal.specs.Appending.{AppendLeaves, MayLeave, MovesOn, HasCause, Fits, RefusesBy};
 ghost use Rattle.zone_journal.specs.Compacting.{Begins, with_plan, IsLast, IsSince, PieceStands, PieceMoves, PieceLeaves, OtherLeft, IsOldOrNew, YieldsOrOpens, UnlessFault};
-ghost use Rattle.zone_journal.specs.Opening.{OpenGives, BeginGives, NextGives, OnNone, IsChosen, on_side};
+ghost use Rattle.zone_journal.specs.Opening.{OpenGives, OpenSyncs, BeginGives, NextGives, OnNone, UnlessSome, IsNoMore, IsChosen, on_side};
 
-use crate::build::{copy_some, open_file};
-use crate::plan::Compaction;
 use crate::start::{Chosen, choose, settle};
-use crate::{Begun, OpenFault, Piece, Side};
+use crate::{Begun, OpenFault, Piece, Progress, Side};
+use file_building::{Compaction, copy, open_file};
 use gate_journal::{Appended, Entry, Journal, JournalFault, close_file, fits};
 use octets::zeros;
 use r53_disk::{Disk, Done};
@@ -54,7 +56,9 @@ impl ZoneJournal {
         ensures gives { (x y : List ℕ) → D.reading a.old ≡ Some x → D.reading b.old ≡ Some y
             → OpenGives result x y }
 
-        // At Ok every crash leaves what is read.
+        // Both files are synced before either is looked at, and from then on a crash leaves what is read.
+        ensures syncs { (x y : List ℕ) → D.reading a.old ≡ Some x → D.reading b.old ≡ Some y
+            → OpenSyncs D.images result x y a.old a.new b.old b.new }
         ensures reads_on { IfOk result (λ opened. ReadsOn D.reading D.images opened.0 a.new b.new) }
 
         // It writes nothing.
@@ -130,6 +134,43 @@ impl ZoneJournal {
         }
     }
 
+    /// The side of the file that decides.
+    pub fn side(&self) -> Side
+        ensures { result ≡ self.now.side }
+    {
+        self.side
+    }
+
+    /// The generation of the file that decides.
+    pub fn generation(&self) -> u64
+        ensures { result ≡ self.now.generation }
+    {
+        self.generation
+    }
+
+    /// The place in the file that decides of the gate that is read next, or of the closed one.
+    ///
+    /// Asked before `next`, it is the place of the gate of the entry that `next` gives.
+    pub fn gate(&self) -> u64
+        ensures { result ≡ self.now.at }
+    {
+        self.journal.gate()
+    }
+
+    /// How far the compaction is that is in progress, None where none is.
+    pub fn progress(&self) -> Option<Progress>
+        requires fits { (p : Plan) → self.now.plan ≡ Some p → PlanFits self.now p }
+        ensures { result ≡ progress_of self.now }
+    {
+        match &self.plan {
+            None => None,
+            Some(plan) => Some(Progress {
+                length: plan.length(self.journal.gate()),
+                written: plan.written(),
+            }),
+        }
+    }
+
     /// The next open entry of the file that decides, None at its first closed gate.
     pub fn next<D: Disk>(
         &mut self,
@@ -137,13 +178,20 @@ impl ZoneJournal {
         a: &mut D,
         b: &mut D,
     ) -> Result<Option<Vec<u8>>, OpenFault>
-        requires { ReadsOn D.reading D.images self.old a.old b.old }
+        requires { IsOn D.reading D.images self.old a.old b.old }
         ensures gives { (s : List ℕ) (es : List (List ℕ)) (x y : List ℕ)
             → D.reading a.old ≡ Some x → D.reading b.old ≡ Some y
             → IsRead self.old.at (active_of self.old.side x y) self.old.generation s es
             → NextGives result self.old self.new (active_of self.old.side x y) s es }
-        ensures reads_on { ReadsOn D.reading D.images self.new a.new b.new }
+        ensures reads_on { ReadsOn D.reading D.images self.old a.old b.old
+            → ReadsOn D.reading D.images self.new a.new b.new }
         ensures at_end { OnNone result (StandsOn D.reading D.images self.new a.new b.new) }
+
+        // Where the journal stands there is no entry more, and it stands on.
+        ensures stands { StandsOn D.reading D.images self.old a.old b.old
+            → UnlessSome result (StandsOn D.reading D.images self.new a.new b.new) }
+        ensures ended { (x y : List ℕ) → D.reading a.old ≡ Some x → D.reading b.old ≡ Some y
+            → StandsOn D.reading D.images self.old a.old b.old → IsNoMore result }
         ensures a_rests { Rests D.reading D.images D.moment D.images_since a.old a.new }
         ensures b_rests { Rests D.reading D.images D.moment D.images_since b.old b.new }
 
@@ -165,12 +213,18 @@ impl ZoneJournal {
         active: &mut D,
         other: &D,
     ) -> Result<Option<Vec<u8>>, OpenFault>
-        requires { Reads D.reading D.images self.old active.old other.now }
+        requires { Reads D.reading D.images self.old active.old other.now
+            ⊎ Stands D.reading D.images self.old active.old other.now }
         ensures gives { (s : List ℕ) (es : List (List ℕ)) (x : List ℕ)
             → D.reading active.old ≡ Some x → IsRead self.old.at x self.old.generation s es
             → NextGives result self.old self.new x s es }
-        ensures reads_on { Reads D.reading D.images self.new active.new other.now }
+        ensures reads_on { Reads D.reading D.images self.old active.old other.now
+            → Reads D.reading D.images self.new active.new other.now }
         ensures at_end { OnNone result (Stands D.reading D.images self.new active.new other.now) }
+        ensures stands { Stands D.reading D.images self.old active.old other.now
+            → UnlessSome result (Stands D.reading D.images self.new active.new other.now) }
+        ensures ended { (x : List ℕ) → D.reading active.old ≡ Some x
+            → Stands D.reading D.images self.old active.old other.now → IsNoMore result }
         ensures side { self.new.side ≡ self.old.side }
         ensures rests { Rests D.reading D.images D.moment D.images_since active.old active.new }
         ensures counts { D.faults active.old ≤ D.faults active.new }
@@ -193,10 +247,14 @@ impl ZoneJournal {
             → Leaves D.reading a.new b.new (AppendLeaves result g s es entry.now) }
         ensures moves { MovesOn result self.old (length entry.now) self.new }
 
-        // At each moment every image pair opens to the old entries, with the new one or without.
+        // At each moment every image pair opens to the old entries, with the new one or without; where it is Full,
+        // without.
         ensures any_moment { (g : ℕ) (s : List ℕ) (es : List (List ℕ)) (x y : List ℕ)
             → D.reading a.old ≡ Some x → D.reading b.old ≡ Some y → OpensPair x y g s es
-            → EachPair D.moment D.images_since a.old a.new b.old b.new (IsBeforeOrAfter g s es entry.now) }
+            → EachPair D.moment D.images_since a.old a.new b.old b.new (MayLeave result g s es entry.now) }
+
+        // Where it is Full both disks are as they were: nothing is asked of them.
+        ensures full { OnFull result ((a.new ≡ a.old) × (b.new ≡ b.old)) }
 
         // The other file is left as it is.
         ensures rests { Rests D.reading D.images D.moment D.images_since
@@ -225,7 +283,8 @@ impl ZoneJournal {
         ensures side { self.new.side ≡ self.old.side }
         ensures any_moment { (g : ℕ) (s : List ℕ) (es : List (List ℕ)) (x : List ℕ)
             → D.reading active.old ≡ Some x → OpensTo x g s es
-            → LeavesOnly D.moment D.images_since active.old active.new (FileBeforeOrAfter g s es entry.now) }
+            → LeavesOnly D.moment D.images_since active.old active.new (FileMayLeave result g s es entry.now) }
+        ensures full { OnFull result (active.new ≡ active.old) }
         ensures cause { HasCause result self.old (length entry.now) }
         ensures counts { D.faults active.old ≤ D.faults active.new }
         ensures failed { result ≡ Appended.DiskFault → Rose (D.faults active.old) (D.faults active.new) }
@@ -271,11 +330,7 @@ impl ZoneJournal {
             return Begun::GenerationsEnded;
         }
         let from = self.journal.gate();
-        self.plan = Some(Compaction {
-            snapshot,
-            from,
-            next: 0,
-        });
+        self.plan = Some(Compaction::begin(snapshot, from));
         Begun::Begun
     }
 
@@ -321,7 +376,8 @@ impl ZoneJournal {
     }
 
     fn piece<D: Disk>(&mut self, plan: Compaction, active: &mut D, other: &mut D) -> Piece
-        requires { Stands D.reading D.images (with_plan self.old plan) active.old other.old }
+        requires stands { Stands D.reading D.images (with_plan self.old plan) active.old other.old }
+        requires taken { self.old.plan ≡ None }
         ensures stands { PieceStands D.reading D.images result self.new active.new other.new }
         ensures moves { PieceMoves result self.old plan self.new }
         ensures left { (x y : List ℕ) → D.reading active.old ≡ Some x → D.reading other.old ≡ Some y
@@ -348,6 +404,7 @@ impl ZoneJournal {
     /// Closes the gate of the other file, for a compaction that has just begun.
     fn close_old<D: Disk>(&mut self, plan: Compaction, active: &D, other: &mut D) -> Piece
         requires stands { Stands D.reading D.images (with_plan self.old plan) active.now other.old }
+        requires taken { self.old.plan ≡ None }
         requires first { plan.next ≡ 0 }
         ensures stands { PieceStands D.reading D.images result self.new active.now other.new }
         ensures moves { PieceMoves result self.old plan self.new }
@@ -372,6 +429,7 @@ impl ZoneJournal {
     /// Copies the next bytes of the file that is built.
     fn copy_next<D: Disk>(&mut self, plan: Compaction, active: &mut D, other: &mut D) -> Piece
         requires stands { Stands D.reading D.images (with_plan self.old plan) active.old other.old }
+        requires taken { self.old.plan ≡ None }
         requires begun { 1 ≤ plan.next }
         requires more { 2 < left_of self.old plan }
         ensures stands { PieceStands D.reading D.images result self.new active.new other.new }
@@ -391,7 +449,8 @@ impl ZoneJournal {
         let n = (plan.left(at) - 2).min(PIECE as u64);
         let generation = self.generation + 1;
         let buffer = self.buffer.as_mut_slice();
-        let Done::Whole = copy_some(&plan, generation, at, n as usize, buffer, active, other) else {
+        let piece = &mut buffer[..n as usize];
+        let Done::Whole = copy(&plan, generation, at, piece, active, other) else {
             return Piece::DiskFault;
         };
         let plan = plan.moved(next + n);
@@ -403,6 +462,7 @@ impl ZoneJournal {
     /// Opens the file that is built, which decides from then on.
     fn open_new<D: Disk>(&mut self, plan: Compaction, active: &D, other: &mut D) -> Piece
         requires stands { Stands D.reading D.images (with_plan self.old plan) active.now other.old }
+        requires taken { self.old.plan ≡ None }
         requires last { IsLast self.old plan }
         ensures stands { PieceStands D.reading D.images result self.new active.now other.new }
         ensures moves { PieceMoves result self.old plan self.new }

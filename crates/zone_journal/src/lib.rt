@@ -4,15 +4,12 @@
 #![tactic(auto)]
 
 mod answers;
-mod build;
 mod empty;
 mod journal;
 mod laws;
-mod parts;
-mod plan;
 mod start;
 
-pub use answers::{Begun, Init, OpenFault, Piece, Side};
+pub use answers::{Begun, Init, OpenFault, Piece, Progress, Side};
 pub use empty::init;
 pub use gate_journal::{Appended, Entry};
 pub use journal::ZoneJournal;

@@ -22,6 +22,8 @@ pub(crate) enum Chosen {
 /// Makes what a disk reads as its only image.
 pub(crate) fn settle<D: Disk>(disk: &mut D) -> Done
     ensures reading { D.reading disk.new ≡ D.reading disk.old }
+    ensures images { (bytes : List ℕ) → D.reading disk.old ≡ Some bytes
+        → Settles result bytes (D.images disk.old) (D.images disk.new) }
     ensures unwritten { (bytes : List ℕ) → D.reading disk.old ≡ Some bytes
         → Unwritten D.reading D.images D.moment D.images_since disk.old disk.new }
     ensures only { result ≡ Done.Whole

@@ -6,4 +6,5 @@ use Rattle.r53_disk.proofs.memory.replay.Given as goal
 -- what the calls that are left do is what all do
 abbrev pub invariant-loop-call : goal.invariant-loop-call
 invariant-loop-call l =
-    torn_after l.torn l.reading.items l.image.items (steps_of (drop l.call-index l.calls)) ≡ torn_after l.torn l.fn.first l.fn.first (steps_of l.calls)
+    torn_after l.torn l.reading.items l.image.items (steps_of (drop l.call-index l.calls))
+    ≡ torn_after l.torn l.fn.first l.fn.first (steps_of l.calls)

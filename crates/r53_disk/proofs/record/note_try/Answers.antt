@@ -7,4 +7,5 @@ use Rattle.r53_disk.proofs.record.note_try.Goals as goal
 pub returns-clause-kept : goal.returns-clause-kept
 returns-clause-kept c =
     let same : c.in_ok-piece.piece.items ≡ c.args.from.now = search rules in
-    ap steps_of c.in_ok-push.ensures.items ∙ steps_of-push _ _ ∙ ap (λ l. steps_of c.args.calls.now.items ++ Tried c.args.at l ∷ []) same
+    ap steps_of c.in_ok-push.ensures.items ∙ steps_of-push _ _
+    ∙ ap (λ l. steps_of c.args.calls.now.items ++ Tried c.args.at l ∷ []) same

@@ -8,5 +8,7 @@ use Rattle.r53_disk.proofs.record.note_write.Goals as goal
 pub returns-clause-kept : goal.returns-clause-kept
 returns-clause-kept c =
     let same : c.in_ok-piece.piece.items ≡ c.args.from.now = search rules in
-    let pushed : c.push_reserved.new.self.items ≡ c.args.calls.now.items ++ call.Write c.args.at c.in_ok-piece.piece ∷ [] = search rules in
-    ap steps_of pushed ∙ steps_of-push _ _ ∙ ap (λ l. steps_of c.args.calls.now.items ++ Wrote c.args.at l ∷ []) same
+    let pushed : c.push_reserved.new.self.items ≡ c.args.calls.now.items
+    ++ call.Write c.args.at c.in_ok-piece.piece ∷ [] = search rules in
+    ap steps_of pushed ∙ steps_of-push _ _
+    ∙ ap (λ l. steps_of c.args.calls.now.items ++ Wrote c.args.at l ∷ []) same

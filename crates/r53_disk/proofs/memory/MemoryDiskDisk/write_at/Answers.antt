@@ -8,4 +8,5 @@ pub returns-clause-images : goal.returns-clause-images
 returns-clause-images c = frees _ _ c.args.at c.args.from.now c.requires _ c.write.ensures.after
 
 pub returns-clause-time : goal.returns-clause-time
-returns-clause-time c = elapses_write _ _ c.args.at c.args.from.now c.requires _ c.write.ensures.after
+returns-clause-time c =
+    elapses_write _ _ c.args.at c.args.from.now c.requires _ c.write.ensures.after

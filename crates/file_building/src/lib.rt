@@ -1,0 +1,11 @@
+//! The file that a compaction builds: a snapshot and the entries since, copied behind a closed gate, and then opened.
+//!
+//! A journal over two disks decides when each step comes; here are the bytes, and what a crash leaves of them.
+#![tactic(auto)]
+
+mod build;
+mod parts;
+mod plan;
+
+pub use build::{copy, open_file};
+pub use plan::Compaction;
