@@ -1,7 +1,7 @@
 -- Rows by their places, as a scan goes over them.
 use Rattle.std.specs.Prelude.{ℕ, ◌<◌, ◌≤◌, List, [], length, slice_index_or, Option, Some, None, ⊤}
-use Rattle.r53_io.specs.declared.address.IpAddress.{IpAddress}
-use Rattle.r53_io.specs.declared.address.IpAddress.TheVariants.{V4}
+use Rattle.address_text.specs.declared.address.IpAddress.{IpAddress}
+use Rattle.address_text.specs.declared.address.IpAddress.TheVariants.{V4}
 use Rattle.ip_table.specs.Prefixes.{Prefix, Covers, LiesInside}
 
 abbrev pub row_at : List (Prefix × ℕ) → ℕ → Prefix × ℕ

@@ -1,3 +1,5 @@
+//! Counts at the edges of a status.
+
 use calculated_health::{calculated_status, endpoint_status};
 
 #[test]

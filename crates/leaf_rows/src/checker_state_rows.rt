@@ -1,3 +1,5 @@
+//! Rows of results, and which views they turn.
+
 use checker_state::{CHECKERS, Checkers};
 
 /// Takes a row of results from each of some checkers. The answer is how many views changed.

@@ -1,3 +1,5 @@
+//! Options of the client subnet with each fault, read and written.
+
 use ecs_option::{ClientSubnet, Malformed, read};
 use std::test::Fail;
 

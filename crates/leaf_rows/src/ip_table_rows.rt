@@ -1,7 +1,9 @@
+//! Prefixes, inserts and look-ups, and tables that look random beside a scan of their rows.
+
 mod scan;
 
+use address_text::IpAddress;
 use ip_table::{InsertFault, IpPrefix, IpTable};
-use r53_io::IpAddress;
 use scan::locate;
 use std::test::Fail;
 

@@ -6,12 +6,6 @@ mod calculated_health_rows;
 #[cfg(test)]
 mod checker_state_rows;
 #[cfg(test)]
-mod considered_sets_rows;
-#[cfg(test)]
 mod ecs_option_rows;
 #[cfg(test)]
 mod ip_table_rows;
-#[cfg(test)]
-mod multivalue_rows;
-#[cfg(test)]
-mod weighted_rows;

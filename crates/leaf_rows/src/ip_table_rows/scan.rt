@@ -1,10 +1,12 @@
+//! The plain way to find the longest row and the scope: going through all rows.
+
 ghost use Rattle.std.specs.Prelude.{◌≡◌, ℕ, ◌<◌, ◌≤◌, length, IsTrue, ◌↔◌, Some};
 ghost use Rattle.ip_table.specs.Bits.{width_of, number_of, first_bits, SharesFirst};
 ghost use Rattle.ip_table.specs.Location.{Locates};
 ghost use Rattle.leaf_rows.specs.Scan.{IsLongest, IsLongerThan, IsLongerInside, length_of};
 
+use address_text::IpAddress;
 use ip_table::IpPrefix;
-use r53_io::IpAddress;
 
 /// The plain way: the longest of all rows, and length after length until no longer row lies inside.
 pub fn locate(rows: &[(IpPrefix, u32)], address: IpAddress) -> (Option<u32>, u8)

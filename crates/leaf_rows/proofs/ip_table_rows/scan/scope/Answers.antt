@@ -13,6 +13,8 @@ loop-found-preserved c =
         | inl before ↦ c.loop-found.invariant.inside n low before
         | inr now ↦
             let same : c.loop-found.scope ≡ n = omega arith in
-            subst (λ m. (k : ℕ) × (k < length c.args.rows.now) × IsLongerInside c.args.rows.now c.args.found m c.args.address k) same (s.some c.loop-found-test.true)
+            subst (λ m. (k : ℕ) × (k < length c.args.rows.now)
+            × IsLongerInside c.args.rows.now c.args.found m c.args.address k) same
+            (s.some c.loop-found-test.true)
       ];
     }

@@ -7,7 +7,8 @@ abbrev pub invariant-loop-found : goal.invariant-loop-found
 invariant-loop-found l = record {
   from : length_of l.rows l.found ≤ l.scope;
   low : l.scope ≤ 129;
-  inside : (n : ℕ) → length_of l.rows l.found ≤ n → n < l.scope → (k : ℕ) × (k < length l.rows) × IsLongerInside l.rows l.found n l.address k;
+  inside : (n : ℕ) → length_of l.rows l.found ≤ n → n < l.scope
+      → (k : ℕ) × (k < length l.rows) × IsLongerInside l.rows l.found n l.address k;
 }
 
 abbrev pub decreases-loop-found : goal.decreases-loop-found

@@ -1,3 +1,5 @@
+//! Groups about eight sets, and full ones.
+
 use multivalue::{Picked, choose};
 
 #[test]

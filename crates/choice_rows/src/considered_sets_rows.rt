@@ -1,3 +1,5 @@
+//! Groups of which all sets, some or none are healthy.
+
 use considered_sets::some_healthy;
 
 #[test]

@@ -1,3 +1,5 @@
+//! Small weighted groups, word by word.
+
 use weighted::choose;
 
 const NONE: [bool; 3] = [false, false, false];

@@ -1,0 +1,25 @@
+//! Failover pairs, and sets that stand alone.
+
+use failover::choose;
+use routing::Role;
+
+#[test]
+fn a_pair(rt: HostRuntime) {
+    let pair = [Role::Primary, Role::Secondary];
+    let rows = [
+        ([true, true], 0, "both are healthy: the primary"),
+        ([true, false], 0, "the primary is"),
+        ([false, true], 1, "the secondary is"),
+        ([false, false], 0, "none is: the primary"),
+    ];
+    for (healthy, chosen, row) in rows {
+        assert_eq!(rt; choose(&pair, &healthy), chosen, "{row}");
+    }
+}
+
+#[test]
+fn a_secondary_alone(rt: HostRuntime) {
+    for healthy in [true, false] {
+        assert_eq!(rt; choose(&[Role::Secondary], &[healthy]), 0, "it answers");
+    }
+}

@@ -1,0 +1,4 @@
+pub mod InOrder
+pub mod Known
+mod Vectors
+pub mod Walk

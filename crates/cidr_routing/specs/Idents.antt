@@ -1,0 +1,12 @@
+-- The names of collections and of their locations (API Reference, CidrCollection and
+-- CidrRoutingConfig).
+use Rattle.std.specs.Prelude.{◌≡◌, ℕ, ◌⊎◌, List, [], ◌∷◌}
+use Rattle.routing.specs.Texts.{IsText, is_location_byte}
+
+-- `*`, which names no location: it stands for all clients that no other set is for
+abbrev pub star : List ℕ
+star = 0x2A ∷ []
+
+-- 1 to 64 letters, digits, `_` and `-`, or `*`
+abbrev pub IsIdent : List ℕ → Type 0
+IsIdent text = IsText is_location_byte 64 text ⊎ (text ≡ star)

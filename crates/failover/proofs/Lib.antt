@@ -1,0 +1,2 @@
+mod Vectors
+pub mod Walk

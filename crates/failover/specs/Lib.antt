@@ -1,0 +1,3 @@
+pub mod Choice
+pub mod Search
+pub use Rattle.considered_sets.specs.Considered

@@ -1,0 +1,8 @@
+use Rattle.std.proofs.Common.{sym, ◌∙◌}
+use Rattle.geo_latency.proofs.InOrder.{any_one}
+use Rattle.geo_latency.proofs.places.choose_place.Goals as goal
+
+pub returns-clause-chosen : goal.returns-clause-chosen
+returns-clause-chosen c =
+    c.search-2.ensures.first
+    ∙ any_one c.args.healthy.now _ (sym c.in_default.is ∙ c.search.ensures.first)

@@ -1,0 +1,42 @@
+//! The latencies of a client to regions, as a row of the table of latencies tells.
+
+ghost use Rattle.std.specs.Prelude.{◌≡◌};
+ghost use Rattle.geo_latency.specs.Regions.{latency_of};
+
+use routing::Region;
+use std::marker::Model;
+
+/// The latencies of a client to some regions, in milliseconds.
+#[derive(Drop)]
+pub struct Latencies {
+    rows: Vec<(Region, u32)>,
+}
+
+impl Model for Latencies {
+    ghost use Rattle.std.specs.Prelude.{ℕ, List};
+
+    ghost Value = { List (List ℕ × ℕ) };
+
+    ghost view = { λ l. l.rows.items };
+}
+
+impl Latencies {
+    /// The latency of a region, where it is told.
+    pub fn latency_of(&self, region: &Region) -> Option<u32>
+        ensures { result ≡ latency_of self.now region.now }
+    {
+        latency_in(&self.rows, region)
+    }
+}
+
+/// The first latency that is told of a region.
+fn latency_in(rows: &[(Region, u32)], region: &Region) -> Option<u32>
+    ensures { result ≡ latency_of rows.now region.now }
+{
+    for i in 0..rows.len() {
+        if rows[i].0.bytes() == region.bytes() {
+            return Some(rows[i].1);
+        }
+    }
+    None
+}
