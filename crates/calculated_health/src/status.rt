@@ -1,3 +1,5 @@
+//! A status from a count: enough of the fifty checkers, or enough of the children.
+
 ghost use Rattle.std.specs.Prelude.{◌≡◌};
 ghost use Rattle.calculated_health.specs.Status.{endpoint_status, calculated_status};
 

@@ -13,20 +13,29 @@ module _ {X : Type 0} where
   at_number f i d h = get_or-map-range_with_len f 0 50 i i d h (omega arith)
 
   -- one element is written
-  pub one_written : (f g : ℕ → X) (i : ℕ) (x : X) → i < 50 → x ≡ g i → ((k : ℕ) → k ≢ i → g k ≡ f k) → set (map f numbers) i x ≡ map g numbers
+  pub one_written : (f g : ℕ → X) (i : ℕ) (x : X) → i < 50 → x ≡ g i → ((k : ℕ) → k ≢ i → g k ≡ f k)
+      → set (map f numbers) i x ≡ map g numbers
   unfolding numbers
-  one_written f g i x h now others = fill_by_all g (set (map f numbers) i x) 50 x (length-set (map f numbers) i x ∙ length-map-range_with_len f 0 50) each where
-    each : (k : ℕ) → k < 50 → get_or (set (map f numbers) i x) k x ≡ g k
-    each k b = elim (cases_eq k i) [
-      | inl e ↦ rw e (get_or-set_same (map f numbers) i x x (omega (arith, length-map-range_with_len f 0 50)) ∙ now)
-      | inr ne ↦ get_or-set_other (map f numbers) i k x x ne ∙ (at_number f k x b ∙ sym (others k ne))
-    ]
+  one_written f g i x h now others =
+      fill_by_all g (set (map f numbers) i x) 50 x (length-set (map f numbers) i x
+      ∙ length-map-range_with_len f 0 50) each where
+        each : (k : ℕ) → k < 50 → get_or (set (map f numbers) i x) k x ≡ g k
+        each k b = elim (cases_eq k i) [
+          | inl e ↦
+              rw e (get_or-set_same (map f numbers) i x x
+              (omega (arith, length-map-range_with_len f 0 50)) ∙ now)
+          | inr ne ↦ get_or-set_other (map f numbers) i k x x ne
+              ∙ (at_number f k x b ∙ sym (others k ne))
+        ]
 
   -- lists whose elements agree
   pub same_fifty : (f g : ℕ → X) → ((k : ℕ) → k < 50 → f k ≡ g k) → map f numbers ≡ map g numbers
   unfolding numbers
-  same_fifty f g same = fill_by_all g (map f numbers) 50 (f 0) (length-map-range_with_len f 0 50) (λ k b. at_number f k (f 0) b ∙ same k b)
+  same_fifty f g same =
+      fill_by_all g (map f numbers) 50 (f 0) (length-map-range_with_len f 0 50)
+      (λ k b. at_number f k (f 0) b ∙ same k b)
 
   -- how many elements pass a test
-  pub count_by-map : {Y : Type 0} (p : Y → Bool) (f : X → Y) (xs : List X) → count_by p (map f xs) ≡ count_by (λ x. p (f x)) xs
+  pub count_by-map : {Y : Type 0} (p : Y → Bool) (f : X → Y) (xs : List X)
+      → count_by p (map f xs) ≡ count_by (λ x. p (f x)) xs
   count_by-map p f xs = fold-map (λ a y. a + cond (p y) 1 0) f 0 xs

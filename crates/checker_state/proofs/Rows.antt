@@ -21,10 +21,12 @@ row_of_run (suc n) false (false ∷ xs) h = ap (λ l. false ∷ l) (row_of_run n
 pub run_of_row : (n : ℕ) (r : Bool) (xs : List Bool) → take n xs ≡ replicate n r → n ≤ run_of r xs
 run_of_row zero r xs h = omega arith
 run_of_row (suc n) r [] h = absurd (let e : ⊥ = cc in e)
-run_of_row (suc n) true (true ∷ xs) h = let rest : take n xs ≡ replicate n true = cc in omega (arith, run_of_row n true xs rest)
+run_of_row (suc n) true (true ∷ xs) h = let rest : take n xs ≡ replicate n true = cc in
+    omega (arith, run_of_row n true xs rest)
 run_of_row (suc n) true (false ∷ xs) h = absurd (let e : ⊥ = cc in e)
 run_of_row (suc n) false (true ∷ xs) h = absurd (let e : ⊥ = cc in e)
-run_of_row (suc n) false (false ∷ xs) h = let rest : take n xs ≡ replicate n false = cc in omega (arith, run_of_row n false xs rest)
+run_of_row (suc n) false (false ∷ xs) h = let rest : take n xs ≡ replicate n false = cc in
+    omega (arith, run_of_row n false xs rest)
 
 -- no row of one or more ends in nothing
 no_row : (n : ℕ) (r : Bool) (place : ℕ) → 0 < n → ¬ EndsRow n r [] place
@@ -33,31 +35,39 @@ no_row (suc n) r zero h row = let e : ⊥ = cc in e
 no_row (suc n) r (suc place) h row = let e : ⊥ = cc in e
 
 -- a row has one result
-one_result : (n : ℕ) (a b : Bool) (xs : List Bool) → 0 < n → xs ≡ replicate n a → xs ≡ replicate n b → a ≡ b
+one_result : (n : ℕ) (a b : Bool) (xs : List Bool) → 0 < n → xs ≡ replicate n a → xs ≡ replicate n b
+    → a ≡ b
 one_result zero a b xs h e f = absurd (omega arith)
 one_result (suc n) a b xs h e f = cc
 
 -- which result a row that ends in front has
-front_result : (n : ℕ) (r other : Bool) (before : List Bool) → 0 < n → take n (r ∷ before) ≡ replicate n other → other ≡ r
+front_result : (n : ℕ) (r other : Bool) (before : List Bool) → 0 < n
+    → take n (r ∷ before) ≡ replicate n other → other ≡ r
 front_result zero r other before h row = absurd (omega arith)
 front_result (suc n) r other before h row = cc
 
 -- a result that ends a run of n becomes the view, and another leaves it
-turns : (n : ℕ) (r : Bool) (before : List Bool) → n ≤ run_of r (r ∷ before) → view_of n (r ∷ before) ≡ r
-turns n r before long = ap (λ t. if t then r else view_of n before) (le-leb n (run_of r (r ∷ before)) long)
+turns : (n : ℕ) (r : Bool) (before : List Bool) → n ≤ run_of r (r ∷ before)
+    → view_of n (r ∷ before) ≡ r
+turns n r before long =
+    ap (λ t. if t then r else view_of n before) (le-leb n (run_of r (r ∷ before)) long)
 
-stays : (n : ℕ) (r : Bool) (before : List Bool) → run_of r (r ∷ before) < n → view_of n (r ∷ before) ≡ view_of n before
-stays n r before few = ap (λ t. if t then r else view_of n before) (lt-leb n (run_of r (r ∷ before)) few)
+stays : (n : ℕ) (r : Bool) (before : List Bool) → run_of r (r ∷ before) < n
+    → view_of n (r ∷ before) ≡ view_of n before
+stays n r before few =
+    ap (λ t. if t then r else view_of n before) (lt-leb n (run_of r (r ∷ before)) few)
 
 module _ (n : ℕ) (some : 0 < n) where
   -- where no row ends in front, all stays
-  none_in_front : (r : Bool) (before : List Bool) → run_of r (r ∷ before) < n → (other : Bool) → ¬ EndsRow n other (r ∷ before) 0
+  none_in_front : (r : Bool) (before : List Bool) → run_of r (r ∷ before) < n → (other : Bool)
+      → ¬ EndsRow n other (r ∷ before) 0
   none_in_front r before few other row =
       let e : other ≡ r = front_result n r other before some row in
       let same_row : take n (r ∷ before) ≡ replicate n r = row ∙ ap (replicate n) e in
       omega (arith, run_of_row n r (r ∷ before) same_row)
 
-  further : (r : Bool) (before : List Bool) (view : Bool) → run_of r (r ∷ before) < n → IsView n before view → IsView n (r ∷ before) view
+  further : (r : Bool) (before : List Bool) (view : Bool) → run_of r (r ∷ before) < n
+      → IsView n before view → IsView n (r ∷ before) view
   further r before view few (inl (place, last)) = inl (
     suc place,
     record {
@@ -83,18 +93,22 @@ module _ (n : ℕ) (some : 0 < n) where
         none_newer = λ newer other h _. omega (arith, h);
       },
     ))
-    | inr (_, few) ↦ subst (IsView n (r ∷ before)) (sym (stays n r before few)) (further r before (view_of n before) few (view_is before))
+    | inr (_, few) ↦
+        subst (IsView n (r ∷ before)) (sym (stays n r before few))
+        (further r before (view_of n before) few (view_is before))
   ]
 
   -- of two last places none is newer
-  same_place : (results : List Bool) (a b : Bool) (p q : ℕ) → IsLastRow n a results p → IsLastRow n b results q → p ≡ q
+  same_place : (results : List Bool) (a b : Bool) (p q : ℕ) → IsLastRow n a results p
+      → IsLastRow n b results q → p ≡ q
   same_place results a b p q x y = elim (cases_order p q) [
     | inl e ↦ e
     | inr (inl lt) ↦ absurd (y.none_newer p a lt x.ends)
     | inr (inr gt) ↦ absurd (x.none_newer q b gt y.ends)
   ]
 
-  pub one_view : (results : List Bool) (a b : Bool) → IsView n results a → IsView n results b → a ≡ b
+  pub one_view : (results : List Bool) (a b : Bool) → IsView n results a → IsView n results b
+      → a ≡ b
   one_view results a b (inl (p, x)) (inl (q, y)) =
       let e : p ≡ q = same_place results a b p q x y in
       one_result n a b (take n (drop p results)) some x.ends (rw e y.ends)
@@ -103,10 +117,12 @@ module _ (n : ℕ) (some : 0 < n) where
   one_view results a b (inr (none, e)) (inr (none', e')) = e ∙ sym e'
 
 -- what one more result does, said by rows
-pub row_turns : (n : ℕ) (r : Bool) (results : List Bool) → EndsRow n r (r ∷ results) 0 → view_of n (r ∷ results) ≡ r
+pub row_turns : (n : ℕ) (r : Bool) (results : List Bool) → EndsRow n r (r ∷ results) 0
+    → view_of n (r ∷ results) ≡ r
 row_turns n r results row = turns n r results (run_of_row n r (r ∷ results) row)
 
-pub no_row_stays : (n : ℕ) (r : Bool) (results : List Bool) → ¬ EndsRow n r (r ∷ results) 0 → view_of n (r ∷ results) ≡ view_of n results
+pub no_row_stays : (n : ℕ) (r : Bool) (results : List Bool) → ¬ EndsRow n r (r ∷ results) 0
+    → view_of n (r ∷ results) ≡ view_of n results
 no_row_stays n r results none = elim (leb_tells n (run_of r (r ∷ results))) [
   | inl (_, long) ↦ absurd (none (row_of_run n r (r ∷ results) long))
   | inr (_, few) ↦ stays n r results few

@@ -11,7 +11,8 @@ use Rattle.checker_state.specs.declared.checker.Checker.{Checker}
 abbrev pub seen : ℕ → List Checker → Seen
 seen t cells = record { threshold = t; checkers = cells }
 
-module _ (n : ℕ) (results : ℕ → List Bool) (t : ℕ) (cells : List Checker) (stands : StandsFor n results (seen t cells)) where
+module _ (n : ℕ) (results : ℕ
+    → List Bool) (t : ℕ) (cells : List Checker) (stands : StandsFor n results (seen t cells)) where
   threshold_is : t ≡ n
   threshold_is = ap (λ (s : Seen). s.threshold) stands
 
@@ -24,16 +25,19 @@ module _ (n : ℕ) (results : ℕ → List Bool) (t : ℕ) (cells : List Checker
     kept_there d = rw (cells_are, e, threshold_is) (at_number (λ k. kept n (results k)) i d b)
 
     pub view_there : (d : Checker) → (get_or cells at d).view ≡ view_of n (results i)
-    view_there d = ap (λ (x : Checker). x.view) (kept_there d) ∙ ap (λ m. view_of m (results i)) threshold_is
+    view_there d = ap (λ (x : Checker). x.view) (kept_there d)
+        ∙ ap (λ m. view_of m (results i)) threshold_is
 
     -- with one more result
     module _ (pass : Bool) (x : Checker) (now : x ≡ kept t (pass ∷ results i)) where
       pub view_now : x.view ≡ view_of n (pass ∷ results i)
-      view_now = ap (λ (x : Checker). x.view) now ∙ ap (λ m. view_of m (pass ∷ results i)) threshold_is
+      view_now = ap (λ (x : Checker). x.view) now
+          ∙ ap (λ m. view_of m (pass ∷ results i)) threshold_is
 
       pub one_more : StandsFor n (with_result i pass results) (seen t (set cells at x))
       one_more =
-          let among : set (map before numbers) i x ≡ map after numbers = one_written before after i x b here there in
+          let among : set (map before numbers) i x ≡ map after numbers =
+          one_written before after i x b here there in
           let cells_now : set cells at x ≡ map after numbers = cc cells_are in
           let same : (t, set cells at x) ≡ (n, map after numbers) = cc threshold_is in
           ap (λ (p : ℕ × List Checker). seen (p.0) (p.1)) same

@@ -27,7 +27,8 @@ each_one : view_of 1 (false ∷ true ∷ []) ≡ false
 each_one = refl
 
 -- nine in a row are not ten
-nine : view_of 10 (false ∷ false ∷ false ∷ false ∷ false ∷ false ∷ false ∷ false ∷ false ∷ []) ≡ true
+nine : view_of 10 (false ∷ false ∷ false ∷ false ∷ false ∷ false ∷ false ∷ false ∷ false ∷ [])
+    ≡ true
 nine = refl
 
 -- a row of three ends at the second newest result
@@ -39,7 +40,8 @@ two_fails : kept 3 (false ∷ false ∷ true ∷ []) ≡ record { view = true; l
 two_fails = refl
 
 -- a run is counted up to the threshold
-five_fails : kept 3 (false ∷ false ∷ false ∷ false ∷ false ∷ []) ≡ record { view = false; last = false; run = 3 }
+five_fails : kept 3 (false ∷ false ∷ false ∷ false ∷ false ∷ [])
+    ≡ record { view = false; last = false; run = 3 }
 five_fails = refl
 
 -- fifty of them, from 0 to 49
@@ -56,6 +58,7 @@ unfolding numbers
 ten = refl
 
 -- and from checker 40
-nine_left : passing_of 3 (with_result 40 false (with_result 40 false (with_result 40 false (failed_below 40)))) ≡ 9
+nine_left : passing_of 3
+    (with_result 40 false (with_result 40 false (with_result 40 false (failed_below 40)))) ≡ 9
 unfolding numbers
 nine_left = refl

@@ -1,3 +1,5 @@
+//! One checker: its view, and how long its last result has come in a row.
+
 ghost use Rattle.std.specs.Prelude.{◌≡◌, ◌≤◌, ◌∷◌, List, Bool};
 ghost use Rattle.checker_state.specs.Standing.{kept};
 

@@ -1,3 +1,5 @@
+//! The fifty checkers of one endpoint, each with its own view, and how many of them see a pass.
+
 ghost use Rattle.std.specs.Prelude.{◌≡◌, ◌≢◌, ◌≤◌, ◌<◌, ◌↔◌, ◌∷◌, ℕ, Bool, List, IsTrue, count_by};
 ghost use Rattle.checker_state.specs.View.{view_of};
 ghost use Rattle.checker_state.specs.Standing.{StandsFor, nothing, with_result, passing_of};

@@ -3,7 +3,8 @@ use Rattle.std.proofs.Common.{◌≡◌, ◌<◌, ◌+◌, ℕ, suc, Bool, true,
 use Rattle.considered_sets.specs.Considered.{places, some_healthy, places_from}
 
 -- the flags as they are walked
-pub flags : (s : Bool) (hs : List Bool) → map (λ h. h || not s) hs ≡ (if s then hs else map (λ h. true) hs)
+pub flags : (s : Bool) (hs : List Bool)
+    → map (λ h. h || not s) hs ≡ (if s then hs else map (λ h. true) hs)
 flags true [] = refl
 flags true (true ∷ hs) = ap (λ l. true ∷ l) (flags true hs)
 flags true (false ∷ hs) = ap (λ l. false ∷ l) (flags true hs)
@@ -25,10 +26,13 @@ all_places at (h ∷ hs) = ap suc (all_places (at + 1) hs)
 -- some set is considered
 pub some_considered : (hs : List Bool) → 0 < length hs → 0 < length (places hs)
 some_considered hs some = go (some_healthy hs) refl where
-  go : (s : Bool) → some_healthy hs ≡ s → 0 < length (places_from 0 (if s then hs else map (λ h. true) hs))
+  go : (s : Bool) → some_healthy hs ≡ s
+      → 0 < length (places_from 0 (if s then hs else map (λ h. true) hs))
   go true e = some_place 0 hs e
   go false e = omega (arith, all_places 0 hs)
 
 -- the places of the sets as they are walked
-pub noted_is : (s : Bool) (hs : List Bool) → s ≡ some_healthy hs → places_from 0 (map (λ h. h || not s) hs) ≡ places hs
-noted_is s hs is = ap (places_from 0) (flags s hs ∙ ap (λ b. if b then hs else map (λ h. true) hs) is)
+pub noted_is : (s : Bool) (hs : List Bool) → s ≡ some_healthy hs
+    → places_from 0 (map (λ h. h || not s) hs) ≡ places hs
+noted_is s hs is =
+    ap (places_from 0) (flags s hs ∙ ap (λ b. if b then hs else map (λ h. true) hs) is)

@@ -1,3 +1,5 @@
+//! Whether a group has a healthy set, which decides which of its sets are considered.
+
 ghost use Rattle.std.specs.Prelude.{◌≡◌};
 ghost use Rattle.considered_sets.specs.Considered.{some_healthy};
 

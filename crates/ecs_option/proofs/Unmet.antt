@@ -35,7 +35,8 @@ unmet body Address u = u.4
 at_place : (m n : Malformed) → m.0 ≡ n.0 → m ≡ n
 at_place m n e = ap (λ (place : ℕ). let fault : Malformed = record { 0 = place } in fault) e
 
-pub one_reading : (body : List ℕ) (a b : Result ClientSubnet Malformed) → Reads body a → Reads body b → a ≡ b
+pub one_reading : (body : List ℕ) (a b : Result ClientSubnet Malformed) → Reads body a
+    → Reads body b → a ≡ b
 one_reading body (Ok x) (Ok y) r s = ap Ok (r.1 ∙ sym s.1)
 one_reading body (Ok x) (Err n) r s = absurd (unmet body s.0 s.1 (r.0 s.0))
 one_reading body (Err m) (Ok y) r s = absurd (unmet body r.0 r.1 (s.0 r.0))

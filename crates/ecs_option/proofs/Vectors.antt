@@ -12,7 +12,8 @@ abbrev fault : ℕ → Malformed
 fault place = record { 0 = place }
 
 -- 198.51.100.0/24
-slash_24 : Reads (0 ∷ 1 ∷ 24 ∷ 0 ∷ 0xc6 ∷ 0x33 ∷ 0x64 ∷ []) (Ok (subnet 1 24 (0xc6 ∷ 0x33 ∷ 0x64 ∷ replicate 13 0)))
+slash_24 : Reads (0 ∷ 1 ∷ 24 ∷ 0 ∷ 0xc6 ∷ 0x33 ∷ 0x64 ∷ [])
+    (Ok (subnet 1 24 (0xc6 ∷ 0x33 ∷ 0x64 ∷ replicate 13 0)))
 slash_24 = (meets, refl)
   where
     meets : (point : Point) → Meets (0 ∷ 1 ∷ 24 ∷ 0 ∷ 0xc6 ∷ 0x33 ∷ 0x64 ∷ []) point
@@ -34,11 +35,16 @@ bit_clear : FitsSource 23 (0xc6 ∷ 0x33 ∷ 0x64 ∷ [])
 bit_clear = record { octets = refl; padding = clear }
   where
     clear : (at : ℕ) → 23 ≤ at → at < 24 → bit_at (0xc6 ∷ 0x33 ∷ 0x64 ∷ []) at ≡ 0
-    clear at h k = let e : 23 ≡ at = omega arith in subst (λ n. bit_at (0xc6 ∷ 0x33 ∷ 0x64 ∷ []) n ≡ 0) e refl
+    clear at h k = let e : 23 ≡ at = omega arith in
+        subst (λ n. bit_at (0xc6 ∷ 0x33 ∷ 0x64 ∷ []) n ≡ 0) e refl
 
 -- one octet too many
 octet_behind : Reads (0 ∷ 1 ∷ 24 ∷ 0 ∷ 0xc6 ∷ 0x33 ∷ 0x64 ∷ 0 ∷ []) (Err (fault 4))
-octet_behind = (Address, (omega arith, omega arith, omega arith, refl, λ fits. let four : 4 ≡ 3 = fits.octets in cc), refl)
+octet_behind = (
+  Address,
+  (omega arith, omega arith, omega arith, refl, λ fits. let four : 4 ≡ 3 = fits.octets in cc),
+  refl,
+)
 
 -- family 3; 33 bits of IPv4; a source length with family 0; a scope in a query; three octets
 family_3 : Reads (0 ∷ 3 ∷ 0 ∷ 0 ∷ []) (Err (fault 0))
@@ -57,9 +63,11 @@ three_octets : Reads (0 ∷ 1 ∷ 0 ∷ []) (Err (fault 3))
 three_octets = (Length, λ long. absurd (omega arith), refl)
 
 -- the source length 0, sent back as it came
-sent_back : option_of (subnet 1 0 (replicate 16 0)) 0 ≡ 0x00 ∷ 0x08 ∷ 0x00 ∷ 0x04 ∷ 0x00 ∷ 0x01 ∷ 0x00 ∷ 0x00 ∷ []
+sent_back : option_of (subnet 1 0 (replicate 16 0)) 0 ≡ 0x00 ∷ 0x08 ∷ 0x00 ∷ 0x04 ∷ 0x00 ∷ 0x01
+    ∷ 0x00 ∷ 0x00 ∷ []
 sent_back = refl
 
 -- 198.51.100.0/24 with scope 17
-scope_17 : option_of (subnet 1 24 (0xc6 ∷ 0x33 ∷ 0x64 ∷ replicate 13 0)) 17 ≡ 0x00 ∷ 0x08 ∷ 0x00 ∷ 0x07 ∷ 0x00 ∷ 0x01 ∷ 0x18 ∷ 0x11 ∷ 0xc6 ∷ 0x33 ∷ 0x64 ∷ []
+scope_17 : option_of (subnet 1 24 (0xc6 ∷ 0x33 ∷ 0x64 ∷ replicate 13 0)) 17
+    ≡ 0x00 ∷ 0x08 ∷ 0x00 ∷ 0x07 ∷ 0x00 ∷ 0x01 ∷ 0x18 ∷ 0x11 ∷ 0xc6 ∷ 0x33 ∷ 0x64 ∷ []
 scope_17 = refl

@@ -1,3 +1,5 @@
+//! Laws over the definitions, each the contract of a function that does nothing.
+
 ghost use Rattle.ecs_option.specs.Laws.{OneReading, WrittenReadsBack};
 
 /// Data is read in one way.

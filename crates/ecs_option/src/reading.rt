@@ -1,3 +1,5 @@
+//! An option's data judged field by field, up to the last bit of the address (RFC 7871, 6).
+
 ghost use Rattle.std.specs.Prelude.{◌≡◌, ◌*◌, ◌-◌, ◌<◌, ◌≤◌, ◌++◌, length, replicate, IsTrue, IfOk, ◌↔◌};
 ghost use Rattle.ecs_option.specs.Grammar.{Reads, bit_at, bits_of, FitsSource, IsZeroFrom};
 ghost use Rattle.ecs_option.specs.Writing.{IsSubnet};

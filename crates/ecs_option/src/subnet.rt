@@ -1,3 +1,5 @@
+//! The client's network, and where data that tell none have their first fault.
+
 /// The client's network, as a query's option tells it (RFC 7871, 6).
 #[derive(Clone, Copy, Debug, PartialEq, Eq)]
 pub struct ClientSubnet {

@@ -1,3 +1,5 @@
+//! The option of a reply: what the query told, with the server's scope (RFC 7871, 7.2.1).
+
 ghost use Rattle.std.specs.Prelude.{◌≡◌, ◌++◌, length, drop};
 ghost use Rattle.ecs_option.specs.Grammar.{octets_for};
 ghost use Rattle.ecs_option.specs.Writing.{IsSubnet, option_of};

@@ -19,11 +19,14 @@ module _ (hs : List Bool) (word : ℕ) where
 module _ (hs : List Bool) (xs : List ℕ) (word : ℕ) (is : xs ≡ places hs) where
   -- all of at most eight
   pub chosen_few : length xs ≤ 8 → take 8 (cyclic_from 0 xs) ≡ chosen hs word
-  chosen_few le = ap (take 8) (append-nil xs) ∙ (take_all 8 xs le ∙ (is ∙ sym (few hs word (omega (arith, ap length is)))))
+  chosen_few le = ap (take 8) (append-nil xs)
+      ∙ (take_all 8 xs le ∙ (is ∙ sym (few hs word (omega (arith, ap length is)))))
 
   -- eight of more
-  pub chosen_many : (count : ℕ) → count ≡ length xs → 8 < count → take 8 (cyclic_from (word % count) xs) ≡ chosen hs word
+  pub chosen_many : (count : ℕ) → count ≡ length xs → 8 < count
+      → take 8 (cyclic_from (word % count) xs) ≡ chosen hs word
   chosen_many count long lt =
       let e : word % count ≡ word % length (places hs) = ap (λ n. word % n) (long ∙ ap length is) in
       ap (λ n. take 8 (cyclic_from n xs)) e
-      ∙ (ap (λ l. take 8 (cyclic_from (word % length (places hs)) l)) is ∙ sym (many hs word (omega (arith, ap length is))))
+      ∙ (ap (λ l. take 8 (cyclic_from (word % length (places hs)) l)) is
+      ∙ sym (many hs word (omega (arith, ap length is))))

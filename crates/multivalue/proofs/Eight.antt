@@ -16,8 +16,10 @@ round n start i j at before lt e = elim (cases_lt (start + i) n) [
   | inl first ↦
       let a : (start + i) % n ≡ start + i = mod-eq_of_lt first in
       elim (cases_lt (start + j) n) [
-        | inl second ↦ let b : (start + j) % n ≡ start + j = mod-eq_of_lt second in omega (arith, a, b, e)
-        | inr past ↦ let b : (start + j) % n ≡ start + j - n = around (start + j) n past (omega arith) in omega (arith, a, b, e)
+        | inl second ↦ let b : (start + j) % n ≡ start + j = mod-eq_of_lt second in
+            omega (arith, a, b, e)
+        | inr past ↦ let b : (start + j) % n ≡ start + j - n =
+            around (start + j) n past (omega arith) in omega (arith, a, b, e)
       ]
   | inr past ↦
       let a : (start + i) % n ≡ start + i - n = around (start + i) n past (omega arith) in
@@ -42,24 +44,36 @@ module _ (hs : List Bool) (word : ℕ) where
   abbrev on : ℕ → ℕ
   on j = (word % length (places hs) + j) % length (places hs)
 
-  each : (j : ℕ) → 8 < length (places hs) → j < 8 → get_or (chosen hs word) j 0 ≡ get_or (places hs) (on j) 0
+  each : (j : ℕ) → 8 < length (places hs) → j < 8
+      → get_or (chosen hs word) j 0 ≡ get_or (places hs) (on j) 0
   each j lt b = ap (λ l. get_or l j 0) (many hs word lt)
-      ∙ (get_or-take 8 (cyclic_from start (places hs)) j 0 b ∙ get_cyclic start (places hs) (omega arith) j (omega arith))
+      ∙ (get_or-take 8 (cyclic_from start (places hs)) j 0 b
+      ∙ get_cyclic start (places hs) (omega arith) j (omega arith))
 
   as_many : length (chosen hs word) ≡ min 8 (length (places hs))
   as_many = elim (cases_lt 8 (length (places hs))) [
     | inl lt ↦ ap length (many hs word lt)
-        ∙ omega (arith, length-take 8 (cyclic_from start (places hs)), length_cyclic start (places hs) (omega arith))
+        ∙ omega (
+          arith,
+          length-take 8 (cyclic_from start (places hs)),
+          length_cyclic start (places hs) (omega arith),
+        )
     | inr le ↦ ap length (few hs word le) ∙ omega arith
   ]
 
-  each_considered : (j : ℕ) → j < length (chosen hs word) → IsConsidered hs (get_or (chosen hs word) j 0)
+  each_considered : (j : ℕ) → j < length (chosen hs word)
+      → IsConsidered hs (get_or (chosen hs word) j 0)
   each_considered j b = elim (cases_lt 8 (length (places hs))) [
-    | inl lt ↦ subst (IsConsidered hs) (sym (each j lt (omega (arith, as_many)))) (place_considered hs (on j) (omega arith))
-    | inr le ↦ subst (λ (l : List ℕ). IsConsidered hs (get_or l j 0)) (sym (few hs word le)) (place_considered hs j (omega (arith, as_many)))
+    | inl lt ↦
+        subst (IsConsidered hs) (sym (each j lt (omega (arith, as_many))))
+        (place_considered hs (on j) (omega arith))
+    | inr le ↦
+        subst (λ (l : List ℕ). IsConsidered hs (get_or l j 0)) (sym (few hs word le))
+        (place_considered hs j (omega (arith, as_many)))
   ]
 
-  none_twice : (i j : ℕ) → i < j → j < length (chosen hs word) → get_or (chosen hs word) i 0 ≢ get_or (chosen hs word) j 0
+  none_twice : (i j : ℕ) → i < j → j < length (chosen hs word)
+      → get_or (chosen hs word) i 0 ≢ get_or (chosen hs word) j 0
   none_twice i j before b e = elim (cases_lt 8 (length (places hs))) [
     | inl lt ↦
         let same : get_or (places hs) (on i) 0 ≡ get_or (places hs) (on j) 0 =
@@ -68,8 +82,10 @@ module _ (hs : List Bool) (word : ℕ) where
         (one_place hs (on i) (on j) (omega arith) (omega arith) same)
     | inr le ↦
         let same : get_or (places hs) i 0 ≡ get_or (places hs) j 0 =
-        sym (ap (λ l. get_or l i 0) (few hs word le)) ∙ (e ∙ ap (λ l. get_or l j 0) (few hs word le)) in
-        let apart : get_or (places hs) i 0 < get_or (places hs) j 0 = in_order hs i j before (omega (arith, as_many)) in
+        sym (ap (λ l. get_or l i 0) (few hs word le))
+        ∙ (e ∙ ap (λ l. get_or l j 0) (few hs word le)) in
+        let apart : get_or (places hs) i 0 < get_or (places hs) j 0 =
+        in_order hs i j before (omega (arith, as_many)) in
         omega arith
   ]
 

@@ -16,7 +16,8 @@ twice_round : chosen (replicate 9 true) 18446744073709551615 ≡ 6 ∷ 7 ∷ 8 �
 twice_round = refl
 
 -- eight of nine are healthy: all eight, in the group's order
-eight_healthy : chosen (true ∷ true ∷ false ∷ true ∷ true ∷ true ∷ true ∷ true ∷ true ∷ []) 7 ≡ 0 ∷ 1 ∷ 3 ∷ 4 ∷ 5 ∷ 6 ∷ 7 ∷ 8 ∷ []
+eight_healthy : chosen (true ∷ true ∷ false ∷ true ∷ true ∷ true ∷ true ∷ true ∷ true ∷ []) 7
+    ≡ 0 ∷ 1 ∷ 3 ∷ 4 ∷ 5 ∷ 6 ∷ 7 ∷ 8 ∷ []
 eight_healthy = refl
 
 two_of_three : chosen (true ∷ false ∷ true ∷ []) 1 ≡ 0 ∷ 2 ∷ []

@@ -1,3 +1,5 @@
+//! The considered sets in cyclic order, and the eight from where a word points.
+
 ghost use Rattle.std.specs.Prelude.{◌≡◌, ◌≤◌, ◌<◌, ◌||◌, length, take, map, if◌then◌else◌};
 ghost use Rattle.considered_sets.specs.Considered.{places_from};
 ghost use Rattle.multivalue.specs.Choice.{chosen, cyclic_from};

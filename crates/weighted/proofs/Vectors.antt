@@ -43,5 +43,6 @@ zeros = refl
 last_word : chosen weights all 18446744073709551615 ≡ 2
 last_word = refl
 
-counts : times_chosen weights all 0 ∷ times_chosen weights all 1 ∷ times_chosen weights all 2 ∷ [] ≡ weights
+counts : times_chosen weights all 0 ∷ times_chosen weights all 1 ∷ times_chosen weights all 2 ∷ []
+    ≡ weights
 counts = refl

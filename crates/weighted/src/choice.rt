@@ -1,3 +1,5 @@
+//! The weights of the considered sets laid end to end, walked to the point that a word names.
+
 ghost use Rattle.std.specs.Prelude.{◌≡◌, ◌≤◌, ◌<◌, length, slice_index};
 ghost use Rattle.weighted.specs.Choice.{chosen};
 ghost use Rattle.weighted.specs.Line.{stretch_of, rest_of_line};

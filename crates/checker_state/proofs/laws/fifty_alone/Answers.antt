@@ -6,4 +6,6 @@ use Rattle.checker_state.proofs.laws.fifty_alone.Goals as goal
 
 pub returns : goal.returns
 returns c n results others it same stands =
-    stands ∙ ap (seen n) (same_fifty (λ k. kept n (results k)) (λ k. kept n (others k)) (λ k b. ap (kept n) (same k b)))
+    stands ∙ ap (seen n)
+    (same_fifty (λ k. kept n (results k)) (λ k. kept n (others k))
+    (λ k b. ap (kept n) (same k b)))

@@ -8,7 +8,8 @@ loop-i-preserved c =
     let so_far = c.loop-i.invariant in
     record {
       few = omega (arith, so_far.few, at_most_one _ _ one);
-      noted = noted_more c.args.all c.args.healthy.now c.loop-i.i c.loop-i.places c.loop-i.count _ (omega arith) (omega (arith, so_far.few)) one
+      noted = noted_more c.args.all c.args.healthy.now c.loop-i.i c.loop-i.places c.loop-i.count _
+          (omega arith) (omega (arith, so_far.few)) one
           ∙ so_far.noted;
     }
 

@@ -7,7 +7,8 @@ returns-then-left-stretch c =
     let weights = c.args.weights.now in
     let healthy = c.args.healthy.now in
     let stretch = c.stretch-stretch.ensures.exact in
-    sym (point_here c.args.rule weights healthy c.loop-i.i _ (omega arith) stretch c.loop-i.left (omega arith)) ∙ c.loop-i.invariant.same
+    sym (point_here c.args.rule weights healthy c.loop-i.i _ (omega arith) stretch c.loop-i.left
+    (omega arith)) ∙ c.loop-i.invariant.same
 
 pub loop-i-preserved : goal.loop-i-preserved
 loop-i-preserved c =
@@ -15,6 +16,11 @@ loop-i-preserved c =
     let healthy = c.args.healthy.now in
     let stretch = c.stretch-stretch.ensures.exact in
     record {
-      within = omega (arith, step_length c.args.rule weights healthy c.loop-i.i _ (omega arith) stretch);
-      same = sym (point_behind c.args.rule weights healthy c.loop-i.i _ (omega arith) stretch c.loop-i.left (omega arith)) ∙ c.loop-i.invariant.same;
+      within = omega (
+        arith,
+        step_length c.args.rule weights healthy c.loop-i.i _ (omega arith) stretch,
+      );
+      same = sym
+          (point_behind c.args.rule weights healthy c.loop-i.i _ (omega arith) stretch c.loop-i.left
+          (omega arith)) ∙ c.loop-i.invariant.same;
     }

@@ -8,9 +8,16 @@ loop-i-preserved c =
     let healthy = c.args.healthy.now in
     let stretch = c.stretch-total.ensures in
     record {
-      so_far = omega (arith, step_length c.args.rule weights healthy c.loop-i.i _ (omega arith) stretch.exact);
+      so_far = omega (
+        arith,
+        step_length c.args.rule weights healthy c.loop-i.i _ (omega arith) stretch.exact,
+      );
       most = omega (arith, stretch.most);
     }
 
 pub returns : goal.returns
-returns c = omega (arith, step_end c.args.rule c.args.weights.now c.args.healthy.now c.loop-i.i (omega arith))
+returns c =
+    omega (
+      arith,
+      step_end c.args.rule c.args.weights.now c.args.healthy.now c.loop-i.i (omega arith),
+    )

@@ -10,4 +10,5 @@ fresh n = ap (λ (run : ℕ). record { view = true; last = true; run = run }) (o
 
 pub returns : goal.returns
 unfolding numbers
-returns c = ap (λ (x : Checker). seen c.args.threshold (map (λ k. x) numbers)) (fresh c.args.threshold)
+returns c =
+    ap (λ (x : Checker). seen c.args.threshold (map (λ k. x) numbers)) (fresh c.args.threshold)

@@ -8,7 +8,9 @@ use Rattle.checker_state.proofs.checkers.Checkers.passing.Goals as goal
 
 pub returns-clause-exact : goal.returns-clause-exact
 returns-clause-exact c n results stands =
-    let cells = cells_are n results c.self.inside.threshold c.self.inside.checkers (c.self.view_is ∙ stands) in
+    let cells =
+    cells_are n results c.self.inside.threshold c.self.inside.checkers (c.self.view_is
+    ∙ stands) in
     c.passing_among.ensures
     ∙ (ap (count_by (λ (x : Checker). x.view)) cells
     ∙ count_by-map (λ (x : Checker). x.view) (λ k. kept n (results k)) numbers)

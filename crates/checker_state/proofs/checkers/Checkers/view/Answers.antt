@@ -6,4 +6,5 @@ pub returns : goal.returns
 returns c n results stands =
     let t = c.self.inside.threshold in
     let cells = c.self.inside.checkers in
-    view_there n results t cells (c.self.view_is ∙ stands) c.from.result c.args.checker c.from.ensures c.requires _
+    view_there n results t cells (c.self.view_is
+    ∙ stands) c.from.result c.args.checker c.from.ensures c.requires _
