@@ -1,3 +1,7 @@
 pub mod Judgement
+pub mod Judging
+pub mod OptionLists
+pub mod Owners
 pub mod Question
 pub mod Vectors
+pub mod Walking

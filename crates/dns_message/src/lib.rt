@@ -1,13 +1,17 @@
-//! Queries as they come in packets (RFC 1035, 4.1).
+//! Queries as they come in packets (RFC 1035, 4.1), with what their OPT record tells (RFC 6891).
 //!
 //! A packet that is no query has an answer too, unless it is shorter than a header or a response itself.
 #![tactic(auto)]
 
+mod edns;
 mod laws;
+mod options;
+mod owner;
 mod query;
 pub mod rcode;
 mod read;
+mod records;
 
-pub use laws::one_judgement;
-pub use query::{Query, QueryRead};
+pub use laws::{one_judgement, one_list_of_options, one_record, one_split};
+pub use query::{Edns, Query, QueryRead};
 pub use read::read_query;

@@ -1,6 +1,7 @@
 //! What a packet is read as: a query, a fault with its response code, or nothing to answer.
 
 use dns_name::Name;
+use ecs_option::ClientSubnet;
 
 /// A query for one name, type and class (RFC 1035, 4.1.2).
 #[derive(Clone, Copy)]
@@ -19,6 +20,19 @@ pub struct Query {
     pub qtype: u16,
     /// QCLASS.
     pub qclass: u16,
+    /// What its OPT record tells, where it has one.
+    pub edns: Option<Edns>,
+}
+
+/// What an OPT record of version 0 tells (RFC 6891, 6.1.2 and 6.1.3).
+#[derive(Clone, Copy, Debug, PartialEq, Eq)]
+pub struct Edns {
+    /// How many octets a reply may have, as the client says.
+    pub size: u16,
+    /// DO: the client takes DNSSEC records.
+    pub dnssec_ok: bool,
+    /// The client's network (RFC 7871), where its option is well-formed.
+    pub subnet: Option<ClientSubnet>,
 }
 
 /// What is read of a packet.
@@ -33,6 +47,8 @@ pub enum QueryRead {
         rd: bool,
         rcode: u8,
     },
+    /// A query of a newer version of EDNS than 0. It isn't answered, and the reply says so.
+    BadVersion(Query),
     /// A query.
     Query(Query),
 }

@@ -1,12 +1,16 @@
-//! A packet judged by its header first and then by its question, up to the first fault.
+//! A packet judged by its header first, then by its question and its additional records, up to the first fault.
 
 ghost use Rattle.std.specs.Prelude.{◌≡◌, ℕ, ◌+◌, ◌-◌, ◌≤◌, List, ◌++◌, length, IsTrue, ◌↔◌, IfSome, IfNone, take, drop, replicate};
 ghost use Rattle.octets.specs.Numbers.{number_at};
 ghost use Rattle.dns_message.specs.Header.{id_of, opcode_of, rd_of, HasQueryCounts};
-ghost use Rattle.dns_message.specs.Judge.{Judges, Asks, HasNoQuestion, query_of};
+ghost use Rattle.dns_message.specs.Judge.{Judges, query_of};
+ghost use Rattle.dns_message.specs.Question.{Asks, HasNoQuestion};
+ghost use Rattle.dns_message.specs.Whole.{GivesWhole};
 
+use crate::edns::{edns_of, is_malformed, version_of};
 use crate::rcode::{FORMERR, NOTIMP};
-use crate::{Query, QueryRead};
+use crate::records::{Walked, opt_among};
+use crate::{Edns, Query, QueryRead};
 use dns_name::Name;
 use octets::{behind, fill_front, number_at};
 
@@ -15,7 +19,8 @@ const HEADER_LEN: usize = 12;
 
 /// Reads a query from a packet, or says what is wrong with it first.
 pub fn read_query(packet: &[u8]) -> QueryRead
-    ensures { Judges packet.now result }
+    ensures judges { Judges packet.now result }
+    ensures whole { GivesWhole result }
 {
     if packet.len() < HEADER_LEN {
         return QueryRead::Silent;
@@ -32,10 +37,19 @@ pub fn read_query(packet: &[u8]) -> QueryRead
     let Some((name, question_len)) = question_at(packet) else {
         return bad(packet, FORMERR);
     };
-    if number_at(packet, 10) > 0 {
-        return bad(packet, NOTIMP);
+    let records = behind(packet, HEADER_LEN + question_len);
+    let opt = match opt_among(records, number_at(packet, 10)) {
+        Walked::Broken => return bad(packet, FORMERR),
+        Walked::Plain => return QueryRead::Query(query(packet, name, question_len, None)),
+        Walked::With(opt) => opt,
+    };
+    if version_of(opt) > 0 {
+        return QueryRead::BadVersion(query(packet, name, question_len, Some(edns_of(opt))));
     }
-    QueryRead::Query(query(packet, name, question_len))
+    if is_malformed(opt) {
+        return bad(packet, FORMERR);
+    }
+    QueryRead::Query(query(packet, name, question_len, Some(edns_of(opt))))
 }
 
 /// The kind of query (RFC 1035, 4.1.1).
@@ -79,6 +93,8 @@ fn bad(packet: &[u8], rcode: u8) -> QueryRead
 fn question_at(packet: &[u8]) -> Option<(Name, usize)>
     requires { 12 ≤ length packet.now }
     ensures some { IfSome result (λ r. Asks packet.now r.0 r.1) }
+    ensures only { IfSome result (λ r. (labels : List (List ℕ)) (n : ℕ)
+        → Asks packet.now labels n → n ≡ r.1) }
     ensures none { IfNone result (HasNoQuestion packet.now) }
 {
     let body = behind(packet, HEADER_LEN);
@@ -91,10 +107,10 @@ fn question_at(packet: &[u8]) -> Option<(Name, usize)>
     Some((name, name_len + 4))
 }
 
-/// The query of a packet with this question.
-fn query(packet: &[u8], name: Name, question_len: usize) -> Query
+/// The query of a packet with this question, whose OPT record tells this.
+fn query(packet: &[u8], name: Name, question_len: usize, edns: Option<Edns>) -> Query
     requires { Asks packet.now name question_len }
-    ensures { result ≡ query_of packet.now name question_len }
+    ensures { result ≡ query_of packet.now name question_len edns }
 {
     Query {
         id: number_at(packet, 0),
@@ -104,6 +120,7 @@ fn query(packet: &[u8], name: Name, question_len: usize) -> Query
         name,
         qtype: number_at(packet, 8 + question_len),
         qclass: number_at(packet, 10 + question_len),
+        edns,
     }
 }
 

@@ -7,10 +7,15 @@ use Rattle.std.proofs.lemmas.List.{take_at}
 use Rattle.std.proofs.lemmas.Grind.{flat_map-append}
 use Rattle.dns_wire.specs.declared.reply.Section.{Section}
 use Rattle.dns_wire.specs.declared.reply.Section.TheVariants.{Answer, Authority, Additional}
-use Rattle.dns_wire.specs.Draft.{Draft, Follows, HoldsAll, IsEmptied, StandsFor, size_of, with_record}
-use Rattle.dns_wire.specs.Steps.{counted, emptied, ended, header_of, limited, recorded}
+use Rattle.std.specs.Prelude.{Option, None, Some}
+use Rattle.std.specs.List.{flat_map}
+use Rattle.ecs_option.specs.declared.subnet.ClientSubnet.{ClientSubnet}
+use Rattle.dns_message.specs.declared.query.Edns.{Edns}
+use Rattle.dns_wire.specs.Draft.{Draft, Follows, HoldsAll, IsEmptied, StandsFor, opt_of, options_of, size_of, with_record}
+use Rattle.dns_wire.specs.Steps.{closed, counted, emptied, ended, header_of, limited, recorded}
 use Rattle.dns_wire.specs.Header.{header_octets}
-use Rattle.dns_wire.specs.Message.{Message, Record, cut, cut_header, record_octets, records_octets, records_of, whole, whole_header, wire}
+use Rattle.dns_wire.specs.Message as message
+use Rattle.dns_wire.specs.Message.{Message, Opt, Record, octets_of, opt_count, opt_octets, option_octets, record_octets, records_octets, records_of, wire, without_records}
 
 -- the records with one more
 more_records : (section : Section) (r : Record) (m : Message) → Follows section m
@@ -36,6 +41,7 @@ pub record OneMore (r : Record) (m more : Message) : Type 0 where
   pub rd : more.rd ≡ m.rd
   pub name : more.name ≡ m.name
   pub question : more.question ≡ m.question
+  pub opt : more.opt ≡ m.opt
   pub octets : records_octets more.name (records_of more) ≡ records_octets m.name (records_of m)
       ++ record_octets m.name r
   pub size : size_of more ≡ size_of m + length (record_octets m.name r)
@@ -57,6 +63,7 @@ one_more Answer r m f =
       rd = refl;
       name = refl;
       question = refl;
+      opt = refl;
       octets = octets;
       size =
           omega (
@@ -72,6 +79,7 @@ one_more Authority r m f =
       rd = refl;
       name = refl;
       question = refl;
+      opt = refl;
       octets = octets;
       size =
           omega (
@@ -87,6 +95,7 @@ one_more Additional r m f =
       rd = refl;
       name = refl;
       question = refl;
+      opt = refl;
       octets = octets;
       size =
           omega (
@@ -124,6 +133,7 @@ fits_more Answer r m d f s h fits =
       id = s.id;
       rd = s.rd;
       name = s.name;
+      opt = s.opt;
       question = s.question;
       records = inl (record {
         fits = fits;
@@ -140,6 +150,7 @@ fits_more Authority r m d f s h fits =
       id = s.id;
       rd = s.rd;
       name = s.name;
+      opt = s.opt;
       question = s.question;
       records = inl (record {
         fits = fits;
@@ -156,6 +167,7 @@ fits_more Additional r m d f s h fits =
       id = s.id;
       rd = s.rd;
       name = s.name;
+      opt = s.opt;
       question = s.question;
       records = inl (record {
         fits = fits;
@@ -204,12 +216,14 @@ drops_none m d s h = record {
 
 -- one without records, with one more
 none_more : (r : Record) (m more : Message) (d e : Draft) → OneMore r m more → StandsFor m d
-    → e.id ≡ d.id → e.rd ≡ d.rd → e.name ≡ d.name → e.question_end ≡ d.question_end
+    → e.id ≡ d.id → e.rd ≡ d.rd → e.name ≡ d.name → e.edns ≡ d.edns
+    → e.question_end ≡ d.question_end
     → e.room < size_of more → IsEmptied m e → StandsFor more e
-none_more r m more d e o s id rd name question longer h = record {
+none_more r m more d e o s id rd name edns question longer h = record {
   id = id ∙ s.id ∙ sym o.id;
   rd = rd ∙ s.rd ∙ sym o.rd;
   name = name ∙ s.name ∙ sym o.name;
+  opt = o.opt ∙ s.opt ∙ ap (λ x. opt_of x 0) (sym edns);
   question = question ∙ s.question ∙ ap (λ q. 12 + length q) (sym o.question);
   records = inr (record {
     longer = longer;
@@ -270,98 +284,145 @@ stands_on section r m d s f =
             | inr t ↦
                 subst (StandsFor (with_record section r m))
                 (sym (when_uncut section r d false h.uncut t.0))
-                (none_more r m (with_record section r m) d (emptied d) o s refl refl refl refl
+                (none_more r m (with_record section r m) d (emptied d) o s refl refl refl refl refl
                 (omega (arith, now, t.1)) (drops_all m d s h))
           ]
           )
       | inr h ↦
           subst (StandsFor (with_record section r m)) (sym (when_cut section r d h.emptied.is_cut))
-          (none_more r m (with_record section r m) d d o s refl refl refl refl
+          (none_more r m (with_record section r m) d d o s refl refl refl refl refl
           (omega (arith, h.longer, o.size)) h.emptied)
     ]
 
--- AA and RCODE come at the end
-done : Message → Bool → ℕ → Message
-done m aa rcode = record m { aa = aa; rcode = rcode }
+-- ---- the end
 
-pub whole_size : (m : Message) → length (whole m) ≡ size_of m
-whole_size m = omega (arith, length-append m.question (records_octets m.name (records_of m)))
+-- the octets of an OPT record are as many with any RCODE and scope
+options_size : (subnet : Option ClientSubnet) (scope other : ℕ)
+    → length (flat_map option_octets (options_of subnet scope))
+    ≡ length (flat_map option_octets (options_of subnet other))
+options_size None scope other = refl
+options_size (Some subnet) scope other = refl
 
-pub whole_wire : (m : Message) (limit : ℕ) → size_of m ≤ limit → wire m limit ≡ whole m
+pub opt_size : (edns : Option Edns) (rcode scope other other_scope : ℕ)
+    → length (opt_octets rcode (opt_of edns scope)) ≡ length (opt_octets other (opt_of edns other_scope))
+opt_size None rcode scope other other_scope = refl
+opt_size (Some edns) rcode scope other other_scope =
+    omega (arith, options_size edns.subnet scope other_scope)
+
+opt_counts : (edns : Option Edns) (scope other : ℕ) → opt_count (opt_of edns scope) ≡ opt_count (opt_of edns other)
+opt_counts None scope other = refl
+opt_counts (Some edns) scope other = refl
+
+-- AA, RCODE and the scope come at the end
+abbrev pub done : Message → Bool → (rcode : ℕ) → Option Opt → Message
+done m aa rcode opt = record m { aa = aa; rcode = rcode; opt = opt }
+
+pub whole_size : (tc : Bool) (m : Message)
+    → length (octets_of tc m) ≡ size_of m + length (opt_octets m.rcode m.opt)
+whole_size tc m =
+    omega (
+      arith,
+      length-append m.question (records_octets m.name (records_of m) ++ opt_octets m.rcode m.opt),
+      length-append (records_octets m.name (records_of m)) (opt_octets m.rcode m.opt),
+    )
+
+pub whole_wire : (m : Message) (limit : ℕ) → length (octets_of false m) ≤ limit
+    → wire m limit ≡ octets_of false m
 unfolding wire
 whole_wire m limit h =
-    ap (λ b. if b then whole m else cut m)
-    (le-leb (length (whole m)) limit (omega (arith, whole_size m)))
+    ap (λ b. if b then octets_of false m else octets_of true (without_records m))
+    (le-leb (length (octets_of false m)) limit h)
 
-pub cut_wire : (m : Message) (limit : ℕ) → limit < size_of m → wire m limit ≡ cut m
+pub cut_wire : (m : Message) (limit : ℕ) → limit < length (octets_of false m)
+    → wire m limit ≡ octets_of true (without_records m)
 unfolding wire
 cut_wire m limit h =
-    ap (λ b. if b then whole m else cut m)
-    (lt-leb (length (whole m)) limit (omega (arith, whole_size m)))
+    ap (λ b. if b then octets_of false m else octets_of true (without_records m))
+    (lt-leb (length (octets_of false m)) limit h)
+
+-- the octets behind the header
+behind_header : (d : Draft) (body opt : List ℕ) (aa : Bool) (rcode : ℕ) → d.bytes ≡ replicate 12 0 ++ body
+    → (ended (closed opt d) aa rcode).bytes ≡ header_octets (header_of d aa rcode) ++ (body ++ opt)
+behind_header d body opt aa rcode h =
+    ap (λ t. header_octets (header_of d aa rcode) ++ drop 12 (t ++ opt)) h
 
 -- the octets of one with all records, and of one without
-whole_octets : (m : Message) (d : Draft) (aa : Bool) (rcode : ℕ) → StandsFor m d → HoldsAll m d
-    → (ended d aa rcode).bytes ≡ whole (record m { aa = aa; rcode = rcode })
-whole_octets m d aa rcode s h =
+whole_octets : (m : Message) (d : Draft) (aa : Bool) (rcode scope : ℕ) → StandsFor m d → HoldsAll m d
+    → (ended (closed (opt_octets rcode (opt_of d.edns scope)) d) aa rcode).bytes
+    ≡ octets_of false (done m aa rcode (opt_of d.edns scope))
+whole_octets m d aa rcode scope s h =
     let a = s.id in
     let b = s.rd in
     let c = h.uncut in
     let e = h.answers in
     let f = h.authorities in
     let g = h.additionals in
-    let header : header_of d aa rcode ≡ whole_header (record m { aa = aa; rcode = rcode }) = cc in
-    ap (λ t. header_octets t ++ drop 12 d.bytes) header
-    ∙ ap (λ t. header_octets (whole_header (record m { aa = aa; rcode = rcode }))
-    ++ t) (ap (drop 12) h.bytes)
+    let i = opt_counts d.edns 0 scope in
+    let opt = opt_octets rcode (opt_of d.edns scope) in
+    let header : header_of d aa rcode ≡ message.header_of false (done m aa rcode (opt_of d.edns scope)) = cc in
+    behind_header d (m.question ++ records_octets m.name (records_of m)) opt aa rcode h.bytes
+    ∙ ap (λ t. header_octets t ++ ((m.question ++ records_octets m.name (records_of m)) ++ opt)) header
+    ∙ ap (λ t. header_octets (message.header_of false (done m aa rcode (opt_of d.edns scope))) ++ t)
+    (append_assoc m.question (records_octets m.name (records_of m)) opt)
 
-cut_octets : (m : Message) (d : Draft) (aa : Bool) (rcode : ℕ) → d.id ≡ m.id → d.rd ≡ m.rd
-    → IsEmptied m d → (ended d aa rcode).bytes ≡ cut (record m { aa = aa; rcode = rcode })
-cut_octets m d aa rcode a b h =
+cut_octets : (m : Message) (d : Draft) (aa : Bool) (rcode scope : ℕ) → d.id ≡ m.id → d.rd ≡ m.rd
+    → IsEmptied m d
+    → (ended (closed (opt_octets rcode (opt_of d.edns scope)) d) aa rcode).bytes
+    ≡ octets_of true (without_records (done m aa rcode (opt_of d.edns scope)))
+cut_octets m d aa rcode scope a b h =
     let c = h.is_cut in
     let e = h.answers in
     let f = h.authorities in
     let g = h.additionals in
-    let header : header_of d aa rcode ≡ cut_header (record m { aa = aa; rcode = rcode }) = cc in
-    ap (λ t. header_octets t ++ drop 12 d.bytes) header
-    ∙ ap (λ t. header_octets (cut_header (record m { aa = aa; rcode = rcode }))
-    ++ t) (ap (drop 12) h.bytes)
+    let i = opt_counts d.edns 0 scope in
+    let opt = opt_octets rcode (opt_of d.edns scope) in
+    let cut = without_records (done m aa rcode (opt_of d.edns scope)) in
+    let header : header_of d aa rcode ≡ message.header_of true cut = cc in
+    behind_header d m.question opt aa rcode h.bytes
+    ∙ ap (λ t. header_octets t ++ (m.question ++ opt)) header
 
 -- what the limit leaves
-within_limit : (limit : ℕ) (d : Draft) → length d.bytes ≤ limit → limited limit d ≡ d
-within_limit limit d h = ap (λ b. if b then d else emptied d) (le-leb (length d.bytes) limit h)
+within_limit : (limit more : ℕ) (d : Draft) → length d.bytes + more ≤ limit → limited limit more d ≡ d
+within_limit limit more d h =
+    ap (λ b. if b then d else emptied d) (le-leb (length d.bytes + more) limit h)
 
-over_limit : (limit : ℕ) (d : Draft) → limit < length d.bytes → limited limit d ≡ emptied d
-over_limit limit d h = ap (λ b. if b then d else emptied d) (lt-leb (length d.bytes) limit h)
+over_limit : (limit more : ℕ) (d : Draft) → limit < length d.bytes + more
+    → limited limit more d ≡ emptied d
+over_limit limit more d h =
+    ap (λ b. if b then d else emptied d) (lt-leb (length d.bytes + more) limit h)
 
 -- At the end it is the reply's octets.
-pub ends : (m : Message) (d : Draft) (aa : Bool) (rcode limit : ℕ) → StandsFor m d → limit ≤ d.room
-    → (ended (limited limit d) aa rcode).bytes ≡ wire (record m { aa = aa; rcode = rcode }) limit
-ends m d aa rcode limit s room =
+pub ends : (m : Message) (d : Draft) (aa : Bool) (rcode limit scope : ℕ) → StandsFor m d → limit ≤ d.room
+    → (ended (closed (opt_octets rcode (opt_of d.edns scope))
+    (limited limit (length (opt_octets rcode (opt_of d.edns scope))) d)) aa rcode).bytes
+    ≡ wire (done m aa rcode (opt_of d.edns scope)) limit
+ends m d aa rcode limit scope s room =
+    let opt = opt_octets rcode (opt_of d.edns scope) in
+    let more = length opt in
+    let goal = done m aa rcode (opt_of d.edns scope) in
+    let size : length (octets_of false goal) ≡ size_of m + more = whole_size false goal in
     elim s.records [
-      | inl h ↦ elim (leb_tells (length d.bytes) limit) [
+      | inl h ↦ elim (leb_tells (length d.bytes + more) limit) [
         | inl t ↦
-            (let e : limited limit d ≡ d = within_limit limit d t.1 in
-            ap (λ x. (ended x aa rcode).bytes) e ∙ whole_octets m d aa rcode s h
-            ∙ sym (whole_wire (record m { aa = aa; rcode = rcode }) limit
-            (omega (arith, size_now m d h, t.1))))
+            (let e : limited limit more d ≡ d = within_limit limit more d t.1 in
+            ap (λ x. (ended (closed opt x) aa rcode).bytes) e ∙ whole_octets m d aa rcode scope s h
+            ∙ sym (whole_wire goal limit (omega (arith, size, size_now m d h, t.1))))
         | inr t ↦
-            (let e : limited limit d ≡ emptied d = over_limit limit d t.1 in
-            ap (λ x. (ended x aa rcode).bytes) e
-            ∙ cut_octets m (emptied d) aa rcode s.id s.rd (drops_all m d s h)
-            ∙ sym (cut_wire (record m { aa = aa; rcode = rcode }) limit
-            (omega (arith, size_now m d h, t.1))))
+            (let e : limited limit more d ≡ emptied d = over_limit limit more d t.1 in
+            ap (λ x. (ended (closed opt x) aa rcode).bytes) e
+            ∙ cut_octets m (emptied d) aa rcode scope s.id s.rd (drops_all m d s h)
+            ∙ sym (cut_wire goal limit (omega (arith, size, size_now m d h, t.1))))
       ]
-      | inr h ↦ elim (leb_tells (length d.bytes) limit) [
+      | inr h ↦ elim (leb_tells (length d.bytes + more) limit) [
         | inl t ↦
-            (let e : limited limit d ≡ d = within_limit limit d t.1 in
-            ap (λ x. (ended x aa rcode).bytes) e ∙ cut_octets m d aa rcode s.id s.rd h.emptied
-            ∙ sym (cut_wire (record m { aa = aa; rcode = rcode }) limit
-            (omega (arith, h.longer, room))))
+            (let e : limited limit more d ≡ d = within_limit limit more d t.1 in
+            ap (λ x. (ended (closed opt x) aa rcode).bytes) e
+            ∙ cut_octets m d aa rcode scope s.id s.rd h.emptied
+            ∙ sym (cut_wire goal limit (omega (arith, size, h.longer, room))))
         | inr t ↦
-            (let e : limited limit d ≡ emptied d = over_limit limit d t.1 in
-            ap (λ x. (ended x aa rcode).bytes) e
-            ∙ cut_octets m (emptied d) aa rcode s.id s.rd (drops_none m d s h.emptied)
-            ∙ sym (cut_wire (record m { aa = aa; rcode = rcode }) limit
-            (omega (arith, h.longer, room))))
+            (let e : limited limit more d ≡ emptied d = over_limit limit more d t.1 in
+            ap (λ x. (ended (closed opt x) aa rcode).bytes) e
+            ∙ cut_octets m (emptied d) aa rcode scope s.id s.rd (drops_none m d s h.emptied)
+            ∙ sym (cut_wire goal limit (omega (arith, size, h.longer, room))))
       ]
     ]

@@ -1,8 +1,8 @@
+pub mod OptRecord
 pub mod Drafts
 pub mod Fields
 pub mod Names
 pub mod Once
 pub mod Pieces
-pub mod Questions
 pub mod Reading
 pub mod Vectors

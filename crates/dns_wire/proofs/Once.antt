@@ -1,6 +1,6 @@
 -- A message is read as one reply.
-use Rattle.std.proofs.Common.{◌≡◌, ℕ, suc, ◌+◌, ◌*◌, ◌/◌, ◌%◌, List, [], ◌∷◌, ◌++◌, length, map, take, drop, get_or, ap, ◌∙◌, sym, refl, subst, arith, inl, inr, Bool}
-use Rattle.std.specs.Prelude.{◌⊎◌, ◌==◌, if◌then◌else◌}
+use Rattle.std.proofs.Common.{ap₂, length-take, get_or-drop, ◌≡◌, ℕ, suc, ◌+◌, ◌*◌, ◌/◌, ◌%◌, List, [], ◌∷◌, ◌++◌, length, map, take, drop, get_or, ap, ◌∙◌, sym, refl, subst, arith, inl, inr, Bool}
+use Rattle.std.specs.Prelude.{◌⊎◌, ◌==◌, Option, None, Some, if◌then◌else◌}
 use Rattle.std.specs.Char.{to_ascii_lowercase}
 use Rattle.std.proofs.lemmas.List.{take_at, drop_at}
 use Rattle.octets.specs.Numbers.{number_at}
@@ -11,9 +11,11 @@ use Rattle.rdata_layout.specs.declared.fields.Field.{Field}
 use Rattle.rdata_layout.specs.declared.fields.Field.TheVariants as field
 use Rattle.rdata_layout.specs.Layout.{fields_of}
 use Rattle.rdata_layout.specs.Types.{number_of}
+use Rattle.dns_message.specs.Edns.{AreOptions, EdnsOption, dnssec_ok_of}
+use Rattle.dns_message.specs.Laws.{OneListOfOptions, OneRecord}
 use Rattle.dns_wire.specs.Laws.{OneReading}
-use Rattle.dns_wire.specs.Message.{Message, Record}
-use Rattle.dns_wire.specs.Reading.{DataAt, FieldAt, FieldsAt, NameAt, PlainAt, RecordAt, RecordsAt, Stands, pointer_octets}
+use Rattle.dns_wire.specs.Message.{Message, Opt, Record, opt_count}
+use Rattle.dns_wire.specs.Reading.{DataAt, FieldAt, FieldsAt, NameAt, OptAt, OptOrEnd, PlainAt, RecordAt, RecordsAt, Stands, lower_rcode_of, pointer_octets}
 use Rattle.dns_wire.specs.Reading.NameAt.{ends, goes_on, points}
 
 -- the type of a number
@@ -41,6 +43,30 @@ type_back Caa = refl
 
 one_number : (rtype other : RType) → number_of rtype ≡ number_of other → rtype ≡ other
 one_number rtype other e = sym (type_back rtype) ∙ (ap type_of e ∙ type_back other)
+
+-- no type of ours has the number of OPT
+not_ours : (rtype : RType) → number_of rtype ≡ 41 → ⊥
+not_ours A e = omega (arith, e)
+not_ours Ns e = omega (arith, e)
+not_ours Cname e = omega (arith, e)
+not_ours Soa e = omega (arith, e)
+not_ours Ptr e = omega (arith, e)
+not_ours Mx e = omega (arith, e)
+not_ours Txt e = omega (arith, e)
+not_ours Aaaa e = omega (arith, e)
+not_ours Srv e = omega (arith, e)
+not_ours Spf e = omega (arith, e)
+not_ours Caa e = omega (arith, e)
+
+first_octet : (d : List ℕ) (x : ℕ) → take 1 d ≡ x ∷ [] → get_or d 0 0 ≡ x
+first_octet [] x e = absurd (let z : 0 ≡ 1 = ap length e in omega (arith, z))
+first_octet (y ∷ ys) x e = ap (λ l. get_or l 0 0) e
+
+two_more : (place : ℕ) → place + 2 ≡ place + 1 + 1
+two_more place = omega arith
+
+abbrev opt_from : (size : ℕ) → Bool → List EdnsOption → Opt
+opt_from size dnssec_ok options = record { size = size; dnssec_ok = dnssec_ok; options = options }
 
 module _ (message : List ℕ) where
   from_place : (place : ℕ) (piece : List ℕ) (s : Stands message place piece)
@@ -295,11 +321,96 @@ module _ (message : List ℕ) where
       (subst (λ n. RecordsAt message n qs other) (sym first.1) its_more) in
       (ap (λ x. x ∷ rs) first.0 ∙ ap (λ xs. q ∷ xs) later.0, later.1)
 
+  -- ---- the OPT record
+
+  -- where one section has one record more, that stands where the other ends
+  one_beyond : (place : ℕ) (rs qs : List Record) (end other : ℕ) → length qs ≡ length rs + 1
+      → RecordsAt message place rs end → RecordsAt message place qs other
+      → (q : Record) × (next : ℕ) × RecordAt message end q next
+  one_beyond place rs [] end other many h g = absurd (omega (arith, many))
+  one_beyond place [] (q ∷ qs) end other many h (next, at, more) =
+      (q, next, subst (λ p. RecordAt message p q next) (sym h) at)
+  one_beyond place (r ∷ rs) (q ∷ qs) end other many (next, at, more) (its_next, its_at, its_more) =
+      let first = one_record place r q next its_next at its_at in
+      one_beyond next rs qs end other (omega (arith, many)) more
+      (subst (λ n. RecordsAt message n qs other) (sym first.1) its_more)
+
+  -- a name that begins with a zero octet ends behind it
+  root_ends : (place : ℕ) (labels : List (List ℕ)) (next : ℕ) → get_or (drop place message) 0 0 ≡ 0
+      → Step place labels next → next ≡ place + 1
+  root_ends place labels next zero (inl (none, end, t)) = end
+  root_ends place labels next zero (inr (inl (label, rest, raw, t, e, more))) =
+      let head : get_or (drop place message) 0 0 ≡ length label =
+      ap (λ l. get_or l 0 0) (from_place place (frame label) t) in
+      let some = raw.filled in
+      absurd (omega (arith, head, zero, some))
+  root_ends place labels next zero (inr (inr (target, behind, t, more, e))) =
+      let head : get_or (drop place message) 0 0 ≡ 192 + target / 256 =
+      ap (λ l. get_or l 0 0) (from_place place (pointer_octets target) t) in
+      absurd (omega (arith, head, zero))
+
+  -- no record of a type of ours stands where an OPT record does
+  never_both : (place : ℕ) (opt : Opt) (upper : ℕ) (q : Record) (next : ℕ) → OptAt message place opt upper
+      → RecordAt message place q next → ⊥
+  never_both place opt upper q next o h =
+      let d = drop place message in
+      let owner : take o.there.owner_len d ≡ 0 ∷ [] = sym (ap (λ r. r.owner) o.there.fields) ∙ o.owner in
+      let len : o.there.owner_len ≡ 1 =
+      omega (arith, ap length owner, length-take o.there.owner_len d, o.there.sized, o.there.whole) in
+      let root : take 1 d ≡ 0 ∷ [] = ap (λ n. take n d) (sym len) ∙ owner in
+      let zero : get_or d 0 0 ≡ 0 = first_octet d 0 root in
+      let behind : h.behind ≡ place + 1 =
+      root_ends place q.owner h.behind zero (step_of place q.owner h.behind h.owner) in
+      let there : number_at d 1 ≡ 41 =
+      ap (number_at d) (sym len) ∙ sym (ap (λ r. r.rtype) o.there.fields) ∙ o.rtype in
+      let here : number_at message (place + 1) ≡ number_of q.rtype =
+      ap (number_at message) (sym behind) ∙ h.rtype in
+      let same : number_at d 1 ≡ number_at message (place + 1) =
+      ap₂ (λ a b. a * 256 + b) (get_or-drop place message 1 0)
+      (get_or-drop place message 2 0 ∙ ap (λ i. get_or message i 0) (two_more place)) in
+      not_ours q.rtype (sym here ∙ sym same ∙ there)
+
+  module _ (one_there : OneRecord) (one_list_there : OneListOfOptions) where
+    one_opt : (place upper other_upper : ℕ) (a b : Opt) → OptAt message place a upper
+        → OptAt message place b other_upper → (a ≡ b) × (upper ≡ other_upper)
+    one_opt place upper other_upper a b h g =
+        let same = (one_there (drop place message) h.as_record g.as_record h.size g.size h.there g.there).0 in
+        let size : a.size ≡ b.size = sym h.payload ∙ ap (λ r. r.class) same ∙ g.payload in
+        let flag : a.dnssec_ok ≡ b.dnssec_ok = sym h.dnssec_ok ∙ ap dnssec_ok_of same ∙ g.dnssec_ok in
+        let options : a.options ≡ b.options =
+        one_list_there h.as_record.rdata a.options b.options h.options
+        (subst (λ r. AreOptions r.rdata b.options) (sym same) g.options) in (
+          ap (λ n. opt_from n a.dnssec_ok a.options) size ∙ (ap (λ f. opt_from b.size f a.options) flag
+              ∙ ap (opt_from b.size b.dnssec_ok) options),
+          sym h.upper_is ∙ ap (λ r. r.ttl / 16777216) same ∙ g.upper_is,
+        )
+
+    -- The additional section and the OPT record together, of which the numbers are one.
+    one_rest : (place end other upper other_upper : ℕ) (rs qs : List Record) (a b : Option Opt)
+        → length rs + opt_count a ≡ length qs + opt_count b
+        → RecordsAt message place rs end → RecordsAt message place qs other
+        → OptOrEnd message end a upper → OptOrEnd message other b other_upper
+        → (rs ≡ qs) × (a ≡ b) × (upper ≡ other_upper)
+    one_rest place end other upper other_upper rs qs None None many h g o p =
+        let section = one_section place rs qs end other (omega (arith, many)) h g in
+        (section.0, refl, o.1 ∙ sym p.1)
+    one_rest place end other upper other_upper rs qs None (Some b) many h g o p =
+        let beyond = one_beyond place qs rs other end (omega (arith, many)) g h in
+        absurd (never_both other b other_upper beyond.0 beyond.1 p beyond.2)
+    one_rest place end other upper other_upper rs qs (Some a) None many h g o p =
+        let beyond = one_beyond place rs qs end other (omega (arith, many)) h g in
+        absurd (never_both end a upper beyond.0 beyond.1 o beyond.2)
+    one_rest place end other upper other_upper rs qs (Some a) (Some b) many h g o p =
+        let section = one_section place rs qs end other (omega (arith, many)) h g in
+        let opt = one_opt end upper other_upper a b o
+        (subst (λ n. OptAt message n b other_upper) (sym section.1) p) in
+        (section.0, ap Some opt.0, opt.1)
+
 -- ---- the whole message
 
 abbrev message_of : (id : ℕ) (aa rd : Bool) (rcode : ℕ) → List (List ℕ) → List ℕ
-    → (answers authorities additionals : List Record) → Message
-message_of id aa rd rcode name question answers authorities additionals =
+    → (answers authorities additionals : List Record) → Option Opt → Message
+message_of id aa rd rcode name question answers authorities additionals opt =
     record {
       id = id;
       aa = aa;
@@ -311,10 +422,11 @@ message_of id aa rd rcode name question answers authorities additionals =
           answers;
       authorities = authorities;
       additionals = additionals;
+      opt = opt;
     }
 
-pub one_reading : OneReading
-one_reading message truncated other_truncated m n h g = (sym h.tc ∙ g.tc, whole)
+pub one_reading : OneRecord → OneListOfOptions → OneReading
+one_reading one_there one_list_there message truncated other_truncated m n h g = (sym h.tc ∙ g.tc, whole)
   where
     names : (m.name ≡ n.name) × (h.name_end ≡ g.name_end)
     names = one_name message 12 m.name h.name_end h.name n.name g.name_end g.name
@@ -339,30 +451,36 @@ one_reading message truncated other_truncated m n h g = (sym h.tc ∙ g.tc, whol
         (subst (λ k. RecordsAt message k n.authorities g.authorities_end) (sym answers.1)
         g.authorities)
 
-    additionals : (m.additionals ≡ n.additionals) × (length message ≡ length message)
-    additionals =
-        one_section message h.authorities_end m.additionals n.additionals (length message)
-        (length message) (sym h.additional_count ∙ g.additional_count) h.additionals
-        (subst (λ k. RecordsAt message k n.additionals (length message)) (sym authorities.1)
-        g.additionals)
+    rest : (m.additionals ≡ n.additionals) × (m.opt ≡ n.opt) × (h.upper ≡ g.upper)
+    rest =
+        one_rest message one_there one_list_there h.authorities_end h.additionals_end g.additionals_end
+        h.upper g.upper m.additionals n.additionals m.opt n.opt
+        (sym h.additional_count ∙ g.additional_count) h.additionals
+        (subst (λ k. RecordsAt message k n.additionals g.additionals_end) (sym authorities.1)
+        g.additionals) h.opt g.opt
+
+    rcode : m.rcode ≡ n.rcode
+    rcode = h.rcode ∙ ap (λ u. u * 16 + lower_rcode_of message) rest.2 ∙ sym g.rcode
 
     whole : m ≡ n
     whole =
         ap (λ x. message_of x m.aa m.rd m.rcode m.name m.question m.answers m.authorities
-        m.additionals) (sym h.id ∙ g.id)
+        m.additionals m.opt) (sym h.id ∙ g.id)
         ∙ (ap (λ x. message_of n.id x m.rd m.rcode m.name m.question m.answers m.authorities
-        m.additionals) (sym h.aa ∙ g.aa)
+        m.additionals m.opt) (sym h.aa ∙ g.aa)
         ∙ (ap (λ x. message_of n.id n.aa x m.rcode m.name m.question m.answers m.authorities
-        m.additionals) (sym h.rd ∙ g.rd)
+        m.additionals m.opt) (sym h.rd ∙ g.rd)
         ∙ (ap (λ x. message_of n.id n.aa n.rd x m.name m.question m.answers m.authorities
-        m.additionals) (sym h.rcode ∙ g.rcode)
+        m.additionals m.opt) rcode
         ∙ (ap (λ x. message_of n.id n.aa n.rd n.rcode x m.question m.answers m.authorities
-        m.additionals) names.0
+        m.additionals m.opt) names.0
         ∙ (ap (λ x. message_of n.id n.aa n.rd n.rcode n.name x m.answers m.authorities
-        m.additionals) question
+        m.additionals m.opt) question
         ∙ (ap (λ x. message_of n.id n.aa n.rd n.rcode n.name n.question x m.authorities
-        m.additionals) answers.0
-        ∙ (ap (λ x. message_of n.id n.aa n.rd n.rcode n.name n.question n.answers x m.additionals)
-        authorities.0
-        ∙ ap (λ x. message_of n.id n.aa n.rd n.rcode n.name n.question n.answers n.authorities x)
-        additionals.0)))))))
+        m.additionals m.opt) answers.0
+        ∙ (ap (λ x. message_of n.id n.aa n.rd n.rcode n.name n.question n.answers x
+        m.additionals m.opt) authorities.0
+        ∙ (ap (λ x. message_of n.id n.aa n.rd n.rcode n.name n.question n.answers n.authorities x
+        m.opt) rest.0
+        ∙ ap (λ x. message_of n.id n.aa n.rd n.rcode n.name n.question n.answers n.authorities
+        n.additionals x) rest.1))))))))

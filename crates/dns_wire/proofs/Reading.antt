@@ -23,12 +23,14 @@ use Rattle.rdata_layout.specs.Types.{number_of}
 use Rattle.dns_wire.specs.Data.{data_octets, field_octets, fields_octets}
 use Rattle.rdata_layout.specs.Fields.{field_size}
 use Rattle.dns_wire.specs.Header.{bit_of, header_octets}
-use Rattle.dns_wire.specs.Laws.{CutRepliesRead, IsProper, IsQuestion, WholeRepliesRead, without_records}
-use Rattle.dns_wire.specs.Message.{Message, cut, cut_header, Record, fixed_octets, record_octets, records_octets, records_of, whole, whole_header}
+use Rattle.dns_message.specs.Question.{IsQuestion}
+use Rattle.dns_wire.specs.Laws.{CutRepliesRead, HasRcode, IsProper, WholeRepliesRead}
+use Rattle.dns_wire.specs.Message.{Message, Opt, Record, fixed_octets, header_of, octets_of, opt_count, opt_octets, record_octets, records_octets, records_of, without_records}
 use Rattle.dns_wire.specs.Pointers.{as_pointer, name_octets, place_in, pointer_to}
-use Rattle.dns_wire.specs.Reading.{DataAt, FieldAt, FieldsAt, NameAt, Reads, RecordAt, RecordsAt, Stands, pointer_octets}
+use Rattle.dns_wire.specs.Reading.{DataAt, FieldAt, FieldsAt, NameAt, OptOrEnd, Reads, RecordAt, RecordsAt, Stands, pointer_octets}
 use Rattle.dns_wire.specs.Reading.NameAt.{ends, goes_on, points}
-use Rattle.dns_wire.proofs.Drafts.{cut_wire, whole_size, whole_wire}
+use Rattle.dns_wire.proofs.Drafts.{cut_wire, whole_wire}
+use Rattle.dns_wire.proofs.OptRecord.{opt_at}
 use Rattle.dns_wire.proofs.Fields.{size_is}
 
 -- Pieces of what stands at a place.
@@ -373,19 +375,25 @@ asked_at message name question q s =
     stands_first message 12 (name_wire q.raw) q.type_and_class
     (subst (Stands message 12) q.spelled s)
 
-whole_reads : (m : Message) → m.rcode < 16 → IsQuestion m.name m.question
-    → AllByRecursion IsProper (records_of m) → Reads (whole m) false m
-whole_reads m small q proper =
-    let message = whole m in
+-- what is read of RCODE
+rcode_back : (rcode : ℕ) → rcode ≡ rcode / 16 * 16 + rcode % 16 % 16
+rcode_back rcode = omega arith
+
+opt_or_end : (message : List ℕ) (place rcode : ℕ) (opt : Option Opt) → HasRcode rcode opt
+    → Stands message place (opt_octets rcode opt) → place + length (opt_octets rcode opt) ≡ length message
+    → OptOrEnd message place opt (rcode / 16)
+opt_or_end message place rcode None small s end = (omega (arith, end), omega (arith, small))
+opt_or_end message place rcode (Some opt) small s end = opt_at message place rcode opt s end
+
+reads_back : (tc : Bool) (m : Message) → HasRcode m.rcode m.opt → IsQuestion m.name m.question
+    → AllByRecursion IsProper (records_of m) → Reads (octets_of tc m) tc m
+reads_back tc m small q proper =
+    let message = octets_of tc m in
+    let header = header_octets (header_of tc m) in
     let records = records_octets m.name (records_of m) in
+    let opt = opt_octets m.rcode m.opt in
     let question : Stands message 12 m.question =
-    record {
-      front = header_octets (whole_header m);
-      rest = records;
-      size = refl;
-      there =
-          refl;
-    } in
+    record { front = header; rest = records ++ opt; size = refl; there = refl } in
     let asked : Stands message 12 (name_wire q.raw) =
     asked_at message m.name m.question q question in
     let start = 12 + length m.question in
@@ -400,30 +408,22 @@ whole_reads m small q proper =
     ∙ flat_map-append (record_octets (lowered q.raw)) m.answers others
     ∙ ap (λ t. one
     ++ t) (flat_map-append (record_octets (lowered q.raw)) m.authorities m.additionals) in
-    let all : Stands message start records = record {
-      front = header_octets (whole_header m) ++ m.question;
+    let all : Stands message start (records ++ opt) = record {
+      front = header ++ m.question;
       rest = [];
       size = omega arith;
-      there = ap (λ t. header_octets (whole_header m)
-          ++ (m.question ++ t)) (sym (append-nil records));
+      there = ap (λ t. header ++ (m.question ++ t)) (sym (append-nil (records ++ opt)));
     } in
     let first : Stands message start (one ++ (two ++ three)) =
-    subst (Stands message start) parts all in
+    subst (Stands message start) parts (stands_first message start records opt all) in
+    let last : Stands message (start + length records) opt = stands_second message start records opt all in
     let second = stands_second message start one (two ++ three) first in
     let third = stands_second message (start + length one) two three second in
-    let front = flags_read m.aa false m.rd in
-    let end : start + length one + length two + length three ≡ length message =
-    omega (
-      arith,
-      length-append m.question records,
-      ap length parts,
-      length-append one (two ++ three),
-      length-append two three,
-    ) in
-    let last =
-    records_at message q.raw q.labels.each asked m.additionals (start + length one + length two)
-    (omega (arith, long))
-    (all_back m.authorities m.additionals (all_back m.answers others proper)) third in
+    let front = flags_read m.aa tc m.rd in
+    let end : start + length records + length opt ≡ length message =
+    omega (arith, length-append m.question (records ++ opt), length-append records opt) in
+    let sum : start + length records ≡ start + length one + length two + length three =
+    omega (arith, ap length parts, length-append one (two ++ three), length-append two three) in
     record {
       id = two_back m.id;
       response = front.response;
@@ -431,11 +431,10 @@ whole_reads m small q proper =
       aa = front.aa_is;
       tc = front.tc_is;
       rd = front.rd_is;
-      rcode = omega (arith, small);
       questions = refl;
       answer_count = two_back (length m.answers);
       authority_count = two_back (length m.authorities);
-      additional_count = two_back (length m.additionals);
+      additional_count = two_back (length m.additionals + opt_count m.opt);
       name_end = 12 + length (name_wire q.raw);
       name = subst (λ n. NameAt message 12 n (12 + length (name_wire q.raw))) (sym q.same)
           (whole_at message q.raw 12 q.labels.each asked);
@@ -443,6 +442,7 @@ whole_reads m small q proper =
       type_and_class = omega (arith, long);
       answers_end = start + length one;
       authorities_end = start + length one + length two;
+      additionals_end = start + length one + length two + length three;
       answers =
           records_at message q.raw q.labels.each asked m.answers start (omega (arith, long))
           (all_front m.answers others proper) (stands_first message start one (two ++ three) first);
@@ -452,57 +452,21 @@ whole_reads m small q proper =
           (all_front m.authorities m.additionals (all_back m.answers others proper))
           (stands_first message (start + length one) two three second);
       additionals =
-          subst (λ n. RecordsAt message (start + length one + length two) m.additionals n) end last;
+          records_at message q.raw q.labels.each asked m.additionals (start + length one + length two)
+          (omega (arith, long))
+          (all_back m.authorities m.additionals (all_back m.answers others proper)) third;
+      upper = m.rcode / 16;
+      opt = subst (λ p. OptOrEnd message p m.opt (m.rcode / 16)) sum
+          (opt_or_end message (start + length records) m.rcode m.opt small last end);
+      rcode = rcode_back m.rcode;
     }
 
 pub whole_replies_read : WholeRepliesRead
 whole_replies_read m limit fits small q proper =
-    subst (λ octets. Reads octets false m)
-    (sym (whole_wire m limit (omega (arith, fits, whole_size m))))
-    (whole_reads m small q proper)
-
-cut_reads : (m : Message) → m.rcode < 16 → IsQuestion m.name m.question
-    → Reads (cut m) true (without_records m)
-cut_reads m small q =
-    let message = cut m in
-    let question : Stands message 12 m.question =
-    record {
-      front = header_octets (cut_header m);
-      rest = [];
-      size = refl;
-      there =
-          ap (λ t. header_octets (cut_header m) ++ t) (sym (append-nil m.question));
-    } in
-    let asked : Stands message 12 (name_wire q.raw) =
-    asked_at message m.name m.question q question in
-    let long : length m.question ≡ length (name_wire q.raw) + 4 = ap length q.spelled
-    ∙ length-append (name_wire q.raw) q.type_and_class ∙ omega (arith, q.four) in
-    let front = flags_read m.aa true m.rd in
-    record {
-      id = two_back m.id;
-      response = front.response;
-      opcode = front.opcode;
-      aa = front.aa_is;
-      tc = front.tc_is;
-      rd = front.rd_is;
-      rcode = omega (arith, small);
-      questions = refl;
-      answer_count = refl;
-      authority_count = refl;
-      additional_count = refl;
-      name_end = 12 + length (name_wire q.raw);
-      name = subst (λ n. NameAt message 12 n (12 + length (name_wire q.raw))) (sym q.same)
-          (whole_at message q.raw 12 q.labels.each asked);
-      question = question;
-      type_and_class = omega (arith, long);
-      answers_end = 12 + length m.question;
-      authorities_end = 12 + length m.question;
-      answers = refl;
-      authorities = refl;
-      additionals = omega arith;
-    }
+    subst (λ octets. Reads octets false m) (sym (whole_wire m limit fits))
+    (reads_back false m small q proper)
 
 pub cut_replies_read : CutRepliesRead
 cut_replies_read m limit longer small q =
-    subst (λ octets. Reads octets true (without_records m))
-    (sym (cut_wire m limit (omega (arith, longer, whole_size m)))) (cut_reads m small q)
+    subst (λ octets. Reads octets true (without_records m)) (sym (cut_wire m limit longer))
+    (reads_back true (without_records m) small q tt)

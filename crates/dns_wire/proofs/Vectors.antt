@@ -1,11 +1,13 @@
 -- Replies as published servers write them, octet by octet.
 use Rattle.std.proofs.Common.{◌≡◌, ℕ, List, [], ◌∷◌, ◌++◌, refl, true, false}
-use Rattle.std.specs.Prelude.{codes}
+use Rattle.std.specs.Prelude.{codes, None, Some}
+use Rattle.dns_message.specs.declared.query.Edns.{Edns}
 use Rattle.octets.specs.Numbers.{four_octets}
 use Rattle.dns_name.specs.Labels.{wire as name_wire}
 use Rattle.rdata_layout.specs.declared.types.RType.TheVariants.{A, Ns, Soa, Mx, Srv}
 use Rattle.dns_wire.specs.Header.{short_reply}
-use Rattle.dns_wire.specs.Message.{wire}
+use Rattle.dns_wire.specs.Draft.{opt_of}
+use Rattle.dns_wire.specs.Message.{opt_octets, wire}
 use Rattle.dns_wire.specs.Data.{data_octets}
 use Rattle.dns_wire.specs.Pointers.{name_octets}
 
@@ -70,6 +72,7 @@ pub address : wire (record {
       ∷ [];
   authorities = [];
   additionals = [];
+  opt = None;
 }) 512 ≡ 0x12 ∷ 0x34 ∷ 0x85 ∷ 0x00 ∷ 0 ∷ 1 ∷ 0 ∷ 1 ∷ 0 ∷ 0 ∷ 0 ∷ 0
     ∷ 1 ∷ 0x61 ∷ 0 ∷ 0 ∷ 1 ∷ 0 ∷ 1
     ∷ 0xC0 ∷ 0x0C ∷ 0 ∷ 1 ∷ 0 ∷ 1 ∷ 0 ∷ 0 ∷ 0x01 ∷ 0x2C ∷ 0 ∷ 4 ∷ 192 ∷ 0 ∷ 2 ∷ 1 ∷ []
@@ -88,6 +91,7 @@ pub cut_address : wire (record {
       ∷ [];
   authorities = [];
   additionals = [];
+  opt = None;
 }) 34 ≡ 0x12 ∷ 0x34 ∷ 0x87 ∷ 0x00 ∷ 0 ∷ 1 ∷ 0 ∷ 0 ∷ 0 ∷ 0 ∷ 0 ∷ 0 ∷ 1 ∷ 0x61 ∷ 0 ∷ 0 ∷ 1 ∷ 0 ∷ 1
     ∷ []
 unfolding wire
@@ -104,6 +108,7 @@ pub refused : wire (record {
   answers = [];
   authorities = [];
   additionals = [];
+  opt = None;
 }) 512 ≡ 0 ∷ 1 ∷ 0x80 ∷ 0x05 ∷ 0 ∷ 1 ∷ 0 ∷ 0 ∷ 0 ∷ 0 ∷ 0 ∷ 0 ∷ 0 ∷ 0 ∷ 1 ∷ 0 ∷ 1 ∷ []
 unfolding wire
 refused = refl
@@ -128,6 +133,7 @@ pub no_such_name : wire (record {
         ++ four_octets 86400));
   } ∷ [];
   additionals = [];
+  opt = None;
 }) 512 ≡ 0x12 ∷ 0x34 ∷ 0x85 ∷ 3 ∷ 0 ∷ 1 ∷ 0 ∷ 0 ∷ 0 ∷ 1 ∷ 0 ∷ 0
     ∷ 4 ∷ 0x6E ∷ 0x6F ∷ 0x70 ∷ 0x65 ∷ 7 ∷ 0x65 ∷ 0x78 ∷ 0x61 ∷ 0x6D ∷ 0x70 ∷ 0x6C ∷ 0x65 ∷ 3 ∷ 0x63
     ∷ 0x6F ∷ 0x6D ∷ 0 ∷ 0 ∷ 1 ∷ 0 ∷ 1
@@ -163,6 +169,7 @@ pub referral : wire (record {
     ttl = 3600;
     rdata = 192 ∷ 0 ∷ 2 ∷ 53 ∷ [];
   } ∷ [];
+  opt = None;
 }) 512 ≡ 0x12 ∷ 0x34 ∷ 0x81 ∷ 0 ∷ 0 ∷ 1 ∷ 0 ∷ 0 ∷ 0 ∷ 1 ∷ 0 ∷ 1
     ∷ 1 ∷ 0x78 ∷ 3 ∷ 0x73 ∷ 0x75 ∷ 0x62 ∷ 7 ∷ 0x65 ∷ 0x78 ∷ 0x61 ∷ 0x6D ∷ 0x70 ∷ 0x6C ∷ 0x65 ∷ 3
     ∷ 0x63 ∷ 0x6F ∷ 0x6D ∷ 0 ∷ 0 ∷ 1 ∷ 0 ∷ 1
@@ -172,3 +179,67 @@ pub referral : wire (record {
     ∷ 2 ∷ 0x35 ∷ []
 unfolding wire
 referral = refl
+
+-- ---- OPT records (RFC 6891, 6.1)
+
+-- without DO and options: the root, TYPE 41, 4,096 octets, version 0
+pub plain_opt : opt_octets 0 (opt_of (Some (record { size = 1232; dnssec_ok = false; subnet = None })) 0)
+    ≡ 0 ∷ 0 ∷ 0x29 ∷ 0x10 ∷ 0 ∷ 0 ∷ 0 ∷ 0 ∷ 0 ∷ 0 ∷ 0 ∷ []
+plain_opt = refl
+
+-- BADVERS (16) has its upper eight bits here, and DO is copied
+pub bad_version : opt_octets 16 (opt_of (Some (record { size = 1232; dnssec_ok = true; subnet = None })) 0)
+    ≡ 0 ∷ 0 ∷ 0x29 ∷ 0x10 ∷ 0 ∷ 1 ∷ 0 ∷ 0x80 ∷ 0 ∷ 0 ∷ 0 ∷ []
+bad_version = refl
+
+-- a client subnet of 198.51.100.0/24 with scope 17 (RFC 7871, 6)
+abbrev told : Edns
+told = record {
+  size = 1232;
+  dnssec_ok = false;
+  subnet = Some (record {
+    family = 1;
+    source = 24;
+    address = 198 ∷ 51 ∷ 100 ∷ 0 ∷ 0 ∷ 0 ∷ 0 ∷ 0 ∷ 0 ∷ 0 ∷ 0 ∷ 0 ∷ 0 ∷ 0 ∷ 0 ∷ 0 ∷ [];
+  });
+}
+
+pub subnet_opt : opt_octets 0 (opt_of (Some told) 17)
+    ≡ 0 ∷ 0 ∷ 0x29 ∷ 0x10 ∷ 0 ∷ 0 ∷ 0 ∷ 0 ∷ 0 ∷ 0 ∷ 11
+    ∷ 0 ∷ 8 ∷ 0 ∷ 7 ∷ 0 ∷ 1 ∷ 0x18 ∷ 0x11 ∷ 0xC6 ∷ 0x33 ∷ 0x64 ∷ []
+subnet_opt = refl
+
+-- BADVERS for the root: the lower four bits are in the header, and the OPT record is counted
+pub refused_version : wire (record {
+  id = 0x1234;
+  aa = false;
+  rd = true;
+  rcode = 16;
+  name = [];
+  question = 0 ∷ 0 ∷ 1 ∷ 0 ∷ 1 ∷ [];
+  answers = [];
+  authorities = [];
+  additionals = [];
+  opt = opt_of (Some (record { size = 1232; dnssec_ok = false; subnet = None })) 0;
+}) 512 ≡ 0x12 ∷ 0x34 ∷ 0x81 ∷ 0 ∷ 0 ∷ 1 ∷ 0 ∷ 0 ∷ 0 ∷ 0 ∷ 0 ∷ 1 ∷ 0 ∷ 0 ∷ 1 ∷ 0 ∷ 1
+    ∷ 0 ∷ 0 ∷ 0x29 ∷ 0x10 ∷ 0 ∷ 1 ∷ 0 ∷ 0 ∷ 0 ∷ 0 ∷ 0 ∷ []
+unfolding wire
+refused_version = refl
+
+-- an address of `a` where 45 octets are too few for it with its OPT record: that stays
+pub cut_with_opt : wire (record {
+  id = 0x1234;
+  aa = true;
+  rd = true;
+  rcode = 0;
+  name = (0x61 ∷ []) ∷ [];
+  question = 1 ∷ 0x61 ∷ 0 ∷ 0 ∷ 1 ∷ 0 ∷ 1 ∷ [];
+  answers = record { owner = (0x61 ∷ []) ∷ []; rtype = A; ttl = 300; rdata = 192 ∷ 0 ∷ 2 ∷ 1 ∷ [] }
+      ∷ [];
+  authorities = [];
+  additionals = [];
+  opt = opt_of (Some (record { size = 512; dnssec_ok = false; subnet = None })) 0;
+}) 45 ≡ 0x12 ∷ 0x34 ∷ 0x87 ∷ 0x00 ∷ 0 ∷ 1 ∷ 0 ∷ 0 ∷ 0 ∷ 0 ∷ 0 ∷ 1 ∷ 1 ∷ 0x61 ∷ 0 ∷ 0 ∷ 1 ∷ 0 ∷ 1
+    ∷ 0 ∷ 0 ∷ 0x29 ∷ 0x10 ∷ 0 ∷ 0 ∷ 0 ∷ 0 ∷ 0 ∷ 0 ∷ 0 ∷ []
+unfolding wire
+cut_with_opt = refl

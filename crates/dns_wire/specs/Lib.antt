@@ -10,6 +10,10 @@ pub mod Steps
 pub use Rattle.octets.specs.Numbers
 pub use Rattle.dns_name.specs.Labels
 pub use Rattle.dns_name.specs.Names
+pub use Rattle.dns_message.specs.Edns
 pub use Rattle.dns_message.specs.Judge
+pub use Rattle.dns_message.specs.Question
+pub use Rattle.dns_message.specs.Records
+pub use Rattle.dns_message.specs.Whole
 pub use Rattle.rdata_layout.specs.Layout
 pub use Rattle.rdata_layout.specs.Types

@@ -1,12 +1,13 @@
--- A reply to a query, and its octets (RFC 1035, 4.1).
-use Rattle.std.specs.Prelude.{ℕ, List, ◌∷◌, ◌++◌, length, Bool, true, false, nat_le, if◌then◌else◌}
+-- A reply to a query, and its octets (RFC 1035, 4.1; RFC 6891, 6.1).
+use Rattle.std.specs.Prelude.{ℕ, ◌+◌, ◌*◌, ◌/◌, ◌%◌, List, [], ◌∷◌, ◌++◌, length, Bool, true, false, nat_le, Option, None, Some, if◌then◌else◌}
 use Rattle.std.specs.List.{flat_map}
 use Rattle.octets.specs.Numbers.{two_octets, four_octets}
 use Rattle.rdata_layout.specs.declared.types.RType.{RType}
 use Rattle.rdata_layout.specs.Types.{number_of}
+use Rattle.dns_message.specs.Edns.{EdnsOption}
 use Rattle.dns_wire.specs.declared.header.Header.{Header}
 use Rattle.dns_wire.specs.Data.{data_octets}
-use Rattle.dns_wire.specs.Header.{header_octets}
+use Rattle.dns_wire.specs.Header.{bit_of, header_octets}
 use Rattle.dns_wire.specs.Pointers.{name_octets}
 
 -- A record of class IN (RFC 1035, 4.1.3). Its data are the octets of a value whose names are whole and in lower case.
@@ -16,8 +17,14 @@ pub record Record : Type 0 where
   pub ttl : ℕ
   pub rdata : List ℕ
 
--- A reply to a query: the fields of its header that the counts don't give, the question's name and octets, and the
--- records of the three sections.
+-- An OPT record of version 0 (RFC 6891, 6.1): the size of messages that the sender takes, DO, and options.
+pub record Opt : Type 0 where
+  pub size : ℕ
+  pub dnssec_ok : Bool
+  pub options : List EdnsOption
+
+-- A reply to a query: the fields of its header that the counts don't give, the question's name and octets, the records of the
+-- three sections, and an OPT record or none. That stands last in the additional section.
 pub record Message : Type 0 where
   pub id : ℕ
   pub aa : Bool
@@ -28,8 +35,9 @@ pub record Message : Type 0 where
   pub answers : List Record
   pub authorities : List Record
   pub additionals : List Record
+  pub opt : Option Opt
 
--- the records of all sections, in their order
+-- the records of all sections but the OPT record, in their order
 abbrev pub records_of : Message → List Record
 records_of m = m.answers ++ (m.authorities ++ m.additionals)
 
@@ -47,44 +55,53 @@ record_octets name r =
 abbrev pub records_octets : (name : List (List ℕ)) → List Record → List ℕ
 records_octets name records = flat_map (record_octets name) records
 
--- the header of a reply with all its records
-abbrev pub whole_header : Message → Header
-whole_header m = record {
+-- an option: its code, the length of its data, and those (RFC 6891, 6.1.2)
+abbrev pub option_octets : EdnsOption → List ℕ
+option_octets o = two_octets o.code ++ (two_octets (length o.body) ++ o.body)
+
+-- The OPT record before its options: the root, TYPE 41, the size as CLASS; as TTL the upper eight bits of RCODE, VERSION 0, and DO
+-- as the first of 16 flags; then the length of the options (6.1.2 and 6.1.3).
+abbrev pub fixed_opt_octets : (rcode size : ℕ) → (dnssec_ok : Bool) → (options_len : ℕ) → List ℕ
+fixed_opt_octets rcode size dnssec_ok options_len =
+    (0 ∷ 0 ∷ 41 ∷ two_octets size)
+    ++ ((rcode / 16) ∷ 0 ∷ (128 * bit_of dnssec_ok) ∷ 0 ∷ two_octets options_len)
+
+abbrev pub opt_octets : (rcode : ℕ) → Option Opt → List ℕ
+opt_octets rcode None = []
+opt_octets rcode (Some opt) =
+    fixed_opt_octets rcode opt.size opt.dnssec_ok (length (flat_map option_octets opt.options))
+    ++ flat_map option_octets opt.options
+
+-- how many records the OPT record is
+abbrev pub opt_count : Option Opt → ℕ
+opt_count None = 0
+opt_count (Some opt) = 1
+
+-- The header, with TC or without. It has the lower four bits of RCODE.
+abbrev pub header_of : (tc : Bool) → Message → Header
+header_of tc m = record {
   id = m.id;
   opcode = 0;
   aa = m.aa;
-  tc = false;
+  tc = tc;
   rd = m.rd;
-  rcode = m.rcode;
+  rcode = m.rcode % 16;
   qdcount = 1;
   ancount = length m.answers;
   nscount = length m.authorities;
-  arcount = length m.additionals;
+  arcount = length m.additionals + opt_count m.opt;
 }
 
--- the header of a reply that is cut: TC is set, and no record follows
-abbrev pub cut_header : Message → Header
-cut_header m = record {
-  id = m.id;
-  opcode = 0;
-  aa = m.aa;
-  tc = true;
-  rd = m.rd;
-  rcode = m.rcode;
-  qdcount = 1;
-  ancount = 0;
-  nscount = 0;
-  arcount = 0;
-}
+-- the header, the question, the records one after another, and the OPT record
+abbrev pub octets_of : (tc : Bool) → Message → List ℕ
+octets_of tc m =
+    header_octets (header_of tc m)
+    ++ (m.question ++ (records_octets m.name (records_of m) ++ opt_octets m.rcode m.opt))
 
--- the header, the question, and the records one after another
-abbrev pub whole : Message → List ℕ
-whole m = header_octets (whole_header m) ++ (m.question ++ records_octets m.name (records_of m))
+-- the same reply without its records
+abbrev pub without_records : Message → Message
+without_records m = record m { answers = []; authorities = []; additionals = [] }
 
--- A reply that is longer than its limit has the question alone (own).
-abbrev pub cut : Message → List ℕ
-cut m = header_octets (cut_header m) ++ m.question
-
--- a reply's octets, where it may have so many
+-- A reply's octets, where it may have so many. One that has more is cut: it has TC, and of its records the OPT record alone (own).
 unfoldable pub wire : Message → (limit : ℕ) → List ℕ
-wire m limit = if nat_le (length (whole m)) limit then whole m else cut m
+wire m limit = if nat_le (length (octets_of false m)) limit then octets_of false m else octets_of true (without_records m)

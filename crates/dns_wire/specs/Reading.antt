@@ -1,8 +1,10 @@
--- How a message is read (RFC 1035, 4.1). It doesn't say how one is written.
-use Rattle.std.specs.Prelude.{◌≡◌, ℕ, ◌+◌, ◌*◌, ◌/◌, ◌%◌, ◌<◌, ◌==◌, List, [], ◌∷◌, ◌++◌, length, map, slice_index, Bool}
+-- How a message is read (RFC 1035, 4.1; RFC 6891, 6.1). It doesn't say how one is written.
+use Rattle.std.specs.Prelude.{◌≡◌, ℕ, ◌+◌, ◌*◌, ◌/◌, ◌%◌, ◌<◌, ◌==◌, List, [], ◌∷◌, ◌++◌, length, map, drop, slice_index, Bool, Option, None, Some}
 use Rattle.std.specs.Char.{to_ascii_lowercase}
 use Rattle.octets.specs.Numbers.{number_at}
 use Rattle.dns_name.specs.Labels.{frame, wire, IsRawLabel}
+use Rattle.dns_message.specs.Edns.{AreOptions, dnssec_ok_of, version_of}
+use Rattle.dns_message.specs.Records.{AnyRecord, BeginsWithRecord}
 use Rattle.dns_message.specs.Header.{id_of, qr_of, opcode_of, rd_of, qdcount_of, ancount_of, nscount_of, arcount_of}
 use Rattle.rdata_layout.specs.declared.types.RType.{RType}
 use Rattle.rdata_layout.specs.declared.types.RType.TheVariants.{A, Ns, Cname, Soa, Ptr, Mx, Txt, Aaaa, Srv, Spf, Caa}
@@ -11,7 +13,7 @@ use Rattle.rdata_layout.specs.declared.fields.Field.TheVariants as field
 use Rattle.rdata_layout.specs.Fields.{IsField}
 use Rattle.rdata_layout.specs.Layout.{fields_of}
 use Rattle.rdata_layout.specs.Types.{number_of}
-use Rattle.dns_wire.specs.Message.{Message, Record}
+use Rattle.dns_wire.specs.Message.{Message, Opt, Record, opt_count}
 
 -- these octets stand at a place of the message
 pub record Stands (message : List ℕ) (place : ℕ) (piece : List ℕ) : Type 0 where
@@ -91,18 +93,37 @@ abbrev pub RecordsAt : (message : List ℕ) → (place : ℕ) → List Record �
 RecordsAt message place [] end = end ≡ place
 RecordsAt message place (r ∷ records) end = (next : ℕ) × RecordAt message place r next × RecordsAt message next records end
 
--- AA, TC and RCODE (4.1.1)
+-- The OPT record at the end of a message (RFC 6891, 6.1): it is of version 0, and has these upper eight bits of RCODE.
+pub record OptAt (message : List ℕ) (place : ℕ) (opt : Opt) (upper : ℕ) : Type 0 where
+  pub as_record : AnyRecord
+  pub size : ℕ
+  pub there : BeginsWithRecord (drop place message) as_record size
+  pub last : place + size ≡ length message
+  pub owner : as_record.owner ≡ 0 ∷ []
+  pub rtype : as_record.rtype ≡ 41
+  pub payload : as_record.class ≡ opt.size
+  pub upper_is : as_record.ttl / 16777216 ≡ upper
+  pub version : version_of as_record ≡ 0
+  pub dnssec_ok : dnssec_ok_of as_record ≡ opt.dnssec_ok
+  pub options : AreOptions as_record.rdata opt.options
+
+-- it, or the end of the message
+abbrev pub OptOrEnd : (message : List ℕ) → (place : ℕ) → Option Opt → (upper : ℕ) → Type 0
+OptOrEnd message place None upper = (place ≡ length message) × (upper ≡ 0)
+OptOrEnd message place (Some opt) upper = OptAt message place opt upper
+
+-- AA, TC and the lower four bits of RCODE (4.1.1)
 abbrev pub aa_of : List ℕ → Bool
 aa_of message = slice_index message 2 / 4 % 2 == 1
 
 abbrev pub tc_of : List ℕ → Bool
 tc_of message = slice_index message 2 / 2 % 2 == 1
 
-abbrev pub rcode_of : List ℕ → ℕ
-rcode_of message = slice_index message 3 % 16
+abbrev pub lower_rcode_of : List ℕ → ℕ
+lower_rcode_of message = slice_index message 3 % 16
 
 -- The octets are read as this reply with this TC, and with nothing behind it: the fields of the header; the question, whose
--- name is followed by type and class; and as many records in each section as its count says.
+-- name is followed by type and class; as many records in each section as its count says; and at the end an OPT record or none.
 pub record Reads (message : List ℕ) (truncated : Bool) (m : Message) : Type 0 where
   pub id : id_of message ≡ m.id
   pub response : qr_of message ≡ 1
@@ -110,17 +131,20 @@ pub record Reads (message : List ℕ) (truncated : Bool) (m : Message) : Type 0 
   pub aa : aa_of message ≡ m.aa
   pub tc : tc_of message ≡ truncated
   pub rd : rd_of message ≡ m.rd
-  pub rcode : rcode_of message ≡ m.rcode
   pub questions : qdcount_of message ≡ 1
   pub answer_count : ancount_of message ≡ length m.answers
   pub authority_count : nscount_of message ≡ length m.authorities
-  pub additional_count : arcount_of message ≡ length m.additionals
+  pub additional_count : arcount_of message ≡ length m.additionals + opt_count m.opt
   pub name_end : ℕ
   pub name : NameAt message 12 m.name name_end
   pub question : Stands message 12 m.question
   pub type_and_class : 12 + length m.question ≡ name_end + 4
   pub answers_end : ℕ
   pub authorities_end : ℕ
+  pub additionals_end : ℕ
   pub answers : RecordsAt message (12 + length m.question) m.answers answers_end
   pub authorities : RecordsAt message answers_end m.authorities authorities_end
-  pub additionals : RecordsAt message authorities_end m.additionals (length message)
+  pub additionals : RecordsAt message authorities_end m.additionals additionals_end
+  pub upper : ℕ
+  pub opt : OptOrEnd message additionals_end m.opt upper
+  pub rcode : m.rcode ≡ upper * 16 + lower_rcode_of message

@@ -1,11 +1,12 @@
 -- What each step of writing a reply leaves of the draft.
-use Rattle.std.specs.Prelude.{ℕ, ◌+◌, ◌++◌, length, take, drop, Bool, true, nat_le, if◌then◌else◌}
+use Rattle.std.specs.Prelude.{ℕ, ◌+◌, ◌%◌, ◌<◌, List, ◌++◌, length, take, drop, Bool, true, nat_le, Option, None, Some, if◌then◌else◌}
+use Rattle.dns_message.specs.declared.query.Edns.{Edns}
 use Rattle.dns_wire.specs.declared.header.Header.{Header}
 use Rattle.dns_wire.specs.declared.reply.Section.{Section}
 use Rattle.dns_wire.specs.declared.reply.Section.TheVariants.{Answer, Authority, Additional}
-use Rattle.dns_wire.specs.Draft.{Draft}
+use Rattle.dns_wire.specs.Draft.{Draft, opt_of}
 use Rattle.dns_wire.specs.Header.{header_octets}
-use Rattle.dns_wire.specs.Message.{Record, record_octets}
+use Rattle.dns_wire.specs.Message.{Record, opt_count, record_octets}
 
 -- without its records
 abbrev pub emptied : Draft → Draft
@@ -24,9 +25,13 @@ recorded section r d =
     else (if nat_le (length d.bytes + length (record_octets d.name r)) d.room then record (counted section d) { bytes = d.bytes ++ record_octets d.name r }
     else emptied d)
 
--- within so many octets
-abbrev pub limited : ℕ → Draft → Draft
-limited limit d = if nat_le (length d.bytes) limit then d else emptied d
+-- within so many octets, where so many more will follow
+abbrev pub limited : (limit more : ℕ) → Draft → Draft
+limited limit more d = if nat_le (length d.bytes + more) limit then d else emptied d
+
+-- with these octets behind
+abbrev pub closed : (opt : List ℕ) → Draft → Draft
+closed opt d = record d { bytes = d.bytes ++ opt }
 
 -- its header
 abbrev pub header_of : Draft → (aa : Bool) (rcode : ℕ) → Header
@@ -36,13 +41,18 @@ header_of d aa rcode = record {
   aa = aa;
   tc = d.is_cut;
   rd = d.rd;
-  rcode = rcode;
+  rcode = rcode % 16;
   qdcount = 1;
   ancount = d.answers;
   nscount = d.authorities;
-  arcount = d.additionals;
+  arcount = d.additionals + opt_count (opt_of d.edns 0);
 }
 
 -- with its header
 abbrev pub ended : Draft → (aa : Bool) (rcode : ℕ) → Draft
 ended d aa rcode = record d { bytes = header_octets (header_of d aa rcode) ++ drop 12 d.bytes }
+
+-- RCODE has four bits, and twelve where there is an OPT record (RFC 6891, 6.1.3).
+abbrev pub FitsRcode : (rcode : ℕ) → Option Edns → Type 0
+FitsRcode rcode None = rcode < 16
+FitsRcode rcode (Some edns) = rcode < 4096

@@ -1,11 +1,8 @@
 //! Laws over the definitions, each the contract of a function that does nothing.
 
-ghost use Rattle.dns_wire.specs.Laws.{CutRepliesRead, OneReading, QueriesAsk, WholeRepliesRead};
+ghost use Rattle.dns_wire.specs.Laws.{CutRepliesRead, OneReading, WholeRepliesRead};
 
-/// A query that was read has a question for its name.
-pub fn queries_ask()
-    ensures { QueriesAsk }
-{}
+use dns_message::{one_list_of_options, one_record};
 
 /// A reply is read as it was meant, or as one that was cut.
 pub fn replies_read()
@@ -16,4 +13,7 @@ pub fn replies_read()
 /// Octets are read as one reply at most.
 pub fn one_reading()
     ensures { OneReading }
-{}
+{
+    one_record();
+    one_list_of_options();
+}

@@ -7,11 +7,12 @@
 mod data;
 mod header;
 mod laws;
+mod opt;
 mod pointers;
 mod record;
 mod reply;
 
-pub use laws::{one_reading, queries_ask, replies_read};
+pub use laws::{one_reading, replies_read};
 pub use octets::OutOfMemory;
 pub use rdata_layout::RType;
 pub use reply::{Reply, Section};

@@ -3,13 +3,17 @@
 ghost use Rattle.std.specs.Prelude.{◌≡◌, ℕ, ◌+◌, ◌<◌, ◌≤◌, List, [], ◌∷◌, ◌++◌, length, take, drop, replicate, IfOk, IsTrue, ◌↔◌};
 ghost use Rattle.rdata_layout.specs.Layout.{IsLayout};
 ghost use Rattle.dns_wire.specs.Draft.{Follows, StandsFor, with_record, reply_to};
-ghost use Rattle.dns_wire.specs.Steps.{recorded, limited, emptied, ended};
+ghost use Rattle.dns_wire.specs.Steps.{FitsRcode, closed, recorded, limited, emptied, ended};
 ghost use Rattle.dns_wire.specs.Header.{header_octets, short_reply};
 ghost use Rattle.dns_wire.specs.Message.{Message, wire};
+ghost use Rattle.dns_wire.specs.Draft.{opt_of};
+ghost use Rattle.dns_message.specs.Whole.{IsWhole};
 
 use crate::header::Header;
+use crate::opt::{MOST_OF_OPT, write_opt};
+use crate::pointers::append;
 use crate::record::add_record;
-use dns_message::Query;
+use dns_message::{Edns, Query};
 use dns_name::Name;
 use octets::{OutOfMemory, fill_front, front, put_at, zeros};
 use rdata_layout::RType;
@@ -41,6 +45,7 @@ pub struct Reply {
     id: u16,
     rd: bool,
     name: Name,
+    edns: Option<Edns>,
     is_cut: bool,
     answers: u16,
     authorities: u16,
@@ -59,6 +64,7 @@ impl Model for Reply {
       id = a.id;
       rd = a.rd;
       name = a.name;
+      edns = a.edns;
       question_end = a.question_end;
       is_cut = a.is_cut;
       answers = a.answers;
@@ -67,7 +73,7 @@ impl Model for Reply {
       bytes = take a.len a.buffer.items;
     } };
 
-    ghost invariant = { λ a. IsKept a.room (length a.buffer.items) a.len a.question_end (a.answers + a.authorities + a.additionals) };
+    ghost invariant = { λ a. IsKept a.room (length a.buffer.items) a.len a.question_end (a.answers + a.authorities + a.additionals) a.edns };
 }
 
 impl Reply {
@@ -87,6 +93,7 @@ impl Reply {
             id: 0,
             rd: false,
             name: Name::root(),
+            edns: None,
             is_cut: false,
             answers: 0,
             authorities: 0,
@@ -103,8 +110,9 @@ impl Reply {
 
     /// Begins the reply to a query: room for the header, and the question as it came.
     pub fn begin(&mut self, query: &Query)
-        requires { query.now.question_len ≤ 259 }
+        requires { IsWhole query.now }
         ensures stands { StandsFor (reply_to query.now) self.new }
+        ensures edns { self.new.edns ≡ query.now.edns }
         ensures room { self.new.room ≡ self.old.room }
         ensures least { 512 ≤ self.new.room }
     {
@@ -119,6 +127,7 @@ impl Reply {
         self.id = query.id;
         self.rd = query.rd;
         self.name = query.name;
+        self.edns = query.edns;
         self.is_cut = false;
         self.answers = 0;
         self.authorities = 0;
@@ -133,25 +142,31 @@ impl Reply {
         requires layout { IsLayout rtype wire.now }
         ensures stands { (m : Message) → StandsFor m self.old → Follows section m
             → StandsFor (with_record section (record { owner = owner.now; rtype = rtype; ttl = ttl; rdata = wire.now }) m) self.new }
+        ensures edns { self.new.edns ≡ self.old.edns }
         ensures room { self.new.room ≡ self.old.room }
     {
         self.add(section, owner, rtype, ttl, wire);
     }
 
-    /// Ends the reply: writes its header, and says how long it is.
+    /// Ends the reply: writes its OPT record, where the query had one, and its header, and says how long it is.
     ///
-    /// Where it would be longer than the limit it is cut: it has the question alone, and TC.
-    pub fn finish(&mut self, aa: bool, rcode: u16, limit: usize) -> usize
+    /// `scope` is how many bits of the client's address the answer holds for; it is told where the query told a subnet. Where the
+    /// reply would be longer than the limit it is cut: it has the question, TC, and the OPT record.
+    pub fn finish(&mut self, aa: bool, rcode: u16, limit: usize, scope: u8) -> usize
         requires begun { (m : Message) × StandsFor m self.old }
         requires least { 512 ≤ limit }
         requires most { limit ≤ self.old.room }
-        requires rcode { rcode < 16 }
-        ensures bytes { (m : Message) → StandsFor m self.old → self.new.bytes ≡ wire (record m { aa = aa; rcode = rcode }) limit }
+        requires rcode { FitsRcode rcode self.old.edns }
+        ensures bytes { (m : Message) → StandsFor m self.old → self.new.bytes
+            ≡ wire (record m { aa = aa; rcode = rcode; opt = opt_of self.old.edns scope }) limit }
         ensures room { self.new.room ≡ self.old.room }
         ensures len { result ≡ length self.new.bytes }
     {
-        self.limit_to(limit);
-        self.write_header(aa, rcode as u8);
+        let mut opt = [0; MOST_OF_OPT];
+        let opt_len = write_opt(&self.edns, rcode, scope, &mut opt);
+        self.limit_to(limit, opt_len);
+        self.close(front(&opt, opt_len));
+        self.write_header(aa, rcode);
         self.len
     }
 
@@ -212,13 +227,22 @@ impl Reply {
         }
     }
 
-    /// Drops all records where it is longer than the limit.
-    fn limit_to(&mut self, limit: usize)
-        ensures { self.new ≡ limited limit self.old }
+    /// Drops all records where it would be longer than the limit with so many octets more.
+    fn limit_to(&mut self, limit: usize, more: usize)
+        requires { more ≤ 35 }
+        ensures { self.new ≡ limited limit more self.old }
     {
-        if self.len > limit {
+        if self.len + more > limit {
             self.empty();
         }
+    }
+
+    /// Writes the OPT record behind all others.
+    fn close(&mut self, opt: &[u8])
+        requires { length self.old.bytes + length opt.now ≤ self.old.room }
+        ensures { self.new ≡ closed opt.now self.old }
+    {
+        self.len = append(&mut self.buffer, self.len, opt);
     }
 
     /// Drops all records.
@@ -233,9 +257,9 @@ impl Reply {
     }
 
     /// Writes the header over its room.
-    fn write_header(&mut self, aa: bool, rcode: u8)
+    fn write_header(&mut self, aa: bool, rcode: u16)
         requires begun { 12 ≤ length self.old.bytes }
-        requires rcode { rcode < 16 }
+        requires counted { self.old.additionals < 65535 }
         ensures { self.new ≡ ended self.old aa rcode }
     {
         let header = Header {
@@ -244,11 +268,11 @@ impl Reply {
             aa,
             tc: self.is_cut,
             rd: self.rd,
-            rcode,
+            rcode: (rcode % 16) as u8,
             qdcount: 1,
             ancount: self.answers,
             nscount: self.authorities,
-            arcount: self.additionals,
+            arcount: self.additionals + u16::from(self.edns.is_some()),
         };
         let octets = header.octets();
         set_front(&mut self.buffer, self.len, &octets);

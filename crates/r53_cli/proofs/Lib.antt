@@ -1,4 +1,5 @@
 pub mod Addresses
+pub mod Endings
 pub mod Forms
 pub mod Numbers
 pub mod Responses

@@ -1,9 +1,12 @@
 //! The one record of a run, and the reply to a packet that asks for it or for something else.
 
 ghost use Rattle.std.specs.Prelude.{◌≡◌, ◌≤◌, [], IsTrue, ◌↔◌, IfSome, IfNone, length};
+ghost use Rattle.dns_message.specs.Whole.{HasEdns, IsWhole};
+ghost use Rattle.dns_wire.specs.Message.{wire};
+ghost use Rattle.r53_cli.specs.Once.{IsAsked, Answers, RepliesTo, limit_of, version_refusal_of};
 
-use dns_message::rcode::REFUSED;
-use dns_message::{Query, QueryRead, read_query};
+use dns_message::rcode::{BADVERS, REFUSED};
+use dns_message::{Edns, Query, QueryRead, read_query};
 use dns_name::Name;
 use dns_wire::{RType, Reply, Section};
 use rdata::RData;
@@ -11,8 +14,11 @@ use rdata::RData;
 /// The number of class IN (RFC 1035, 3.2.4).
 const IN: u16 = 1;
 
-/// The most octets of a reply over UDP (RFC 1035, 4.2.1).
-const LIMIT: usize = 512;
+/// The most octets of a reply over UDP to a query without EDNS (RFC 1035, 4.2.1), and the least to one with it (RFC 6891, 6.2.3).
+const LEAST_LIMIT: usize = 512;
+
+/// The most octets of a reply over UDP.
+const MOST_LIMIT: usize = 4096;
 
 /// The one record that a run of `once` has, of type A and class IN.
 #[derive(Drop)]
@@ -26,10 +32,9 @@ pub struct Once {
 }
 
 impl Once {
-    ghost use Rattle.r53_cli.specs.Once.{IsAsked, Answers, RepliesTo};
-
     /// Writes the reply to a packet, and says how long it is. None is silence.
     pub(crate) fn answer(&self, packet: &[u8], reply: &mut Reply) -> Option<usize>
+        requires { 4096 ≤ reply.old.room }
         ensures silent { IfNone result (Answers self.now packet.now []) }
         ensures answered { IfSome result (λ _. Answers self.now packet.now reply.new.bytes) }
         ensures len { IfSome result (λ n. n ≡ length reply.new.bytes) }
@@ -42,13 +47,15 @@ impl Once {
                 rd,
                 rcode,
             } => Some(reply.short(id, opcode, rd, rcode)),
+            QueryRead::BadVersion(query) => Some(refuse_version(&query, reply)),
             QueryRead::Query(query) => Some(self.reply_to(&query, reply)),
         }
     }
 
     /// Writes the reply to a query, and says how long it is.
     fn reply_to(&self, query: &Query, reply: &mut Reply) -> usize
-        requires { query.now.question_len ≤ 259 }
+        requires whole { IsWhole query.now }
+        requires room { 4096 ≤ reply.old.room }
         ensures replied { RepliesTo self.now query.now reply.new.bytes }
         ensures len { result ≡ length reply.new.bytes }
     {
@@ -61,9 +68,9 @@ impl Once {
                 self.ttl,
                 self.address.wire(),
             );
-            reply.finish(true, 0, LIMIT)
+            reply.finish(true, 0, limit_of(&query.edns), 0)
         } else {
-            reply.finish(false, u16::from(REFUSED), LIMIT)
+            reply.finish(false, u16::from(REFUSED), limit_of(&query.edns), 0)
         }
     }
 
@@ -72,5 +79,29 @@ impl Once {
         ensures { IsTrue result ↔ IsAsked self.now query.now }
     {
         query.qtype == RType::A.number() && query.qclass == IN && query.name.is_same(&self.name)
+    }
+}
+
+/// Writes the reply to a query of a newer version of EDNS, and says how long it is.
+fn refuse_version(query: &Query, reply: &mut Reply) -> usize
+    requires whole { IsWhole query.now }
+    requires edns { HasEdns query.now.edns }
+    requires room { 4096 ≤ reply.old.room }
+    ensures replied { reply.new.bytes ≡ wire (version_refusal_of query.now) (limit_of query.now.edns) }
+    ensures len { result ≡ length reply.new.bytes }
+{
+    reply.begin(query);
+    reply.finish(false, BADVERS, limit_of(&query.edns), 0)
+}
+
+/// How many octets a reply may have.
+fn limit_of(edns: &Option<Edns>) -> usize
+    ensures limit { result ≡ limit_of edns.now }
+    ensures least { 512 ≤ result }
+    ensures most { result ≤ 4096 }
+{
+    match edns {
+        Some(edns) => usize::from(edns.size).min(MOST_LIMIT).max(LEAST_LIMIT),
+        None => LEAST_LIMIT,
     }
 }

@@ -1,6 +1,6 @@
 //! The top call, step by step: words, then memory, then input, then the reply.
 
-ghost use Rattle.std.specs.Prelude.{◌≡◌, ℕ, ◌<◌, List, Some, length, IfOk, OnErr, map};
+ghost use Rattle.std.specs.Prelude.{◌≡◌, ℕ, ◌<◌, ◌≤◌, List, Some, length, IfOk, OnErr, map};
 ghost use Rattle.std.specs.String.{string_bytes};
 ghost use Rattle.octets.specs.Counts.{Rose};
 ghost use Rattle.r53_cli.specs.Once.{HasForm, HasNoForm};
@@ -16,6 +16,9 @@ use dns_wire::Reply;
 use octets::{OutOfMemory, front, zeros};
 use r53_io::{Sink, Source};
 use std::alloc::Global;
+
+/// The most octets of a reply.
+const REPLY_ROOM: usize = 4096;
 
 /// Runs the program: `args` are the words behind its name.
 ///
@@ -68,7 +71,7 @@ fn run_once<S: Source, K: Sink>(
     ensures wrote_nothing { OnErr result (K.held out.new ≡ K.held out.old) }
 {
     let mut packet = zeros(alloc, PACKET_LEN)?;
-    let mut reply = Reply::new(alloc, 512)?;
+    let mut reply = Reply::new(alloc, REPLY_ROOM)?;
     Ok(serve(once, packet.as_mut_slice(), &mut reply, input, out))
 }
 
@@ -80,7 +83,8 @@ fn serve<S: Source, K: Sink>(
     input: &mut S,
     out: &mut K,
 ) -> Status
-    requires { length buffer.old ≡ 65535 }
+    requires buffer { length buffer.old ≡ 65535 }
+    requires room { 4096 ≤ reply.old.room }
     ensures ran { Ran result once.now
         (record { left = S.left input.old; held = K.held out.old })
         (record { left = S.left input.new; held = K.held out.new }) }
@@ -97,6 +101,7 @@ fn serve<S: Source, K: Sink>(
 
 /// Writes the reply to a packet.
 fn respond<K: Sink>(once: &Once, packet: &[u8], reply: &mut Reply, out: &mut K) -> Status
+    requires { 4096 ≤ reply.old.room }
     ensures responds { Responds result once.now packet.now (K.held out.old) (K.held out.new) }
     ensures failed { result ≡ Status.WriteFault → Rose (K.faults out.old) (K.faults out.new) }
 {

@@ -2,6 +2,8 @@
 #![tactic(auto)]
 
 #[cfg(test)]
+mod edns;
+#[cfg(test)]
 mod once;
 #[cfg(test)]
 mod replies;

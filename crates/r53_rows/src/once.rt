@@ -42,10 +42,15 @@ fn run_over(
 }
 
 /// What is asked, the packet, and the reply, both in hexadecimal digits.
-type Row = (&'static str, &'static str, &'static str);
+pub(crate) type Row = (&'static str, &'static str, &'static str);
 
 /// Whether a run answers this packet so, in whatever pieces it comes.
-fn answers(alloc: Global, texts: &[&str], packet: &[u8], reply: &[u8]) -> Result<bool, Fail> {
+pub(crate) fn answers(
+    alloc: Global,
+    texts: &[&str],
+    packet: &[u8],
+    reply: &[u8],
+) -> Result<bool, Fail> {
     for piece in [1, 7, 100] {
         let outcome = run_over(alloc, texts, packet, piece, &[], 600)?;
         if outcome.status != Status::Done || outcome.sink.bytes() != reply {
@@ -56,7 +61,12 @@ fn answers(alloc: Global, texts: &[&str], packet: &[u8], reply: &[u8]) -> Result
 }
 
 /// Runs over these words and the packets of the rows, and compares the replies.
-fn compare(rt: &impl Abort, alloc: Global, texts: &[&str], rows: &[Row]) -> Result<(), Fail> {
+pub(crate) fn compare(
+    rt: &impl Abort,
+    alloc: Global,
+    texts: &[&str],
+    rows: &[Row],
+) -> Result<(), Fail> {
     for (what, packet, reply) in rows {
         let packet = hex::decode(alloc, packet)?;
         let reply = hex::decode(alloc, reply)?;
@@ -65,7 +75,7 @@ fn compare(rt: &impl Abort, alloc: Global, texts: &[&str], rows: &[Row]) -> Resu
     Ok(())
 }
 
-const WWW: [&str; 4] = ["once", "www.example.com", "300", "192.0.2.1"];
+pub(crate) const WWW: [&str; 4] = ["once", "www.example.com", "300", "192.0.2.1"];
 
 const ESCAPED: [&str; 4] = ["once", "\\127ww.Example.\\143om.", "300", "192.0.2.1"];
 
@@ -123,7 +133,7 @@ fn answers_questions(rt: HostRuntime) -> Result<(), Fail> {
 
 #[test]
 fn answers_nothing_or_a_header(rt: HostRuntime) -> Result<(), Fail> {
-    let rows: [Row; 8] = [
+    let rows: [Row; 7] = [
         ("eleven octets", "1234010000010000000000", ""),
         ("nothing", "", ""),
         (
@@ -150,11 +160,6 @@ fn answers_nothing_or_a_header(rt: HostRuntime) -> Result<(), Fail> {
             "a question without a class",
             "12340100000100000000000003775777076578616d706c6503636f6d00000100",
             "123481010000000000000000",
-        ),
-        (
-            "an additional record",
-            "12340100000100000000000103775777076578616d706c6503636f6d0000010001",
-            "123481040000000000000000",
         ),
     ];
     compare(&rt, rt.alloc(), &WWW, &rows)

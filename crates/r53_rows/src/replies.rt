@@ -1,6 +1,7 @@
 //! Replies of `dns_wire` at their limit.
 
-ghost use Rattle.std.specs.Prelude.{◌≡◌, ◌≤◌, IfSome};
+ghost use Rattle.std.specs.Prelude.{IfSome};
+ghost use Rattle.dns_message.specs.Whole.{IsWhole};
 ghost use Rattle.dns_wire.specs.declared.reply.Section.TheVariants.{Answer};
 ghost use Rattle.dns_wire.specs.Draft.{StandsFor, Follows};
 ghost use Rattle.dns_wire.specs.Message.{Message};
@@ -11,7 +12,7 @@ use std::test::Fail;
 
 /// The query of a packet.
 fn query_of(packet: &[u8]) -> Option<Query>
-    ensures { IfSome result (λ query. query.question_len ≤ 259) }
+    ensures { IfSome result IsWhole }
 {
     match read_query(packet) {
         QueryRead::Query(query) => Some(query),
@@ -21,7 +22,7 @@ fn query_of(packet: &[u8]) -> Option<Query>
 
 /// Writes the reply to a query, with the addresses 192.0.2.0, 192.0.2.1 and so on as answers.
 fn reply_with(reply: &mut Reply, query: &Query, addresses: u8) -> usize
-    requires question { query.now.question_len ≤ 259 }
+    requires { IsWhole query.now }
 {
     reply.begin(query);
     for last in 0..addresses {
@@ -33,7 +34,7 @@ fn reply_with(reply: &mut Reply, query: &Query, addresses: u8) -> usize
             &[192, 0, 2, last],
         );
     }
-    reply.finish(true, 0, 512)
+    reply.finish(true, 0, 512, 0)
 }
 
 #[test]

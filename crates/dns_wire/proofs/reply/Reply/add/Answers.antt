@@ -44,6 +44,7 @@ returns-then-end-self c =
       id = inside.id;
       rd = inside.rd;
       name = inside.name;
+      edns = inside.edns;
       question_end = inside.question_end;
       is_cut = inside.is_cut;
       answers = inside.answers;

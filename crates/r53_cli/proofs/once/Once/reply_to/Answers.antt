@@ -1,7 +1,9 @@
-use Rattle.std.proofs.Common.{List, [], ◌∷◌, ℕ, refl, ap, ◌∙◌, inl, inr}
+use Rattle.std.proofs.Common.{List, [], ◌∷◌, ℕ, refl, ap, ◌∙◌, inl, inr, true, false}
 use Rattle.rdata_layout.specs.declared.types.RType.{RType}
-use Rattle.dns_wire.specs.Message.{wire}
-use Rattle.r53_cli.specs.Once.{answer_of, refusal_of}
+use Rattle.dns_wire.specs.Draft.{reply_to}
+use Rattle.dns_wire.specs.Message.{Message, wire}
+use Rattle.r53_cli.specs.Once.{limit_of}
+use Rattle.r53_cli.proofs.Endings.{finished}
 use Rattle.r53_cli.proofs.once.Once.reply_to.Goals as goal
 
 pub finish-requires-clause-begun : goal.finish-requires-clause-begun
@@ -9,19 +11,18 @@ finish-requires-clause-begun c = (_, c.record.ensures.stands _ c.begin.ensures.s
 
 pub returns-then-is_asked-clause-replied : goal.returns-then-is_asked-clause-replied
 returns-then-is_asked-clause-replied c =
-    let answer : RType → List ℕ → List ℕ = λ rtype octets.
-    wire (record (answer_of c.args.self.now c.args.query.now) {
+    let query = c.args.query.now in
+    let with_answer : RType → List ℕ → Message = λ rtype octets.
+    record (reply_to query) {
       answers =
-          record {
-            owner = c.args.query.now.name;
-            rtype = rtype;
-            ttl = c.args.self.now.ttl;
-            rdata =
-                octets;
-          } ∷ [];
-    }) 512 in
+          record { owner = query.name; rtype = rtype; ttl = c.args.self.now.ttl; rdata = octets } ∷ [];
+    } in
+    let answer : RType → List ℕ → List ℕ = λ rtype octets.
+    wire (record (with_answer rtype octets) { aa = true; rcode = 0 }) (limit_of query.edns) in
     let written =
-    c.finish.ensures.bytes _ (c.record.ensures.stands _ c.begin.ensures.stands (refl, refl)) in
+    finished (with_answer c.rtype.result c.wire.result.now) true 0 0 _ query.edns _ _ _
+    (c.finish.ensures.bytes _ (c.record.ensures.stands _ c.begin.ensures.stands (refl, refl)))
+    refl (c.record.ensures.edns ∙ c.begin.ensures.edns) c.limit_of.ensures.limit in
     inl (
       c.is_asked.ensures.0 c.if-is_asked.true,
       written ∙ (ap (λ (rtype : RType). answer rtype c.wire.result.now) c.rtype.ensures
@@ -34,7 +35,7 @@ returns-else-is_asked-clause-replied c =
     inr (
       λ a. let t = c.is_asked.ensures.1 a in let f = c.if-is_asked.false in
           cc,
-      c.finish-else-is_asked.ensures.bytes _ c.begin.ensures.stands
-          ∙ ap (λ code. wire (record (refusal_of c.args.query.now) { rcode = code }) 512)
-          c.from.ensures,
+      finished (reply_to c.args.query.now) false _ 5 _ c.args.query.now.edns _ _ _
+          (c.finish-else-is_asked.ensures.bytes _ c.begin.ensures.stands) c.from.ensures
+          c.begin.ensures.edns c.limit_of-else-is_asked.ensures.limit,
     )

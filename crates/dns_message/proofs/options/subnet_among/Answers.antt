@@ -1,0 +1,36 @@
+use Rattle.std.proofs.Common.{arith, sym, subst, ap, ◌∙◌, ◌≡◌, ◌<◌, ◌≤◌, ◌+◌, ◌++◌, [], ◌∷◌, append-nil, length, length-drop, drop}
+use Rattle.dns_message.specs.Edns.{AreOptions, first_body, option_at, option_size}
+use Rattle.dns_message.specs.Walk.{HasSubnet}
+use Rattle.dns_message.proofs.OptionLists.{Walked, one_option, broken_off, at_the_end}
+use Rattle.dns_message.proofs.options.subnet_among.Goals as goal
+
+pub returns-in_default-clause-none : goal.returns-in_default-clause-none
+returns-in_default-clause-none c =
+    broken_off c.args.body.now c.loop-at.at c.loop-at.invariant.1 c.loop-at-test.true
+    (subst (λ l. length l < option_size l) c.behind-rest.ensures c.in_default.ensures.none)
+    c.loop-at.invariant.2
+
+pub loop-at-preserved : goal.loop-at-preserved
+loop-at-preserved c =
+    let i = c.loop-at.invariant in
+    let body = c.args.body.now in
+    let rest = c.behind-rest.ensures in
+    let size : c.in-Some.size ≡ option_size (drop c.loop-at.at body) = c.in-Some.ensures.some ∙ ap option_size rest in
+    let whole : option_size (drop c.loop-at.at body) ≤ length (drop c.loop-at.at body) =
+    omega (arith, size, c.in-Some.ensures.within, ap length rest) in
+    let walked = one_option body c.loop-at.at i.1 c.loop-at-test.true whole i.2 in (
+      omega (arith, size, whole, length-drop c.loop-at.at body, c.loop-at-test.true),
+      i.1 ++ option_at (drop c.loop-at.at body) ∷ [],
+      subst (λ n. Walked body (c.loop-at.at + n) (i.1 ++ option_at (drop c.loop-at.at body) ∷ [])) (sym size) walked,
+      subst (λ l. HasSubnet (first_body 8 (i.1 ++ option_at l ∷ [])) c.with_option-subnet.result) rest
+          (c.with_option-subnet.ensures i.1 i.3),
+    )
+
+pub returns-clause-some : goal.returns-clause-some
+returns-clause-some c =
+    let i = c.loop-at.invariant in (
+      i.1,
+      subst (AreOptions c.args.body.now) (append-nil i.1)
+          (at_the_end c.args.body.now c.loop-at.at i.1 (omega (arith, c.loop-at-test.false)) i.2),
+      i.3,
+    )
