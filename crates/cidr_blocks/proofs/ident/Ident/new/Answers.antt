@@ -1,7 +1,7 @@
 use Rattle.std.proofs.Common.{refl}
 use Rattle.routing.proofs.Padding.{filled}
-use Rattle.cidr_routing.specs.Idents.{IsIdent}
-use Rattle.cidr_routing.proofs.ident.Ident.new.Goals as goal
+use Rattle.cidr_blocks.specs.Idents.{IsIdent}
+use Rattle.cidr_blocks.proofs.ident.Ident.new.Goals as goal
 
 pub invariant_of-result : goal.invariant_of-result
 invariant_of-result c =

@@ -1,0 +1,5 @@
+pub mod Idents
+pub mod Places
+pub use Rattle.ip_table.specs.Prefixes
+pub use Rattle.ip_table.specs.Rows
+pub use Rattle.routing.specs.Texts

@@ -1,0 +1,103 @@
+//! The names of collections and of their locations, and `*` for all other clients.
+
+ghost use Rattle.std.specs.Prelude.{◌≡◌, ◌↔◌, ◌∷◌, [], true, IsTrue, SomeIff};
+ghost use Rattle.std.specs.List.{AllByRecursion};
+ghost use Rattle.routing.specs.Texts.{IsText, is_location_byte};
+ghost use Rattle.cidr_blocks.specs.Idents.{IsIdent, star};
+
+use octets::{fill_front, front};
+use routing::is_location_byte;
+use std::marker::Model;
+
+/// The name of a collection or of a location, or the one byte `*`.
+#[derive(Clone, Copy, Debug, PartialEq, Eq)]
+pub struct Ident {
+    bytes: [u8; 64],
+    len: u8,
+}
+
+impl Model for Ident {
+    ghost use Rattle.std.specs.Prelude.{◌≡◌, ℕ, List, length, take};
+    ghost use Rattle.std.proofs.Common.{ap};
+    ghost use Rattle.routing.specs.Padded.{IsPadded, padded};
+    ghost use Rattle.cidr_blocks.specs.Idents.{IsIdent};
+
+    ghost Value = { List ℕ };
+
+    ghost view = { λ a. take a.len a.bytes };
+
+    ghost invariant = { λ a. IsPadded a.bytes a.len 64 × IsIdent (take a.len a.bytes) };
+
+    ghost inverse = { λ text. record { bytes = padded 64 text; len = length text } };
+
+    ghost inverse_ok = { λ a h.
+        let e : (padded 64 (take a.len a.bytes), length (take a.len a.bytes)) ≡ (a.bytes, a.len) =
+        let size = h.0.size in
+        let bytes = h.0.bytes in
+        Prim.cc in
+        ap (λ (p : List ℕ × ℕ). record { bytes = p.0; len = p.1 }) e };
+}
+
+impl Ident {
+    /// The name of these bytes.
+    pub fn new(bytes: &[u8]) -> Option<Ident>
+        ensures { SomeIff result (IsIdent bytes.now) bytes.now }
+    {
+        if !is_ident(bytes) {
+            return None;
+        }
+        let mut array = [0; 64];
+        fill_front(&mut array, bytes);
+        Some(Ident {
+            bytes: array,
+            len: bytes.len() as u8,
+        })
+    }
+
+    /// Its bytes.
+    pub fn bytes(&self) -> &[u8]
+        ensures bytes { result.now ≡ self.now }
+        ensures ident { IsIdent self.now }
+    {
+        front(&self.bytes, self.len as usize)
+    }
+}
+
+/// Whether bytes are a name or `*`.
+fn is_ident(bytes: &[u8]) -> bool
+    ensures { IsTrue result ↔ IsIdent bytes.now }
+{
+    if is_name(bytes) {
+        return true;
+    }
+    is_star(bytes)
+}
+
+/// Whether a text is the one byte `*`.
+fn is_star(text: &[u8]) -> bool
+    ensures { IsTrue result ↔ (text.now ≡ star) }
+{
+    matches!(text, [b'*'])
+}
+
+/// Whether bytes are 1 to 64 letters, digits, `_` and `-`.
+fn is_name(bytes: &[u8]) -> bool
+    ensures { IsTrue result ↔ IsText is_location_byte 64 bytes.now }
+{
+    if bytes.is_empty() || bytes.len() > 64 {
+        return false;
+    }
+    are_location_bytes(bytes)
+}
+
+/// Whether each byte is a letter, a digit, `_` or `-`.
+fn are_location_bytes(bytes: &[u8]) -> bool
+    ensures { IsTrue result ↔ AllByRecursion (λ b. is_location_byte b ≡ true) bytes.now }
+{
+    for b in bytes {
+        if !is_location_byte(*b) {
+            return false;
+        }
+    }
+    true
+}

@@ -1,0 +1,14 @@
+//! Collections of CIDR blocks under the names of locations (IP-based routing).
+//!
+//! A block stands under one location at most. Nothing here knows of the sets that name locations.
+#![tactic(auto)]
+
+mod ident;
+mod lists;
+mod places;
+mod tables;
+
+pub use ident::Ident;
+pub use lists::{Blocks, Locations};
+pub use places::{CidrLocation, Collection};
+pub use tables::table_of;
