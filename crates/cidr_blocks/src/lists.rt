@@ -98,7 +98,10 @@ fn copy_blocks(alloc: Global, blocks: &[IpPrefix]) -> Result<Vec<IpPrefix>, OutO
 }
 
 /// A copy of each location.
-fn copy_locations(alloc: Global, locations: &[CidrLocation]) -> Result<Vec<CidrLocation>, OutOfMemory>
+fn copy_locations(
+    alloc: Global,
+    locations: &[CidrLocation],
+) -> Result<Vec<CidrLocation>, OutOfMemory>
     ensures { IfOk result (λ list. list.items ≡ locations.now) }
 {
     let mut list = Vec::new(alloc);

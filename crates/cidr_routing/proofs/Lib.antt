@@ -1,3 +1,4 @@
+pub mod Ids
 pub mod InOrder
 pub mod Known
 mod Vectors

@@ -1,5 +1,9 @@
 pub mod Choice
 pub mod Search
+pub mod Stored
+pub mod Tables
 pub use Rattle.cidr_blocks.specs.Idents
+pub use Rattle.cidr_blocks.specs.Places
 pub use Rattle.considered_sets.specs.Considered
+pub use Rattle.ip_table.specs.Location
 pub use Rattle.routing.specs.Texts

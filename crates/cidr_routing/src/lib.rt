@@ -1,11 +1,15 @@
-//! The choice among the sets of a group by the location of the client's address block (IP-based
-//! routing).
+//! IP-based routing: collections of address blocks by the names of locations, and the choice among
+//! the sets of a group by the location of the client's block.
 //!
 //! Names here have up to 64 bytes, as those of collections have; those of locations are shorter.
 #![tactic(auto)]
 
 mod choice;
+mod collections;
+mod finding;
 mod ident;
 
 pub use choice::choose_block;
+pub use cidr_blocks::{Blocks, CidrLocation, Collection, Locations};
+pub use collections::Collections;
 pub use ident::Ident;

@@ -1,0 +1,112 @@
+//! Collections by their numbers, with a table of the blocks of each.
+
+ghost use Rattle.std.specs.Prelude.{◌≡◌, [], IfOk};
+ghost use Rattle.std.specs.List.{AllByRecursion};
+ghost use Rattle.std.specs.Option.{option_copied};
+ghost use Rattle.cidr_blocks.specs.Places.{IsCollection};
+ghost use Rattle.cidr_routing.specs.Stored.{IsSound, LocatesIn, NextIdOrNone, Stored, collection_at};
+ghost use Rattle.cidr_routing.specs.Tables.{tables_of};
+
+use crate::finding::{id_after, place_of};
+use address_text::IpAddress;
+use cidr_blocks::{Collection, Ident, table_of};
+use ip_table::IpTable;
+use octets::OutOfMemory;
+use std::alloc::Global;
+use std::marker::Model;
+
+/// The collections of a config, and the number that the next one gets.
+#[derive(Drop)]
+pub struct Collections {
+    next: u32,
+    list: Vec<(u32, Collection)>,
+    tables: Vec<IpTable<Ident>>,
+}
+
+impl Model for Collections {
+    ghost use Rattle.std.specs.Prelude.{◌≡◌};
+    ghost use Rattle.cidr_routing.specs.Stored.{IsSound, Stored};
+    ghost use Rattle.cidr_routing.specs.Tables.{tables_of};
+
+    ghost Value = { Stored };
+
+    ghost view = { λ c. record { next = c.next; list = c.list.items } };
+
+    ghost invariant = { λ c. IsSound (record { next = c.next; list = c.list.items }) × (c.tables.items ≡ tables_of c.list.items) };
+}
+
+impl Collections {
+    /// No collections. The first one gets the number 1.
+    pub fn new(alloc: Global) -> Collections
+        ensures { result ≡ record { next = 1; list = [] } }
+    {
+        Collections {
+            next: 1,
+            list: Vec::new(alloc),
+            tables: Vec::new(alloc),
+        }
+    }
+
+    /// These collections, of which the next one gets this number.
+    pub fn restore(
+        alloc: Global,
+        next: u32,
+        list: Vec<(u32, Collection)>,
+    ) -> Result<Collections, OutOfMemory>
+        requires { IsSound (record { next = next; list = list.items }) }
+        ensures { IfOk result (λ c. c ≡ record { next = next; list = list.items }) }
+    {
+        let tables = tables_of(alloc, &list)?;
+        Ok(Collections { next, list, tables })
+    }
+
+    /// The collection of a number. Its locations rise by name, and the blocks of each rise.
+    pub fn get(&self, id: u32) -> Option<&Collection>
+        ensures collection { option_copied result ≡ collection_at id self.now.list }
+        ensures sound { IsSound self.now }
+    {
+        match place_of(&self.list, id) {
+            Some(place) => Some(&self.list[place].1),
+            None => None,
+        }
+    }
+
+    /// The least number above a given one.
+    pub fn next_id(&self, id: u32) -> Option<u32>
+        ensures next { NextIdOrNone self.now.list id result }
+        ensures sound { IsSound self.now }
+    {
+        id_after(&self.list, id)
+    }
+
+    /// The number that the next collection gets.
+    pub fn next_number(&self) -> u32
+        ensures number { result ≡ self.now.next }
+        ensures sound { IsSound self.now }
+    {
+        self.next
+    }
+
+    /// The location of the longest block of a collection that contains the client, and the scope of
+    /// that answer. None and 0 where the collection isn't there.
+    pub fn location(&self, id: u32, client: IpAddress) -> (Option<&Ident>, u8)
+        ensures { LocatesIn (collection_at id self.now.list) client (option_copied result.0) result.1 }
+    {
+        let Some(place) = place_of(&self.list, id) else {
+            return (None, 0);
+        };
+        self.tables[place].locate(client)
+    }
+}
+
+/// The table of each collection.
+fn tables_of(alloc: Global, list: &[(u32, Collection)]) -> Result<Vec<IpTable<Ident>>, OutOfMemory>
+    requires { AllByRecursion (λ held. IsCollection held.1) list.now }
+    ensures { IfOk result (λ tables. tables.items ≡ tables_of list.now) }
+{
+    let mut tables = Vec::new(alloc);
+    for held in list {
+        tables.push(table_of(alloc, held.1.locations.as_slice())?)?;
+    }
+    Ok(tables)
+}
