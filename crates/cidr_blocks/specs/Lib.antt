@@ -1,4 +1,6 @@
+pub mod Changes
 pub mod Idents
+pub mod Order
 pub mod Places
 pub use Rattle.ip_table.specs.Prefixes
 pub use Rattle.ip_table.specs.Rows

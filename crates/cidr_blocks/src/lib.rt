@@ -3,11 +3,17 @@
 //! A block stands under one location at most. Nothing here knows of the sets that name locations.
 #![tactic(auto)]
 
+mod changes;
+mod faults;
 mod ident;
 mod lists;
+mod order;
 mod places;
+mod rows;
 mod tables;
 
+pub use changes::{Changes, CidrChange};
+pub use faults::CidrFault;
 pub use ident::Ident;
 pub use lists::{Blocks, Locations};
 pub use places::{CidrLocation, Collection};
