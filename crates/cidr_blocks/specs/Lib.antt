@@ -1,4 +1,5 @@
 pub mod Changes
+pub mod Gathered
 pub mod Idents
 pub mod Order
 pub mod Places

@@ -5,6 +5,7 @@
 
 mod changes;
 mod faults;
+mod gathering;
 mod ident;
 mod lists;
 mod order;

@@ -1,6 +1,6 @@
 //! Lists of blocks and of locations, each in its order.
 
-ghost use Rattle.std.specs.Prelude.{◌≡◌, length, IfOk};
+ghost use Rattle.std.specs.Prelude.{◌≡◌, ◌++◌, ◌∷◌, [], IfOk, OnOk};
 
 use crate::places::CidrLocation;
 use ip_table::IpPrefix;
@@ -51,6 +51,14 @@ impl Blocks {
         ensures { result.now ≡ self.now }
     {
         &self.list
+    }
+
+    /// Adds a block behind them.
+    pub(crate) fn push(&mut self, block: IpPrefix) -> Result<(), OutOfMemory>
+        ensures { OnOk result (self.new ≡ self.old ++ block ∷ []) }
+    {
+        self.list.push(block)?;
+        Ok(())
     }
 
     /// A copy of them.

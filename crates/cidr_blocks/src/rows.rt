@@ -124,7 +124,10 @@ pub(crate) fn has_block_in_use(rows: &BTreeMap<Block, Ident>, change: &CidrChang
 }
 
 /// Does what a change says.
-pub(crate) fn apply(rows: &mut BTreeMap<Block, Ident>, change: &CidrChange) -> Result<(), OutOfMemory>
+pub(crate) fn apply(
+    rows: &mut BTreeMap<Block, Ident>,
+    change: &CidrChange,
+) -> Result<(), OutOfMemory>
     ensures { OnOk result (rows.new.entries ≡ changed change.now rows.old.entries) }
 {
     if change.put {
