@@ -1,8 +1,10 @@
+pub mod Changed
 pub mod Changes
 pub mod Gathered
 pub mod Idents
 pub mod Order
 pub mod Places
+pub mod Refusals
 pub use Rattle.ip_table.specs.Prefixes
 pub use Rattle.ip_table.specs.Rows
 pub use Rattle.routing.specs.Texts

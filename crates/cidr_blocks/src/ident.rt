@@ -2,6 +2,7 @@
 
 ghost use Rattle.std.specs.Prelude.{◌≡◌, ◌↔◌, ◌∷◌, [], true, IsTrue, SomeIff};
 ghost use Rattle.std.specs.List.{AllByRecursion};
+ghost use Rattle.std.specs.Str.{bytes_eq};
 ghost use Rattle.routing.specs.Texts.{IsText, is_location_byte};
 ghost use Rattle.cidr_blocks.specs.Idents.{IsIdent, star};
 
@@ -61,6 +62,20 @@ impl Ident {
     {
         front(&self.bytes, self.len as usize)
     }
+
+    /// Whether it is `*`, which names no location.
+    pub(crate) fn is_star(&self) -> bool
+        ensures { result ≡ bytes_eq self.now star }
+    {
+        bytes_are(self.bytes(), b"*")
+    }
+}
+
+/// Whether two texts are one.
+fn bytes_are(text: &[u8], other: &[u8]) -> bool
+    ensures { result ≡ bytes_eq text.now other.now }
+{
+    text == other
 }
 
 /// Whether bytes are a name or `*`.

@@ -4,6 +4,7 @@
 #![tactic(auto)]
 
 mod changes;
+mod changing;
 mod faults;
 mod gathering;
 mod ident;
@@ -14,6 +15,7 @@ mod rows;
 mod tables;
 
 pub use changes::{Changes, CidrChange};
+pub use changing::change_collection;
 pub use faults::CidrFault;
 pub use ident::Ident;
 pub use lists::{Blocks, Locations};
