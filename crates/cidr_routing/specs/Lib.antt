@@ -1,9 +1,14 @@
 pub mod Choice
+pub mod Commands
 pub mod Search
 pub mod Stored
 pub mod Tables
+pub use Rattle.cidr_blocks.specs.Changed
+pub use Rattle.cidr_blocks.specs.Changes
+pub use Rattle.cidr_blocks.specs.Gathered
 pub use Rattle.cidr_blocks.specs.Idents
 pub use Rattle.cidr_blocks.specs.Places
+pub use Rattle.cidr_blocks.specs.Refusals
 pub use Rattle.considered_sets.specs.Considered
 pub use Rattle.ip_table.specs.Location
 pub use Rattle.routing.specs.Texts

@@ -6,10 +6,15 @@
 
 mod choice;
 mod collections;
+mod command;
 mod finding;
 mod ident;
+mod steps;
 
 pub use choice::choose_block;
-pub use cidr_blocks::{Blocks, CidrLocation, Collection, Locations};
+pub use cidr_blocks::{
+    Blocks, Changes, CidrChange, CidrFault, CidrLocation, Collection, Locations,
+};
 pub use collections::Collections;
+pub use command::CidrCommand;
 pub use ident::Ident;
