@@ -148,13 +148,20 @@ module _ (block : Prefix) (name : List ℕ) where
       → IsStrictlySortedBy name_cmp (names_of (match_ordering o
       (of_block name block ∷ l ∷ ls) (grown l block ∷ ls) (l ∷ with_row name block ls)))
   unfolding IsStrictlySortedBy
-  rise_by Less l ls e rise more =
-      ((e, each (λ other. name_cmp l.name other ≡ Less) (λ other. name_cmp name other ≡ Less)
-      (λ other h. nat_list_cmp_total.trans name l.name other e h) (names_of ls) rise.0), rise)
+  rise_by Less l ls e rise more = (
+    (
+      e,
+      each (λ other. name_cmp l.name other ≡ Less) (λ other. name_cmp name other ≡ Less)
+          (λ other h. nat_list_cmp_total.trans name l.name other e h) (names_of ls) rise.0,
+    ),
+    rise,
+  )
   rise_by Equal l ls e rise more = rise
-  rise_by Greater l ls e rise more =
-      (all_names (λ other. name_cmp l.name other ≡ Less)
-      (nat_list_cmp_total.antisymm l.name name ∙ ap ordering_reverse e) ls rise.0, more)
+  rise_by Greater l ls e rise more = (
+    all_names (λ other. name_cmp l.name other ≡ Less)
+        (nat_list_cmp_total.antisymm l.name name ∙ ap ordering_reverse e) ls rise.0,
+    more,
+  )
 
   rise_with : (ls : List CidrLocation) → IsStrictlySortedBy name_cmp (names_of ls)
       → IsStrictlySortedBy name_cmp (names_of (with_row name block ls))
@@ -273,4 +280,3 @@ none_gathered rows = record {
   once = tt;
   below = nothing rows;
 }
-

@@ -30,33 +30,40 @@ greater_turned p q e = block_cmp_total.antisymm q p ∙ ap ordering_reverse e
 
 module _ (block : Prefix) (name : List ℕ) where
   module _ (P : Row → Type 0) (new : P (block, name)) (same : (row : Row) → P row → P (row.0, name))
-      where
-    all_by : (o : Ordering) (row : Row) (rows : Rows) → P row → AllByRecursion P rows
-        → AllByRecursion P (insert_entry block_cmp rows block name)
-        → AllByRecursion P (match_ordering o ((block, name) ∷ row ∷ rows) ((row.0, name) ∷ rows)
-        (row ∷ insert_entry block_cmp rows block name))
-    all_by Less row rows p all more = (new, (p, all))
-    all_by Equal row rows p all more = (same row p, all)
-    all_by Greater row rows p all more = (p, more)
+    where
+      all_by : (o : Ordering) (row : Row) (rows : Rows) → P row → AllByRecursion P rows
+          → AllByRecursion P (insert_entry block_cmp rows block name)
+          → AllByRecursion P (match_ordering o ((block, name) ∷ row ∷ rows) ((row.0, name) ∷ rows)
+          (row ∷ insert_entry block_cmp rows block name))
+      all_by Less row rows p all more = (new, (p, all))
+      all_by Equal row rows p all more = (same row p, all)
+      all_by Greater row rows p all more = (p, more)
 
-    pub insert_all : (rows : Rows) → AllByRecursion P rows
-        → AllByRecursion P (insert_entry block_cmp rows block name)
-    insert_all [] all = (new, tt)
-    insert_all (row ∷ rows) all =
-        all_by (block_cmp block row.0) row rows all.0 all.1 (insert_all rows all.1)
+      pub insert_all : (rows : Rows) → AllByRecursion P rows
+          → AllByRecursion P (insert_entry block_cmp rows block name)
+      insert_all [] all = (new, tt)
+      insert_all (row ∷ rows) all =
+          all_by (block_cmp block row.0) row rows all.0 all.1 (insert_all rows all.1)
 
   rising_by : (o : Ordering) (row : Row) (rows : Rows) → block_cmp block row.0 ≡ o
       → Rising (row ∷ rows) → Rising (insert_entry block_cmp rows block name)
       → Rising (match_ordering o ((block, name) ∷ row ∷ rows) ((row.0, name) ∷ rows)
       (row ∷ insert_entry block_cmp rows block name))
-  rising_by Less row rows e rise more =
-      ((e, each (λ (other : Row). block_cmp row.0 other.0 ≡ Less)
-      (λ (other : Row). block_cmp block other.0 ≡ Less)
-      (λ other h. block_cmp_total.trans block row.0 other.0 e h) rows rise.0), rise)
+  rising_by Less row rows e rise more = (
+    (
+      e,
+      each (λ (other : Row). block_cmp row.0 other.0 ≡ Less)
+          (λ (other : Row). block_cmp block other.0 ≡ Less)
+          (λ other h. block_cmp_total.trans block row.0 other.0 e h) rows rise.0,
+    ),
+    rise,
+  )
   rising_by Equal row rows e rise more = rise
-  rising_by Greater row rows e rise more =
-      (insert_all (λ other. block_cmp row.0 other.0 ≡ Less) (greater_turned block row.0 e)
-      (λ other h. h) rows rise.0, more)
+  rising_by Greater row rows e rise more = (
+    insert_all (λ other. block_cmp row.0 other.0 ≡ Less) (greater_turned block row.0 e)
+        (λ other h. h) rows rise.0,
+    more,
+  )
 
   pub rising_insert : (rows : Rows) → Rising rows
       → Rising (insert_entry block_cmp rows block name)

@@ -2,6 +2,7 @@ pub mod Changed
 pub mod Changes
 pub mod Gathered
 pub mod Idents
+pub mod Laws
 pub mod Order
 pub mod Places
 pub mod Refusals

@@ -1,0 +1,5 @@
+use Rattle.cidr_blocks.proofs.Keeping.{one}
+use Rattle.cidr_blocks.proofs.laws.one_order.Goals as goal
+
+pub returns : goal.returns
+returns c = one
