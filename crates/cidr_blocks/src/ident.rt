@@ -63,6 +63,20 @@ impl Ident {
         front(&self.bytes, self.len as usize)
     }
 
+    /// Whether it is the name of a collection: 1 to 64 letters, digits, `_` and `-`.
+    pub fn is_collection_name(&self) -> bool
+        ensures { IsTrue result ↔ IsText is_location_byte 64 self.now }
+    {
+        is_name(self.bytes(), 64)
+    }
+
+    /// Whether it is the name of a location: 1 to 16 letters, digits, `_` and `-`.
+    pub fn is_location_name(&self) -> bool
+        ensures { IsTrue result ↔ IsText is_location_byte 16 self.now }
+    {
+        is_name(self.bytes(), 16)
+    }
+
     /// Whether it is `*`, which names no location.
     pub(crate) fn is_star(&self) -> bool
         ensures { result ≡ bytes_eq self.now star }
@@ -82,7 +96,7 @@ fn bytes_are(text: &[u8], other: &[u8]) -> bool
 fn is_ident(bytes: &[u8]) -> bool
     ensures { IsTrue result ↔ IsIdent bytes.now }
 {
-    if is_name(bytes) {
+    if is_name(bytes, 64) {
         return true;
     }
     is_star(bytes)
@@ -95,11 +109,11 @@ fn is_star(text: &[u8]) -> bool
     matches!(text, [b'*'])
 }
 
-/// Whether bytes are 1 to 64 letters, digits, `_` and `-`.
-fn is_name(bytes: &[u8]) -> bool
-    ensures { IsTrue result ↔ IsText is_location_byte 64 bytes.now }
+/// Whether bytes are 1 to so many letters, digits, `_` and `-`.
+fn is_name(bytes: &[u8], most: usize) -> bool
+    ensures { IsTrue result ↔ IsText is_location_byte most bytes.now }
 {
-    if bytes.is_empty() || bytes.len() > 64 {
+    if bytes.is_empty() || bytes.len() > most {
         return false;
     }
     are_location_bytes(bytes)

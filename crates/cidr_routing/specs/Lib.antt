@@ -7,6 +7,7 @@ pub use Rattle.cidr_blocks.specs.Changed
 pub use Rattle.cidr_blocks.specs.Changes
 pub use Rattle.cidr_blocks.specs.Gathered
 pub use Rattle.cidr_blocks.specs.Idents
+pub use Rattle.cidr_blocks.specs.Laws
 pub use Rattle.cidr_blocks.specs.Places
 pub use Rattle.cidr_blocks.specs.Refusals
 pub use Rattle.considered_sets.specs.Considered

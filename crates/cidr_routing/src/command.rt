@@ -1,6 +1,10 @@
 //! Commands on collections.
 
-use cidr_blocks::{Changes, Ident};
+ghost use Rattle.std.specs.Prelude.{IsTrue, ◌↔◌};
+ghost use Rattle.cidr_blocks.specs.Laws.{HaveNames};
+ghost use Rattle.cidr_routing.specs.Commands.{HasNames};
+
+use cidr_blocks::{Changes, CidrChange, Ident};
 
 /// A command on collections.
 #[derive(Drop)]
@@ -11,4 +15,28 @@ pub enum CidrCommand {
     Change { id: u32, changes: Changes },
     /// The end of a collection.
     Delete(u32),
+}
+
+/// Whether a command gives names as they are: 1 to 64 letters, digits, `_` and `-` to a collection,
+/// 1 to 16 to a location.
+pub fn has_names(command: &CidrCommand) -> bool
+    ensures { IsTrue result ↔ HasNames command.now }
+{
+    match command {
+        CidrCommand::Create(name) => name.is_collection_name(),
+        CidrCommand::Change { id: _, changes } => have_names(changes.as_slice()),
+        CidrCommand::Delete(_) => true,
+    }
+}
+
+/// Whether changes name locations.
+fn have_names(changes: &[CidrChange]) -> bool
+    ensures { IsTrue result ↔ HaveNames changes.now }
+{
+    for change in changes {
+        if !change.location.is_location_name() {
+            return false;
+        }
+    }
+    true
 }

@@ -9,6 +9,7 @@ mod collections;
 mod command;
 mod finding;
 mod ident;
+mod laws;
 mod steps;
 
 pub use choice::choose_block;
@@ -16,5 +17,6 @@ pub use cidr_blocks::{
     Blocks, Changes, CidrChange, CidrFault, CidrLocation, Collection, Locations,
 };
 pub use collections::Collections;
-pub use command::CidrCommand;
+pub use command::{CidrCommand, has_names};
 pub use ident::Ident;
+pub use laws::commands_keep_sound;
