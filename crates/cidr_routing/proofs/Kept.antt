@@ -157,9 +157,11 @@ not_taken_by : (b : Bool) (held : Held) (name : List ℕ) (list : List Held)
     → (is_taken name list ≡ false → AllByRecursion (λ held. name ≢ held.1.name) list)
     → AllByRecursion (λ held. name ≢ held.1.name) (held ∷ list)
 not_taken_by true held name list e none rest = absurd (let no : ⊥ = cc in no)
-not_taken_by false held name list e none rest =
-    (λ same. absurd (let f : bytes_eq held.1.name name ≡ true =
-    (bytes_eq-Decides held.1.name name).1 (sym same) in let no : ⊥ = cc in no), rest none)
+not_taken_by false held name list e none rest = (
+  λ same. absurd (let f : bytes_eq held.1.name name ≡ true =
+      (bytes_eq-Decides held.1.name name).1 (sym same) in let no : ⊥ = cc in no),
+  rest none,
+)
 
 not_taken : (name : List ℕ) (list : List Held) → is_taken name list ≡ false
     → AllByRecursion (λ held. name ≢ held.1.name) list
@@ -191,6 +193,7 @@ module _ (stored : Stored) (sound : IsSound stored) where
     where
       new : Held
       new = (stored.next, record { name = name; locations = [] })
+
       not_last : stored.next ≢ 4294967295
       not_last e = let f = eq-eqb stored.next 4294967295 e in let no : ⊥ = cc in no
 

@@ -35,6 +35,9 @@ created stored name = record {
   list = stored.list ++ (stored.next, record { name = name; locations = [] }) ∷ [];
 }
 
+abbrev pub create_answer : Stored → (name : List ℕ) → Result Stored CidrFault
+create_answer stored name = unless (create_refusal stored name) (Ok (created stored name))
+
 -- a collection, with these locations where it has the number
 abbrev pub with_locations_at : (id : ℕ) → List CidrLocation → ℕ × Collection → ℕ × Collection
 with_locations_at id locations held =
@@ -80,8 +83,7 @@ of_there id (Some collection) answer = answer collection
 
 -- The collections after a command, or its first refusal.
 abbrev pub answer : Stored → CidrCommand → (used : List (ℕ × List ℕ)) → Result Stored CidrFault
-answer stored (Create name) used =
-    unless (create_refusal stored name) (Ok (created stored name))
+answer stored (Create name) used = create_answer stored name
 answer stored (Change id changes) used = of_there id (collection_at id stored.list)
     (λ collection. put_back stored id (changed_collection collection changes id used))
 answer stored (Delete id) used = of_there id (collection_at id stored.list)

@@ -1,15 +1,20 @@
 //! Collections by their numbers, with a table of the blocks of each.
 
-ghost use Rattle.std.specs.Prelude.{◌≡◌, [], IfOk};
+ghost use Rattle.std.specs.Prelude.{◌≡◌, [], IfOk, Ok};
 ghost use Rattle.std.specs.List.{AllByRecursion};
 ghost use Rattle.std.specs.Option.{option_copied};
 ghost use Rattle.cidr_blocks.specs.Places.{IsCollection};
+ghost use Rattle.cidr_blocks.specs.Refusals.{Gives};
+ghost use Rattle.cidr_routing.specs.Commands.{HasNames, answer};
 ghost use Rattle.cidr_routing.specs.Stored.{IsSound, LocatesIn, NextIdOrNone, Stored, collection_at};
 ghost use Rattle.cidr_routing.specs.Tables.{tables_of};
 
+use crate::command::CidrCommand;
 use crate::finding::{id_after, place_of};
+use crate::laws::commands_keep_sound;
+use crate::steps::carry_out;
 use address_text::IpAddress;
-use cidr_blocks::{Collection, Ident, table_of};
+use cidr_blocks::{CidrFault, Collection, Ident, table_of};
 use ip_table::IpTable;
 use octets::OutOfMemory;
 use std::alloc::Global;
@@ -96,6 +101,41 @@ impl Collections {
             return (None, 0);
         };
         self.tables[place].locate(client)
+    }
+
+    /// The collections after a command, or its first refusal. These here stay as they are.
+    ///
+    /// `used` is what the record sets name: collections by their numbers, and in each a location or
+    /// `*`. A new collection is refused by its name, then by the bound of 100, then by the last
+    /// number. Changes and the end of a collection are refused by its number first. Changes are
+    /// refused one by one by the length of a block, then by a block that is put and stands under
+    /// another location; after the last one by the bound of 1,000 blocks, then by a location in use
+    /// that has no block left, of several the least by bytes.
+    pub fn after(
+        &self,
+        alloc: Global,
+        command: &CidrCommand,
+        used: &[(u32, Ident)],
+    ) -> Result<Collections, CidrFault>
+        requires names { HasNames command.now }
+        ensures { Gives result (answer self.now command.now used.now) }
+    {
+        commands_keep_sound();
+        match carry_out(alloc, self.next, &self.list, command, used) {
+            Ok((next, list)) => stored(alloc, next, list),
+            Err(fault) => Err(fault),
+        }
+    }
+}
+
+/// These collections, where there is memory for their tables.
+fn stored(alloc: Global, next: u32, list: Vec<(u32, Collection)>) -> Result<Collections, CidrFault>
+    requires { IsSound (record { next = next; list = list.items }) }
+    ensures { Gives result (Ok (record { next = next; list = list.items })) }
+{
+    match Collections::restore(alloc, next, list) {
+        Ok(collections) => Ok(collections),
+        Err(_) => Err(CidrFault::OutOfMemory),
     }
 }
 

@@ -1,12 +1,13 @@
 //! What a command makes of a list of collections. The list itself stays.
 
-ghost use Rattle.std.specs.Prelude.{◌≡◌, ℕ, ◌+◌, ◌<◌, ◌||◌, List, map, IfErr, IfOk, Ok};
+ghost use Rattle.std.specs.Prelude.{◌≡◌, ◌+◌, ◌<◌, ◌||◌, map, IfErr, IfOk, Ok};
 ghost use Rattle.cidr_blocks.specs.Refusals.{IsFaultOf};
-ghost use Rattle.cidr_routing.specs.declared.command.CidrCommand.TheVariants.{Change, Create, Delete};
-ghost use Rattle.cidr_routing.specs.Commands.{answer, any_has_block, create_refusal, is_taken};
+ghost use Rattle.cidr_routing.specs.declared.command.CidrCommand.TheVariants.{Change, Delete};
+ghost use Rattle.cidr_routing.specs.Commands.{answer, any_has_block, create_answer, create_refusal, is_taken};
 ghost use Rattle.cidr_routing.specs.Commands.{is_used, with_locations_at, without};
 ghost use Rattle.cidr_routing.specs.Stored.{Stored};
 
+use crate::command::CidrCommand;
 use crate::finding::place_of;
 use cidr_blocks::{
     Changes, CidrFault, CidrLocation, Collection, Ident, Locations, change_collection,
@@ -20,19 +21,51 @@ const MAX_COLLECTIONS: usize = 100;
 /// The last number, which no collection gets.
 const LAST: u32 = 4_294_967_295;
 
+/// The next number and the collections after a command, or its first refusal.
+pub(crate) fn carry_out(
+    alloc: Global,
+    next: u32,
+    list: &[(u32, Collection)],
+    command: &CidrCommand,
+    used: &[(u32, Ident)],
+) -> Result<(u32, Vec<(u32, Collection)>), CidrFault>
+    ensures ok { IfOk result (λ after.
+        answer (record { next = next; list = list.now }) command.now used.now
+        ≡ Ok (record { next = after.0; list = after.1.items })) }
+    ensures err { IfErr result (IsFaultOf
+        (answer (record { next = next; list = list.now }) command.now used.now)) }
+{
+    match command {
+        CidrCommand::Create(name) => match create(alloc, next, list, *name) {
+            Ok(after) => Ok((next + 1, after)),
+            Err(fault) => Err(fault),
+        },
+        CidrCommand::Change { id, changes } => {
+            match change(alloc, next, list, *id, changes, used) {
+                Ok(after) => Ok((next, after)),
+                Err(fault) => Err(fault),
+            }
+        }
+        CidrCommand::Delete(id) => match delete(alloc, next, list, *id, used) {
+            Ok(after) => Ok((next, after)),
+            Err(fault) => Err(fault),
+        },
+    }
+}
+
 /// The collections with a new one.
-pub(crate) fn create(
+fn create(
     alloc: Global,
     next: u32,
     list: &[(u32, Collection)],
     name: Ident,
 ) -> Result<Vec<(u32, Collection)>, CidrFault>
-    ensures ok { (used : List (ℕ × List ℕ)) → IfOk result (λ v.
-        answer (record { next = next; list = list.now }) (Create name) used
+    ensures ok { IfOk result (λ v.
+        create_answer (record { next = next; list = list.now }) name
         ≡ Ok (record { next = next + 1; list = v.items })) }
     ensures last { IfOk result (λ _. next < 4294967295) }
-    ensures err { (used : List (ℕ × List ℕ)) → IfErr result (IsFaultOf
-        (answer (record { next = next; list = list.now }) (Create name) used)) }
+    ensures err { IfErr result (IsFaultOf
+        (create_answer (record { next = next; list = list.now }) name)) }
 {
     if let Some(fault) = create_refusal(next, list, &name) {
         return Err(fault);
@@ -90,7 +123,7 @@ fn copies(alloc: Global, list: &[(u32, Collection)]) -> Result<Vec<(u32, Collect
 }
 
 /// The collections with changes of one.
-pub(crate) fn change(
+fn change(
     alloc: Global,
     next: u32,
     list: &[(u32, Collection)],
@@ -152,7 +185,7 @@ fn with_locations_at(
 }
 
 /// The collections without one.
-pub(crate) fn delete(
+fn delete(
     alloc: Global,
     next: u32,
     list: &[(u32, Collection)],
