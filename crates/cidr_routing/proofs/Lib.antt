@@ -1,3 +1,4 @@
+mod CommandVectors
 pub mod Ids
 pub mod InOrder
 pub mod Kept
