@@ -8,7 +8,7 @@ use Rattle.ip_table.specs.Rows.{HasRow}
 use Rattle.cidr_blocks.specs.declared.places.CidrLocation.{CidrLocation}
 use Rattle.cidr_blocks.specs.Places.{StandOnce, rows_at, rows_of}
 
-abbrev Row : Type 0
+abbrev pub Row : Type 0
 Row = Prefix × List ℕ
 
 -- none of the first ones

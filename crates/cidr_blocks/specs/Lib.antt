@@ -1,11 +1,8 @@
-pub mod Changed
-pub mod Changes
-pub mod Gathered
 pub mod Idents
+pub mod Judged
 pub mod Laws
 pub mod Order
 pub mod Places
-pub mod Refusals
 pub use Rattle.ip_table.specs.Prefixes
 pub use Rattle.ip_table.specs.Rows
 pub use Rattle.routing.specs.Texts

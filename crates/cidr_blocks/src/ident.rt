@@ -78,7 +78,7 @@ impl Ident {
     }
 
     /// Whether it is `*`, which names no location.
-    pub(crate) fn is_star(&self) -> bool
+    pub fn is_star(&self) -> bool
         ensures { result ≡ bytes_eq self.now star }
     {
         bytes_are(self.bytes(), b"*")

@@ -3,23 +3,19 @@
 //! A block stands under one location at most. Nothing here knows of the sets that name locations.
 #![tactic(auto)]
 
-mod changes;
-mod changing;
-mod faults;
-mod gathering;
 mod ident;
+mod judging;
 mod laws;
 mod lists;
 mod order;
 mod places;
-mod rows;
 mod tables;
 
-pub use changes::{Changes, CidrChange};
-pub use changing::change_collection;
-pub use faults::CidrFault;
 pub use ident::Ident;
-pub use laws::{changes_keep_collections, one_order};
+pub use judging::is_collection;
+pub use laws::one_order;
 pub use lists::{Blocks, Locations};
+pub use octets::OutOfMemory;
+pub use order::{Block, is_block, name_order};
 pub use places::{CidrLocation, Collection};
 pub use tables::table_of;

@@ -54,7 +54,7 @@ impl Blocks {
     }
 
     /// Adds a block behind them.
-    pub(crate) fn push(&mut self, block: IpPrefix) -> Result<(), OutOfMemory>
+    pub fn push(&mut self, block: IpPrefix) -> Result<(), OutOfMemory>
         ensures { OnOk result (self.new ≡ self.old ++ block ∷ []) }
     {
         self.list.push(block)?;

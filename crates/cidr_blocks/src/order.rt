@@ -1,4 +1,5 @@
-//! Blocks in their order: IPv4 first, then by the octets of the address, then by length.
+//! Blocks, and names, in their order: a block of IPv4 first, then by the octets of the address, then
+//! by length; a name by its bytes.
 
 ghost use Rattle.std.specs.Prelude.{◌≡◌, Some, refl};
 ghost use Rattle.std.specs.Cmp.Lexicographic.{slice_cmp};
@@ -6,8 +7,9 @@ ghost use Rattle.std.specs.Ordering.{eq_by_cmp, nat_cmp};
 ghost use Rattle.ip_table.specs.Bits.{width_of};
 ghost use Rattle.cidr_blocks.specs.Order.{block_cmp_partial, block_cmp_total};
 ghost use Rattle.cidr_blocks.specs.Order.{same_block_laws, same_block_partial};
-ghost use Rattle.cidr_blocks.specs.Places.{block_cmp, octets_of};
+ghost use Rattle.cidr_blocks.specs.Places.{block_cmp, is_block, name_cmp, octets_of};
 
+use crate::ident::Ident;
 use address_text::IpAddress;
 use ip_table::IpPrefix;
 use std::cmp::Ordering;
@@ -15,8 +17,8 @@ use std::marker::Model;
 
 /// A prefix that is ordered as a block.
 #[derive(Clone, Copy)]
-pub(crate) struct Block {
-    pub(crate) prefix: IpPrefix,
+pub struct Block {
+    pub prefix: IpPrefix,
 }
 
 impl Model for Block {
@@ -68,7 +70,7 @@ impl Ord for Block {
 }
 
 /// The order of two blocks.
-fn order_of(prefix: IpPrefix, other: IpPrefix) -> Ordering
+pub(crate) fn order_of(prefix: IpPrefix, other: IpPrefix) -> Ordering
     ensures { result ≡ block_cmp prefix other }
 {
     let width = width_of(prefix.address());
@@ -104,4 +106,22 @@ fn width_of(address: IpAddress) -> u8
         IpAddress::V4(_) => 32,
         IpAddress::V6(_) => 128,
     }
+}
+
+/// Whether a prefix has the length of a block.
+pub fn is_block(prefix: IpPrefix) -> bool
+    ensures { result ≡ is_block prefix }
+{
+    let most = match prefix.address() {
+        IpAddress::V4(_) => 24,
+        IpAddress::V6(_) => 48,
+    };
+    1 <= prefix.length() && prefix.length() <= most
+}
+
+/// The order of two names, by bytes.
+pub fn name_order(name: &Ident, other: &Ident) -> Ordering
+    ensures { result ≡ name_cmp name.now other.now }
+{
+    name.bytes().cmp(other.bytes())
 }

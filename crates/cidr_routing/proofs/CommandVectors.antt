@@ -3,8 +3,8 @@ use Rattle.std.proofs.Common.{◌≡◌, ℕ, true, false, Some, None, List, [],
 use Rattle.std.specs.Prelude.{codes}
 use Rattle.address_text.specs.declared.address.IpAddress.TheVariants.{V4}
 use Rattle.ip_table.specs.Prefixes.{Prefix}
-use Rattle.cidr_blocks.specs.declared.changes.CidrChange.{CidrChange}
-use Rattle.cidr_blocks.specs.declared.faults.CidrFault.TheVariants.{CollectionExists, BlockLength, IdsEnded, TooManyCidrCollections, NoSuchCidrCollection, CidrCollectionInUse, CidrLocationInUse}
+use Rattle.cidr_changes.specs.declared.changes.CidrChange.{CidrChange}
+use Rattle.cidr_changes.specs.declared.faults.CidrFault.TheVariants.{CollectionExists, BlockLength, IdsEnded, TooManyCidrCollections, NoSuchCidrCollection, CidrCollectionInUse, CidrLocationInUse}
 use Rattle.cidr_blocks.specs.declared.places.CidrLocation.{CidrLocation}
 use Rattle.cidr_blocks.specs.declared.places.Collection.{Collection}
 use Rattle.cidr_routing.specs.declared.command.CidrCommand.TheVariants.{Create, Change, Delete}

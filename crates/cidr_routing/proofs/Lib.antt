@@ -1,6 +1,7 @@
 mod CommandVectors
 pub mod Ids
 pub mod InOrder
+pub mod InTurn
 pub mod Kept
 pub mod Known
 mod Vectors

@@ -5,13 +5,13 @@ use Rattle.std.specs.Prelude.{◌≡◌, ℕ, ◌+◌, Bool, not, ◌||◌, nat_
 use Rattle.std.specs.List.{filter, list_any}
 use Rattle.std.specs.Str.{bytes_eq}
 use Rattle.routing.specs.Texts.{IsText, is_location_byte}
-use Rattle.cidr_blocks.specs.declared.faults.CidrFault.{CidrFault}
-use Rattle.cidr_blocks.specs.declared.faults.CidrFault.TheVariants.{CollectionExists, IdsEnded, TooManyCidrCollections, NoSuchCidrCollection, CidrCollectionInUse}
+use Rattle.cidr_changes.specs.declared.faults.CidrFault.{CidrFault}
+use Rattle.cidr_changes.specs.declared.faults.CidrFault.TheVariants.{CollectionExists, IdsEnded, TooManyCidrCollections, NoSuchCidrCollection, CidrCollectionInUse}
 use Rattle.cidr_blocks.specs.declared.places.CidrLocation.{CidrLocation}
 use Rattle.cidr_blocks.specs.declared.places.Collection.{Collection}
-use Rattle.cidr_blocks.specs.Changed.{changed_collection}
-use Rattle.cidr_blocks.specs.Laws.{HaveNames}
-use Rattle.cidr_blocks.specs.Refusals.{first_of, rule, unless}
+use Rattle.cidr_changes.specs.Changed.{changed_collection}
+use Rattle.cidr_changes.specs.Laws.{HaveNames}
+use Rattle.cidr_changes.specs.Refusals.{first_of, rule, unless}
 use Rattle.cidr_routing.specs.declared.command.CidrCommand.{CidrCommand}
 use Rattle.cidr_routing.specs.declared.command.CidrCommand.TheVariants.{Create, Change, Delete}
 use Rattle.cidr_routing.specs.Stored.{IsSound, Stored, collection_at}

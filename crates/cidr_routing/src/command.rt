@@ -1,10 +1,11 @@
 //! Commands on collections.
 
 ghost use Rattle.std.specs.Prelude.{IsTrue, ◌↔◌};
-ghost use Rattle.cidr_blocks.specs.Laws.{HaveNames};
+ghost use Rattle.cidr_changes.specs.Laws.{HaveNames};
 ghost use Rattle.cidr_routing.specs.Commands.{HasNames};
 
-use cidr_blocks::{Changes, CidrChange, Ident};
+use cidr_blocks::Ident;
+use cidr_changes::{Changes, CidrChange};
 
 /// A command on collections.
 #[derive(Drop)]

@@ -2,7 +2,7 @@
 
 ghost use Rattle.cidr_routing.specs.Commands.{KeepsSound};
 
-use cidr_blocks::changes_keep_collections;
+use cidr_changes::changes_keep_collections;
 
 /// What a command makes of sound collections is sound, where it has names.
 pub fn commands_keep_sound()

@@ -1,17 +1,17 @@
 //! What a command makes of a list of collections. The list itself stays.
 
 ghost use Rattle.std.specs.Prelude.{◌≡◌, ◌+◌, ◌<◌, ◌||◌, map, IfErr, IfOk, Ok};
-ghost use Rattle.cidr_blocks.specs.Refusals.{IsFaultOf};
+ghost use Rattle.cidr_changes.specs.Refusals.{IsFaultOf};
 ghost use Rattle.cidr_routing.specs.declared.command.CidrCommand.TheVariants.{Change, Delete};
-ghost use Rattle.cidr_routing.specs.Commands.{answer, any_has_block, create_answer, create_refusal, is_taken};
-ghost use Rattle.cidr_routing.specs.Commands.{is_used, with_locations_at, without};
+ghost use Rattle.cidr_routing.specs.Commands.{answer, any_has_block, create_answer};
+ghost use Rattle.cidr_routing.specs.Commands.{create_refusal, is_taken, is_used};
+ghost use Rattle.cidr_routing.specs.Commands.{with_locations_at, without};
 ghost use Rattle.cidr_routing.specs.Stored.{Stored};
 
 use crate::command::CidrCommand;
 use crate::finding::place_of;
-use cidr_blocks::{
-    Changes, CidrFault, CidrLocation, Collection, Ident, Locations, change_collection,
-};
+use cidr_blocks::{CidrLocation, Collection, Ident, Locations};
+use cidr_changes::{Changes, CidrFault, change_collection};
 use octets::OutOfMemory;
 use std::alloc::Global;
 

@@ -10,3 +10,5 @@ mod clients;
 mod made;
 #[cfg(test)]
 mod refusals;
+#[cfg(test)]
+mod restoring;

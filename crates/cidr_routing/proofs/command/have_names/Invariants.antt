@@ -1,6 +1,6 @@
 use Rattle.std.proofs.Common.{drop}
 use Rattle.std.specs.Prelude.{◌↔◌}
-use Rattle.cidr_blocks.specs.Laws.{HaveNames}
+use Rattle.cidr_changes.specs.Laws.{HaveNames}
 use Rattle.cidr_routing.proofs.command.have_names.Given as goal
 
 abbrev pub invariant-loop-change : goal.invariant-loop-change

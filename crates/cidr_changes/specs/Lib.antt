@@ -1,0 +1,10 @@
+pub mod Changed
+pub mod Changes
+pub mod Gathered
+pub mod Laws
+pub mod Refusals
+pub use Rattle.cidr_blocks.specs.Idents
+pub use Rattle.cidr_blocks.specs.Order
+pub use Rattle.cidr_blocks.specs.Places
+pub use Rattle.ip_table.specs.Prefixes
+pub use Rattle.routing.specs.Texts

@@ -1,0 +1,17 @@
+//! Changes of a collection of CIDR blocks: blocks that are put under locations and taken from them.
+//!
+//! Changes are carried out all together or not at all. A collection keeps a block of each location
+//! that a record set names.
+#![tactic(auto)]
+
+mod changes;
+mod changing;
+mod faults;
+mod gathering;
+mod laws;
+mod rows;
+
+pub use changes::{Changes, CidrChange};
+pub use changing::change_collection;
+pub use faults::CidrFault;
+pub use laws::changes_keep_collections;
