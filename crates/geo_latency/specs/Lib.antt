@@ -1,6 +1,9 @@
 pub mod First
+pub mod Laws
+pub mod Lines
+pub mod Nearest
 pub mod Places
 pub mod Regions
 pub mod Rows
-pub mod Search
+pub mod Tables
 pub use Rattle.considered_sets.specs.Considered

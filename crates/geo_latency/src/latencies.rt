@@ -3,6 +3,7 @@
 ghost use Rattle.std.specs.Prelude.{◌≡◌};
 ghost use Rattle.geo_latency.specs.Regions.{latency_of};
 
+use crate::same::is_same_region;
 use routing::Region;
 use std::marker::Model;
 
@@ -21,6 +22,13 @@ impl Model for Latencies {
 }
 
 impl Latencies {
+    /// The latencies of these rows.
+    pub(crate) fn new(rows: Vec<(Region, u32)>) -> Latencies
+        ensures { result ≡ rows.items }
+    {
+        Latencies { rows }
+    }
+
     /// The latency of a region, where it is told.
     pub fn latency_of(&self, region: &Region) -> Option<u32>
         ensures { result ≡ latency_of self.now region.now }
@@ -30,11 +38,11 @@ impl Latencies {
 }
 
 /// The first latency that is told of a region.
-fn latency_in(rows: &[(Region, u32)], region: &Region) -> Option<u32>
+pub(crate) fn latency_in(rows: &[(Region, u32)], region: &Region) -> Option<u32>
     ensures { result ≡ latency_of rows.now region.now }
 {
     for i in 0..rows.len() {
-        if rows[i].0.bytes() == region.bytes() {
+        if is_same_region(&rows[i].0, region) {
             return Some(rows[i].1);
         }
     }

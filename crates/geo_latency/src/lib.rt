@@ -6,13 +6,21 @@
 #![tactic(auto)]
 
 mod latencies;
+mod laws;
+mod lines;
 mod location;
+mod pieces;
 mod places;
 mod regions;
 mod rows;
+mod same;
+mod several;
+mod tables;
 
 pub use latencies::Latencies;
+pub use laws::free_prefixes;
 pub use location::Location;
 pub use places::choose_place;
 pub use regions::choose_region;
 pub use rows::{read_location, read_region_latency};
+pub use tables::{TableLine, Tables};

@@ -1,13 +1,19 @@
-//! The sets that apply to a client, looked for by the size of their places from the smallest on.
+//! The set of the smallest place that applies to a client, kept while the sets are walked.
 
-ghost use Rattle.std.specs.Prelude.{◌≡◌, ◌≤◌, ◌<◌, ◌&&◌, ◌||◌, length, slice_get, IfSome};
+ghost use Rattle.std.specs.Prelude.{◌≡◌, ◌≤◌, ◌<◌, ℕ, List, length, if◌then◌else◌};
+ghost use Rattle.std.specs.Prelude.{Option, None, IfSome, IsTrue};
 ghost use Rattle.std.specs.Option.{option_copied};
-ghost use Rattle.geo_latency.specs.Places.{chosen, in_order, sets_of, applies};
-ghost use Rattle.geo_latency.specs.Places.{is_some_of, is_same_continent, number_of};
-ghost use Rattle.geo_latency.specs.Search.{asked};
+ghost use Rattle.geo_latency.specs.Nearest.{IsWithin, Leads, code_number, country_number};
+ghost use Rattle.geo_latency.specs.Nearest.{order_of, rank_of, size_of, wanted, with_set};
+ghost use Rattle.geo_latency.specs.Places.{chosen, is_some_of, is_same_continent, number_of};
+ghost use Rattle.geo_latency.specs.declared.location.Location.{Location};
 
 use crate::location::Location;
+use crate::same::is_same_part;
 use routing::{Continent, Place, Sub};
+
+/// What stands for the rank of a set where none was found. It is behind each that a set has.
+const NONE: u8 = 8;
 
 /// Chooses a set of a geolocation group. The answer is its place in the group.
 ///
@@ -18,10 +24,18 @@ pub fn choose_place(places: &[Place], healthy: &[bool], client: Option<&Location
     ensures chosen { result ≡ chosen places.now healthy.now (option_copied client.entry) }
     ensures within { IfSome result (λ set. set < length places.now) }
 {
-    if let Some(set) = search(places, healthy, client, false) {
-        return Some(set);
+    let country = wanted_country(client);
+    let mut nearest = Nearest { rank: NONE, set: 0 };
+    for i in (0..places.len()).rev() {
+        if is_elsewhere(country, &places[i]) {
+            continue;
+        }
+        nearest = with_set(client, &places[i], healthy[i], i, nearest);
     }
-    search(places, healthy, client, true)
+    if nearest.rank >= NONE {
+        return None;
+    }
+    Some(nearest.set)
 }
 
 /// The sizes of places.
@@ -33,71 +47,125 @@ enum Size {
     Anywhere,
 }
 
-/// The set of the smallest place that applies, among the healthy ones or among all.
-fn search(places: &[Place], healthy: &[bool], client: Option<&Location>, all: bool) -> Option<usize>
-    requires one_length { length places.now ≡ length healthy.now }
-    ensures first { result ≡ slice_get
-        (asked all healthy.now (in_order (option_copied client.entry) places.now)) 0 }
-    ensures within { IfSome result (λ set. set < length places.now) }
-{
-    if let Some(set) = find(places, healthy, client, Size::Subdivision, all) {
-        return Some(set);
-    }
-    if let Some(set) = find(places, healthy, client, Size::Country, all) {
-        return Some(set);
-    }
-    if let Some(set) = find(places, healthy, client, Size::Continent, all) {
-        return Some(set);
-    }
-    find(places, healthy, client, Size::Anywhere, all)
+/// The set that comes first among those that were walked, and its rank.
+#[derive(Clone, Copy)]
+struct Nearest {
+    rank: u8,
+    set: usize,
 }
 
-/// The first set that applies with a place of this size, among the healthy ones or among all.
-fn find(
-    places: &[Place],
-    healthy: &[bool],
+/// The set that comes first when one more was looked at, which stands in front of the others.
+fn with_set(
     client: Option<&Location>,
-    size: Size,
-    all: bool,
-) -> Option<usize>
-    requires one_length { length places.now ≡ length healthy.now }
-    ensures first { result ≡ slice_get
-        (asked all healthy.now (sets_of size (option_copied client.entry) places.now)) 0 }
-    ensures within { IfSome result (λ set. set < length places.now) }
+    place: &Place,
+    healthy: bool,
+    set: usize,
+    nearest: Nearest,
+) -> Nearest
+    ensures leads { (lists : List (List ℕ)) → length lists ≡ 8
+        → Leads nearest.rank nearest.set lists
+        → Leads result.rank result.set
+        (with_set healthy (size_of (option_copied client.entry) place.now) set lists) }
+    ensures rank { nearest.rank ≤ 8 → result.rank ≤ 8 }
+    ensures within { (n : ℕ) → set < n → IsWithin nearest n → IsWithin result n }
 {
-    for i in 0..places.len() {
-        if is_asked(size, client, &places[i], healthy[i], all) {
-            return Some(i);
-        }
+    let Some(size) = size_of(client, place) else {
+        return nearest;
+    };
+    let rank = rank_of(healthy, size);
+    if rank > nearest.rank {
+        return nearest;
     }
-    None
+    Nearest { rank, set }
 }
 
-/// Whether a set applies with a place of this size, and is one of those that are asked.
-fn is_asked(size: Size, client: Option<&Location>, place: &Place, healthy: bool, all: bool) -> bool
-    ensures { result ≡ (applies size (option_copied client.entry) place.now && (all || healthy)) }
+/// The rank of a set: the healthy ones come first, and of these the smaller places.
+fn rank_of(healthy: bool, size: Size) -> u8
+    ensures rank { result ≡ rank_of healthy size }
+    ensures within { result < 8 }
 {
-    applies(size, client, place) && (all || healthy)
+    let order = order_of(size);
+    if healthy { order } else { order + 4 }
 }
 
-/// Whether a place of this size applies to the client.
-fn applies(size: Size, client: Option<&Location>, place: &Place) -> bool
-    ensures { result ≡ applies size (option_copied client.entry) place.now }
+/// A number for each size, from the smallest on.
+fn order_of(size: Size) -> u8
+    ensures order { result ≡ order_of size }
+    ensures within { result < 4 }
+{
+    match size {
+        Size::Subdivision => 0,
+        Size::Country => 1,
+        Size::Continent => 2,
+        Size::Anywhere => 3,
+    }
+}
+
+/// The size of a place, where it applies to the client.
+fn size_of(client: Option<&Location>, place: &Place) -> Option<Size>
+    ensures { result ≡ size_of (option_copied client.entry) place.now }
 {
     let Some(client) = client else {
-        return matches!((size, place), (Size::Anywhere, Place::Anywhere));
+        return match place {
+            Place::Anywhere => Some(Size::Anywhere),
+            _ => None,
+        };
     };
-    match (size, place) {
-        (Size::Subdivision, Place::Subdivision(country, part)) => {
-            is_country(&client.country, country) && is_part(&client.subdivision, part)
+    match place {
+        Place::Subdivision(country, part) => {
+            if !is_part(&client.subdivision, part) {
+                return None;
+            }
+            if_here(is_country(&client.country, country), Size::Subdivision)
         }
-        (Size::Country, Place::Country(country)) => is_country(&client.country, country),
-        (Size::Continent, Place::Continent(continent)) => {
-            is_same_continent(client.continent, *continent)
+        Place::Country(country) => if_here(is_country(&client.country, country), Size::Country),
+        Place::Continent(continent) => {
+            if_here(
+                is_same_continent(client.continent, *continent),
+                Size::Continent,
+            )
         }
-        (Size::Anywhere, Place::Anywhere) => true,
+        Place::Anywhere => Some(Size::Anywhere),
+    }
+}
+
+/// A size, where the place applies.
+fn if_here(is_here: bool, size: Size) -> Option<Size>
+    ensures { result ≡ (if is_here then Some size else None) }
+{
+    if is_here { Some(size) } else { None }
+}
+
+/// Whether a place is a country other than the one of this number. Most places of a large group
+/// are, so this is looked at first.
+fn is_elsewhere(country: u32, place: &Place) -> bool
+    ensures { (client : Option Location) → country ≡ wanted client → IsTrue result
+        → size_of client place.now ≡ None }
+{
+    match place {
+        Place::Country(code) => code_number(code) != country,
         _ => false,
     }
+}
+
+/// The number of the client's country, and one that no country has where none is told.
+fn wanted_country(client: Option<&Location>) -> u32
+    ensures { result ≡ wanted (option_copied client.entry) }
+{
+    let Some(client) = client else {
+        return 65_536;
+    };
+    match &client.country {
+        Some(code) => code_number(code),
+        None => 65_536,
+    }
+}
+
+/// The number of a country's code.
+fn code_number(code: &[u8; 2]) -> u32
+    ensures { result ≡ code_number code.now }
+{
+    u32::from(code[0]) + u32::from(code[1]) * 256
 }
 
 /// Whether the client's country is this one.
@@ -115,7 +183,7 @@ fn is_part(part: &Option<Sub>, other: &Sub) -> bool
     ensures { result ≡ is_some_of part.now other.now }
 {
     match part {
-        Some(code) => code.bytes() == other.bytes(),
+        Some(code) => is_same_part(code, other),
         None => false,
     }
 }

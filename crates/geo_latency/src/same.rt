@@ -1,0 +1,20 @@
+//! Equality of short texts that stand in arrays: the arrays are compared, which takes no loop.
+
+ghost use Rattle.std.specs.Prelude.{◌≡◌};
+ghost use Rattle.std.specs.Str.{bytes_eq};
+
+use routing::{Region, Sub};
+
+/// Whether two regions have one name.
+pub(crate) fn is_same_region(region: &Region, other: &Region) -> bool
+    ensures { result ≡ bytes_eq region.now other.now }
+{
+    region == other
+}
+
+/// Whether two subdivisions have one code.
+pub(crate) fn is_same_part(part: &Sub, other: &Sub) -> bool
+    ensures { result ≡ bytes_eq part.now other.now }
+{
+    part == other
+}

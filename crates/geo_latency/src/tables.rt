@@ -1,0 +1,72 @@
+//! The tables that tell where clients are and how far from regions, line by line.
+
+ghost use Rattle.std.specs.Prelude.{◌≡◌, []};
+ghost use Rattle.geo_latency.specs.Tables.{Adds, AddsRow};
+
+use crate::latencies::Latencies;
+use crate::lines::{Line, read_line};
+use crate::location::Location;
+use ip_table::{InsertFault, IpPrefix, IpTable};
+use std::alloc::Global;
+
+/// What a line of the tables is answered.
+#[derive(Clone, Copy, Debug, PartialEq, Eq)]
+pub enum TableLine {
+    /// Its row was added.
+    Added,
+    /// It is empty, or begins with `#`.
+    Skipped,
+    /// It is no such line, its kind has a row of this prefix, or 100,000 rows.
+    Bad,
+    /// Memory was wanted and was not there.
+    OutOfMemory,
+}
+
+/// The rows that tell where clients are, and those that tell their latencies to regions.
+#[derive(Drop)]
+pub struct Tables {
+    pub places: IpTable<Location>,
+    pub latencies: IpTable<Latencies>,
+}
+
+impl Tables {
+    /// Tables without rows.
+    pub fn new(alloc: Global) -> Tables
+        ensures { result ≡ record { places = []; latencies = [] } }
+    {
+        Tables {
+            places: IpTable::new(alloc),
+            latencies: IpTable::new(alloc),
+        }
+    }
+
+    /// Adds the row of a line, which comes without the byte that ends it (FORMATS, Tables of
+    /// places and latencies).
+    ///
+    /// Each answer but `Added` leaves the tables as they were.
+    pub fn add_line(&mut self, alloc: Global, line: &[u8]) -> TableLine
+        ensures { Adds self.old line.now result self.new }
+    {
+        let Ok(read) = read_line(alloc, line) else {
+            return TableLine::OutOfMemory;
+        };
+        match read {
+            Line::Skipped => TableLine::Skipped,
+            Line::Place(prefix, location) => add_row(&mut self.places, prefix, location),
+            Line::Latency(prefix, latencies) => add_row(&mut self.latencies, prefix, latencies),
+            Line::Bad => TableLine::Bad,
+        }
+    }
+}
+
+/// Adds a row to one of the tables.
+fn add_row<V: Drop>(table: &mut IpTable<V>, prefix: IpPrefix, value: V) -> TableLine
+    ensures { AddsRow table.old prefix value result table.new }
+{
+    match table.insert(prefix, value) {
+        Ok(()) => TableLine::Added,
+        Err(InsertFault::Duplicate(_)) => TableLine::Bad,
+        Err(InsertFault::Full(_)) => TableLine::Bad,
+        Err(InsertFault::OutOfMemory(_)) => TableLine::OutOfMemory,
+    }
+}
