@@ -2,8 +2,8 @@
 use Rattle.std.proofs.Common.{◌≡◌, ℕ, Bool, Option, Some, None, List, slice_get, sym, ap, ◌∙◌}
 use Rattle.cidr_routing.specs.Choice.{in_order, sets_of}
 use Rattle.cidr_routing.specs.Idents.{star}
-use Rattle.cidr_routing.specs.Search.{asked}
-use Rattle.cidr_routing.proofs.InOrder.{first, later}
+use Rattle.considered_sets.specs.Healthy.{asked}
+use Rattle.considered_sets.proofs.InTurn.{first, later}
 
 module _ (all : Bool) (healthy : List Bool) (locations : List (List ℕ)) (client : Option (List ℕ))
     (name : List ℕ) (is : client ≡ Some name) where

@@ -1,6 +1,5 @@
 mod CommandVectors
 pub mod Ids
-pub mod InOrder
 pub mod InTurn
 pub mod Kept
 pub mod Known

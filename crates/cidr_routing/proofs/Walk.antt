@@ -2,7 +2,7 @@
 use Rattle.std.proofs.Common.{ℕ, Bool, List, map, drop}
 use Rattle.std.specs.Str.{bytes_eq}
 use Rattle.considered_sets.specs.Considered.{places_from}
-use Rattle.cidr_routing.specs.Search.{asked}
+use Rattle.considered_sets.specs.Healthy.{asked}
 
 abbrev pub rest : List ℕ → Bool → List (List ℕ) → List Bool → ℕ → List ℕ
 rest location all locations healthy i =

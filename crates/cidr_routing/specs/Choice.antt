@@ -1,10 +1,9 @@
 -- The choice among the sets of a group by the location of the client's address block (Route 53
 -- Developer Guide, "IP-based routing"). A set is named by its place in the group, from 0 on.
-use Rattle.std.specs.Prelude.{ℕ, Bool, false, Option, Some, None, List, ◌++◌, map, slice_get}
-use Rattle.std.specs.List.{filter}
+use Rattle.std.specs.Prelude.{ℕ, Bool, Option, Some, None, List, ◌++◌, map, slice_get}
 use Rattle.std.specs.Str.{bytes_eq}
-use Rattle.std.proofs.Math.ListN.{get_or}
 use Rattle.considered_sets.specs.Considered.{places_from}
+use Rattle.considered_sets.specs.Healthy.{healthy_of}
 use Rattle.cidr_routing.specs.Idents.{star}
 
 -- the sets of a location
@@ -15,10 +14,6 @@ sets_of location locations = places_from 0 (map (bytes_eq location) locations)
 abbrev pub in_order : (client : Option (List ℕ)) → (locations : List (List ℕ)) → List ℕ
 in_order None locations = sets_of star locations
 in_order (Some client) locations = sets_of client locations ++ sets_of star locations
-
--- of some sets the healthy ones
-abbrev pub healthy_of : (healthy : List Bool) → List ℕ → List ℕ
-healthy_of healthy sets = filter (λ set. get_or healthy set false) sets
 
 -- The first of them that is healthy; where none is, the first of them; none where none applies
 -- (own).

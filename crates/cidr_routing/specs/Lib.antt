@@ -1,6 +1,5 @@
 pub mod Choice
 pub mod Commands
-pub mod Search
 pub mod Stored
 pub mod Tables
 pub use Rattle.cidr_blocks.specs.Idents
@@ -11,5 +10,6 @@ pub use Rattle.cidr_changes.specs.Gathered
 pub use Rattle.cidr_changes.specs.Laws
 pub use Rattle.cidr_changes.specs.Refusals
 pub use Rattle.considered_sets.specs.Considered
+pub use Rattle.considered_sets.specs.Healthy
 pub use Rattle.ip_table.specs.Location
 pub use Rattle.routing.specs.Texts

@@ -4,7 +4,7 @@ ghost use Rattle.std.specs.Prelude.{◌≡◌, ◌≤◌, ◌<◌, ◌&&◌, ◌
 ghost use Rattle.std.specs.Option.{option_copied};
 ghost use Rattle.std.specs.Str.{bytes_eq};
 ghost use Rattle.cidr_routing.specs.Choice.{chosen, in_order, sets_of};
-ghost use Rattle.cidr_routing.specs.Search.{asked};
+ghost use Rattle.considered_sets.specs.Healthy.{asked};
 
 use crate::ident::Ident;
 

@@ -1,3 +1,4 @@
 pub mod Flags
+pub mod InTurn
 pub mod Places
 mod Vectors

@@ -1,2 +1,3 @@
 pub mod Considered
+pub mod Healthy
 pub mod Laws

@@ -3,8 +3,9 @@ use Rattle.std.proofs.Common.{◌≡◌, ℕ, Bool, true, false, List, [], ◌�
 use Rattle.std.proofs.lemmas.List.Elements.{filter-append}
 use Rattle.std.specs.Prelude.{slice_index}
 use Rattle.considered_sets.specs.Considered.{places_from}
-use Rattle.failover.specs.Choice.{healthy_of, in_order, is_role, sets_of, chosen}
-use Rattle.failover.specs.Search.{asked}
+use Rattle.considered_sets.specs.Healthy.{healthy_of, asked}
+use Rattle.considered_sets.proofs.InTurn.{all_asked}
+use Rattle.failover.specs.Choice.{in_order, is_role, sets_of, chosen}
 use Rattle.routing.specs.declared.policies.Role.{Role}
 use Rattle.routing.specs.declared.policies.Role.TheVariants.{Primary, Secondary}
 
@@ -12,11 +13,6 @@ use Rattle.routing.specs.declared.policies.Role.TheVariants.{Primary, Secondary}
 abbrev pub rest : Role → Bool → List Role → List Bool → ℕ → List ℕ
 rest role all roles healthy i =
     asked all healthy (places_from i (map (is_role role) (drop i roles)))
-
--- all sets are asked
-pub all_asked : (healthy : List Bool) (sets : List ℕ) → asked true healthy sets ≡ sets
-all_asked healthy [] = refl
-all_asked healthy (set ∷ sets) = ap (λ l. set ∷ l) (all_asked healthy sets)
 
 first_here : (xs ys : List ℕ) (set : ℕ) → Some set ≡ slice_get xs 0 → set ≡ slice_index (xs ++ ys) 0
 first_here [] ys set e = absurd (let no : ⊥ = cc in no)

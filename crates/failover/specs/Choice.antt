@@ -1,9 +1,8 @@
 -- The choice among the sets of a failover group (Route 53 Developer Guide, "Active-passive
 -- failover"). A set is named by its place in the group, from 0 on.
 use Rattle.std.specs.Prelude.{ℕ, Bool, true, false, List, ◌++◌, map, slice_index}
-use Rattle.std.specs.List.{filter}
-use Rattle.std.proofs.Math.ListN.{get_or}
 use Rattle.considered_sets.specs.Considered.{places_from}
+use Rattle.considered_sets.specs.Healthy.{healthy_of}
 use Rattle.routing.specs.declared.policies.Role.{Role}
 use Rattle.routing.specs.declared.policies.Role.TheVariants.{Primary, Secondary}
 
@@ -21,10 +20,6 @@ sets_of role roles = places_from 0 (map (is_role role) roles)
 -- The sets in the order in which they are asked: the primary, then the secondary.
 abbrev pub in_order : List Role → List ℕ
 in_order roles = sets_of Primary roles ++ sets_of Secondary roles
-
--- of some sets the healthy ones
-abbrev pub healthy_of : (healthy : List Bool) → List ℕ → List ℕ
-healthy_of healthy sets = filter (λ set. get_or healthy set false) sets
 
 -- The first of them that is healthy; where none is, the first of them.
 abbrev pub chosen : List Role → (healthy : List Bool) → ℕ

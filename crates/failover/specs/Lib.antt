@@ -1,3 +1,3 @@
 pub mod Choice
-pub mod Search
 pub use Rattle.considered_sets.specs.Considered
+pub use Rattle.considered_sets.specs.Healthy

@@ -2,7 +2,7 @@
 
 ghost use Rattle.std.specs.Prelude.{◌≡◌, ◌≤◌, ◌<◌, ◌&&◌, ◌||◌, length, slice_get, IfSome};
 ghost use Rattle.failover.specs.Choice.{chosen, is_role, sets_of};
-ghost use Rattle.failover.specs.Search.{asked};
+ghost use Rattle.considered_sets.specs.Healthy.{asked};
 
 use routing::Role;
 

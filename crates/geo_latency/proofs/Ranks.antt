@@ -4,7 +4,8 @@ use Rattle.std.specs.List.{filter}
 use Rattle.std.proofs.lemmas.List.{append-nil}
 use Rattle.std.proofs.lemmas.List.Elements.{filter-append}
 use Rattle.geo_latency.specs.Nearest.{Leads, order_of, put, rank_of, ranks, sets_from, size_of, with_set}
-use Rattle.geo_latency.specs.Places.{applies, chosen, healthy_of, in_order}
+use Rattle.considered_sets.specs.Healthy.{healthy_of}
+use Rattle.geo_latency.specs.Places.{applies, chosen, in_order}
 use Rattle.geo_latency.specs.declared.location.Location.{Location}
 use Rattle.geo_latency.specs.declared.places.Size.{Size}
 use Rattle.geo_latency.specs.declared.places.Size.TheVariants as size

@@ -7,3 +7,4 @@ pub mod Regions
 pub mod Rows
 pub mod Tables
 pub use Rattle.considered_sets.specs.Considered
+pub use Rattle.considered_sets.specs.Healthy

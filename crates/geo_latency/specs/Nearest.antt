@@ -2,7 +2,8 @@
 use Rattle.std.specs.Prelude.{◌≡◌, ℕ, zero, suc, ◌+◌, ◌*◌, ◌<◌, Bool, true, false, Option, Some, None}
 use Rattle.std.specs.Prelude.{List, [], ◌∷◌, map, slice_get, slice_index, if◌then◌else◌}
 use Rattle.considered_sets.specs.Considered.{places_from}
-use Rattle.geo_latency.specs.Places.{applies, healthy_of}
+use Rattle.considered_sets.specs.Healthy.{healthy_of}
+use Rattle.geo_latency.specs.Places.{applies}
 use Rattle.geo_latency.specs.declared.location.Location.{Location}
 use Rattle.geo_latency.specs.declared.places.Nearest.{Nearest}
 use Rattle.geo_latency.specs.declared.places.Size.{Size}

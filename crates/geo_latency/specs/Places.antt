@@ -2,10 +2,9 @@
 -- routing"). A set is named by its place in the group, from 0 on.
 use Rattle.std.specs.Prelude.{ℕ, Bool, true, false, Option, Some, None}
 use Rattle.std.specs.Prelude.{List, ◌++◌, ◌&&◌, ◌==◌, map, slice_get}
-use Rattle.std.specs.List.{filter}
 use Rattle.std.specs.Str.{bytes_eq}
-use Rattle.std.proofs.Math.ListN.{get_or}
 use Rattle.considered_sets.specs.Considered.{places_from}
+use Rattle.considered_sets.specs.Healthy.{healthy_of}
 use Rattle.geo_latency.specs.declared.location.Location.{Location}
 use Rattle.geo_latency.specs.declared.places.Size.{Size}
 use Rattle.geo_latency.specs.declared.places.Size.TheVariants as size
@@ -54,10 +53,6 @@ in_order client places = sets_of size.Subdivision client places
     ++ (sets_of size.Country client places
     ++ (sets_of size.Continent client places
     ++ sets_of size.Anywhere client places))
-
--- of some sets the healthy ones
-abbrev pub healthy_of : (healthy : List Bool) → List ℕ → List ℕ
-healthy_of healthy sets = filter (λ set. get_or healthy set false) sets
 
 -- The first of them that is healthy; where none is, the first of them (own); none where none
 -- applies.

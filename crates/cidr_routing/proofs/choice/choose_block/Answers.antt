@@ -1,5 +1,5 @@
 use Rattle.std.proofs.Common.{sym, ◌∙◌}
-use Rattle.cidr_routing.proofs.InOrder.{any_one}
+use Rattle.considered_sets.proofs.InTurn.{any_one}
 use Rattle.cidr_routing.proofs.choice.choose_block.Goals as goal
 
 pub returns-clause-chosen : goal.returns-clause-chosen

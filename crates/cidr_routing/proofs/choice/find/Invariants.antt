@@ -1,6 +1,6 @@
 use Rattle.std.proofs.Common.{◌≡◌, slice_get}
 use Rattle.cidr_routing.specs.Choice.{sets_of}
-use Rattle.cidr_routing.specs.Search.{asked}
+use Rattle.considered_sets.specs.Healthy.{asked}
 use Rattle.cidr_routing.proofs.Walk.{rest}
 use Rattle.cidr_routing.proofs.choice.find.Given as goal
 

@@ -1,6 +1,6 @@
 use Rattle.std.proofs.Common.{◌≡◌, slice_get}
 use Rattle.failover.specs.Choice.{sets_of}
-use Rattle.failover.specs.Search.{asked}
+use Rattle.considered_sets.specs.Healthy.{asked}
 use Rattle.failover.proofs.Walk.{rest}
 use Rattle.failover.proofs.choice.find.Given as goal
 

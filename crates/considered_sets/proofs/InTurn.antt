@@ -1,8 +1,7 @@
--- Lists that are looked through one after another for a first element.
+-- Lists that are looked through one after another for a first element that is asked.
 use Rattle.std.proofs.Common.{◌≡◌, ◌||◌, ℕ, Bool, true, false, List, [], ◌∷◌, ◌++◌, get_or, slice_get, Some, None, refl, sym, ap, ◌∙◌}
 use Rattle.std.proofs.lemmas.List.Elements.{filter-append}
-use Rattle.cidr_routing.specs.Choice.{healthy_of}
-use Rattle.cidr_routing.specs.Search.{asked}
+use Rattle.considered_sets.specs.Healthy.{healthy_of, asked}
 
 here : (xs ys : List ℕ) (set : ℕ) → Some set ≡ slice_get xs 0 → Some set ≡ slice_get (xs ++ ys) 0
 here [] ys set e = absurd (let no : ⊥ = cc in no)
@@ -26,7 +25,8 @@ module _ (all : Bool) (healthy : List Bool) (xs ys : List ℕ) where
       → slice_get (asked all healthy ys) 0 ≡ slice_get (asked all healthy (xs ++ ys)) 0
   later none = beyond _ _ none ∙ ap (λ l. slice_get l 0) (sym split)
 
-all_asked : (healthy : List Bool) (sets : List ℕ) → asked true healthy sets ≡ sets
+-- all sets are asked
+pub all_asked : (healthy : List Bool) (sets : List ℕ) → asked true healthy sets ≡ sets
 all_asked healthy [] = refl
 all_asked healthy (set ∷ sets) = ap (λ l. set ∷ l) (all_asked healthy sets)
 

@@ -1,8 +1,0 @@
--- The sets among which one is looked for.
-use Rattle.std.specs.Prelude.{ℕ, Bool, false, List, ◌||◌}
-use Rattle.std.specs.List.{filter}
-use Rattle.std.proofs.Math.ListN.{get_or}
-
--- of some sets the healthy ones, or all
-abbrev pub asked : (all : Bool) → (healthy : List Bool) → List ℕ → List ℕ
-asked all healthy sets = filter (λ set. all || get_or healthy set false) sets
