@@ -1,8 +1,13 @@
 -- The laws of fair counting and of the running sum.
-use Rattle.std.proofs.Common.{◌≡◌, ◌==◌, ◌<◌, ◌+◌, ◌≤◌, ◌-◌, ◌*◌, ◌%◌, ℕ, zero, suc, Bool, List, [], ◌∷◌, length, take, replicate, get_or, arith, refl, sym, ap, ◌∙◌, inl, inr, subst, if◌then◌else◌, nat_lt, length-append}
+use Rattle.std.proofs.Common.{◌≡◌, ◌==◌, ◌<◌, ◌+◌, ◌≤◌, ◌-◌, ◌*◌, ◌%◌, ℕ, zero, suc, Bool, List, []}
+use Rattle.std.proofs.Common.{◌∷◌}
+use Rattle.std.proofs.Common.{length, take, replicate, get_or, arith, refl, sym, ap, ◌∙◌, inl, inr}
+use Rattle.std.proofs.Common.{subst}
+use Rattle.std.proofs.Common.{if◌then◌else◌, nat_lt, length-append}
 use Rattle.std.specs.List.{sum_by}
 use Rattle.std.proofs.lemmas.Bool.{cases_lt, lt-ltb}
-use Rattle.std.proofs.lemmas.List.{length-replicate, get_or_append_left, get_or-append_right, get_or-replicate}
+use Rattle.std.proofs.lemmas.List.{length-replicate, get_or_append_left, get_or-append_right}
+use Rattle.std.proofs.lemmas.List.{get_or-replicate}
 use Rattle.std.proofs.lemmas.List.Sums.{sum_by-cons, count_by-le-length}
 use Rattle.considered_sets.specs.Considered.{considered, places, IsConsidered}
 use Rattle.considered_sets.proofs.Places.{some_considered}

@@ -1,6 +1,9 @@
 -- One step along the line, a set further.
-use Rattle.std.proofs.Common.{◌≡◌, ◌<◌, ◌≤◌, ◌+◌, ◌-◌, ℕ, Bool, false, List, ◌++◌, length, get_or, drop, replicate, arith, ap, sym, ◌∙◌, length-append}
-use Rattle.std.proofs.lemmas.List.{at_drop_more, at_drop_all, length-replicate, get_or_append_left, get_or-append_right, get_or-replicate}
+use Rattle.std.proofs.Common.{◌≡◌, ◌<◌, ◌≤◌, ◌+◌, ◌-◌, ℕ, Bool, false, List, ◌++◌, length, get_or}
+use Rattle.std.proofs.Common.{drop}
+use Rattle.std.proofs.Common.{replicate, arith, ap, sym, ◌∙◌, length-append}
+use Rattle.std.proofs.lemmas.List.{at_drop_more, at_drop_all, length-replicate, get_or_append_left}
+use Rattle.std.proofs.lemmas.List.{get_or-append_right, get_or-replicate}
 use Rattle.weighted.specs.Line.{stretch_of, rest_of_line}
 use Rattle.weighted.specs.declared.choice.Rule.{Rule}
 

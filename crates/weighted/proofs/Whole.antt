@@ -1,20 +1,17 @@
 -- The line that is walked is the line that is chosen from.
-use Rattle.std.proofs.Common.{◌≡◌, ◌<◌, ◌+◌, ◌%◌, ℕ, zero, suc, Bool, true, false, not, ◌||◌, List, [], ◌∷◌, ◌++◌, length, map, replicate, arith, refl, sym, ap, ◌∙◌, nat_lt, if◌then◌else◌, get_or, length-append}
+use Rattle.std.proofs.Common.{◌≡◌, ◌<◌, ◌+◌, ◌%◌, ℕ, zero, suc, Bool, true, false, not, ◌||◌, List}
+use Rattle.std.proofs.Common.{[], ◌∷◌}
+use Rattle.std.proofs.Common.{◌++◌, length, map, replicate, arith, refl, sym, ap, ◌∙◌, nat_lt}
+use Rattle.std.proofs.Common.{if◌then◌else◌}
+use Rattle.std.proofs.Common.{get_or, length-append}
 use Rattle.std.specs.List.{list_any}
 use Rattle.std.proofs.lemmas.Bool.{lt-ltb}
 use Rattle.std.proofs.lemmas.List.{length-replicate}
 use Rattle.considered_sets.specs.Considered.{places, some_healthy, places_from}
-use Rattle.considered_sets.proofs.Places.{noted_is}
+use Rattle.considered_sets.proofs.Places.{noted_is, some_considered}
 use Rattle.weighted.specs.Choice.{laid_out, line}
-use Rattle.weighted.specs.Line.{rest_of_line}
+use Rattle.weighted.specs.Line.{at_word, by_weight, one_each, rest_of_line}
 use Rattle.weighted.specs.declared.choice.Rule.{Rule}
-
--- stretches as long as the weights, and of length 1
-abbrev by_weight : (all : Bool) → Rule
-by_weight all = record { all = all; even = false }
-
-abbrev one_each : (all : Bool) → Rule
-one_each all = record { all = all; even = true }
 
 laid_is : (all : Bool) (weights : List ℕ) (at : ℕ) (hs : List Bool)
     → rest_of_line (by_weight all) weights at hs
@@ -32,6 +29,13 @@ even_is all weights at [] = refl
 even_is all weights at (true ∷ hs) = ap (λ l. at ∷ l) (even_is all weights (at + 1) hs)
 even_is true weights at (false ∷ hs) = ap (λ l. at ∷ l) (even_is true weights (at + 1) hs)
 even_is false weights at (false ∷ hs) = even_is false weights (at + 1) hs
+
+-- where a healthy set has a stretch, some set is healthy
+pub some_where_laid : (weights : List ℕ) (at : ℕ) (hs : List Bool)
+    → 0 < length (rest_of_line (by_weight false) weights at hs) → some_healthy hs ≡ true
+some_where_laid weights at [] lt = absurd (omega arith)
+some_where_laid weights at (true ∷ hs) lt = refl
+some_where_laid weights at (false ∷ hs) lt = some_where_laid weights (at + 1) hs lt
 
 -- a sum is above 0 exactly where one of its parts is
 either : (m n : ℕ) → nat_lt 0 (m + n) ≡ (nat_lt 0 m || nat_lt 0 n)
@@ -66,6 +70,10 @@ module _ (weights : List ℕ) (hs : List Bool) (s : Bool) (is : s ≡ some_healt
   abbrev line_if : Bool → List ℕ
   line_if b = if b then laid_out weights (places hs) else places hs
 
+  -- some set has a chance where each has one
+  pub some_even : 0 < length hs → 0 < length (rest_of_line (one_each (not s)) weights 0 hs)
+  some_even some = omega (arith, ap length whole_even, some_considered hs some)
+
   pub line_by_weight : 0 < length (rest_of_line (by_weight (not s)) weights 0 hs)
       → rest_of_line (by_weight (not s)) weights 0 hs ≡ line weights hs
   line_by_weight lt =
@@ -78,9 +86,8 @@ module _ (weights : List ℕ) (hs : List Bool) (s : Bool) (is : s ≡ some_healt
       let no : length (laid_out weights (places hs)) ≡ 0 = rw whole_laid at none in
       whole_even ∙ sym (ap line_if (positive weights (places hs) ∙ ap (nat_lt 0) no))
 
--- the set at a point of a line
-pub chosen_of : (xs ys : List ℕ) (word n result : ℕ) → xs ≡ ys → n ≡ length xs
-    → result ≡ get_or xs (word % n) 0
-    → result ≡ get_or ys (word % length ys) 0
-chosen_of xs ys word n result e f r = r
-    ∙ (ap (λ m. get_or xs (word % m) 0) f ∙ ap (λ l. get_or l (word % length l) 0) e)
+-- the set at the point of a line that a word names
+pub chosen_of : (xs ys : List ℕ) (word n point result : ℕ) → xs ≡ ys → n ≡ length xs
+    → point ≡ word % n → result ≡ get_or xs point 0 → result ≡ at_word ys word
+chosen_of xs ys word n point result e f at r = r
+    ∙ (ap (λ m. get_or xs m 0) (at ∙ ap (λ m. word % m) f) ∙ ap (λ l. at_word l word) e)

@@ -1,6 +1,7 @@
--- The choice among the sets of a weighted group (Route 53 Developer Guide, "Weighted routing"). A set is named by its
--- place in the group, from 0 on.
-use Rattle.std.specs.Prelude.{ℕ, ◌%◌, Bool, List, length, replicate, flat_map, nat_lt, slice_index, if◌then◌else◌}
+-- The choice among the sets of a weighted group (Route 53 Developer Guide, "Weighted routing"). A set is
+-- named by its place in the group, from 0 on.
+use Rattle.std.specs.Prelude.{ℕ, ◌%◌, Bool, List, length, replicate, flat_map, nat_lt, slice_index}
+use Rattle.std.specs.Prelude.{if◌then◌else◌}
 use Rattle.std.specs.List.{list_any}
 use Rattle.considered_sets.specs.Considered.{places}
 

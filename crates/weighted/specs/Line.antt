@@ -1,6 +1,15 @@
 -- The line as it is walked: one set after another, none of which is kept.
-use Rattle.std.specs.Prelude.{ℕ, ◌+◌, Bool, List, [], ◌∷◌, ◌++◌, ◌||◌, replicate, slice_index, if◌then◌else◌}
+use Rattle.std.specs.Prelude.{ℕ, ◌+◌, ◌%◌, Bool, true, false, List, [], ◌∷◌, ◌++◌, ◌||◌, length, replicate}
+use Rattle.std.specs.Prelude.{slice_index, if◌then◌else◌}
 use Rattle.weighted.specs.declared.choice.Rule.{Rule}
+
+-- stretches as long as the weights, of the healthy sets or of all
+abbrev pub by_weight : (all : Bool) → Rule
+by_weight all = record { all = all; even = false }
+
+-- stretches of length 1
+abbrev pub one_each : (all : Bool) → Rule
+one_each all = record { all = all; even = true }
 
 -- how long the stretch of a set is
 abbrev pub stretch_of : Rule → (weight : ℕ) → (healthy : Bool) → ℕ
@@ -11,3 +20,7 @@ abbrev pub rest_of_line : Rule → List ℕ → (at : ℕ) → List Bool → Lis
 rest_of_line rule weights at [] = []
 rest_of_line rule weights at (h ∷ rest) =
     replicate (stretch_of rule (slice_index weights at) h) at ++ rest_of_line rule weights (at + 1) rest
+
+-- the set at the point of a line that a word names
+abbrev pub at_word : List ℕ → (word : ℕ) → ℕ
+at_word xs word = slice_index xs (word % length xs)

@@ -2,8 +2,8 @@
 
 ghost use Rattle.weighted.specs.Laws.{FairCounting, RunningSum};
 
-/// Among the words 0 to total - 1 each considered set is chosen as often as its weight says, or once each where all
-/// considered weights are 0. No other set ever is.
+/// Among the words 0 to total - 1 each considered set is chosen as often as its weight says, or once each
+/// where all considered weights are 0. No other set ever is.
 pub fn fair_counting()
     ensures { FairCounting }
 {}

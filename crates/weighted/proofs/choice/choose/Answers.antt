@@ -1,32 +1,14 @@
-use Rattle.std.proofs.Common.{◌<◌, length, arith, ap}
-use Rattle.considered_sets.proofs.Places.{some_considered}
-use Rattle.weighted.proofs.Whole.{line_by_weight, line_even, whole_even, chosen_of}
+use Rattle.std.proofs.Common.{◌<◌, true, false, length, arith, sym}
+use Rattle.weighted.specs.Line.{by_weight, rest_of_line}
+use Rattle.weighted.proofs.Whole.{line_by_weight, some_where_laid, chosen_of}
 use Rattle.weighted.proofs.choice.choose.Goals as goal
 
 pub returns-then-weight-gt0 : goal.returns-then-weight-gt0
 returns-then-weight-gt0 c =
-    let some : 0 < c.total-weight.result = omega arith in
-    let e = line_by_weight c.args.weights.now c.args.healthy.now _ c.some_healthy-all.ensures
-    (omega (arith, c.total-weight.ensures)) in
-    chosen_of _ _ c.args.word _ _ e c.total-weight.ensures c.place_at.ensures
-
-pub nonzero_rem-word-2 : goal.nonzero_rem-word-2
-nonzero_rem-word-2 c =
-    let e = whole_even c.args.weights.now c.args.healthy.now _ c.some_healthy-all.ensures in
-    omega (
-      arith,
-      c.total-sets.ensures,
-      some_considered c.args.healthy.now c.requires.some,
-      ap length e,
-    )
-
-pub place_at-requires-2-clause-within : goal.place_at-requires-2-clause-within
-place_at-requires-2-clause-within c =
-    let some : 0 < c.total-sets.result = nonzero_rem-word-2 c in
-    omega (arith, c.total-sets.ensures)
-
-pub returns : goal.returns
-returns c =
-    let e = line_even c.args.weights.now c.args.healthy.now _ c.some_healthy-all.ensures
-    (omega (arith, c.total-weight.ensures)) in
-    chosen_of _ _ c.args.word _ _ e c.total-sets.ensures c.place_at-2.ensures
+    let weights = c.args.weights.now in
+    let healthy = c.args.healthy.now in
+    let some : 0 < length (rest_of_line (by_weight false) c.args.weights.now 0 c.args.healthy.now) =
+    omega (arith, c.total-weight.ensures) in
+    let is = sym (some_where_laid weights 0 healthy some) in
+    chosen_of _ _ c.args.word _ _ _ (line_by_weight weights healthy true is some)
+    c.total-weight.ensures c.point.ensures.exact c.place_at.ensures
