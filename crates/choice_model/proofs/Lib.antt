@@ -1,0 +1,3 @@
+pub mod Bridged
+pub mod Within
+mod Vectors
