@@ -1,17 +1,11 @@
-//! Rows that were worked by hand, run over the choices among the sets of a group and what these stand on.
+//! Rows that were worked by hand, run over the choices by health and words.
 #![tactic(auto)]
 
-#[cfg(test)]
-mod cidr_routing_rows;
 #[cfg(test)]
 mod considered_sets_rows;
 #[cfg(test)]
 mod failover_rows;
 #[cfg(test)]
-mod geo_latency_rows;
-#[cfg(test)]
 mod multivalue_rows;
-#[cfg(test)]
-mod prefix_text_rows;
 #[cfg(test)]
 mod weighted_rows;

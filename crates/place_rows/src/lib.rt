@@ -1,0 +1,9 @@
+//! Rows that were worked by hand, run over the choices by where a client is and over what these stand on.
+#![tactic(auto)]
+
+#[cfg(test)]
+mod cidr_routing_rows;
+#[cfg(test)]
+mod geo_latency_rows;
+#[cfg(test)]
+mod prefix_text_rows;
