@@ -1,4 +1,4 @@
-//! Rows that were worked by hand, run over the leaf parts: what their definitions themselves could have wrong.
+//! Rows that were worked by hand, run over the leaf parts: what definitions themselves could have wrong.
 #![tactic(auto)]
 
 #[cfg(test)]
@@ -7,5 +7,3 @@ mod calculated_health_rows;
 mod checker_state_rows;
 #[cfg(test)]
 mod ecs_option_rows;
-#[cfg(test)]
-mod ip_table_rows;

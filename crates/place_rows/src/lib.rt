@@ -1,9 +1,7 @@
-//! Rows that were worked by hand, run over the choices by where a client is and over what these stand on.
+//! Rows that were worked by hand, run over the choices by where a client is.
 #![tactic(auto)]
 
 #[cfg(test)]
 mod cidr_routing_rows;
 #[cfg(test)]
 mod geo_latency_rows;
-#[cfg(test)]
-mod prefix_text_rows;
