@@ -1,8 +1,9 @@
-pub mod OptRecord
 pub mod Drafts
 pub mod Fields
+pub mod Lists
 pub mod Names
 pub mod Once
+pub mod OptRecord
 pub mod Pieces
 pub mod Reading
 pub mod Vectors

@@ -62,6 +62,12 @@ with_record Answer r m = record m { answers = m.answers ++ r ∷ [] }
 with_record Authority r m = record m { authorities = m.authorities ++ r ∷ [] }
 with_record Additional r m = record m { additionals = m.additionals ++ r ∷ [] }
 
+-- with these records more at the end of a section
+abbrev pub with_records : Section → List Record → Message → Message
+with_records Answer records m = record m { answers = m.answers ++ records }
+with_records Authority records m = record m { authorities = m.authorities ++ records }
+with_records Additional records m = record m { additionals = m.additionals ++ records }
+
 -- how many octets a reply with all its records has, the OPT record left out
 abbrev pub size_of : Message → ℕ
 size_of m = 12 + (length m.question + length (records_octets m.name (records_of m)))

@@ -1,9 +1,11 @@
 -- Laws over the definitions of this crate.
-use Rattle.std.specs.Prelude.{◌≡◌, ℕ, ◌<◌, ◌≤◌, List, length, Bool, true, false, Option, None, Some}
+use Rattle.std.specs.Prelude.{◌≡◌, ℕ, ◌<◌, ◌≤◌, List, [], ◌∷◌, ◌++◌, length, Bool, true, false, Option, None, Some}
 use Rattle.std.specs.List.{AllByRecursion}
 use Rattle.dns_name.specs.Names.{IsName}
 use Rattle.rdata_layout.specs.Layout.{IsLayout}
 use Rattle.dns_message.specs.Question.{IsQuestion}
+use Rattle.dns_wire.specs.declared.reply.Section.{Section}
+use Rattle.dns_wire.specs.Draft.{Follows, with_record, with_records}
 use Rattle.dns_wire.specs.Message.{Message, Opt, Record, octets_of, records_of, wire, without_records}
 use Rattle.dns_wire.specs.Reading.{Reads}
 
@@ -41,3 +43,11 @@ abbrev pub OneReading : Type 0
 OneReading =
     (message : List ℕ) (truncated other_truncated : Bool) (m other : Message)
     → Reads message truncated m → Reads message other_truncated other → (truncated ≡ other_truncated) × (m ≡ other)
+
+-- Records that are added one after another to a section, where none stands in a later one, are added as a list.
+pub record RecordsAddUp : Type 0 where
+  pub none : (section : Section) (m : Message) → with_records section [] m ≡ m
+  pub one_more : (section : Section) (records : List Record) (r : Record) (m : Message)
+      → with_record section r (with_records section records m) ≡ with_records section (records ++ r ∷ []) m
+  pub follows : (section : Section) (records : List Record) (m : Message)
+      → Follows section m → Follows section (with_records section records m)

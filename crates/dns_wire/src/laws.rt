@@ -1,6 +1,6 @@
 //! Laws over the definitions, each the contract of a function that does nothing.
 
-ghost use Rattle.dns_wire.specs.Laws.{CutRepliesRead, OneReading, WholeRepliesRead};
+ghost use Rattle.dns_wire.specs.Laws.{CutRepliesRead, OneReading, RecordsAddUp, WholeRepliesRead};
 
 use dns_message::{one_list_of_options, one_record};
 
@@ -17,3 +17,8 @@ pub fn one_reading()
     one_record();
     one_list_of_options();
 }
+
+/// Records that are added one after another are added as a list.
+pub fn records_add_up()
+    ensures { RecordsAddUp }
+{}

@@ -12,7 +12,7 @@ mod pointers;
 mod record;
 mod reply;
 
-pub use laws::{one_reading, replies_read};
+pub use laws::{one_reading, records_add_up, replies_read};
 pub use octets::OutOfMemory;
 pub use rdata_layout::RType;
 pub use reply::{Reply, Section};
