@@ -2,4 +2,5 @@ pub mod Bridges
 pub mod Choice
 pub mod Laws
 pub mod Policies
-pub use Rattle.record_set.specs.Sets
+pub use Rattle.geo_latency.specs.Places
+pub use Rattle.geo_latency.specs.Regions
