@@ -11,7 +11,6 @@ use Rattle.considered_sets.specs.Considered.{places, some_healthy, places_from}
 use Rattle.considered_sets.proofs.Places.{noted_is, some_considered}
 use Rattle.weighted.specs.Choice.{laid_out, line}
 use Rattle.weighted.specs.Line.{at_word, by_weight, one_each, rest_of_line}
-use Rattle.weighted.specs.declared.choice.Rule.{Rule}
 
 laid_is : (all : Bool) (weights : List ℕ) (at : ℕ) (hs : List Bool)
     → rest_of_line (by_weight all) weights at hs
