@@ -2,18 +2,19 @@
 
 ghost use Rattle.std.specs.Prelude.{◌≡◌};
 ghost use Rattle.zone_table.specs.declared.edits.ZoneEdit.TheVariants.{Change};
+ghost use Rattle.set_scratch.specs.Holding.{IsHolding};
 ghost use Rattle.zone_sets.specs.Placed.{sets_of};
 ghost use Rattle.zone_table.specs.Edits.{IsAllowed, IsReady, StayReady};
 ghost use Rattle.zone_table.specs.Looking.{IsApex};
 ghost use Rattle.zone_list.specs.Zones.{IsZoneId, placed_in};
 
-use crate::allowed::{can_be_added, is_allowed_change, is_free};
 use dns_name::Name;
 use rdata::{RData, RType};
 use record_set::{Body, Ident, RecordSet, Routing, SetKey, Values};
 use set_octets::has_spelling;
 use std::alloc::Global;
 use std::process::Abort;
+use zone_allowed::{can_be_added, is_allowed_change, is_free};
 use zone_table::{Delta, Ready, Scratch, SetKeys, SetRef, Sets, ZoneEdit, Zones};
 
 /// A set with one value: its name, its type, its identifier where it is weighted, and the text of the value.
@@ -192,7 +193,7 @@ fn make(rt: &impl Abort, alloc: Global, zones: &mut Zones, edit: ZoneEdit) -> De
 }
 
 /// Makes an edit ready.
-pub fn ready(rt: &impl Abort, alloc: Global, zones: &mut Zones, edit: ZoneEdit) -> Ready
+fn ready(rt: &impl Abort, alloc: Global, zones: &mut Zones, edit: ZoneEdit) -> Ready
     requires { IsAllowed zones.old.zones edit }
     ensures zones { zones.new.zones ≡ zones.old.zones }
     ensures ready { IsReady zones.new result }
@@ -212,29 +213,26 @@ pub fn reference(rt: &impl Abort, zones: &Zones, zone: u32, row: Row) -> SetRef 
     found.expect(rt, "a set of the key")
 }
 
-/// Loads the set of a reference, and compares its octets with those of a row.
-pub fn loads(rt: &impl Abort, alloc: Global, zones: &Zones, reference: SetRef, row: Row) {
-    let mut found = Scratch::new(alloc).ok().expect(rt, "memory");
-    let mut wanted = Scratch::new(alloc).ok().expect(rt, "memory");
-    let set = set(rt, alloc, row);
-    assert!(rt; has_spelling(&set), "a spelling: {reference:?}");
-    wanted.hold(&set);
-    assert!(rt; zones.load(reference, &mut found), "loaded: {reference:?}");
-    assert_eq!(rt; found.bytes(), wanted.bytes(), "octets: {reference:?}");
+/// A scratch that holds no set yet.
+fn scratch(rt: &impl Abort, alloc: Global) -> Scratch {
+    Scratch::new(alloc).ok().expect(rt, "memory")
 }
 
-/// Tries to load the set of a reference that names none, over the set of a row, which stays.
-pub fn names_none(rt: &impl Abort, alloc: Global, zones: &Zones, reference: SetRef, row: Row) {
-    let mut scratch = Scratch::new(alloc).ok().expect(rt, "memory");
+/// A scratch that holds the set of a row.
+fn held(rt: &impl Abort, alloc: Global, row: Row) -> Scratch
+    ensures { IsHolding result }
+{
+    let mut scratch = scratch(rt, alloc);
     let set = set(rt, alloc, row);
-    assert!(rt; has_spelling(&set), "a spelling: {reference:?}");
+    assert!(rt; has_spelling(&set), "a spelling");
     scratch.hold(&set);
-    assert!(rt;
-        !zones.load(reference, &mut scratch),
-        "not loaded: {reference:?}"
-    );
-    assert!(rt;
-        scratch.name().is_same(&set.name),
-        "what was held: {reference:?}"
-    );
+    scratch
+}
+
+/// Loads the set of a reference, and compares its octets with those of a row.
+pub fn loads(rt: &impl Abort, alloc: Global, zones: &Zones, reference: SetRef, row: Row) {
+    let wanted = held(rt, alloc, row);
+    let mut found = scratch(rt, alloc);
+    assert!(rt; zones.load(reference, &mut found), "loaded: {reference:?}");
+    assert_eq!(rt; found.bytes(), wanted.bytes(), "octets: {reference:?}");
 }

@@ -1,7 +1,7 @@
 use Rattle.std.proofs.Common.{◌≢◌, ◌∙◌, arith}
 use Rattle.record_set.specs.Sets.{key_of}
-use Rattle.zone_rows.proofs.Keyed.{there_as_later}
-use Rattle.zone_rows.proofs.there.+is_there.Goals as goal
+use Rattle.zone_allowed.proofs.Keyed.{there_as_later}
+use Rattle.zone_allowed.proofs.there.+is_there.Goals as goal
 
 pub returns : goal.returns
 returns t c =

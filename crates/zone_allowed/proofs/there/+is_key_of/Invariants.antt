@@ -1,5 +1,5 @@
 use Rattle.std.proofs.Common.{length}
-use Rattle.zone_rows.proofs.there.+is_key_of.Given as goal
+use Rattle.zone_allowed.proofs.there.+is_key_of.Given as goal
 
 abbrev pub decreases-is_key_of : goal.decreases-is_key_of
 decreases-is_key_of l = length l.keys.now

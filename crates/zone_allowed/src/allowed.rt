@@ -33,7 +33,8 @@ pub fn can_be_added(name: &Name, sets: &[RecordSet]) -> bool
     can_stand(name, sets) && keys_differ(sets)
 }
 
-/// Whether the sets of a zone of this name can be changed: whether these keys are there, and these sets new without them.
+/// Whether the sets of a zone of this name can be changed: whether these keys are there, and these sets new
+/// without them.
 fn can_change(name: &Name, sets: &[RecordSet], remove: &[SetKey], add: &[RecordSet]) -> bool
     ensures { IsTrue result → (placed : List Placed) → sets_of placed ≡ sets.now
         → CanChange name.now placed remove.now add.now }

@@ -1,5 +1,5 @@
 use Rattle.std.proofs.Common.{length}
-use Rattle.zone_rows.proofs.apart.+is_apart.Given as goal
+use Rattle.zone_allowed.proofs.apart.+is_apart.Given as goal
 
 abbrev pub decreases-is_apart : goal.decreases-is_apart
 decreases-is_apart l = length l.sets.now

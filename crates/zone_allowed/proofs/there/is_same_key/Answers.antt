@@ -1,7 +1,7 @@
 use Rattle.std.proofs.Common.{◌≡◌, ◌∙◌, ap, is_eq, sym}
 use Rattle.zone_model.specs.Keys.{key_cmp}
-use Rattle.zone_rows.proofs.Keyed.{tie_tests}
-use Rattle.zone_rows.proofs.there.is_same_key.Goals as goal
+use Rattle.zone_allowed.proofs.Keyed.{tie_tests}
+use Rattle.zone_allowed.proofs.there.is_same_key.Goals as goal
 
 pub returns : goal.returns
 returns c =

@@ -1,7 +1,7 @@
 use Rattle.std.proofs.Common.{sym}
 use Rattle.zone_list.specs.Zones.{placed_in}
-use Rattle.zone_rows.proofs.Changed.{change_allowed}
-use Rattle.zone_rows.proofs.allowed.is_allowed_change.Goals as goal
+use Rattle.zone_allowed.proofs.Changed.{change_allowed}
+use Rattle.zone_allowed.proofs.allowed.is_allowed_change.Goals as goal
 
 pub returns : goal.returns
 returns c h =
