@@ -1,5 +1,6 @@
 -- Sets that have a key, from the first one on.
-use Rattle.std.proofs.Common.{◌≡◌, ◌≢◌, inl, inr, List, [], ◌∷◌, Bool, true, Ordering, Less, Equal, Greater, is_eq, ap, refl, sym, subst, arith}
+use Rattle.std.proofs.Common.{◌≡◌, ◌≢◌, inl, inr, List, [], ◌∷◌, Bool, true, Ordering, Less, Equal}
+use Rattle.std.proofs.Common.{Greater, is_eq, ap, refl, sym, subst, arith}
 use Rattle.std.proofs.lemmas.Cmp.{tied_itself}
 use Rattle.std.specs.Prelude.{IsTrue, ◌↔◌}
 use Rattle.record_set.specs.declared.sets.RecordSet.{RecordSet}

@@ -1,4 +1,4 @@
-//! Whether an edit of zones is allowed, tried on the zones and the sets: what a caller can do who knows no more.
+//! Whether an edit of zones is allowed, tried on the zones and the sets.
 #![tactic(auto)]
 
 mod allowed;
