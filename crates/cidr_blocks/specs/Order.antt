@@ -1,6 +1,6 @@
 -- The order of blocks is total.
-use Rattle.std.specs.Prelude.{◌≡◌, ℕ, Some, refl}
-use Rattle.std.specs.Ordering.{nat_cmp, eq_by_cmp}
+use Rattle.std.specs.Prelude.{Some, refl}
+use Rattle.std.specs.Ordering.{eq_by_cmp}
 use Rattle.std.specs.Cmp.{IsTotalOrder, IsEquivalence, IsPartialEquivalence, IsPartialOrder}
 use Rattle.std.specs.Cmp.{nat_cmp_total, on_total, then_total, eq_by_cmp_equiv}
 use Rattle.std.specs.Cmp.{partial_equiv_from_equiv, partial_order_from_agreeing_total}

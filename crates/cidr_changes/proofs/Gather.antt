@@ -1,7 +1,7 @@
 -- Blocks that rise, gathered by the names of their locations, make a collection's locations.
-use Rattle.std.proofs.Common.{◌≡◌, ◌≢◌, ℕ, true, zero, suc, ◌+◌, ◌<◌, List, [], ◌∷◌, ◌++◌, length, map, Ordering, Less, Equal, Greater, ap, ◌∙◌, sym, refl, subst, arith}
+use Rattle.std.proofs.Common.{◌≡◌, ◌≢◌, ℕ, true, suc, ◌+◌, List, [], ◌∷◌, ◌++◌, length, Ordering, Less, Equal, Greater, ap, ◌∙◌, sym, refl, subst, arith}
 use Rattle.std.proofs.lemmas.List.{length-append}
-use Rattle.std.specs.Cmp.{IsTotalOrder, tied_itself}
+use Rattle.std.specs.Cmp.{tied_itself}
 use Rattle.std.specs.Cmp.Lexicographic.{nat_list_cmp_total}
 use Rattle.std.specs.List.{AllByRecursion}
 use Rattle.std.specs.List.Sorted.{IsStrictlySortedBy}
@@ -13,7 +13,7 @@ use Rattle.cidr_changes.specs.Changes.{Rows}
 use Rattle.cidr_changes.specs.Gathered.{gathered, grown, of_block, with_row}
 use Rattle.cidr_blocks.specs.Order.{block_cmp_total}
 use Rattle.cidr_blocks.specs.Places.{IsLocation, StandOnce, block_cmp, is_block, name_cmp, names_of, rows_at, rows_of}
-use Rattle.cidr_changes.proofs.Rising.{AreFine, IsGood, Rising, Row, each}
+use Rattle.cidr_changes.proofs.Rising.{IsGood, Rising, Row, each}
 
 -- no block is below itself
 unequal : (p q : Prefix) → block_cmp p q ≡ Less → p ≢ q

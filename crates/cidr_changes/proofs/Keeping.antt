@@ -1,15 +1,15 @@
 -- What changes make of a collection is one.
-use Rattle.std.proofs.Common.{◌≡◌, ◌≤◌, ◌<◌, ◌+◌, ℕ, Bool, true, false, cond, List, [], ◌∷◌, length, Option, None, Some, Result, Ok, Err, ap, ◌∙◌, sym, refl, subst, arith}
+use Rattle.std.proofs.Common.{◌≡◌, ℕ, Bool, true, false, List, [], ◌∷◌, length, Option, None, Some, Result, Ok, Err, refl, subst, arith}
 use Rattle.std.specs.Prelude.{nat_lt, option_map}
 use Rattle.std.proofs.lemmas.Bool.{ltb-false}
 use Rattle.cidr_changes.specs.declared.faults.CidrFault.{CidrFault}
 use Rattle.cidr_changes.specs.declared.faults.CidrFault.TheVariants.{TooManyCidrBlocks, CidrLocationInUse}
 use Rattle.cidr_blocks.specs.declared.places.Collection.{Collection}
-use Rattle.cidr_changes.specs.Changed.{after_changes, finished, last_refusal, least, unplaced, with_locations}
+use Rattle.cidr_changes.specs.Changed.{after_changes, finished, least, unplaced, with_locations}
 use Rattle.cidr_changes.specs.Changes.{Rows}
 use Rattle.cidr_changes.specs.Gathered.{locations_of}
 use Rattle.cidr_changes.specs.Laws.{KeepCollections}
-use Rattle.cidr_blocks.specs.Places.{IsCollection, rows_of}
+use Rattle.cidr_blocks.specs.Places.{IsCollection}
 use Rattle.cidr_changes.specs.Refusals.{first_of, rule, unless}
 use Rattle.cidr_changes.proofs.Fine.{after_fine, the_ok, with_fine}
 use Rattle.cidr_changes.proofs.Gather.{gathered_all, gathered_count, none_gathered}

@@ -1,5 +1,5 @@
 -- Where a block goes among locations.
-use Rattle.std.proofs.Common.{◌≡◌, ℕ, ◌+◌, ◌<◌, List, [], ◌∷◌, ◌++◌, length, get_or, take, drop, slice_get, Some, slice_set, Ordering, Less, Equal, Greater, ap, ◌∙◌, sym, refl, arith}
+use Rattle.std.proofs.Common.{◌≡◌, ℕ, ◌+◌, ◌<◌, List, ◌∷◌, ◌++◌, length, get_or, take, drop, Some, slice_set, Equal, ap, ◌∙◌, sym, refl}
 use Rattle.std.specs.Ordering.{match_ordering}
 use Rattle.std.proofs.lemmas.List.{drop_more, take-append-drop, take-set, drop-set}
 use Rattle.std.specs.Prelude.{unwrap_or}

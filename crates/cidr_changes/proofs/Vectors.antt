@@ -1,5 +1,5 @@
 -- The definitions at values from outside.
-use Rattle.std.proofs.Common.{◌≡◌, ℕ, Bool, true, false, Some, None, List, [], ◌∷◌, Result, Ok, Err, replicate, refl}
+use Rattle.std.proofs.Common.{◌≡◌, ℕ, true, false, Some, None, List, [], ◌∷◌, Result, Ok, Err, replicate, refl}
 use Rattle.std.specs.Prelude.{codes}
 use Rattle.address_text.specs.declared.address.IpAddress.TheVariants.{V4, V6}
 use Rattle.ip_table.specs.Prefixes.{Prefix}
@@ -8,7 +8,7 @@ use Rattle.cidr_changes.specs.declared.faults.CidrFault.{CidrFault}
 use Rattle.cidr_changes.specs.declared.faults.CidrFault.TheVariants.{BlockLength, CidrBlockInUse, TooManyCidrBlocks, CidrLocationInUse}
 use Rattle.cidr_blocks.specs.declared.places.CidrLocation.{CidrLocation}
 use Rattle.cidr_blocks.specs.declared.places.Collection.{Collection}
-use Rattle.cidr_changes.specs.Changed.{after_changes, changed_collection, last_refusal}
+use Rattle.cidr_changes.specs.Changed.{changed_collection, last_refusal}
 
 abbrev v4 : (a b c d length : ℕ) → Prefix
 v4 a b c d length = record { address = V4 (a ∷ b ∷ c ∷ d ∷ []); length = length }

@@ -1,19 +1,13 @@
 -- What the changes of a collection come to, and their first refusal (Route 53 API Reference,
 -- ChangeCidrCollection).
-use Rattle.std.specs.Prelude.{ℕ, Bool, true, false, not, ◌&&◌, ◌==◌, nat_lt, if◌then◌else◌, List, [], ◌∷◌, ◌++◌, length, map, Option, None, Some, is_some, option_map, Result, Ok, Err}
+use Rattle.std.specs.Prelude.{ℕ, Bool, false, not, ◌&&◌, if◌then◌else◌, List, [], ◌∷◌, Option, None, Some, is_some}
 use Rattle.std.specs.BTreeMap.{insert_entry, is_at}
-use Rattle.std.specs.List.{filter, list_any}
+use Rattle.std.specs.List.{list_any}
 use Rattle.std.specs.Map.{lookup, remove_entry}
-use Rattle.std.specs.Ordering.{match_ordering}
 use Rattle.std.specs.Str.{bytes_eq}
 use Rattle.ip_table.specs.Prefixes.{Prefix}
 use Rattle.cidr_changes.specs.declared.changes.CidrChange.{CidrChange}
-use Rattle.cidr_changes.specs.declared.faults.CidrFault.{CidrFault}
-use Rattle.cidr_changes.specs.declared.faults.CidrFault.TheVariants as fault
-use Rattle.cidr_blocks.specs.declared.places.CidrLocation.{CidrLocation}
-use Rattle.cidr_blocks.specs.declared.places.Collection.{Collection}
-use Rattle.cidr_blocks.specs.Idents.{star}
-use Rattle.cidr_blocks.specs.Places.{block_cmp, is_block, name_cmp, names_of}
+use Rattle.cidr_blocks.specs.Places.{block_cmp, is_block}
 
 -- The blocks of a collection in their order, each with the name of its location.
 abbrev pub Rows : Type 0

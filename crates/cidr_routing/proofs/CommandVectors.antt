@@ -1,5 +1,5 @@
 -- The definitions of commands at values from outside.
-use Rattle.std.proofs.Common.{◌≡◌, ℕ, true, false, Some, None, List, [], ◌∷◌, Result, Ok, Err, replicate, refl}
+use Rattle.std.proofs.Common.{◌≡◌, ℕ, false, Some, None, List, [], ◌∷◌, Ok, Err, replicate, refl}
 use Rattle.std.specs.Prelude.{codes}
 use Rattle.address_text.specs.declared.address.IpAddress.TheVariants.{V4}
 use Rattle.ip_table.specs.Prefixes.{Prefix}

@@ -1,5 +1,5 @@
 -- What is told of collections one by one, each beside those behind it.
-use Rattle.std.proofs.Common.{◌≡◌, ◌<◌, ◌+◌, ℕ, true, false, IsTrue, ◌↔◌, List, ◌∷◌, length, get_or, drop, sym, subst}
+use Rattle.std.proofs.Common.{◌≡◌, ◌<◌, ◌+◌, ℕ, false, IsTrue, ◌↔◌, List, ◌∷◌, length, get_or, drop, sym, subst}
 use Rattle.std.proofs.lemmas.Bool.{false≢true}
 use Rattle.std.proofs.lemmas.List.{drop_more}
 use Rattle.cidr_routing.proofs.Ids.{Held}

@@ -1,7 +1,7 @@
 -- What a command makes of sound collections is sound.
-use Rattle.std.proofs.Common.{◌≡◌, ◌≢◌, ◌≤◌, ◌<◌, ◌+◌, ℕ, Bool, true, false, cond, List, [], ◌∷◌, ◌++◌, length, map, Option, None, Some, Result, Ok, Err, ap, ◌∙◌, sym, refl, subst, arith}
+use Rattle.std.proofs.Common.{◌≡◌, ◌≢◌, ◌≤◌, ◌<◌, ◌+◌, ℕ, Bool, true, false, cond, List, [], ◌∷◌, ◌++◌, length, map, Option, None, Some, Result, Ok, Err, ◌∙◌, sym, refl, subst, arith}
 use Rattle.std.specs.Prelude.{not, nat_eq, nat_le, ◌||◌}
-use Rattle.std.specs.List.{AllByRecursion, filter, list_any}
+use Rattle.std.specs.List.{AllByRecursion, filter}
 use Rattle.std.specs.List.Sorted.{IsStrictlySortedBy}
 use Rattle.std.specs.Str.{bytes_eq}
 use Rattle.std.proofs.lemmas.Bool.{eq-eqb, leb-false}
@@ -10,15 +10,15 @@ use Rattle.std.proofs.lemmas.Slice.Eq.{bytes_eq-Decides}
 use Rattle.routing.specs.Texts.{IsText, is_location_byte}
 use Rattle.cidr_changes.specs.declared.changes.CidrChange.{CidrChange}
 use Rattle.cidr_changes.specs.declared.faults.CidrFault.{CidrFault}
-use Rattle.cidr_changes.specs.declared.faults.CidrFault.TheVariants.{CollectionExists, IdsEnded, TooManyCidrCollections, NoSuchCidrCollection, CidrCollectionInUse}
+use Rattle.cidr_changes.specs.declared.faults.CidrFault.TheVariants.{CollectionExists, IdsEnded, TooManyCidrCollections, CidrCollectionInUse}
 use Rattle.cidr_blocks.specs.declared.places.CidrLocation.{CidrLocation}
 use Rattle.cidr_blocks.specs.declared.places.Collection.{Collection}
 use Rattle.cidr_changes.specs.Changed.{changed_collection}
 use Rattle.cidr_changes.specs.Laws.{HaveNames, KeepCollections}
-use Rattle.cidr_blocks.specs.Places.{IsCollection, name_cmp}
+use Rattle.cidr_blocks.specs.Places.{IsCollection}
 use Rattle.cidr_changes.specs.Refusals.{first_of, rule, unless}
 use Rattle.cidr_routing.specs.declared.command.CidrCommand.TheVariants.{Create, Change, Delete}
-use Rattle.cidr_routing.specs.Commands.{KeepsSound, any_has_block, created, delete_refusal, deleted, is_taken, is_used, of_there, put_back, replaced, with_locations_at, without}
+use Rattle.cidr_routing.specs.Commands.{KeepsSound, any_has_block, created, delete_refusal, deleted, is_taken, is_used, of_there, put_back, replaced, with_locations_at}
 use Rattle.cidr_routing.specs.Stored.{IdsRise, IsSound, NamesDiffer, Stored, collection_at}
 use Rattle.cidr_routing.proofs.Ids.{Held}
 

@@ -1,4 +1,4 @@
-use Rattle.std.proofs.Common.{drop, ◌<◌, ◌++◌, ◌+◌, ◌≡◌, get_or, length, ◌∙◌, sym, subst}
+use Rattle.std.proofs.Common.{drop, ◌<◌, ◌+◌, ◌≡◌, get_or, length, ◌∙◌, sym, subst}
 use Rattle.cidr_blocks.specs.Places.{StandOnce, rows_at}
 use Rattle.cidr_blocks.proofs.Once.{fresh, next_row}
 use Rattle.cidr_blocks.proofs.tables.add_location.Goals as goal

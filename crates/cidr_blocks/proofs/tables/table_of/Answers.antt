@@ -1,4 +1,4 @@
-use Rattle.std.proofs.Common.{drop, ◌++◌, ◌+◌, ap, ◌∙◌, sym, subst}
+use Rattle.std.proofs.Common.{drop, ◌++◌, ◌+◌, ◌∙◌, sym, subst}
 use Rattle.cidr_blocks.specs.Places.{StandOnce, rows_at, rows_of}
 use Rattle.cidr_blocks.proofs.Once.{front, next_rows}
 use Rattle.cidr_blocks.proofs.tables.table_of.Goals as goal
