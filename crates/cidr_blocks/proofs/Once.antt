@@ -51,7 +51,8 @@ pub next_rows : (rows : List Row) (locations : List CidrLocation) (i : ℕ) (loc
     ≡ (rows ++ rows_at location.name location.blocks) ++ rows_of (drop (i + 1) locations)
 next_rows rows locations i location lt is =
     ap (λ ls. rows ++ rows_of ls) (drop_more locations i location lt)
-    ∙ ap (λ (l : CidrLocation). rows ++ (rows_at l.name l.blocks ++ rows_of (drop (i + 1) locations)))
+    ∙ ap (λ (l : CidrLocation).
+    rows ++ (rows_at l.name l.blocks ++ rows_of (drop (i + 1) locations)))
     (sym is)
     ∙ sym (append_assoc rows (rows_at location.name location.blocks)
     (rows_of (drop (i + 1) locations)))

@@ -78,7 +78,8 @@ module _ (test : Prefix → Bool) where
     all_left true row rows p all less = all
     all_left false row rows p all less = (p, less)
 
-    pub remove_all : (rows : Rows) → AllByRecursion P rows → AllByRecursion P (remove_entry test rows)
+    pub remove_all : (rows : Rows) → AllByRecursion P rows
+        → AllByRecursion P (remove_entry test rows)
     remove_all [] all = tt
     remove_all (row ∷ rows) all =
         all_left (test row.0) row rows all.0 all.1 (remove_all rows all.1)

@@ -29,7 +29,8 @@ found locations name i location lt is same so_far = (
   slice_get_read locations (length locations) i location refl lt is,
   λ block. so_far block
       ∙ ap (λ ls. take i locations ++ with_row name block ls) (drop_more locations i location lt)
-      ∙ ap (λ (l : CidrLocation). take i locations ++ with_row name block (l ∷ drop (i + 1) locations))
+      ∙ ap (λ (l : CidrLocation).
+      take i locations ++ with_row name block (l ∷ drop (i + 1) locations))
       (sym is)
       ∙ ap (λ ls. take i locations ++ ls)
       (at_name name block location (drop (i + 1) locations) same),
@@ -58,5 +59,6 @@ grown_at locations name block i spot location new is grows =
     (sym spot.1 ∙ slice_get_read locations (length locations) i location refl lt is) in
     set_at locations i new lt
     ∙ ap (λ (l : CidrLocation). take i locations ++ l ∷ drop (i + 1) locations) grows
-    ∙ ap (λ (l : CidrLocation). take i locations ++ grown l block ∷ drop (i + 1) locations) (sym same)
+    ∙ ap (λ (l : CidrLocation). take i locations ++ grown l block ∷ drop (i + 1) locations)
+    (sym same)
     ∙ sym (spot.2 block)

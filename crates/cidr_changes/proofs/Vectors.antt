@@ -96,7 +96,8 @@ length_first : changed_collection both
 length_first = refl
 
 change_by_change : changed_collection both
-    (puts (codes "lab") (v4 198 51 100 0 24 ∷ []) ∷ puts (codes "lab") (v4 0 0 0 0 0 ∷ []) ∷ []) 1 []
+    (puts (codes "lab") (v4 198 51 100 0 24 ∷ []) ∷ puts (codes "lab") (v4 0 0 0 0 0 ∷ []) ∷ [])
+    1 []
     ≡ Err CidrBlockInUse
 change_by_change = refl
 

@@ -1,7 +1,6 @@
 //! Why a command on collections is refused.
 
 use cidr_blocks::Ident;
-use octets::OutOfMemory;
 
 /// Why a command on collections is not carried out.
 #[derive(Clone, Copy, Debug, PartialEq, Eq)]
@@ -25,10 +24,4 @@ pub enum CidrFault {
     /// A record set names this location, which would have no block.
     CidrLocationInUse(Ident),
     OutOfMemory,
-}
-
-impl From<OutOfMemory> for CidrFault {
-    fn from(_: OutOfMemory) -> Self {
-        CidrFault::OutOfMemory
-    }
 }

@@ -27,7 +27,8 @@ office = record { name = codes "office"; blocks = v4 198 51 100 0 24 ∷ [] }
 abbrev two : Stored
 two = record {
   next = 4;
-  list = (1, record { name = codes "sites"; locations = office ∷ [] }) ∷ (3, empty (codes "more")) ∷ [];
+  list = (1, record { name = codes "sites"; locations = office ∷ [] })
+      ∷ (3, empty (codes "more")) ∷ [];
 }
 
 first_one : answer none (Create (codes "sites")) []

@@ -58,7 +58,8 @@ next_behind held list id low (Some next) first = record {
   where
     least : (other : ℕ) → IsId (held ∷ list) other → id < other → next ≤ other
     least other (collection, (zero, lt, is)) over =
-        let same : held.0 ≡ other = ap (λ (h : Held). h.0) is in absurd (omega (arith, same, low, over))
+        let same : held.0 ≡ other = ap (λ (h : Held). h.0) is in
+        absurd (omega (arith, same, low, over))
     least other (collection, (suc k, lt, is)) over =
         first.least other (collection, (k, omega (arith, lt), is)) over
 
@@ -88,6 +89,7 @@ module _ (list : List Held) (i id : ℕ) (held : Held) (lt : i < length list)
         (eq-eqb id held.0 (sym same)),
   )
 
-pub none_left : (list : List Held) (i id : ℕ) → (length list ≤ i) → NextIdOrNone (drop i list) id None
+pub none_left : (list : List Held) (i id : ℕ) → (length list ≤ i)
+    → NextIdOrNone (drop i list) id None
 none_left list i id over other (collection, (k, lt, is)) =
     absurd (let e = length-drop i list in omega (arith, e, lt, over))

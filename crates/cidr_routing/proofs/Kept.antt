@@ -103,7 +103,8 @@ module _ (id : ℕ) (locations : List CidrLocation) where
   name_by true c = refl
   name_by false c = refl
 
-  all_at : (P Q : Held → Type 0) → ((held : Held) → P held → Q (with_locations_at id locations held))
+  all_at : (P Q : Held → Type 0)
+      → ((held : Held) → P held → Q (with_locations_at id locations held))
       → (list : List Held) → AllByRecursion P list
       → AllByRecursion Q (map (with_locations_at id locations) list)
   all_at P Q f [] all = tt
@@ -232,7 +233,8 @@ there_by : (b : Bool) (id : ℕ) (held : Held) (list : List Held) (collection : 
     → IsCollection held.1
     → (collection_at id list ≡ Some collection → IsCollection collection)
     → cond b (Some held.1) (collection_at id list) ≡ Some collection → IsCollection collection
-there_by true id held list collection is rest e = subst IsCollection (let same : held.1 ≡ collection = cc in same) is
+there_by true id held list collection is rest e =
+    subst IsCollection (let same : held.1 ≡ collection = cc in same) is
 there_by false id held list collection is rest e = rest e
 
 there : (id : ℕ) (list : List Held) (collection : Collection)

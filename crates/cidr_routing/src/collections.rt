@@ -38,7 +38,8 @@ impl Model for Collections {
 
     ghost view = { λ c. record { next = c.next; list = c.list.items } };
 
-    ghost invariant = { λ c. IsSound (record { next = c.next; list = c.list.items }) × (c.tables.items ≡ tables_of c.list.items) };
+    ghost invariant = { λ c. IsSound (record { next = c.next; list = c.list.items })
+        × (c.tables.items ≡ tables_of c.list.items) };
 }
 
 impl Collections {

@@ -12,7 +12,8 @@ pub loop-held-preserved : goal.loop-held-preserved
 loop-held-preserved c next h =
     let low = c.if-held-id.false in
     c.loop-held.invariant next
-    (behind c.args.list.now c.args.id c.loop-held.held-index c.held-item.result c.loop-held-test.true
+    (behind c.args.list.now c.args.id c.loop-held.held-index c.held-item.result
+    c.loop-held-test.true
     c.held-item.is (omega (arith, low)) next h)
 
 pub returns : goal.returns

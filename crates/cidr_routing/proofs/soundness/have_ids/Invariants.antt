@@ -7,4 +7,5 @@ use Rattle.cidr_routing.proofs.soundness.have_ids.Given as goal
 abbrev pub invariant-loop-held : goal.invariant-loop-held
 invariant-loop-held l =
     AllByRecursion (λ (held : ℕ × Collection). (1 ≤ held.0) × (held.0 < l.next)) l.list
-    ↔ AllByRecursion (λ (held : ℕ × Collection). (1 ≤ held.0) × (held.0 < l.next)) (drop l.held-index l.list)
+    ↔ AllByRecursion (λ (held : ℕ × Collection). (1 ≤ held.0) × (held.0 < l.next))
+    (drop l.held-index l.list)

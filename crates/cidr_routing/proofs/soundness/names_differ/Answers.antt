@@ -8,7 +8,9 @@ use Rattle.cidr_routing.proofs.soundness.names_differ.Goals as goal
 
 pub returns-then-not-have_other_names : goal.returns-then-not-have_other_names
 returns-then-not-have_other_names c =
-    ends NamesDiffer (λ (held : Held). AllByRecursion (λ (other : Held). other.1.name ≢ held.1.name)) (λ held list p. p)
+    ends NamesDiffer
+    (λ (held : Held). AllByRecursion (λ (other : Held). other.1.name ≢ held.1.name))
+    (λ held list p. p)
     (λ held list q p. (q, p)) c.args.list.now c.loop-i.i c.index-list-i.result c.loop-i-test.true
     c.loop-i.invariant
     (λ q. false≢true (sym c.if-not-have_other_names.true ∙ c.have_other_names.ensures.1
@@ -16,7 +18,10 @@ returns-then-not-have_other_names c =
 
 pub loop-i-preserved : goal.loop-i-preserved
 loop-i-preserved c =
-    goes_on NamesDiffer (λ (held : Held). AllByRecursion (λ (other : Held). other.1.name ≢ held.1.name)) (λ held list p. p)
+    goes_on NamesDiffer
+    (λ (held : Held). AllByRecursion (λ (other : Held). other.1.name ≢ held.1.name))
+    (λ held list p. p)
     (λ held list q p. (q, p)) c.args.list.now c.loop-i.i c.index-list-i.result c.loop-i-test.true
     c.loop-i.invariant
-    (subst (AllByRecursion _) c.behind.ensures (c.have_other_names.ensures.0 c.if-not-have_other_names.false))
+    (subst (AllByRecursion _) c.behind.ensures
+    (c.have_other_names.ensures.0 c.if-not-have_other_names.false))
