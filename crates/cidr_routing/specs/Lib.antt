@@ -1,6 +1,4 @@
 pub mod Choice
-pub mod Commands
-pub mod Stored
 pub mod Tables
 pub use Rattle.cidr_blocks.specs.Idents
 pub use Rattle.cidr_blocks.specs.Places
@@ -9,6 +7,8 @@ pub use Rattle.cidr_changes.specs.Changes
 pub use Rattle.cidr_changes.specs.Gathered
 pub use Rattle.cidr_changes.specs.Laws
 pub use Rattle.cidr_changes.specs.Refusals
+pub use Rattle.cidr_commands.specs.Commands
+pub use Rattle.cidr_commands.specs.Stored
 pub use Rattle.considered_sets.specs.Considered
 pub use Rattle.considered_sets.specs.Healthy
 pub use Rattle.ip_table.specs.Location

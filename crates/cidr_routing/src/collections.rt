@@ -5,17 +5,14 @@ ghost use Rattle.std.specs.List.{AllByRecursion};
 ghost use Rattle.std.specs.Option.{option_copied};
 ghost use Rattle.cidr_blocks.specs.Places.{IsCollection};
 ghost use Rattle.cidr_changes.specs.Refusals.{Gives};
-ghost use Rattle.cidr_routing.specs.Commands.{HasNames, answer};
-ghost use Rattle.cidr_routing.specs.Stored.{IsSound, LocatesIn, NextIdOrNone, Stored, collection_at};
+ghost use Rattle.cidr_commands.specs.Commands.{HasNames, answer};
+ghost use Rattle.cidr_commands.specs.Stored.{IsSound, LocatesIn, NextIdOrNone, Stored, collection_at};
 ghost use Rattle.cidr_routing.specs.Tables.{tables_of};
 
-use crate::command::CidrCommand;
-use crate::finding::{id_after, place_of};
-use crate::laws::commands_keep_sound;
-use crate::steps::carry_out;
 use address_text::IpAddress;
 use cidr_blocks::{Collection, Ident, table_of};
 use cidr_changes::CidrFault;
+use cidr_commands::{CidrCommand, carry_out, commands_keep_sound, id_after, place_of};
 use ip_table::IpTable;
 use octets::OutOfMemory;
 use std::alloc::Global;
@@ -31,7 +28,7 @@ pub struct Collections {
 
 impl Model for Collections {
     ghost use Rattle.std.specs.Prelude.{◌≡◌};
-    ghost use Rattle.cidr_routing.specs.Stored.{IsSound, Stored};
+    ghost use Rattle.cidr_commands.specs.Stored.{IsSound, Stored};
     ghost use Rattle.cidr_routing.specs.Tables.{tables_of};
 
     ghost Value = { Stored };

@@ -6,18 +6,11 @@
 
 mod choice;
 mod collections;
-mod command;
-mod finding;
 mod ident;
-mod laws;
-mod soundness;
-mod steps;
 
 pub use choice::choose_block;
 pub use cidr_blocks::{Blocks, CidrLocation, Collection, Locations, OutOfMemory};
 pub use cidr_changes::{Changes, CidrChange, CidrFault};
+pub use cidr_commands::{CidrCommand, commands_keep_sound, has_names, is_sound};
 pub use collections::Collections;
-pub use command::{CidrCommand, has_names};
 pub use ident::Ident;
-pub use laws::commands_keep_sound;
-pub use soundness::is_sound;

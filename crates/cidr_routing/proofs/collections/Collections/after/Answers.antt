@@ -1,6 +1,6 @@
 use Rattle.std.proofs.Common.{◌≡◌, Ok, subst}
-use Rattle.cidr_routing.specs.Commands.{answer}
-use Rattle.cidr_routing.specs.Stored.{Stored}
+use Rattle.cidr_commands.specs.Commands.{answer}
+use Rattle.cidr_commands.specs.Stored.{Stored}
 use Rattle.cidr_routing.proofs.collections.Collections.after.Goals as goal
 
 pub stored-requires : goal.stored-requires

@@ -1,5 +1,5 @@
 use Rattle.std.proofs.Common.{subst}
-use Rattle.cidr_routing.specs.Stored.{NextIdOrNone, Stored}
+use Rattle.cidr_commands.specs.Stored.{NextIdOrNone, Stored}
 use Rattle.cidr_routing.proofs.collections.Collections.next_id.Goals as goal
 
 pub returns-clause-next : goal.returns-clause-next

@@ -1,0 +1,4 @@
+pub mod Ids
+pub mod InTurn
+pub mod Kept
+mod Vectors

@@ -1,0 +1,10 @@
+use Rattle.std.proofs.Common.{◌≢◌, ℕ, drop}
+use Rattle.std.specs.List.{AllByRecursion}
+use Rattle.std.specs.Prelude.{◌↔◌}
+use Rattle.cidr_blocks.specs.declared.places.Collection.{Collection}
+use Rattle.cidr_commands.proofs.soundness.have_other_names.Given as goal
+
+abbrev pub invariant-loop-other : goal.invariant-loop-other
+invariant-loop-other l =
+    AllByRecursion (λ (other : ℕ × Collection). other.1.name ≢ l.name) l.list
+    ↔ AllByRecursion (λ (other : ℕ × Collection). other.1.name ≢ l.name) (drop l.other-index l.list)

@@ -1,0 +1,102 @@
+-- What a command on collections makes of them, or its first refusal (Route 53 API Reference,
+-- CreateCidrCollection, ChangeCidrCollection and DeleteCidrCollection). Record sets use collections
+-- by number, and locations by name.
+use Rattle.std.specs.Prelude.{◌≡◌, ℕ, ◌+◌, Bool, not, ◌||◌, nat_lt, nat_le, nat_eq, if◌then◌else◌, List, [], ◌∷◌, ◌++◌, length, map, Option, None, Some, Result, Ok, Err, ⊤}
+use Rattle.std.specs.List.{filter, list_any}
+use Rattle.std.specs.Str.{bytes_eq}
+use Rattle.routing.specs.Texts.{IsText, is_location_byte}
+use Rattle.cidr_changes.specs.declared.faults.CidrFault.{CidrFault}
+use Rattle.cidr_changes.specs.declared.faults.CidrFault.TheVariants.{CollectionExists, IdsEnded, TooManyCidrCollections, NoSuchCidrCollection, CidrCollectionInUse}
+use Rattle.cidr_blocks.specs.declared.places.CidrLocation.{CidrLocation}
+use Rattle.cidr_blocks.specs.declared.places.Collection.{Collection}
+use Rattle.cidr_changes.specs.Changed.{changed_collection}
+use Rattle.cidr_changes.specs.Laws.{HaveNames}
+use Rattle.cidr_changes.specs.Refusals.{first_of, rule, unless}
+use Rattle.cidr_commands.specs.declared.command.CidrCommand.{CidrCommand}
+use Rattle.cidr_commands.specs.declared.command.CidrCommand.TheVariants.{Create, Change, Delete}
+use Rattle.cidr_commands.specs.Stored.{IsSound, Stored, collection_at}
+
+-- A collection has the name.
+abbrev pub is_taken : (name : List ℕ) → List (ℕ × Collection) → Bool
+is_taken name list = list_any (λ held. bytes_eq held.1.name name) list
+
+-- The first refusal of a new collection.
+abbrev pub create_refusal : Stored → (name : List ℕ) → Option CidrFault
+create_refusal stored name = first_of (
+    rule (is_taken name stored.list) CollectionExists
+    ∷ rule (nat_le 100 (length stored.list)) TooManyCidrCollections
+    ∷ rule (nat_eq stored.next 4294967295) IdsEnded
+    ∷ [])
+
+-- with a new collection, which has no blocks
+abbrev pub created : Stored → (name : List ℕ) → Stored
+created stored name = record {
+  next = stored.next + 1;
+  list = stored.list ++ (stored.next, record { name = name; locations = [] }) ∷ [];
+}
+
+abbrev pub create_answer : Stored → (name : List ℕ) → Result Stored CidrFault
+create_answer stored name = unless (create_refusal stored name) (Ok (created stored name))
+
+-- a collection, with these locations where it has the number
+abbrev pub with_locations_at : (id : ℕ) → List CidrLocation → ℕ × Collection → ℕ × Collection
+with_locations_at id locations held =
+    (held.0, if nat_eq held.0 id then record held.1 { locations = locations } else held.1)
+
+-- with the locations of this collection at a number
+abbrev pub replaced : Stored → (id : ℕ) → Collection → Stored
+replaced stored id collection =
+    record stored { list = map (with_locations_at id collection.locations) stored.list }
+
+-- A location has a block.
+abbrev pub any_has_block : List CidrLocation → Bool
+any_has_block locations =
+    list_any (λ (location : CidrLocation). nat_lt 0 (length location.blocks)) locations
+
+-- A set names the collection.
+abbrev pub is_used : (id : ℕ) → (used : List (ℕ × List ℕ)) → Bool
+is_used id used = list_any (λ named. nat_eq named.0 id) used
+
+-- The first refusal of the end of a collection.
+abbrev pub delete_refusal : (id : ℕ) → (used : List (ℕ × List ℕ)) → Collection → Option CidrFault
+delete_refusal id used collection = first_of (
+    rule (any_has_block collection.locations || is_used id used) CidrCollectionInUse
+    ∷ [])
+
+-- the collections without the one of a number
+abbrev pub without : (id : ℕ) → List (ℕ × Collection) → List (ℕ × Collection)
+without id list = filter (λ held. not (nat_eq held.0 id)) list
+
+abbrev pub deleted : Stored → (id : ℕ) → Stored
+deleted stored id = record stored { list = without id stored.list }
+
+-- with a collection that was changed, or why it wasn't
+abbrev pub put_back : Stored → (id : ℕ) → Result Collection CidrFault → Result Stored CidrFault
+put_back stored id (Err fault) = Err fault
+put_back stored id (Ok collection) = Ok (replaced stored id collection)
+
+-- what a command makes of the collection of a number, which it has to name
+abbrev pub of_there : (id : ℕ) → Option Collection → (Collection → Result Stored CidrFault)
+    → Result Stored CidrFault
+of_there id None answer = Err (NoSuchCidrCollection id)
+of_there id (Some collection) answer = answer collection
+
+-- The collections after a command, or its first refusal.
+abbrev pub answer : Stored → CidrCommand → (used : List (ℕ × List ℕ)) → Result Stored CidrFault
+answer stored (Create name) used = create_answer stored name
+answer stored (Change id changes) used = of_there id (collection_at id stored.list)
+    (λ collection. put_back stored id (changed_collection collection changes id used))
+answer stored (Delete id) used = of_there id (collection_at id stored.list)
+    (λ collection. unless (delete_refusal id used collection) (Ok (deleted stored id)))
+
+-- A new collection has a name of 1 to 64 letters, digits, `_` and `-`, a location one of 1 to 16.
+abbrev pub HasNames : CidrCommand → Type 0
+HasNames (Create name) = IsText is_location_byte 64 name
+HasNames (Change id changes) = HaveNames changes
+HasNames (Delete id) = ⊤
+
+-- What a command makes of collections is sound.
+abbrev pub KeepsSound : Type 0
+KeepsSound =
+    (stored : Stored) (command : CidrCommand) (used : List (ℕ × List ℕ)) (after : Stored)
+    → IsSound stored → HasNames command → answer stored command used ≡ Ok after → IsSound after

@@ -1,0 +1,11 @@
+pub mod Commands
+pub mod Stored
+pub use Rattle.cidr_blocks.specs.Idents
+pub use Rattle.cidr_blocks.specs.Places
+pub use Rattle.cidr_changes.specs.Changed
+pub use Rattle.cidr_changes.specs.Changes
+pub use Rattle.cidr_changes.specs.Gathered
+pub use Rattle.cidr_changes.specs.Laws
+pub use Rattle.cidr_changes.specs.Refusals
+pub use Rattle.ip_table.specs.Location
+pub use Rattle.routing.specs.Texts

@@ -1,0 +1,43 @@
+//! Commands on collections.
+
+ghost use Rattle.std.specs.Prelude.{IsTrue, ◌↔◌};
+ghost use Rattle.cidr_changes.specs.Laws.{HaveNames};
+ghost use Rattle.cidr_commands.specs.Commands.{HasNames};
+
+use cidr_blocks::Ident;
+use cidr_changes::{Changes, CidrChange};
+
+/// A command on collections.
+#[derive(Drop)]
+pub enum CidrCommand {
+    /// A new collection of this name.
+    Create(Ident),
+    /// Changes of the blocks of a collection, in this order.
+    Change { id: u32, changes: Changes },
+    /// The end of a collection.
+    Delete(u32),
+}
+
+/// Whether a command gives names as they are: 1 to 64 letters, digits, `_` and `-` to a collection,
+/// 1 to 16 to a location.
+pub fn has_names(command: &CidrCommand) -> bool
+    ensures { IsTrue result ↔ HasNames command.now }
+{
+    match command {
+        CidrCommand::Create(name) => name.is_collection_name(),
+        CidrCommand::Change { id: _, changes } => have_names(changes.as_slice()),
+        CidrCommand::Delete(_) => true,
+    }
+}
+
+/// Whether changes name locations.
+fn have_names(changes: &[CidrChange]) -> bool
+    ensures { IsTrue result ↔ HaveNames changes.now }
+{
+    for change in changes {
+        if !change.location.is_location_name() {
+            return false;
+        }
+    }
+    true
+}

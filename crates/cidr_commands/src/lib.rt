@@ -1,0 +1,16 @@
+//! Commands on collections of CIDR blocks, and what they make of the collections of a config.
+//!
+//! A list of collections stays as it is; a command makes a new one, which is sound where the old one is.
+#![tactic(auto)]
+
+mod command;
+mod finding;
+mod laws;
+mod soundness;
+mod steps;
+
+pub use command::{CidrCommand, has_names};
+pub use finding::{id_after, place_of};
+pub use laws::commands_keep_sound;
+pub use soundness::is_sound;
+pub use steps::carry_out;

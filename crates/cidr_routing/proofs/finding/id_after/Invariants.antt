@@ -1,7 +1,0 @@
-use Rattle.std.proofs.Common.{ℕ, Option, drop}
-use Rattle.cidr_routing.specs.Stored.{NextIdOrNone}
-use Rattle.cidr_routing.proofs.finding.id_after.Given as goal
-
-abbrev pub invariant-loop-held : goal.invariant-loop-held
-invariant-loop-held l = (next : Option ℕ) → NextIdOrNone (drop l.held-index l.list) l.id next
-    → NextIdOrNone l.list l.id next

@@ -1,6 +1,0 @@
-use Rattle.std.proofs.Common.{◌≡◌, drop}
-use Rattle.cidr_routing.specs.Stored.{collection_at}
-use Rattle.cidr_routing.proofs.finding.place_of.Given as goal
-
-abbrev pub invariant-loop-i : goal.invariant-loop-i
-invariant-loop-i l = collection_at l.id (drop l.i l.list) ≡ collection_at l.id l.list

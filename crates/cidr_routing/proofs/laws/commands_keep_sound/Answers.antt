@@ -1,5 +1,0 @@
-use Rattle.cidr_routing.proofs.Kept.{kept}
-use Rattle.cidr_routing.proofs.laws.commands_keep_sound.Goals as goal
-
-pub returns : goal.returns
-returns c = kept c.changes_keep_collections.ensures

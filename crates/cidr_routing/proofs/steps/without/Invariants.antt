@@ -1,7 +1,0 @@
-use Rattle.std.proofs.Common.{◌≡◌, ◌++◌, drop}
-use Rattle.cidr_routing.specs.Commands.{without}
-use Rattle.cidr_routing.proofs.steps.without.Given as goal
-
-abbrev pub invariant-loop-held : goal.invariant-loop-held
-invariant-loop-held l =
-    l.v.items ++ without l.id (drop l.held-index l.list) ≡ without l.id l.list
