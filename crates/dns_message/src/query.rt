@@ -24,7 +24,7 @@ pub struct Query {
     pub edns: Option<Edns>,
 }
 
-/// What an OPT record of version 0 tells (RFC 6891, 6.1.2 and 6.1.3).
+/// What an OPT record tells beside its version (RFC 6891, 6.1.2 and 6.1.3).
 #[derive(Clone, Copy, Debug, PartialEq, Eq)]
 pub struct Edns {
     /// How many octets a reply may have, as the client says.

@@ -20,6 +20,16 @@ one_more Authority records r m =
 one_more Additional records r m =
     ap (λ l. record m { additionals = l }) (append_assoc m.additionals records (r ∷ []))
 
+pub more : (section : Section) (records others : List Record) (m : Message)
+    → with_records section others (with_records section records m)
+    ≡ with_records section (records ++ others) m
+more Answer records others m =
+    ap (λ l. record m { answers = l }) (append_assoc m.answers records others)
+more Authority records others m =
+    ap (λ l. record m { authorities = l }) (append_assoc m.authorities records others)
+more Additional records others m =
+    ap (λ l. record m { additionals = l }) (append_assoc m.additionals records others)
+
 pub follows : (section : Section) (records : List Record) (m : Message) → Follows section m
     → Follows section (with_records section records m)
 follows Answer records m f = f

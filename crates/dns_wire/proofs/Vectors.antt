@@ -1,12 +1,13 @@
 -- Replies as published servers write them, octet by octet.
 use Rattle.std.proofs.Common.{◌≡◌, ℕ, List, [], ◌∷◌, ◌++◌, refl, true, false}
-use Rattle.std.specs.Prelude.{codes, None, Some}
+use Rattle.std.specs.Prelude.{codes, Option, None, Some}
 use Rattle.dns_message.specs.declared.query.Edns.{Edns}
 use Rattle.octets.specs.Numbers.{four_octets}
 use Rattle.dns_name.specs.Labels.{wire as name_wire}
-use Rattle.rdata_layout.specs.declared.types.RType.TheVariants.{A, Ns, Soa, Mx, Srv}
+use Rattle.rdata_layout.specs.declared.types.RType.TheVariants.{A, Ns, Cname, Soa, Ptr, Mx, Srv}
 use Rattle.dns_wire.specs.Header.{short_reply}
 use Rattle.dns_wire.specs.Draft.{opt_of}
+use Rattle.dns_wire.specs.Limit.{limit_of}
 use Rattle.dns_wire.specs.Message.{opt_octets, wire}
 use Rattle.dns_wire.specs.Data.{data_octets}
 use Rattle.dns_wire.specs.Pointers.{name_octets}
@@ -54,6 +55,15 @@ repeated = refl
 pub exchange : data_octets example Mx (0 ∷ 10 ∷ name_wire (codes "mail" ∷ example))
     ≡ 0 ∷ 10 ∷ 4 ∷ 0x6D ∷ 0x61 ∷ 0x69 ∷ 0x6C ∷ 0xC0 ∷ 12 ∷ []
 exchange = refl
+
+-- the names of CNAME and PTR are compressed
+pub canonical : data_octets example Cname (name_wire (codes "mail" ∷ example))
+    ≡ 4 ∷ 0x6D ∷ 0x61 ∷ 0x69 ∷ 0x6C ∷ 0xC0 ∷ 12 ∷ []
+canonical = refl
+
+pub pointed : data_octets example Ptr (name_wire (codes "mail" ∷ example))
+    ≡ 4 ∷ 0x6D ∷ 0x61 ∷ 0x69 ∷ 0x6C ∷ 0xC0 ∷ 12 ∷ []
+pointed = refl
 
 -- the target of SRV is whole (RFC 2782)
 pub target : data_octets example Srv (0 ∷ 1 ∷ 0 ∷ 2 ∷ 0x01 ∷ 0xBB ∷ name_wire example)
@@ -243,3 +253,16 @@ pub cut_with_opt : wire (record {
     ∷ 0 ∷ 0 ∷ 0x29 ∷ 0x10 ∷ 0 ∷ 0 ∷ 0 ∷ 0 ∷ 0 ∷ 0 ∷ 0 ∷ []
 unfolding wire
 cut_with_opt = refl
+
+-- ---- how many octets a reply may have
+
+abbrev of_size : ℕ → Option Edns
+of_size size = Some (record { size = size; dnssec_ok = false; subnet = None })
+
+pub without_edns : limit_of None ≡ 512
+without_edns = refl
+
+pub limits : limit_of (of_size 0) ∷ limit_of (of_size 511) ∷ limit_of (of_size 512) ∷ limit_of (of_size 513)
+    ∷ limit_of (of_size 4095) ∷ limit_of (of_size 4096) ∷ limit_of (of_size 4097) ∷ limit_of (of_size 65535) ∷ []
+    ≡ 512 ∷ 512 ∷ 512 ∷ 513 ∷ 4095 ∷ 4096 ∷ 4096 ∷ 4096 ∷ []
+limits = refl

@@ -49,5 +49,7 @@ pub record RecordsAddUp : Type 0 where
   pub none : (section : Section) (m : Message) → with_records section [] m ≡ m
   pub one_more : (section : Section) (records : List Record) (r : Record) (m : Message)
       → with_record section r (with_records section records m) ≡ with_records section (records ++ r ∷ []) m
+  pub more : (section : Section) (records others : List Record) (m : Message)
+      → with_records section others (with_records section records m) ≡ with_records section (records ++ others) m
   pub follows : (section : Section) (records : List Record) (m : Message)
       → Follows section m → Follows section (with_records section records m)

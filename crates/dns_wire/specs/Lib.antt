@@ -3,6 +3,7 @@ pub mod Draft
 pub mod Header
 pub mod Kept
 pub mod Laws
+pub mod Limit
 pub mod Message
 pub mod Pointers
 pub mod Reading

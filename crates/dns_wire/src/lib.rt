@@ -7,12 +7,14 @@
 mod data;
 mod header;
 mod laws;
+mod limit;
 mod opt;
 mod pointers;
 mod record;
 mod reply;
 
 pub use laws::{one_reading, records_add_up, replies_read};
+pub use limit::limit_of;
 pub use octets::OutOfMemory;
 pub use rdata_layout::RType;
 pub use reply::{Reply, Section};

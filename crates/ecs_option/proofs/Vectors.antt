@@ -2,7 +2,7 @@
 use Rattle.std.proofs.Common.{◌≡◌, ℕ, ◌<◌, ◌≤◌, List, [], ◌∷◌, replicate, Ok, Err, refl, subst, arith}
 use Rattle.ecs_option.specs.declared.subnet.ClientSubnet.{ClientSubnet}
 use Rattle.ecs_option.specs.declared.subnet.Malformed.{Malformed}
-use Rattle.ecs_option.specs.Grammar.{Point, Length, Family, Source, Scope, Address, Meets, Reads, FitsSource, bit_at}
+use Rattle.ecs_option.specs.Grammar.{Point, Length, Family, Source, Scope, Address, Meets, Reads, FitsSource, bit_at, bits_of}
 use Rattle.ecs_option.specs.Writing.{option_of}
 
 abbrev subnet : (family source : ℕ) → List ℕ → ClientSubnet
@@ -71,3 +71,21 @@ sent_back = refl
 scope_17 : option_of (subnet 1 24 (0xc6 ∷ 0x33 ∷ 0x64 ∷ replicate 13 0)) 17
     ≡ 0x00 ∷ 0x08 ∷ 0x00 ∷ 0x07 ∷ 0x00 ∷ 0x01 ∷ 0x18 ∷ 0x11 ∷ 0xc6 ∷ 0x33 ∷ 0x64 ∷ []
 scope_17 = refl
+
+-- the most bits of each family: 32 of IPv4; 128 of IPv6, and 129 are too many; none where no address is told
+most_bits : bits_of 0 ∷ bits_of 1 ∷ bits_of 2 ∷ [] ≡ 0 ∷ 32 ∷ 128 ∷ []
+most_bits = refl
+
+all_of_ipv4 : Reads (0 ∷ 1 ∷ 32 ∷ 0 ∷ 192 ∷ 0 ∷ 2 ∷ 1 ∷ [])
+    (Ok (subnet 1 32 (192 ∷ 0 ∷ 2 ∷ 1 ∷ replicate 12 0)))
+all_of_ipv4 = (meets, refl)
+  where
+    meets : (point : Point) → Meets (0 ∷ 1 ∷ 32 ∷ 0 ∷ 192 ∷ 0 ∷ 2 ∷ 1 ∷ []) point
+    meets Length = omega arith
+    meets Family = omega arith
+    meets Source = omega arith
+    meets Scope = refl
+    meets Address = record { octets = refl; padding = λ at h k. absurd (omega arith) }
+
+bits_129 : Reads (0 ∷ 2 ∷ 129 ∷ 0 ∷ []) (Err (fault 2))
+bits_129 = (Source, (omega arith, omega arith, λ low. absurd (omega arith)), refl)

@@ -7,4 +7,5 @@ pub mod Words
 pub use Rattle.octets.specs.Counts
 pub use Rattle.dns_message.specs.Judge
 pub use Rattle.dns_wire.specs.Header
+pub use Rattle.dns_wire.specs.Limit
 pub use Rattle.dns_wire.specs.Message

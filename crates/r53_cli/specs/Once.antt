@@ -1,5 +1,5 @@
 -- The one record of `once`, and the replies that it gives.
-use Rattle.std.specs.Prelude.{◌≡◌, ◌≢◌, ℕ, ◌^◌, ◌<◌, ◌⊎◌, min, max, List, [], ◌∷◌, slice_index, codes, true, false, Option, None, Some, Ok}
+use Rattle.std.specs.Prelude.{◌≡◌, ◌≢◌, ℕ, ◌^◌, ◌<◌, ◌⊎◌, List, [], ◌∷◌, slice_index, codes, true, false, Ok}
 use Rattle.std.specs.List.{All}
 use Rattle.std.specs.Fmt.{decimal}
 use Rattle.dns_name.specs.Text.{name_of_text}
@@ -7,13 +7,13 @@ use Rattle.value_text.specs.Fields.{is_blank}
 use Rattle.rdata_layout.specs.declared.types.RType.TheVariants.{A}
 use Rattle.rdata.specs.Datum.{Datum}
 use Rattle.rdata.specs.Reading.{Reads}
-use Rattle.dns_message.specs.declared.query.Edns.{Edns}
 use Rattle.dns_message.specs.declared.query.Query.{Query}
 use Rattle.dns_message.specs.declared.query.QueryRead.{QueryRead}
 use Rattle.dns_message.specs.declared.query.QueryRead.TheVariants as read
 use Rattle.dns_message.specs.Judge.{Judges}
 use Rattle.dns_wire.specs.Draft.{reply_to}
 use Rattle.dns_wire.specs.Header.{short_reply}
+use Rattle.dns_wire.specs.Limit.{limit_of, refusal_of, version_refusal_of}
 use Rattle.dns_wire.specs.Message.{Message, wire}
 use Rattle.r53_cli.specs.declared.once.Once.{Once}
 
@@ -57,12 +57,6 @@ pub record IsAsked (once : Once) (query : Query) : Type 0 where
   pub rtype : query.qtype ≡ 1
   pub rclass : query.qclass ≡ 1
 
--- how many octets a reply may have: 512 without EDNS (RFC 1035, 4.2.1), else what the client takes, 512 at least (RFC 6891,
--- 6.2.3) and 4,096 at most (own)
-abbrev pub limit_of : Option Edns → ℕ
-limit_of None = 512
-limit_of (Some edns) = max 512 (min edns.size 4096)
-
 -- the record as an answer, with AA set
 abbrev pub answer_of : Once → Query → Message
 answer_of once query = record (reply_to query) {
@@ -70,15 +64,7 @@ answer_of once query = record (reply_to query) {
   answers = record { owner = query.name; rtype = once.address.rtype; ttl = once.ttl; rdata = once.address.wire } ∷ [];
 }
 
--- the reply to every other question: REFUSED (5), without a record
-abbrev pub refusal_of : Query → Message
-refusal_of query = record (reply_to query) { rcode = 5 }
-
--- the reply to a query of a newer version of EDNS: BADVERS (16), without a record (RFC 6891, 6.1.3)
-abbrev pub version_refusal_of : Query → Message
-version_refusal_of query = record (reply_to query) { rcode = 16 }
-
--- the octets of the reply to a query
+-- the octets of the reply to a query: the answer, or REFUSED to every other question
 abbrev pub RepliesTo : Once → Query → List ℕ → Type 0
 RepliesTo once query output =
     (IsAsked once query × (output ≡ wire (answer_of once query) (limit_of query.edns)))

@@ -2,23 +2,18 @@
 
 ghost use Rattle.std.specs.Prelude.{◌≡◌, ◌≤◌, [], IsTrue, ◌↔◌, IfSome, IfNone, length};
 ghost use Rattle.dns_message.specs.Whole.{HasEdns, IsWhole};
+ghost use Rattle.dns_wire.specs.Limit.{limit_of, version_refusal_of};
 ghost use Rattle.dns_wire.specs.Message.{wire};
-ghost use Rattle.r53_cli.specs.Once.{IsAsked, Answers, RepliesTo, limit_of, version_refusal_of};
+ghost use Rattle.r53_cli.specs.Once.{IsAsked, Answers, RepliesTo};
 
 use dns_message::rcode::{BADVERS, REFUSED};
-use dns_message::{Edns, Query, QueryRead, read_query};
+use dns_message::{Query, QueryRead, read_query};
 use dns_name::Name;
-use dns_wire::{RType, Reply, Section};
+use dns_wire::{RType, Reply, Section, limit_of};
 use rdata::RData;
 
 /// The number of class IN (RFC 1035, 3.2.4).
 const IN: u16 = 1;
-
-/// The most octets of a reply over UDP to a query without EDNS (RFC 1035, 4.2.1), and the least to one with it (RFC 6891, 6.2.3).
-const LEAST_LIMIT: usize = 512;
-
-/// The most octets of a reply over UDP.
-const MOST_LIMIT: usize = 4096;
 
 /// The one record that a run of `once` has, of type A and class IN.
 #[derive(Drop)]
@@ -92,16 +87,4 @@ fn refuse_version(query: &Query, reply: &mut Reply) -> usize
 {
     reply.begin(query);
     reply.finish(false, BADVERS, limit_of(&query.edns), 0)
-}
-
-/// How many octets a reply may have.
-fn limit_of(edns: &Option<Edns>) -> usize
-    ensures limit { result ≡ limit_of edns.now }
-    ensures least { 512 ≤ result }
-    ensures most { result ≤ 4096 }
-{
-    match edns {
-        Some(edns) => usize::from(edns.size).min(MOST_LIMIT).max(LEAST_LIMIT),
-        None => LEAST_LIMIT,
-    }
 }

@@ -1,5 +1,3 @@
-use Rattle.std.proofs.Common.{subst}
-use Rattle.dns_message.specs.Judge.{Judges}
 use Rattle.dns_message.specs.declared.query.QueryRead.TheVariants as read
 use Rattle.r53_cli.proofs.once.Once.answer.Goals as goal
 

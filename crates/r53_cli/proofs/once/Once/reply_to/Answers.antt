@@ -2,7 +2,7 @@ use Rattle.std.proofs.Common.{List, [], ◌∷◌, ℕ, refl, ap, ◌∙◌, inl
 use Rattle.rdata_layout.specs.declared.types.RType.{RType}
 use Rattle.dns_wire.specs.Draft.{reply_to}
 use Rattle.dns_wire.specs.Message.{Message, wire}
-use Rattle.r53_cli.specs.Once.{limit_of}
+use Rattle.dns_wire.specs.Limit.{limit_of}
 use Rattle.r53_cli.proofs.Endings.{finished}
 use Rattle.r53_cli.proofs.once.Once.reply_to.Goals as goal
 
