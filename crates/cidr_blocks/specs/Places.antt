@@ -9,7 +9,7 @@ use Rattle.std.specs.declared.cmp.Ordering.{Ordering}
 use Rattle.address_text.specs.declared.address.IpAddress.{IpAddress}
 use Rattle.address_text.specs.declared.address.IpAddress.TheVariants.{V4, V6}
 use Rattle.ip_table.specs.Bits.{width_of}
-use Rattle.ip_table.specs.Prefixes.{Prefix}
+use Rattle.ip_table.specs.Prefixes.{IsPrefix, Prefix}
 use Rattle.routing.specs.Texts.{IsText, is_location_byte}
 use Rattle.cidr_blocks.specs.declared.places.CidrLocation.{CidrLocation}
 use Rattle.cidr_blocks.specs.declared.places.Collection.{Collection}
@@ -55,12 +55,17 @@ StandOnce (row ∷ rows) = AllByRecursion (λ other. other.0 ≢ row.0) rows × 
 abbrev pub names_of : List CidrLocation → List (List ℕ)
 names_of locations = map (λ (location : CidrLocation). location.name) locations
 
--- A location has a name of 1 to 16 letters, digits, `_` and `-`, and a block; its blocks have the
--- lengths of blocks, and rise.
+-- a prefix of the length of a block
+pub record IsBlock (prefix : Prefix) : Type 0 where
+  pub prefix_is : IsPrefix prefix.address prefix.length
+  pub fits : is_block prefix ≡ true
+
+-- A location has a name of 1 to 16 letters, digits, `_` and `-`, and a block; its blocks are blocks,
+-- and rise.
 pub record IsLocation (location : CidrLocation) : Type 0 where
   pub name : IsText is_location_byte 16 location.name
   pub some : 0 < length location.blocks
-  pub lengths : AllByRecursion (λ block. is_block block ≡ true) location.blocks
+  pub are_blocks : AllByRecursion IsBlock location.blocks
   pub rising : IsStrictlySortedBy block_cmp location.blocks
 
 -- A collection has a name of 1 to 64 letters, digits, `_` and `-`, and locations whose names rise;

@@ -5,7 +5,7 @@ ghost use Rattle.std.specs.List.{AllByRecursion};
 ghost use Rattle.std.specs.List.Sorted.{IsStrictlySortedBy};
 ghost use Rattle.ip_table.specs.Rows.{HasRow};
 ghost use Rattle.cidr_blocks.specs.Judged.{Adds, AddsAll};
-ghost use Rattle.cidr_blocks.specs.Places.{IsCollection, IsLocation, StandOnce, block_cmp, is_block};
+ghost use Rattle.cidr_blocks.specs.Places.{IsBlock, IsCollection, IsLocation, StandOnce, block_cmp};
 ghost use Rattle.cidr_blocks.specs.Places.{name_cmp, names_of, rows_at, rows_of};
 
 use crate::ident::Ident;
@@ -71,14 +71,22 @@ fn is_location(location: &CidrLocation) -> bool
 
 /// Whether each has the length of a block.
 fn are_blocks(blocks: &[IpPrefix]) -> bool
-    ensures { IsTrue result ↔ AllByRecursion (λ block. is_block block ≡ true) blocks.now }
+    ensures { IsTrue result ↔ AllByRecursion IsBlock blocks.now }
 {
     for block in blocks {
-        if !is_block(*block) {
+        if !fits(*block) {
             return false;
         }
     }
     true
+}
+
+/// Whether a prefix has the length of a block.
+fn fits(prefix: IpPrefix) -> bool
+    ensures { IsTrue result ↔ IsBlock prefix }
+{
+    prefix.address();
+    is_block(prefix)
 }
 
 /// Whether each block is below the ones behind it.

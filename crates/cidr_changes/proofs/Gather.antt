@@ -12,7 +12,7 @@ use Rattle.cidr_blocks.specs.declared.places.CidrLocation.{CidrLocation}
 use Rattle.cidr_changes.specs.Changes.{Rows}
 use Rattle.cidr_changes.specs.Gathered.{gathered, grown, of_block, with_row}
 use Rattle.cidr_blocks.specs.Order.{block_cmp_total}
-use Rattle.cidr_blocks.specs.Places.{IsLocation, StandOnce, block_cmp, is_block, name_cmp, names_of, rows_at, rows_of}
+use Rattle.cidr_blocks.specs.Places.{IsBlock, IsLocation, StandOnce, block_cmp, name_cmp, names_of, rows_at, rows_of}
 use Rattle.cidr_changes.proofs.Rising.{IsGood, Rising, Row, each}
 
 -- no block is below itself
@@ -191,13 +191,13 @@ module _ (block : Prefix) (name : List ℕ) where
   of_front P at (b ∷ blocks) rest all =
       let more = of_front P at blocks rest all.1 in ((all.0, more.0), more.1)
 
-  module _ (is : is_block block ≡ true) (named : IsText is_location_byte 16 name) where
+  module _ (is : IsBlock block) (named : IsText is_location_byte 16 name) where
     one_location : IsLocation (of_block name block)
     unfolding IsStrictlySortedBy
     one_location = record {
       name = named;
       some = omega arith;
-      lengths = (is, tt);
+      are_blocks = (is, tt);
       rising = (tt, tt);
     }
 
@@ -206,7 +206,7 @@ module _ (block : Prefix) (name : List ℕ) where
     grown_location l good low = record {
       name = good.name;
       some = (let e = length-append l.blocks (block ∷ []) in omega (arith, e));
-      lengths = one_more (λ p. is_block p ≡ true) is l.blocks good.lengths;
+      are_blocks = one_more IsBlock is l.blocks good.are_blocks;
       rising = blocks_rise l.blocks good.rising low;
     }
 

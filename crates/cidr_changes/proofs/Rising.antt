@@ -9,7 +9,7 @@ use Rattle.ip_table.specs.Prefixes.{Prefix}
 use Rattle.routing.specs.Texts.{IsText, is_location_byte}
 use Rattle.cidr_changes.specs.Changes.{Rows, location_of, put, put_all, removed, removed_all, stands_at}
 use Rattle.cidr_blocks.specs.Order.{block_cmp_total}
-use Rattle.cidr_blocks.specs.Places.{block_cmp, is_block}
+use Rattle.cidr_blocks.specs.Places.{IsBlock, block_cmp}
 
 abbrev pub Row : Type 0
 Row = Prefix × List ℕ
@@ -97,7 +97,7 @@ module _ (test : Prefix → Bool) where
 
 -- a block of a block's length under a location's name
 pub record IsGood (row : Row) : Type 0 where
-  pub block : is_block row.0 ≡ true
+  pub block : IsBlock row.0
   pub name : IsText is_location_byte 16 row.1
 
 -- rows of a collection
@@ -110,7 +110,7 @@ none_fine = record { good = tt; rising = tt }
 
 module _ (name : List ℕ) where
   module _ (named : IsText is_location_byte 16 name) where
-    put_by : (b : Bool) (block : Prefix) (rows : Rows) → is_block block ≡ true → AreFine rows
+    put_by : (b : Bool) (block : Prefix) (rows : Rows) → IsBlock block → AreFine rows
         → AreFine (cond b rows (insert_entry block_cmp rows block name))
     put_by true block rows is fine = fine
     put_by false block rows is fine = record {
@@ -120,7 +120,7 @@ module _ (name : List ℕ) where
     }
 
     pub put_fine : (blocks : List Prefix) (rows : Rows)
-        → AllByRecursion (λ block. is_block block ≡ true) blocks → AreFine rows
+        → AllByRecursion IsBlock blocks → AreFine rows
         → AreFine (put_all name blocks rows)
     put_fine [] rows are fine = fine
     put_fine (block ∷ blocks) rows are fine =
