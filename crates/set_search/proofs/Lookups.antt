@@ -70,6 +70,21 @@ tied_key key other = (
     there : is_eq (key_cmp key other) ≡ true → key ≡ other
     there e = keys_tie key other (equal (key_cmp key other) e)
 
+-- The key of a set that isn't before a key and isn't behind it is that key.
+pub key_between : (key : SetKey) (x : RecordSet) → is_before (bound.From key) x ≡ false
+    → is_before (bound.Past key) x ≡ true → key_of x ≡ key
+key_between key x low high = keys_tie (key_of x) key (by (key_cmp (key_of x) key) low high)
+  where
+    by : (o : Ordering) → is_lt o ≡ false → not (is_gt o) ≡ true → o ≡ Equal
+    by Less e f = absurd (grind (arith, e))
+    by Equal e f = refl
+    by Greater e f = absurd (grind (arith, f))
+
+-- a set isn't behind its own key
+pub past_itself : (key : SetKey) (x : RecordSet) → key_of x ≡ key → is_before (bound.Past key) x ≡ true
+past_itself key x e =
+    subst (λ k. is_before (bound.Past k) x ≡ true) e (ap (λ o. not (is_gt o)) (tied_itself keys_total (key_of x)))
+
 -- Orders that are total.
 module _ {K : Type 0} {R : K → K → Ordering} (total : IsTotalOrder R) where
   pub up_or_tied : (x y z : K) → is_gt (R x y) ≡ false → is_gt (R y z) ≡ false

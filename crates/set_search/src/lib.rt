@@ -7,10 +7,12 @@ mod bounds;
 mod groups;
 mod lists;
 mod names;
+mod order;
 mod searching;
 
-pub use bounds::Bound;
+pub use bounds::{Bound, Stop, before_key, behind_key};
 pub use groups::group_in;
 pub use lists::SetList;
 pub use names::{closest_in, exists_in};
+pub use order::set_is_before;
 pub use searching::{count_before, find};

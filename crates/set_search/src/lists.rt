@@ -1,11 +1,17 @@
 //! Sets that are looked at by place, wherever they are stored.
 
-ghost use Rattle.std.specs.Prelude.{◌≡◌, ◌<◌, ℕ, List, length, slice_get, Some};
+ghost use Rattle.std.specs.Prelude.{◌≡◌, ◌<◌, ℕ, List, length, slice_get, Some, IsTrue, ◌↔◌};
+ghost use Rattle.dns_name.specs.Suffix.{EndsWith};
 ghost use Rattle.record_set.specs.declared.sets.RecordSet.{RecordSet};
+ghost use Rattle.set_search.specs.Bounds.{is_before};
+ghost use Rattle.set_search.specs.Stops.{bound_of};
 
+use crate::bounds::Stop;
+use crate::order::set_is_before;
+use dns_name::Name;
 use record_set::RecordSet;
 
-/// Sets that are read by their places.
+/// Sets that are looked at by their places.
 pub trait SetList {
     /// The sets, from the first place on.
     ghost sets: { Self → List RecordSet };
@@ -14,10 +20,17 @@ pub trait SetList {
     fn count(&self) -> usize
         ensures { result ≡ length (sets self.now) };
 
-    /// The set at a place.
-    fn at(&self, place: usize) -> &RecordSet
+    /// Whether the set at a place stands before a bound.
+    fn is_before(&self, place: usize, stop: &Stop) -> bool
         requires { place < length (sets self.now) }
-        ensures { slice_get (sets self.now) place ≡ Some result.now };
+        ensures { (set : RecordSet) → slice_get (sets self.now) place ≡ Some set
+            → result ≡ is_before (bound_of stop.now) set };
+
+    /// Whether the set at a place has the name, or one below it.
+    fn is_below(&self, place: usize, name: &Name) -> bool
+        requires { place < length (sets self.now) }
+        ensures { (set : RecordSet) → slice_get (sets self.now) place ≡ Some set
+            → IsTrue result ↔ EndsWith set.name name.now };
 }
 
 impl SetList for Vec<RecordSet> {
@@ -27,7 +40,11 @@ impl SetList for Vec<RecordSet> {
         self.len()
     }
 
-    fn at(&self, place: usize) -> &RecordSet {
-        &self[place]
+    fn is_before(&self, place: usize, stop: &Stop) -> bool {
+        set_is_before(&self[place], stop)
+    }
+
+    fn is_below(&self, place: usize, name: &Name) -> bool {
+        self[place].name.ends_with(name)
     }
 }

@@ -5,20 +5,19 @@ ghost use Rattle.zone_model.specs.Existing.{Exists, IsAncestor, IsClosest};
 ghost use Rattle.zone_model.specs.Zones.{IsRising};
 ghost use Rattle.set_search.specs.Found.{IsFirstNamed};
 
-use crate::bounds::Bound;
+use crate::bounds::Stop;
 use crate::lists::SetList;
 use crate::searching::count_before;
 use dns_name::Name;
 use rdata::RType;
-use record_set::SetKey;
 
 /// Whether a set has the name, or a name below it.
-pub fn exists_in<S: SetList>(sets: &S, name: &Name) -> bool
+pub fn exists_in<S: SetList>(sets: &S, name: &Name, hint: Option<usize>) -> bool
     requires { IsRising (S.sets sets.now) }
     ensures { IsTrue result ↔ Exists (S.sets sets.now) name.now }
 {
-    let first = first_named(sets, name);
-    first < sets.count() && sets.at(first).name.ends_with(name)
+    let first = first_named(sets, name, hint);
+    first < sets.count() && sets.is_below(first, name)
 }
 
 /// The longest ancestor of a name that exists.
@@ -30,7 +29,7 @@ pub fn closest_in<S: SetList>(sets: &S, name: &Name) -> Name
     let mut closest = *name;
     while let Some(parent) = closest.parent() {
         closest = parent;
-        if exists_in(sets, &closest) {
+        if exists_in(sets, &closest, None) {
             return closest;
         }
     }
@@ -38,15 +37,10 @@ pub fn closest_in<S: SetList>(sets: &S, name: &Name) -> Name
 }
 
 /// The place of the first set whose name isn't before this one.
-fn first_named<S: SetList>(sets: &S, name: &Name) -> usize
+fn first_named<S: SetList>(sets: &S, name: &Name, hint: Option<usize>) -> usize
     requires { IsRising (S.sets sets.now) }
     ensures { IsFirstNamed (S.sets sets.now) name.now result }
 {
     // No type is lower, and a set without an identifier comes first.
-    let key = SetKey {
-        name: *name,
-        rtype: RType::A,
-        ident: None,
-    };
-    count_before(sets, &Bound::From(key))
+    count_before(sets, &Stop::From(name, RType::A, None), hint)
 }

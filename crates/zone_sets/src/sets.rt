@@ -1,15 +1,16 @@
 //! A slab of sets and their order beside it, so that an edit moves numbers and no sets.
 
-ghost use Rattle.std.specs.Prelude.{◌≡◌, ◌<◌, ◌≤◌, ◌+◌, [], length, IfOk, OnOk};
+ghost use Rattle.std.specs.Prelude.{◌≡◌, ◌<◌, ◌≤◌, ◌+◌, [], length, slice_get, Some, IfOk, OnOk};
 ghost use Rattle.record_set.specs.Sets.{key_of};
 ghost use Rattle.zone_model.specs.Placing.{IsThere};
 ghost use Rattle.set_search.specs.Found.{FindsAt, FindsNone};
 ghost use Rattle.zone_sets.specs.Placed.{AreOfZone, Gets, IsPut, IsSlotAt, IsTaken, IsTakenAt, sets_of};
 
 use crate::order::{insert_slot, remove_slot};
+use dns_name::Name;
 use rdata::OutOfMemory;
 use record_set::{RecordSet, SetKey};
-use set_search::{SetList, find};
+use set_search::{SetList, Stop, find, set_is_before};
 use slab::Slab;
 use std::alloc::Global;
 use std::marker::Model;
@@ -130,6 +131,14 @@ impl ZoneSets {
         Ok(copies)
     }
 
+    /// The set at a place.
+    fn at(&self, place: usize) -> &RecordSet
+        requires { place < length (sets_of self.now.placed) }
+        ensures { slice_get (sets_of self.now.placed) place ≡ Some result.now }
+    {
+        &self.sets[self.order[place]]
+    }
+
     /// The slot of the set at a place.
     pub fn slot_at(&self, place: usize) -> u32
         requires { place < length self.now.placed }
@@ -153,7 +162,11 @@ impl SetList for ZoneSets {
         self.order.len()
     }
 
-    fn at(&self, place: usize) -> &RecordSet {
-        &self.sets[self.order[place]]
+    fn is_before(&self, place: usize, stop: &Stop) -> bool {
+        set_is_before(self.at(place), stop)
+    }
+
+    fn is_below(&self, place: usize, name: &Name) -> bool {
+        self.at(place).name.ends_with(name)
     }
 }

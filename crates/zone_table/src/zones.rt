@@ -6,6 +6,7 @@ ghost use Rattle.zone_sets.specs.Placed.{IsSlotAt, sets_of};
 ghost use Rattle.zone_list.specs.Kept.{GetsZone};
 ghost use Rattle.zone_table.specs.Edits.{Edits, IsAllowed, IsReady, StayReady};
 ghost use Rattle.zone_table.specs.Looking.{ApexOrNone, HoldsOrNone, IsApex, IsGroup, IsGroupNow, IsMember, IsNextSet, Loads, SlotBehind, bound_of};
+ghost use Rattle.set_search.specs.Stops.{bound_of as told};
 ghost use Rattle.zone_list.specs.Found.{NextZoneOrNone};
 ghost use Rattle.zone_list.specs.Zones.{AreZones, IsZoneId, placed_in};
 
@@ -17,7 +18,9 @@ use dns_name::Name;
 use rdata::{OutOfMemory, RType};
 use record_set::{RecordSet, SetKey};
 use set_scratch::Scratch;
-use set_search::{Bound, SetList, closest_in, count_before, exists_in, group_in};
+use set_search::{
+    SetList, Stop, before_key, behind_key, closest_in, count_before, exists_in, group_in,
+};
 use std::alloc::Global;
 use std::marker::Model;
 use zone_list::{SetRef, StoredZone, find_zone, longest, next_id};
@@ -110,7 +113,7 @@ impl Zones {
         match self.stored(zone) {
             Some(stored) => {
                 stored.sets().well_formed();
-                let (start, length) = group_in(stored.sets(), name, rtype);
+                let (start, length) = group_in(stored.sets(), name, rtype, None);
                 Group {
                     zone,
                     start,
@@ -161,7 +164,7 @@ impl Zones {
         match self.stored(zone) {
             Some(stored) => {
                 stored.sets().well_formed();
-                exists_in(stored.sets(), name)
+                exists_in(stored.sets(), name, None)
             }
             None => false,
         }
@@ -189,7 +192,7 @@ impl Zones {
         let Some(stored) = self.stored(zone) else {
             return None;
         };
-        match slot_behind(stored.sets(), &bound_of(from, past)) {
+        match slot_behind(stored.sets(), &stop_at(from, past)) {
             Some(slot) => Some(SetRef { zone, slot }),
             None => None,
         }
@@ -245,11 +248,11 @@ fn slot_in(sets: &ZoneSets, start: usize, i: usize) -> u32
 }
 
 /// The slot of the first set behind the bound.
-fn slot_behind(sets: &ZoneSets, to: &Bound) -> Option<u32>
-    ensures { SlotBehind sets.now.placed to.now result }
+fn slot_behind(sets: &ZoneSets, to: &Stop) -> Option<u32>
+    ensures { SlotBehind sets.now.placed (told to.now) result }
 {
     sets.well_formed();
-    let place = count_before(sets, to);
+    let place = count_before(sets, to, None);
     if place < sets.count() {
         return Some(sets.slot_at(place));
     }
@@ -257,12 +260,12 @@ fn slot_behind(sets: &ZoneSets, to: &Bound) -> Option<u32>
 }
 
 /// The bound in front of a key, or behind it.
-fn bound_of(key: &SetKey, past: bool) -> Bound
-    ensures { result ≡ bound_of key.now past }
+fn stop_at(key: &SetKey, past: bool) -> Stop
+    ensures { told result ≡ bound_of key.now past }
 {
     if past {
-        Bound::Past(*key)
+        behind_key(key)
     } else {
-        Bound::From(*key)
+        before_key(key)
     }
 }

@@ -6,7 +6,7 @@ use Rattle.zone_sets.specs.Placed.{Held, Placed, sets_of}
 use Rattle.zone_sets.proofs.Keeping.{at_place}
 use Rattle.zone_sets.specs.Index.{placed_at, placed_of}
 use Rattle.zone_sets.proofs.Lists.{some_one}
-use Rattle.zone_sets.proofs.sets.ZoneSetsSetList.at.Goals as goal
+use Rattle.zone_sets.proofs.sets.ZoneSets.at.Goals as goal
 
 pub returns : goal.returns
 returns c =

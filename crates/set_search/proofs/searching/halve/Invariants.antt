@@ -1,9 +1,10 @@
 use Rattle.std.proofs.Common.{◌-◌}
 use Rattle.set_search.specs.Found.{IsBracket}
-use Rattle.set_search.proofs.searching.count_before.Given as goal
+use Rattle.set_search.specs.Stops.{bound_of}
+use Rattle.set_search.proofs.searching.halve.Given as goal
 
 abbrev pub invariant-loop-low : goal.invariant-loop-low
-invariant-loop-low g l = IsBracket (g.S.SetList.sets l.sets) l.bound l.low l.high
+invariant-loop-low g l = IsBracket (g.S.SetList.sets l.sets) (bound_of l.stop) l.low l.high
 
 abbrev pub decreases-loop-low : goal.decreases-loop-low
 decreases-loop-low g l = l.high - l.low

@@ -1,0 +1,50 @@
+-- The key of a set among its octets.
+use Rattle.std.specs.Prelude.{◌≡◌, ℕ, zero, suc, List, [], ◌∷◌, ◌++◌, take, Option, None, Some, ⊤}
+use Rattle.std.specs.Borrow.{Bor}
+use Rattle.octets.specs.Numbers.{two_octets}
+use Rattle.dns_name.specs.Labels.{wire}
+use Rattle.rdata_layout.specs.Types.{number_of}
+use Rattle.routing.specs.declared.policies.Routing.{Routing}
+use Rattle.routing.specs.declared.policies.Routing.TheVariants as routing
+use Rattle.record_set.specs.Sets.{ident_of}
+use Rattle.record_set.specs.declared.sets.RecordSet.{RecordSet}
+use Rattle.set_octets.specs.Octets.{text_octets}
+use Rattle.set_parts.specs.declared.heads.Head.{Head}
+
+-- the kind of a policy and the identifier, with which its octets begin
+abbrev pub policy_front : Routing → List ℕ
+policy_front routing.Simple = 0 ∷ []
+policy_front (routing.Weighted ident weight) = 1 ∷ text_octets ident
+policy_front (routing.Failover ident part) = 2 ∷ text_octets ident
+policy_front (routing.Geolocation ident where_to) = 3 ∷ text_octets ident
+policy_front (routing.Latency ident region) = 4 ∷ text_octets ident
+policy_front (routing.Multivalue ident) = 5 ∷ text_octets ident
+policy_front (routing.Cidr ident collection location) = 6 ∷ text_octets ident
+
+-- name, type, and the front of the policy: all that a set's key is told by
+abbrev pub key_octets : RecordSet → List ℕ
+key_octets set = wire set.name ++ (two_octets (number_of set.rtype) ++ policy_front set.routing)
+
+-- these octets are told, or none
+abbrev pub Tells : Option (List ℕ) → Option (Bor (List ℕ)) → Type 0
+Tells None None = ⊤
+Tells None (Some told) = ⊥
+Tells (Some text) None = ⊥
+Tells (Some text) (Some told) = told.now ≡ text
+
+-- a text without its length
+abbrev pub text_of : List ℕ → List ℕ
+text_of [] = []
+text_of (size ∷ octets) = take size octets
+
+-- the identifier behind a kind, where 0 is the kind without one
+abbrev pub told_ident : List ℕ → Option (List ℕ)
+told_ident [] = None
+told_ident (zero ∷ octets) = None
+told_ident (suc kind ∷ octets) = Some (text_of octets)
+
+-- What is told of a set's key.
+pub record IsHeadOf (set : RecordSet) (head : Head) : Type 0 where
+  pub name : head.name.now ≡ wire set.name
+  pub rtype : head.rtype ≡ set.rtype
+  pub ident : Tells (ident_of set.routing) head.ident

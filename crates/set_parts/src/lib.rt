@@ -1,0 +1,15 @@
+//! The parts of a set found among its octets: where each stands, by what is passed over in front of it.
+//!
+//! Octets that begin with no set are passed over too, to somewhere: each call says what it finds in the octets of a set, and
+//! takes any others.
+#![tactic(auto)]
+
+mod heads;
+mod laws;
+mod passing;
+#[cfg(test)]
+mod tests;
+
+pub use heads::{Head, body_of, head_of, ident_in_front, name_and_rest, policy_of, type_and_rest};
+pub use laws::keys_are_in_front;
+pub use passing::{behind_check, behind_name, behind_place, behind_policy, behind_text, past};
