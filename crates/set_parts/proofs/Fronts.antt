@@ -53,11 +53,13 @@ keys_are_in_front set is =
     let after = body_octets set.body ++ check_octets set.check in
     let head : name ++ type ++ routing_octets set.routing ≡ (name ++ (type ++ front)) ++ back =
     ap (λ t. name ++ type ++ t) (halves set.routing) ∙ append_assoc name type (front ++ back)
-    ∙ ap (λ t. name ++ t) (sym (append_assoc type front back)) ∙ sym (append_assoc name (type ++ front) back) in
+    ∙ ap (λ t. name ++ t) (sym (append_assoc type front back)) ∙ sym (append_assoc name (type
+    ++ front) back) in
     record {
       rest = back ++ after;
       in_front =
-          append_assoc (name ++ type ++ routing_octets set.routing) (body_octets set.body) (check_octets set.check)
+          append_assoc (name ++ type ++ routing_octets set.routing) (body_octets set.body)
+          (check_octets set.check)
           ∙ ap (λ t. t ++ after) head ∙ append_assoc (name ++ (type ++ front)) back after;
       few = omega (
         arith,

@@ -27,7 +27,8 @@ module _ (size : ℕ) (left others rest : List ℕ) (read : octet_at left ≡ Ok
       let tail = wire later ++ rest in
       let same : wire (label ∷ later) ++ rest ≡ length label ∷ (label ++ tail) =
       ap (λ t. length label ∷ t)
-      (ap (λ t. t ++ rest) (append_assoc label (flat_map frame later) (0 ∷ [])) ∙ append_assoc label (wire later) rest) in
+      (ap (λ t. t ++ rest) (append_assoc label (flat_map frame later) (0 ∷ []))
+      ∙ append_assoc label (wire later) rest) in
       let f = front (length label) (label ++ tail) (e ∙ same) in (
         later,
         are.1,
@@ -42,12 +43,14 @@ module _ (size : ℕ) (left others rest : List ℕ) (read : octet_at left ≡ Ok
       let tail = wire later ++ rest in
       let same : wire (label ∷ later) ++ rest ≡ length label ∷ (label ++ tail) =
       ap (λ t. length label ∷ t)
-      (ap (λ t. t ++ rest) (append_assoc label (flat_map frame later) (0 ∷ [])) ∙ append_assoc label (wire later) rest) in
+      (ap (λ t. t ++ rest) (append_assoc label (flat_map frame later) (0 ∷ []))
+      ∙ append_assoc label (wire later) rest) in
       let f = front (length label) (label ++ tail) (e ∙ same) in
       let filled = are.0.filled in
       absurd (omega (arith, f.0, none, filled))
 
-not_both : (n : ℕ) (xs : List ℕ) (fault : ℕ) (one : Read) → one ≡ Ok (n, xs) → one ≡ Err fault → {A : Type 0} → A
+not_both : (n : ℕ) (xs : List ℕ) (fault : ℕ) (one : Read) → one ≡ Ok (n, xs) → one ≡ Err fault
+    → {A : Type 0} → A
 not_both n xs fault one e k = absurd cc
 
 -- octets that are left have a first one
@@ -58,5 +61,6 @@ some_left left rest fault (label ∷ later) e read =
     let tail = wire later ++ rest in
     let same : wire (label ∷ later) ++ rest ≡ length label ∷ (label ++ tail) =
     ap (λ t. length label ∷ t)
-    (ap (λ t. t ++ rest) (append_assoc label (flat_map frame later) (0 ∷ [])) ∙ append_assoc label (wire later) rest) in
+    (ap (λ t. t ++ rest) (append_assoc label (flat_map frame later) (0 ∷ []))
+    ∙ append_assoc label (wire later) rest) in
     not_both (length label) (label ++ tail) fault (octet_at left) (ap octet_at (e ∙ same)) read

@@ -5,7 +5,8 @@ use Rattle.set_octets.specs.Octets.{set_octets}
 use Rattle.set_parts.specs.Heads.{key_octets}
 use Rattle.set_reading.specs.Sets.{IsSet}
 
--- the most octets by which a key is told: a name of 255, a type, and an identifier of 128 behind its kind and its length
+-- the most octets by which a key is told: a name of 255, a type, and an identifier of 128 behind
+-- its kind and its length
 abbrev pub most_key_octets : ℕ
 most_key_octets = 387
 

@@ -1,5 +1,5 @@
--- How parts are passed over, by the octets that say their kinds and lengths (FORMATS, Octets of sets). That what is left is
--- what stands behind the part is a clause of each call.
+-- How parts are passed over, by the octets that say their kinds and lengths (FORMATS, Octets of
+-- sets). That what is left is what stands behind the part is a clause of each call.
 use Rattle.std.specs.Prelude.{ℕ, List, [], ◌∷◌, drop, ◌==◌, if◌then◌else◌}
 
 abbrev pub past_text : List ℕ → List ℕ

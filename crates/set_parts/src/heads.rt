@@ -10,7 +10,8 @@ ghost use Rattle.record_set.specs.declared.sets.RecordSet.{RecordSet};
 ghost use Rattle.routing.specs.declared.policies.Routing.{Routing};
 ghost use Rattle.octets.specs.Numbers.{two_octets};
 ghost use Rattle.set_octets.specs.Octets.{body_octets, check_octets, routing_octets, set_octets};
-ghost use Rattle.set_parts.specs.Heads.{IsHeadOf, Tells, key_octets, policy_front, text_of, told_ident};
+ghost use Rattle.set_parts.specs.Heads.{IsHeadOf, Tells, key_octets, policy_front, text_of};
+ghost use Rattle.set_parts.specs.Heads.{told_ident};
 ghost use Rattle.set_reading.specs.Sets.{IsSet};
 
 use crate::passing::{behind_name, behind_policy, past};
@@ -97,7 +98,8 @@ fn text_in_front(octets: &[u8]) -> &[u8]
 /// What stands behind the name and the type of a set: its policy, and what follows it.
 pub fn policy_of(octets: &[u8]) -> &[u8]
     ensures { (set : RecordSet) (rest : List ℕ) → IsSet set → octets.now ≡ set_octets set ++ rest
-        → result.now ≡ routing_octets set.routing ++ (body_octets set.body ++ (check_octets set.check ++ rest)) }
+        → result.now ≡ routing_octets set.routing ++ (body_octets set.body
+        ++ (check_octets set.check ++ rest)) }
 {
     past(behind_name(octets), 2)
 }

@@ -1,7 +1,8 @@
-//! The parts of a set found among its octets: where each stands, by what is passed over in front of it.
+//! The parts of a set found among its octets: where each stands, by what is passed over in front of
+//! it.
 //!
-//! Octets that begin with no set are passed over too, to somewhere: each call says what it finds in the octets of a set, and
-//! takes any others.
+//! Octets that begin with no set are passed over too, to somewhere: each call says what it finds in
+//! the octets of a set, and takes any others.
 #![tactic(auto)]
 
 mod heads;

@@ -40,7 +40,8 @@ pub fn behind_name(octets: &[u8]) -> &[u8]
 /// What stands behind a text and its length.
 pub fn behind_text(octets: &[u8]) -> &[u8]
     ensures passed { result.now ≡ past_text octets.now }
-    ensures behind { (text rest : List ℕ) → octets.now ≡ text_octets text ++ rest → result.now ≡ rest }
+    ensures behind { (text rest : List ℕ) → octets.now ≡ text_octets text ++ rest
+        → result.now ≡ rest }
 {
     match octets {
         [size, others @ ..] => past(others, *size as usize),

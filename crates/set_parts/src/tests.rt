@@ -4,7 +4,8 @@ use crate::{behind_check, body_of, head_of, keys_are_in_front, policy_of};
 use rdata_layout::RType;
 use std::test::Fail;
 
-/// `a. A`, of weight 5 behind the identifier `x`, an alias of `b.` whose health counts, and the check 7.
+/// `a. A`, of weight 5 behind the identifier `x`, an alias of `b.` whose health counts, and the
+/// check 7.
 const SET: [u8; 20] = [
     1, b'a', 0, 0, 1, 1, 1, b'x', 5, 1, 1, b'b', 0, 1, 1, 0, 0, 0, 7, 9,
 ];

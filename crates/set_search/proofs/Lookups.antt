@@ -83,7 +83,8 @@ key_between key x low high = keys_tie (key_of x) key (by (key_cmp (key_of x) key
 -- a set isn't behind its own key
 pub past_itself : (key : SetKey) (x : RecordSet) → key_of x ≡ key → is_before (bound.Past key) x ≡ true
 past_itself key x e =
-    subst (λ k. is_before (bound.Past k) x ≡ true) e (ap (λ o. not (is_gt o)) (tied_itself keys_total (key_of x)))
+    subst (λ k. is_before (bound.Past k) x ≡ true) e (ap (λ o. not (is_gt o)) (tied_itself keys_total
+    (key_of x)))
 
 -- Orders that are total.
 module _ {K : Type 0} {R : K → K → Ordering} (total : IsTotalOrder R) where

@@ -13,7 +13,8 @@ use Rattle.set_search.specs.declared.bounds.Bound.TheVariants as bound
 
 -- the order of a set's name and type and of another name and type
 abbrev pub group_cmp : RecordSet → (name : List (List ℕ)) → RType → Ordering
-group_cmp set name rtype = ordering_then (zone_cmp set.name name) (nat_cmp (number_of set.rtype) (number_of rtype))
+group_cmp set name rtype = ordering_then (zone_cmp set.name name) (nat_cmp (number_of set.rtype)
+    (number_of rtype))
 
 -- whether a set stands before the bound
 abbrev pub is_before : Bound → RecordSet → Bool

@@ -25,7 +25,8 @@ abbrev pub IsCount : List RecordSet → Bound → ℕ → Type 0
 IsCount sets bound n = IsBracket sets bound n n
 
 -- The sets of a name and type stand side by side, from place `start` on.
-pub record IsGroupAt (sets : List RecordSet) (name : List (List ℕ)) (rtype : RType) (start n : ℕ) : Type 0 where
+pub record IsGroupAt (sets : List RecordSet) (name : List (List ℕ)) (rtype : RType)
+    (start n : ℕ) : Type 0 where
   pub first : IsCount sets (bound.From (record { name = name; rtype = rtype; ident = None })) start
   pub within : start + n ≤ length sets
   pub members : take n (drop start sets) ≡ group sets name rtype

@@ -10,7 +10,8 @@ use crate::searching::count_before;
 use dns_name::Name;
 use rdata::RType;
 
-/// Where the sets of a name and type stand, which is side by side: the place of the first one, and how many they are.
+/// Where the sets of a name and type stand, which is side by side: the place of the first one, and
+/// how many they are.
 pub fn group_in<S: SetList>(
     sets: &S,
     name: &Name,

@@ -1,6 +1,7 @@
 //! Sets found by their keys, in lists that are in zone order.
 //!
-//! A search stops at a bound between two sets: how many sets stand before it is the place of the first one behind.
+//! A search stops at a bound between two sets: how many sets stand before it is the place of the
+//! first one behind.
 #![tactic(auto)]
 
 mod bounds;

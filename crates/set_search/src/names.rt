@@ -23,7 +23,8 @@ pub fn exists_in<S: SetList>(sets: &S, name: &Name, hint: Option<usize>) -> bool
 /// The longest ancestor of a name that exists.
 pub fn closest_in<S: SetList>(sets: &S, name: &Name) -> Name
     requires rising { IsRising (S.sets sets.now) }
-    requires some { (other : List (List ℕ)) × IsAncestor name.now other × Exists (S.sets sets.now) other }
+    requires some { (other : List (List ℕ)) × IsAncestor name.now other
+        × Exists (S.sets sets.now) other }
     ensures { IsClosest (S.sets sets.now) name.now result }
 {
     let mut closest = *name;

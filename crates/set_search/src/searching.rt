@@ -14,7 +14,8 @@ use record_set::SetKey;
 
 /// How many sets stand before a bound, which is the place of the first one behind it.
 ///
-/// The hint is a place that may be the right one. Near that it saves comparisons, and it changes nothing else.
+/// The hint is a place that may be the right one. Near that it saves comparisons, and it changes
+/// nothing else.
 pub fn count_before<S: SetList>(sets: &S, stop: &Stop, hint: Option<usize>) -> usize
     requires { IsRising (S.sets sets.now) }
     ensures { IsCount (S.sets sets.now) (bound_of stop.now) result }
@@ -141,7 +142,8 @@ pub fn find<S: SetList>(sets: &S, key: &SetKey) -> Result<usize, usize>
 /// Whether the set at the first place that isn't before a key has that key.
 fn has_key<S: SetList>(sets: &S, place: usize, key: &SetKey) -> bool
     requires { IsCount (S.sets sets.now) (From key.now) place }
-    ensures { IsTrue result ↔ ((set : RecordSet) × (slice_get (S.sets sets.now) place ≡ Some set) × (key_of set ≡ key.now)) }
+    ensures { IsTrue result ↔ ((set : RecordSet) × (slice_get (S.sets sets.now) place ≡ Some set)
+        × (key_of set ≡ key.now)) }
 {
     if place >= sets.count() {
         return false;

@@ -6,7 +6,8 @@ use Rattle.set_parts.proofs.passing.behind_name.Goals as goal
 pub returns-then-size-eq0-clause-behind : goal.returns-then-size-eq0-clause-behind
 returns-then-size-eq0-clause-behind c labels rest is e =
     let at = c.loop-size.invariant.behind labels rest is e in
-    ended c.in-Ok.size c.loop-size.left.now c.in-Ok.others.now rest c.in-Ok.ensures at.0 at.1 at.2 c.if-size-eq0.true
+    ended c.in-Ok.size c.loop-size.left.now c.in-Ok.others.now rest c.in-Ok.ensures at.0 at.1 at.2
+    c.if-size-eq0.true
 
 pub loop-size-preserved : goal.loop-size-preserved
 loop-size-preserved c = record {

@@ -17,4 +17,5 @@ returns g c =
     let n = c.count_before-place.result in
     not_found sets c.args.key.now c.requires n
     (subst (λ b. IsCount sets b n) c.before_key.ensures c.count_before-place.ensures)
-    (λ x at same. (let no = c.has_key.ensures.1 (x, at, same) in let f = c.if-has_key.false in grind (arith, no, f)))
+    (λ x at same. (let no = c.has_key.ensures.1 (x, at, same) in let f = c.if-has_key.false in grind
+    (arith, no, f)))

@@ -23,8 +23,14 @@ returns g c =
     let count = c.count.ensures in
     let inside = c.if-place-count.false in
     let x = filled sets n (omega (arith, count, inside)) in
-    let answer : (set : RecordSet) → slice_get sets n ≡ Some set → c.is_before.result ≡ is_before (bound.Past c.args.key.now) set =
+    let answer : (set : RecordSet) → slice_get sets n ≡ Some set
+    → c.is_before.result ≡ is_before (bound.Past c.args.key.now) set =
     λ set at. c.is_before.ensures set at ∙ ap (λ b. is_before b set) c.behind_key.ensures in (
-      (λ h. (x.0, x.1, key_between c.args.key.now x.0 (c.requires.behind n x.0 (omega arith) x.1) (sym (answer x.0 x.1) ∙ h))),
+      (λ h. (
+        x.0,
+        x.1,
+        key_between c.args.key.now x.0 (c.requires.behind n x.0 (omega arith) x.1) (sym
+            (answer x.0 x.1) ∙ h),
+      )),
       λ y. answer y.0 y.1 ∙ past_itself c.args.key.now y.0 y.2,
     )

@@ -1,0 +1,11 @@
+pub mod Named
+pub mod Lists
+pub mod Chains
+pub mod Keeping
+pub mod More
+pub mod Counts
+pub mod Puts
+pub mod Reading
+pub mod Takes
+pub mod Replaces
+pub mod Whole

@@ -1,0 +1,27 @@
+-- The name that octets of a key begin with.
+use Rattle.std.proofs.Common.{◌≡◌, ◌++◌, ℕ, List, Result, Ok, Err, ap, ◌∙◌, append_assoc}
+use Rattle.octets.specs.Numbers.{two_octets}
+use Rattle.dns_name.specs.Labels.{wire}
+use Rattle.octet_reading.specs.Names.{name_at}
+use Rattle.octet_reading.specs.Rules.{BaseFieldsAreRead}
+use Rattle.rdata_layout.specs.Types.{number_of}
+use Rattle.record_set.specs.declared.sets.RecordSet.{RecordSet}
+use Rattle.set_parts.specs.Heads.{key_octets, policy_front}
+use Rattle.set_reading.specs.Sets.{IsSet}
+
+pub name_of_head : BaseFieldsAreRead → (set : RecordSet) (rest octets : List ℕ) → IsSet set
+    → octets ≡ key_octets set ++ rest
+    → name_at octets ≡ Ok (set.name, (two_octets (number_of set.rtype) ++ policy_front set.routing) ++ rest)
+name_of_head base set rest octets is e =
+    let behind = two_octets (number_of set.rtype) ++ policy_front set.routing in
+    ap name_at (e ∙ append_assoc (wire set.name) behind rest) ∙ base.names.again set.name (behind
+    ++ rest) is.name
+
+abbrev Read : Type 0
+Read = Result (List (List ℕ) × List ℕ) ℕ
+
+pub read_one : (read : Read) (x y : List (List ℕ) × List ℕ) → read ≡ Ok x → read ≡ Ok y → x.0 ≡ y.0
+read_one read x y e f = let same : x ≡ y = cc in ap (λ (p : List (List ℕ) × List ℕ). p.0) same
+
+pub never : (read : Read) (x : List (List ℕ) × List ℕ) (left : ℕ) → read ≡ Ok x → read ≡ Err left → ⊥
+never read x left e f = cc

@@ -1,0 +1,43 @@
+-- Octets that are read as a set, whole.
+use Rattle.std.proofs.Common.{◌≡◌, ℕ, List, [], ◌++◌, Result, Ok, Err, length, take, ap, ◌∙◌, sym}
+use Rattle.std.specs.Prelude.{IfOk}
+use Rattle.std.proofs.lemmas.List.{append-nil}
+use Rattle.std.proofs.Math.Seq.{take-append_seam, take-length}
+use Rattle.record_set.specs.declared.sets.RecordSet.{RecordSet}
+use Rattle.set_octets.specs.Octets.{set_octets}
+use Rattle.set_reading.specs.declared.faults.ReadFault.{ReadFault}
+use Rattle.set_reading.specs.declared.faults.ReadFault.TheVariants as fault
+use Rattle.set_reading.specs.Gives.{ReadsSet}
+use Rattle.set_reading.specs.Sets.{BeginsWithSet}
+use Rattle.set_store.specs.Stored.{Spells}
+
+-- octets that are a set's begin with it
+pub begins : (octets : List ℕ) (set : RecordSet) → Spells octets set
+    → BeginsWithSet octets set (length octets)
+begins octets set spells = record {
+  rest = [];
+  is = spells.is;
+  has_spelling = spells.has_spelling;
+  spelled = spells.same ∙ sym (append-nil (set_octets set));
+  size = ap length spells.same;
+}
+
+-- what is read is the set that stands there
+pub told_set : (x y : RecordSet × ℕ) → ReadsSet (Ok x) (Ok y) → x.0 ≡ y.0
+told_set x y e = let same : y ≡ x = cc in ap (λ (p : RecordSet × ℕ). p.0) (sym same)
+
+pub never_bad : (why : ReadFault) (place : ℕ) (y : RecordSet × ℕ) → why ≡ fault.Bad place
+    → ReadsSet (Err why) (Ok y) → ⊥
+never_bad (fault.Bad n) place y is e = cc
+never_bad fault.OutOfMemory place y is e = cc
+
+pub if_ok : {X E : Type 0} (P Q : X → Type 0) (r : Result X E) → ((x : X) → P x → Q x) → IfOk r P → IfOk r Q
+if_ok P Q (Ok x) f h = f x h
+if_ok P Q (Err e) f h = h
+
+-- a buffer of the right size that was filled
+pub copied : (len : ℕ) (octets old into rest : List ℕ) → len ≡ length octets → length old ≡ length octets
+    → into ≡ take (length old) octets → take len (into ++ rest) ≡ octets
+copied len octets old into rest size room is =
+    let same : into ≡ octets = is ∙ ap (λ k. take k octets) room ∙ take-length octets in
+    ap (λ k. take k (into ++ rest)) (size ∙ ap length (sym same)) ∙ take-append_seam into rest ∙ same

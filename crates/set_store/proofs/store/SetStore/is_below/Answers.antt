@@ -1,0 +1,34 @@
+use Rattle.std.proofs.Common.{min, length, subst, sym, ◌∙◌}
+use Rattle.set_store.specs.Stored.{IsKept, Store}
+use Rattle.set_store.proofs.Reading.{enough_long, found, head_there}
+use Rattle.set_store.proofs.store.SetStore.is_below.Goals as goal
+
+pub head_at-requires : goal.head_at-requires
+head_at-requires c =
+    let kept = c.requires in
+    let f = found c.self.inside.region.held c.self.inside.slots.items c.self.inside.free c.self.inside.spare
+    c.self.invariant
+    c.written_reads_back.ensures c.args.slot kept.0 (subst (λ
+    (s : Store). IsKept s.slots c.args.slot kept.0) (sym c.self.view_is) kept.1) in
+    (f.octets, f.there)
+
+pub head_is_below-requires : goal.head_is_below-requires
+head_is_below-requires c =
+    let kept = c.requires in
+    let f = found c.self.inside.region.held c.self.inside.slots.items c.self.inside.free c.self.inside.spare
+    c.self.invariant
+    c.written_reads_back.ensures c.args.slot kept.0 (subst (λ
+    (s : Store). IsKept s.slots c.args.slot kept.0) (sym c.self.view_is) kept.1) in
+    let head = head_there c.keys_are_in_front.ensures kept.0.set f.octets f.spelled (min
+    (length f.octets) 387) (enough_long (length f.octets)) in
+    (kept.0.set, head.0, f.spelled.is, c.head_at.ensures f.octets f.there ∙ head.1)
+
+pub returns : goal.returns
+returns c kept is =
+    let f = found c.self.inside.region.held c.self.inside.slots.items c.self.inside.free c.self.inside.spare
+    c.self.invariant
+    c.written_reads_back.ensures c.args.slot kept (subst (λ (s : Store). IsKept s.slots c.args.slot kept)
+    (sym c.self.view_is) is) in
+    let head = head_there c.keys_are_in_front.ensures kept.set f.octets f.spelled (min
+    (length f.octets) 387) (enough_long (length f.octets)) in
+    c.head_is_below.ensures kept.set head.0 f.spelled.is (c.head_at.ensures f.octets f.there ∙ head.1)

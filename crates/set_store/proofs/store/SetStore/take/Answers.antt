@@ -1,0 +1,40 @@
+use Rattle.std.proofs.Common.{Some, ◌+◌, None, map, set, sym, ap, subst, ◌∙◌}
+use Rattle.set_store.specs.Index.{IsIndex, kept_in}
+use Rattle.set_store.specs.Stored.{IsTaken, Store}
+use Rattle.set_store.proofs.Keeping.{is_live}
+use Rattle.set_store.proofs.Lists.{elsewhere, here}
+use Rattle.set_store.proofs.Takes.{taken, taken_seen}
+use Rattle.set_store.proofs.store.SetStore.take.Goals as goal
+
+pub invariant_of-self : goal.invariant_of-self
+invariant_of-self c =
+    let live = is_live c.self.inside.region.held c.self.inside.slots.items c.args.slot c.slot_at-old.result
+    c.slot_at-old.ensures (subst (λ (s : Store). IsTaken s.slots c.args.slot)
+    (sym c.self.view_is) c.requires.taken) in
+    subst (λ xs. IsIndex c.free.new.self.held xs c.args.slot (c.self.inside.spare + 1))
+    (sym c.set_slot.ensures)
+    (taken c.self.inside.region.held c.free.new.self.held c.self.inside.slots.items c.self.inside.free
+    c.self.inside.spare
+    c.self.invariant c.args.slot c.slot_at-old.result c.slot_at-old.ensures live
+    (λ other ne. c.free.ensures.others other (λ e. ne (e ∙ c.of.ensures))))
+
+pub returns-clause-slots : goal.returns-clause-slots
+returns-clause-slots c =
+    let live = is_live c.self.inside.region.held c.self.inside.slots.items c.args.slot c.slot_at-old.result
+    c.slot_at-old.ensures (subst (λ (s : Store). IsTaken s.slots c.args.slot)
+    (sym c.self.view_is) c.requires.taken) in
+    ap (map (kept_in c.free.new.self.held)) c.set_slot.ensures
+    ∙ taken_seen c.self.inside.region.held c.free.new.self.held c.self.inside.slots.items c.self.inside.free
+    c.self.inside.spare
+    c.self.invariant c.args.slot c.slot_at-old.result c.slot_at-old.ensures live
+    (λ other ne. c.free.ensures.others other (λ e. ne (e ∙ c.of.ensures)))
+    ∙ ap (λ (s : Store). set s.slots c.args.slot None) c.self.view_is
+
+pub returns-clause-gone : goal.returns-clause-gone
+returns-clause-gone c =
+    let kept = c.requires.taken in
+    here c.args.self.now.slots _ c.args.slot (Some kept.0) None kept.1 (returns-clause-slots c)
+
+pub returns-clause-others : goal.returns-clause-others
+returns-clause-others c other ne = elsewhere c.args.self.now.slots _ c.args.slot None
+    (returns-clause-slots c) other ne

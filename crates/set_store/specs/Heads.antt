@@ -1,0 +1,25 @@
+-- Sets told by the octets of their keys.
+use Rattle.std.specs.Prelude.{◌≡◌, ℕ, List, ◌++◌, Result, Ok, Err}
+use Rattle.std.specs.Borrow.{Bor}
+use Rattle.std.specs.declared.cmp.Ordering.{Ordering}
+use Rattle.std.specs.declared.cmp.Ordering.TheVariants.{Equal}
+use Rattle.rdata_layout.specs.declared.types.RType.{RType}
+use Rattle.record_set.specs.declared.sets.RecordSet.{RecordSet}
+use Rattle.set_parts.specs.Heads.{key_octets, policy_front}
+use Rattle.set_reading.specs.Sets.{IsSet}
+use Rattle.set_search.specs.Bounds.{group_cmp}
+
+-- the octets begin with those that tell the key of a set
+abbrev pub IsHead : List ℕ → Type 0
+IsHead octets = (set : RecordSet) × (rest : List ℕ) × IsSet set × (octets ≡ key_octets set ++ rest)
+
+-- The set is of this name and type, and its policy is told; or else which comes first.
+abbrev pub IsPartedBy : RecordSet → (name : List (List ℕ)) → RType → (rest : List ℕ)
+    → Result (Bor (List ℕ)) Ordering → Type 0
+IsPartedBy set name rtype rest (Ok policy) =
+    (group_cmp set name rtype ≡ Equal) × (policy.now ≡ policy_front set.routing ++ rest)
+IsPartedBy set name rtype rest (Err order) = (group_cmp set name rtype ≡ order) × ((order ≡ Equal) → ⊥)
+
+-- The octets begin with those that tell the key of this set.
+abbrev pub IsHeadIn : List ℕ → RecordSet → Type 0
+IsHeadIn octets set = (rest : List ℕ) × IsSet set × (octets ≡ key_octets set ++ rest)

@@ -1,0 +1,5 @@
+pub mod Heads
+pub mod Index
+pub mod Stored
+pub use Rattle.octet_region.specs.Cells
+pub use Rattle.set_reading.specs.Sets

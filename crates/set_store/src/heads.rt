@@ -1,0 +1,118 @@
+//! Sets compared with bounds by the octets that tell their keys.
+
+ghost use Rattle.std.specs.Prelude.{◌≡◌, ◌++◌, ℕ, List, Ok, Err, IsTrue, ◌↔◌};
+ghost use Rattle.std.specs.Option.{option_copied};
+ghost use Rattle.std.specs.Ordering.{nat_cmp};
+ghost use Rattle.dns_name.specs.Labels.{wire};
+ghost use Rattle.dns_name.specs.Names.{IsName};
+ghost use Rattle.dns_name.specs.Order.{zone_cmp};
+ghost use Rattle.dns_name.specs.Suffix.{EndsWith};
+ghost use Rattle.record_set.specs.Sets.{ident_of, key_of};
+ghost use Rattle.record_set.specs.declared.sets.RecordSet.{RecordSet};
+ghost use Rattle.set_parts.specs.Heads.{Tells, key_octets, policy_front};
+ghost use Rattle.set_reading.specs.Sets.{IsSet};
+ghost use Rattle.zone_model.specs.Keys.{ident_cmp, key_cmp};
+ghost use Rattle.set_search.specs.Bounds.{group_cmp, is_before};
+ghost use Rattle.set_search.specs.Stops.{bound_of};
+ghost use Rattle.set_store.specs.Heads.{IsHead, IsPartedBy};
+
+use dns_name::{Name, octets_cmp};
+use octet_reading::{base_fields_are_read, name_at};
+use rdata::RType;
+use record_set::Ident;
+use set_parts::{ident_in_front, name_and_rest, type_and_rest};
+use set_search::Stop;
+use std::cmp::Ordering;
+
+/// Whether a set stands before a bound, from octets that begin with all that tells its key.
+pub fn head_is_before(octets: &[u8], stop: &Stop) -> bool
+    requires { IsHead octets.now }
+    ensures { (set : RecordSet) (rest : List ℕ) → IsSet set
+        → octets.now ≡ key_octets set ++ rest → result ≡ is_before (bound_of stop.now) set }
+{
+    match stop {
+        Stop::From(name, rtype, ident) => key_order(octets, name, *rtype, *ident).is_lt(),
+        Stop::Past(name, rtype, ident) => !key_order(octets, name, *rtype, *ident).is_gt(),
+        Stop::PastGroup(name, rtype) => !group_order(octets, name, *rtype).is_gt(),
+    }
+}
+
+/// Whether a set has the name, or one below it, from octets that begin with all that tells its key.
+pub fn head_is_below(octets: &[u8], name: &Name) -> bool
+    requires { IsHead octets.now }
+    ensures { (set : RecordSet) (rest : List ℕ) → IsSet set
+        → octets.now ≡ key_octets set ++ rest → IsTrue result ↔ EndsWith set.name name.now }
+{
+    base_fields_are_read();
+    match name_at(octets) {
+        Ok(read) => read.0.ends_with(name),
+        Err(_) => unreachable!(),
+    }
+}
+
+/// The order of a set's key and another.
+fn key_order(octets: &[u8], name: &Name, rtype: RType, ident: Option<&Ident>) -> Ordering
+    requires { IsHead octets.now }
+    ensures { (set : RecordSet) (rest : List ℕ) → IsSet set
+        → octets.now ≡ key_octets set ++ rest
+        → result ≡ key_cmp (key_of set)
+        (record { name = name.now; rtype = rtype; ident = option_copied ident.entry }) }
+{
+    match parted(octets, name, rtype) {
+        Ok(policy) => ident_order(ident_in_front(policy), ident),
+        Err(order) => order,
+    }
+}
+
+/// The order of a set's name and type and others.
+fn group_order(octets: &[u8], name: &Name, rtype: RType) -> Ordering
+    requires { IsHead octets.now }
+    ensures { (set : RecordSet) (rest : List ℕ) → IsSet set
+        → octets.now ≡ key_octets set ++ rest → result ≡ group_cmp set name.now rtype }
+{
+    match parted(octets, name, rtype) {
+        Ok(_) => Ordering::Equal,
+        Err(order) => order,
+    }
+}
+
+/// What stands behind a set's name and type where they are these, or else their order.
+fn parted<'a>(octets: &'a [u8], name: &Name, rtype: RType) -> Result<&'a [u8], Ordering>
+    requires { IsHead octets.now }
+    ensures { (set : RecordSet) (rest : List ℕ) → IsSet set
+        → octets.now ≡ key_octets set ++ rest → IsPartedBy set name.now rtype rest result }
+{
+    let (owner, behind) = name_and_rest(octets);
+    let order = name_order(owner, name);
+    if order.is_ne() {
+        return Err(order);
+    }
+    let (own_type, policy) = type_and_rest(behind);
+    let order = own_type.number().cmp(&rtype.number());
+    if order.is_ne() {
+        return Err(order);
+    }
+    Ok(policy)
+}
+
+/// The order of a name, told by its octets, and another.
+fn name_order(octets: &[u8], name: &Name) -> Ordering
+    requires { (labels : List (List ℕ)) × IsName labels × (octets.now ≡ wire labels) }
+    ensures { (labels : List (List ℕ)) → IsName labels → octets.now ≡ wire labels
+        → result ≡ zone_cmp labels name.now }
+{
+    octets_cmp(octets, name.octets())
+}
+
+/// The order of two identifiers.
+fn ident_order(ident: Option<&[u8]>, other: Option<&Ident>) -> Ordering
+    ensures { (text : _) → Tells text ident.entry → result ≡ ident_cmp text
+        (option_copied other.entry) }
+{
+    match (ident, other) {
+        (None, None) => Ordering::Equal,
+        (None, Some(_)) => Ordering::Less,
+        (Some(_), None) => Ordering::Greater,
+        (Some(ident), Some(other)) => ident.cmp(other.bytes()),
+    }
+}

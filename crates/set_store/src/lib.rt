@@ -1,0 +1,16 @@
+//! Sets of all zones, each in a slot of its own, kept as octets in cells.
+//!
+//! A set keeps its slot until it is taken away, also where other octets replace it. Slots and cells
+//! are reserved before they are needed, so that putting, replacing and taking want no memory.
+#![tactic(auto)]
+
+mod growth;
+mod heads;
+mod reads;
+mod slots;
+mod store;
+#[cfg(test)]
+mod tests;
+
+pub use octets::OutOfMemory;
+pub use store::SetStore;

@@ -1,0 +1,155 @@
+//! Sets read where they stand: compared with bounds and names, and copied.
+
+ghost use Rattle.std.specs.Prelude.{◌≡◌, ◌≤◌, ◌<◌, ◌++◌, ℕ, List, length, take, min, slice_get};
+ghost use Rattle.std.specs.Prelude.{Some, IfOk, IsTrue, ◌↔◌};
+ghost use Rattle.dns_name.specs.Suffix.{EndsWith};
+ghost use Rattle.record_set.specs.declared.sets.RecordSet.{RecordSet};
+ghost use Rattle.set_search.specs.Bounds.{is_before};
+ghost use Rattle.set_search.specs.Stops.{bound_of};
+ghost use Rattle.set_store.specs.declared.slots.Slot.{Slot};
+ghost use Rattle.set_store.specs.Index.{HoldsAt};
+ghost use Rattle.set_store.specs.Stored.{IsKept, IsSpelling, IsTaken, Kept, Spells, zone_told};
+
+use crate::heads::{head_is_before, head_is_below};
+use crate::slots::{NO_CELL, Slot};
+use crate::store::SetStore;
+use dns_name::Name;
+use octet_region::{Handle, Region};
+use octets::{OutOfMemory, front, zeros};
+use record_set::RecordSet;
+use set_parts::keys_are_in_front;
+use set_reading::{ReadFault, read_set, written_reads_back};
+use set_search::Stop;
+use std::alloc::Global;
+
+/// Sets of so many octets or fewer are copied whole to be compared.
+const SHORT: usize = 64;
+
+impl SetStore {
+    /// The number of the zone of a slot's set. None where the slot is vacant or not there.
+    pub fn zone_of(&self, slot: u32) -> Option<u32>
+        ensures { result ≡ zone_told (slice_get self.now.slots slot) }
+    {
+        match self.slots.get(slot as usize) {
+            None => None,
+            Some(found) => {
+                if found.cell == NO_CELL {
+                    return None;
+                }
+                Some(found.zone)
+            }
+        }
+    }
+
+    /// Whether the set of a slot stands before a bound.
+    pub fn is_before(&self, slot: u32, stop: &Stop) -> bool
+        requires { IsTaken self.now.slots slot }
+        ensures { (kept : Kept) → IsKept self.now.slots slot kept
+            → result ≡ is_before (bound_of stop.now) kept.set }
+    {
+        keys_are_in_front();
+        written_reads_back();
+        if size_at(&self.region, &self.slots, slot) <= SHORT {
+            return head_is_before(head_at(&self.region, &self.slots, slot, &mut [0; 64]), stop);
+        }
+        head_is_before(
+            head_at(&self.region, &self.slots, slot, &mut [0; 387]),
+            stop,
+        )
+    }
+
+    /// Whether the set of a slot has the name, or one below it.
+    pub fn is_below(&self, slot: u32, name: &Name) -> bool
+        requires { IsTaken self.now.slots slot }
+        ensures { (kept : Kept) → IsKept self.now.slots slot kept
+            → IsTrue result ↔ EndsWith kept.set.name name.now }
+    {
+        keys_are_in_front();
+        written_reads_back();
+        head_is_below(
+            head_at(&self.region, &self.slots, slot, &mut [0; 387]),
+            name,
+        )
+    }
+
+    /// The set of a slot.
+    pub fn read(&self, alloc: Global, slot: u32) -> Result<RecordSet, OutOfMemory>
+        requires { IsTaken self.now.slots slot }
+        ensures { IfOk result (λ set. (kept : Kept) → IsKept self.now.slots slot kept
+            → set ≡ kept.set) }
+    {
+        written_reads_back();
+        let octets = octets_at(alloc, &self.region, &self.slots, slot)?;
+        set_of(alloc, &octets)
+    }
+}
+
+/// A copy of the octets of a slot's set.
+fn octets_at(
+    alloc: Global,
+    region: &Region,
+    slots: &Vec<Slot>,
+    slot: u32,
+) -> Result<Vec<u8>, OutOfMemory>
+    requires { (octets : List ℕ) × HoldsAt region.now.held slots.now.items slot octets }
+    ensures { IfOk result (λ copy. (octets : List ℕ)
+        → HoldsAt region.now.held slots.now.items slot octets → copy.items ≡ octets) }
+{
+    let mut octets = zeros(alloc, size_at(region, slots, slot))?;
+    copy_at(region, slots, slot, octets.as_mut_slice());
+    Ok(octets)
+}
+
+/// The set of these octets.
+fn set_of(alloc: Global, octets: &[u8]) -> Result<RecordSet, OutOfMemory>
+    requires { IsSpelling octets.now }
+    ensures { IfOk result (λ set. (spelled : RecordSet) → Spells octets.now spelled
+        → set ≡ spelled) }
+{
+    match read_set(alloc, octets) {
+        Ok((set, _)) => Ok(set),
+        Err(ReadFault::OutOfMemory) => Err(OutOfMemory),
+        Err(ReadFault::Bad(_)) => unreachable!(),
+    }
+}
+
+/// How many octets the set of a slot has.
+fn size_at(region: &Region, slots: &Vec<Slot>, slot: u32) -> usize
+    requires { (octets : List ℕ) × HoldsAt region.now.held slots.now.items slot octets }
+    ensures { (octets : List ℕ) → HoldsAt region.now.held slots.now.items slot octets
+        → result ≡ length octets }
+{
+    match region.length(Handle::of(cell_at(slots, slot))) {
+        Some(size) => size,
+        None => unreachable!(),
+    }
+}
+
+/// Fills others with the first octets of a slot's set.
+fn copy_at(region: &Region, slots: &Vec<Slot>, slot: u32, into: &mut [u8])
+    requires { (octets : List ℕ) × HoldsAt region.now.held slots.now.items slot octets
+        × (length into.old ≤ length octets) }
+    ensures { (octets : List ℕ) → HoldsAt region.now.held slots.now.items slot octets
+        → into.new ≡ take (length into.old) octets }
+{
+    region.read_at(Handle::of(cell_at(slots, slot)), 0, into);
+}
+
+/// The first octets of a slot's set, as many as a buffer has room for.
+fn head_at<'a>(region: &Region, slots: &Vec<Slot>, slot: u32, buffer: &'a mut [u8]) -> &'a [u8]
+    requires { (octets : List ℕ) × HoldsAt region.now.held slots.now.items slot octets }
+    ensures { (octets : List ℕ) → HoldsAt region.now.held slots.now.items slot octets
+        → result.now ≡ take (min (length octets) (length buffer.old)) octets }
+{
+    let count = size_at(region, slots, slot).min(buffer.len());
+    copy_at(region, slots, slot, &mut buffer[..count]);
+    front(buffer, count)
+}
+
+/// The cell of a slot.
+fn cell_at(slots: &Vec<Slot>, at: u32) -> u32
+    requires { at < length slots.now.items }
+    ensures { (slot : Slot) → slice_get slots.now.items at ≡ Some slot → result ≡ slot.cell }
+{
+    slots[at as usize].cell
+}

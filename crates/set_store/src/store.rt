@@ -1,0 +1,222 @@
+//! A region of octets and the slots of the sets that stand in it.
+
+ghost use Rattle.std.specs.Prelude.{◌≡◌, ◌≢◌, ◌≤◌, ◌<◌, ◌+◌, ◌-◌, ◌^◌, ◌++◌, ℕ, [], length, Some};
+ghost use Rattle.std.specs.Prelude.{None, slice_get, slice_set, OnOk, max};
+ghost use Rattle.octet_region.specs.Cells.{cells_for};
+ghost use Rattle.record_set.specs.declared.sets.RecordSet.{RecordSet};
+ghost use Rattle.set_octets.specs.Octets.{set_octets};
+ghost use Rattle.set_store.specs.declared.slots.Slot.{Slot};
+ghost use Rattle.set_store.specs.Stored.{IsKept, IsSpelling, IsTaken, IsVacant, Kept, Spells};
+ghost use Rattle.set_store.specs.Stored.{nothing};
+
+use crate::growth::{give_slots, make_room};
+use crate::slots::{NO_CELL, Slot};
+use octet_region::{Handle, Region};
+use octets::OutOfMemory;
+use set_reading::written_reads_back;
+use std::alloc::Global;
+use std::marker::Model;
+
+/// The most slots: there is a number for each, and one for none.
+const MOST_SLOTS: usize = 0xffff_ffff;
+
+/// Sets by slots. Contracts see what is kept in each slot, and how much can be put without memory.
+#[derive(Drop)]
+pub struct SetStore {
+    pub(crate) region: Region,
+    pub(crate) slots: Vec<Slot>,
+    /// The first free slot, where there is one.
+    free: u32,
+    /// How many slots are free.
+    spare: usize,
+}
+
+impl Model for SetStore {
+    ghost use Rattle.std.specs.Prelude.{map};
+    ghost use Rattle.set_store.specs.Index.{IsIndex, kept_in};
+    ghost use Rattle.set_store.specs.declared.slots.Slot.{Slot};
+    ghost use Rattle.set_store.specs.Stored.{Store};
+
+    ghost Value = { Store };
+
+    ghost view = { λ s. record {
+      slots = map
+          (kept_in s.region.held) s.slots.items;
+      cells = s.region.spare;
+      free = s.spare;
+    } };
+
+    ghost invariant = { λ s. IsIndex s.region.held s.slots.items s.free s.spare };
+}
+
+impl SetStore {
+    /// A store that holds nothing.
+    pub fn new(alloc: Global) -> SetStore
+        ensures { result ≡ record { slots = []; cells = 0; free = 0 } }
+    {
+        SetStore {
+            region: Region::new(alloc),
+            slots: Vec::new(alloc),
+            free: 0,
+            spare: 0,
+        }
+    }
+
+    /// How many slots there are, free or not: each slot that is in use is below it.
+    pub fn slots(&self) -> usize
+        ensures count { result ≡ length self.now.slots }
+        ensures few { result < 2 ^ 32 }
+    {
+        self.slots.len()
+    }
+
+    /// Keeps a set, told by its octets, in a slot that is vacant.
+    pub fn put(&mut self, zone: u32, octets: &[u8]) -> u32
+        requires spelling { IsSpelling octets.now }
+        requires cells { cells_for (length octets.now) ≤ self.old.cells }
+        requires slot { 0 < self.old.free }
+        ensures vacant { IsVacant self.old.slots result }
+        ensures slots { (set : RecordSet) → Spells octets.now set
+            → self.new.slots ≡ slice_set self.old.slots result (Some
+            (record { zone = zone; set = set })) }
+
+        // The same by slots.
+        ensures here { (set : RecordSet) → Spells octets.now set
+            → IsKept self.new.slots result (record { zone = zone; set = set }) }
+        ensures others { (other : ℕ) → other ≢ result
+            → slice_get self.new.slots other ≡ slice_get self.old.slots other }
+
+        ensures cells { self.new.cells ≡ self.old.cells - cells_for (length octets.now) }
+        ensures free { self.new.free + 1 ≡ self.old.free }
+    {
+        written_reads_back();
+        self.region.cells();
+        let slot = self.free;
+        let handle = self.region.put(octets);
+        self.free = fill(&mut self.slots, slot, handle.number(), zone);
+        self.spare -= 1;
+        slot
+    }
+
+    /// Makes room for so many more sets, of so many cells in all, where there isn't as much. All
+    /// that is kept stays, and room that was there too, also where memory runs out.
+    pub fn reserve(&mut self, slots: usize, cells: usize) -> Result<(), OutOfMemory>
+        ensures slots { (more : ℕ) × (self.new.slots ≡ self.old.slots ++ nothing more) }
+        ensures cells { self.old.cells ≤ self.new.cells }
+        ensures free { self.old.free ≤ self.new.free }
+        ensures room { OnOk result ((slots ≤ self.new.free) × (cells ≤ self.new.cells)) }
+    {
+        self.region.reserve(cells)?;
+        self.reserve_slots(slots)
+    }
+
+    /// Makes so many slots free, where there aren't as many.
+    fn reserve_slots(&mut self, slots: usize) -> Result<(), OutOfMemory>
+        ensures slots { (more : ℕ) × (self.new.slots ≡ self.old.slots ++ nothing more) }
+        ensures cells { self.new.cells ≡ self.old.cells }
+        ensures free { self.old.free ≤ self.new.free }
+        ensures room { OnOk result (slots ≤ self.new.free) }
+    {
+        if slots <= self.spare {
+            return Ok(());
+        }
+        let more = slots - self.spare;
+        if more > MOST_SLOTS - self.slots.len() {
+            return Err(OutOfMemory);
+        }
+        if !make_room(&mut self.slots, more) {
+            return Err(OutOfMemory);
+        }
+        self.free = give_slots(&mut self.slots, self.free, self.spare, more);
+        self.spare = slots;
+        Ok(())
+    }
+
+    /// Gives the set of a slot other octets. It stays in its slot and of its zone.
+    pub fn replace(&mut self, slot: u32, octets: &[u8])
+        requires taken { IsTaken self.old.slots slot }
+        requires spelling { IsSpelling octets.now }
+        requires cells { cells_for (length octets.now) ≤ self.old.cells }
+        ensures slots { (set : RecordSet) (kept : Kept) → Spells octets.now set
+            → IsKept self.old.slots slot kept
+            → self.new.slots ≡ slice_set self.old.slots slot (Some
+            (record { zone = kept.zone; set = set })) }
+
+        // The same by slots.
+        ensures here { (set : RecordSet) (kept : Kept) → Spells octets.now set
+            → IsKept self.old.slots slot kept
+            → IsKept self.new.slots slot (record { zone = kept.zone; set = set }) }
+        ensures others { (other : ℕ) → other ≢ slot
+            → slice_get self.new.slots other ≡ slice_get self.old.slots other }
+
+        ensures cells { self.old.cells ≤ self.new.cells + cells_for (length octets.now) }
+        ensures free { self.new.free ≡ self.old.free }
+    {
+        written_reads_back();
+        self.region.cells();
+        let handle = self.region.put(octets);
+        let old = slot_at(&self.slots, slot);
+        self.region.free(Handle::of(old.cell));
+        set_slot(
+            &mut self.slots,
+            slot,
+            Slot {
+                cell: handle.number(),
+                zone: old.zone,
+            },
+        );
+    }
+
+    /// Takes away the set of a slot.
+    pub fn take(&mut self, slot: u32)
+        requires taken { IsTaken self.old.slots slot }
+        ensures slots { self.new.slots ≡ slice_set self.old.slots slot None }
+
+        // The same by slots.
+        ensures gone { IsVacant self.new.slots slot }
+        ensures others { (other : ℕ) → other ≢ slot
+            → slice_get self.new.slots other ≡ slice_get self.old.slots other }
+
+        ensures cells { self.old.cells ≤ self.new.cells }
+        ensures free { self.new.free ≡ self.old.free + 1 }
+    {
+        let old = slot_at(&self.slots, slot);
+        self.region.free(Handle::of(old.cell));
+        let free = Slot {
+            cell: NO_CELL,
+            zone: self.free,
+        };
+        set_slot(&mut self.slots, slot, free);
+        self.free = slot;
+        self.spare += 1;
+    }
+}
+
+/// Fills a free slot, and answers the next free one.
+fn fill(slots: &mut Vec<Slot>, at: u32, cell: u32, zone: u32) -> u32
+    requires { at < length slots.old.items }
+    ensures slots { slots.new.items ≡ slice_set slots.old.items at
+        (record { cell = cell; zone = zone }) }
+    ensures next { (slot : Slot) → slice_get slots.old.items at ≡ Some slot → result ≡ slot.zone }
+{
+    let slot = &mut slots[at as usize];
+    let next = slot.zone;
+    *slot = Slot { cell, zone };
+    next
+}
+
+/// The slot of a number.
+fn slot_at(slots: &Vec<Slot>, at: u32) -> Slot
+    requires { at < length slots.now.items }
+    ensures { slice_get slots.now.items at ≡ Some result }
+{
+    slots[at as usize]
+}
+
+/// Puts a slot into the place of another.
+fn set_slot(slots: &mut Vec<Slot>, at: u32, slot: Slot)
+    requires { at < length slots.old.items }
+    ensures { slots.new.items ≡ slice_set slots.old.items at slot }
+{
+    slots[at as usize] = slot;
+}

@@ -1,0 +1,4 @@
+pub mod Distinct
+pub mod Orders
+pub mod Slots
+pub mod Replaced

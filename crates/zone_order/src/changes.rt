@@ -1,0 +1,119 @@
+//! Sets put into a zone, replaced in it, and taken away from it.
+
+ghost use Rattle.std.specs.Prelude.{◌≡◌, ◌≤◌, ◌<◌, ◌+◌, ◌-◌, length, slice_get, slice_set, Some};
+ghost use Rattle.std.specs.Prelude.{vec_len, vec_capacity};
+ghost use Rattle.std.specs.List.{insert, remove};
+ghost use Rattle.octet_region.specs.Cells.{cells_for};
+ghost use Rattle.record_set.specs.Sets.{key_of};
+ghost use Rattle.record_set.specs.declared.sets.RecordSet.{RecordSet};
+ghost use Rattle.set_search.specs.Found.{FindsAt, FindsNone};
+ghost use Rattle.set_store.specs.Stored.{IsSpelling, Spells};
+ghost use Rattle.zone_order.specs.Orders.{IsOrder, OthersStay, placed_of};
+ghost use Rattle.zone_sets.specs.Placed.{IsPut, IsSlotAt, IsTakenAt, sets_of};
+
+use crate::views::slot_at;
+use set_store::SetStore;
+use zone_model::placed_rise;
+
+/// Puts a set, told by its octets, before a place of a zone, and answers its slot.
+pub fn put_at(
+    store: &mut SetStore,
+    zone: u32,
+    order: &mut Vec<u32>,
+    place: usize,
+    octets: &[u8],
+) -> u32
+    requires order { IsOrder store.old.slots zone order.old.items }
+    requires spelling { IsSpelling octets.now }
+    requires absent { (set : RecordSet) → Spells octets.now set
+        → FindsNone (sets_of (placed_of store.old.slots zone order.old.items)) (key_of set) place }
+    requires cells { cells_for (length octets.now) ≤ store.old.cells }
+    requires slot { 0 < store.old.free }
+    requires room { vec_len order.old < vec_capacity order.old }
+    ensures order { IsOrder store.new.slots zone order.new.items }
+    ensures put { (set : RecordSet) → Spells octets.now set
+        → IsPut (placed_of store.old.slots zone order.old.items)
+        (record { slot = result; set = set })
+        (placed_of store.new.slots zone order.new.items) }
+    ensures others { OthersStay zone store.old.slots store.new.slots }
+    ensures cells { store.new.cells ≡ store.old.cells - cells_for (length octets.now) }
+    ensures free { store.new.free + 1 ≡ store.old.free }
+    ensures length { vec_len order.new ≡ vec_len order.old + 1 }
+    ensures room { vec_capacity order.new ≡ vec_capacity order.old }
+{
+    placed_rise();
+    let slot = store.put(zone, octets);
+    insert_slot(order, place, slot);
+    slot
+}
+
+/// Takes away the set at a place of a zone, and answers the slot that it had.
+pub fn take_at(store: &mut SetStore, zone: u32, order: &mut Vec<u32>, place: usize) -> u32
+    requires order { IsOrder store.old.slots zone order.old.items }
+    requires place { place < length order.old.items }
+    ensures order { IsOrder store.new.slots zone order.new.items }
+    ensures taken { IsTakenAt (placed_of store.old.slots zone order.old.items) place result
+        (placed_of store.new.slots zone order.new.items) }
+    ensures others { OthersStay zone store.old.slots store.new.slots }
+    ensures cells { store.old.cells ≤ store.new.cells }
+    ensures free { store.new.free ≡ store.old.free + 1 }
+    ensures length { vec_len order.new + 1 ≡ vec_len order.old }
+    ensures room { vec_capacity order.new ≡ vec_capacity order.old }
+{
+    let slot = remove_slot(order, place);
+    store.take(slot);
+    slot
+}
+
+/// Gives the set at a place of a zone other octets, of a set with its key, and answers its slot.
+pub fn replace_at(
+    store: &mut SetStore,
+    zone: u32,
+    order: &[u32],
+    place: usize,
+    octets: &[u8],
+) -> u32
+    requires order { IsOrder store.old.slots zone order.now }
+    requires spelling { IsSpelling octets.now }
+    requires there { (set : RecordSet) → Spells octets.now set
+        → FindsAt (sets_of (placed_of store.old.slots zone order.now)) (key_of set) place }
+    requires cells { cells_for (length octets.now) ≤ store.old.cells }
+    ensures order { IsOrder store.new.slots zone order.now }
+    ensures slot { slice_get order.now place ≡ Some result }
+    ensures replaced { (set : RecordSet) → Spells octets.now set
+        → placed_of store.new.slots zone order.now
+        ≡ slice_set (placed_of store.old.slots zone order.now) place
+        (record { slot = result; set = set }) }
+    ensures others { OthersStay zone store.old.slots store.new.slots }
+    ensures cells { store.old.cells ≤ store.new.cells + cells_for (length octets.now) }
+    ensures free { store.new.free ≡ store.old.free }
+{
+    let slot = slot_at(order, place);
+    store.replace(slot, octets);
+    slot
+}
+
+/// Puts a slot before a place.
+fn insert_slot(order: &mut Vec<u32>, place: usize, slot: u32)
+    requires place { place ≤ length order.old.items }
+    requires room { vec_len order.old < vec_capacity order.old }
+    ensures items { order.new.items ≡ insert order.old.items place slot }
+    ensures length { vec_len order.new ≡ vec_len order.old + 1 }
+    ensures capacity { vec_capacity order.new ≡ vec_capacity order.old }
+{
+    match order.insert(place, slot) {
+        Ok(()) => {}
+        Err(_) => unreachable!(),
+    }
+}
+
+/// Takes away the slot at a place.
+fn remove_slot(order: &mut Vec<u32>, place: usize) -> u32
+    requires { place < length order.old.items }
+    ensures slot { slice_get order.old.items place ≡ Some result }
+    ensures items { order.new.items ≡ remove order.old.items place }
+    ensures length { vec_len order.new + 1 ≡ vec_len order.old }
+    ensures capacity { vec_capacity order.new ≡ vec_capacity order.old }
+{
+    order.remove(place)
+}

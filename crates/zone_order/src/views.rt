@@ -1,0 +1,70 @@
+//! A zone's sets, looked at by their places.
+
+ghost use Rattle.std.specs.Prelude.{◌≡◌, ◌<◌, length, slice_get, Some};
+ghost use Rattle.zone_order.specs.Orders.{IsOrder, placed_of};
+ghost use Rattle.zone_sets.specs.Placed.{AreOfZone, IsSlotAt, sets_of};
+
+use dns_name::Name;
+use set_search::{SetList, Stop};
+use set_store::SetStore;
+use std::marker::Model;
+
+/// The sets of a zone, in its order.
+pub struct ZoneView<'a> {
+    store: &'a SetStore,
+    zone: u32,
+    order: &'a [u32],
+}
+
+impl<'a> Model for ZoneView<'a> {
+    ghost use Rattle.std.specs.Prelude.{List};
+    ghost use Rattle.std.specs.List.{AllByRecursion};
+    ghost use Rattle.record_set.specs.declared.sets.RecordSet.{RecordSet};
+    ghost use Rattle.zone_order.specs.Orders.{HasSet, placed_of, set_in};
+    ghost use Rattle.zone_sets.specs.Placed.{sets_of};
+
+    ghost Value = { List RecordSet };
+
+    ghost view = { λ o. sets_of (placed_of o.store.now.slots o.zone o.order.now) };
+
+    ghost invariant = { λ o. AllByRecursion (λ k. HasSet
+        (set_in o.store.now.slots o.zone) k) o.order.now };
+}
+
+/// The sets of a zone, whose slots these are.
+pub fn view_of<'a>(store: &'a SetStore, zone: u32, order: &'a [u32]) -> ZoneView<'a>
+    requires { IsOrder store.now.slots zone order.now }
+    ensures { result ≡ sets_of (placed_of store.now.slots zone order.now) }
+{
+    ZoneView { store, zone, order }
+}
+
+/// The sets of a zone stand in zone order, each in a slot of its own; it does nothing.
+pub fn of_zone(store: &SetStore, zone: u32, order: &[u32])
+    requires { IsOrder store.now.slots zone order.now }
+    ensures { AreOfZone (placed_of store.now.slots zone order.now) }
+{}
+
+impl<'a> SetList for ZoneView<'a> {
+    ghost sets = { λ sets. sets };
+
+    fn count(&self) -> usize {
+        self.order.len()
+    }
+
+    fn is_before(&self, place: usize, stop: &Stop) -> bool {
+        self.store.is_before(slot_at(self.order, place), stop)
+    }
+
+    fn is_below(&self, place: usize, name: &Name) -> bool {
+        self.store.is_below(slot_at(self.order, place), name)
+    }
+}
+
+/// The slot at a place.
+pub(crate) fn slot_at(order: &[u32], place: usize) -> u32
+    requires { place < length order.now }
+    ensures { slice_get order.now place ≡ Some result }
+{
+    order[place]
+}
