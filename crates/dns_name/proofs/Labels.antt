@@ -6,7 +6,7 @@ use Rattle.std.proofs.lemmas.List.{map-append, length-map, drop-replicate}
 use Rattle.std.proofs.lemmas.Str.Ascii.{lowercase_is, lowercase-lowercase}
 use Rattle.dns_name.specs.Labels.{frame, wire, lowered, IsRawLabel, IsRawName}
 use Rattle.dns_name.specs.Wire.{BeginsWithName}
-use Rattle.dns_name.specs.Stored.{cut, labels_of, IsStored, IsLowerLabel}
+use Rattle.dns_name.specs.Stored.{cut, labels_of, stored, IsStored, IsLowerLabel}
 
 cut_front : (bytes : List ℕ) → (cut 0 bytes).0 ≡ []
 cut_front [] = refl
@@ -92,6 +92,17 @@ stored_lower array spelled raw h e a =
       },
       same,
     )
+
+-- an array that held the root, and then a name's bytes in lower case
+pub stored_over : (old array spelled : List ℕ) (n : ℕ) (raw : List (List ℕ)) → IsStored old n
+    → labels_of old ≡ [] → IsRawName raw → spelled ≡ wire raw
+    → array ≡ map to_ascii_lowercase spelled ++ drop (length spelled) old
+    → IsStored array (length spelled)
+    × (labels_of array ≡ lowered raw)
+stored_over old array spelled n raw root none h e a =
+    let zeros : old ≡ replicate 255 0 = root.bytes ∙ ap stored none in
+    stored_lower array spelled raw h e
+    (a ∙ ap (λ t. map to_ascii_lowercase spelled ++ drop (length spelled) t) zeros)
 
 -- the labels of the name that bytes begin with
 begin_with : (bytes : List ℕ) (labels : List (List ℕ)) (n : ℕ) → (b : BeginsWithName bytes labels n)

@@ -126,8 +126,47 @@ impl Name {
         ensures only { IfSome result (λ r. BeginsWithOnly bytes.now r.0 r.1) }
         ensures none { IfNone result (BeginsWithNone bytes.now) }
     {
-        let len = name_len(bytes)?;
-        Some((Name::stored(front(bytes, len)), len))
+        let mut name = Name::root();
+        let Some(len) = name.read_wire(bytes) else {
+            return None;
+        };
+        Some((name, len))
+    }
+
+    /// Becomes the name at the front of the bytes, whole and without pointers, and says how many
+    /// bytes it takes. Where there is none it stays as it is.
+    pub fn read_wire(&mut self, bytes: &[u8]) -> Option<usize>
+        ensures some { IfSome result (λ n. BeginsWithName bytes.now self.new n) }
+        ensures only { IfSome result (λ n. BeginsWithOnly bytes.now self.new n) }
+        ensures none { IfNone result (BeginsWithNone bytes.now) }
+        ensures kept { IfNone result (self.new ≡ self.old) }
+    {
+        let Some(len) = name_len(bytes) else {
+            return None;
+        };
+        self.clear();
+        self.fill(front(bytes, len));
+        Some(len)
+    }
+
+    /// Becomes the root.
+    fn clear(&mut self)
+        ensures { self.new ≡ [] }
+    {
+        if !self.is_root() {
+            *self = Name::root();
+        }
+    }
+
+    /// From the root becomes the name that these bytes spell.
+    fn fill(&mut self, spelled: &[u8])
+        requires root { self.old ≡ [] }
+        requires spelled { (raw : List (List ℕ)) × IsRawName raw × (spelled.now ≡ wire raw) }
+        ensures { (raw : List (List ℕ)) → IsRawName raw → spelled.now ≡ wire raw
+            → self.new ≡ lowered raw }
+    {
+        lower_into(&mut self.bytes, spelled);
+        self.len = spelled.len() as u8;
     }
 
     /// The name's octets on the wire (RFC 1035, 3.1).
@@ -190,7 +229,7 @@ fn lower_into(into: &mut [u8], from: &[u8])
     requires { length from.now ≤ length into.old }
     ensures { into.new ≡ map to_ascii_lowercase from.now ++ drop (length from.now) into.old }
 {
-    let n = from.len();
-    into[..n].copy_from_slice(from);
-    into[..n].make_ascii_lowercase();
+    for i in 0..from.len() {
+        into[i] = from[i].to_ascii_lowercase();
+    }
 }
