@@ -1,25 +1,26 @@
 -- What a packet is judged as, from what its parts were found to be.
-use Rattle.std.proofs.Common.{◌≡◌, ◌≢◌, ℕ, ◌+◌, ◌-◌, ◌<◌, ◌≤◌, ◌/◌, ◌%◌, ◌==◌, List, [], ◌∷◌, ◌++◌, length, take, drop, get_or, ap, ◌∙◌, sym, refl, subst, arith, inl, inr, Bool}
+use Rattle.std.proofs.Common.{◌≡◌, ◌≢◌, ℕ, ◌+◌, ◌<◌, ◌≤◌, ◌/◌, ◌%◌, ◌==◌, List, [], ◌∷◌, length, drop, get_or, ap, ◌∙◌, sym, refl, subst, arith, inl, inr}
 use Rattle.std.specs.Prelude.{Option, None, Some, Ok, Err, ⊤}
 use Rattle.std.proofs.lemmas.Option.{none-some}
 use Rattle.ecs_option.specs.Grammar.{Point as ecs, Reads}
-use Rattle.ecs_option.specs.Writing.{IsSubnet}
 use Rattle.ecs_option.specs.declared.subnet.ClientSubnet.{ClientSubnet}
 use Rattle.ecs_option.specs.declared.subnet.Malformed.{Malformed}
-use Rattle.dns_message.specs.Edns.{AreOptions, AreProperOpts, EdnsOption, HasMalformedSubnet, HasNewVersion, IsEdns, IsMalformedOpt, TellsEdns, TellsSubnet, first_body, opts_of, version_of}
-use Rattle.dns_message.specs.Header.{arcount_of, HasQueryCounts, id_of, opcode_of, qr_of, rd_of}
+use Rattle.dns_message.specs.Edns.{AreProperOpts, HasMalformedSubnet, HasNewVersion, IsMalformedOpt, TellsEdns, TellsSubnet, first_body, opts_of}
+use Rattle.dns_message.specs.Header.{arcount_of, HasQueryCounts, id_of, opcode_of, rd_of}
 use Rattle.dns_message.specs.Judge.{HasQuery, Holds, IsAnsweredBy, IsFirst, Judges, NoneHolds, Point, points, query_of}
 use Rattle.dns_message.specs.Judge.Point.{Unheard, Kind, Counts, Question, Additionals, Version, Subnet}
-use Rattle.dns_message.specs.Question.{Asks, HasNoQuestion}
+use Rattle.dns_message.specs.Question.{Asks}
 use Rattle.dns_message.specs.Records.{AnyRecord, BeginsWithRecords, Split, SplitsAs}
-use Rattle.dns_message.specs.Walk.{HasFound, HasRecords, HasSubnet, IsOptOf, WalksTo, edns_of, told_of}
+use Rattle.dns_message.specs.Verdict.{read_as}
+use Rattle.dns_message.specs.Walk.{HasRecords, HasSubnet, IsOptOf, WalksTo, edns_of, told_of}
 use Rattle.dns_message.specs.Whole.{GivesWhole, HasEdns, IsSubnetOrNone, IsWhole, subnet_of}
 use Rattle.dns_message.specs.declared.options.SubnetRead.{SubnetRead}
 use Rattle.dns_message.specs.declared.options.SubnetRead.TheVariants as subnet
 use Rattle.dns_message.specs.declared.query.Edns.{Edns}
 use Rattle.dns_message.specs.declared.query.Query.{Query}
-use Rattle.dns_message.specs.declared.query.QueryRead.{QueryRead}
 use Rattle.dns_message.specs.declared.query.QueryRead.TheVariants as read
+use Rattle.dns_message.specs.declared.verdict.Verdict.{Verdict}
+use Rattle.dns_message.specs.declared.verdict.Verdict.TheVariants as verdict
 use Rattle.dns_message.specs.declared.records.Opt.{Opt}
 use Rattle.dns_message.specs.declared.records.Walked.{Walked}
 use Rattle.dns_message.specs.declared.records.Walked.TheVariants as walked
@@ -126,11 +127,12 @@ pub none_holds : (packet : List ℕ) → Sifted packet → (Holds Additionals pa
 none_holds packet s additionals version subnet =
     (s.unheard, (s.kind, (s.counts, (s.question, (additionals, (version, (subnet, tt)))))))
 
-pub judged_bad : (packet : List ℕ) (point : Point) (rcode : ℕ) (answer : QueryRead)
+pub judged_bad : (packet : List ℕ) (point : Point) (rcode : ℕ) (found : Verdict) (query : Query)
     → IsFirst points point packet → IsAnsweredBy point rcode
-    → answer ≡ read.Bad (id_of packet) (opcode_of packet) (rd_of packet) rcode → Judges packet answer
-judged_bad packet point rcode answer first code e =
-    subst (Judges packet) (sym e) (record {
+    → found ≡ verdict.Bad (id_of packet) (opcode_of packet) (rd_of packet) rcode
+    → Judges packet (read_as found query)
+judged_bad packet point rcode found query first code e =
+    subst (λ v. Judges packet (read_as v query)) (sym e) (record {
       point = point;
       first = first;
       code = code;
@@ -276,9 +278,11 @@ module _ (r : AnyRecord) (opt : Opt) (is : IsOptOf r opt) where
 -- ---- the answers
 
 pub with_edns : (packet : List ℕ) (labels : List (List ℕ)) (n : ℕ) (edns other : Edns) (query : Query)
-    → query ≡ query_of packet labels n (Some edns) → edns ≡ other
-    → query ≡ query_of packet labels n (Some other)
-with_edns packet labels n edns other query e same = e ∙ ap (λ t. query_of packet labels n (Some t)) same
+    → query ≡ query_of packet labels n None → edns ≡ other
+    → record query { edns = Some edns } ≡ query_of packet labels n (Some other)
+with_edns packet labels n edns other query e same =
+    ap (λ (q : Query). record q { edns = Some edns }) e
+    ∙ ap (λ t. query_of packet labels n (Some t)) same
 
 pub walks_behind : (packet records : List ℕ) (n count : ℕ) (found : Walked)
     → records ≡ drop (12 + n) packet → count ≡ arcount_of packet → WalksTo records count found

@@ -4,6 +4,7 @@ pub mod Judge
 pub mod Laws
 pub mod Question
 pub mod Records
+pub mod Verdict
 pub mod Walk
 pub mod Whole
 pub use Rattle.dns_name.specs.Labels

@@ -11,6 +11,7 @@ mod query;
 pub mod rcode;
 mod read;
 mod records;
+mod verdict;
 
 pub use laws::{one_judgement, one_list_of_options, one_record, one_split};
 pub use query::{Edns, Query, QueryRead};

@@ -1,16 +1,18 @@
 //! A packet judged by its header first, then by its question and its additional records, up to the first fault.
 
-ghost use Rattle.std.specs.Prelude.{◌≡◌, ℕ, ◌+◌, ◌-◌, ◌≤◌, List, ◌++◌, length, IsTrue, ◌↔◌, IfSome, IfNone, take, drop, replicate};
+ghost use Rattle.std.specs.Prelude.{◌≡◌, ℕ, ◌+◌, ◌-◌, ◌≤◌, List, ◌++◌, length, IsTrue, ◌↔◌, IfSome, IfNone, None, take, drop, replicate};
 ghost use Rattle.octets.specs.Numbers.{number_at};
 ghost use Rattle.dns_message.specs.Header.{id_of, opcode_of, rd_of, HasQueryCounts};
 ghost use Rattle.dns_message.specs.Judge.{Judges, query_of};
 ghost use Rattle.dns_message.specs.Question.{Asks, HasNoQuestion};
+ghost use Rattle.dns_message.specs.Verdict.{read_as};
 ghost use Rattle.dns_message.specs.Whole.{GivesWhole};
 
 use crate::edns::{edns_of, is_malformed, version_of};
 use crate::rcode::{FORMERR, NOTIMP};
 use crate::records::{Walked, opt_among};
-use crate::{Edns, Query, QueryRead};
+use crate::verdict::Verdict;
+use crate::{Query, QueryRead};
 use dns_name::Name;
 use octets::{behind, fill_front, number_at};
 
@@ -18,15 +20,44 @@ use octets::{behind, fill_front, number_at};
 const HEADER_LEN: usize = 12;
 
 /// Reads a query from a packet, or says what is wrong with it first.
+#[inline(always)]
 pub fn read_query(packet: &[u8]) -> QueryRead
     ensures judges { Judges packet.now result }
     ensures whole { GivesWhole result }
 {
+    let mut query = blank();
+    // Each case returns by itself: where they come together first, the query is copied once more.
+    match read_over(packet, &mut query) {
+        Verdict::Silent => return QueryRead::Silent,
+        Verdict::Bad {
+            id,
+            opcode,
+            rd,
+            rcode,
+        } => {
+            return QueryRead::Bad {
+                id,
+                opcode,
+                rd,
+                rcode,
+            };
+        }
+        Verdict::BadVersion => return QueryRead::BadVersion(query),
+        Verdict::Query => return QueryRead::Query(query),
+    }
+}
+
+/// Reads a query over a blank one, or says what is wrong with the packet first.
+fn read_over(packet: &[u8], query: &mut Query) -> Verdict
+    requires { query.old.question ≡ replicate 259 0 }
+    ensures judges { Judges packet.now (read_as result query.new) }
+    ensures whole { GivesWhole (read_as result query.new) }
+{
     if packet.len() < HEADER_LEN {
-        return QueryRead::Silent;
+        return Verdict::Silent;
     }
     if packet[2] >= 128 {
-        return QueryRead::Silent;
+        return Verdict::Silent;
     }
     if opcode(packet) != 0 {
         return bad(packet, NOTIMP);
@@ -34,22 +65,40 @@ pub fn read_query(packet: &[u8]) -> QueryRead
     if !has_query_counts(packet) {
         return bad(packet, FORMERR);
     }
-    let Some((name, question_len)) = question_at(packet) else {
+    let Some(question_len) = question_at(packet, &mut query.name) else {
         return bad(packet, FORMERR);
     };
+    fill(query, packet, question_len);
     let records = behind(packet, HEADER_LEN + question_len);
     let opt = match opt_among(records, number_at(packet, 10)) {
         Walked::Broken => return bad(packet, FORMERR),
-        Walked::Plain => return QueryRead::Query(query(packet, name, question_len, None)),
+        Walked::Plain => return Verdict::Query,
         Walked::With(opt) => opt,
     };
+    query.edns = Some(edns_of(opt));
     if version_of(opt) > 0 {
-        return QueryRead::BadVersion(query(packet, name, question_len, Some(edns_of(opt))));
+        return Verdict::BadVersion;
     }
     if is_malformed(opt) {
         return bad(packet, FORMERR);
     }
-    QueryRead::Query(query(packet, name, question_len, Some(edns_of(opt))))
+    Verdict::Query
+}
+
+/// A query for the root, of zeros.
+fn blank() -> Query
+    ensures { result.question ≡ replicate 259 0 }
+{
+    Query {
+        id: 0,
+        rd: false,
+        question: [0; 259],
+        question_len: 0,
+        name: Name::root(),
+        qtype: 0,
+        qclass: 0,
+        edns: None,
+    }
 }
 
 /// The kind of query (RFC 1035, 4.1.1).
@@ -77,11 +126,12 @@ fn has_query_counts(packet: &[u8]) -> bool
 }
 
 /// The answer to a packet that is no query.
-fn bad(packet: &[u8], rcode: u8) -> QueryRead
+fn bad(packet: &[u8], rcode: u8) -> Verdict
     requires { 12 ≤ length packet.now }
-    ensures { result ≡ QueryRead.Bad (id_of packet.now) (opcode_of packet.now) (rd_of packet.now) rcode }
+    ensures { result
+        ≡ Verdict.Bad (id_of packet.now) (opcode_of packet.now) (rd_of packet.now) rcode }
 {
-    QueryRead::Bad {
+    Verdict::Bad {
         id: number_at(packet, 0),
         opcode: opcode(packet),
         rd: recursion_desired(packet),
@@ -89,48 +139,48 @@ fn bad(packet: &[u8], rcode: u8) -> QueryRead
     }
 }
 
-/// The question's name, and how many octets the question has.
-fn question_at(packet: &[u8]) -> Option<(Name, usize)>
+/// Reads the question's name, and says how many octets the question has.
+fn question_at(packet: &[u8], name: &mut Name) -> Option<usize>
     requires { 12 ≤ length packet.now }
-    ensures some { IfSome result (λ r. Asks packet.now r.0 r.1) }
-    ensures only { IfSome result (λ r. (labels : List (List ℕ)) (n : ℕ)
-        → Asks packet.now labels n → n ≡ r.1) }
+    ensures some { IfSome result (λ n. Asks packet.now name.new n) }
+    ensures only { IfSome result (λ n. (labels : List (List ℕ)) (m : ℕ)
+        → Asks packet.now labels m → m ≡ n) }
     ensures none { IfNone result (HasNoQuestion packet.now) }
 {
     let body = behind(packet, HEADER_LEN);
-    let Some((name, name_len)) = Name::from_wire(body) else {
+    let Some(name_len) = name.read_wire(body) else {
         return None;
     };
     if body.len() - name_len < 4 {
         return None;
     }
-    Some((name, name_len + 4))
+    Some(name_len + 4)
 }
 
-/// The query of a packet with this question, whose OPT record tells this.
-fn query(packet: &[u8], name: Name, question_len: usize, edns: Option<Edns>) -> Query
-    requires { Asks packet.now name question_len }
-    ensures { result ≡ query_of packet.now name question_len edns }
+/// Fills a query whose name is that of the question with all that stands before the records.
+fn fill(query: &mut Query, packet: &[u8], question_len: usize)
+    requires asks { Asks packet.now query.old.name question_len }
+    requires zeros { query.old.question ≡ replicate 259 0 }
+    ensures { query.new ≡ query_of packet.now query.old.name question_len None }
 {
-    Query {
-        id: number_at(packet, 0),
-        rd: recursion_desired(packet),
-        question: padded(&packet[HEADER_LEN..HEADER_LEN + question_len]),
-        question_len,
-        name,
-        qtype: number_at(packet, 8 + question_len),
-        qclass: number_at(packet, 10 + question_len),
-        edns,
-    }
+    query.id = number_at(packet, 0);
+    query.rd = recursion_desired(packet);
+    fill_zeros(
+        &mut query.question,
+        &packet[HEADER_LEN..HEADER_LEN + question_len],
+    );
+    query.question_len = question_len;
+    query.qtype = number_at(packet, 8 + question_len);
+    query.qclass = number_at(packet, 10 + question_len);
+    query.edns = None;
 }
 
-/// A question's octets, and zeros behind them.
+/// Writes a question's octets over zeros.
 #[tactic(auto, using(crate::proofs::Question::padding))]
-fn padded(question: &[u8]) -> [u8; 259]
-    requires { length question.now ≤ 259 }
-    ensures { result ≡ question.now ++ replicate (259 - length question.now) 0 }
+fn fill_zeros(into: &mut [u8; 259], question: &[u8])
+    requires zeros { into.old ≡ replicate 259 0 }
+    requires room { length question.now ≤ 259 }
+    ensures { into.new ≡ question.now ++ replicate (259 - length question.now) 0 }
 {
-    let mut bytes = [0; 259];
-    fill_front(&mut bytes, question);
-    bytes
+    fill_front(into, question);
 }
