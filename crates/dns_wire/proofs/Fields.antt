@@ -7,9 +7,14 @@ use Rattle.dns_name.proofs.Labels.{labels_of-wire}
 use Rattle.rdata_layout.specs.declared.fields.Field.{Field}
 use Rattle.rdata_layout.specs.declared.fields.Field.TheVariants as field
 use Rattle.rdata_layout.specs.declared.fields.Tail.{Tail}
+use Rattle.rdata_layout.specs.declared.fields.Tail.TheVariants as tail
 use Rattle.rdata_layout.specs.Fields.{IsField}
 use Rattle.rdata_layout.specs.Layout.{AreFields}
+use Rattle.std.proofs.Math.Seq.{take-length, drop-length}
+use Rattle.dns_name.specs.Whole.{IsWire}
 use Rattle.dns_wire.specs.Data.{field_octets, fields_octets}
+use Rattle.dns_wire.specs.Pointers.{name_octets}
+use Rattle.dns_wire.proofs.Names.{name_field}
 use Rattle.rdata_layout.specs.Fields.{field_size}
 
 -- The size of the field at the front is how many octets it has.
@@ -128,3 +133,40 @@ field_written name fields octets start at from to i buffer d left piece n end af
           ∙ sym (append_assoc w.written octets_now
           (fields_octets name (drop (i + 1) fields) (drop (from + n) octets)));
     }
+
+-- data that are one name and nothing else
+module _ (octets : List ℕ) (are : AreFields (field.Name ∷ []) tail.Nothing octets) where
+  whole_name : octets ≡ are.0
+  whole_name = are.3 ∙ ap (λ t. are.0 ++ t) are.4 ∙ append-nil are.0
+
+  pub one_name : IsWire octets
+  one_name = name_field octets field.Name refl (subst (IsField field.Name) (sym whole_name) are.2)
+
+  pub one_written : (name : List (List ℕ))
+      → fields_octets name (field.Name ∷ []) octets ≡ name_octets name (labels_of octets)
+  one_written name =
+      let size : length octets ≡ field_size field.Name octets = ap length one_name.spelled in
+      first_field name field.Name [] octets (length octets) size
+      ∙ ap (λ t. name_octets name (labels_of t) ++ drop (length octets) octets) (take-length octets)
+      ∙ ap (λ t. name_octets name (labels_of octets) ++ t) (drop-length octets)
+      ∙ append-nil (name_octets name (labels_of octets))
+
+-- data that are a number of two octets and a name
+module _ (octets : List ℕ)
+    (are : AreFields (field.Number16 ∷ field.Name ∷ []) tail.Nothing octets) where
+  pub exchange_room : 2 ≤ length octets
+  exchange_room = omega (arith, ap length are.3, length-append are.0 are.1, are.2)
+
+  behind_preference : AreFields (field.Name ∷ []) tail.Nothing (drop 2 octets)
+  behind_preference =
+      behind_field field.Number16 (field.Name ∷ []) tail.Nothing octets 2 refl are
+
+  pub exchange_name : IsWire (drop 2 octets)
+  exchange_name = one_name (drop 2 octets) behind_preference
+
+  pub exchange_written : (name : List (List ℕ))
+      → fields_octets name (field.Number16 ∷ field.Name ∷ []) octets
+      ≡ take 2 octets ++ name_octets name (labels_of (drop 2 octets))
+  exchange_written name =
+      first_field name field.Number16 (field.Name ∷ []) octets 2 refl
+      ∙ ap (λ t. take 2 octets ++ t) (one_written (drop 2 octets) behind_preference name)

@@ -1,11 +1,13 @@
 //! The data of records, with names as names are written.
 
-ghost use Rattle.std.specs.Prelude.{◌≡◌, ◌+◌, ◌≤◌, ◌++◌, length, take, drop};
+ghost use Rattle.std.specs.Prelude.{◌≡◌, ◌+◌, ◌≤◌, ◌++◌, ◌∷◌, [], length, take, drop};
 ghost use Rattle.dns_name.specs.Stored.{labels_of};
 ghost use Rattle.dns_name.specs.Whole.{IsWire};
 ghost use Rattle.rdata_layout.specs.Fields.{IsField};
 ghost use Rattle.rdata_layout.specs.Layout.{AreFields, IsLayout, tail_of};
+ghost use Rattle.rdata_layout.specs.declared.fields.Field.TheVariants as field;
 ghost use Rattle.rdata_layout.specs.declared.fields.Tail.{Tail};
+ghost use Rattle.rdata_layout.specs.declared.fields.Tail.TheVariants.{Nothing};
 ghost use Rattle.dns_wire.specs.Data.{BeginsWith, data_octets, field_octets, fields_octets, has_pointers};
 ghost use Rattle.rdata_layout.specs.Fields.{field_size};
 
@@ -31,7 +33,11 @@ pub(crate) fn add_data(
     if !has_pointers(rtype) {
         return append(buffer, at, wire);
     }
-    add_fields(buffer, at, asked.octets(), fields_of(rtype), wire)
+    match rtype {
+        RType::Ns | RType::Cname | RType::Ptr => add_one_name(buffer, at, asked.octets(), wire),
+        RType::Mx => add_exchange(buffer, at, asked.octets(), wire),
+        _ => add_fields(buffer, at, asked.octets(), fields_of(rtype), wire),
+    }
 }
 
 /// Whether names in data of the type may be pointers.
@@ -42,6 +48,35 @@ fn has_pointers(rtype: RType) -> bool
         rtype,
         RType::Ns | RType::Cname | RType::Soa | RType::Ptr | RType::Mx
     )
+}
+
+/// Writes data that are one name, and says where they end.
+fn add_one_name(buffer: &mut [u8], at: usize, asked: &[u8], octets: &[u8]) -> usize
+    requires asked { IsWire asked.now }
+    requires name { AreFields (field.Name ∷ []) Nothing octets.now }
+    requires room { at + length octets.now ≤ length buffer.old }
+    ensures end { result
+        ≡ at + length (fields_octets (labels_of asked.now) (field.Name ∷ []) octets.now) }
+    ensures shorter { result ≤ at + length octets.now }
+    ensures written { take result buffer.new ≡ take at buffer.old
+        ++ fields_octets (labels_of asked.now) (field.Name ∷ []) octets.now }
+{
+    add_octets(buffer, at, asked, octets)
+}
+
+/// Writes a preference and the name behind it, and says where they end.
+fn add_exchange(buffer: &mut [u8], at: usize, asked: &[u8], octets: &[u8]) -> usize
+    requires asked { IsWire asked.now }
+    requires exchange { AreFields (field.Number16 ∷ field.Name ∷ []) Nothing octets.now }
+    requires room { at + length octets.now ≤ length buffer.old }
+    ensures end { result ≡ at + length
+        (fields_octets (labels_of asked.now) (field.Number16 ∷ field.Name ∷ []) octets.now) }
+    ensures shorter { result ≤ at + length octets.now }
+    ensures written { take result buffer.new ≡ take at buffer.old
+        ++ fields_octets (labels_of asked.now) (field.Number16 ∷ field.Name ∷ []) octets.now }
+{
+    let end = append(buffer, at, front(octets, 2));
+    add_octets(buffer, end, asked, behind(octets, 2))
 }
 
 /// Writes fields one after another and what stands behind them, and says where they end.
