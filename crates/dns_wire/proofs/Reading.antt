@@ -22,9 +22,9 @@ use Rattle.rdata_layout.specs.Layout.{AreFields, IsLayout, fields_of}
 use Rattle.rdata_layout.specs.Types.{number_of}
 use Rattle.dns_wire.specs.Data.{data_octets, field_octets, fields_octets}
 use Rattle.rdata_layout.specs.Fields.{field_size}
-use Rattle.dns_wire.specs.Header.{bit_of, header_octets}
+use Rattle.dns_wire.specs.Header.{FitsRcode, bit_of, header_octets}
 use Rattle.dns_message.specs.Question.{IsQuestion}
-use Rattle.dns_wire.specs.Laws.{CutRepliesRead, HasRcode, IsProper, WholeRepliesRead}
+use Rattle.dns_wire.specs.Laws.{CutRepliesRead, IsProper, WholeRepliesRead}
 use Rattle.dns_wire.specs.Message.{Message, Opt, Record, fixed_octets, header_of, octets_of, opt_count, opt_octets, record_octets, records_octets, records_of, without_records}
 use Rattle.dns_wire.specs.Pointers.{as_pointer, name_octets, place_in, pointer_to}
 use Rattle.dns_wire.specs.Reading.{DataAt, FieldAt, FieldsAt, NameAt, OptOrEnd, Reads, RecordAt, RecordsAt, Stands, pointer_octets}
@@ -379,13 +379,13 @@ asked_at message name question q s =
 rcode_back : (rcode : ℕ) → rcode ≡ rcode / 16 * 16 + rcode % 16 % 16
 rcode_back rcode = omega arith
 
-opt_or_end : (message : List ℕ) (place rcode : ℕ) (opt : Option Opt) → HasRcode rcode opt
+opt_or_end : (message : List ℕ) (place rcode : ℕ) (opt : Option Opt) → FitsRcode rcode opt
     → Stands message place (opt_octets rcode opt) → place + length (opt_octets rcode opt) ≡ length message
     → OptOrEnd message place opt (rcode / 16)
 opt_or_end message place rcode None small s end = (omega (arith, end), omega (arith, small))
 opt_or_end message place rcode (Some opt) small s end = opt_at message place rcode opt s end
 
-reads_back : (tc : Bool) (m : Message) → HasRcode m.rcode m.opt → IsQuestion m.name m.question
+reads_back : (tc : Bool) (m : Message) → FitsRcode m.rcode m.opt → IsQuestion m.name m.question
     → AllByRecursion IsProper (records_of m) → Reads (octets_of tc m) tc m
 reads_back tc m small q proper =
     let message = octets_of tc m in

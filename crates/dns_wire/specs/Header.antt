@@ -1,5 +1,5 @@
 -- The header of a reply (RFC 1035, 4.1.1). Z and RA are 0.
-use Rattle.std.specs.Prelude.{ℕ, ◌+◌, ◌*◌, List, ◌∷◌, ◌++◌, Bool, true, false}
+use Rattle.std.specs.Prelude.{ℕ, ◌+◌, ◌*◌, ◌<◌, List, ◌∷◌, ◌++◌, Bool, true, false, Option, None, Some}
 use Rattle.octets.specs.Numbers.{two_octets}
 use Rattle.dns_wire.specs.declared.header.Header.{Header}
 
@@ -31,3 +31,8 @@ short_reply id opcode rd rcode = header_octets (record {
   nscount = 0;
   arcount = 0;
 })
+
+-- RCODE has four bits, and twelve where there is an OPT record (RFC 6891, 6.1.3).
+abbrev pub FitsRcode : {A : Type 0} → (rcode : ℕ) → (opt : Option A) → Type 0
+FitsRcode rcode None = rcode < 16
+FitsRcode rcode (Some opt) = rcode < 4096

@@ -1,12 +1,13 @@
 -- Laws over the definitions of this crate.
-use Rattle.std.specs.Prelude.{◌≡◌, ℕ, ◌<◌, ◌≤◌, List, [], ◌∷◌, ◌++◌, length, Bool, true, false, Option, None, Some}
+use Rattle.std.specs.Prelude.{◌≡◌, ℕ, ◌<◌, ◌≤◌, List, [], ◌∷◌, ◌++◌, length, Bool, true, false}
 use Rattle.std.specs.List.{AllByRecursion}
 use Rattle.dns_name.specs.Names.{IsName}
 use Rattle.rdata_layout.specs.Layout.{IsLayout}
 use Rattle.dns_message.specs.Question.{IsQuestion}
 use Rattle.dns_wire.specs.declared.reply.Section.{Section}
 use Rattle.dns_wire.specs.Draft.{Follows, with_record, with_records}
-use Rattle.dns_wire.specs.Message.{Message, Opt, Record, octets_of, records_of, wire, without_records}
+use Rattle.dns_wire.specs.Header.{FitsRcode}
+use Rattle.dns_wire.specs.Message.{Message, Record, octets_of, records_of, wire, without_records}
 use Rattle.dns_wire.specs.Reading.{Reads}
 
 -- a record whose owner is a name, and whose data are a value of its type
@@ -14,17 +15,12 @@ pub record IsProper (r : Record) : Type 0 where
   pub owner : IsName r.owner
   pub rdata : IsLayout r.rtype r.rdata
 
--- RCODE has four bits, and twelve where there is an OPT record (RFC 6891, 6.1.3).
-abbrev pub HasRcode : (rcode : ℕ) → Option Opt → Type 0
-HasRcode rcode None = rcode < 16
-HasRcode rcode (Some opt) = rcode < 4096
-
 -- A reply that isn't cut is read as it was meant.
 abbrev pub WholeRepliesRead : Type 0
 WholeRepliesRead =
     (m : Message) (limit : ℕ)
     → length (octets_of false m) ≤ limit
-    → HasRcode m.rcode m.opt
+    → FitsRcode m.rcode m.opt
     → IsQuestion m.name m.question
     → AllByRecursion IsProper (records_of m)
     → Reads (wire m limit) false m
@@ -34,7 +30,7 @@ abbrev pub CutRepliesRead : Type 0
 CutRepliesRead =
     (m : Message) (limit : ℕ)
     → limit < length (octets_of false m)
-    → HasRcode m.rcode m.opt
+    → FitsRcode m.rcode m.opt
     → IsQuestion m.name m.question
     → Reads (wire m limit) true (without_records m)
 

@@ -1,6 +1,5 @@
 -- What each step of writing a reply leaves of the draft.
-use Rattle.std.specs.Prelude.{ℕ, ◌+◌, ◌%◌, ◌<◌, List, ◌++◌, length, take, drop, Bool, true, nat_le, Option, None, Some, if◌then◌else◌}
-use Rattle.dns_message.specs.declared.query.Edns.{Edns}
+use Rattle.std.specs.Prelude.{ℕ, ◌+◌, ◌%◌, List, ◌++◌, length, take, drop, Bool, true, nat_le, if◌then◌else◌}
 use Rattle.dns_wire.specs.declared.header.Header.{Header}
 use Rattle.dns_wire.specs.declared.reply.Section.{Section}
 use Rattle.dns_wire.specs.declared.reply.Section.TheVariants.{Answer, Authority, Additional}
@@ -51,8 +50,3 @@ header_of d aa rcode = record {
 -- with its header
 abbrev pub ended : Draft → (aa : Bool) (rcode : ℕ) → Draft
 ended d aa rcode = record d { bytes = header_octets (header_of d aa rcode) ++ drop 12 d.bytes }
-
--- RCODE has four bits, and twelve where there is an OPT record (RFC 6891, 6.1.3).
-abbrev pub FitsRcode : (rcode : ℕ) → Option Edns → Type 0
-FitsRcode rcode None = rcode < 16
-FitsRcode rcode (Some edns) = rcode < 4096

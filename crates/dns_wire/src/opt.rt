@@ -4,8 +4,8 @@ ghost use Rattle.std.specs.Prelude.{◌≡◌, ◌≤◌, ◌<◌, length, take}
 ghost use Rattle.std.specs.List.{flat_map};
 ghost use Rattle.dns_message.specs.Whole.{IsSubnetOrNone, subnet_of};
 ghost use Rattle.dns_wire.specs.Draft.{opt_of, options_of};
+ghost use Rattle.dns_wire.specs.Header.{FitsRcode};
 ghost use Rattle.dns_wire.specs.Message.{fixed_opt_octets, opt_octets, option_octets};
-ghost use Rattle.dns_wire.specs.Steps.{FitsRcode};
 
 use dns_message::Edns;
 use ecs_option::ClientSubnet;

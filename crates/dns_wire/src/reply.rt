@@ -3,8 +3,8 @@
 ghost use Rattle.std.specs.Prelude.{◌≡◌, ℕ, ◌+◌, ◌<◌, ◌≤◌, List, [], ◌∷◌, ◌++◌, length, take, drop, replicate, IfOk, IsTrue, ◌↔◌};
 ghost use Rattle.rdata_layout.specs.Layout.{IsLayout};
 ghost use Rattle.dns_wire.specs.Draft.{Follows, StandsFor, with_record, reply_to};
-ghost use Rattle.dns_wire.specs.Steps.{FitsRcode, closed, recorded, limited, emptied, ended};
-ghost use Rattle.dns_wire.specs.Header.{header_octets, short_reply};
+ghost use Rattle.dns_wire.specs.Steps.{closed, recorded, limited, emptied, ended};
+ghost use Rattle.dns_wire.specs.Header.{FitsRcode, header_octets, short_reply};
 ghost use Rattle.dns_wire.specs.Message.{Message, wire};
 ghost use Rattle.dns_wire.specs.Draft.{opt_of};
 ghost use Rattle.dns_message.specs.Whole.{IsWhole};
