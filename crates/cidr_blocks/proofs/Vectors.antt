@@ -1,15 +1,47 @@
 -- The definitions at values from outside.
-use Rattle.std.proofs.Common.{◌≡◌, ℕ, true, false, [], ◌∷◌, refl}
+use Rattle.std.proofs.Common.{◌≡◌, ℕ, zero, suc, true, false, [], ◌∷◌, List, length, replicate, refl, inr, arith}
+use Rattle.std.specs.List.{AllByRecursion}
+use Rattle.std.specs.List.Sorted.{IsStrictlySortedBy}
 use Rattle.std.specs.Prelude.{codes}
 use Rattle.std.specs.declared.cmp.Ordering.TheVariants.{Less, Equal, Greater}
 use Rattle.address_text.specs.declared.address.IpAddress.TheVariants.{V4, V6}
 use Rattle.ip_table.specs.Prefixes.{Prefix}
+use Rattle.routing.specs.Texts.{IsLocation, IsLocationName, is_location_byte}
 use Rattle.cidr_blocks.specs.declared.places.CidrLocation.{CidrLocation}
-use Rattle.cidr_blocks.specs.Idents.{star}
-use Rattle.cidr_blocks.specs.Places.{block_cmp, is_block, rows_of}
+use Rattle.cidr_blocks.specs.declared.places.Collection.{Collection}
+use Rattle.cidr_blocks.specs.Idents.{IsCollectionName, IsNameOrStar, star}
+use Rattle.cidr_blocks.specs.Places.{IsCidrLocation, IsCollection, StandOnce, block_cmp, is_block, name_cmp, names_of, rows_of}
 
 star_text : codes "*" ≡ star
 star_text = refl
+
+-- `*` is what a set names for all other clients
+star_location : IsLocation (codes "*")
+star_location = inr refl
+
+star_name : IsNameOrStar (codes "*")
+star_name = inr refl
+
+-- as many letters a
+abbrev letters : ℕ → List ℕ
+letters n = replicate n 0x61
+
+are_plain : (n : ℕ) → AllByRecursion (λ b. is_location_byte b ≡ true) (letters n)
+are_plain zero = tt
+are_plain (suc n) = (refl, are_plain n)
+
+-- the most bytes of a name: 16 of a location, 64 of a collection
+location_16 : IsLocationName (letters 16)
+location_16 = record { filled = omega arith; short = omega arith; plain = are_plain 16 }
+
+location_17 : IsLocationName (letters 17) → ⊥
+location_17 name = let short = name.short in absurd (omega (arith, short))
+
+collection_64 : IsCollectionName (letters 64)
+collection_64 = record { filled = omega arith; short = omega arith; plain = are_plain 64 }
+
+collection_65 : IsCollectionName (letters 65) → ⊥
+collection_65 name = let short = name.short in absurd (omega (arith, short))
 
 abbrev v4 : (a b c d length : ℕ) → Prefix
 v4 a b c d length = record { address = V4 (a ∷ b ∷ c ∷ d ∷ []); length = length }
@@ -69,3 +101,18 @@ rows_by_location : rows_of (lab ∷ office ∷ [])
     ≡ (v4 198 51 0 0 16, codes "lab") ∷ (v4 198 51 100 0 24, codes "office")
     ∷ (v6 32, codes "office") ∷ []
 rows_by_location = refl
+
+-- the most blocks of a collection that meets the other rules
+a_thousand : (c : Collection) → IsCollectionName c.name → AllByRecursion IsCidrLocation c.locations
+    → IsStrictlySortedBy name_cmp (names_of c.locations) → StandOnce (rows_of c.locations)
+    → length (rows_of c.locations) ≡ 1000 → IsCollection c
+a_thousand c name each rising once count = record {
+  name = name;
+  each = each;
+  rising = rising;
+  once = once;
+  few = omega (arith, count);
+}
+
+a_thousand_one : (c : Collection) → length (rows_of c.locations) ≡ 1001 → IsCollection c → ⊥
+a_thousand_one c count is = let few = is.few in absurd (omega (arith, count, few))

@@ -7,6 +7,10 @@ use Rattle.routing.specs.Texts.{IsText, is_location_byte}
 abbrev pub star : List ℕ
 star = 0x2A ∷ []
 
--- 1 to 64 letters, digits, `_` and `-`, or `*`
-abbrev pub IsIdent : List ℕ → Type 0
-IsIdent text = IsText is_location_byte 64 text ⊎ (text ≡ star)
+-- the name of a collection: 1 to 64 letters, digits, `_` and `-`
+abbrev pub IsCollectionName : List ℕ → Type 0
+IsCollectionName text = IsText is_location_byte 64 text
+
+-- such a name, as that of a location is too, or `*`
+abbrev pub IsNameOrStar : List ℕ → Type 0
+IsNameOrStar text = IsCollectionName text ⊎ (text ≡ star)

@@ -10,9 +10,10 @@ use Rattle.address_text.specs.declared.address.IpAddress.{IpAddress}
 use Rattle.address_text.specs.declared.address.IpAddress.TheVariants.{V4, V6}
 use Rattle.ip_table.specs.Bits.{width_of}
 use Rattle.ip_table.specs.Prefixes.{IsPrefix, Prefix}
-use Rattle.routing.specs.Texts.{IsText, is_location_byte}
+use Rattle.routing.specs.Texts.{IsLocationName}
 use Rattle.cidr_blocks.specs.declared.places.CidrLocation.{CidrLocation}
 use Rattle.cidr_blocks.specs.declared.places.Collection.{Collection}
+use Rattle.cidr_blocks.specs.Idents.{IsCollectionName}
 
 -- the most bits of a block
 abbrev pub most_bits : IpAddress → ℕ
@@ -62,8 +63,8 @@ pub record IsBlock (prefix : Prefix) : Type 0 where
 
 -- A location has a name of 1 to 16 letters, digits, `_` and `-`, and a block; its blocks are blocks,
 -- and rise.
-pub record IsLocation (location : CidrLocation) : Type 0 where
-  pub name : IsText is_location_byte 16 location.name
+pub record IsCidrLocation (location : CidrLocation) : Type 0 where
+  pub name : IsLocationName location.name
   pub some : 0 < length location.blocks
   pub are_blocks : AllByRecursion IsBlock location.blocks
   pub rising : IsStrictlySortedBy block_cmp location.blocks
@@ -71,8 +72,8 @@ pub record IsLocation (location : CidrLocation) : Type 0 where
 -- A collection has a name of 1 to 64 letters, digits, `_` and `-`, and locations whose names rise;
 -- no block stands under two of them, and at most 1,000 blocks stand there.
 pub record IsCollection (collection : Collection) : Type 0 where
-  pub name : IsText is_location_byte 64 collection.name
-  pub each : AllByRecursion IsLocation collection.locations
+  pub name : IsCollectionName collection.name
+  pub each : AllByRecursion IsCidrLocation collection.locations
   pub rising : IsStrictlySortedBy name_cmp (names_of collection.locations)
   pub once : StandOnce (rows_of collection.locations)
   pub few : length (rows_of collection.locations) ≤ 1000

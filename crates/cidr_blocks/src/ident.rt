@@ -3,8 +3,8 @@
 ghost use Rattle.std.specs.Prelude.{◌≡◌, ◌↔◌, ◌∷◌, [], true, IsTrue, SomeIff};
 ghost use Rattle.std.specs.List.{AllByRecursion};
 ghost use Rattle.std.specs.Str.{bytes_eq};
-ghost use Rattle.routing.specs.Texts.{IsText, is_location_byte};
-ghost use Rattle.cidr_blocks.specs.Idents.{IsIdent, star};
+ghost use Rattle.routing.specs.Texts.{IsLocationName, IsText, is_location_byte};
+ghost use Rattle.cidr_blocks.specs.Idents.{IsCollectionName, IsNameOrStar, star};
 
 use octets::{fill_front, front};
 use routing::is_location_byte;
@@ -21,13 +21,13 @@ impl Model for Ident {
     ghost use Rattle.std.specs.Prelude.{◌≡◌, ℕ, List, length, take};
     ghost use Rattle.std.proofs.Common.{ap};
     ghost use Rattle.routing.specs.Padded.{IsPadded, padded};
-    ghost use Rattle.cidr_blocks.specs.Idents.{IsIdent};
+    ghost use Rattle.cidr_blocks.specs.Idents.{IsNameOrStar};
 
     ghost Value = { List ℕ };
 
     ghost view = { λ a. take a.len a.bytes };
 
-    ghost invariant = { λ a. IsPadded a.bytes a.len 64 × IsIdent (take a.len a.bytes) };
+    ghost invariant = { λ a. IsPadded a.bytes a.len 64 × IsNameOrStar (take a.len a.bytes) };
 
     ghost inverse = { λ text. record { bytes = padded 64 text; len = length text } };
 
@@ -42,7 +42,7 @@ impl Model for Ident {
 impl Ident {
     /// The name of these bytes.
     pub fn new(bytes: &[u8]) -> Option<Ident>
-        ensures { SomeIff result (IsIdent bytes.now) bytes.now }
+        ensures { SomeIff result (IsNameOrStar bytes.now) bytes.now }
     {
         if !is_ident(bytes) {
             return None;
@@ -58,21 +58,21 @@ impl Ident {
     /// Its bytes.
     pub fn bytes(&self) -> &[u8]
         ensures bytes { result.now ≡ self.now }
-        ensures ident { IsIdent self.now }
+        ensures ident { IsNameOrStar self.now }
     {
         front(&self.bytes, self.len as usize)
     }
 
     /// Whether it is the name of a collection: 1 to 64 letters, digits, `_` and `-`.
     pub fn is_collection_name(&self) -> bool
-        ensures { IsTrue result ↔ IsText is_location_byte 64 self.now }
+        ensures { IsTrue result ↔ IsCollectionName self.now }
     {
         is_name(self.bytes(), 64)
     }
 
     /// Whether it is the name of a location: 1 to 16 letters, digits, `_` and `-`.
     pub fn is_location_name(&self) -> bool
-        ensures { IsTrue result ↔ IsText is_location_byte 16 self.now }
+        ensures { IsTrue result ↔ IsLocationName self.now }
     {
         is_name(self.bytes(), 16)
     }
@@ -94,7 +94,7 @@ fn bytes_are(text: &[u8], other: &[u8]) -> bool
 
 /// Whether bytes are a name or `*`.
 fn is_ident(bytes: &[u8]) -> bool
-    ensures { IsTrue result ↔ IsIdent bytes.now }
+    ensures { IsTrue result ↔ IsNameOrStar bytes.now }
 {
     if is_name(bytes, 64) {
         return true;

@@ -5,7 +5,7 @@ ghost use Rattle.std.specs.List.{AllByRecursion};
 ghost use Rattle.std.specs.List.Sorted.{IsStrictlySortedBy};
 ghost use Rattle.ip_table.specs.Rows.{HasRow};
 ghost use Rattle.cidr_blocks.specs.Judged.{Adds, AddsAll};
-ghost use Rattle.cidr_blocks.specs.Places.{IsBlock, IsCollection, IsLocation, StandOnce, block_cmp};
+ghost use Rattle.cidr_blocks.specs.Places.{IsBlock, IsCollection, IsCidrLocation, StandOnce, block_cmp};
 ghost use Rattle.cidr_blocks.specs.Places.{name_cmp, names_of, rows_at, rows_of};
 
 use crate::ident::Ident;
@@ -42,7 +42,7 @@ pub fn is_collection(alloc: Global, collection: &Collection) -> Result<bool, Out
 
 /// Whether each is a location.
 fn are_locations(locations: &[CidrLocation]) -> bool
-    ensures { IsTrue result ↔ AllByRecursion IsLocation locations.now }
+    ensures { IsTrue result ↔ AllByRecursion IsCidrLocation locations.now }
 {
     for location in locations {
         if !is_location(location) {
@@ -54,7 +54,7 @@ fn are_locations(locations: &[CidrLocation]) -> bool
 
 /// Whether this is a location.
 fn is_location(location: &CidrLocation) -> bool
-    ensures { IsTrue result ↔ IsLocation location.now }
+    ensures { IsTrue result ↔ IsCidrLocation location.now }
 {
     let blocks = location.blocks.as_slice();
     if !location.name.is_location_name() {

@@ -1,8 +1,13 @@
-//! A law over the definitions, the contract of a function that does nothing.
+//! Laws over the definitions, each the contract of a function that does nothing.
 
-ghost use Rattle.cidr_blocks.specs.Laws.{OneOrder};
+ghost use Rattle.cidr_blocks.specs.Laws.{LocationsAreNames, OneOrder};
 
 /// Blocks that are equal in their order are one block.
 pub fn one_order()
     ensures { OneOrder }
+{}
+
+/// What a record set may name as its location, `*` too, is an `Ident` here.
+pub fn locations_are_names()
+    ensures { LocationsAreNames }
 {}

@@ -1,6 +1,6 @@
 //! Lists of blocks and of locations, each in its order.
 
-ghost use Rattle.std.specs.Prelude.{◌≡◌, ◌++◌, ◌∷◌, [], IfOk, OnOk};
+ghost use Rattle.std.specs.Prelude.{◌≡◌, ◌++◌, ◌∷◌, [], IfOk, OnErr, OnOk};
 
 use crate::places::CidrLocation;
 use ip_table::IpPrefix;
@@ -53,9 +53,10 @@ impl Blocks {
         &self.list
     }
 
-    /// Adds a block behind them.
+    /// Adds a block behind them. Where there is no memory for it they stay.
     pub fn push(&mut self, block: IpPrefix) -> Result<(), OutOfMemory>
-        ensures { OnOk result (self.new ≡ self.old ++ block ∷ []) }
+        ensures added { OnOk result (self.new ≡ self.old ++ block ∷ []) }
+        ensures kept { OnErr result (self.new ≡ self.old) }
     {
         self.list.push(block)?;
         Ok(())

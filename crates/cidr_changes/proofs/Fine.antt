@@ -10,7 +10,7 @@ use Rattle.cidr_changes.specs.declared.faults.CidrFault.TheVariants.{BlockLength
 use Rattle.cidr_blocks.specs.declared.places.CidrLocation.{CidrLocation}
 use Rattle.cidr_changes.specs.Changed.{after_changes, with_locations}
 use Rattle.cidr_changes.specs.Changes.{Rows, changed, has_bad_length, has_block_in_use, put_all, removed_all}
-use Rattle.cidr_blocks.specs.Places.{IsBlock, IsLocation, is_block}
+use Rattle.cidr_blocks.specs.Places.{IsBlock, IsCidrLocation, is_block}
 use Rattle.cidr_changes.specs.Refusals.{first_of, rule, unless}
 use Rattle.cidr_changes.proofs.Rising.{AreFine, put_fine, removed_fine}
 
@@ -72,7 +72,7 @@ module _ (after : Rows) where
       after_fine changes (changed change rows) named.1
       (changed_fine change rows named.0 s.0 fine) s.1
 
-pub with_fine : (locations : List CidrLocation) (rows : Rows) → AllByRecursion IsLocation locations
+pub with_fine : (locations : List CidrLocation) (rows : Rows) → AllByRecursion IsCidrLocation locations
     → AreFine rows → AreFine (with_locations locations rows)
 with_fine [] rows all fine = fine
 with_fine (location ∷ locations) rows all fine =

@@ -7,12 +7,12 @@ use Rattle.std.specs.List.{AllByRecursion}
 use Rattle.std.specs.List.Sorted.{IsStrictlySortedBy}
 use Rattle.std.specs.Ordering.{match_ordering, ordering_reverse}
 use Rattle.ip_table.specs.Prefixes.{Prefix}
-use Rattle.routing.specs.Texts.{IsText, is_location_byte}
+use Rattle.routing.specs.Texts.{IsLocationName}
 use Rattle.cidr_blocks.specs.declared.places.CidrLocation.{CidrLocation}
 use Rattle.cidr_changes.specs.Changes.{Rows}
 use Rattle.cidr_changes.specs.Gathered.{gathered, grown, of_block, with_row}
 use Rattle.cidr_blocks.specs.Order.{block_cmp_total}
-use Rattle.cidr_blocks.specs.Places.{IsBlock, IsLocation, StandOnce, block_cmp, name_cmp, names_of, rows_at, rows_of}
+use Rattle.cidr_blocks.specs.Places.{IsBlock, IsCidrLocation, StandOnce, block_cmp, name_cmp, names_of, rows_at, rows_of}
 use Rattle.cidr_changes.proofs.Rising.{IsGood, Rising, Row, each}
 
 -- no block is below itself
@@ -191,8 +191,8 @@ module _ (block : Prefix) (name : List ℕ) where
   of_front P at (b ∷ blocks) rest all =
       let more = of_front P at blocks rest all.1 in ((all.0, more.0), more.1)
 
-  module _ (is : IsBlock block) (named : IsText is_location_byte 16 name) where
-    one_location : IsLocation (of_block name block)
+  module _ (is : IsBlock block) (named : IsLocationName name) where
+    one_location : IsCidrLocation (of_block name block)
     unfolding IsStrictlySortedBy
     one_location = record {
       name = named;
@@ -201,8 +201,8 @@ module _ (block : Prefix) (name : List ℕ) where
       rising = (tt, tt);
     }
 
-    grown_location : (l : CidrLocation) → IsLocation l
-        → AllByRecursion (λ p. block_cmp p block ≡ Less) l.blocks → IsLocation (grown l block)
+    grown_location : (l : CidrLocation) → IsCidrLocation l
+        → AllByRecursion (λ p. block_cmp p block ≡ Less) l.blocks → IsCidrLocation (grown l block)
     grown_location l good low = record {
       name = good.name;
       some = (let e = length-append l.blocks (block ∷ []) in omega (arith, e));
@@ -210,18 +210,18 @@ module _ (block : Prefix) (name : List ℕ) where
       rising = blocks_rise l.blocks good.rising low;
     }
 
-    each_by : (o : Ordering) (l : CidrLocation) (ls : List CidrLocation) → IsLocation l
+    each_by : (o : Ordering) (l : CidrLocation) (ls : List CidrLocation) → IsCidrLocation l
         → AllByRecursion (λ p. block_cmp p block ≡ Less) l.blocks
-        → AllByRecursion IsLocation ls → AllByRecursion IsLocation (with_row name block ls)
-        → AllByRecursion IsLocation (match_ordering o
+        → AllByRecursion IsCidrLocation ls → AllByRecursion IsCidrLocation (with_row name block ls)
+        → AllByRecursion IsCidrLocation (match_ordering o
         (of_block name block ∷ l ∷ ls) (grown l block ∷ ls) (l ∷ with_row name block ls))
     each_by Less l ls good low all more = (one_location, (good, all))
     each_by Equal l ls good low all more = (grown_location l good low, all)
     each_by Greater l ls good low all more = (good, more)
 
-    each_with : (ls : List CidrLocation) → AllByRecursion IsLocation ls
+    each_with : (ls : List CidrLocation) → AllByRecursion IsCidrLocation ls
         → AllByRecursion (λ (row : Row). block_cmp row.0 block ≡ Less) (rows_of ls)
-        → AllByRecursion IsLocation (with_row name block ls)
+        → AllByRecursion IsCidrLocation (with_row name block ls)
     each_with [] all low = (one_location, tt)
     each_with (l ∷ ls) all low =
         let apart = of_front (λ p. block_cmp p block ≡ Less) l.name l.blocks (rows_of ls) low in
@@ -229,7 +229,7 @@ module _ (block : Prefix) (name : List ℕ) where
 
 -- what holds of the locations of some first rows, and of the rows that are left
 pub record AreGathered (ls : List CidrLocation) (rows : Rows) : Type 0 where
-  pub each : AllByRecursion IsLocation ls
+  pub each : AllByRecursion IsCidrLocation ls
   pub rising : IsStrictlySortedBy name_cmp (names_of ls)
   pub once : StandOnce (rows_of ls)
   pub below : AllByRecursion (λ (row : Row). AllByRecursion (λ (other : Row).

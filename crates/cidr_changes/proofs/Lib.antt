@@ -1,6 +1,8 @@
 pub mod Fine
 pub mod Gather
 pub mod Keeping
+pub mod Members
+pub mod Placing
 pub mod Rising
 pub mod Spots
 mod Vectors

@@ -6,7 +6,7 @@ use Rattle.std.specs.Map.{remove_entry}
 use Rattle.std.specs.Ordering.{match_ordering, ordering_reverse}
 use Rattle.std.specs.Prelude.{⊤}
 use Rattle.ip_table.specs.Prefixes.{Prefix}
-use Rattle.routing.specs.Texts.{IsText, is_location_byte}
+use Rattle.routing.specs.Texts.{IsLocationName}
 use Rattle.cidr_changes.specs.Changes.{Rows, location_of, put, put_all, removed, removed_all, stands_at}
 use Rattle.cidr_blocks.specs.Order.{block_cmp_total}
 use Rattle.cidr_blocks.specs.Places.{IsBlock, block_cmp}
@@ -98,7 +98,7 @@ module _ (test : Prefix → Bool) where
 -- a block of a block's length under a location's name
 pub record IsGood (row : Row) : Type 0 where
   pub block : IsBlock row.0
-  pub name : IsText is_location_byte 16 row.1
+  pub name : IsLocationName row.1
 
 -- rows of a collection
 pub record AreFine (rows : Rows) : Type 0 where
@@ -109,7 +109,7 @@ pub none_fine : AreFine []
 none_fine = record { good = tt; rising = tt }
 
 module _ (name : List ℕ) where
-  module _ (named : IsText is_location_byte 16 name) where
+  module _ (named : IsLocationName name) where
     put_by : (b : Bool) (block : Prefix) (rows : Rows) → IsBlock block → AreFine rows
         → AreFine (cond b rows (insert_entry block_cmp rows block name))
     put_by true block rows is fine = fine

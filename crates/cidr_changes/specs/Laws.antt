@@ -1,16 +1,20 @@
 -- What the definitions of changes come to.
-use Rattle.std.specs.Prelude.{◌≡◌, ℕ, List, Ok}
+use Rattle.std.specs.Prelude.{◌≡◌, ℕ, ◌⊎◌, ◌↔◌, List, length, Contains, Ok}
 use Rattle.std.specs.List.{AllByRecursion}
-use Rattle.routing.specs.Texts.{IsText, is_location_byte}
+use Rattle.routing.specs.Texts.{IsLocationName}
 use Rattle.cidr_changes.specs.declared.changes.CidrChange.{CidrChange}
 use Rattle.cidr_blocks.specs.declared.places.Collection.{Collection}
+use Rattle.cidr_blocks.specs.declared.places.CidrLocation.{CidrLocation}
+use Rattle.cidr_blocks.specs.Idents.{star}
+use Rattle.cidr_blocks.specs.Places.{IsCollection, names_of, rows_of}
 use Rattle.cidr_changes.specs.Changed.{changed_collection}
-use Rattle.cidr_blocks.specs.Places.{IsCollection}
+use Rattle.cidr_changes.specs.Changes.{Rows}
+use Rattle.cidr_changes.specs.Gathered.{locations_of}
 use Rattle.ip_table.specs.Prefixes.{IsPrefix, Prefix}
 
 -- A change names a location of 1 to 16 letters, digits, `_` and `-`, and prefixes.
 pub record HasName (change : CidrChange) : Type 0 where
-  pub name : IsText is_location_byte 16 change.location
+  pub name : IsLocationName change.location
   pub prefixes : AllByRecursion (λ (block : Prefix). IsPrefix block.address block.length) change.blocks
 
 abbrev pub HaveNames : List CidrChange → Type 0
@@ -22,3 +26,23 @@ KeepCollections =
     (collection : Collection) (changes : List CidrChange) (id : ℕ) (used : List (ℕ × List ℕ))
     (after : Collection) → IsCollection collection → HaveNames changes
     → changed_collection collection changes id used ≡ Ok after → IsCollection after
+
+-- What a set names in a collection is `*`, or one of its locations.
+abbrev pub IsPlaced : List CidrLocation → (name : List ℕ) → Type 0
+IsPlaced locations name = (name ≡ star) ⊎ Contains (names_of locations) name
+
+-- Changes that are carried out leave a location for each set.
+abbrev pub KeepPlaced : Type 0
+KeepPlaced =
+    (collection : Collection) (changes : List CidrChange) (id : ℕ) (used : List (ℕ × List ℕ))
+    (after : Collection) → changed_collection collection changes id used ≡ Ok after
+    → (name : List ℕ) → Contains used (id, name) → IsPlaced after.locations name
+
+-- Locations of blocks hold these blocks, each under its own name, and no others.
+abbrev pub GatherAll : Type 0
+GatherAll = (rows : Rows) (row : Prefix × List ℕ)
+    → Contains (rows_of (locations_of rows)) row ↔ Contains rows row
+
+-- None of them is lost or told twice.
+abbrev pub GatherOnce : Type 0
+GatherOnce = (rows : Rows) → length (rows_of (locations_of rows)) ≡ length rows

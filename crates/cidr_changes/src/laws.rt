@@ -1,8 +1,19 @@
-//! A law over the definitions, the contract of a function that does nothing.
+//! Laws over the definitions, each the contract of a function that does nothing.
 
-ghost use Rattle.cidr_changes.specs.Laws.{KeepCollections};
+ghost use Rattle.cidr_changes.specs.Laws.{GatherAll, GatherOnce, KeepCollections, KeepPlaced};
 
 /// What changes make of a collection is one, where they name locations as these are named.
 pub fn changes_keep_collections()
     ensures { KeepCollections }
+{}
+
+/// Changes that are carried out leave a location for each set that names one in the collection.
+pub fn changes_keep_placed()
+    ensures { KeepPlaced }
+{}
+
+/// Blocks that are gathered by their locations are the same blocks under the same names, as many.
+pub fn blocks_are_gathered()
+    ensures all { GatherAll }
+    ensures once { GatherOnce }
 {}

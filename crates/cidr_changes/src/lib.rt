@@ -14,4 +14,4 @@ mod rows;
 pub use changes::{Changes, CidrChange};
 pub use changing::change_collection;
 pub use faults::CidrFault;
-pub use laws::changes_keep_collections;
+pub use laws::{blocks_are_gathered, changes_keep_collections, changes_keep_placed};

@@ -7,7 +7,6 @@ use Rattle.std.specs.Str.{bytes_eq}
 use Rattle.std.proofs.lemmas.Bool.{eq-eqb, leb-false}
 use Rattle.std.proofs.lemmas.List.{length-append, length-map}
 use Rattle.std.proofs.lemmas.Slice.Eq.{bytes_eq-Decides}
-use Rattle.routing.specs.Texts.{IsText, is_location_byte}
 use Rattle.cidr_changes.specs.declared.changes.CidrChange.{CidrChange}
 use Rattle.cidr_changes.specs.declared.faults.CidrFault.{CidrFault}
 use Rattle.cidr_changes.specs.declared.faults.CidrFault.TheVariants.{CollectionExists, IdsEnded, TooManyCidrCollections, CidrCollectionInUse}
@@ -15,6 +14,7 @@ use Rattle.cidr_blocks.specs.declared.places.CidrLocation.{CidrLocation}
 use Rattle.cidr_blocks.specs.declared.places.Collection.{Collection}
 use Rattle.cidr_changes.specs.Changed.{changed_collection}
 use Rattle.cidr_changes.specs.Laws.{HaveNames, KeepCollections}
+use Rattle.cidr_blocks.specs.Idents.{IsCollectionName}
 use Rattle.cidr_blocks.specs.Places.{IsCollection}
 use Rattle.cidr_changes.specs.Refusals.{first_of, rule, unless}
 use Rattle.cidr_commands.specs.declared.command.CidrCommand.TheVariants.{Create, Change, Delete}
@@ -142,7 +142,7 @@ with_those true c other is those = record {
 with_those false c other is those = is
 
 -- a collection without blocks
-without_blocks : (name : List ℕ) → IsText is_location_byte 64 name
+without_blocks : (name : List ℕ) → IsCollectionName name
     → IsCollection (record { name = name; locations = [] })
 unfolding IsStrictlySortedBy
 without_blocks name named = record {
@@ -171,7 +171,7 @@ not_taken name (held ∷ list) none =
     not_taken_by (bytes_eq held.1.name name) held name list refl none (not_taken name list)
 
 module _ (stored : Stored) (sound : IsSound stored) where
-  keeps_created : (name : List ℕ) → IsText is_location_byte 64 name
+  keeps_created : (name : List ℕ) → IsCollectionName name
       → is_taken name stored.list ≡ false → nat_le 100 (length stored.list) ≡ false
       → nat_eq stored.next 4294967295 ≡ false → IsSound (created stored name)
   keeps_created name named fresh room more = record {
@@ -251,7 +251,7 @@ the_ok : (x y : Stored) → the_answer x ≡ the_answer y → x ≡ y
 the_ok x y e = cc
 
 module _ (stored : Stored) (sound : IsSound stored) (after : Stored) where
-  by_create : (taken many last : Bool) (name : List ℕ) → IsText is_location_byte 64 name
+  by_create : (taken many last : Bool) (name : List ℕ) → IsCollectionName name
       → is_taken name stored.list ≡ taken → nat_le 100 (length stored.list) ≡ many
       → nat_eq stored.next 4294967295 ≡ last
       → unless (first_of (rule taken CollectionExists ∷ rule many TooManyCidrCollections

@@ -4,11 +4,11 @@
 use Rattle.std.specs.Prelude.{◌≡◌, ℕ, ◌+◌, Bool, not, ◌||◌, nat_lt, nat_le, nat_eq, if◌then◌else◌, List, [], ◌∷◌, ◌++◌, length, map, Option, None, Some, Result, Ok, Err, ⊤}
 use Rattle.std.specs.List.{filter, list_any}
 use Rattle.std.specs.Str.{bytes_eq}
-use Rattle.routing.specs.Texts.{IsText, is_location_byte}
 use Rattle.cidr_changes.specs.declared.faults.CidrFault.{CidrFault}
 use Rattle.cidr_changes.specs.declared.faults.CidrFault.TheVariants.{CollectionExists, IdsEnded, TooManyCidrCollections, NoSuchCidrCollection, CidrCollectionInUse}
 use Rattle.cidr_blocks.specs.declared.places.CidrLocation.{CidrLocation}
 use Rattle.cidr_blocks.specs.declared.places.Collection.{Collection}
+use Rattle.cidr_blocks.specs.Idents.{IsCollectionName}
 use Rattle.cidr_changes.specs.Changed.{changed_collection}
 use Rattle.cidr_changes.specs.Laws.{HaveNames}
 use Rattle.cidr_changes.specs.Refusals.{first_of, rule, unless}
@@ -91,7 +91,7 @@ answer stored (Delete id) used = of_there id (collection_at id stored.list)
 
 -- A new collection has a name of 1 to 64 letters, digits, `_` and `-`, a location one of 1 to 16.
 abbrev pub HasNames : CidrCommand → Type 0
-HasNames (Create name) = IsText is_location_byte 64 name
+HasNames (Create name) = IsCollectionName name
 HasNames (Change id changes) = HaveNames changes
 HasNames (Delete id) = ⊤
 
