@@ -1,5 +1,5 @@
 -- Blocks that rise, gathered by the names of their locations, make a collection's locations.
-use Rattle.std.proofs.Common.{◌≡◌, ◌≢◌, ℕ, true, suc, ◌+◌, List, [], ◌∷◌, ◌++◌, length, Ordering, Less, Equal, Greater, ap, ◌∙◌, sym, refl, subst, arith}
+use Rattle.std.proofs.Common.{◌≡◌, ◌≢◌, ℕ, suc, ◌+◌, List, [], ◌∷◌, ◌++◌, length, Ordering, Less, Equal, Greater, ap, ◌∙◌, sym, refl, subst, arith}
 use Rattle.std.proofs.lemmas.List.{length-append}
 use Rattle.std.specs.Cmp.{tied_itself}
 use Rattle.std.specs.Cmp.Lexicographic.{nat_list_cmp_total}

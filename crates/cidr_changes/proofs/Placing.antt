@@ -1,11 +1,10 @@
 -- Changes that are carried out leave a location for each set that names one.
-use Rattle.std.proofs.Common.{◌≡◌, ◌⊎◌, ℕ, Bool, true, false, cond, List, [], ◌∷◌, length, map, Option, None, Some, Result, Ok, Err, inl, inr, ap, ◌∙◌, sym, refl, subst, arith}
+use Rattle.std.proofs.Common.{◌≡◌, ◌⊎◌, ℕ, Bool, true, false, cond, List, [], ◌∷◌, length, map, Option, None, Some, Result, Ok, Err, inl, inr, sym, refl, subst}
 use Rattle.std.specs.Prelude.{Contains, not, ◌&&◌, ◌||◌, nat_eq, nat_lt, option_map}
 use Rattle.std.specs.List.{filter, list_any}
 use Rattle.std.specs.Str.{bytes_eq}
 use Rattle.std.proofs.lemmas.Bool.{eq-eqb}
 use Rattle.std.proofs.lemmas.Slice.Eq.{bytes_eq-Decides}
-use Rattle.cidr_changes.specs.declared.changes.CidrChange.{CidrChange}
 use Rattle.cidr_changes.specs.declared.faults.CidrFault.{CidrFault}
 use Rattle.cidr_changes.specs.declared.faults.CidrFault.TheVariants.{TooManyCidrBlocks, CidrLocationInUse}
 use Rattle.cidr_blocks.specs.declared.places.CidrLocation.{CidrLocation}
@@ -70,12 +69,12 @@ module _ (id : ℕ) (ls : List CidrLocation) where
   all_placed [] left name there = absurd (none (id, name) there)
   all_placed (u ∷ used) left name there =
       let apart = none_by (is_unplaced id ls u) u used refl left in
-      go apart (which u (id, name) used there)
+      go apart.0 (all_placed used apart.1 name) (which u (id, name) used there)
     where
-      go : (is_unplaced id ls u ≡ false) × (least (unplaced id ls used) ≡ None)
+      go : is_unplaced id ls u ≡ false → (Contains used (id, name) → IsPlaced ls name)
           → (u ≡ (id, name)) ⊎ Contains used (id, name) → IsPlaced ls name
-      go apart (inl e) = placed name (subst (λ n. is_unplaced id ls n ≡ false) e apart.0)
-      go apart (inr c) = all_placed used apart.1 name c
+      go not_left rest (inl e) = placed name (subst (λ n. is_unplaced id ls n ≡ false) e not_left)
+      go not_left rest (inr c) = rest c
 
 module _ (collection : Collection) (id : ℕ) (used : List Named) (after : Collection)
     (name : List ℕ) (there : Contains used (id, name)) where

@@ -38,6 +38,17 @@ KeepPlaced =
     (after : Collection) → changed_collection collection changes id used ≡ Ok after
     → (name : List ℕ) → Contains used (id, name) → IsPlaced after.locations name
 
+-- The elements of two lists are the same, in whichever order and however often.
+abbrev pub SameMembers : {X : Type 0} → (xs ys : List X) → Type 0
+SameMembers {X} xs ys = (x : X) → Contains xs x ↔ Contains ys x
+
+-- It counts what sets name, and neither the order of the sets nor how many name the same.
+abbrev pub OnlyNamedCount : Type 0
+OnlyNamedCount =
+    (collection : Collection) (changes : List CidrChange) (id : ℕ) (used other : List (ℕ × List ℕ))
+    → SameMembers used other
+    → changed_collection collection changes id used ≡ changed_collection collection changes id other
+
 -- Locations of blocks hold these blocks, each under its own name, and no others.
 abbrev pub GatherAll : Type 0
 GatherAll = (rows : Rows) (row : Prefix × List ℕ)

@@ -1,6 +1,7 @@
 //! Laws over the definitions, each the contract of a function that does nothing.
 
 ghost use Rattle.cidr_changes.specs.Laws.{GatherAll, GatherOnce, KeepCollections, KeepPlaced};
+ghost use Rattle.cidr_changes.specs.Laws.{OnlyNamedCount};
 
 /// What changes make of a collection is one, where they name locations as these are named.
 pub fn changes_keep_collections()
@@ -10,6 +11,11 @@ pub fn changes_keep_collections()
 /// Changes that are carried out leave a location for each set that names one in the collection.
 pub fn changes_keep_placed()
     ensures { KeepPlaced }
+{}
+
+/// Changes come to the same whatever the order in which locations are told that sets name.
+pub fn only_named_count()
+    ensures { OnlyNamedCount }
 {}
 
 /// Blocks that are gathered by their locations are the same blocks under the same names, as many.

@@ -14,4 +14,6 @@ mod rows;
 pub use changes::{Changes, CidrChange};
 pub use changing::change_collection;
 pub use faults::CidrFault;
-pub use laws::{blocks_are_gathered, changes_keep_collections, changes_keep_placed};
+pub use laws::{
+    blocks_are_gathered, changes_keep_collections, changes_keep_placed, only_named_count,
+};
