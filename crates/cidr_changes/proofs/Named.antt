@@ -94,7 +94,7 @@ module _ {X : Type 0} (test : X → Bool) where
       let no : ⊥ = cc in no)
   any_by false x xs z e passes rest (inr c) = rest c
 
-  any_of : (xs : List X) (z : X) → test z ≡ true → Contains xs z → list_any test xs ≡ true
+  pub any_of : (xs : List X) (z : X) → test z ≡ true → Contains xs z → list_any test xs ≡ true
   any_of [] z passes c = absurd (none z c)
   any_of (x ∷ xs) z passes c =
       any_by (test x) x xs z refl passes (any_of xs z passes) (which x z xs c)

@@ -18,7 +18,8 @@ use Rattle.cidr_blocks.specs.Idents.{IsCollectionName}
 use Rattle.cidr_blocks.specs.Places.{IsCollection}
 use Rattle.cidr_changes.specs.Refusals.{first_of, rule, unless}
 use Rattle.cidr_commands.specs.declared.command.CidrCommand.TheVariants.{Create, Change, Delete}
-use Rattle.cidr_commands.specs.Commands.{KeepsSound, any_has_block, created, delete_refusal, deleted, is_taken, is_used, of_there, put_back, replaced, with_locations_at}
+use Rattle.cidr_commands.specs.Commands.{any_has_block, created, delete_refusal, deleted, is_taken, is_used, of_there, put_back, replaced, with_locations_at}
+use Rattle.cidr_commands.specs.Kept.{KeepsSound}
 use Rattle.cidr_commands.specs.Stored.{IdsRise, IsSound, NamesDiffer, Stored, collection_at}
 use Rattle.cidr_commands.proofs.Ids.{Held}
 
@@ -244,10 +245,10 @@ there id [] collection all e = absurd (let no : ⊥ = cc in no)
 there id (held ∷ list) collection all e =
     there_by (nat_eq id held.0) id held list collection all.0 (there id list collection all.1) e
 
-abbrev the_answer : Stored → Result Stored CidrFault
+abbrev pub the_answer : Stored → Result Stored CidrFault
 the_answer stored = Ok stored
 
-the_ok : (x y : Stored) → the_answer x ≡ the_answer y → x ≡ y
+pub the_ok : (x y : Stored) → the_answer x ≡ the_answer y → x ≡ y
 the_ok x y e = cc
 
 module _ (stored : Stored) (sound : IsSound stored) (after : Stored) where

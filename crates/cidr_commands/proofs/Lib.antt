@@ -1,4 +1,7 @@
+pub mod Counting
 pub mod Ids
 pub mod InTurn
 pub mod Kept
+pub mod Used
+pub mod Wanting
 mod Vectors

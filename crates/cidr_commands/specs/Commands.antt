@@ -1,11 +1,11 @@
 -- What a command on collections makes of them, or its first refusal (Route 53 API Reference,
 -- CreateCidrCollection, ChangeCidrCollection and DeleteCidrCollection). Record sets use collections
 -- by number, and locations by name.
-use Rattle.std.specs.Prelude.{◌≡◌, ℕ, ◌+◌, Bool, not, ◌||◌, nat_lt, nat_le, nat_eq, if◌then◌else◌, List, [], ◌∷◌, ◌++◌, length, map, Option, None, Some, Result, Ok, Err, ⊤}
+use Rattle.std.specs.Prelude.{◌≡◌, ℕ, ◌+◌, Bool, not, ◌||◌, nat_lt, nat_le, nat_eq, if◌then◌else◌, ◌⊎◌, List, [], ◌∷◌, ◌++◌, length, map, Option, None, Some, IsSome, Result, Ok, Err, IsOk, ⊤}
 use Rattle.std.specs.List.{filter, list_any}
 use Rattle.std.specs.Str.{bytes_eq}
 use Rattle.cidr_changes.specs.declared.faults.CidrFault.{CidrFault}
-use Rattle.cidr_changes.specs.declared.faults.CidrFault.TheVariants.{CollectionExists, IdsEnded, TooManyCidrCollections, NoSuchCidrCollection, CidrCollectionInUse}
+use Rattle.cidr_changes.specs.declared.faults.CidrFault.TheVariants.{CollectionExists, IdsEnded, TooManyCidrCollections, NoSuchCidrCollection, CidrCollectionInUse, OutOfMemory}
 use Rattle.cidr_blocks.specs.declared.places.CidrLocation.{CidrLocation}
 use Rattle.cidr_blocks.specs.declared.places.Collection.{Collection}
 use Rattle.cidr_blocks.specs.Idents.{IsCollectionName}
@@ -14,7 +14,7 @@ use Rattle.cidr_changes.specs.Laws.{HaveNames}
 use Rattle.cidr_changes.specs.Refusals.{first_of, rule, unless}
 use Rattle.cidr_commands.specs.declared.command.CidrCommand.{CidrCommand}
 use Rattle.cidr_commands.specs.declared.command.CidrCommand.TheVariants.{Create, Change, Delete}
-use Rattle.cidr_commands.specs.Stored.{IsSound, Stored, collection_at}
+use Rattle.cidr_commands.specs.Stored.{Stored, collection_at}
 
 -- A collection has the name.
 abbrev pub is_taken : (name : List ℕ) → List (ℕ × Collection) → Bool
@@ -89,14 +89,25 @@ answer stored (Change id changes) used = of_there id (collection_at id stored.li
 answer stored (Delete id) used = of_there id (collection_at id stored.list)
     (λ collection. unless (delete_refusal id used collection) (Ok (deleted stored id)))
 
+-- Where memory may be wanted: where a new collection or the end of one isn't refused, and where the
+-- collection is there that is changed. What changes come to isn't known before they are tried.
+abbrev pub MayWant : Stored → CidrCommand → (used : List (ℕ × List ℕ)) → Type 0
+MayWant stored (Create name) used = IsOk (create_answer stored name)
+MayWant stored (Change id changes) used = IsSome (collection_at id stored.list)
+MayWant stored (Delete id) used = IsOk (answer stored (Delete id) used)
+
+-- A fault is the one that is defined, or tells that memory was wanted, where it may be.
+abbrev pub IsFaultWhere : {X : Type 0} → (may : Type 0) → (defined : Result X CidrFault) → CidrFault
+    → Type 0
+IsFaultWhere may defined fault = ((fault ≡ OutOfMemory) × may) ⊎ (defined ≡ Err fault)
+
+-- A call answers what is defined, or that memory was wanted, where it may be.
+abbrev pub GivesWhere : {X : Type 0} → (may : Type 0) → (result defined : Result X CidrFault)
+    → Type 0
+GivesWhere may result defined = ((result ≡ Err OutOfMemory) × may) ⊎ (result ≡ defined)
+
 -- A new collection has a name of 1 to 64 letters, digits, `_` and `-`, a location one of 1 to 16.
 abbrev pub HasNames : CidrCommand → Type 0
 HasNames (Create name) = IsCollectionName name
 HasNames (Change id changes) = HaveNames changes
 HasNames (Delete id) = ⊤
-
--- What a command makes of collections is sound.
-abbrev pub KeepsSound : Type 0
-KeepsSound =
-    (stored : Stored) (command : CidrCommand) (used : List (ℕ × List ℕ)) (after : Stored)
-    → IsSound stored → HasNames command → answer stored command used ≡ Ok after → IsSound after

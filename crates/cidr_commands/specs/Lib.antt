@@ -1,4 +1,5 @@
 pub mod Commands
+pub mod Kept
 pub mod Stored
 pub use Rattle.cidr_blocks.specs.Idents
 pub use Rattle.cidr_blocks.specs.Places

@@ -4,6 +4,7 @@ use Rattle.std.specs.List.{AllByRecursion}
 use Rattle.std.specs.Map.{lookup}
 use Rattle.address_text.specs.declared.address.IpAddress.{IpAddress}
 use Rattle.ip_table.specs.Location.{Locates}
+use Rattle.ip_table.specs.Rows.{AreRows}
 use Rattle.cidr_blocks.specs.declared.places.Collection.{Collection}
 use Rattle.cidr_blocks.specs.Places.{IsCollection, rows_of}
 
@@ -59,6 +60,11 @@ abbrev pub LocatesIn : Option Collection → IpAddress → Option (List ℕ) →
 LocatesIn None client name scope = (name ≡ None) × (scope ≡ 0)
 LocatesIn (Some collection) client name scope =
     Locates (rows_of collection.locations) client name scope
+
+-- The blocks of a collection are rows of a table: prefixes, and none of them twice.
+abbrev pub AreRowsIn : Option Collection → Type 0
+AreRowsIn None = ⊤
+AreRowsIn (Some collection) = AreRows (rows_of collection.locations)
 
 -- where the collection of a number stands
 abbrev pub PlaceOrNone : List (ℕ × Collection) → (id : ℕ) → Option ℕ → Type 0

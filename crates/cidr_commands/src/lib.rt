@@ -11,6 +11,6 @@ mod steps;
 
 pub use command::{CidrCommand, has_names};
 pub use finding::{id_after, place_of};
-pub use laws::commands_keep_sound;
+pub use laws::{commands_keep_sound, commands_keep_used, only_members_count};
 pub use soundness::is_sound;
 pub use steps::carry_out;

@@ -1,12 +1,12 @@
 //! What a command makes of a list of collections. The list itself stays.
 
-ghost use Rattle.std.specs.Prelude.{◌≡◌, ◌+◌, ◌<◌, ◌||◌, map, IfErr, IfOk, Ok};
-ghost use Rattle.cidr_changes.specs.Refusals.{IsFaultOf};
+ghost use Rattle.std.specs.Prelude.{◌≡◌, ◌+◌, ◌<◌, ◌||◌, map, IfErr, IfOk, IsOk, IsSome, Ok};
 ghost use Rattle.cidr_commands.specs.declared.command.CidrCommand.TheVariants.{Change, Delete};
+ghost use Rattle.cidr_commands.specs.Commands.{IsFaultWhere, MayWant};
 ghost use Rattle.cidr_commands.specs.Commands.{answer, any_has_block, create_answer};
 ghost use Rattle.cidr_commands.specs.Commands.{create_refusal, is_taken, is_used};
 ghost use Rattle.cidr_commands.specs.Commands.{with_locations_at, without};
-ghost use Rattle.cidr_commands.specs.Stored.{Stored};
+ghost use Rattle.cidr_commands.specs.Stored.{Stored, collection_at};
 
 use crate::command::CidrCommand;
 use crate::finding::place_of;
@@ -22,6 +22,8 @@ const MAX_COLLECTIONS: usize = 100;
 const LAST: u32 = 4_294_967_295;
 
 /// The next number and the collections after a command, or its first refusal.
+///
+/// Memory is wanted where the command isn't refused, or is one of changes whose collection is there.
 pub fn carry_out(
     alloc: Global,
     next: u32,
@@ -32,7 +34,8 @@ pub fn carry_out(
     ensures ok { IfOk result (λ after.
         answer (record { next = next; list = list.now }) command.now used.now
         ≡ Ok (record { next = after.0; list = after.1.items })) }
-    ensures err { IfErr result (IsFaultOf
+    ensures err { IfErr result (IsFaultWhere
+        (MayWant (record { next = next; list = list.now }) command.now used.now)
         (answer (record { next = next; list = list.now }) command.now used.now)) }
 {
     match command {
@@ -64,7 +67,8 @@ fn create(
         create_answer (record { next = next; list = list.now }) name
         ≡ Ok (record { next = next + 1; list = v.items })) }
     ensures last { IfOk result (λ _. next < 4294967295) }
-    ensures err { IfErr result (IsFaultOf
+    ensures err { IfErr result (IsFaultWhere
+        (IsOk (create_answer (record { next = next; list = list.now }) name))
         (create_answer (record { next = next; list = list.now }) name)) }
 {
     if let Some(fault) = create_refusal(next, list, &name) {
@@ -134,7 +138,7 @@ fn change(
     ensures ok { IfOk result (λ v.
         answer (record { next = next; list = list.now }) (Change id changes.now) used.now
         ≡ Ok (record { next = next; list = v.items })) }
-    ensures err { IfErr result (IsFaultOf
+    ensures err { IfErr result (IsFaultWhere (IsSome (collection_at id list.now))
         (answer (record { next = next; list = list.now }) (Change id changes.now) used.now)) }
 {
     let Some(place) = place_of(list, id) else {
@@ -195,7 +199,8 @@ fn delete(
     ensures ok { IfOk result (λ v.
         answer (record { next = next; list = list.now }) (Delete id) used.now
         ≡ Ok (record { next = next; list = v.items })) }
-    ensures err { IfErr result (IsFaultOf
+    ensures err { IfErr result (IsFaultWhere
+        (IsOk (answer (record { next = next; list = list.now }) (Delete id) used.now))
         (answer (record { next = next; list = list.now }) (Delete id) used.now)) }
 {
     let Some(place) = place_of(list, id) else {

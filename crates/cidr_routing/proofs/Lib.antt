@@ -1,3 +1,4 @@
 pub mod Known
+pub mod Once
 mod Vectors
 pub mod Walk

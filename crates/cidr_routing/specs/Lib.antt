@@ -1,4 +1,5 @@
 pub mod Choice
+pub mod Located
 pub mod Tables
 pub use Rattle.cidr_blocks.specs.Idents
 pub use Rattle.cidr_blocks.specs.Places
@@ -8,8 +9,10 @@ pub use Rattle.cidr_changes.specs.Gathered
 pub use Rattle.cidr_changes.specs.Laws
 pub use Rattle.cidr_changes.specs.Refusals
 pub use Rattle.cidr_commands.specs.Commands
+pub use Rattle.cidr_commands.specs.Kept
 pub use Rattle.cidr_commands.specs.Stored
 pub use Rattle.considered_sets.specs.Considered
 pub use Rattle.considered_sets.specs.Healthy
 pub use Rattle.ip_table.specs.Location
+pub use Rattle.ip_table.specs.Rows
 pub use Rattle.routing.specs.Texts

@@ -5,8 +5,9 @@ ghost use Rattle.std.specs.List.{AllByRecursion};
 ghost use Rattle.std.specs.Option.{option_copied};
 ghost use Rattle.cidr_blocks.specs.Places.{IsCollection};
 ghost use Rattle.cidr_changes.specs.Refusals.{Gives};
-ghost use Rattle.cidr_commands.specs.Commands.{HasNames, answer};
-ghost use Rattle.cidr_commands.specs.Stored.{IsSound, LocatesIn, NextIdOrNone, Stored, collection_at};
+ghost use Rattle.cidr_commands.specs.Commands.{GivesWhere, HasNames, MayWant, answer};
+ghost use Rattle.cidr_commands.specs.Stored.{AreRowsIn, IsSound, LocatesIn};
+ghost use Rattle.cidr_commands.specs.Stored.{NextIdOrNone, Stored, collection_at};
 ghost use Rattle.cidr_routing.specs.Tables.{tables_of};
 
 use address_text::IpAddress;
@@ -94,7 +95,10 @@ impl Collections {
     /// The location of the longest block of a collection that contains the client, and the scope of
     /// that answer. None and 0 where the collection isn't there.
     pub fn location(&self, id: u32, client: IpAddress) -> (Option<&Ident>, u8)
-        ensures { LocatesIn (collection_at id self.now.list) client (option_copied result.0) result.1 }
+        ensures located { LocatesIn (collection_at id self.now.list) client
+            (option_copied result.0) result.1 }
+        ensures rows { AreRowsIn (collection_at id self.now.list) }
+        ensures sound { IsSound self.now }
     {
         let Some(place) = place_of(&self.list, id) else {
             return (None, 0);
@@ -110,6 +114,8 @@ impl Collections {
     /// refused one by one by the length of a block, then by a block that is put and stands under
     /// another location; after the last one by the bound of 1,000 blocks, then by a location in use
     /// that has no block left, of several the least by bytes.
+    ///
+    /// Memory is wanted only where the command isn't refused, or changes a collection that is there.
     pub fn after(
         &self,
         alloc: Global,
@@ -117,7 +123,8 @@ impl Collections {
         used: &[(u32, Ident)],
     ) -> Result<Collections, CidrFault>
         requires names { HasNames command.now }
-        ensures { Gives result (answer self.now command.now used.now) }
+        ensures { GivesWhere (MayWant self.now command.now used.now) result
+            (answer self.now command.now used.now) }
     {
         commands_keep_sound();
         match carry_out(alloc, self.next, &self.list, command, used) {

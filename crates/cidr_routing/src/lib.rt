@@ -7,10 +7,16 @@
 mod choice;
 mod collections;
 mod ident;
+mod laws;
 
 pub use choice::choose_block;
-pub use cidr_blocks::{Blocks, CidrLocation, Collection, Locations, OutOfMemory};
+pub use cidr_blocks::{
+    Blocks, CidrLocation, Collection, Locations, OutOfMemory, locations_are_names,
+};
 pub use cidr_changes::{Changes, CidrChange, CidrFault};
-pub use cidr_commands::{CidrCommand, commands_keep_sound, has_names, is_sound};
+pub use cidr_commands::{
+    CidrCommand, commands_keep_sound, commands_keep_used, has_names, is_sound, only_members_count,
+};
 pub use collections::Collections;
 pub use ident::Ident;
+pub use laws::one_location_in;

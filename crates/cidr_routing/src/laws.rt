@@ -1,0 +1,13 @@
+//! A law over the definitions, the contract of a function that does nothing.
+
+ghost use Rattle.cidr_routing.specs.Located.{OneLocationIn};
+
+use crate::ident::Ident;
+use ip_table::one_location;
+
+/// A client has one location in a collection, and one scope.
+pub fn one_location_in()
+    ensures { OneLocationIn }
+{
+    one_location::<Ident>();
+}
