@@ -169,6 +169,29 @@ no_block = refl
 office_unhealthy : chosen located (true ∷ true ∷ false ∷ []) (at (codes "office")) 0 ≡ 1 ∷ []
 office_unhealthy = refl
 
+-- a client whose block is of the office in the second collection, and of the lab in the first
+abbrev in_two : ClientRows
+in_two = record nobody {
+  block = λ collection. if collection == 1 then Some (codes "lab")
+      else if collection == 2 then Some (codes "office") else None;
+}
+
+-- sets of the second collection for the lab, for `*` and for the office
+abbrev of_two : List RecordSet
+of_two = set (routing.Cidr (codes "a") 2 (codes "lab"))
+    ∷ set (routing.Cidr (codes "b") 2 (codes "*"))
+    ∷ set (routing.Cidr (codes "c") 2 (codes "office")) ∷ []
+
+second_collection : chosen of_two all in_two 0 ≡ 2 ∷ []
+second_collection = refl
+
+first_collection : chosen located all in_two 0 ≡ 0 ∷ []
+first_collection = refl
+
+-- a block in another collection alone is none here
+of_first_alone : chosen of_two all (at (codes "office")) 0 ≡ 1 ∷ []
+of_first_alone = refl
+
 -- without the set of `*`
 no_location : chosen (set (routing.Cidr (codes "a") 1 (codes "lab")) ∷ []) (true ∷ [])
     (at (codes "office")) 0 ≡ []

@@ -3,5 +3,4 @@ pub mod Ids
 pub mod InTurn
 pub mod Kept
 pub mod Used
-pub mod Wanting
 mod Vectors
