@@ -93,6 +93,16 @@ impl<V> IpTable<V> {
         }
     }
 
+    /// Whether an insert of this prefix adds a row, where there is memory for it.
+    pub fn takes(&self, prefix: IpPrefix) -> bool
+        ensures { IsTrue result ↔ ((¬ HasRow self.now prefix) × (length self.now < 100000)) }
+    {
+        if self.has_row(prefix) {
+            return false;
+        }
+        self.prefixes.len() < MAX_ROWS
+    }
+
     /// Whether a row has this prefix.
     fn has_row(&self, prefix: IpPrefix) -> bool
         ensures { IsTrue result ↔ HasRow self.now prefix }
