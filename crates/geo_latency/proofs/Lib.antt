@@ -9,3 +9,4 @@ pub mod Placed
 pub mod Prefixes
 pub mod Ranks
 mod Vectors
+pub mod Wanted

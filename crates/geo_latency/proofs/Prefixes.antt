@@ -83,3 +83,11 @@ module _ {V : Type 0} (prefix : Prefix) where
             let never : ⊥ = cc in never),
         ltb-true (length rows) 100000 (parts.1),
       )
+
+  -- a row has it, or the table is full
+  pub not_free : (rows : List (Prefix × V))
+      → ((HasRow rows prefix → ⊥) × (length rows < 100000) → ⊥) → is_free rows prefix ≡ false
+  not_free rows never = go (is_free rows prefix) refl where
+    go : (v : Bool) → is_free rows prefix ≡ v → is_free rows prefix ≡ false
+    go true e = absurd (never (free_means rows e))
+    go false e = e

@@ -76,6 +76,13 @@ abbrev pub latency_fields : List (List ℕ) → Line
 latency_fields (prefix ∷ latencies ∷ []) = latency_row (prefix_of prefix) (latencies_of latencies)
 latency_fields fields = Bad
 
+-- the prefix of a line of latencies
+abbrev pub prefix_of_latencies : Line → Option Prefix
+prefix_of_latencies Skipped = None
+prefix_of_latencies Bad = None
+prefix_of_latencies (Place prefix location) = None
+prefix_of_latencies (Latency prefix latencies) = Some prefix
+
 abbrev pub row_of : (fields : List (List ℕ)) → Line
 row_of [] = Bad
 row_of (word ∷ fields) =

@@ -48,12 +48,13 @@ outcome_of tables (line.Latency prefix latencies) =
 abbrev pub outcome : Tables → (line : List ℕ) → TableLine × Tables
 outcome tables line = outcome_of tables (said line)
 
--- The same of a call, which may find no memory: then the tables are as they were.
+-- The same of a call, which may find no memory for a row that would be added: then the tables are as
+-- they were.
 abbrev pub Adds : (old : Tables) → (line : List ℕ) → TableLine → (new : Tables) → Type 0
 Adds old line Added new = (Added, new) ≡ outcome old line
 Adds old line Skipped new = (Skipped, new) ≡ outcome old line
 Adds old line Bad new = (Bad, new) ≡ outcome old line
-Adds old line OutOfMemory new = new ≡ old
+Adds old line OutOfMemory new = ((outcome old line).0 ≡ Added) × (new ≡ old)
 
 -- what an insert into one of them is answered, and its rows after it
 abbrev pub AddsRow : {V : Type 0} → (old : List (Prefix × V)) → Prefix → V → TableLine
@@ -61,5 +62,9 @@ abbrev pub AddsRow : {V : Type 0} → (old : List (Prefix × V)) → Prefix → 
 AddsRow old prefix value Added new =
     (is_free old prefix ≡ true) × (new ≡ old ++ (prefix, value) ∷ [])
 AddsRow old prefix value Bad new = (is_free old prefix ≡ false) × (new ≡ old)
-AddsRow old prefix value OutOfMemory new = new ≡ old
+AddsRow old prefix value OutOfMemory new = (is_free old prefix ≡ true) × (new ≡ old)
 AddsRow old prefix value Skipped new = ⊥
+
+-- what a row is answered for whose value there is no memory
+abbrev pub refused : {V : Type 0} → (rows : List (Prefix × V)) → Prefix → TableLine
+refused rows prefix = if is_free rows prefix then OutOfMemory else Bad

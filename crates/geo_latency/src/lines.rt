@@ -1,9 +1,10 @@
 //! What a line of the tables says, read field by field.
 
-ghost use Rattle.std.specs.Prelude.{◌≡◌, IfOk};
+ghost use Rattle.std.specs.Prelude.{◌≡◌, IfErr, IfOk, Some};
 ghost use Rattle.std.specs.Option.{option_copied};
 ghost use Rattle.geo_latency.specs.Lines.{is_skipped, latency_fields, latency_row, latencies_of};
 ghost use Rattle.geo_latency.specs.Lines.{later, parts, place_fields, place_row, row_of, said};
+ghost use Rattle.geo_latency.specs.Lines.{prefix_of_latencies};
 ghost use Rattle.geo_latency.specs.Rows.{location_of};
 ghost use Rattle.prefix_text.specs.Prefixes.{prefix_of};
 
@@ -13,7 +14,6 @@ use crate::pieces::first_piece;
 use crate::rows::read_location;
 use crate::several::read_latencies;
 use ip_table::IpPrefix;
-use octets::OutOfMemory;
 use prefix_text::read_prefix;
 use std::alloc::Global;
 
@@ -31,9 +31,10 @@ pub(crate) enum Line {
     Bad,
 }
 
-/// What a line says.
-pub(crate) fn read_line(alloc: Global, line: &[u8]) -> Result<Line, OutOfMemory>
-    ensures { IfOk result (λ read. read ≡ said line.now) }
+/// What a line says; or the prefix of its latencies, where there is no memory for these.
+pub(crate) fn read_line(alloc: Global, line: &[u8]) -> Result<Line, IpPrefix>
+    ensures read { IfOk result (λ read. read ≡ said line.now) }
+    ensures wanted { IfErr result (λ prefix. Some prefix ≡ prefix_of_latencies (said line.now)) }
 {
     if line.len() > MAX_LINE {
         return Ok(Line::Bad);
@@ -55,8 +56,10 @@ fn is_skipped(line: &[u8]) -> bool
 }
 
 /// The row of a line.
-fn read_row(alloc: Global, line: &[u8]) -> Result<Line, OutOfMemory>
-    ensures { IfOk result (λ read. read ≡ row_of (parts 0x20 line.now)) }
+fn read_row(alloc: Global, line: &[u8]) -> Result<Line, IpPrefix>
+    ensures read { IfOk result (λ read. read ≡ row_of (parts 0x20 line.now)) }
+    ensures wanted { IfErr result (λ prefix.
+        Some prefix ≡ prefix_of_latencies (row_of (parts 0x20 line.now))) }
 {
     let (word, fields) = first_piece(b' ', line);
     if word == b"geo".as_slice() {
@@ -96,8 +99,11 @@ fn place_row(prefix: &[u8], location: &[u8]) -> Line
 }
 
 /// The row of latencies, of the fields behind its first word.
-fn read_latency(alloc: Global, fields: Option<&[u8]>) -> Result<Line, OutOfMemory>
-    ensures { IfOk result (λ read. read ≡ latency_fields (later 0x20 (option_copied fields.entry))) }
+fn read_latency(alloc: Global, fields: Option<&[u8]>) -> Result<Line, IpPrefix>
+    ensures read { IfOk result (λ read.
+        read ≡ latency_fields (later 0x20 (option_copied fields.entry))) }
+    ensures wanted { IfErr result (λ prefix. Some prefix
+        ≡ prefix_of_latencies (latency_fields (later 0x20 (option_copied fields.entry)))) }
 {
     let Some(fields) = fields else {
         return Ok(Line::Bad);
@@ -114,15 +120,18 @@ fn read_latency(alloc: Global, fields: Option<&[u8]>) -> Result<Line, OutOfMemor
 }
 
 /// The row of a prefix and latencies.
-fn latency_row(alloc: Global, prefix: &[u8], latencies: &[u8]) -> Result<Line, OutOfMemory>
-    ensures { IfOk result (λ read. read ≡
+fn latency_row(alloc: Global, prefix: &[u8], latencies: &[u8]) -> Result<Line, IpPrefix>
+    ensures read { IfOk result (λ read. read ≡
         latency_row (prefix_of prefix.now) (latencies_of latencies.now)) }
+    ensures wanted { IfErr result (λ p. Some p ≡ prefix_of_latencies
+        (latency_row (prefix_of prefix.now) (latencies_of latencies.now))) }
 {
     let Some(prefix) = read_prefix(prefix) else {
         return Ok(Line::Bad);
     };
-    let Some(latencies) = read_latencies(alloc, latencies)? else {
-        return Ok(Line::Bad);
-    };
-    Ok(Line::Latency(prefix, latencies))
+    match read_latencies(alloc, latencies) {
+        Ok(Some(latencies)) => Ok(Line::Latency(prefix, latencies)),
+        Ok(None) => Ok(Line::Bad),
+        Err(_) => Err(prefix),
+    }
 }

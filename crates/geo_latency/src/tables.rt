@@ -1,7 +1,7 @@
 //! The tables that tell where clients are and how far from regions, line by line.
 
 ghost use Rattle.std.specs.Prelude.{◌≡◌, []};
-ghost use Rattle.geo_latency.specs.Tables.{Adds, AddsRow};
+ghost use Rattle.geo_latency.specs.Tables.{Adds, AddsRow, refused};
 
 use crate::latencies::Latencies;
 use crate::lines::{Line, read_line};
@@ -18,7 +18,7 @@ pub enum TableLine {
     Skipped,
     /// It is no such line, its kind has a row of this prefix, or 100,000 rows.
     Bad,
-    /// Memory was wanted and was not there.
+    /// Its row would have been added, but there was no memory for it.
     OutOfMemory,
 }
 
@@ -47,8 +47,9 @@ impl Tables {
     pub fn add_line(&mut self, alloc: Global, line: &[u8]) -> TableLine
         ensures { Adds self.old line.now result self.new }
     {
-        let Ok(read) = read_line(alloc, line) else {
-            return TableLine::OutOfMemory;
+        let read = match read_line(alloc, line) {
+            Ok(read) => read,
+            Err(prefix) => return refused(&self.latencies, prefix),
         };
         match read {
             Line::Skipped => TableLine::Skipped,
@@ -57,6 +58,16 @@ impl Tables {
             Line::Bad => TableLine::Bad,
         }
     }
+}
+
+/// The answer for a row for whose value there is no memory: a bad row is told as such.
+fn refused<V>(table: &IpTable<V>, prefix: IpPrefix) -> TableLine
+    ensures { result ≡ refused table.now prefix }
+{
+    if table.takes(prefix) {
+        return TableLine::OutOfMemory;
+    }
+    TableLine::Bad
 }
 
 /// Adds a row to one of the tables.
