@@ -1,6 +1,7 @@
 pub mod Idents
 pub mod Judged
 pub mod Laws
+pub mod Listing
 pub mod Order
 pub mod Places
 pub use Rattle.ip_table.specs.Prefixes

@@ -13,7 +13,7 @@ mod tables;
 
 pub use ident::Ident;
 pub use judging::is_collection;
-pub use laws::{locations_are_names, one_order};
+pub use laws::{locations_are_names, one_listing, one_order};
 pub use lists::{Blocks, Locations};
 pub use octets::OutOfMemory;
 pub use order::{Block, is_block, name_order};

@@ -1,5 +1,5 @@
 -- What the locations of blocks hold is these blocks, each under its own name.
-use Rattle.std.proofs.Common.{◌≡◌, ◌⊎◌, ℕ, zero, suc, List, [], ◌∷◌, ◌++◌, Ordering, Less, Equal, Greater, inl, inr, ap, ◌∙◌, sym, refl, subst, arith}
+use Rattle.std.proofs.Common.{◌≡◌, ◌⊎◌, ℕ, List, [], ◌∷◌, ◌++◌, Ordering, Less, Equal, Greater, inl, inr, ap, ◌∙◌, sym, refl, subst, arith}
 use Rattle.std.specs.Prelude.{◌↔◌, Contains}
 use Rattle.std.specs.Ordering.{match_ordering}
 use Rattle.std.proofs.lemmas.List.{append_assoc}
@@ -8,26 +8,12 @@ use Rattle.std.proofs.lemmas.Map.Lookups.{exact_bytes}
 use Rattle.ip_table.specs.Prefixes.{Prefix}
 use Rattle.cidr_blocks.specs.declared.places.CidrLocation.{CidrLocation}
 use Rattle.cidr_blocks.specs.Places.{name_cmp, rows_at, rows_of}
+use Rattle.cidr_blocks.proofs.Elements.{first, later, none, which}
 use Rattle.cidr_changes.specs.Changes.{Rows}
 use Rattle.cidr_changes.specs.Gathered.{gathered, grown, of_block, with_row}
 use Rattle.cidr_changes.specs.Laws.{GatherAll, GatherOnce}
 use Rattle.cidr_changes.proofs.Gather.{gathered_count}
 use Rattle.cidr_changes.proofs.Rising.{Row}
-
--- an element of a list is the first one or stands behind it
-module _ {X : Type 0} where
-  pub first : (x : X) (xs : List X) → Contains (x ∷ xs) x
-  first x xs = (zero, omega arith, refl)
-
-  pub later : (x y : X) (xs : List X) → Contains xs y → Contains (x ∷ xs) y
-  later x y xs (k, lt, is) = (suc k, omega (arith, lt), is)
-
-  pub which : (x y : X) (xs : List X) → Contains (x ∷ xs) y → (x ≡ y) ⊎ Contains xs y
-  which x y xs (zero, lt, is) = inl is
-  which x y xs (suc k, lt, is) = inr (k, omega (arith, lt), is)
-
-  pub none : (y : X) → Contains [] y → ⊥
-  none y (k, lt, is) = absurd (omega (arith, lt))
 
 module _ (block : Prefix) (name : List ℕ) where
   abbrev new : Row

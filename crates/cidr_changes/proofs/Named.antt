@@ -14,9 +14,10 @@ use Rattle.cidr_blocks.specs.Places.{name_cmp}
 use Rattle.cidr_changes.specs.Changed.{after_changes, finished, is_unplaced, least, lesser, unplaced, with_locations}
 use Rattle.cidr_changes.specs.Changes.{Rows}
 use Rattle.cidr_changes.specs.Gathered.{locations_of}
-use Rattle.cidr_changes.specs.Laws.{OnlyNamedCount, SameMembers}
+use Rattle.cidr_blocks.specs.Listing.{SameMembers}
+use Rattle.cidr_changes.specs.Laws.{OnlyNamedCount}
 use Rattle.cidr_changes.specs.Refusals.{first_of, rule, unless}
-use Rattle.cidr_changes.proofs.Members.{first, later, none, which}
+use Rattle.cidr_blocks.proofs.Elements.{first, later, none, which}
 
 abbrev Text : Type 0
 Text = List ℕ

@@ -17,7 +17,7 @@ use Rattle.cidr_changes.specs.Gathered.{locations_of}
 use Rattle.cidr_changes.specs.Laws.{IsPlaced, KeepPlaced}
 use Rattle.cidr_changes.specs.Refusals.{first_of, rule, unless}
 use Rattle.cidr_changes.proofs.Fine.{the_ok}
-use Rattle.cidr_changes.proofs.Members.{first, later, none, which}
+use Rattle.cidr_blocks.proofs.Elements.{first, later, none, which}
 
 abbrev Named : Type 0
 Named = ℕ × List ℕ

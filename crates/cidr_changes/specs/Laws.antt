@@ -6,6 +6,7 @@ use Rattle.cidr_changes.specs.declared.changes.CidrChange.{CidrChange}
 use Rattle.cidr_blocks.specs.declared.places.Collection.{Collection}
 use Rattle.cidr_blocks.specs.declared.places.CidrLocation.{CidrLocation}
 use Rattle.cidr_blocks.specs.Idents.{star}
+use Rattle.cidr_blocks.specs.Listing.{SameMembers}
 use Rattle.cidr_blocks.specs.Places.{IsCollection, names_of, rows_of}
 use Rattle.cidr_changes.specs.Changed.{changed_collection}
 use Rattle.cidr_changes.specs.Changes.{Rows}
@@ -37,10 +38,6 @@ KeepPlaced =
     (collection : Collection) (changes : List CidrChange) (id : ℕ) (used : List (ℕ × List ℕ))
     (after : Collection) → changed_collection collection changes id used ≡ Ok after
     → (name : List ℕ) → Contains used (id, name) → IsPlaced after.locations name
-
--- The elements of two lists are the same, in whichever order and however often.
-abbrev pub SameMembers : {X : Type 0} → (xs ys : List X) → Type 0
-SameMembers {X} xs ys = (x : X) → Contains xs x ↔ Contains ys x
 
 -- It counts what sets name, and neither the order of the sets nor how many name the same.
 abbrev pub OnlyNamedCount : Type 0

@@ -4,6 +4,7 @@ pub mod Gathered
 pub mod Laws
 pub mod Refusals
 pub use Rattle.cidr_blocks.specs.Idents
+pub use Rattle.cidr_blocks.specs.Listing
 pub use Rattle.cidr_blocks.specs.Order
 pub use Rattle.cidr_blocks.specs.Places
 pub use Rattle.ip_table.specs.Prefixes

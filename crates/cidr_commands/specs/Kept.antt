@@ -1,7 +1,8 @@
 -- What commands keep, and what their answers hang on.
-use Rattle.std.specs.Prelude.{◌≡◌, ℕ, List, Option, None, Some, Contains, Ok}
+use Rattle.std.specs.Prelude.{◌≡◌, ℕ, List, Option, None, Some, Contains, Ok, ⊤}
 use Rattle.cidr_blocks.specs.declared.places.Collection.{Collection}
-use Rattle.cidr_changes.specs.Laws.{IsPlaced, SameMembers}
+use Rattle.cidr_blocks.specs.Listing.{HoldSame, SameMembers}
+use Rattle.cidr_changes.specs.Laws.{IsPlaced}
 use Rattle.cidr_commands.specs.declared.command.CidrCommand.{CidrCommand}
 use Rattle.cidr_commands.specs.Commands.{HasNames, answer}
 use Rattle.cidr_commands.specs.Stored.{IsSound, Stored, collection_at}
@@ -28,8 +29,21 @@ KeepsUsed =
     → answer stored command used ≡ Ok after → (named : ℕ × List ℕ) → Contains used named
     → IsThere stored.list named → IsThere after.list named
 
--- It counts what sets name, and neither the order of the sets nor how many name the same.
+-- The same is held under a number, or nothing is.
+abbrev pub HoldSameAt : Option Collection → Option Collection → Type 0
+HoldSameAt None None = ⊤
+HoldSameAt None (Some other) = ⊥
+HoldSameAt (Some collection) None = ⊥
+HoldSameAt (Some collection) (Some other) = HoldSame collection other
+
+-- The same is held under each number, and the next number is the same.
+pub record HoldAlike (stored other : Stored) : Type 0 where
+  pub next : stored.next ≡ other.next
+  pub at : (id : ℕ) → HoldSameAt (collection_at id stored.list) (collection_at id other.list)
+
+-- It counts what collections hold and what sets name, and not in which way either is listed.
 abbrev pub OnlyMembersCount : Type 0
 OnlyMembersCount =
-    (stored : Stored) (command : CidrCommand) (used other : List (ℕ × List ℕ))
-    → SameMembers used other → answer stored command used ≡ answer stored command other
+    (stored other : Stored) (command : CidrCommand) (used named : List (ℕ × List ℕ))
+    → IsSound stored → IsSound other → HoldAlike stored other → SameMembers used named
+    → answer stored command used ≡ answer other command named

@@ -2,6 +2,7 @@ pub mod Commands
 pub mod Kept
 pub mod Stored
 pub use Rattle.cidr_blocks.specs.Idents
+pub use Rattle.cidr_blocks.specs.Listing
 pub use Rattle.cidr_blocks.specs.Places
 pub use Rattle.cidr_changes.specs.Changed
 pub use Rattle.cidr_changes.specs.Changes

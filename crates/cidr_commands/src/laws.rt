@@ -2,6 +2,7 @@
 
 ghost use Rattle.cidr_commands.specs.Kept.{KeepsSound, KeepsUsed, OnlyMembersCount};
 
+use cidr_blocks::one_listing;
 use cidr_changes::{changes_keep_collections, changes_keep_placed, only_named_count};
 
 /// What a command makes of sound collections is sound, where it has names.
@@ -18,9 +19,11 @@ pub fn commands_keep_used()
     changes_keep_placed();
 }
 
-/// The answer to a command hangs on what sets name, and not on the order in which that is told.
+/// The answer to a command hangs on what collections hold and what sets name, and not on the way in
+/// which either is listed.
 pub fn only_members_count()
     ensures { OnlyMembersCount }
 {
+    one_listing();
     only_named_count();
 }

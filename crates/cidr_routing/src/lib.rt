@@ -11,7 +11,7 @@ mod laws;
 
 pub use choice::choose_block;
 pub use cidr_blocks::{
-    Blocks, CidrLocation, Collection, Locations, OutOfMemory, locations_are_names,
+    Blocks, CidrLocation, Collection, Locations, OutOfMemory, locations_are_names, one_listing,
 };
 pub use cidr_changes::{Changes, CidrChange, CidrFault};
 pub use cidr_commands::{
