@@ -1,5 +1,5 @@
 -- What every query that is read of a packet is.
-use Rattle.std.specs.Prelude.{◌≤◌, ℕ, take, Option, None, Some, ⊤}
+use Rattle.std.specs.Prelude.{◌≡◌, ◌<◌, ◌≤◌, ◌⊎◌, ℕ, take, Option, None, Some, ⊤}
 use Rattle.ecs_option.specs.Writing.{IsSubnet}
 use Rattle.ecs_option.specs.declared.subnet.ClientSubnet.{ClientSubnet}
 use Rattle.dns_message.specs.Question.{IsQuestion}
@@ -29,9 +29,15 @@ abbrev pub HasEdns : Option Edns → Type 0
 HasEdns None = ⊥
 HasEdns (Some edns) = ⊤
 
--- A query that was read is whole, and one of a newer version has an OPT record.
+-- What a header says that answers a packet: the kind of query, in 4 bits, and Format error (1) where that is a standard query, else
+-- Not Implemented (4) (RFC 1035, 4.1.1).
+pub record IsShort (opcode rcode : ℕ) : Type 0 where
+  pub kind : opcode < 16
+  pub code : ((opcode ≡ 0) × (rcode ≡ 1)) ⊎ ((0 < opcode) × (rcode ≡ 4))
+
+-- A query that was read is whole, and one of a newer version has an OPT record. What is no query is answered by a header.
 abbrev pub GivesWhole : QueryRead → Type 0
 GivesWhole read.Silent = ⊤
-GivesWhole (read.Bad id opcode rd rcode) = ⊤
+GivesWhole (read.Bad id opcode rd rcode) = IsShort opcode rcode
 GivesWhole (read.BadVersion query) = IsWhole query × HasEdns query.edns
 GivesWhole (read.Query query) = IsWhole query
