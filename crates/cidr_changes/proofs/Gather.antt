@@ -9,11 +9,11 @@ use Rattle.std.specs.Ordering.{match_ordering, ordering_reverse}
 use Rattle.ip_table.specs.Prefixes.{Prefix}
 use Rattle.routing.specs.Texts.{IsLocationName}
 use Rattle.cidr_blocks.specs.declared.places.CidrLocation.{CidrLocation}
-use Rattle.cidr_changes.specs.Changes.{Rows}
+use Rattle.cidr_changes.specs.Changes.{BlocksRise, Rows}
 use Rattle.cidr_changes.specs.Gathered.{gathered, grown, of_block, with_row}
 use Rattle.cidr_blocks.specs.Order.{block_cmp_total}
 use Rattle.cidr_blocks.specs.Places.{IsBlock, IsCidrLocation, StandOnce, block_cmp, name_cmp, names_of, rows_at, rows_of}
-use Rattle.cidr_changes.proofs.Rising.{IsGood, Rising, Row, each}
+use Rattle.cidr_changes.proofs.Rising.{IsGood, Row, each}
 
 -- no block is below itself
 unequal : (p q : Prefix) → block_cmp p q ≡ Less → p ≢ q
@@ -248,7 +248,7 @@ still_below block name ls (row ∷ rows) low below = (
 )
 
 pub gathered_all : (rows : Rows) (ls : List CidrLocation) → AllByRecursion IsGood rows
-    → Rising rows → AreGathered ls rows → AreGathered (gathered rows ls) []
+    → BlocksRise rows → AreGathered ls rows → AreGathered (gathered rows ls) []
 gathered_all [] ls good rise so_far = so_far
 gathered_all (row ∷ rows) ls good rise so_far =
     gathered_all rows (with_row row.1 row.0 ls) good.1 rise.1 (record {

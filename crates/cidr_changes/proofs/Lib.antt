@@ -6,4 +6,5 @@ pub mod Named
 pub mod Placing
 pub mod Rising
 pub mod Spots
+pub mod Told
 mod Vectors

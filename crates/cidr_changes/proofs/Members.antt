@@ -16,11 +16,11 @@ use Rattle.cidr_changes.proofs.Gather.{gathered_count}
 use Rattle.cidr_changes.proofs.Rising.{Row}
 
 module _ (block : Prefix) (name : List ℕ) where
-  abbrev new : Row
+  abbrev pub new : Row
   new = (block, name)
 
   -- rows with the new one among them
-  abbrev IsMore : (before after : List Row) → Type 0
+  abbrev pub IsMore : (before after : List Row) → Type 0
   IsMore before after = (row : Row) → Contains after row ↔ ((new ≡ row) ⊎ Contains before row)
 
   joined : (rows : List Row) (row : Row) → (new ≡ row) ⊎ Contains rows row
@@ -28,7 +28,7 @@ module _ (block : Prefix) (name : List ℕ) where
   joined rows row (inl e) = subst (Contains (new ∷ rows)) e (first new rows)
   joined rows row (inr c) = later new row rows c
 
-  in_front : (rows : List Row) → IsMore rows (new ∷ rows)
+  pub in_front : (rows : List Row) → IsMore rows (new ∷ rows)
   in_front rows row = (which new row rows, joined rows row)
 
   module _ (xs rest more : List Row) (is : IsMore rest more) (row : Row) where
@@ -48,7 +48,7 @@ module _ (block : Prefix) (name : List ℕ) where
     put (inl e) = Contains-append_right xs more row ((is row).1 (inl e))
     put (inr c) = in_either (Contains-append_cases xs rest row c)
 
-    behind : Contains (xs ++ more) row ↔ ((new ≡ row) ⊎ Contains (xs ++ rest) row)
+    pub behind : Contains (xs ++ more) row ↔ ((new ≡ row) ⊎ Contains (xs ++ rest) row)
     behind = (λ c. taken (Contains-append_cases xs more row c), put)
 
   grown_rows : (at : List ℕ) (blocks : List Prefix)

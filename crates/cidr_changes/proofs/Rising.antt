@@ -4,20 +4,14 @@ use Rattle.std.specs.BTreeMap.{insert_entry, is_at}
 use Rattle.std.specs.List.{AllByRecursion}
 use Rattle.std.specs.Map.{remove_entry}
 use Rattle.std.specs.Ordering.{match_ordering, ordering_reverse}
-use Rattle.std.specs.Prelude.{⊤}
 use Rattle.ip_table.specs.Prefixes.{Prefix}
 use Rattle.routing.specs.Texts.{IsLocationName}
-use Rattle.cidr_changes.specs.Changes.{Rows, location_of, put, put_all, removed, removed_all, stands_at}
+use Rattle.cidr_changes.specs.Changes.{BlocksRise, Rows, location_of, put, put_all, removed, removed_all, stands_at}
 use Rattle.cidr_blocks.specs.Order.{block_cmp_total}
 use Rattle.cidr_blocks.specs.Places.{IsBlock, block_cmp}
 
 abbrev pub Row : Type 0
 Row = Prefix × List ℕ
-
--- each block is below those behind it
-abbrev pub Rising : Rows → Type 0
-Rising [] = ⊤
-Rising (row ∷ rows) = AllByRecursion (λ other. block_cmp row.0 other.0 ≡ Less) rows × Rising rows
 
 pub each : {X : Type 0} (P Q : X → Type 0) → ((x : X) → P x → Q x) → (xs : List X)
     → AllByRecursion P xs → AllByRecursion Q xs
@@ -45,8 +39,8 @@ module _ (block : Prefix) (name : List ℕ) where
           all_by (block_cmp block row.0) row rows all.0 all.1 (insert_all rows all.1)
 
   rising_by : (o : Ordering) (row : Row) (rows : Rows) → block_cmp block row.0 ≡ o
-      → Rising (row ∷ rows) → Rising (insert_entry block_cmp rows block name)
-      → Rising (match_ordering o ((block, name) ∷ row ∷ rows) ((row.0, name) ∷ rows)
+      → BlocksRise (row ∷ rows) → BlocksRise (insert_entry block_cmp rows block name)
+      → BlocksRise (match_ordering o ((block, name) ∷ row ∷ rows) ((row.0, name) ∷ rows)
       (row ∷ insert_entry block_cmp rows block name))
   rising_by Less row rows e rise more = (
     (
@@ -64,8 +58,8 @@ module _ (block : Prefix) (name : List ℕ) where
     more,
   )
 
-  pub rising_insert : (rows : Rows) → Rising rows
-      → Rising (insert_entry block_cmp rows block name)
+  pub rising_insert : (rows : Rows) → BlocksRise rows
+      → BlocksRise (insert_entry block_cmp rows block name)
   rising_insert [] rise = (tt, tt)
   rising_insert (row ∷ rows) rise =
       rising_by (block_cmp block row.0) row rows refl rise (rising_insert rows rise.1)
@@ -84,13 +78,13 @@ module _ (test : Prefix → Bool) where
     remove_all (row ∷ rows) all =
         all_left (test row.0) row rows all.0 all.1 (remove_all rows all.1)
 
-  rising_left : (b : Bool) (row : Row) (rows : Rows) → Rising (row ∷ rows)
-      → Rising (remove_entry test rows) → Rising (cond b rows (row ∷ remove_entry test rows))
+  rising_left : (b : Bool) (row : Row) (rows : Rows) → BlocksRise (row ∷ rows)
+      → BlocksRise (remove_entry test rows) → BlocksRise (cond b rows (row ∷ remove_entry test rows))
   rising_left true row rows rise less = rise.1
   rising_left false row rows rise less =
       (remove_all (λ other. block_cmp row.0 other.0 ≡ Less) rows rise.0, less)
 
-  pub rising_remove : (rows : Rows) → Rising rows → Rising (remove_entry test rows)
+  pub rising_remove : (rows : Rows) → BlocksRise rows → BlocksRise (remove_entry test rows)
   rising_remove [] rise = tt
   rising_remove (row ∷ rows) rise =
       rising_left (test row.0) row rows rise (rising_remove rows rise.1)
@@ -103,7 +97,7 @@ pub record IsGood (row : Row) : Type 0 where
 -- rows of a collection
 pub record AreFine (rows : Rows) : Type 0 where
   pub good : AllByRecursion IsGood rows
-  pub rising : Rising rows
+  pub rising : BlocksRise rows
 
 pub none_fine : AreFine []
 none_fine = record { good = tt; rising = tt }

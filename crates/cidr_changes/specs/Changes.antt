@@ -1,9 +1,10 @@
 -- What the changes of a collection come to, and their first refusal (Route 53 API Reference,
 -- ChangeCidrCollection).
-use Rattle.std.specs.Prelude.{ℕ, Bool, false, not, ◌&&◌, if◌then◌else◌, List, [], ◌∷◌, Option, None, Some, is_some}
+use Rattle.std.specs.Prelude.{◌≡◌, ⊤, ℕ, Bool, false, not, ◌&&◌, if◌then◌else◌, List, [], ◌∷◌, Option, None, Some, is_some}
 use Rattle.std.specs.BTreeMap.{insert_entry, is_at}
-use Rattle.std.specs.List.{list_any}
+use Rattle.std.specs.List.{AllByRecursion, list_any}
 use Rattle.std.specs.Map.{lookup, remove_entry}
+use Rattle.std.specs.declared.cmp.Ordering.TheVariants.{Less}
 use Rattle.std.specs.Str.{bytes_eq}
 use Rattle.ip_table.specs.Prefixes.{Prefix}
 use Rattle.cidr_changes.specs.declared.changes.CidrChange.{CidrChange}
@@ -12,6 +13,12 @@ use Rattle.cidr_blocks.specs.Places.{block_cmp, is_block}
 -- The blocks of a collection in their order, each with the name of its location.
 abbrev pub Rows : Type 0
 Rows = List (Prefix × List ℕ)
+
+-- Each block is below those behind it, so none stands twice.
+abbrev pub BlocksRise : Rows → Type 0
+BlocksRise [] = ⊤
+BlocksRise (row ∷ rows) =
+    AllByRecursion (λ other. block_cmp row.0 other.0 ≡ Less) rows × BlocksRise rows
 
 -- the location under which a block stands
 abbrev pub location_of : Rows → Prefix → Option (List ℕ)

@@ -1,5 +1,5 @@
 -- What the definitions of changes come to.
-use Rattle.std.specs.Prelude.{◌≡◌, ℕ, ◌⊎◌, ◌↔◌, List, length, Contains, Ok}
+use Rattle.std.specs.Prelude.{◌≡◌, ℕ, ◌⊎◌, ◌↔◌, List, length, Contains, Ok, true, false}
 use Rattle.std.specs.List.{AllByRecursion}
 use Rattle.routing.specs.Texts.{IsLocationName}
 use Rattle.cidr_changes.specs.declared.changes.CidrChange.{CidrChange}
@@ -9,7 +9,7 @@ use Rattle.cidr_blocks.specs.Idents.{star}
 use Rattle.cidr_blocks.specs.Listing.{SameMembers}
 use Rattle.cidr_blocks.specs.Places.{IsCollection, names_of, rows_of}
 use Rattle.cidr_changes.specs.Changed.{changed_collection}
-use Rattle.cidr_changes.specs.Changes.{Rows}
+use Rattle.cidr_changes.specs.Changes.{BlocksRise, Rows, changed, has_block_in_use}
 use Rattle.cidr_changes.specs.Gathered.{locations_of}
 use Rattle.ip_table.specs.Prefixes.{IsPrefix, Prefix}
 
@@ -54,3 +54,17 @@ GatherAll = (rows : Rows) (row : Prefix × List ℕ)
 -- None of them is lost or told twice.
 abbrev pub GatherOnce : Type 0
 GatherOnce = (rows : Rows) → length (rows_of (locations_of rows)) ≡ length rows
+
+-- A put that isn't refused adds its blocks under its name, and changes nothing else.
+abbrev pub PutsAll : Type 0
+PutsAll = (change : CidrChange) (rows : Rows) (row : Prefix × List ℕ)
+    → change.put ≡ true → BlocksRise rows → has_block_in_use change rows ≡ false
+    → Contains (changed change rows) row
+    ↔ (Contains rows row ⊎ ((row.1 ≡ change.location) × Contains change.blocks row.0))
+
+-- A removal takes its blocks from under its name, and changes nothing else.
+abbrev pub RemovesAll : Type 0
+RemovesAll = (change : CidrChange) (rows : Rows) (row : Prefix × List ℕ)
+    → change.put ≡ false → BlocksRise rows
+    → Contains (changed change rows) row
+    ↔ (Contains rows row × (row.1 ≡ change.location → Contains change.blocks row.0 → ⊥))

@@ -1,7 +1,7 @@
 //! Laws over the definitions, each the contract of a function that does nothing.
 
 ghost use Rattle.cidr_changes.specs.Laws.{GatherAll, GatherOnce, KeepCollections, KeepPlaced};
-ghost use Rattle.cidr_changes.specs.Laws.{OnlyNamedCount};
+ghost use Rattle.cidr_changes.specs.Laws.{OnlyNamedCount, PutsAll, RemovesAll};
 
 /// What changes make of a collection is one, where they name locations as these are named.
 pub fn changes_keep_collections()
@@ -22,4 +22,10 @@ pub fn only_named_count()
 pub fn blocks_are_gathered()
     ensures all { GatherAll }
     ensures once { GatherOnce }
+{}
+
+/// A change does to the blocks of a collection what it says, and nothing else.
+pub fn changes_are_told()
+    ensures puts { PutsAll }
+    ensures removes { RemovesAll }
 {}

@@ -15,5 +15,6 @@ pub use changes::{Changes, CidrChange};
 pub use changing::change_collection;
 pub use faults::CidrFault;
 pub use laws::{
-    blocks_are_gathered, changes_keep_collections, changes_keep_placed, only_named_count,
+    blocks_are_gathered, changes_are_told, changes_keep_collections, changes_keep_placed,
+    only_named_count,
 };
