@@ -77,7 +77,7 @@ module _ {K : Type 0} (R : K → K → Ordering) (total : IsTotalOrder R)
       ap (λ l. x ∷ l) rest ∙ ap (λ z. z ∷ ys) (heads x y xs ys rise.0 rises.0 same)
 
 -- rows of one location
-at_name : (name : List ℕ) (blocks : List Prefix) (row : Row) → Contains (rows_at name blocks) row
+pub at_name : (name : List ℕ) (blocks : List Prefix) (row : Row) → Contains (rows_at name blocks) row
     → (row.1 ≡ name) × Contains blocks row.0
 at_name name [] row c = absurd (none row c)
 at_name name (b ∷ blocks) row c =
@@ -92,7 +92,7 @@ at_name name (b ∷ blocks) row c =
     )
     go rest (inr d) = ((rest d).0, later b row.0 blocks (rest d).1)
 
-in_name : (name : List ℕ) (blocks : List Prefix) (b : Prefix) → Contains blocks b
+pub in_name : (name : List ℕ) (blocks : List Prefix) (b : Prefix) → Contains blocks b
     → Contains (rows_at name blocks) (b, name)
 in_name name [] b c = absurd (none b c)
 in_name name (x ∷ blocks) b c = go (in_name name blocks b) (which x b blocks c)

@@ -1,3 +1,4 @@
+pub mod Begun
 pub mod Fine
 pub mod Gather
 pub mod Keeping

@@ -89,7 +89,7 @@ module _ (name : Text) where
     inserted (r ∷ rows) never =
         insert_by (block_cmp b r.0) r rows refl never (inserted rows)
 
-  abbrev NotElsewhere : Rows → Prefix → Type 0
+  abbrev pub NotElsewhere : Rows → Prefix → Type 0
   NotElsewhere rows b = (other : Text) → Contains rows (b, other) → other ≡ name
 
   stays : (b : Prefix) (rows : Rows) → Contains rows (b, name) → IsMore b name rows rows
@@ -118,7 +118,7 @@ module _ (name : Text) where
       go (inl e) = sym (ap (λ (r : Row). r.1) e)
       go (inr d) = own n d
 
-  abbrev IsPut : List Prefix → (rows : Rows) → Row → Type 0
+  abbrev pub IsPut : List Prefix → (rows : Rows) → Row → Type 0
   IsPut blocks rows row = Contains rows row ⊎ ((row.1 ≡ name) × Contains blocks row.0)
 
   -- one block after another
@@ -145,7 +145,7 @@ module _ (name : Text) where
     into (inl c) = inl ((more row).1 (inr c))
     into (inr both) = into_rest both.0 (which b row.0 blocks both.1)
 
-  all_put : (blocks : List Prefix) (rows : Rows)
+  pub all_put : (blocks : List Prefix) (rows : Rows)
       → ((b : Prefix) → Contains blocks b → NotElsewhere rows b) → (row : Row)
       → Contains (put_all name blocks rows) row ↔ IsPut blocks rows row
   all_put [] rows own row = (λ c. inl c, back)
@@ -259,7 +259,7 @@ module _ (name : Text) where
         → Contains (removed name b rows) row ↔ IsTaken rows row
     one_taken rows = taken_by (stands_at name rows b) rows refl
 
-    rising_by : (stands : Bool) (rows : Rows) → BlocksRise rows
+    pub rising_by : (stands : Bool) (rows : Rows) → BlocksRise rows
         → BlocksRise (cond stands (rest rows) rows)
     rising_by true rows rise = rising_remove (is_at (block_cmp b)) rows rise
     rising_by false rows rise = rise

@@ -1,5 +1,5 @@
 -- What the definitions of changes come to.
-use Rattle.std.specs.Prelude.{◌≡◌, ℕ, ◌⊎◌, ◌↔◌, List, length, Contains, Ok, true, false}
+use Rattle.std.specs.Prelude.{◌≡◌, ℕ, ◌⊎◌, ◌↔◌, List, [], length, Contains, Ok, true, false}
 use Rattle.std.specs.List.{AllByRecursion}
 use Rattle.routing.specs.Texts.{IsLocationName}
 use Rattle.cidr_changes.specs.declared.changes.CidrChange.{CidrChange}
@@ -8,7 +8,7 @@ use Rattle.cidr_blocks.specs.declared.places.CidrLocation.{CidrLocation}
 use Rattle.cidr_blocks.specs.Idents.{star}
 use Rattle.cidr_blocks.specs.Listing.{SameMembers}
 use Rattle.cidr_blocks.specs.Places.{IsCollection, names_of, rows_of}
-use Rattle.cidr_changes.specs.Changed.{changed_collection}
+use Rattle.cidr_changes.specs.Changed.{changed_collection, with_locations}
 use Rattle.cidr_changes.specs.Changes.{BlocksRise, Rows, changed, has_block_in_use}
 use Rattle.cidr_changes.specs.Gathered.{locations_of}
 use Rattle.ip_table.specs.Prefixes.{IsPrefix, Prefix}
@@ -68,3 +68,14 @@ RemovesAll = (change : CidrChange) (rows : Rows) (row : Prefix × List ℕ)
     → change.put ≡ false → BlocksRise rows
     → Contains (changed change rows) row
     ↔ (Contains rows row × (row.1 ≡ change.location → Contains change.blocks row.0 → ⊥))
+
+-- Changes begin with the blocks of the collection, each under its own name.
+abbrev pub BeginsWithAll : Type 0
+BeginsWithAll = (collection : Collection) (row : Prefix × List ℕ) → IsCollection collection
+    → Contains (with_locations collection.locations []) row
+    ↔ Contains (rows_of collection.locations) row
+
+-- They begin with them in their order, and each change keeps it.
+pub record StaysInOrder : Type 0 where
+  pub begins : (collection : Collection) → BlocksRise (with_locations collection.locations [])
+  pub keeps : (change : CidrChange) (rows : Rows) → BlocksRise rows → BlocksRise (changed change rows)

@@ -1,7 +1,8 @@
 //! Laws over the definitions, each the contract of a function that does nothing.
 
 ghost use Rattle.cidr_changes.specs.Laws.{GatherAll, GatherOnce, KeepCollections, KeepPlaced};
-ghost use Rattle.cidr_changes.specs.Laws.{OnlyNamedCount, PutsAll, RemovesAll};
+ghost use Rattle.cidr_changes.specs.Laws.{BeginsWithAll, OnlyNamedCount, PutsAll, RemovesAll};
+ghost use Rattle.cidr_changes.specs.Laws.{StaysInOrder};
 
 /// What changes make of a collection is one, where they name locations as these are named.
 pub fn changes_keep_collections()
@@ -26,6 +27,8 @@ pub fn blocks_are_gathered()
 
 /// A change does to the blocks of a collection what it says, and nothing else.
 pub fn changes_are_told()
+    ensures begins { BeginsWithAll }
+    ensures order { StaysInOrder }
     ensures puts { PutsAll }
     ensures removes { RemovesAll }
 {}
