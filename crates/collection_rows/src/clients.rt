@@ -15,8 +15,8 @@ fn located(
     scope: u8,
 ) {
     let found = at.location(id, IpAddress::V4(client));
-    assert_eq!(rt; found.0, location, "the location of {client:?}");
-    assert_eq!(rt; found.1, scope, "the scope of {client:?}");
+    assert_eq!(rt; found.0, location, "the location");
+    assert_eq!(rt; found.1, scope, "the scope");
 }
 
 #[test]
@@ -38,32 +38,25 @@ fn another_family(rt: HostRuntime) {
     assert_eq!(rt; found.1, 0, "none of any length");
 }
 
-/// The set of a group of `*`, the lab and the office that answers a client.
-fn chosen(rt: &impl Abort, at: &Collections, client: [u8; 4], healthy: [bool; 3]) -> Option<usize> {
+/// Whether the set of a group of `*`, the lab and the office answers a client.
+fn answers(
+    rt: &impl Abort,
+    at: &Collections,
+    client: [u8; 4],
+    healthy: [bool; 3],
+    set: Option<usize>,
+) {
     let group = [name(rt, b"*"), name(rt, b"lab"), name(rt, b"office")];
     let location = at.location(1, IpAddress::V4(client)).0;
-    choose_block(&group, &healthy, location)
+    assert_eq!(rt; choose_block(&group, &healthy, location), set);
 }
 
 #[test]
 fn sets(rt: HostRuntime) {
     let at = sites(&rt, rt.alloc());
     let all = [true; 3];
-    assert_eq!(rt;
-        chosen(&rt, &at, [198, 51, 100, 7], all),
-        Some(2),
-        "the office"
-    );
-    assert_eq!(rt; chosen(&rt, &at, [198, 51, 7, 7], all), Some(1), "the lab");
-    assert_eq!(rt;
-        chosen(&rt, &at, [203, 0, 113, 1], all),
-        Some(0),
-        "the star"
-    );
-    let unhealthy = [true, true, false];
-    assert_eq!(rt;
-        chosen(&rt, &at, [198, 51, 100, 7], unhealthy),
-        Some(0),
-        "the star again"
-    );
+    answers(&rt, &at, [198, 51, 100, 7], all, Some(2));
+    answers(&rt, &at, [198, 51, 7, 7], all, Some(1));
+    answers(&rt, &at, [203, 0, 113, 1], all, Some(0));
+    answers(&rt, &at, [198, 51, 100, 7], [true, true, false], Some(0));
 }

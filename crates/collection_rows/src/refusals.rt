@@ -64,18 +64,21 @@ fn names_and_numbers(rt: HostRuntime) {
     refused(&rt, &at, alloc, first, &[], CidrFault::CidrCollectionInUse);
 }
 
+/// The next number, and the one behind the first collection's.
+fn numbered(rt: &impl Abort, at: &Collections, next: u32, behind: Option<u32>) {
+    assert_eq!(rt; at.next_number(), next, "the next number");
+    assert_eq!(rt; at.next_id(1), behind, "behind the first one");
+}
+
 #[test]
 fn a_collection_comes_and_ends(rt: HostRuntime) {
     let alloc = rt.alloc();
     let at = sites(&rt, alloc);
     let made = after(&rt, &at, alloc, CidrCommand::Create(name(&rt, b"more")));
-    assert_eq!(rt; made.next_number(), 3, "the next number");
-    assert_eq!(rt; made.next_id(1), Some(2), "behind the first one");
-    assert!(rt; made.get(2).is_some(), "it is there");
+    numbered(&rt, &made, 3, Some(2));
     let ended = after(&rt, &made, alloc, CidrCommand::Delete(2));
-    assert_eq!(rt; ended.next_number(), 3, "its number isn't given again");
-    assert_eq!(rt; ended.next_id(1), None, "none behind the first one");
-    assert!(rt; made.get(2).is_some(), "the collections before stay");
+    numbered(&rt, &ended, 3, None);
+    numbered(&rt, &made, 3, Some(2));
 }
 
 #[test]

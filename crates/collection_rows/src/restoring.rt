@@ -26,15 +26,16 @@ fn restored(rt: HostRuntime) {
     assert_eq!(rt; found.0, Some(&office), "the office again");
 }
 
+/// Whether a list is judged so, with this next number.
+fn judged(rt: &impl Abort, alloc: Global, next: u32, list: &[(u32, Collection)], sound: bool) {
+    assert_eq!(rt; is_sound(alloc, next, list), Ok(sound));
+}
+
 #[test]
 fn numbers(rt: HostRuntime) {
     let alloc = rt.alloc();
     let list = list(&rt, alloc, &sites(&rt, alloc));
-    assert_eq!(rt;
-        is_sound(alloc, 1, &list),
-        Ok(false),
-        "the next number is there"
-    );
-    assert_eq!(rt; is_sound(alloc, 0, &[]), Ok(false), "no next number");
-    assert_eq!(rt; is_sound(alloc, 1, &[]), Ok(true), "none yet");
+    judged(&rt, alloc, 1, &list, false);
+    judged(&rt, alloc, 0, &[], false);
+    judged(&rt, alloc, 1, &[], true);
 }
