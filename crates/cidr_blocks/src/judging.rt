@@ -1,12 +1,13 @@
 //! Whether what is read is a collection, all of its rules together.
 
-ghost use Rattle.std.specs.Prelude.{◌≡◌, ◌≤◌, ◌<◌, ◌++◌, ◌↔◌, length, false, true, IfOk, IfNone, IfSome, IsTrue};
+ghost use Rattle.std.specs.Prelude.{◌≡◌, ◌≤◌, ◌<◌, ◌++◌, ◌↔◌, length, false, true};
+ghost use Rattle.std.specs.Prelude.{IfNone, IfOk, IfSome, IsTrue};
 ghost use Rattle.std.specs.List.{AllByRecursion};
 ghost use Rattle.std.specs.List.Sorted.{IsStrictlySortedBy};
 ghost use Rattle.ip_table.specs.Rows.{HasRow};
 ghost use Rattle.cidr_blocks.specs.Judged.{Adds, AddsAll};
-ghost use Rattle.cidr_blocks.specs.Places.{IsBlock, IsCollection, IsCidrLocation, StandOnce, block_cmp};
-ghost use Rattle.cidr_blocks.specs.Places.{name_cmp, names_of, rows_at, rows_of};
+ghost use Rattle.cidr_blocks.specs.Places.{IsBlock, IsCidrLocation, IsCollection, StandOnce};
+ghost use Rattle.cidr_blocks.specs.Places.{block_cmp, name_cmp, names_of, rows_at, rows_of};
 
 use crate::ident::Ident;
 use crate::order::{is_block, name_order, order_of};

@@ -1,6 +1,7 @@
 //! Commands on collections of CIDR blocks, and what they make of the collections of a config.
 //!
-//! A list of collections stays as it is; a command makes a new one, which is sound where the old one is.
+//! A list of collections stays as it is; a command makes a new one, which is sound where the old one
+//! is.
 #![tactic(auto)]
 
 mod command;

@@ -23,7 +23,7 @@ const LAST: u32 = 4_294_967_295;
 
 /// The next number and the collections after a command, or its first refusal.
 ///
-/// Memory is wanted where the command isn't refused, or is one of changes whose collection is there.
+/// Memory is wanted only where the command isn't refused, or changes a collection that is there.
 pub fn carry_out(
     alloc: Global,
     next: u32,

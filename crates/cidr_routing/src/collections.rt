@@ -115,7 +115,7 @@ impl Collections {
     /// another location; after the last one by the bound of 1,000 blocks, then by a location in use
     /// that has no block left, of several the least by bytes.
     ///
-    /// Memory is wanted only where the command isn't refused, or changes a collection that is there.
+    /// Memory is wanted only where it isn't refused, or changes a collection that is there.
     pub fn after(
         &self,
         alloc: Global,

@@ -29,13 +29,14 @@ abbrev pub HasEdns : Option Edns → Type 0
 HasEdns None = ⊥
 HasEdns (Some edns) = ⊤
 
--- What a header says that answers a packet: the kind of query, in 4 bits, and Format error (1) where that is a standard query, else
--- Not Implemented (4) (RFC 1035, 4.1.1).
+-- What a header says that answers a packet: the kind of query, in 4 bits, and Format error (1) where that is
+-- a standard query, else Not Implemented (4) (RFC 1035, 4.1.1).
 pub record IsHeaderReply (opcode rcode : ℕ) : Type 0 where
   pub kind : opcode < 16
   pub code : ((opcode ≡ 0) × (rcode ≡ 1)) ⊎ ((0 < opcode) × (rcode ≡ 4))
 
--- A query that was read is whole, and one of a newer version has an OPT record. What is no query is answered by a header.
+-- A query that was read is whole, and one of a newer version has an OPT record. What is no query is answered
+-- by a header.
 abbrev pub GivesWhole : QueryRead → Type 0
 GivesWhole read.Silent = ⊤
 GivesWhole (read.Bad id opcode rd rcode) = IsHeaderReply opcode rcode
