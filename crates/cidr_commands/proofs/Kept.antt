@@ -143,7 +143,7 @@ with_those true c other is those = record {
 with_those false c other is those = is
 
 -- a collection without blocks
-without_blocks : (name : List ℕ) → IsCollectionName name
+pub without_blocks : (name : List ℕ) → IsCollectionName name
     → IsCollection (record { name = name; locations = [] })
 unfolding IsStrictlySortedBy
 without_blocks name named = record {

@@ -1,7 +1,8 @@
 -- The definitions of commands at values from outside.
-use Rattle.std.proofs.Common.{◌≡◌, ◌≤◌, ◌<◌, ℕ, zero, suc, true, false, Some, None, List, [], ◌∷◌, length, Ok, Err, replicate, refl, arith}
+use Rattle.std.proofs.Common.{◌≡◌, ◌≢◌, ◌≤◌, ◌<◌, ◌+◌, ◌/◌, ◌%◌, ℕ, zero, suc, Bool, true, false, get_or, ap, Some, None, List, [], ◌∷◌, length, Ok, Err, replicate, refl, arith}
 use Rattle.std.specs.List.{AllByRecursion}
-use Rattle.std.specs.Prelude.{codes}
+use Rattle.std.specs.Prelude.{codes, nat_le, ◌==◌, ◌&&◌, ◌||◌}
+use Rattle.std.proofs.lemmas.Bool.{le-leb}
 use Rattle.address_text.specs.declared.address.IpAddress.TheVariants.{V4}
 use Rattle.ip_table.specs.Prefixes.{Prefix}
 use Rattle.routing.specs.Texts.{is_location_byte}
@@ -13,6 +14,7 @@ use Rattle.cidr_blocks.specs.Places.{IsCollection, rows_of}
 use Rattle.cidr_commands.specs.declared.command.CidrCommand.TheVariants.{Create, Change, Delete}
 use Rattle.cidr_commands.specs.Commands.{HasNames, answer, create_refusal}
 use Rattle.cidr_commands.specs.Stored.{IdsRise, IsSound, NamesDiffer, Stored, collection_at}
+use Rattle.cidr_commands.proofs.Kept.{without_blocks}
 
 abbrev none : Stored
 none = record { next = 1; list = [] }
@@ -186,19 +188,90 @@ next_last = record {
 next_past : IsSound (record { next = 4294967296; list = [] }) → ⊥
 next_past sound = let to = sound.to in absurd (omega (arith, to))
 
--- the most collections, where they meet the other rules
-a_hundred : (s : Stored) → 1 ≤ s.next → s.next ≤ 4294967295
-    → AllByRecursion (λ held. (1 ≤ held.0) × (held.0 < s.next)) s.list → IdsRise s.list
-    → NamesDiffer s.list → AllByRecursion (λ held. IsCollection held.1) s.list
-    → length s.list ≡ 100 → IsSound s
-a_hundred s from to ids rising names each count = record {
-  few = omega (arith, count);
-  from = from;
-  to = to;
-  ids = ids;
-  rising = rising;
-  names = names;
-  each = each;
+-- two letters for each number below 26 * 26: aa, ab and on
+abbrev name_of : ℕ → List ℕ
+name_of k = (0x61 + k / 26) ∷ (0x61 + k % 26) ∷ []
+
+one_number : (a b : ℕ) → name_of a ≡ name_of b → a ≡ b
+one_number a b same =
+    let first : 0x61 + a / 26 ≡ 0x61 + b / 26 = ap (λ (l : List ℕ). get_or l 0 0) same in
+    let second : 0x61 + a % 26 ≡ 0x61 + b % 26 = ap (λ (l : List ℕ). get_or l 1 0) same in
+    omega (arith, first, second)
+
+-- so many collections without a block, with these names
+abbrev some : (count k : ℕ) → List (ℕ × Collection)
+some zero k = []
+some (suc count) k = (k + 1, empty (name_of k)) ∷ some count (k + 1)
+
+counted : (count k : ℕ) → length (some count k) ≡ count
+counted zero k = refl
+counted (suc count) k = ap suc (counted count (k + 1))
+
+are_above : (count k m : ℕ) → m ≤ k
+    → AllByRecursion (λ (other : ℕ × Collection). m < other.0) (some count k)
+are_above zero k m le = tt
+are_above (suc count) k m le = (omega (arith, le), are_above count (k + 1) m (omega (arith, le)))
+
+rise : (count k : ℕ) → IdsRise (some count k)
+rise zero k = tt
+rise (suc count) k = (are_above count (k + 1) (k + 1) (omega arith), rise count (k + 1))
+
+others : (count k j : ℕ) → j < k
+    → AllByRecursion (λ (other : ℕ × Collection). other.1.name ≢ name_of j) (some count k)
+others zero k j lt = tt
+others (suc count) k j lt = (
+  λ e. let same = one_number k j e in absurd (omega (arith, same, lt)),
+  others count (k + 1) j (omega (arith, lt)),
+)
+
+differ : (count k : ℕ) → NamesDiffer (some count k)
+differ zero k = tt
+differ (suc count) k = (others count (k + 1) k (omega arith), differ count (k + 1))
+
+have_ids : (count k next : ℕ) → k + count < next
+    → AllByRecursion (λ (held : ℕ × Collection). (1 ≤ held.0) × (held.0 < next)) (some count k)
+have_ids zero k next lt = tt
+have_ids (suc count) k next lt =
+    ((omega arith, omega (arith, lt)), have_ids count (k + 1) next (omega (arith, lt)))
+
+letter_by : (b : ℕ) (capital from to : Bool) → from ≡ true → to ≡ true
+    → capital || (from && to) || (nat_le 0x30 b && nat_le b 0x39) || b == 0x5F || b == 0x2D ≡ true
+letter_by b capital false to f t = absurd (let no : ⊥ = cc in no)
+letter_by b capital true false f t = absurd (let no : ⊥ = cc in no)
+letter_by b true true true f t = refl
+letter_by b false true true f t = refl
+
+letter : (b : ℕ) → 0x61 ≤ b → b ≤ 0x7A → is_location_byte b ≡ true
+letter b from to =
+    letter_by b (nat_le 0x41 b && nat_le b 0x5A) (nat_le 0x61 b) (nat_le b 0x7A)
+    (le-leb 0x61 b from) (le-leb b 0x7A to)
+
+are_collections : (count k : ℕ) → k + count ≤ 100
+    → AllByRecursion (λ (held : ℕ × Collection). IsCollection held.1) (some count k)
+are_collections zero k le = tt
+are_collections (suc count) k le = (
+  without_blocks (name_of k) (record {
+    filled = omega arith;
+    short = omega arith;
+    plain = (
+      letter (0x61 + k / 26) (omega arith) (omega (arith, le)),
+      (letter (0x61 + k % 26) (omega arith) (omega arith), tt),
+    );
+  }),
+  are_collections count (k + 1) (omega (arith, le)),
+)
+
+-- a hundred collections, and no more
+a_hundred : (count : ℕ) → count ≤ 100
+    → IsSound (record { next = count + 1; list = some count 0 })
+a_hundred count le = record {
+  few = (let e = counted count 0 in omega (arith, e, le));
+  from = omega arith;
+  to = omega (arith, le);
+  ids = have_ids count 0 (count + 1) (omega arith);
+  rising = rise count 0;
+  names = differ count 0;
+  each = are_collections count 0 (omega (arith, le));
 }
 
 a_hundred_one : (s : Stored) → length s.list ≡ 101 → IsSound s → ⊥
