@@ -2,3 +2,4 @@ pub mod Distinct
 pub mod Orders
 pub mod Slots
 pub mod Replaced
+pub mod Vacant

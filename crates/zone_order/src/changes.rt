@@ -1,6 +1,7 @@
 //! Sets put into a zone, replaced in it, and taken away from it.
 
-ghost use Rattle.std.specs.Prelude.{◌≡◌, ◌≤◌, ◌<◌, ◌+◌, ◌-◌, length, slice_get, slice_set, Some};
+ghost use Rattle.std.specs.Prelude.{ℕ, List, OnOk, ◌≡◌, ◌≤◌, ◌<◌, ◌+◌, ◌-◌, length, slice_get};
+ghost use Rattle.std.specs.Prelude.{slice_set, Some};
 ghost use Rattle.std.specs.Prelude.{vec_len, vec_capacity};
 ghost use Rattle.std.specs.List.{insert, remove};
 ghost use Rattle.octet_region.specs.Cells.{cells_for};
@@ -8,12 +9,26 @@ ghost use Rattle.record_set.specs.Sets.{key_of};
 ghost use Rattle.record_set.specs.declared.sets.RecordSet.{RecordSet};
 ghost use Rattle.set_search.specs.Found.{FindsAt, FindsNone};
 ghost use Rattle.set_store.specs.Stored.{IsSpelling, Spells};
-ghost use Rattle.zone_order.specs.Orders.{IsOrder, OthersStay, placed_of};
+ghost use Rattle.zone_order.specs.Orders.{IsOrder, OthersStay, placed_of, set_in};
 ghost use Rattle.zone_sets.specs.Placed.{IsPut, IsSlotAt, IsTakenAt, sets_of};
 
 use crate::views::slot_at;
-use set_store::SetStore;
+use set_store::{OutOfMemory, SetStore};
 use zone_model::placed_rise;
+
+/// Makes room in the store for so many more sets, of so many cells in all. The sets of all zones
+/// stay in their slots, and room that was there stays, also where memory runs out.
+pub fn make_room(store: &mut SetStore, slots: usize, cells: usize) -> Result<(), OutOfMemory>
+    ensures stay { (zone slot : ℕ) → set_in store.new.slots zone slot ≡ set_in store.old.slots zone
+        slot }
+    ensures orders { (zone : ℕ) (order : List ℕ) → IsOrder store.old.slots zone order
+        → IsOrder store.new.slots zone order }
+    ensures cells { store.old.cells ≤ store.new.cells }
+    ensures free { store.old.free ≤ store.new.free }
+    ensures room { OnOk result ((slots ≤ store.new.free) × (cells ≤ store.new.cells)) }
+{
+    store.reserve(slots, cells)
+}
 
 /// Puts a set, told by its octets, before a place of a zone, and answers its slot.
 pub fn put_at(

@@ -7,5 +7,5 @@
 mod changes;
 mod views;
 
-pub use changes::{put_at, replace_at, take_at};
+pub use changes::{make_room, put_at, replace_at, take_at};
 pub use views::{ZoneView, of_zone, view_of};

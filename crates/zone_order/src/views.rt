@@ -10,6 +10,7 @@ use set_store::SetStore;
 use std::marker::Model;
 
 /// The sets of a zone, in its order.
+#[derive(Drop)]
 pub struct ZoneView<'a> {
     store: &'a SetStore,
     zone: u32,

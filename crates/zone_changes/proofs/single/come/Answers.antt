@@ -1,0 +1,41 @@
+use Rattle.std.proofs.Common.{◌≡◌, set, ap, subst, sym, ◌∙◌, inl}
+use Rattle.std.specs.Prelude.{slice_get}
+use Rattle.record_set.specs.Sets.{key_of}
+use Rattle.set_search.specs.Found.{FindsAt, FindsNone}
+use Rattle.zone_sets.specs.Placed.{sets_of}
+use Rattle.zone_order.specs.Orders.{placed_of, set_in}
+use Rattle.zone_changes.proofs.Coming.{gives_way, one_spelled}
+use Rattle.zone_changes.proofs.single.come.Goals as goal
+
+pub replace_at-requires-clause-there : goal.replace_at-requires-clause-there
+replace_at-requires-clause-there c it spells =
+    let same = one_spelled c.one_spelling.ensures c.spell-octets.result.now c.args.set.now it
+    c.spell-octets.ensures.spells spells in
+    subst (λ xs. FindsAt (sets_of (placed_of c.args.store.now.slots c.args.zone xs))
+    (key_of it) c.in-Ok.place)
+    (sym c.deref.ensures.value)
+    (subst (λ k. FindsAt (sets_of
+    (placed_of c.args.store.now.slots c.args.zone c.args.order.now.items)) k c.in-Ok.place)
+    (c.key-key.ensures ∙ ap key_of same) c.in-Ok.ensures)
+
+pub put_at-requires-clause-absent : goal.put_at-requires-clause-absent
+put_at-requires-clause-absent c it spells =
+    let same = one_spelled c.one_spelling.ensures c.spell-octets.result.now c.args.set.now it
+    c.spell-octets.ensures.spells spells in
+    subst (λ k. FindsNone (sets_of
+    (placed_of c.args.store.now.slots c.args.zone c.args.order.now.items)) k c.in-Err.place)
+    (c.key-key.ensures ∙ ap key_of same) c.in-Err.ensures
+
+pub returns-in-Ok-clause-comes : goal.returns-in-Ok-clause-comes
+returns-in-Ok-clause-comes c =
+    let slice = c.deref.ensures.value in
+    inl (gives_way (set_in c.args.store.now.slots c.args.zone) c.args.order.now.items c.requires.order.present
+    c.in-Ok.place c.replace_at.result c.args.set.now _ (ap (λ xs. slice_get xs c.in-Ok.place) (sym slice)
+    ∙ c.replace_at.ensures.slot)
+    (subst (λ k. FindsAt (sets_of
+    (placed_of c.args.store.now.slots c.args.zone c.args.order.now.items)) k c.in-Ok.place)
+    c.key-key.ensures c.in-Ok.ensures)
+    (subst (λ xs. placed_of c.replace_at.new.store.slots c.args.zone xs ≡ set
+    (placed_of c.args.store.now.slots c.args.zone xs) c.in-Ok.place
+    (record { slot = c.replace_at.result; set = c.args.set.now })) slice
+    (c.replace_at.ensures.replaced c.args.set.now c.spell-octets.ensures.spells)))

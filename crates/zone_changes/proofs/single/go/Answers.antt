@@ -1,0 +1,9 @@
+use Rattle.zone_order.specs.Orders.{placed_of}
+use Rattle.zone_changes.proofs.Coming.{goes_by_key}
+use Rattle.zone_changes.proofs.single.go.Goals as goal
+
+pub returns-clause-goes : goal.returns-clause-goes
+returns-clause-goes c =
+    goes_by_key (placed_of c.args.store.now.slots c.args.zone c.args.order.now.items) c.args.key.now
+    c.in-Ok.place
+    c.take_at.result _ c.in-Ok.ensures c.take_at.ensures.taken

@@ -1,0 +1,17 @@
+-- A set that comes into a zone.
+use Rattle.std.specs.Prelude.{◌≡◌, ◌⊎◌, ℕ, List, Some, slice_get, slice_set}
+use Rattle.record_set.specs.declared.sets.RecordSet.{RecordSet}
+use Rattle.record_set.specs.Sets.{key_of}
+use Rattle.zone_sets.specs.Placed.{Placed, IsPut}
+
+-- The set with its key gives way to a set, which stands in its slot. All others stay, each in its slot.
+pub record IsReplaced (before : List Placed) (given : Placed) (after : List Placed) : Type 0 where
+  pub at : ℕ
+  pub was : RecordSet
+  pub there : slice_get before at ≡ Some (record { slot = given.slot; set = was })
+  pub same_key : key_of was ≡ key_of given.set
+  pub replaced : after ≡ slice_set before at given
+
+-- A set comes: in place of the one with its key, or where there is none as one more.
+abbrev pub Comes : (before : List Placed) → (given : Placed) → (after : List Placed) → Type 0
+Comes before given after = IsReplaced before given after ⊎ IsPut before given after

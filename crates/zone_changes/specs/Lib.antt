@@ -1,0 +1,3 @@
+pub mod Coming
+pub use Rattle.zone_order.specs.Orders
+pub use Rattle.zone_sets.specs.Placed

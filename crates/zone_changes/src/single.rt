@@ -1,0 +1,92 @@
+//! One set that comes, one that goes, and the slot of a key.
+
+ghost use Rattle.std.specs.Prelude.{◌≡◌, ◌≤◌, ◌<◌, ◌+◌, length, vec_len, vec_capacity};
+ghost use Rattle.octet_region.specs.Cells.{cells_for};
+ghost use Rattle.record_set.specs.declared.sets.RecordSet.{RecordSet};
+ghost use Rattle.set_octets.specs.Octets.{HasSpelling, set_octets};
+ghost use Rattle.set_search.specs.Found.{Finds};
+ghost use Rattle.set_store.specs.Stored.{Spells};
+ghost use Rattle.zone_changes.specs.Coming.{Comes};
+ghost use Rattle.zone_model.specs.Placing.{IsThere};
+ghost use Rattle.zone_order.specs.Orders.{IsOrder, OthersStay, placed_of};
+ghost use Rattle.zone_sets.specs.Placed.{IsSlotAt, IsTaken, sets_of};
+
+use octets::front;
+use record_set::{RecordSet, SetKey};
+use set_octets::fill_set;
+use set_reading::{one_spelling, well_formed};
+use set_search::find;
+use set_store::SetStore;
+use zone_order::{put_at, replace_at, take_at, view_of};
+
+/// A set comes into a zone, and its slot is told. The buffer has room for its octets.
+pub fn come(
+    store: &mut SetStore,
+    zone: u32,
+    order: &mut Vec<u32>,
+    set: &RecordSet,
+    buffer: &mut [u8],
+) -> u32
+    requires order { IsOrder store.old.slots zone order.old.items }
+    requires spelled { HasSpelling set.now }
+    requires buffer { length (set_octets set.now) ≤ length buffer.old }
+    requires cells { cells_for (length (set_octets set.now)) ≤ store.old.cells }
+    requires slot { 0 < store.old.free }
+    requires room { vec_len order.old < vec_capacity order.old }
+    ensures order { IsOrder store.new.slots zone order.new.items }
+    ensures comes { Comes (placed_of store.old.slots zone order.old.items)
+        (record { slot = result; set = set.now })
+        (placed_of store.new.slots zone order.new.items) }
+    ensures others { OthersStay zone store.old.slots store.new.slots }
+    ensures cells { store.old.cells ≤ store.new.cells + cells_for (length (set_octets set.now)) }
+    ensures free { store.old.free ≤ store.new.free + 1 }
+    ensures length { vec_len order.new ≤ vec_len order.old + 1 }
+    ensures room { vec_capacity order.new ≡ vec_capacity order.old }
+    ensures buffer { length buffer.new ≡ length buffer.old }
+{
+    one_spelling();
+    let octets = spell(set, buffer);
+    let key = set.key();
+    match place_of(store, zone, order, &key) {
+        Ok(place) => replace_at(store, zone, order, place, octets),
+        Err(place) => put_at(store, zone, order, place, octets),
+    }
+}
+
+/// The set of a key goes from a zone, and the slot that it had is told.
+pub fn go(store: &mut SetStore, zone: u32, order: &mut Vec<u32>, key: &SetKey) -> u32
+    requires order { IsOrder store.old.slots zone order.old.items }
+    requires there { IsThere (sets_of (placed_of store.old.slots zone order.old.items)) key.now }
+    ensures order { IsOrder store.new.slots zone order.new.items }
+    ensures goes { IsTaken (placed_of store.old.slots zone order.old.items) key.now result
+        (placed_of store.new.slots zone order.new.items) }
+    ensures others { OthersStay zone store.old.slots store.new.slots }
+    ensures cells { store.old.cells ≤ store.new.cells }
+    ensures free { store.new.free ≡ store.old.free + 1 }
+    ensures length { vec_len order.new + 1 ≡ vec_len order.old }
+    ensures room { vec_capacity order.new ≡ vec_capacity order.old }
+{
+    match place_of(store, zone, order, key) {
+        Ok(place) => take_at(store, zone, order, place),
+        Err(_) => unreachable!(),
+    }
+}
+
+/// The place of the set of a key, or that at which it would stand.
+fn place_of(store: &SetStore, zone: u32, order: &Vec<u32>, key: &SetKey) -> Result<usize, usize>
+    requires { IsOrder store.now.slots zone order.now.items }
+    ensures { Finds (sets_of (placed_of store.now.slots zone order.now.items)) key.now result }
+{
+    find(&view_of(store, zone, order), key)
+}
+
+/// The octets of a set, at the front of a buffer.
+fn spell<'a>(set: &RecordSet, buffer: &'a mut [u8]) -> &'a [u8]
+    requires spelled { HasSpelling set.now }
+    requires room { length (set_octets set.now) ≤ length buffer.old }
+    ensures spells { Spells result.now set.now }
+{
+    well_formed(set);
+    let len = fill_set(set, buffer, 0);
+    front(buffer, len)
+}
