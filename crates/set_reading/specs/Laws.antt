@@ -1,10 +1,11 @@
 -- Laws over the definitions of this crate.
-use Rattle.std.specs.Prelude.{◌≡◌, ◌≤◌, ℕ, List, ◌++◌, length, Result, Ok, Err}
+use Rattle.std.specs.Prelude.{◌≡◌, ◌≤◌, ℕ, List, ◌++◌, length, Result, Ok, Err, ⊤}
 use Rattle.dns_name.specs.Names.{AreOctets}
+use Rattle.octet_reading.specs.Rules.{IsReadAs}
 use Rattle.record_set.specs.declared.sets.RecordSet.{RecordSet}
-use Rattle.set_octets.specs.Octets.{set_octets, HasSpelling}
-use Rattle.set_reading.specs.Reading.{read}
-use Rattle.set_reading.specs.Sets.{IsSet, BeginsWithSet}
+use Rattle.set_octets.specs.Octets.{check_octets, routing_octets, set_octets, HasSpelling, IsSpelledRouting}
+use Rattle.set_reading.specs.Reading.{check_at, read, routing_at}
+use Rattle.set_reading.specs.Sets.{IsRouting, IsSet, BeginsWithSet}
 
 -- One set has one spelling, and no spelling begins another: octets begin with the spelling of one set at most.
 abbrev pub OneSpelling : Type 0
@@ -25,3 +26,8 @@ TellsSet octets (Err place) = (place ≤ length octets) × ((set : RecordSet) (n
 
 abbrev pub SetsAreTold : Type 0
 SetsAreTold = (octets : List ℕ) → AreOctets octets → TellsSet octets (read octets)
+
+-- A policy and a check are read as they are written.
+pub record PartsAreRead : Type 0 where
+  pub routings : IsReadAs (λ policy. IsRouting policy × IsSpelledRouting policy) routing_octets routing_at
+  pub checks : IsReadAs (λ check. ⊤) check_octets check_at

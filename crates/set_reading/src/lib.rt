@@ -10,6 +10,6 @@ mod reading;
 mod sets;
 
 pub use faults::ReadFault;
-pub use laws::{one_spelling, sets_are_told, written_reads_back};
-pub use reading::read_set;
+pub use laws::{one_spelling, parts_are_read, sets_are_told, written_reads_back};
+pub use reading::{check_at, read_set, routing_at};
 pub use sets::well_formed;

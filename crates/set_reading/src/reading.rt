@@ -87,9 +87,9 @@ fn set_at(alloc: Global, bytes: &[u8]) -> Result<(RecordSet, &[u8]), Stop>
     Ok((set, rest))
 }
 
-/// A policy.
+/// The policy at the front, and what stands behind it.
 #[tactic(auto, unfolding(crate::specs::Reading::routing_at))]
-fn routing_at(bytes: &[u8]) -> Result<(Routing, &[u8]), Fault>
+pub fn routing_at(bytes: &[u8]) -> Result<(Routing, &[u8]), Fault>
     ensures { Gives (λ x. (x.0, x.1.now)) result (routing_at bytes.now) }
 {
     let (kind, rest) = octet_at(bytes)?;
@@ -307,9 +307,9 @@ fn alias_at(bytes: &[u8]) -> Result<(Body, &[u8]), Fault>
     Ok((Body::Alias { target, evaluate }, rest))
 }
 
-/// The number of a check, where there is one.
+/// The number of a check at the front, where there is one, and what stands behind it.
 #[tactic(auto, unfolding(crate::specs::Reading::check_at))]
-fn check_at(bytes: &[u8]) -> Result<(Option<u32>, &[u8]), Fault>
+pub fn check_at(bytes: &[u8]) -> Result<(Option<u32>, &[u8]), Fault>
     ensures { Gives (λ x. (x.0, x.1.now)) result (check_at bytes.now) }
 {
     let (flag, rest) = flag_at(bytes)?;
