@@ -1,1 +1,5 @@
-pub mod Copying
+pub mod Bodies
+pub mod Found
+pub mod Held
+pub mod Named
+pub mod Placed

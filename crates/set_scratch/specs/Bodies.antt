@@ -1,5 +1,5 @@
 -- What a set answers, one thing at a time.
-use Rattle.std.specs.Prelude.{ℕ, List, [], Bool, Option, None, Some, map}
+use Rattle.std.specs.Prelude.{ℕ, List, [], Bool, Option, None, Some, length, map}
 use Rattle.rdata.specs.Datum.{Datum}
 use Rattle.record_set.specs.declared.sets.Body.{Body}
 use Rattle.record_set.specs.declared.sets.Body.TheVariants as body
@@ -13,6 +13,11 @@ ttl_of (body.Alias target evaluate) = 0
 abbrev pub values_of : Body → List Datum
 values_of (body.Values ttl values) = values
 values_of (body.Alias target evaluate) = []
+
+-- how many values there are; none is told of an alias
+abbrev pub count_of : Body → Option ℕ
+count_of (body.Values ttl values) = Some (length values)
+count_of (body.Alias target evaluate) = None
 
 -- the octets of each value on the wire
 abbrev pub wires_of : Body → List (List ℕ)

@@ -1,75 +1,39 @@
--- How a scratch keeps a set.
-use Rattle.std.specs.Prelude.{◌≡◌, ℕ, ◌≤◌, List, length, take, map, Option, None, Some, ⊤}
-use Rattle.std.specs.List.{AllByRecursion}
+-- How a scratch keeps a set: its octets, and where its parts stand among them.
+use Rattle.std.specs.Prelude.{◌≡◌, ℕ, ◌+◌, ◌≤◌, List, [], ◌∷◌, length, take, Option, None, Some, ⊤}
+use Rattle.dns_name.specs.Labels.{wire}
 use Rattle.rdata.specs.Datum.{Datum}
-use Rattle.rdata_layout.specs.Layout.{IsLayout}
-use Rattle.rdata_layout.specs.declared.types.RType.{RType}
 use Rattle.record_set.specs.declared.sets.RecordSet.{RecordSet}
-use Rattle.record_set.specs.declared.sets.Body.{Body}
-use Rattle.record_set.specs.declared.sets.Body.TheVariants as body
-use Rattle.set_octets.specs.Octets.{set_octets, most_octets}
-use Rattle.set_scratch.specs.Spans.{wire_at, EndsWithin}
-use Rattle.set_scratch.specs.declared.fields.Fields.{Fields}
-use Rattle.set_scratch.specs.declared.fields.Kind.{Kind}
-use Rattle.set_scratch.specs.declared.fields.Kind.TheVariants as kind
-use Rattle.set_scratch.specs.declared.spans.Span.{Span}
+use Rattle.set_octets.specs.Octets.{body_octets, head_octets, most_octets, set_octets}
+use Rattle.set_scratch.specs.Bodies.{values_of}
+use Rattle.set_scratch.specs.Spelling.{Spells, held_of}
+use Rattle.set_scratch.specs.declared.places.Places.{Places}
 
 -- The most values of a set, since each has two octets at least.
 abbrev pub most_values : ℕ
 most_values = 32768
 
--- what is kept of a body beside its values
-abbrev pub kind_of : Body → Kind
-kind_of (body.Values ttl values) = kind.Values ttl
-kind_of (body.Alias target evaluate) = kind.Alias target evaluate
+-- values of which the first begins at this place, each with two octets of its length in front
+abbrev pub starts_of : ℕ → List Datum → List ℕ
+starts_of at [] = []
+starts_of at (value ∷ rest) = at ∷ starts_of (at + (length value.wire + 2)) rest
 
--- a set without its values
-abbrev pub fields_of : RecordSet → Fields
-fields_of set =
-    record { name = set.name; rtype = set.rtype; routing = set.routing; kind = kind_of set.body; check = set.check }
+-- Where the parts of a set stand among its octets. The values stand behind seven octets of the body: its kind, four of the time to
+-- live, two of their number.
+pub record AreAt (set : RecordSet) (places : Places) (starts : List ℕ) : Type 0 where
+  pub len : places.len ≡ length (set_octets set)
+  pub name : places.name ≡ length (wire set.name)
+  pub body : places.body ≡ length (head_octets set)
+  pub check : places.check ≡ places.body + length (body_octets set.body)
+  pub values : starts ≡ starts_of (places.body + 7) (values_of set.body)
 
--- a body, from what is kept of it
-abbrev pub body_of : Kind → List Datum → Body
-body_of (kind.Values ttl) values = body.Values ttl values
-body_of (kind.Alias target evaluate) values = body.Alias target evaluate
+-- the octets and the places are those of the set that is held
+abbrev pub AreOf : List ℕ → Places → List ℕ → Option RecordSet → Type 0
+AreOf octets places starts None = ⊤
+AreOf octets places starts (Some set) = Spells (take places.len octets) set × AreAt set places starts
 
--- a set, from its fields and its values
-abbrev pub set_of : Fields → List Datum → RecordSet
-set_of fields values = record {
-  name = fields.name;
-  rtype = fields.rtype;
-  routing = fields.routing;
-  body = body_of fields.kind values;
-  check = fields.check;
-}
-
--- the values of a type whose octets stand at these places
-abbrev pub values_at : RType → List ℕ → List Span → List Datum
-values_at type octets spans =
-    map (λ span. record { rtype = type; wire = wire_at octets span }) spans
-
--- the set that is held, if any
-abbrev pub held_of : Option Fields → List ℕ → List Span → Option RecordSet
-held_of None octets spans = None
-held_of (Some fields) octets spans = Some (set_of fields (values_at fields.rtype octets spans))
-
--- each value is one of the set's type
-abbrev pub AreLaidOut : Option Fields → List ℕ → List Span → Type 0
-AreLaidOut None octets spans = ⊤
-AreLaidOut (Some fields) octets spans =
-    AllByRecursion (IsLayout fields.rtype) (map (wire_at octets) spans)
-
--- the octets are those of the set that is held
-abbrev pub AreOf : List ℕ → Option RecordSet → Type 0
-AreOf octets None = ⊤
-AreOf octets (Some set) = octets ≡ set_octets set
-
--- The buffer and the places have room for any set, each value is one of the set's type, and the first octets are those of the
--- set that is held.
-pub record IsKept (fields : Option Fields) (octets : List ℕ) (len : ℕ) (spans : List Span) (places : ℕ) : Type 0 where
+-- The buffer and the places of values have room for any set, and hold the set that is held.
+pub record IsKept (octets : List ℕ) (places : Places) (starts : List ℕ) (room : ℕ) : Type 0 where
   pub size : length octets ≡ most_octets
-  pub places_for_all : most_values ≤ places
-  pub used : len ≤ length octets
-  pub within : AllByRecursion (EndsWithin (length octets)) spans
-  pub layouts : AreLaidOut fields octets spans
-  pub first : AreOf (take len octets) (held_of fields octets spans)
+  pub room_for_all : most_values ≤ room
+  pub used : places.len ≤ length octets
+  pub of_set : AreOf octets places starts (held_of octets places.len)

@@ -1,4 +1,4 @@
 pub mod Bodies
 pub mod Holding
 pub mod Kept
-pub mod Spans
+pub mod Spelling

@@ -1,14 +1,15 @@
 //! A reader of one record set at a time, which takes no memory once it is made.
 //!
-//! A set that is held is copied whole, octets and fields: it stays when the set that was given is
-//! gone.
+//! The octets of a set are all that is held of it, and each reader finds its part among them. They are copied: the set stays
+//! when what was given is gone.
 #![tactic(auto)]
 
-mod fields;
+mod parts;
+mod places;
 mod scratch;
-mod spans;
 #[cfg(test)]
 mod tests;
 
+pub use octet_region::{Handle, Region};
 pub use octets::OutOfMemory;
 pub use scratch::Scratch;

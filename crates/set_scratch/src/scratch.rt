@@ -1,23 +1,26 @@
 //! Room for one set, and readers of the set that it holds.
 
-ghost use Rattle.std.specs.Prelude.{◌≡◌, ◌≢◌, ◌≤◌, length, map, Option, None, Some, IfOk, IfSome};
+ghost use Rattle.std.specs.Prelude.{◌≡◌, ◌≤◌, ◌++◌, ℕ, List, length, None, Some, IfOk, IfSome};
 ghost use Rattle.std.specs.Prelude.{slice_get, take, vec_capacity};
-ghost use Rattle.std.specs.List.{AllByRecursion};
+ghost use Rattle.std.specs.FinMap as map;
 ghost use Rattle.dns_name.specs.Names.{AreOctets};
 ghost use Rattle.rdata_layout.specs.Layout.{IsLayout};
-ghost use Rattle.set_octets.specs.Octets.{most_octets, set_octets, AreOfType};
+ghost use Rattle.record_set.specs.declared.sets.RecordSet.{RecordSet};
+ghost use Rattle.set_octets.specs.Octets.{HasSpelling, check_octets, most_octets, set_octets};
 ghost use Rattle.set_scratch.specs.Bodies.{alias_of, ttl_of, values_of, wires_of};
 ghost use Rattle.set_scratch.specs.Holding.{HasValue, IsHolding};
-ghost use Rattle.set_scratch.specs.Kept.{most_values, values_at};
-ghost use Rattle.set_scratch.specs.Spans.{EndsWithin, wire_at};
+ghost use Rattle.set_scratch.specs.Kept.{IsKept, most_values};
+ghost use Rattle.set_scratch.specs.Spelling.{IsPart, Spells, from_body, from_policy, from_type, held_of};
 
-use crate::fields::{Fields, Kind, fields_of};
-use crate::spans::{Span, place_values, wire_at};
+use crate::parts::{alias_in, check_in, name_of, routing_in, ttl_in, type_in, value_at};
+use crate::places::{Places, find_parts};
 use dns_name::Name;
-use octets::{OutOfMemory, front, zeros};
+use octet_region::{Handle, Region};
+use octets::{OutOfMemory, behind, front, zeros};
 use rdata::RType;
 use record_set::{RecordSet, Routing};
-use set_octets::{MOST_OCTETS, fill_set, head_len};
+use set_octets::{MOST_OCTETS, fill_set};
+use set_reading::{well_formed, written_reads_back};
 use std::alloc::Global;
 use std::marker::Model;
 
@@ -29,24 +32,25 @@ const MOST_VALUES: usize = 32_768;
 /// A reader asks that a set is held.
 #[derive(Drop)]
 pub struct Scratch {
-    fields: Option<Fields>,
     /// The set's octets at the front.
     octets: Vec<u8>,
-    len: usize,
-    /// Where each value stands among the octets.
-    spans: Vec<Span>,
+    /// How many these are, none where no set is held, and where its parts begin.
+    places: Places,
+    /// Where each value begins, with the two octets of its length.
+    starts: Vec<u16>,
 }
 
 impl Model for Scratch {
     ghost use Rattle.std.specs.Prelude.{Option, vec_capacity};
     ghost use Rattle.record_set.specs.declared.sets.RecordSet.{RecordSet};
-    ghost use Rattle.set_scratch.specs.Kept.{IsKept, held_of};
+    ghost use Rattle.set_scratch.specs.Kept.{IsKept};
+    ghost use Rattle.set_scratch.specs.Spelling.{held_of};
 
     ghost Value = { Option RecordSet };
 
-    ghost view = { λ a. held_of a.fields a.octets.items a.spans.items };
+    ghost view = { λ a. held_of a.octets.items a.places.len };
 
-    ghost invariant = { λ a. IsKept a.fields a.octets.items a.len a.spans.items (vec_capacity a.spans) };
+    ghost invariant = { λ a. IsKept a.octets.items a.places a.starts.items (vec_capacity a.starts) };
 }
 
 impl Scratch {
@@ -55,23 +59,37 @@ impl Scratch {
         ensures { IfOk result (λ scratch. scratch ≡ None) }
     {
         let octets = zeros(alloc, MOST_OCTETS)?;
-        let spans = Vec::with_capacity(alloc, MOST_VALUES)?;
-        Ok(Scratch {
-            fields: None,
-            octets,
+        let starts = Vec::with_capacity(alloc, MOST_VALUES)?;
+        let places = Places {
             len: 0,
-            spans,
+            name: 0,
+            body: 0,
+            check: 0,
+        };
+        Ok(Scratch {
+            octets,
+            places,
+            starts,
         })
     }
 
-    /// Copies a set into it, over the one that it held.
+    /// Holds the octets of a set, in place of the set that it held.
     pub fn hold(&mut self, set: &RecordSet)
-        requires short { length (set_octets set.now) ≤ most_octets }
-        requires of_type { AreOfType set.now.rtype set.now.body }
+        requires { HasSpelling set.now }
         ensures { self.new ≡ Some set.now }
     {
-        self.len = copy(self.octets.as_mut_slice(), &mut self.spans, set);
-        self.fields = Some(fields_of(set));
+        self.places = keep_set(set, self.octets.as_mut_slice(), &mut self.starts);
+    }
+
+    /// Holds the octets of a handle, which are a set's, in place of the set that it held.
+    pub fn hold_octets(&mut self, region: &Region, handle: Handle)
+        requires { (set : RecordSet) × (octets : List ℕ)
+            × (map.get region.now.held handle ≡ Some octets) × Spells octets set }
+        ensures { (set : RecordSet) (octets : List ℕ)
+            → map.get region.now.held handle ≡ Some octets → Spells octets set
+            → self.new ≡ Some set }
+    {
+        self.places = keep_octets(region, handle, self.octets.as_mut_slice(), &mut self.starts);
     }
 
     /// The octets of the set.
@@ -79,7 +97,7 @@ impl Scratch {
         requires { IsHolding self.now }
         ensures { IfSome self.now (λ set. result.now ≡ set_octets set) }
     {
-        front(&self.octets, self.len)
+        self.spelled()
     }
 
     /// The name of the set.
@@ -87,7 +105,7 @@ impl Scratch {
         requires { IsHolding self.now }
         ensures { IfSome self.now (λ set. result ≡ set.name) }
     {
-        told(&self.fields).name
+        name_of(self.spelled())
     }
 
     /// The type of the set.
@@ -95,7 +113,7 @@ impl Scratch {
         requires { IsHolding self.now }
         ensures { IfSome self.now (λ set. result ≡ set.rtype) }
     {
-        told(&self.fields).rtype
+        type_in(self.typed())
     }
 
     /// The routing policy of the set.
@@ -103,7 +121,7 @@ impl Scratch {
         requires { IsHolding self.now }
         ensures { IfSome self.now (λ set. result ≡ set.routing) }
     {
-        told(&self.fields).routing
+        routing_in(self.policy())
     }
 
     /// The number of the health check that the set names.
@@ -111,7 +129,7 @@ impl Scratch {
         requires { IsHolding self.now }
         ensures { IfSome self.now (λ set. result ≡ set.check) }
     {
-        told(&self.fields).check
+        check_in(self.last())
     }
 
     /// The target of an alias, and whether the health of the target's sets counts.
@@ -119,10 +137,7 @@ impl Scratch {
         requires { IsHolding self.now }
         ensures { IfSome self.now (λ set. result ≡ alias_of set.body) }
     {
-        match told(&self.fields).kind {
-            Kind::Values { .. } => None,
-            Kind::Alias { target, evaluate } => Some((target, evaluate)),
-        }
+        alias_in(self.answers())
     }
 
     /// The time to live, 0 for an alias.
@@ -130,21 +145,15 @@ impl Scratch {
         requires { IsHolding self.now }
         ensures { IfSome self.now (λ set. result ≡ ttl_of set.body) }
     {
-        match told(&self.fields).kind {
-            Kind::Values { ttl } => ttl,
-            Kind::Alias { .. } => 0,
-        }
+        ttl_in(self.answers())
     }
 
-    /// How many values the set has, 0 for an alias.
+    /// How many values the set has, none for an alias.
     pub fn values(&self) -> usize
         requires { IsHolding self.now }
         ensures { IfSome self.now (λ set. result ≡ length (values_of set.body)) }
     {
-        match told(&self.fields).kind {
-            Kind::Values { .. } => self.spans.len(),
-            Kind::Alias { .. } => 0,
-        }
+        self.starts.len()
     }
 
     /// The octets of a value on the wire, with names whole and in lower case.
@@ -154,9 +163,49 @@ impl Scratch {
         ensures layout { IfSome self.now (λ set. IsLayout set.rtype result.now) }
         ensures octets { AreOctets result.now }
     {
-        let wire = wire_at(&self.octets, &self.spans, i);
+        let wire = value_at(front(&self.octets, self.places.len), &self.starts, i);
         known_octets(wire);
         wire
+    }
+
+    /// The octets of the set, and that they are.
+    fn spelled(&self) -> &[u8]
+        requires { IsHolding self.now }
+        ensures { IfSome self.now (λ set. Spells result.now set) }
+    {
+        front(&self.octets, self.places.len)
+    }
+
+    /// The octets of the set from its type on.
+    fn typed(&self) -> &[u8]
+        requires { IsHolding self.now }
+        ensures { IfSome self.now (λ set. IsPart result.now (from_type set) set) }
+    {
+        behind(front(&self.octets, self.places.len), self.places.name)
+    }
+
+    /// The octets of the set from its policy on.
+    fn policy(&self) -> &[u8]
+        requires { IsHolding self.now }
+        ensures { IfSome self.now (λ set. IsPart result.now (from_policy set) set) }
+    {
+        behind(front(&self.octets, self.places.len), self.places.name + 2)
+    }
+
+    /// The octets of the set from its body on.
+    fn answers(&self) -> &[u8]
+        requires { IsHolding self.now }
+        ensures { IfSome self.now (λ set. IsPart result.now (from_body set) set) }
+    {
+        behind(front(&self.octets, self.places.len), self.places.body)
+    }
+
+    /// The octets of the set's check.
+    fn last(&self) -> &[u8]
+        requires { IsHolding self.now }
+        ensures { IfSome self.now (λ set. result.now ≡ check_octets set.check) }
+    {
+        behind(front(&self.octets, self.places.len), self.places.check)
     }
 }
 
@@ -165,32 +214,50 @@ fn known_octets(octets: &[u8])
     ensures { AreOctets octets.now }
 {}
 
-/// Copies a set's octets to the front and puts the places of its values over others. The answer is
-/// how many octets it has.
-fn copy(octets: &mut [u8], spans: &mut Vec<Span>, set: &RecordSet) -> usize
+/// Keeps a set: its octets at the front, and the places of its values over others.
+fn keep_set(set: &RecordSet, octets: &mut [u8], starts: &mut Vec<u16>) -> Places
     requires size { length octets.old ≡ most_octets }
-    requires room { most_values ≤ vec_capacity spans.old }
-    requires short { length (set_octets set.now) ≤ most_octets }
-    requires of_type { AreOfType set.now.rtype set.now.body }
-    ensures used { result ≤ most_octets }
-    ensures octets { take result octets.new ≡ set_octets set.now }
-    ensures values { values_at set.now.rtype octets.new spans.new.items ≡ values_of set.now.body }
-    ensures within { AllByRecursion (EndsWithin (length octets.new)) spans.new.items }
-    ensures layouts { AllByRecursion (IsLayout set.now.rtype)
-        (map (wire_at octets.new) spans.new.items) }
-    ensures capacity { vec_capacity spans.new ≡ vec_capacity spans.old }
+    requires room { most_values ≤ vec_capacity starts.old }
+    requires spelling { HasSpelling set.now }
+    ensures kept { IsKept octets.new result starts.new.items (vec_capacity starts.new) }
+    ensures held { held_of octets.new result.len ≡ Some set.now }
 {
-    place_values(spans, head_len(set), &set.body);
-    fill_set(set, octets, 0)
+    well_formed(set);
+    written_reads_back();
+    let len = fill_set(set, octets, 0);
+    find_parts(front(octets, len), starts)
 }
 
-/// The fields of the set that is held.
-fn told(fields: &Option<Fields>) -> &Fields
-    requires { fields.now ≢ None }
-    ensures { fields.now ≡ Some result.now }
+/// Keeps the set whose octets a handle holds.
+fn keep_octets(region: &Region, handle: Handle, octets: &mut [u8], starts: &mut Vec<u16>) -> Places
+    requires size { length octets.old ≡ most_octets }
+    requires room { most_values ≤ vec_capacity starts.old }
+    requires spelled { (set : RecordSet) × (spelling : List ℕ)
+        × (map.get region.now.held handle ≡ Some spelling) × Spells spelling set }
+    ensures kept { IsKept octets.new result starts.new.items (vec_capacity starts.new) }
+    ensures held { (set : RecordSet) (spelling : List ℕ)
+        → map.get region.now.held handle ≡ Some spelling → Spells spelling set
+        → held_of octets.new result.len ≡ Some set }
 {
-    match fields {
-        Some(fields) => fields,
-        None => unreachable!(),
+    written_reads_back();
+    let len = copy_all(region, handle, octets);
+    find_parts(front(octets, len), starts)
+}
+
+/// Copies what a handle holds to the front, and says how many octets they are.
+fn copy_all(region: &Region, handle: Handle, into: &mut [u8]) -> usize
+    requires { (octets : List ℕ)
+        → map.get region.now.held handle ≡ Some octets → length octets ≤ length into.old }
+    ensures there { (octets : List ℕ)
+        → map.get region.now.held handle ≡ Some octets
+        → take result into.new ≡ octets }
+    ensures length { (octets : List ℕ)
+        → map.get region.now.held handle ≡ Some octets → result ≡ length octets }
+    ensures size { length into.new ≡ length into.old }
+    ensures within { result ≤ length into.new }
+{
+    match region.copy_to(handle, into) {
+        Some(len) => len,
+        None => 0,
     }
 }

@@ -1,12 +1,17 @@
 //! Sets that are held one after another, and what each reader tells of them.
 
+ghost use Rattle.std.specs.Prelude.{◌≡◌, ◌≤◌, Some, length};
+ghost use Rattle.octet_region.specs.Cells.{cells_for};
+ghost use Rattle.set_octets.specs.Octets.{HasSpelling, set_octets};
 ghost use Rattle.set_scratch.specs.Holding.{IsHolding};
 
-use crate::Scratch;
+use crate::{Region, Scratch};
 use dns_name::Name;
+use octet_region::cells_for;
 use rdata::{RData, RType};
 use record_set::{Body, Ident, RecordSet, Routing, Values};
-use set_octets::has_spelling;
+use set_octets::{has_spelling, write_set};
+use set_reading::well_formed;
 use std::alloc::Global;
 use std::process::Abort;
 use std::test::Fail;
@@ -141,11 +146,47 @@ fn hold_strings(rt: &impl Abort, alloc: Global, scratch: &mut Scratch) {
     assert!(rt; scratch.alias().is_none(), "strings are no alias");
 }
 
+/// Holds the octets of a set from a region, into which it puts them.
+fn hold_from(scratch: &mut Scratch, region: &mut Region, set: &RecordSet, octets: &[u8])
+    requires spelling { HasSpelling set.now }
+    requires spelled { octets.now ≡ set_octets set.now }
+    requires room { cells_for (length octets.now) ≤ region.old.spare }
+    ensures { scratch.new ≡ Some set.now }
+{
+    well_formed(set);
+    let handle = region.put(octets);
+    scratch.hold_octets(region, handle);
+}
+
+/// Holds what a region keeps of b. MX 10 a., TTL 300, no check.
+fn hold_kept(rt: &impl Abort, alloc: Global, scratch: &mut Scratch) {
+    let wires: [&[u8]; 1] = [b"\0\x0a\x01a\0"];
+    let set = RecordSet {
+        name: name(rt, b"b"),
+        rtype: RType::Mx,
+        routing: Routing::Simple,
+        body: values(rt, alloc, RType::Mx, &wires),
+        check: None,
+    };
+    assert!(rt; has_spelling(&set), "a spelling");
+    let mut octets = Vec::new(alloc);
+    assert!(rt; write_set(&set, &mut octets).is_ok(), "memory");
+    let mut region = Region::new(alloc);
+    let _ = region.reserve(cells_for(octets.len()));
+    assert!(rt; cells_for(octets.len()) <= region.spare(), "room");
+    hold_from(scratch, &mut region, &set, &octets);
+    let kept = b"\x01b\0\0\x0f\0\0\0\0\x01\x2c\0\x01\0\x05\0\x0a\x01a\0\0";
+    assert_eq!(rt; scratch.bytes(), kept.as_slice(), "octets of a region");
+    compare_fields(rt, scratch, &set, "a region");
+    compare_values(rt, scratch, &wires, "a region");
+}
+
 #[test]
 fn sets_one_after_another(rt: HostRuntime) -> Result<(), Fail> {
     let mut scratch = Scratch::new(rt.alloc())?;
     hold_addresses(&rt, rt.alloc(), &mut scratch);
     hold_alias(&rt, &mut scratch);
     hold_strings(&rt, rt.alloc(), &mut scratch);
+    hold_kept(&rt, rt.alloc(), &mut scratch);
     Ok(())
 }

@@ -10,7 +10,4 @@ hold-requires c =
     let p : Placed = record { slot = c.args.set.slot; set = c.in-Some-get.found.now } in
     let here =
     subst (λ (placed : List Placed). IsHere placed p) c.sets.ensures c.in-Some-get.ensures in
-    let can =
-    in_all (λ (q : Placed). CanStand zone.apex q.set) zone.placed p c.in-Some.ensures.alone.each
-    here in
-    record { short = can.spelled.short; of_type = can.spelled.of_type }
+    (in_all (λ (q : Placed). CanStand zone.apex q.set) zone.placed p c.in-Some.ensures.alone.each here).spelled
