@@ -47,7 +47,8 @@ module _ (octets : List ℕ) (at count : ℕ) where
   end_of_values end ends (body.Values ttl values) after there is =
       omega (
         arith,
-        ends values after (some_is (length values) count is) (sym (drop-drop 7 at octets) ∙ ap (drop 7) there),
+        ends values after (some_is (length values) count is)
+            (sym (drop-drop 7 at octets) ∙ ap (drop 7) there),
       )
   end_of_values end ends (body.Alias target evaluate) after there is = absurd cc
 

@@ -1,6 +1,6 @@
 -- A set among its octets, and what is kept of it.
-use Rattle.std.proofs.Common.{◌≡◌, ℕ, zero, suc, ◌+◌, ◌-◌, ◌<◌, ◌≤◌, List, [], ◌++◌, length, take, drop, arith, ap, ◌∙◌, sym, subst}
-use Rattle.std.proofs.Common.{append_assoc, length-append, length-drop, Some}
+use Rattle.std.proofs.Common.{◌≡◌, ℕ, zero, suc, ◌+◌, ◌-◌, ◌<◌, ◌≤◌, List, [], ◌++◌, length, take, drop}
+use Rattle.std.proofs.Common.{arith, ap, ◌∙◌, sym, subst, append_assoc, length-append, length-drop, Some}
 use Rattle.std.proofs.lemmas.List.{append-nil, length-take-le}
 use Rattle.std.proofs.Math.Seq.{drop-append_seam, take-append_seam}
 use Rattle.octets.specs.Numbers.{two_octets}
@@ -9,7 +9,8 @@ use Rattle.dns_name.specs.Names.{IsName}
 use Rattle.rdata_layout.specs.Types.{number_of}
 use Rattle.routing.specs.declared.policies.Routing.{Routing}
 use Rattle.record_set.specs.declared.sets.RecordSet.{RecordSet}
-use Rattle.set_octets.specs.Octets.{body_octets, check_octets, head_octets, most_octets, routing_octets, set_octets, HasSpelling}
+use Rattle.set_octets.specs.Octets.{body_octets, check_octets, head_octets, most_octets, routing_octets}
+use Rattle.set_octets.specs.Octets.{set_octets, HasSpelling}
 use Rattle.set_reading.specs.Laws.{WrittenReadsBack}
 use Rattle.set_reading.specs.Reading.{read}
 use Rattle.set_reading.specs.Sets.{IsRouting, IsSet}
@@ -26,7 +27,8 @@ named set =
     let name = wire set.name in
     let type = two_octets (number_of set.rtype) in
     let policy = routing_octets set.routing in
-    parted set ∙ append_assoc (name ++ type) policy (from_body set) ∙ append_assoc name type (policy ++ from_body set)
+    parted set ∙ append_assoc (name ++ type) policy (from_body set)
+    ∙ append_assoc name type (policy ++ from_body set)
 
 -- some octets stand before the body
 some_before : (set : RecordSet) → 0 < length (set_octets set)
@@ -129,7 +131,7 @@ module _ (back : WrittenReadsBack) where
       → length others ≡ most_octets → most_values ≤ room → front ≡ take len octets
       → IsSet set → HasSpelling set → (Spells front set → AreAt set places starts)
       → IsKept octets places starts room × (held_of octets places.len ≡ Some set)
-  kept_written octets others front starts len room places set end filled size room_for_all is set_is spelling at =
+  kept_written octets others front starts len room places set end filled size enough is set_is spelling at =
       let long : len ≡ length (set_octets set) = omega (arith, end) in
       let same : take len octets ≡ set_octets set =
       ap (λ n. take n octets) long ∙ ap (take (length (set_octets set))) filled
@@ -145,5 +147,5 @@ module _ (back : WrittenReadsBack) where
         length-drop len others,
       ) in
       let spelled : Spells front set = record { is = set_is; has_spelling = spelling; same = is ∙ same } in
-      kept_front octets front starts len room places set (total ∙ size) room_for_all
+      kept_front octets front starts len room places set (total ∙ size) enough
       (omega (arith, long, total, size, spelling.short)) is spelled (at spelled)

@@ -1,6 +1,6 @@
 -- What is known of the set that is held.
-use Rattle.std.proofs.Common.{◌≡◌, ℕ, zero, suc, ◌+◌, ◌<◌, List, [], ◌∷◌, ◌++◌, length, take, drop, map, arith, ap, ◌∙◌, sym, refl, subst}
-use Rattle.std.proofs.Common.{drop-drop, Option, None, Some}
+use Rattle.std.proofs.Common.{◌≡◌, ℕ, zero, suc, ◌+◌, ◌<◌, List, [], ◌∷◌, ◌++◌, length, take, drop, map}
+use Rattle.std.proofs.Common.{arith, ap, ◌∙◌, sym, refl, subst, drop-drop, Option, None, Some}
 use Rattle.std.specs.Prelude.{IfSome, slice_get}
 use Rattle.std.specs.List.{AllByRecursion, flat_map}
 use Rattle.std.proofs.Math.Seq.{drop-append_seam}
@@ -15,10 +15,10 @@ use Rattle.set_octets.specs.Octets.{body_octets, check_octets, head_octets, valu
 use Rattle.set_reading.specs.Sets.{IsBody}
 use Rattle.set_scratch.specs.Bodies.{values_of, wires_of}
 use Rattle.set_scratch.specs.Holding.{HasValue}
-use Rattle.set_scratch.specs.Kept.{AreAt, AreOf}
+use Rattle.set_scratch.specs.Kept.{AreAt, AreOf, starts_of}
 use Rattle.set_scratch.specs.Spelling.{Spells, from_body}
 use Rattle.set_scratch.specs.declared.places.Places.{Places}
-use Rattle.set_scratch.proofs.Found.{parted}
+use Rattle.set_scratch.proofs.Found.{parted, respelled}
 use Rattle.set_scratch.proofs.Placed.{starts_long}
 
 -- a fact of the set that is held follows from another
@@ -53,7 +53,7 @@ stand_in octets at (body.Values ttl values) after there =
     (after, sym (drop-drop 7 at octets) ∙ ap (drop 7) there)
 stand_in octets at (body.Alias target evaluate) after there = (drop (at + 7) octets, refl)
 
-pub values_stand : (octets : List ℕ) (set : RecordSet) (at : ℕ) → Spells octets set
+values_stand : (octets : List ℕ) (set : RecordSet) (at : ℕ) → Spells octets set
     → at ≡ length (head_octets set)
     → (rest : List ℕ) × (drop (at + 7) octets ≡ flat_map value_octets (values_of set.body) ++ rest)
 values_stand octets set at spelled is =
@@ -71,7 +71,22 @@ laid_out type (value ∷ values) zero wire are layouts is =
     subst (IsLayout type) same (subst (λ t. IsLayout t value.wire) are.0 layouts.0)
 laid_out type (value ∷ values) (suc i) wire are layouts is = laid_out type values i wire are.1 layouts.1 is
 
-pub in_layout : (type : RType) (what : Body) (i : ℕ) (wire : List ℕ) → AreOfType type what → IsBody what
+in_layout : (type : RType) (what : Body) (i : ℕ) (wire : List ℕ) → AreOfType type what → IsBody what
     → slice_get (wires_of what) i ≡ Some wire → IsLayout type wire
 in_layout type (body.Values ttl values) i wire are is there = laid_out type values i wire are is there
 in_layout type (body.Alias target evaluate) i wire are is there = absurd cc
+
+-- a value that is read at its place is the set's
+pub value_told : (octets front starts : List ℕ) (places : Places) (i : ℕ) (wire : List ℕ)
+    (now : Option RecordSet) → front ≡ take places.len octets
+    → ((at : ℕ) (values : List Datum) (after : List ℕ) → starts ≡ starts_of at values
+    → drop at front ≡ flat_map value_octets values ++ after
+    → slice_get (map (λ (value : Datum). value.wire) values) i ≡ Some wire)
+    → IfSome now (λ set. Spells (take places.len octets) set × AreAt set places starts)
+    → IfSome now (λ set. (slice_get (wires_of set.body) i ≡ Some wire) × IsLayout set.rtype wire)
+value_told octets front starts places i wire None same reads is = tt
+value_told octets front starts places i wire (Some set) same reads is =
+    let spelled = respelled same is.0 in
+    let stand = values_stand front set places.body spelled is.1.body in
+    let there = reads (places.body + 7) (values_of set.body) stand.0 is.1.values stand.1 in
+    (there, in_layout set.rtype set.body i wire spelled.has_spelling.of_type spelled.is.body there)

@@ -1,6 +1,7 @@
 -- Where values stand among octets.
-use Rattle.std.proofs.Common.{◌≡◌, ℕ, zero, suc, ◌+◌, ◌<◌, ◌≤◌, ◌-◌, ◌/◌, ◌%◌, List, [], ◌∷◌, ◌++◌, length, drop, map, get_or, Some}
-use Rattle.std.proofs.Common.{arith, ap, subst, ◌∙◌, sym, refl, append_assoc, length-append, length-drop, drop-drop}
+use Rattle.std.proofs.Common.{◌≡◌, ℕ, zero, suc, ◌+◌, ◌<◌, ◌≤◌, ◌-◌, ◌/◌, ◌%◌, List, [], ◌∷◌, ◌++◌, length}
+use Rattle.std.proofs.Common.{drop, map, get_or, Some, arith, ap, subst, ◌∙◌, sym, refl}
+use Rattle.std.proofs.Common.{append_assoc, length-append, length-drop, drop-drop}
 use Rattle.std.specs.Prelude.{slice_get, slice_index}
 use Rattle.std.proofs.lemmas.List.{get_or-drop}
 use Rattle.octets.specs.Numbers.{number_at}
@@ -58,8 +59,8 @@ starts_long at [] = refl
 starts_long at (value ∷ values) = ap suc (starts_long (at + (length value.wire + 2)) values)
 
 -- What is left of values whose places are listed one after another.
-pub record Along (octets : List ℕ) (at : ℕ) (all : List Datum) (after : List ℕ) (place count : ℕ) (starts : List ℕ)
-    : Type 0 where
+pub record Along (octets : List ℕ) (at : ℕ) (all : List Datum) (after : List ℕ) (place count : ℕ)
+    (starts : List ℕ) : Type 0 where
   pub values : List Datum
   pub stand : drop place octets ≡ flat_map value_octets values ++ after
   pub left : length values ≡ count
@@ -79,7 +80,8 @@ number_there : (octets : List ℕ) (place : ℕ) (value : Datum) (rest : List �
 number_there octets place value rest there =
     let n = length value.wire in
     let first : slice_index octets place ≡ n / 256 =
-    ap (slice_index octets) (omega arith) ∙ sym (get_or-drop place octets 0 0) ∙ ap (λ o. get_or o 0 0) there in
+    ap (slice_index octets) (omega arith) ∙ sym (get_or-drop place octets 0 0)
+    ∙ ap (λ o. get_or o 0 0) there in
     let second : slice_index octets (place + 1) ≡ n % 256 =
     sym (get_or-drop place octets 1 0) ∙ ap (λ o. get_or o 1 0) there in
     omega (arith, first, second)

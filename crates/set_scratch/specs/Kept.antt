@@ -17,8 +17,8 @@ abbrev pub starts_of : ℕ → List Datum → List ℕ
 starts_of at [] = []
 starts_of at (value ∷ rest) = at ∷ starts_of (at + (length value.wire + 2)) rest
 
--- Where the parts of a set stand among its octets. The values stand behind seven octets of the body: its kind, four of the time to
--- live, two of their number.
+-- Where the parts of a set stand among its octets. The values stand behind seven octets of the body: its
+-- kind, four of the time to live, two of their number.
 pub record AreAt (set : RecordSet) (places : Places) (starts : List ℕ) : Type 0 where
   pub len : places.len ≡ length (set_octets set)
   pub name : places.name ≡ length (wire set.name)

@@ -34,7 +34,8 @@ pub record IsPart (octets part : List ℕ) (set : RecordSet) : Type 0 where
 
 -- stands for the set of octets that are none's
 abbrev pub no_set : RecordSet
-no_set = record { name = []; rtype = rtype.A; routing = routing.Simple; body = body.Values 0 []; check = None }
+no_set =
+    record { name = []; rtype = rtype.A; routing = routing.Simple; body = body.Values 0 []; check = None }
 
 abbrev pub set_read : Result (RecordSet × ℕ) ℕ → RecordSet
 set_read (Ok x) = x.0

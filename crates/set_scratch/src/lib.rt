@@ -1,7 +1,7 @@
 //! A reader of one record set at a time, which takes no memory once it is made.
 //!
-//! The octets of a set are all that is held of it, and each reader finds its part among them. They are copied: the set stays
-//! when what was given is gone.
+//! The octets of a set are all that is held of it, and each reader finds its part among them. They
+//! are copied: the set stays when what was given is gone.
 #![tactic(auto)]
 
 mod parts;

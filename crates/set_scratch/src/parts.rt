@@ -1,6 +1,7 @@
 //! The parts of a set, read from where they stand among its octets.
 
-ghost use Rattle.std.specs.Prelude.{◌≡◌, ◌+◌, ◌<◌, ◌++◌, ℕ, List, Option, Some, drop, length, map, slice_get};
+ghost use Rattle.std.specs.Prelude.{◌≡◌, ◌+◌, ◌<◌, ◌++◌, ℕ, List, Option, Some, drop, length};
+ghost use Rattle.std.specs.Prelude.{map, slice_get};
 ghost use Rattle.std.specs.List.{flat_map};
 ghost use Rattle.dns_name.specs.Labels.{wire};
 ghost use Rattle.dns_name.specs.Names.{IsName};
@@ -11,8 +12,8 @@ ghost use Rattle.rdata_layout.specs.declared.types.RType.{RType};
 ghost use Rattle.record_set.specs.declared.sets.Body.{Body};
 ghost use Rattle.record_set.specs.declared.sets.RecordSet.{RecordSet};
 ghost use Rattle.routing.specs.declared.policies.Routing.{Routing};
-ghost use Rattle.set_octets.specs.Octets.{IsSpelledRouting, body_octets, check_octets, routing_octets};
-ghost use Rattle.set_octets.specs.Octets.{value_octets};
+ghost use Rattle.set_octets.specs.Octets.{IsSpelledRouting, body_octets, check_octets};
+ghost use Rattle.set_octets.specs.Octets.{routing_octets, value_octets};
 ghost use Rattle.set_reading.specs.Sets.{IsBody, IsRouting};
 ghost use Rattle.set_scratch.specs.Bodies.{alias_of, ttl_of};
 ghost use Rattle.set_scratch.specs.Kept.{starts_of};

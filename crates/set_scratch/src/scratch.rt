@@ -10,7 +10,8 @@ ghost use Rattle.set_octets.specs.Octets.{HasSpelling, check_octets, most_octets
 ghost use Rattle.set_scratch.specs.Bodies.{alias_of, ttl_of, values_of, wires_of};
 ghost use Rattle.set_scratch.specs.Holding.{HasValue, IsHolding};
 ghost use Rattle.set_scratch.specs.Kept.{IsKept, most_values};
-ghost use Rattle.set_scratch.specs.Spelling.{IsPart, Spells, from_body, from_policy, from_type, held_of};
+ghost use Rattle.set_scratch.specs.Spelling.{IsPart, Spells, from_body, from_policy, from_type};
+ghost use Rattle.set_scratch.specs.Spelling.{held_of};
 
 use crate::parts::{alias_in, check_in, name_of, routing_in, ttl_in, type_in, value_at};
 use crate::places::{Places, find_parts};
@@ -50,7 +51,8 @@ impl Model for Scratch {
 
     ghost view = { λ a. held_of a.octets.items a.places.len };
 
-    ghost invariant = { λ a. IsKept a.octets.items a.places a.starts.items (vec_capacity a.starts) };
+    ghost invariant = { λ a.
+        IsKept a.octets.items a.places a.starts.items (vec_capacity a.starts) };
 }
 
 impl Scratch {

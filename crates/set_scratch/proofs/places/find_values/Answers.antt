@@ -6,7 +6,8 @@ pub fill-requires-clause-room : goal.fill-requires-clause-room
 fill-requires-clause-room c =
     let there = c.requires.there in
     let is = sym (c.in-Some.ensures there.0 there.1 (c.behind-answers.ensures ∙ there.3)) in
-    let few = few_values c.args.octets.now c.args.body c.in-Some.count there.0 there.1 c.requires.short there.3 is in
+    let few =
+    few_values c.args.octets.now c.args.body c.in-Some.count there.0 there.1 c.requires.short there.3 is in
     omega (arith, few, c.requires.room, c.clear.ensures.capacity)
 
 pub fill-requires-clause-there : goal.fill-requires-clause-there
@@ -17,11 +18,12 @@ fill-requires-clause-there c =
 
 pub returns-in-Some-clause-end : goal.returns-in-Some-clause-end
 returns-in-Some-clause-end c = λ what after is there.
-    end_of_values c.args.octets.now c.args.body c.in-Some.count c.fill.result c.fill.ensures.end what after there
+    end_of_values c.args.octets.now c.args.body c.in-Some.count c.fill.result c.fill.ensures.end what
+    after there
     (sym (c.in-Some.ensures what after (c.behind-answers.ensures ∙ there)))
 
 pub returns-in-Some-clause-starts : goal.returns-in-Some-clause-starts
 returns-in-Some-clause-starts c = λ what after is there.
-    starts_of_values c.args.octets.now c.args.body c.in-Some.count c.fill.new.starts.items c.fill.ensures.starts
-    what after there
+    starts_of_values c.args.octets.now c.args.body c.in-Some.count c.fill.new.starts.items
+    c.fill.ensures.starts what after there
     (sym (c.in-Some.ensures what after (c.behind-answers.ensures ∙ there)))
