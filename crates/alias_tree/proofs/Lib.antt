@@ -1,0 +1,5 @@
+pub mod LinkByLink
+pub mod Lists
+pub mod OnePlace
+pub mod Placed
+pub mod Walking
