@@ -7,5 +7,6 @@ pub mod Counts
 pub mod Puts
 pub mod Reading
 pub mod Takes
+pub mod Back
 pub mod Replaces
 pub mod Whole

@@ -26,7 +26,7 @@ pub record IsFoundAt (held : Held) (slots : List Slot) (i : ℕ) (set : RecordSe
 module _ (held : Held) (slots : List Slot) (free spare : ℕ) (index : IsIndex held slots free spare)
     (back : WrittenReadsBack)
     (i : ℕ) (kept : Kept) (there : IsKept (map (kept_in held) slots) i kept) where
-  found_in : (slot : Slot) → slice_get slots i ≡ Some slot → IsFoundAt held slots i kept.set
+  pub found_in : (slot : Slot) → slice_get slots i ≡ Some slot → IsFoundAt held slots i kept.set
   found_in slot at =
       let live = is_live held slots i slot at (kept, there) in
       let o = index.live i slot at live in

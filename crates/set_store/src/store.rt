@@ -1,7 +1,7 @@
 //! A region of octets and the slots of the sets that stand in it.
 
 ghost use Rattle.std.specs.Prelude.{◌≡◌, ◌≢◌, ◌≤◌, ◌<◌, ◌+◌, ◌-◌, ◌^◌, ◌++◌, ℕ, [], length, Some};
-ghost use Rattle.std.specs.Prelude.{None, slice_get, slice_set, OnOk, max};
+ghost use Rattle.std.specs.Prelude.{None, slice_get, slice_set, IsOk, OnOk, max};
 ghost use Rattle.octet_region.specs.Cells.{cells_for};
 ghost use Rattle.record_set.specs.declared.sets.RecordSet.{RecordSet};
 ghost use Rattle.set_octets.specs.Octets.{set_octets};
@@ -105,6 +105,7 @@ impl SetStore {
         ensures cells { self.old.cells ≤ self.new.cells }
         ensures free { self.old.free ≤ self.new.free }
         ensures room { OnOk result ((slots ≤ self.new.free) × (cells ≤ self.new.cells)) }
+        ensures ready { slots ≤ self.old.free → cells ≤ self.old.cells → IsOk result }
     {
         self.region.reserve(cells)?;
         self.reserve_slots(slots)
@@ -116,6 +117,7 @@ impl SetStore {
         ensures cells { self.new.cells ≡ self.old.cells }
         ensures free { self.old.free ≤ self.new.free }
         ensures room { OnOk result (slots ≤ self.new.free) }
+        ensures ready { slots ≤ self.old.free → IsOk result }
     {
         if slots <= self.spare {
             return Ok(());
@@ -149,7 +151,9 @@ impl SetStore {
         ensures others { (other : ℕ) → other ≢ slot
             → slice_get self.new.slots other ≡ slice_get self.old.slots other }
 
-        ensures cells { self.old.cells ≤ self.new.cells + cells_for (length octets.now) }
+        ensures cells { (kept : Kept) → IsKept self.old.slots slot kept
+            → self.new.cells + cells_for (length octets.now)
+            ≡ self.old.cells + cells_for (length (set_octets kept.set)) }
         ensures free { self.new.free ≡ self.old.free }
     {
         written_reads_back();
@@ -177,11 +181,13 @@ impl SetStore {
         ensures others { (other : ℕ) → other ≢ slot
             → slice_get self.new.slots other ≡ slice_get self.old.slots other }
 
-        ensures cells { self.old.cells ≤ self.new.cells }
+        ensures cells { (kept : Kept) → IsKept self.old.slots slot kept
+            → self.new.cells ≡ self.old.cells + cells_for (length (set_octets kept.set)) }
         ensures free { self.new.free ≡ self.old.free + 1 }
     {
-        let old = slot_at(&self.slots, slot);
-        self.region.free(Handle::of(old.cell));
+        written_reads_back();
+        let gone = slot_at(&self.slots, slot);
+        self.region.free(Handle::of(gone.cell));
         let free = Slot {
             cell: NO_CELL,
             zone: self.free,

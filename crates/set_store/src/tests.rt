@@ -64,5 +64,12 @@ fn keeps_sets_in_their_slots(rt: HostRuntime) -> Result<(), Fail> {
         store.is_below(slot, &Name::root()),
         "all is below the root"
     );
+    store.replace(slot, &second);
+    assert!(rt;
+        !store.is_before(slot, &Stop::From(&b.name, RType::A, None)),
+        "b stands in its place"
+    );
+    store.take(slot);
+    assert_eq!(rt; store.zone_of(slot), None, "nothing is kept there");
     Ok(())
 }

@@ -1,7 +1,10 @@
 -- A set that comes into a zone.
-use Rattle.std.specs.Prelude.{◌≡◌, ◌⊎◌, ℕ, List, Some, slice_get, slice_set}
+use Rattle.std.specs.Prelude.{◌≡◌, ◌⊎◌, ℕ, List, length, Some, slice_get, slice_set}
+use Rattle.std.specs.List.{sum_by}
+use Rattle.octet_region.specs.Cells.{cells_for}
 use Rattle.record_set.specs.declared.sets.RecordSet.{RecordSet}
 use Rattle.record_set.specs.Sets.{key_of}
+use Rattle.set_octets.specs.Octets.{set_octets}
 use Rattle.zone_sets.specs.Placed.{Placed, IsPut}
 
 -- The set with its key gives way to a set, which stands in its slot. All others stay, each in its slot.
@@ -15,3 +18,11 @@ pub record IsReplaced (before : List Placed) (given : Placed) (after : List Plac
 -- A set comes: in place of the one with its key, or where there is none as one more.
 abbrev pub Comes : (before : List Placed) → (given : Placed) → (after : List Placed) → Type 0
 Comes before given after = IsReplaced before given after ⊎ IsPut before given after
+
+-- how many cells the octets of a set take
+abbrev pub cells_in : Placed → ℕ
+cells_in placed = cells_for (length (set_octets placed.set))
+
+-- how many cells the octets of the sets take
+abbrev pub cells_of : List Placed → ℕ
+cells_of placed = sum_by cells_in placed

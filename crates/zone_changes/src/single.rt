@@ -6,7 +6,7 @@ ghost use Rattle.record_set.specs.declared.sets.RecordSet.{RecordSet};
 ghost use Rattle.set_octets.specs.Octets.{HasSpelling, set_octets};
 ghost use Rattle.set_search.specs.Found.{Finds};
 ghost use Rattle.set_store.specs.Stored.{Spells};
-ghost use Rattle.zone_changes.specs.Coming.{Comes};
+ghost use Rattle.zone_changes.specs.Coming.{Comes, cells_of};
 ghost use Rattle.zone_model.specs.Placing.{IsThere};
 ghost use Rattle.zone_order.specs.Orders.{IsOrder, OthersStay, placed_of};
 ghost use Rattle.zone_sets.specs.Placed.{IsSlotAt, IsTaken, sets_of};
@@ -38,7 +38,9 @@ pub fn come(
         (record { slot = result; set = set.now })
         (placed_of store.new.slots zone order.new.items) }
     ensures others { OthersStay zone store.old.slots store.new.slots }
-    ensures cells { store.old.cells ≤ store.new.cells + cells_for (length (set_octets set.now)) }
+    ensures cells { store.new.cells + cells_of (placed_of store.new.slots zone order.new.items)
+        ≡ store.old.cells + cells_of (placed_of store.old.slots zone order.old.items) }
+    ensures enough { store.old.cells ≤ store.new.cells + cells_for (length (set_octets set.now)) }
     ensures free { store.old.free ≤ store.new.free + 1 }
     ensures length { vec_len order.new ≤ vec_len order.old + 1 }
     ensures room { vec_capacity order.new ≡ vec_capacity order.old }
@@ -61,7 +63,8 @@ pub fn go(store: &mut SetStore, zone: u32, order: &mut Vec<u32>, key: &SetKey) -
     ensures goes { IsTaken (placed_of store.old.slots zone order.old.items) key.now result
         (placed_of store.new.slots zone order.new.items) }
     ensures others { OthersStay zone store.old.slots store.new.slots }
-    ensures cells { store.old.cells ≤ store.new.cells }
+    ensures cells { store.new.cells + cells_of (placed_of store.new.slots zone order.new.items)
+        ≡ store.old.cells + cells_of (placed_of store.old.slots zone order.old.items) }
     ensures free { store.new.free ≡ store.old.free + 1 }
     ensures length { vec_len order.new + 1 ≡ vec_len order.old }
     ensures room { vec_capacity order.new ≡ vec_capacity order.old }

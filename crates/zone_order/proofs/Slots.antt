@@ -84,3 +84,18 @@ kept_at slots zone order present i k at =
       slice_get-map (λ (p : Placed). p.set) (placed_of slots zone order) i
           ∙ ap (λ (o : Option Placed). option_map (λ (p : Placed). p.set) o) is.2,
     )
+
+told_set : (o : Option Placed) (k : ℕ) (set : RecordSet) (was : Placed)
+    → o ≡ Some (record { slot = k; set = set }) → o ≡ Some was → set ≡ was.set
+told_set o k set was e f = let same : record { slot = k; set = set } ≡ was = cc in
+    ap (λ (p : Placed). p.set) same
+
+-- what is kept in the slot at a place is the set there
+pub kept_there : (slots : List (Option Kept)) (zone : ℕ) (order : List ℕ)
+    → AllByRecursion (λ k. HasSet (set_in slots zone) k) order → (i k : ℕ) → slice_get order i ≡ Some k
+    → (was : Placed) → slice_get (placed_of slots zone order) i ≡ Some was
+    → IsKept slots k (record { zone = zone; set = was.set })
+kept_there slots zone order present i k at was is =
+    let found = at_place (set_in slots zone) order present i k at in
+    its_kept slots zone k was.set
+    (found.1 ∙ ap (λ (s : RecordSet). Some s) (told_set _ k found.0 was found.2 is))

@@ -1,16 +1,17 @@
 //! Sets put into a zone, replaced in it, and taken away from it.
 
-ghost use Rattle.std.specs.Prelude.{ℕ, List, OnOk, ◌≡◌, ◌≤◌, ◌<◌, ◌+◌, ◌-◌, length, slice_get};
+ghost use Rattle.std.specs.Prelude.{ℕ, List, IsOk, OnOk, ◌≡◌, ◌≤◌, ◌<◌, ◌+◌, ◌-◌, length, slice_get};
 ghost use Rattle.std.specs.Prelude.{slice_set, Some};
 ghost use Rattle.std.specs.Prelude.{vec_len, vec_capacity};
 ghost use Rattle.std.specs.List.{insert, remove};
 ghost use Rattle.octet_region.specs.Cells.{cells_for};
 ghost use Rattle.record_set.specs.Sets.{key_of};
 ghost use Rattle.record_set.specs.declared.sets.RecordSet.{RecordSet};
+ghost use Rattle.set_octets.specs.Octets.{set_octets};
 ghost use Rattle.set_search.specs.Found.{FindsAt, FindsNone};
 ghost use Rattle.set_store.specs.Stored.{IsSpelling, Spells};
 ghost use Rattle.zone_order.specs.Orders.{IsOrder, OthersStay, placed_of, set_in};
-ghost use Rattle.zone_sets.specs.Placed.{IsPut, IsSlotAt, IsTakenAt, sets_of};
+ghost use Rattle.zone_sets.specs.Placed.{IsPut, IsSlotAt, IsTakenAt, Placed, sets_of};
 
 use crate::views::slot_at;
 use set_store::{OutOfMemory, SetStore};
@@ -26,6 +27,7 @@ pub fn make_room(store: &mut SetStore, slots: usize, cells: usize) -> Result<(),
     ensures cells { store.old.cells ≤ store.new.cells }
     ensures free { store.old.free ≤ store.new.free }
     ensures room { OnOk result ((slots ≤ store.new.free) × (cells ≤ store.new.cells)) }
+    ensures ready { slots ≤ store.old.free → cells ≤ store.old.cells → IsOk result }
 {
     store.reserve(slots, cells)
 }
@@ -70,7 +72,9 @@ pub fn take_at(store: &mut SetStore, zone: u32, order: &mut Vec<u32>, place: usi
     ensures taken { IsTakenAt (placed_of store.old.slots zone order.old.items) place result
         (placed_of store.new.slots zone order.new.items) }
     ensures others { OthersStay zone store.old.slots store.new.slots }
-    ensures cells { store.old.cells ≤ store.new.cells }
+    ensures cells { (was : Placed)
+        → slice_get (placed_of store.old.slots zone order.old.items) place ≡ Some was
+        → store.new.cells ≡ store.old.cells + cells_for (length (set_octets was.set)) }
     ensures free { store.new.free ≡ store.old.free + 1 }
     ensures length { vec_len order.new + 1 ≡ vec_len order.old }
     ensures room { vec_capacity order.new ≡ vec_capacity order.old }
@@ -100,7 +104,10 @@ pub fn replace_at(
         ≡ slice_set (placed_of store.old.slots zone order.now) place
         (record { slot = result; set = set }) }
     ensures others { OthersStay zone store.old.slots store.new.slots }
-    ensures cells { store.old.cells ≤ store.new.cells + cells_for (length octets.now) }
+    ensures cells { (was : Placed)
+        → slice_get (placed_of store.old.slots zone order.now) place ≡ Some was
+        → store.new.cells + cells_for (length octets.now)
+        ≡ store.old.cells + cells_for (length (set_octets was.set)) }
     ensures free { store.new.free ≡ store.old.free }
 {
     let slot = slot_at(order, place);

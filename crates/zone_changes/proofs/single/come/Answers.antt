@@ -1,10 +1,12 @@
-use Rattle.std.proofs.Common.{◌≡◌, set, ap, subst, sym, ◌∙◌, inl}
+use Rattle.std.proofs.Common.{◌≡◌, ◌≤◌, ℕ, List, length, set, ap, subst, sym, ◌∙◌, inl}
 use Rattle.std.specs.Prelude.{slice_get}
 use Rattle.record_set.specs.Sets.{key_of}
 use Rattle.set_search.specs.Found.{FindsAt, FindsNone}
 use Rattle.zone_sets.specs.Placed.{sets_of}
 use Rattle.zone_order.specs.Orders.{placed_of, set_in}
-use Rattle.zone_changes.proofs.Coming.{gives_way, one_spelled}
+use Rattle.zone_changes.proofs.Coming.{gives_way, one_spelled, set_there}
+use Rattle.octet_region.specs.Cells.{cells_for}
+use Rattle.zone_changes.proofs.Cells.{few_more, put_cells, replaced_cells}
 use Rattle.zone_changes.proofs.single.come.Goals as goal
 
 pub replace_at-requires-clause-there : goal.replace_at-requires-clause-there
@@ -39,3 +41,39 @@ returns-in-Ok-clause-comes c =
     (placed_of c.args.store.now.slots c.args.zone xs) c.in-Ok.place
     (record { slot = c.replace_at.result; set = c.args.set.now })) slice
     (c.replace_at.ensures.replaced c.args.set.now c.spell-octets.ensures.spells)))
+
+pub returns-in-Ok-clause-cells : goal.returns-in-Ok-clause-cells
+returns-in-Ok-clause-cells c =
+    let slice = c.deref.ensures.value in
+    let found = c.in-Ok.ensures in
+    let there = set_there (set_in c.args.store.now.slots c.args.zone) c.args.order.now.items
+    c.requires.order.present c.in-Ok.place c.replace_at.result found.kept
+    (ap (λ xs. slice_get xs c.in-Ok.place) (sym slice) ∙ c.replace_at.ensures.slot) found.there in
+    replaced_cells (placed_of c.args.store.now.slots c.args.zone c.args.order.now.items)
+    (record { slot = c.replace_at.result; set = c.args.set.now })
+    (record { slot = c.replace_at.result; set = found.kept }) _ c.in-Ok.place there
+    (subst (λ xs. placed_of c.replace_at.new.store.slots c.args.zone xs ≡ set
+    (placed_of c.args.store.now.slots c.args.zone xs) c.in-Ok.place
+    (record { slot = c.replace_at.result; set = c.args.set.now })) slice
+    (c.replace_at.ensures.replaced c.args.set.now c.spell-octets.ensures.spells))
+    c.args.store.now.cells c.replace_at.new.store.cells (cells_for (length c.spell-octets.result.now))
+    (ap (λ (o : List ℕ). cells_for (length o)) c.spell-octets.ensures.spells.same)
+    (c.replace_at.ensures.cells (record { slot = c.replace_at.result; set = found.kept })
+    (ap (λ xs. slice_get (placed_of c.args.store.now.slots c.args.zone xs) c.in-Ok.place) slice ∙ there))
+
+pub returns-in-Err-clause-cells : goal.returns-in-Err-clause-cells
+returns-in-Err-clause-cells c =
+    put_cells (placed_of c.args.store.now.slots c.args.zone c.args.order.now.items)
+    (record { slot = c.put_at.result; set = c.args.set.now }) _
+    (c.put_at.ensures.put c.args.set.now c.spell-octets.ensures.spells)
+    c.args.store.now.cells c.put_at.new.store.cells (cells_for (length c.spell-octets.result.now))
+    (ap (λ (o : List ℕ). cells_for (length o)) c.spell-octets.ensures.spells.same)
+    (subst (λ (o : List ℕ). cells_for (length o) ≤ c.args.store.now.cells)
+    (sym c.spell-octets.ensures.spells.same) c.requires.cells)
+    c.put_at.ensures.cells
+
+pub returns-in-Ok-clause-enough : goal.returns-in-Ok-clause-enough
+returns-in-Ok-clause-enough c =
+    few_more (placed_of c.args.store.now.slots c.args.zone c.args.order.now.items)
+    (record { slot = c.replace_at.result; set = c.args.set.now }) _ (returns-in-Ok-clause-comes c)
+    c.args.store.now.cells c.replace_at.new.store.cells (returns-in-Ok-clause-cells c)

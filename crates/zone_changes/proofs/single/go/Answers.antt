@@ -1,5 +1,6 @@
 use Rattle.zone_order.specs.Orders.{placed_of}
 use Rattle.zone_changes.proofs.Coming.{goes_by_key}
+use Rattle.zone_changes.proofs.Cells.{taken_cells}
 use Rattle.zone_changes.proofs.single.go.Goals as goal
 
 pub returns-clause-goes : goal.returns-clause-goes
@@ -7,3 +8,10 @@ returns-clause-goes c =
     goes_by_key (placed_of c.args.store.now.slots c.args.zone c.args.order.now.items) c.args.key.now
     c.in-Ok.place
     c.take_at.result _ c.in-Ok.ensures c.take_at.ensures.taken
+
+pub returns-clause-cells : goal.returns-clause-cells
+returns-clause-cells c =
+    let taken = c.take_at.ensures.taken in
+    taken_cells (placed_of c.args.store.now.slots c.args.zone c.args.order.now.items) c.in-Ok.place
+    c.take_at.result _ taken c.args.store.now.cells c.take_at.new.store.cells
+    (c.take_at.ensures.cells (record { slot = c.take_at.result; set = taken.set }) taken.there)

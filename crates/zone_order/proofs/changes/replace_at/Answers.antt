@@ -2,7 +2,7 @@ use Rattle.std.proofs.Common.{Some, sym}
 use Rattle.zone_sets.proofs.Lists.{all_found}
 use Rattle.zone_order.specs.Orders.{HasSet, set_in}
 use Rattle.zone_order.proofs.Replaced.{replaced, replaced_order}
-use Rattle.zone_order.proofs.Slots.{anothers, its_kept, its_own, stay, updated}
+use Rattle.zone_order.proofs.Slots.{anothers, its_kept, kept_there, its_own, stay, updated}
 use Rattle.zone_order.proofs.changes.replace_at.Goals as goal
 
 pub replace-requires-clause-taken : goal.replace-requires-clause-taken
@@ -60,3 +60,9 @@ returns-clause-others c =
     (λ other ne. anothers before other k (record { zone = zone; set = has.0 }) kept (λ e. ne (sym e)))
     (λ other ne. anothers after other k (record { zone = zone; set = it.0 })
     (c.replace.ensures.here it.0 (record { zone = zone; set = has.0 }) it.1 kept) (λ e. ne (sym e)))
+
+pub returns-clause-cells : goal.returns-clause-cells
+returns-clause-cells c was is =
+    c.replace.ensures.cells (record { zone = c.args.zone; set = was.set })
+    (kept_there c.args.store.now.slots c.args.zone c.args.order.now c.requires.order.present
+    c.args.place c.slot_at-slot.result c.slot_at-slot.ensures was is)

@@ -3,7 +3,7 @@ use Rattle.zone_sets.specs.Placed.{IsTakenAt}
 use Rattle.zone_sets.proofs.Lists.{all_found}
 use Rattle.zone_order.specs.Orders.{HasSet, IsOrderBy, placed_by, set_in}
 use Rattle.zone_order.proofs.Orders.{taken_is, taken_order}
-use Rattle.zone_order.proofs.Slots.{anothers, its_kept, nones, stay, updated}
+use Rattle.zone_order.proofs.Slots.{anothers, its_kept, kept_there, nones, stay, updated}
 use Rattle.zone_order.proofs.changes.take_at.Goals as goal
 
 pub take-requires : goal.take-requires
@@ -56,3 +56,9 @@ returns-clause-others c =
     (its_kept before zone k has.0 has.1)
     (λ e. ne (sym e)))
     (λ other ne. nones after other k c.take.ensures.gone)
+
+pub returns-clause-cells : goal.returns-clause-cells
+returns-clause-cells c was is =
+    c.take.ensures.cells (record { zone = c.args.zone; set = was.set })
+    (kept_there c.args.store.now.slots c.args.zone c.args.order.now.items c.requires.order.present
+    c.args.place c.remove_slot-slot.result c.remove_slot-slot.ensures.slot was is)
