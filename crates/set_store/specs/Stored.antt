@@ -1,8 +1,7 @@
 -- What a store of sets holds.
 use Rattle.std.specs.Prelude.{◌≡◌, ℕ, zero, suc, List, [], ◌∷◌, Option, None, Some, slice_get}
 use Rattle.record_set.specs.declared.sets.RecordSet.{RecordSet}
-use Rattle.set_octets.specs.Octets.{set_octets, HasSpelling}
-use Rattle.set_reading.specs.Sets.{IsSet}
+pub use Rattle.set_scratch.specs.Spelling.{Spells}
 
 -- A set, and the number of the zone that it is of.
 pub record Kept : Type 0 where
@@ -33,12 +32,7 @@ abbrev pub nothing : ℕ → List (Option Kept)
 nothing zero = []
 nothing (suc n) = None ∷ nothing n
 
--- The octets are those of this set.
-pub record Spells (octets : List ℕ) (set : RecordSet) : Type 0 where
-  pub is : IsSet set
-  pub has_spelling : HasSpelling set
-  pub same : octets ≡ set_octets set
-
+-- the octets of a set
 abbrev pub IsSpelling : List ℕ → Type 0
 IsSpelling octets = (set : RecordSet) × Spells octets set
 

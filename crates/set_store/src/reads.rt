@@ -19,6 +19,7 @@ use octets::{OutOfMemory, front, zeros};
 use record_set::RecordSet;
 use set_parts::keys_are_in_front;
 use set_reading::{ReadFault, read_set, written_reads_back};
+use set_scratch::Scratch;
 use set_search::Stop;
 use std::alloc::Global;
 
@@ -72,6 +73,15 @@ impl SetStore {
         )
     }
 
+    /// Holds the set of a slot in a scratch, in place of the set that it held, and takes no memory.
+    pub fn hold(&self, slot: u32, into: &mut Scratch)
+        requires { IsTaken self.now.slots slot }
+        ensures { (kept : Kept) → IsKept self.now.slots slot kept → into.new ≡ Some kept.set }
+    {
+        written_reads_back();
+        hold_at(&self.region, &self.slots, slot, into);
+    }
+
     /// The set of a slot.
     pub fn read(&self, alloc: Global, slot: u32) -> Result<RecordSet, OutOfMemory>
         requires { IsTaken self.now.slots slot }
@@ -98,6 +108,17 @@ fn octets_at(
     let mut octets = zeros(alloc, size_at(region, slots, slot))?;
     copy_at(region, slots, slot, octets.as_mut_slice());
     Ok(octets)
+}
+
+/// Holds the set of a slot.
+fn hold_at(region: &Region, slots: &Vec<Slot>, slot: u32, into: &mut Scratch)
+    requires { (octets : List ℕ) × HoldsAt region.now.held slots.now.items slot octets
+        × IsSpelling octets }
+    ensures { (octets : List ℕ) (set : RecordSet)
+        → HoldsAt region.now.held slots.now.items slot octets → Spells octets set
+        → into.new ≡ Some set }
+{
+    into.hold_octets(region, Handle::of(cell_at(slots, slot)));
 }
 
 /// The set of these octets.

@@ -1,4 +1,4 @@
-//! Sets put, compared, replaced and taken away.
+//! Sets put, compared, held, replaced and taken away.
 
 ghost use Rattle.set_store.specs.Stored.{Spells};
 
@@ -9,6 +9,7 @@ use rdata::RType;
 use record_set::{Body, RecordSet, Routing};
 use set_octets::{has_spelling, write_set};
 use set_reading::well_formed;
+use set_scratch::Scratch;
 use set_search::Stop;
 use std::alloc::Global;
 use std::process::Abort;
@@ -64,6 +65,9 @@ fn keeps_sets_in_their_slots(rt: HostRuntime) -> Result<(), Fail> {
         store.is_below(slot, &Name::root()),
         "all is below the root"
     );
+    let mut scratch = Scratch::new(alloc).ok().expect(&rt, "memory");
+    store.hold(slot, &mut scratch);
+    assert_eq!(rt; scratch.bytes(), first.as_slice(), "its octets");
     store.replace(slot, &second);
     assert!(rt;
         !store.is_before(slot, &Stop::From(&b.name, RType::A, None)),

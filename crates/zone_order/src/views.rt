@@ -1,10 +1,12 @@
 //! A zone's sets, looked at by their places.
 
 ghost use Rattle.std.specs.Prelude.{◌≡◌, ◌<◌, length, slice_get, Some};
+ghost use Rattle.record_set.specs.declared.sets.RecordSet.{RecordSet};
 ghost use Rattle.zone_order.specs.Orders.{IsOrder, placed_of};
 ghost use Rattle.zone_sets.specs.Placed.{AreOfZone, IsSlotAt, sets_of};
 
 use dns_name::Name;
+use set_scratch::Scratch;
 use set_search::{SetList, Stop};
 use set_store::SetStore;
 use std::marker::Model;
@@ -45,6 +47,16 @@ pub fn of_zone(store: &SetStore, zone: u32, order: &[u32])
     requires { IsOrder store.now.slots zone order.now }
     ensures { AreOfZone (placed_of store.now.slots zone order.now) }
 {}
+
+impl<'a> ZoneView<'a> {
+    /// Holds the set at a place in a scratch, in place of the set that it held, and takes no memory.
+    pub fn hold(&self, place: usize, into: &mut Scratch)
+        requires { place < length self.now }
+        ensures { (set : RecordSet) → slice_get self.now place ≡ Some set → into.new ≡ Some set }
+    {
+        self.store.hold(slot_at(self.order, place), into);
+    }
+}
 
 impl<'a> SetList for ZoneView<'a> {
     ghost sets = { λ sets. sets };
