@@ -1,6 +1,7 @@
 //! Batches of changes to the sets of a zone, and by which rules a batch is made whole or refused.
 //!
-//! The rules are definitions over plain lists, for contracts to cite; what runs here only holds changes and refusals.
+//! The rules are definitions over plain lists, for contracts to cite; what runs here only holds
+//! changes and refusals.
 #![tactic(auto)]
 
 mod batches;

@@ -7,8 +7,8 @@ use dns_name::Name;
 use rdata::RType;
 use record_set::{Reason, SetKey};
 
-/// Why a batch is refused. Of several refusals the first in this order is told; those with the place of a change are told
-/// change by change, an earlier change's first.
+/// Why a batch is refused. Of several refusals the first in this order is told; those with the
+/// place of a change are told change by change, an earlier change's first.
 ///
 /// A key, a name or a group that is told is the first in zone order.
 #[derive(Clone, Copy)]
@@ -19,7 +19,8 @@ pub enum BatchRefusal {
     InvalidInput(usize, Reason),
     /// It has more than 1,000 values and aliases, those of an UPSERT counted twice.
     TooManyValues,
-    /// Its value texts have more than 32,000 bytes, those of an UPSERT counted twice; or a set has more than 65,536 octets.
+    /// Its value texts have more than 32,000 bytes, those of an UPSERT counted twice; or a set has
+    /// more than 65,536 octets.
     TooManyCharacters,
     /// The name of this change is not at or below the apex.
     NotInZone(usize),

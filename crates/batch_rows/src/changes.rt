@@ -83,8 +83,8 @@ fn text_of(rt: &impl Abort, alloc: Global, octets: usize, letter: u8) -> RData {
     RData::from_wire(alloc, RType::Txt, wire.as_slice()).expect(rt, "strings")
 }
 
-/// The body of 16 values of 4,000 octets and one of so many: with a name of 15 octets, the lengths, the type, the policy,
-/// the time to live, the count and the check are 64,060 more.
+/// The body of 16 values of 4,000 octets and one of so many: with a name of 15 octets, the lengths,
+/// the type, the policy, the time to live, the count and the check are 64,060 more.
 fn long_body(rt: &impl Abort, alloc: Global, last: usize) -> Body {
     let mut list = Vec::new(alloc);
     for n in 0..16 {

@@ -1,4 +1,5 @@
-//! The status of a health check from a count: of the checkers that see a pass, or of the children that are healthy.
+//! The status of a health check from a count: of the checkers that see a pass, or of the children
+//! that are healthy.
 //!
 //! Nine of the fifty checkers are not enough: they are 18 per cent, and not more.
 #![tactic(auto)]

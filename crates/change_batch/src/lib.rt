@@ -1,7 +1,7 @@
 //! Batches of changes to the sets of a zone: the sets after one, or its first refusal.
 //!
-//! A batch is made whole or not at all. It is tested by itself first, then its changes are applied in their order, and
-//! the rules that sets meet together are looked at once, after the last change.
+//! A batch is made whole or not at all. It is tested by itself first, then its changes are applied
+//! in their order, and the rules that sets meet together are looked at once, after the last change.
 #![tactic(auto)]
 
 mod applying;

@@ -34,7 +34,8 @@ impl Model for Checkers {
 }
 
 impl Checkers {
-    /// Fifty checkers without a result, whose views turn after `threshold` equal ones in a row. Each sees a pass.
+    /// Fifty checkers without a result, whose views turn after `threshold` equal ones in a row.
+    /// Each sees a pass.
     pub fn new(threshold: u8) -> Checkers
         requires low { 1 ≤ threshold }
         requires high { threshold ≤ 10 }

@@ -2,7 +2,8 @@
 
 ghost use Rattle.checker_state.specs.Laws.{FiftyAlone, OneMoreResult, OneStanding, OneView, ViewEndsTheLastRow};
 
-/// The view is the result of the last place at which so many equal ones in a row end, and pass where there is none.
+/// The view is the result of the last place at which so many equal ones in a row end, and pass
+/// where there is none.
 pub fn view_ends_the_last_row()
     ensures { ViewEndsTheLastRow }
 {}

@@ -7,7 +7,7 @@ ghost use Rattle.routing.specs.Texts.{IsLocationName, IsText, is_location_byte};
 ghost use Rattle.cidr_blocks.specs.Idents.{IsCollectionName, IsNameOrStar, star};
 
 use octets::{fill_front, front};
-use routing::is_location_byte;
+use routing::is_location_text;
 use std::marker::Model;
 
 /// The name of a collection or of a location, or the one byte `*`.
@@ -67,14 +67,14 @@ impl Ident {
     pub fn is_collection_name(&self) -> bool
         ensures { IsTrue result ↔ IsCollectionName self.now }
     {
-        is_name(self.bytes(), 64)
+        is_location_text(64, self.bytes())
     }
 
     /// Whether it is the name of a location: 1 to 16 letters, digits, `_` and `-`.
     pub fn is_location_name(&self) -> bool
         ensures { IsTrue result ↔ IsLocationName self.now }
     {
-        is_name(self.bytes(), 16)
+        is_location_text(16, self.bytes())
     }
 
     /// Whether it is `*`, which names no location.
@@ -96,7 +96,7 @@ fn bytes_are(text: &[u8], other: &[u8]) -> bool
 fn is_ident(bytes: &[u8]) -> bool
     ensures { IsTrue result ↔ IsNameOrStar bytes.now }
 {
-    if is_name(bytes, 64) {
+    if is_location_text(64, bytes) {
         return true;
     }
     is_star(bytes)
@@ -107,26 +107,4 @@ fn is_star(text: &[u8]) -> bool
     ensures { IsTrue result ↔ (text.now ≡ star) }
 {
     matches!(text, [b'*'])
-}
-
-/// Whether bytes are 1 to so many letters, digits, `_` and `-`.
-fn is_name(bytes: &[u8], most: usize) -> bool
-    ensures { IsTrue result ↔ IsText is_location_byte most bytes.now }
-{
-    if bytes.is_empty() || bytes.len() > most {
-        return false;
-    }
-    are_location_bytes(bytes)
-}
-
-/// Whether each byte is a letter, a digit, `_` or `-`.
-fn are_location_bytes(bytes: &[u8]) -> bool
-    ensures { IsTrue result ↔ AllByRecursion (λ b. is_location_byte b ≡ true) bytes.now }
-{
-    for b in bytes {
-        if !is_location_byte(*b) {
-            return false;
-        }
-    }
-    true
 }

@@ -1,6 +1,7 @@
 //! The octets of commands, written and read.
 //!
-//! Nothing may stand behind a command, though no spelling begins another. Writing them has its own crate below.
+//! Nothing may stand behind a command, though no spelling begins another. Writing them has its own
+//! crate below.
 #![tactic(auto)]
 
 mod laws;

@@ -7,7 +7,8 @@ ghost use Rattle.command_octets.specs.Octets.{HasSpelledSet, HasSpelling};
 use crate::commands::Command;
 use batch_model::Change;
 
-/// Whether a command has a spelling in the version that is written: its changes and their sets are within their bounds.
+/// Whether a command has a spelling in the version that is written: its changes and their sets are
+/// within their bounds.
 pub fn has_spelling(command: &Command) -> bool
     ensures { IsTrue result ↔ HasSpelling 2 command.now }
 {

@@ -1,4 +1,5 @@
-//! Configurations: the hosted zones and health checks of a server, when they are sound, and what a batch makes of them.
+//! Configurations: the hosted zones and health checks of a server, when they are sound, and what a
+//! batch makes of them.
 //!
 //! These are definitions over plain lists, for contracts to cite; nothing runs here.
 #![tactic(auto)]

@@ -1,4 +1,5 @@
-//! Which sets of a group are considered for an answer: the healthy ones, or all of them where none is healthy.
+//! Which sets of a group are considered for an answer: the healthy ones, or all of them where none
+//! is healthy.
 //!
 //! So a group that has a set has one that is considered.
 #![tactic(auto)]

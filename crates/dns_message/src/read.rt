@@ -1,4 +1,5 @@
-//! A packet judged by its header first, then by its question and its additional records, up to the first fault.
+//! A packet judged by its header first, then by its question and its additional records, up to the
+//! first fault.
 
 ghost use Rattle.std.specs.Prelude.{◌≡◌, ℕ, ◌+◌, ◌-◌, ◌≤◌, List, ◌++◌, length, IsTrue, ◌↔◌, IfSome, IfNone, None, take, drop, replicate};
 ghost use Rattle.octets.specs.Numbers.{number_at};

@@ -39,7 +39,10 @@ impl Model for Name {
 
     ghost inverse = { λ labels. record { bytes = stored labels; len = length (wire labels) } };
 
-    ghost inverse_ok = { λ a h. let e : (stored (labels_of a.bytes), length (wire (labels_of a.bytes))) ≡ (a.bytes, a.len) = Prim.cc in ap (λ (p : List ℕ × ℕ). record { bytes = p.0; len = p.1 }) e };
+    ghost inverse_ok = { λ a h.
+        let e : (stored (labels_of a.bytes), length (wire (labels_of a.bytes)))
+        ≡ (a.bytes, a.len) = Prim.cc in
+        ap (λ (p : List ℕ × ℕ). record { bytes = p.0; len = p.1 }) e };
 }
 
 impl Name {

@@ -5,7 +5,8 @@ ghost use Rattle.dns_wire.specs.Limit.{limit_of};
 
 use dns_message::Edns;
 
-/// The most octets of a reply to a query without EDNS (RFC 1035, 4.2.1), and the least to one with it (RFC 6891, 6.2.3).
+/// The most octets of a reply to a query without EDNS (RFC 1035, 4.2.1), and the least to one with
+/// it (RFC 6891, 6.2.3).
 const LEAST: usize = 512;
 
 /// The most octets of a reply.

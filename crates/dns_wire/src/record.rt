@@ -14,7 +14,8 @@ use rdata_layout::RType;
 /// The octets of a record between its owner and its data.
 const FIXED_LEN: usize = 10;
 
-/// Writes a record at a place of the buffer, where `asked` is the name in the question, and says where it ends.
+/// Writes a record at a place of the buffer, where `asked` is the name in the question, and says
+/// where it ends.
 pub(crate) fn add_record(
     buffer: &mut [u8],
     at: usize,
@@ -26,9 +27,20 @@ pub(crate) fn add_record(
 ) -> usize
     requires room { at + most_of_record ≤ length buffer.old }
     requires layout { IsLayout rtype wire.now }
-    ensures end { result ≡ at + length (record_octets asked.now (record { owner = owner.now; rtype = rtype; ttl = ttl; rdata = wire.now })) }
+    ensures end { result
+        ≡ at + length (record_octets asked.now (record {
+          owner = owner.now;
+          rtype = rtype;
+          ttl = ttl;
+          rdata = wire.now;
+        })) }
     ensures written { take result buffer.new ≡ take at buffer.old
-        ++ record_octets asked.now (record { owner = owner.now; rtype = rtype; ttl = ttl; rdata = wire.now }) }
+        ++ record_octets asked.now (record {
+          owner = owner.now;
+          rtype = rtype;
+          ttl = ttl;
+          rdata = wire.now;
+        }) }
 {
     let behind_owner = add_name(buffer, at, asked, owner);
     let data = behind_owner + FIXED_LEN;

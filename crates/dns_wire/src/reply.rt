@@ -134,24 +134,32 @@ impl Reply {
         self.additionals = 0;
     }
 
-    /// Adds a record of class IN at the end of a section. `wire` is the value with its names whole and in lower case.
+    /// Adds a record of class IN at the end of a section. `wire` is the value with its names whole
+    /// and in lower case.
     ///
     /// Where the records don't fit the room any more, the reply will be cut.
     pub fn record(&mut self, section: Section, owner: &Name, rtype: RType, ttl: u32, wire: &[u8])
         requires order { (m : Message) × StandsFor m self.old × Follows section m }
         requires layout { IsLayout rtype wire.now }
         ensures stands { (m : Message) → StandsFor m self.old → Follows section m
-            → StandsFor (with_record section (record { owner = owner.now; rtype = rtype; ttl = ttl; rdata = wire.now }) m) self.new }
+            → StandsFor (with_record section (record {
+              owner = owner.now;
+              rtype = rtype;
+              ttl = ttl;
+              rdata = wire.now;
+            }) m) self.new }
         ensures edns { self.new.edns ≡ self.old.edns }
         ensures room { self.new.room ≡ self.old.room }
     {
         self.add(section, owner, rtype, ttl, wire);
     }
 
-    /// Ends the reply: writes its OPT record, where the query had one, and its header, and says how long it is.
+    /// Ends the reply: writes its OPT record, where the query had one, and its header, and says how
+    /// long it is.
     ///
-    /// `scope` is how many bits of the client's address the answer holds for; it is told where the query told a subnet. Where the
-    /// reply would be longer than the limit it is cut: it has the question, TC, and the OPT record.
+    /// `scope` is how many bits of the client's address the answer holds for; it is told where the
+    /// query told a subnet. Where the reply would be longer than the limit it is cut: it has the
+    /// question, TC, and the OPT record.
     pub fn finish(&mut self, aa: bool, rcode: u16, limit: usize, scope: u8) -> usize
         requires begun { (m : Message) × StandsFor m self.old }
         requires least { 512 ≤ limit }
@@ -201,7 +209,13 @@ impl Reply {
     /// Adds a record, or where it doesn't fit drops all records.
     fn add(&mut self, section: Section, owner: &Name, rtype: RType, ttl: u32, wire: &[u8])
         requires layout { IsLayout rtype wire.now }
-        ensures { self.new ≡ recorded section (record { owner = owner.now; rtype = rtype; ttl = ttl; rdata = wire.now }) self.old }
+        ensures { self.new
+            ≡ recorded section (record {
+              owner = owner.now;
+              rtype = rtype;
+              ttl = ttl;
+              rdata = wire.now;
+            }) self.old }
     {
         if self.is_cut {
             return;

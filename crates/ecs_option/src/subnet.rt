@@ -11,7 +11,7 @@ pub struct ClientSubnet {
     pub address: [u8; 16],
 }
 
-/// The place of the first fault of an option's data: their length where they are under four octets, else 0 for the
-/// family, 2 for the source length, 3 for the scope length, 4 for the address.
+/// The place of the first fault of an option's data: their length where they are under four octets,
+/// else 0 for the family, 2 for the source length, 3 for the scope length, 4 for the address.
 #[derive(Clone, Copy, Debug, PartialEq, Eq)]
 pub struct Malformed(pub usize);

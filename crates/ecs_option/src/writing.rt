@@ -8,7 +8,8 @@ use crate::ClientSubnet;
 use octets::{front, put_at, two_octets};
 
 impl ClientSubnet {
-    /// Writes the option, its code and length included, with this scope. The answer is how many octets it takes.
+    /// Writes the option, its code and length included, with this scope. The answer is how many
+    /// octets it takes.
     pub fn write(&self, scope: u8, into: &mut [u8; 24]) -> usize
         requires { IsSubnet self.now }
         ensures length { result ≡ length (option_of self.now scope) }

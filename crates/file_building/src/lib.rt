@@ -1,6 +1,8 @@
-//! The file that a compaction builds: a snapshot and the entries since, copied behind a closed gate, and then opened.
+//! The file that a compaction builds: a snapshot and the entries since, copied behind a closed
+//! gate, and then opened.
 //!
-//! A journal over two disks decides when each step comes; here are the bytes, and what a crash leaves of them.
+//! A journal over two disks decides when each step comes; here are the bytes, and what a crash
+//! leaves of them.
 #![tactic(auto)]
 
 mod build;

@@ -7,7 +7,8 @@ ghost use Rattle.r53_disk.specs.Disk.{Reaches, Rests};
 use octets::{behind, front, put_at};
 use r53_disk::{Disk, Done};
 
-/// Puts what there is room for of a part of a file into a piece of that file, of which so many bytes are filled.
+/// Puts what there is room for of a part of a file into a piece of that file, of which so many
+/// bytes are filled.
 ///
 /// `skip` is how many bytes of this part and of all that follows stand before the piece.
 pub(crate) fn put_part(piece: &mut [u8], filled: usize, part: &[u8], skip: u64) -> usize

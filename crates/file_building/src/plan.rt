@@ -30,7 +30,8 @@ impl Model for Compaction {
 }
 
 impl Compaction {
-    /// A compaction to this snapshot of which nothing is written, where the active file has its closed gate at this place.
+    /// A compaction to this snapshot of which nothing is written, where the active file has its
+    /// closed gate at this place.
     pub fn begin(snapshot: Vec<u8>, from: u64) -> Compaction
         ensures { result ≡ record { snapshot = snapshot.items; from = from; next = 0 } }
     {

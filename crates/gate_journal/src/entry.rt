@@ -28,7 +28,8 @@ impl Model for Entry {
 
     ghost view = { λ e. take e.size (drop 4 e.buffer.items) };
 
-    ghost invariant = { λ e. (e.buffer.items ≡ body (take e.size (drop 4 e.buffer.items)) ++ 0 ∷ []) × (length (take e.size (drop 4 e.buffer.items)) ≡ e.size) };
+    ghost invariant = { λ e. (e.buffer.items ≡ body (take e.size (drop 4 e.buffer.items))
+        ++ 0 ∷ []) × (length (take e.size (drop 4 e.buffer.items)) ≡ e.size) };
 }
 
 impl Entry {

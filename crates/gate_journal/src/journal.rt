@@ -34,7 +34,8 @@ impl Journal {
     /// A journal of a file that was built whole up to its closed gate, which is the last of these bytes.
     pub fn built<D: Disk>(disk: &D, length: u64) -> Journal
         requires ends { (bytes : List ℕ) → D.reading disk.now ≡ Some bytes → EndsAt (length - 1) bytes }
-        requires durable { (bytes : List ℕ) → D.reading disk.now ≡ Some bytes → Only bytes (D.images disk.now) }
+        requires durable { (bytes : List ℕ) → D.reading disk.now ≡ Some bytes
+            → Only bytes (D.images disk.now) }
         requires least { 21 ≤ length }
         requires most { length ≤ most }
         ensures place { result ≡ length - 1 }
@@ -60,7 +61,8 @@ impl Journal {
 
         // It fails only where the disk's count rose.
         ensures counts { D.faults disk.old ≤ D.faults disk.new }
-        ensures failed { IsErrOf result JournalFault.DiskFault → Rose (D.faults disk.old) (D.faults disk.new) }
+        ensures failed { IsErrOf result JournalFault.DiskFault
+            → Rose (D.faults disk.old) (D.faults disk.new) }
     {
         let Size::Bytes(size) = disk.size() else {
             return Err(JournalFault::DiskFault);
@@ -104,12 +106,14 @@ impl Journal {
 
         // It moves on behind an entry alone, and at the closed gate there is none.
         ensures stays { UnlessSome result (self.new ≡ self.old) }
-        ensures ended { (bytes : List ℕ) → D.reading disk.old ≡ Some bytes → EndsAt self.old bytes → IsNoMore result }
+        ensures ended { (bytes : List ℕ) → D.reading disk.old ≡ Some bytes → EndsAt self.old bytes
+            → IsNoMore result }
         ensures rests { Rests D.reading D.images D.moment D.images_since disk.old disk.new }
 
         // It fails only where the disk's count rose.
         ensures counts { D.faults disk.old ≤ D.faults disk.new }
-        ensures failed { IsErrOf result JournalFault.DiskFault → Rose (D.faults disk.old) (D.faults disk.new) }
+        ensures failed { IsErrOf result JournalFault.DiskFault
+            → Rose (D.faults disk.old) (D.faults disk.new) }
     {
         let Size::Bytes(size) = disk.size() else {
             return Err(JournalFault::DiskFault);
@@ -150,12 +154,13 @@ impl Journal {
         ensures stands { UnlessFault result (StandsOn D.reading D.images self.new disk.new) }
         ensures leaves { (g : ℕ) (s : List ℕ) (es : List (List ℕ)) (bytes : List ℕ)
             → D.reading disk.old ≡ Some bytes → OpensTo bytes g s es
-            → (after : List ℕ) × (D.reading disk.new ≡ Some after) × AppendLeaves result g s es entry.now after }
+            → (after : List ℕ) × (D.reading disk.new ≡ Some after)
+            × AppendLeaves result g s es entry.now after }
         ensures untold { D.reading disk.old ≡ None → D.reading disk.new ≡ None }
         ensures moves { MovesOn result self.old (length entry.now) self.new }
 
-        // At each moment of the call a crash leaves the old entries, with the new one or without; where it is Full,
-        // without.
+        // At each moment of the call a crash leaves the old entries, with the new one or without;
+        // where it is Full, without.
         ensures any_moment { (g : ℕ) (s : List ℕ) (es : List (List ℕ)) (bytes : List ℕ)
             → D.reading disk.old ≡ Some bytes → OpensTo bytes g s es
             → LeavesOnly D.moment D.images_since disk.old disk.new (MayLeave result g s es entry.now) }

@@ -131,7 +131,8 @@ fn shared_with(prefixes: &[IpPrefix], row: u32, other: u32) -> u8
     requires row { row < length prefixes.now }
     requires other { other < length prefixes.now }
     ensures { (n : ℕ) → n ≤ 128 → (n ≤ result ↔ ((n ≤ (prefix_at prefixes.now other).length)
-        × (first_bits n (prefix_at prefixes.now row).address ≡ first_bits n (prefix_at prefixes.now other).address))) }
+        × (first_bits n (prefix_at prefixes.now row).address
+        ≡ first_bits n (prefix_at prefixes.now other).address))) }
 {
     let prefix = prefix_of(prefixes, other);
     shared_bits(prefix_of(prefixes, row).address(), prefix.address()).min(prefix.length())

@@ -45,7 +45,8 @@ fn at_node(
     ensures each { (row : ℕ) → row < length prefixes.now
         → width_of (prefix_at prefixes.now row).address ≡ width_of address
         → Stands nodes.now at row ⊎ IsDone prefixes.now address seen row
-        → ((0 < result.next) × Stands nodes.now result.next row) ⊎ IsDone prefixes.now address result.seen row }
+        → ((0 < result.next) × Stands nodes.now result.next row)
+        ⊎ IsDone prefixes.now address result.seen row }
 {
     let node = node_of(nodes, at);
     let shared = shared_at(prefixes, node, address, number);

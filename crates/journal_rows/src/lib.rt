@@ -1,6 +1,7 @@
 //! Rows of the journal: the bytes of its files, and what each failing device call leaves.
 //!
-//! The runs are functions, so that the conditions of the journal's calls are proved of them; the rows are tests.
+//! The runs are functions, so that the conditions of the journal's calls are proved of them; the
+//! rows are tests.
 #![tactic(auto)]
 
 mod counting;

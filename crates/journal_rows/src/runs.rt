@@ -99,7 +99,8 @@ pub fn compact<D: Disk>(
     came
 }
 
-/// Makes a store, appends an entry, compacts with an entry appended between the pieces, and appends once more.
+/// Makes a store, appends an entry, compacts with an entry appended between the pieces, and appends
+/// once more.
 pub fn make_and_fill<D: Disk>(
     alloc: Global,
     a: &mut D,

@@ -31,7 +31,8 @@ const COMPACTED: [u8; 45] = [
 /// Nothing: version 2, next zone 1, next check 1, no checks, no zones.
 const SNAPSHOT: [u8; 13] = [2, 0, 0, 0, 1, 0, 0, 0, 1, 0, 0, 0, 0];
 
-/// A health check over one endpoint is created: version 2, kind 4, threshold 3, neither inverted nor disabled.
+/// A health check over one endpoint is created: version 2, kind 4, threshold 3, neither inverted
+/// nor disabled.
 const CREATE: [u8; 6] = [2, 4, 1, 3, 0, 0];
 
 fn memory(alloc: Global, bytes: &[u8], fail: &[u64]) -> Result<MemoryDisk, OutOfMemory> {
@@ -223,7 +224,8 @@ fn is_prefix(came: Run, found: Option<u64>) -> bool {
     }
 }
 
-/// How many entries two files open to, those counted that the snapshot stands for. None where they are no store.
+/// How many entries two files open to, those counted that the snapshot stands for. None where they
+/// are no store.
 fn entries_in(alloc: Global, x: &[u8], y: &[u8]) -> Result<Option<u64>, OutOfMemory> {
     let mut a = memory(alloc, x, &[])?;
     let mut b = memory(alloc, y, &[])?;

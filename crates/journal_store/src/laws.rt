@@ -15,7 +15,8 @@ ghost use Rattle.journal_store.specs.Store.{IsStore, HasShape};
 
 use r53_disk::Disk;
 
-/// Where a journal stands, every image pair opens by its side, to its generation, with the closed gate at its place.
+/// Where a journal stands, every image pair opens by its side, to its generation, with the closed
+/// gate at its place.
 pub fn stands_has_shape<D: Disk>()
     ensures { (v : State) (a b : D) (x y : List ℕ)
         → StandsOn D.reading D.images v a b → D.reading a ≡ Some x → D.reading b ≡ Some y

@@ -1,4 +1,5 @@
-//! A store over two files: every pair of images that a crash may leave opens, and each call of the journal keeps it so.
+//! A store over two files: every pair of images that a crash may leave opens, and each call of the
+//! journal keeps it so.
 //!
 //! These are a definition and its laws, for contracts to cite; nothing runs here.
 #![tactic(auto)]

@@ -23,8 +23,8 @@ pub struct Picked {
 
 /// Chooses at most eight sets of a multivalue answer group by a random word.
 ///
-/// The healthy sets are considered, or all where none is healthy. Where these are more than eight, the choice is eight
-/// consecutive ones in cyclic order from place `word mod count` on.
+/// The healthy sets are considered, or all where none is healthy. Where these are more than eight,
+/// the choice is eight consecutive ones in cyclic order from place `word mod count` on.
 pub fn choose(healthy: &[bool], word: u64) -> Picked
     requires some { 1 ≤ length healthy.now }
     requires most { length healthy.now ≤ 100 }

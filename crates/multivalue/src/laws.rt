@@ -2,8 +2,8 @@
 
 ghost use Rattle.multivalue.specs.Laws.{EightAtMost};
 
-/// Eight considered sets are chosen, or all where they are fewer. None is chosen twice, and they follow one another in
-/// cyclic order.
+/// Eight considered sets are chosen, or all where they are fewer. None is chosen twice, and they
+/// follow one another in cyclic order.
 pub fn eight_at_most()
     ensures { EightAtMost }
 {}

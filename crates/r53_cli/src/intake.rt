@@ -60,7 +60,8 @@ pub(crate) enum Drained {
 /// Reads a source to its end, or as many bytes as `most`, and lets them go.
 pub(crate) fn drain<S: Source>(input: &mut S, buffer: &mut [u8], most: u64) -> Drained
     requires { 0 < length buffer.old }
-    ensures reads { (left : List ℕ) → S.left input.old ≡ Some left → DrainOf left (S.left input.new) result most }
+    ensures reads { (left : List ℕ) → S.left input.old ≡ Some left
+        → DrainOf left (S.left input.new) result most }
     ensures counts { S.faults input.old ≤ S.faults input.new }
     ensures failed { result ≡ Drained.Failed → Rose (S.faults input.old) (S.faults input.new) }
 {

@@ -18,7 +18,8 @@ pub(crate) enum Output {
 
 /// Writes a piece whole.
 pub(crate) fn write_whole<K: Sink>(out: &mut K, piece: &[u8]) -> Output
-    ensures writes { (held : List ℕ) → K.held out.old ≡ Some held → OutputOf held (K.held out.new) result piece.now }
+    ensures writes { (held : List ℕ) → K.held out.old ≡ Some held
+        → OutputOf held (K.held out.new) result piece.now }
     ensures counts { K.faults out.old ≤ K.faults out.new }
     ensures failed { result ≡ Output.Failed → Rose (K.faults out.old) (K.faults out.new) }
 {

@@ -24,7 +24,8 @@ const REPLY_ROOM: usize = 4096;
 ///
 /// `once NAME TTL ADDRESS` reads one packet from `input`, and writes the reply to `out`.
 pub fn run<S: Source, K: Sink>(alloc: Global, args: &[String], input: &mut S, out: &mut K) -> Status
-    // Usage comes where the words are no form of the program, and there alone; only want of memory comes before it.
+    // Usage comes where the words are no form of the program, and there alone; only want of memory
+    // comes before it.
     ensures usage { result ≡ Status.Usage → HasNoForm (map string_bytes args.now) }
     ensures refused { HasNoForm (map string_bytes args.now) → IsRefused result }
 

@@ -51,7 +51,8 @@ fn is_plain(word: &str) -> bool
 /// The record of a name, a number of seconds and an address, or none where one of them is not of its form.
 fn record(alloc: Global, name: &str, ttl: &str, address: &str) -> Result<Option<Once>, OutOfMemory>
     ensures some { IfOk result (λ found. IfSome found (Spells name.now ttl.now address.now)) }
-    ensures none { IfOk result (λ found. IfNone found ((once : Once) → Spells name.now ttl.now address.now once → ⊥)) }
+    ensures none { IfOk result (λ found. IfNone found ((once : Once)
+        → Spells name.now ttl.now address.now once → ⊥)) }
 {
     let Some(name) = name_of(name.as_bytes()) else {
         return Ok(None);

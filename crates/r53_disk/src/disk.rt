@@ -81,13 +81,15 @@ pub trait Disk {
         ensures failed { result ≡ Done.Failed → Rose (faults self.old) (faults self.new) };
 
     /// Where one disk of a type tells its reading, each does.
-    ghost alike: { (disk other : Self) (bytes : List ℕ) → reading disk ≡ Some bytes → (told : List ℕ) × (reading other ≡ Some told) };
+    ghost alike: { (disk other : Self) (bytes : List ℕ) → reading disk ≡ Some bytes
+        → (told : List ℕ) × (reading other ≡ Some told) };
 
     /// What it reads as may be what a crash leaves.
     ghost is_image: { (disk : Self) (bytes : List ℕ) → reading disk ≡ Some bytes → images disk bytes };
 
     /// This moment is one of those since an earlier one.
-    ghost counts_now: { (disk : Self) (t : ℕ) (c : List ℕ) → t ≤ moment disk → images disk c → images_since disk t c };
+    ghost counts_now: { (disk : Self) (t : ℕ) (c : List ℕ) → t ≤ moment disk → images disk c
+        → images_since disk t c };
 
     /// Since this moment there is no other.
     ghost only_now: { (disk : Self) (c : List ℕ) → images_since disk (moment disk) c → images disk c };

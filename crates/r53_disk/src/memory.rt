@@ -48,7 +48,15 @@ impl Model for MemoryDisk {
 
     ghost Value = { History };
 
-    ghost view = { λ d. record { first = d.first.items; steps = steps_of d.kept.items; room = d.room; fail = d.fail.items; calls = d.calls; faults = d.faults; starved = d.starved } };
+    ghost view = { λ d. record {
+      first = d.first.items;
+      steps = steps_of d.kept.items;
+      room = d.room;
+      fail = d.fail.items;
+      calls = d.calls;
+      faults = d.faults;
+      starved = d.starved;
+    } };
 
     ghost invariant = { λ d. d.bytes.items ≡ reading_after d.first.items (steps_of d.kept.items) };
 }
@@ -200,7 +208,8 @@ impl Disk for MemoryDisk {
 
     fn size(&mut self) -> Size
         ensures size { (bytes : List ℕ) → Some (reading_of self.old) ≡ Some bytes → GivesSize result bytes }
-        ensures rests { Rests (λ d. Some (reading_of d)) IsImage (λ d. length d.steps) IsImageSince self.old self.new }
+        ensures rests { Rests (λ d. Some (reading_of d)) IsImage (λ d. length d.steps) IsImageSince
+            self.old self.new }
         ensures counts { self.old.faults ≤ self.new.faults }
         ensures failed { result ≡ Size.Failed → Rose self.old.faults self.new.faults }
 
@@ -214,7 +223,8 @@ impl Disk for MemoryDisk {
         requires { at + length into.old ≤ length (reading_of self.old) }
         ensures bytes { (bytes : List ℕ) → Some (reading_of self.old) ≡ Some bytes
             → GivesBytes result bytes at into.new }
-        ensures rests { Rests (λ d. Some (reading_of d)) IsImage (λ d. length d.steps) IsImageSince self.old self.new }
+        ensures rests { Rests (λ d. Some (reading_of d)) IsImage (λ d. length d.steps) IsImageSince
+            self.old self.new }
         ensures counts { self.old.faults ≤ self.new.faults }
         ensures failed { result ≡ Done.Failed → Rose self.old.faults self.new.faults }
 

@@ -29,7 +29,13 @@ impl Model for ListSource {
 
     ghost Value = { SourceState };
 
-    ghost view = { λ a. record { left = drop a.at a.bytes.items; piece = a.piece; fail = a.fail.items; calls = a.calls; faults = a.faults } };
+    ghost view = { λ a. record {
+      left = drop a.at a.bytes.items;
+      piece = a.piece;
+      fail = a.fail.items;
+      calls = a.calls;
+      faults = a.faults;
+    } };
 
     ghost invariant = { λ a. (a.at ≤ length a.bytes.items) × (0 < a.piece) };
 }

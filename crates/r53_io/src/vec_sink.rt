@@ -29,7 +29,13 @@ impl Model for VecSink {
 
     ghost Value = { SinkState };
 
-    ghost view = { λ a. record { held = take a.len a.buffer.items; room = length a.buffer.items; fail = a.fail.items; calls = a.calls; faults = a.faults } };
+    ghost view = { λ a. record {
+      held = take a.len a.buffer.items;
+      room = length a.buffer.items;
+      fail = a.fail.items;
+      calls = a.calls;
+      faults = a.faults;
+    } };
 
     ghost invariant = { λ a. a.len ≤ length a.buffer.items };
 }

@@ -28,6 +28,13 @@ pub(crate) fn is_text(alphabet: Alphabet, most: usize, bytes: &[u8]) -> bool
     are_of(alphabet, bytes)
 }
 
+/// Whether bytes are 1 to so many of A to Z, a to z, 0 to 9, `_` and `-`.
+pub fn is_location_text(most: usize, bytes: &[u8]) -> bool
+    ensures { IsTrue result ↔ IsText is_location_byte most bytes.now }
+{
+    is_text(Alphabet::LocationName, most, bytes)
+}
+
 /// Whether each byte is of an alphabet.
 fn are_of(alphabet: Alphabet, bytes: &[u8]) -> bool
     ensures { IsTrue result ↔ AllByRecursion (λ b. is_of alphabet b ≡ true) bytes.now }

@@ -8,7 +8,9 @@ mod locations;
 mod policies;
 mod texts;
 
-pub use alphabet::{is_location_byte, is_printable, is_region_byte, is_subdivision_byte};
+pub use alphabet::{
+    is_location_byte, is_location_text, is_printable, is_region_byte, is_subdivision_byte,
+};
 pub use locations::is_location;
 pub use policies::{Continent, Place, Role, Routing};
 pub use texts::{Ident, Region, Sub};

@@ -29,7 +29,12 @@ impl Model for Ident {
 
     ghost inverse = { λ text. record { bytes = padded 128 text; len = length text } };
 
-    ghost inverse_ok = { λ a h. let e : (padded 128 (take a.len a.bytes), length (take a.len a.bytes)) ≡ (a.bytes, a.len) = let size = h.0.size in let bytes = h.0.bytes in Prim.cc in ap (λ (p : List ℕ × ℕ). record { bytes = p.0; len = p.1 }) e };
+    ghost inverse_ok = { λ a h.
+        let e : (padded 128 (take a.len a.bytes), length (take a.len a.bytes)) ≡ (a.bytes, a.len) =
+        let size = h.0.size in
+        let bytes = h.0.bytes in
+        Prim.cc in
+        ap (λ (p : List ℕ × ℕ). record { bytes = p.0; len = p.1 }) e };
 }
 
 impl Ident {
@@ -85,7 +90,12 @@ impl Model for Region {
 
     ghost inverse = { λ text. record { bytes = padded 32 text; len = length text } };
 
-    ghost inverse_ok = { λ a h. let e : (padded 32 (take a.len a.bytes), length (take a.len a.bytes)) ≡ (a.bytes, a.len) = let size = h.0.size in let bytes = h.0.bytes in Prim.cc in ap (λ (p : List ℕ × ℕ). record { bytes = p.0; len = p.1 }) e };
+    ghost inverse_ok = { λ a h.
+        let e : (padded 32 (take a.len a.bytes), length (take a.len a.bytes)) ≡ (a.bytes, a.len) =
+        let size = h.0.size in
+        let bytes = h.0.bytes in
+        Prim.cc in
+        ap (λ (p : List ℕ × ℕ). record { bytes = p.0; len = p.1 }) e };
 }
 
 impl Region {
@@ -142,7 +152,12 @@ impl Model for Sub {
 
     ghost inverse = { λ text. record { bytes = padded 3 text; len = length text } };
 
-    ghost inverse_ok = { λ a h. let e : (padded 3 (take a.len a.bytes), length (take a.len a.bytes)) ≡ (a.bytes, a.len) = let size = h.0.size in let bytes = h.0.bytes in Prim.cc in ap (λ (p : List ℕ × ℕ). record { bytes = p.0; len = p.1 }) e };
+    ghost inverse_ok = { λ a h.
+        let e : (padded 3 (take a.len a.bytes), length (take a.len a.bytes)) ≡ (a.bytes, a.len) =
+        let size = h.0.size in
+        let bytes = h.0.bytes in
+        Prim.cc in
+        ap (λ (p : List ℕ × ℕ). record { bytes = p.0; len = p.1 }) e };
 }
 
 impl Sub {

@@ -247,8 +247,8 @@ impl ZoneJournal {
             → Leaves D.reading a.new b.new (AppendLeaves result g s es entry.now) }
         ensures moves { MovesOn result self.old (length entry.now) self.new }
 
-        // At each moment every image pair opens to the old entries, with the new one or without; where it is Full,
-        // without.
+        // At each moment every image pair opens to the old entries, with the new one or without;
+        // where it is Full, without.
         ensures any_moment { (g : ℕ) (s : List ℕ) (es : List (List ℕ)) (x y : List ℕ)
             → D.reading a.old ≡ Some x → D.reading b.old ≡ Some y → OpensPair x y g s es
             → EachPair D.moment D.images_since a.old a.new b.old b.new (MayLeave result g s es entry.now) }
@@ -278,12 +278,14 @@ impl ZoneJournal {
         ensures stands { UnlessAppendFault result (Stands D.reading D.images self.new active.new other.now) }
         ensures leaves { (g : ℕ) (s : List ℕ) (es : List (List ℕ)) (x : List ℕ)
             → D.reading active.old ≡ Some x → OpensTo x g s es
-            → (after : List ℕ) × (D.reading active.new ≡ Some after) × FileLeaves result g s es entry.now after }
+            → (after : List ℕ) × (D.reading active.new ≡ Some after)
+            × FileLeaves result g s es entry.now after }
         ensures moves { MovesOn result self.old (length entry.now) self.new }
         ensures side { self.new.side ≡ self.old.side }
         ensures any_moment { (g : ℕ) (s : List ℕ) (es : List (List ℕ)) (x : List ℕ)
             → D.reading active.old ≡ Some x → OpensTo x g s es
-            → LeavesOnly D.moment D.images_since active.old active.new (FileMayLeave result g s es entry.now) }
+            → LeavesOnly D.moment D.images_since active.old active.new
+            (FileMayLeave result g s es entry.now) }
         ensures full { OnFull result (active.new ≡ active.old) }
         ensures cause { HasCause result self.old (length entry.now) }
         ensures counts { D.faults active.old ≤ D.faults active.new }
@@ -336,8 +338,8 @@ impl ZoneJournal {
 
     /// Goes on with a compaction by one piece.
     ///
-    /// The first piece closes the other file's gate, each next one copies up to 65,536 bytes, and the last one opens the
-    /// new file.
+    /// The first piece closes the other file's gate, each next one copies up to 65,536 bytes, and
+    /// the last one opens the new file.
     pub fn compact_piece<D: Disk>(&mut self, a: &mut D, b: &mut D) -> Piece
         requires stands { StandsOn D.reading D.images self.old a.old b.old }
         requires in_progress { IsSome self.old.plan }
@@ -350,7 +352,8 @@ impl ZoneJournal {
             → D.reading a.old ≡ Some x → D.reading b.old ≡ Some y → OpensPair x y g s (es ++ since)
             → Leaves D.reading a.new b.new (PieceLeaves result self.old p g s es since) }
 
-        // At each moment every image pair opens to the old file's entries, or from the last piece on to the new one's.
+        // At each moment every image pair opens to the old file's entries, or from the last piece
+        // on to the new one's.
         ensures any_moment { (p : Plan) (g : ℕ) (s : List ℕ) (es since : List (List ℕ)) (x y : List ℕ)
             → self.old.plan ≡ Some p → p.from ≡ length (front g s es)
             → D.reading a.old ≡ Some x → D.reading b.old ≡ Some y → OpensPair x y g s (es ++ since)

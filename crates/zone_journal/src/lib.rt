@@ -1,6 +1,7 @@
 //! A journal over two disks: a snapshot and the entries since, compacted in pieces.
 //!
-//! The open file of the greater generation decides, `a` where they are equal; the other one is free to be built anew.
+//! The open file of the greater generation decides, `a` where they are equal; the other one is free
+//! to be built anew.
 #![tactic(auto)]
 
 mod answers;

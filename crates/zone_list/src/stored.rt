@@ -27,7 +27,14 @@ impl Model for StoredZone {
 
     ghost Value = { Kept };
 
-    ghost view = { λ s. record { zone = record { id = s.id; apex = s.apex; placed = s.sets.placed }; room = s.sets.room } };
+    ghost view = { λ s. record {
+      zone = record {
+        id = s.id;
+        apex = s.apex;
+        placed = s.sets.placed;
+      };
+      room = s.sets.room;
+    } };
 
     ghost invariant = { λ s. AllByRecursion (λ p. CanStand s.apex p.set) s.sets.placed };
 }

@@ -8,7 +8,8 @@ ghost use Rattle.zone_model.specs.Keys.{ident_cmp, key_cmp};
 use record_set::{Ident, SetKey};
 use std::cmp::Ordering;
 
-/// The order of two keys in a zone: by name, then by the type's number, then by the identifier's bytes, none first.
+/// The order of two keys in a zone: by name, then by the type's number, then by the identifier's
+/// bytes, none first.
 pub fn key_cmp(x: &SetKey, y: &SetKey) -> Ordering
     ensures { result ≡ key_cmp x.now y.now }
 {

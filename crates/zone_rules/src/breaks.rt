@@ -9,7 +9,8 @@ use batch_model::BatchRefusal;
 use dns_name::Name;
 use record_set::RecordSet;
 
-/// Why the sets can't be those of the zone with this apex: the first rule that is broken, and the first set that breaks it.
+/// Why the sets can't be those of the zone with this apex: the first rule that is broken, and the
+/// first set that breaks it.
 pub fn first_break(sets: &[RecordSet], apex: &Name) -> Option<BatchRefusal>
     requires { IsRising sets.now }
     ensures { TellsBreak sets.now apex.now result }

@@ -11,7 +11,8 @@ use dns_name::Name;
 use rdata::RType;
 use record_set::RecordSet;
 
-/// The name of the first set whose name has a CNAME set beside a set of another type, or a CNAME set at the apex.
+/// The name of the first set whose name has a CNAME set beside a set of another type, or a CNAME
+/// set at the apex.
 pub fn first_conflict(sets: &[RecordSet], apex: &Name) -> Option<Name>
     requires { IsRising sets.now }
     ensures { IsFirstName CnameAlone sets.now apex.now result }

@@ -1,7 +1,8 @@
-//! Marks of the places in a group, so that a set is compared with the others only where one of them may have its place.
+//! Marks of the places in a group, so that a set is compared with the others only where one of them
+//! may have its place.
 //!
-//! A mark is a number. Two policies of one place, failover role, region or location have one mark, and others seldom have
-//! the same.
+//! A mark is a number. Two policies of one place, failover role, region or location have one mark,
+//! and others seldom have the same.
 
 ghost use Rattle.std.specs.Prelude.{◌≡◌, ℕ, ◌+◌, ◌<◌, Option, length, IsTrue, ◌↔◌};
 ghost use Rattle.routing.specs.declared.policies.Routing.{Routing};

@@ -8,8 +8,8 @@ ghost use Rattle.zone_rules.specs.Marks.{AreMarked};
 use crate::marks::{Marks, is_marked};
 use record_set::{RecordSet, Role, Routing};
 
-/// Whether the set at place `i` has the place, failover role, region or location of an earlier set of its group, which
-/// begins at `start`.
+/// Whether the set at place `i` has the place, failover role, region or location of an earlier set
+/// of its group, which begins at `start`.
 pub fn has_same_place(sets: &[RecordSet], marks: &Marks, start: usize, i: usize) -> bool
     requires within { i < length sets.now }
     requires start { IsStart sets.now start i }

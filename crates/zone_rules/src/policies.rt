@@ -7,7 +7,8 @@ ghost use Rattle.zone_rules.specs.Groups.{IsStart};
 
 use record_set::{RecordSet, Routing};
 
-/// Whether the set at place `i` has another policy than the set before it in its group, which begins at `start`.
+/// Whether the set at place `i` has another policy than the set before it in its group, which
+/// begins at `start`.
 pub fn is_mixed(sets: &[RecordSet], start: usize, i: usize) -> bool
     requires rising { IsRising sets.now }
     requires within { i < length sets.now }

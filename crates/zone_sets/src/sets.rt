@@ -19,7 +19,8 @@ use zone_model::placed_rise;
 /// The most slots of a zone.
 const MOST_SLOTS: usize = 1 << 32;
 
-/// The sets of a zone, in its order. Contracts see each with its slot, and how many more can be put without memory.
+/// The sets of a zone, in its order. Contracts see each with its slot, and how many more can be put
+/// without memory.
 #[derive(Drop)]
 pub struct ZoneSets {
     sets: Slab<RecordSet>,

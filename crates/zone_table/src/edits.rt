@@ -130,9 +130,16 @@ impl Model for Ready {
 
     ghost Value = { Prepared };
 
-    ghost view = { λ ready. record { made = ready.made; edits = ready.edits; removable = vec_capacity ready.removed; addable = vec_capacity ready.added; blank = ready.blank.room } };
+    ghost view = { λ ready. record {
+      made = ready.made;
+      edits = ready.edits;
+      removable = vec_capacity ready.removed;
+      addable = vec_capacity ready.added;
+      blank = ready.blank.room;
+    } };
 
-    ghost invariant = { λ ready. (ready.removed.items ≡ []) × (ready.added.items ≡ []) × (ready.blank.placed ≡ []) };
+    ghost invariant = { λ ready. (ready.removed.items ≡ []) × (ready.added.items ≡ [])
+        × (ready.blank.placed ≡ []) };
 }
 
 impl Ready {

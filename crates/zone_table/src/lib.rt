@@ -1,7 +1,7 @@
 //! The zones of a server and their record sets: found by name, by key and by reference, and changed by edits.
 //!
-//! An edit is made ready first, which takes all its memory, and then made, which can't fail. A set that is not in an edit
-//! keeps its reference.
+//! An edit is made ready first, which takes all its memory, and then made, which can't fail. A set
+//! that is not in an edit keeps its reference.
 #![tactic(auto)]
 
 mod edits;

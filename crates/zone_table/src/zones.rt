@@ -42,7 +42,12 @@ impl Model for Zones {
 
     ghost Value = { Table };
 
-    ghost view = { λ z. record { zones = zones_of z.list.items; rooms = map (λ k. k.room) z.list.items; spare = vec_capacity z.list - length z.list.items; edits = z.edits } };
+    ghost view = { λ z. record {
+      zones = zones_of z.list.items;
+      rooms = map (λ k. k.room) z.list.items;
+      spare = vec_capacity z.list - length z.list.items;
+      edits = z.edits;
+    } };
 
     ghost invariant = { λ z. AreListed (zones_of z.list.items) };
 }
@@ -198,8 +203,8 @@ impl Zones {
         }
     }
 
-    /// Makes an edit ready: takes all its memory. The zones stay as they are, and edits that are ready stay ready where it
-    /// succeeds.
+    /// Makes an edit ready: takes all its memory. The zones stay as they are, and edits that are
+    /// ready stay ready where it succeeds.
     pub fn ready(&mut self, alloc: Global, edit: ZoneEdit) -> Result<Ready, OutOfMemory>
         requires { IsAllowed self.old.zones edit }
         ensures zones { self.new.zones ≡ self.old.zones }
