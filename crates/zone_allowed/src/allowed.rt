@@ -4,7 +4,7 @@ ghost use Rattle.std.specs.Prelude.{◌≡◌, List, IsTrue};
 ghost use Rattle.std.specs.List.{AllByRecursion};
 ghost use Rattle.record_set.specs.Sets.{key_of};
 ghost use Rattle.zone_model.specs.Placing.{IsThere};
-ghost use Rattle.zone_sets.specs.Placed.{Placed, sets_of};
+ghost use Rattle.zone_model.specs.Placed.{Placed, sets_of};
 ghost use Rattle.zone_table.specs.declared.edits.ZoneEdit.TheVariants.{Change};
 ghost use Rattle.zone_list.specs.Changes.{CanBeAdded, CanChange, IsKeyOf};
 ghost use Rattle.zone_table.specs.Edits.{IsAllowed};

@@ -4,8 +4,8 @@ use Rattle.std.proofs.Common.{ap, ◌∙◌, arith, inl, inr}
 use Rattle.std.specs.Prelude.{slice_get}
 use Rattle.std.specs.List.{insert, remove, sum_by}
 use Rattle.std.proofs.lemmas.List.Sums.{sum_by-append, sum_by-cons}
-use Rattle.zone_sets.specs.Placed.{Placed, IsPut, IsTakenAt}
-use Rattle.zone_sets.proofs.Lists.{split, split_at}
+use Rattle.zone_model.specs.Placed.{Placed, IsPut, IsTakenAt}
+use Rattle.zone_model.proofs.Lists.{split, split_at}
 use Rattle.zone_changes.specs.Coming.{cells_in, cells_of, Comes}
 
 first : (x : Placed) (xs : List Placed) → sum_by cells_in (x ∷ xs) ≡ cells_in x + sum_by cells_in xs

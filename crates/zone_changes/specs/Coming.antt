@@ -5,7 +5,7 @@ use Rattle.octet_region.specs.Cells.{cells_for}
 use Rattle.record_set.specs.declared.sets.RecordSet.{RecordSet}
 use Rattle.record_set.specs.Sets.{key_of}
 use Rattle.set_octets.specs.Octets.{set_octets}
-use Rattle.zone_sets.specs.Placed.{Placed, IsPut}
+use Rattle.zone_model.specs.Placed.{Placed, IsPut}
 
 -- The set with its key gives way to a set, which stands in its slot. All others stay, each in its slot.
 pub record IsReplaced (before : List Placed) (given : Placed) (after : List Placed) : Type 0 where

@@ -1,3 +1,3 @@
 pub mod Coming
 pub use Rattle.zone_order.specs.Orders
-pub use Rattle.zone_sets.specs.Placed
+pub use Rattle.zone_model.specs.Placed

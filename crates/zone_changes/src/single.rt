@@ -9,7 +9,7 @@ ghost use Rattle.set_store.specs.Stored.{Spells};
 ghost use Rattle.zone_changes.specs.Coming.{Comes, cells_of};
 ghost use Rattle.zone_model.specs.Placing.{IsThere};
 ghost use Rattle.zone_order.specs.Orders.{IsOrder, OthersStay, placed_of};
-ghost use Rattle.zone_sets.specs.Placed.{IsSlotAt, IsTaken, sets_of};
+ghost use Rattle.zone_model.specs.Placed.{IsSlotAt, IsTaken, sets_of};
 
 use octets::front;
 use record_set::{RecordSet, SetKey};

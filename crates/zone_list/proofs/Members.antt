@@ -13,9 +13,9 @@ use Rattle.zone_model.specs.Keys.{key_cmp}
 use Rattle.zone_model.specs.Zones.{IsAmong, IsRising}
 use Rattle.zone_model.proofs.Ordered.{keys_total}
 use Rattle.zone_model.proofs.Among.{among_at, place_of}
-use Rattle.zone_sets.specs.Placed.{Placed, IsPut, IsTaken, sets_of}
+use Rattle.zone_model.specs.Placed.{Placed, IsPut, IsTaken, sets_of}
 use Rattle.zone_list.specs.Zones.{Zone, CanStand}
-use Rattle.zone_sets.proofs.Lists.{in_put, in_itself, in_taken, split, split_at}
+use Rattle.zone_model.proofs.Lists.{in_put, in_itself, in_taken, split, split_at}
 
 module _ {X : Type 0} where
   pub put_or_in : (front back : List X) (x y : X) → IsAmong (front ++ x ∷ back) y

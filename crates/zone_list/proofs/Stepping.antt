@@ -8,9 +8,9 @@ use Rattle.record_set.specs.declared.sets.SetKey.{SetKey}
 use Rattle.record_set.specs.Sets.{key_of}
 use Rattle.zone_model.specs.Placing.{IsThere}
 use Rattle.zone_model.specs.Zones.{IsAmong, IsRising}
-use Rattle.zone_sets.specs.Placed.{Placed, IsPut, IsTaken, AreOfZone, sets_of}
+use Rattle.zone_model.specs.Placed.{Placed, IsPut, IsTaken, AreOfZone, sets_of}
 use Rattle.zone_sets.proofs.Keeping.{rising_taken}
-use Rattle.zone_sets.proofs.Lists.{split_at, take_more}
+use Rattle.zone_model.proofs.Lists.{split_at, take_more}
 use Rattle.zone_list.specs.declared.refs.SetRef.{SetRef}
 use Rattle.zone_list.specs.Changes.{AreThere, CanChange, Changes, DifferByKey, IsKeyOf, ref_in}
 use Rattle.zone_list.specs.Steps.{AreNew, Puts, Takes}

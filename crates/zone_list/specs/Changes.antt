@@ -6,7 +6,7 @@ use Rattle.record_set.specs.declared.sets.SetKey.{SetKey}
 use Rattle.record_set.specs.Sets.{key_of}
 use Rattle.zone_model.specs.Placing.{IsThere}
 use Rattle.zone_model.specs.Zones.{IsAmong}
-use Rattle.zone_sets.specs.Placed.{Placed, IsHere, AreOfZone, sets_of}
+use Rattle.zone_model.specs.Placed.{Placed, IsHere, AreOfZone, sets_of}
 use Rattle.zone_list.specs.declared.refs.SetRef.{SetRef}
 use Rattle.zone_list.specs.Zones.{CanStand}
 

@@ -5,4 +5,4 @@ pub mod Steps
 pub mod Zones
 pub use Rattle.zone_model.specs.Placing
 pub use Rattle.zone_model.specs.Zones as Sets
-pub use Rattle.zone_sets.specs.Placed
+pub use Rattle.zone_model.specs.Placed

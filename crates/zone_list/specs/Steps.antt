@@ -5,7 +5,7 @@ use Rattle.record_set.specs.declared.sets.RecordSet.{RecordSet}
 use Rattle.record_set.specs.declared.sets.SetKey.{SetKey}
 use Rattle.record_set.specs.Sets.{key_of}
 use Rattle.zone_model.specs.Placing.{IsThere}
-use Rattle.zone_sets.specs.Placed.{Placed, IsPut, IsTaken}
+use Rattle.zone_model.specs.Placed.{Placed, IsPut, IsTaken}
 use Rattle.zone_list.specs.declared.refs.SetRef.{SetRef}
 
 -- The sets of the keys are taken one after another.

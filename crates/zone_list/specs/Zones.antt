@@ -5,7 +5,7 @@ use Rattle.dns_name.specs.Suffix.{EndsWith}
 use Rattle.record_set.specs.declared.sets.RecordSet.{RecordSet}
 use Rattle.set_octets.specs.Octets.{HasSpelling}
 use Rattle.zone_model.specs.Zones.{IsAmong}
-use Rattle.zone_sets.specs.Placed.{Placed, AreOfZone}
+use Rattle.zone_model.specs.Placed.{Placed, AreOfZone}
 
 -- A zone: its number, the name of its apex, and its sets in zone order, each with its slot.
 pub record Zone : Type 0 where

@@ -1,7 +1,7 @@
 //! Sets taken from a zone, and sets put into it.
 
 ghost use Rattle.std.specs.Prelude.{◌≡◌, ◌≤◌, [], length, map, vec_capacity};
-ghost use Rattle.zone_sets.specs.Placed.{sets_of};
+ghost use Rattle.zone_model.specs.Placed.{sets_of};
 ghost use Rattle.zone_list.specs.Changes.{AreThere, ref_in};
 ghost use Rattle.zone_list.specs.Steps.{AreNew, Puts, Takes};
 

@@ -1,4 +1,5 @@
 pub mod Among
+pub mod Lists
 pub mod Ordered
 pub mod Places
 pub mod Staying

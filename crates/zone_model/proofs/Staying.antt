@@ -119,7 +119,7 @@ module _ (given : RecordSet) (sets : List RecordSet) where
       rising_append front (given ∷ back) (rising_filtered (comes_before (key_of given)) sets rising)
       (back_above, rising_filtered (comes_behind (key_of given)) sets rising) front_below_rest
 
-  without_rising : IsRising sets → IsRising (without (key_of given) sets)
+  pub without_rising : IsRising sets → IsRising (without (key_of given) sets)
   without_rising rising =
       rising_append front back (rising_filtered (comes_before (key_of given)) sets rising)
       (rising_filtered (comes_behind (key_of given)) sets rising) front_below_back

@@ -2,6 +2,7 @@ pub mod Existing
 pub mod KeyLaws
 pub mod Keys
 pub mod Laws
+pub mod Placed
 pub mod Placing
 pub mod Walks
 pub mod Zones

@@ -3,3 +3,4 @@ pub mod Orders
 pub mod Slots
 pub mod Replaced
 pub mod Vacant
+pub mod Rising

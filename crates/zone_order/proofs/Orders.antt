@@ -12,10 +12,10 @@ use Rattle.zone_model.specs.Laws.{PlacedRise}
 use Rattle.zone_model.specs.Zones.{IsAmong, IsRising}
 use Rattle.set_search.specs.Found.{FindsNone}
 use Rattle.set_store.specs.Index.{no_set}
-use Rattle.zone_sets.specs.Placed.{Placed, IsHere, sets_of, HaveOwnSlots, AreOfZone, IsPut, IsTakenAt}
-use Rattle.zone_sets.proofs.Keeping.{put_rises, rising_taken}
-use Rattle.zone_sets.proofs.Lists.{all_put, all_taken, all_found, split, split_at, map_insert, map_remove}
-use Rattle.zone_sets.proofs.Lists.{in_put, in_itself, in_taken}
+use Rattle.zone_model.specs.Placed.{Placed, IsHere, sets_of, HaveOwnSlots, AreOfZone, IsPut, IsTakenAt}
+use Rattle.zone_order.proofs.Rising.{put_rises, rising_taken}
+use Rattle.zone_model.proofs.Lists.{all_put, all_taken, all_found, split, split_at, map_insert, map_remove}
+use Rattle.zone_model.proofs.Lists.{in_put, in_itself, in_taken}
 use Rattle.zone_order.specs.Orders.{AreDistinct, HasSet, IsOrderBy, placed_at, placed_by}
 use Rattle.zone_order.proofs.Distinct.{apart, distinct_put, distinct_taken}
 

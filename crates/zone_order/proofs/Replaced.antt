@@ -13,8 +13,8 @@ use Rattle.set_search.specs.Found.{FindsAt}
 use Rattle.set_store.specs.Index.{no_set}
 use Rattle.set_store.proofs.Lists.{same_or_not, set_agree}
 use Rattle.zone_model.proofs.Among.{among_at}
-use Rattle.zone_sets.specs.Placed.{Placed, sets_of}
-use Rattle.zone_sets.proofs.Lists.{all_found}
+use Rattle.zone_model.specs.Placed.{Placed, sets_of}
+use Rattle.zone_model.proofs.Lists.{all_found}
 use Rattle.zone_order.specs.Orders.{AreDistinct, HasSet, IsOrderBy, placed_at, placed_by}
 use Rattle.zone_order.proofs.Orders.{Updates}
 

@@ -8,7 +8,7 @@ use Rattle.std.proofs.lemmas.Bool.Decides.{eqb_tells}
 use Rattle.record_set.specs.declared.sets.RecordSet.{RecordSet}
 use Rattle.set_store.specs.Stored.{IsKept, IsVacant, Kept}
 use Rattle.set_store.proofs.Lists.{same_or_not}
-use Rattle.zone_sets.specs.Placed.{Placed, sets_of}
+use Rattle.zone_model.specs.Placed.{Placed, sets_of}
 use Rattle.zone_order.specs.Orders.{HasSet, of_zone, OthersStay, placed_of, set_in}
 use Rattle.zone_order.proofs.Orders.{Updates, at_place}
 

@@ -6,7 +6,7 @@ use Rattle.record_set.specs.declared.sets.RecordSet.{RecordSet}
 use Rattle.set_store.specs.Index.{no_set}
 use Rattle.set_store.specs.Stored.{Kept}
 use Rattle.zone_model.specs.Zones.{IsAmong, IsRising}
-use Rattle.zone_sets.specs.Placed.{Placed, sets_of}
+use Rattle.zone_model.specs.Placed.{Placed, sets_of}
 
 -- a set that is kept, where it is of the zone
 abbrev pub of_zone : ℕ → Option (Option Kept) → Option RecordSet

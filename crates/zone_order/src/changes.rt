@@ -11,7 +11,7 @@ ghost use Rattle.set_octets.specs.Octets.{set_octets};
 ghost use Rattle.set_search.specs.Found.{FindsAt, FindsNone};
 ghost use Rattle.set_store.specs.Stored.{IsSpelling, Spells};
 ghost use Rattle.zone_order.specs.Orders.{IsOrder, OthersStay, placed_of, set_in};
-ghost use Rattle.zone_sets.specs.Placed.{IsPut, IsSlotAt, IsTakenAt, Placed, sets_of};
+ghost use Rattle.zone_model.specs.Placed.{IsPut, IsSlotAt, IsTakenAt, Placed, sets_of};
 
 use crate::views::slot_at;
 use set_store::{OutOfMemory, SetStore};

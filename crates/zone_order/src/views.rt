@@ -3,7 +3,7 @@
 ghost use Rattle.std.specs.Prelude.{◌≡◌, ◌<◌, length, slice_get, Some};
 ghost use Rattle.record_set.specs.declared.sets.RecordSet.{RecordSet};
 ghost use Rattle.zone_order.specs.Orders.{IsOrder, placed_of};
-ghost use Rattle.zone_sets.specs.Placed.{AreOfZone, IsSlotAt, sets_of};
+ghost use Rattle.zone_model.specs.Placed.{AreOfZone, IsSlotAt, sets_of};
 
 use dns_name::Name;
 use set_scratch::Scratch;
@@ -24,7 +24,7 @@ impl<'a> Model for ZoneView<'a> {
     ghost use Rattle.std.specs.List.{AllByRecursion};
     ghost use Rattle.record_set.specs.declared.sets.RecordSet.{RecordSet};
     ghost use Rattle.zone_order.specs.Orders.{HasSet, placed_of, set_in};
-    ghost use Rattle.zone_sets.specs.Placed.{sets_of};
+    ghost use Rattle.zone_model.specs.Placed.{sets_of};
 
     ghost Value = { List RecordSet };
 

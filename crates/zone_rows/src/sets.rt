@@ -3,7 +3,7 @@
 ghost use Rattle.std.specs.Prelude.{◌≡◌};
 ghost use Rattle.zone_table.specs.declared.edits.ZoneEdit.TheVariants.{Change};
 ghost use Rattle.set_scratch.specs.Holding.{IsHolding};
-ghost use Rattle.zone_sets.specs.Placed.{sets_of};
+ghost use Rattle.zone_model.specs.Placed.{sets_of};
 ghost use Rattle.zone_table.specs.Edits.{IsAllowed, IsReady, StayReady};
 ghost use Rattle.zone_table.specs.Looking.{IsApex};
 ghost use Rattle.zone_list.specs.Zones.{IsZoneId, placed_in};

@@ -14,9 +14,10 @@ use Rattle.zone_model.specs.Laws.{PlacedRise}
 use Rattle.zone_model.specs.Zones.{IsAmong, IsRising}
 use Rattle.set_search.specs.Found.{FindsNone}
 use Rattle.slab.specs.Slab.{Slab, get, slab_len, Updates}
-use Rattle.zone_sets.specs.Placed.{Placed, IsHere, sets_of, HaveOwnSlots, AreOfZone, IsPut, IsTakenAt}
+use Rattle.zone_model.specs.Placed.{Placed, IsHere, sets_of, HaveOwnSlots, AreOfZone, IsPut, IsTakenAt}
 use Rattle.zone_sets.specs.Index.{IsIndex, AreDistinct, HasSet, placed_at, placed_of, no_set, room_of}
-use Rattle.zone_sets.proofs.Lists.{all_put, all_taken, all_found, split, split_at, map_insert, map_remove, distinct_put, distinct_taken, apart, in_put, in_itself, in_taken}
+use Rattle.zone_model.proofs.Lists.{all_put, all_taken, all_found, split, split_at, map_insert, map_remove, in_put, in_itself, in_taken}
+use Rattle.zone_sets.proofs.Distinct.{apart, distinct_put, distinct_taken}
 
 -- ---- the order of sets
 

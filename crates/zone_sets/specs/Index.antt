@@ -8,7 +8,7 @@ use Rattle.record_set.specs.declared.sets.RecordSet.{RecordSet}
 use Rattle.record_set.specs.declared.sets.Body.TheVariants as body
 use Rattle.zone_model.specs.Zones.{IsAmong, IsRising}
 use Rattle.slab.specs.Slab.{Slab, get, slab_len}
-use Rattle.zone_sets.specs.Placed.{Placed, sets_of}
+use Rattle.zone_model.specs.Placed.{Placed, sets_of}
 
 -- what stands for the set of an empty slot
 abbrev pub no_set : RecordSet

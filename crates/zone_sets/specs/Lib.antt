@@ -1,2 +1,2 @@
 pub mod Index
-pub mod Placed
+pub use Rattle.zone_model.specs.Placed

@@ -4,7 +4,7 @@ ghost use Rattle.std.specs.Prelude.{◌≡◌, ◌<◌, ◌≤◌, ◌+◌, [], 
 ghost use Rattle.record_set.specs.Sets.{key_of};
 ghost use Rattle.zone_model.specs.Placing.{IsThere};
 ghost use Rattle.set_search.specs.Found.{FindsAt, FindsNone};
-ghost use Rattle.zone_sets.specs.Placed.{AreOfZone, Gets, IsPut, IsSlotAt, IsTaken, IsTakenAt, sets_of};
+ghost use Rattle.zone_model.specs.Placed.{AreOfZone, Gets, IsPut, IsSlotAt, IsTaken, IsTakenAt, sets_of};
 
 use crate::order::{insert_slot, remove_slot};
 use dns_name::Name;
@@ -28,7 +28,7 @@ pub struct ZoneSets {
 }
 
 impl Model for ZoneSets {
-    ghost use Rattle.zone_sets.specs.Placed.{Held};
+    ghost use Rattle.zone_model.specs.Placed.{Held};
     ghost use Rattle.zone_sets.specs.Index.{IsIndex, placed_of, room_of};
 
     ghost Value = { Held };

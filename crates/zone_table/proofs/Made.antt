@@ -8,7 +8,7 @@ use Rattle.std.proofs.lemmas.List.{map-append}
 use Rattle.std.proofs.lemmas.Option.{slice_get_within, slice_get-map}
 use Rattle.record_set.specs.declared.sets.RecordSet.{RecordSet}
 use Rattle.record_set.specs.declared.sets.SetKey.{SetKey}
-use Rattle.zone_sets.proofs.Lists.{all_put, all_taken, drop_map, in_put, in_itself, in_taken, map_insert, map_remove, split, split_at}
+use Rattle.zone_model.proofs.Lists.{all_put, all_taken, drop_map, in_put, in_itself, in_taken, map_insert, map_remove, split, split_at}
 use Rattle.zone_table.specs.declared.edits.ZoneEdit.{ZoneEdit}
 use Rattle.zone_table.specs.declared.edits.ZoneEdit.TheVariants as edit
 use Rattle.zone_table.specs.declared.needs.Need.{Need}

@@ -7,7 +7,7 @@ use Rattle.std.proofs.lemmas.Option.{slice_get_within}
 use Rattle.record_set.specs.declared.sets.RecordSet.{RecordSet}
 use Rattle.record_set.specs.declared.sets.SetKey.{SetKey}
 use Rattle.zone_model.specs.Zones.{IsAmong, IsRising}
-use Rattle.zone_sets.specs.Placed.{Placed, sets_of}
+use Rattle.zone_model.specs.Placed.{Placed, sets_of}
 use Rattle.zone_list.specs.declared.refs.SetRef.{SetRef}
 use Rattle.zone_list.specs.Changes.{Changes, ref_in}
 use Rattle.zone_list.specs.Zones.{Zone, AreListed, AreZones, IsOne, IsZoneId, StandsAlone, placed_in}

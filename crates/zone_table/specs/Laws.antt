@@ -1,7 +1,7 @@
 -- Laws over the definitions of this crate.
 use Rattle.std.specs.Prelude.{◌≡◌, ℕ, List, length, map}
 use Rattle.record_set.specs.declared.sets.RecordSet.{RecordSet}
-use Rattle.zone_sets.specs.Placed.{sets_of}
+use Rattle.zone_model.specs.Placed.{sets_of}
 use Rattle.zone_list.specs.Zones.{Zone, AreZones}
 use Rattle.zone_table.specs.declared.edits.ZoneEdit.{ZoneEdit}
 use Rattle.zone_table.specs.declared.refs.Delta.{Delta}

@@ -7,7 +7,7 @@ pub use Rattle.zone_model.specs.Existing
 pub use Rattle.zone_model.specs.Zones as Sets
 pub use Rattle.set_search.specs.Bounds
 pub use Rattle.set_search.specs.Found
-pub use Rattle.zone_sets.specs.Placed
+pub use Rattle.zone_model.specs.Placed
 pub use Rattle.zone_list.specs.Changes
 pub use Rattle.zone_list.specs.Found as FoundZones
 pub use Rattle.zone_list.specs.Zones

@@ -7,7 +7,7 @@ use Rattle.record_set.specs.declared.sets.SetKey.{SetKey}
 use Rattle.set_search.specs.declared.bounds.Bound.{Bound}
 use Rattle.set_search.specs.declared.bounds.Bound.TheVariants as bound
 use Rattle.set_search.specs.Found.{IsCount, IsGroupAt}
-use Rattle.zone_sets.specs.Placed.{Placed, IsHere, IsSlotAt, sets_of}
+use Rattle.zone_model.specs.Placed.{Placed, IsHere, IsSlotAt, sets_of}
 use Rattle.zone_table.specs.declared.refs.Group.{Group}
 use Rattle.zone_list.specs.declared.refs.SetRef.{SetRef}
 use Rattle.zone_list.specs.Zones.{Zone, IsOne, IsZoneId, placed_in}

@@ -2,7 +2,7 @@
 
 ghost use Rattle.std.specs.Prelude.{◌≡◌, ◌≢◌, ◌<◌, ◌+◌, ◌%◌, ◌^◌, length, List, ℕ, [], IfOk, OnOk, IsTrue, ◌↔◌};
 ghost use Rattle.zone_model.specs.Existing.{Exists, IsAncestor, IsClosest};
-ghost use Rattle.zone_sets.specs.Placed.{IsSlotAt, sets_of};
+ghost use Rattle.zone_model.specs.Placed.{IsSlotAt, sets_of};
 ghost use Rattle.zone_list.specs.Kept.{GetsZone};
 ghost use Rattle.zone_table.specs.Edits.{Edits, IsAllowed, IsReady, StayReady};
 ghost use Rattle.zone_table.specs.Looking.{ApexOrNone, HoldsOrNone, IsApex, IsGroup, IsGroupNow, IsMember, IsNextSet, Loads, SlotBehind, bound_of};

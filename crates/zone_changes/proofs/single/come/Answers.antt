@@ -2,7 +2,7 @@ use Rattle.std.proofs.Common.{◌≡◌, ◌≤◌, ℕ, List, length, set, ap, 
 use Rattle.std.specs.Prelude.{slice_get}
 use Rattle.record_set.specs.Sets.{key_of}
 use Rattle.set_search.specs.Found.{FindsAt, FindsNone}
-use Rattle.zone_sets.specs.Placed.{sets_of}
+use Rattle.zone_model.specs.Placed.{sets_of}
 use Rattle.zone_order.specs.Orders.{placed_of, set_in}
 use Rattle.zone_changes.proofs.Coming.{gives_way, one_spelled, set_there}
 use Rattle.octet_region.specs.Cells.{cells_for}

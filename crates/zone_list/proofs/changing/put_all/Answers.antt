@@ -1,7 +1,7 @@
 use Rattle.std.proofs.Common.{◌≡◌, ◌+◌, ◌++◌, ◌∷◌, [], ◌∙◌, List, length, suc, ap, sym, subst, refl, arith}
 use Rattle.std.specs.Vec.Iter.{into_iter_items}
 use Rattle.record_set.specs.declared.sets.RecordSet.{RecordSet}
-use Rattle.zone_sets.specs.Placed.{Placed, sets_of}
+use Rattle.zone_model.specs.Placed.{Placed, sets_of}
 use Rattle.zone_list.specs.declared.refs.SetRef.{SetRef}
 use Rattle.zone_list.specs.Steps.{AreNew, Puts}
 use Rattle.zone_list.proofs.Stepping.{new_after, more_put, append_none, length_more, no_elements}

@@ -2,7 +2,7 @@ use Rattle.std.proofs.Common.{◌≡◌, ◌+◌, ◌++◌, ◌∷◌, [], ◌�
 use Rattle.std.specs.Prelude.{slice_get}
 use Rattle.std.proofs.lemmas.Option.{slice_get_read}
 use Rattle.record_set.specs.declared.sets.SetKey.{SetKey}
-use Rattle.zone_sets.specs.Placed.{Placed, sets_of}
+use Rattle.zone_model.specs.Placed.{Placed, sets_of}
 use Rattle.zone_list.specs.declared.refs.SetRef.{SetRef}
 use Rattle.zone_list.specs.Changes.{AreThere}
 use Rattle.zone_list.specs.Steps.{Takes}

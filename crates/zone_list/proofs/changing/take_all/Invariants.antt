@@ -1,5 +1,5 @@
 use Rattle.std.proofs.Common.{◌≤◌, ◌+◌, ◌++◌, List, length, drop, vec_capacity}
-use Rattle.zone_sets.specs.Placed.{Placed, sets_of}
+use Rattle.zone_model.specs.Placed.{Placed, sets_of}
 use Rattle.zone_list.specs.declared.refs.SetRef.{SetRef}
 use Rattle.zone_list.specs.Changes.{AreThere}
 use Rattle.zone_list.specs.Steps.{Takes}

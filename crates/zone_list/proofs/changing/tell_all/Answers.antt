@@ -1,5 +1,5 @@
 use Rattle.std.proofs.Common.{◌++◌, ◌∷◌, [], ◌∙◌, List, ap, sym}
-use Rattle.zone_sets.specs.Placed.{Placed}
+use Rattle.zone_model.specs.Placed.{Placed}
 use Rattle.zone_list.specs.declared.refs.SetRef.{SetRef}
 use Rattle.zone_list.specs.Changes.{ref_in}
 use Rattle.zone_list.proofs.Stepping.{map_more}

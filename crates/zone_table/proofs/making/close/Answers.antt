@@ -1,6 +1,6 @@
 use Rattle.std.proofs.Common.{◌≤◌, ◌∙◌, [], List, length, sym, subst, arith}
 use Rattle.std.specs.Prelude.{vec_capacity}
-use Rattle.zone_sets.specs.Placed.{Placed}
+use Rattle.zone_model.specs.Placed.{Placed}
 use Rattle.zone_table.specs.declared.edits.ZoneEdit.TheVariants.{Close}
 use Rattle.zone_table.specs.Edits.{Edits}
 use Rattle.zone_list.specs.Kept.{Kept, zones_of}

@@ -1,6 +1,6 @@
 use Rattle.std.proofs.Common.{◌∙◌, List, length, ap, sym}
 use Rattle.std.proofs.lemmas.List.{length-map}
-use Rattle.zone_sets.specs.Placed.{Placed}
+use Rattle.zone_model.specs.Placed.{Placed}
 use Rattle.zone_list.specs.Kept.{zones_of}
 use Rattle.zone_list.proofs.Listing.{none_placed}
 use Rattle.zone_table.proofs.Made.{it_is, its_sets}

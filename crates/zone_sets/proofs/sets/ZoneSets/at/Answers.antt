@@ -2,10 +2,10 @@ use Rattle.std.proofs.Common.{◌≡◌, ◌<◌, ◌∙◌, Some, Option, lengt
 use Rattle.std.specs.Prelude.{slice_get, option_map}
 use Rattle.std.proofs.lemmas.List.{length-map}
 use Rattle.std.proofs.lemmas.Option.{slice_get_read, slice_get-map}
-use Rattle.zone_sets.specs.Placed.{Held, Placed, sets_of}
+use Rattle.zone_model.specs.Placed.{Held, Placed, sets_of}
 use Rattle.zone_sets.proofs.Keeping.{at_place}
 use Rattle.zone_sets.specs.Index.{placed_at, placed_of}
-use Rattle.zone_sets.proofs.Lists.{some_one}
+use Rattle.zone_model.proofs.Lists.{some_one}
 use Rattle.zone_sets.proofs.sets.ZoneSets.at.Goals as goal
 
 pub returns : goal.returns

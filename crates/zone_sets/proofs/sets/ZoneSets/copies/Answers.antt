@@ -1,8 +1,8 @@
 use Rattle.std.proofs.Common.{◌≡◌, ◌++◌, ◌∷◌, [], ◌∙◌, List, Some, ap, sym}
 use Rattle.std.specs.Prelude.{slice_get}
 use Rattle.record_set.specs.declared.sets.RecordSet.{RecordSet}
-use Rattle.zone_sets.specs.Placed.{sets_of}
-use Rattle.zone_sets.proofs.Lists.{take_more}
+use Rattle.zone_model.specs.Placed.{sets_of}
+use Rattle.zone_model.proofs.Lists.{take_more}
 use Rattle.zone_sets.proofs.sets.ZoneSets.copies.Goals as goal
 
 pub loop-place-preserved : goal.loop-place-preserved

@@ -2,7 +2,7 @@ use Rattle.std.proofs.Common.{◌≡◌, Option, None, Some, Bor, sym, subst}
 use Rattle.std.specs.Prelude.{option_copied}
 use Rattle.record_set.specs.declared.sets.RecordSet.{RecordSet}
 use Rattle.slab.specs.Slab.{Slab, get}
-use Rattle.zone_sets.specs.Placed.{Held, Gets}
+use Rattle.zone_model.specs.Placed.{Held, Gets}
 use Rattle.zone_sets.specs.Index.{IsIndex, placed_of}
 use Rattle.zone_sets.proofs.Keeping.{there, not_there}
 use Rattle.zone_sets.proofs.sets.ZoneSets.get.Goals as goal

@@ -1,7 +1,7 @@
 use Rattle.std.proofs.Common.{◌<◌, List, ℕ, sym, subst, arith}
 use Rattle.record_set.specs.Sets.{key_of}
 use Rattle.set_search.specs.Found.{FindsNone}
-use Rattle.zone_sets.specs.Placed.{Held, Placed, IsPut, sets_of}
+use Rattle.zone_model.specs.Placed.{Held, Placed, IsPut, sets_of}
 use Rattle.zone_sets.specs.Index.{IsIndex, placed_of, room_of}
 use Rattle.zone_sets.proofs.Keeping.{few_fit, put_index, put_is}
 use Rattle.zone_sets.proofs.sets.ZoneSets.put_at.Goals as goal

@@ -1,8 +1,8 @@
 use Rattle.std.proofs.Common.{◌≡◌, ◌∙◌, ap}
 use Rattle.record_set.specs.Sets.{key_of}
 use Rattle.set_search.specs.Found.{FindsAt}
-use Rattle.zone_sets.specs.Placed.{Placed, sets_of}
-use Rattle.zone_sets.proofs.Lists.{mapped_at}
+use Rattle.zone_model.specs.Placed.{Placed, sets_of}
+use Rattle.zone_model.proofs.Lists.{mapped_at}
 use Rattle.zone_sets.proofs.sets.ZoneSets.take.Goals as goal
 
 pub returns-clause-placed : goal.returns-clause-placed

@@ -1,8 +1,8 @@
 use Rattle.std.proofs.Common.{◌≤◌, List, ℕ, ap, length, sym, subst, arith}
-use Rattle.zone_sets.specs.Placed.{Held, IsTakenAt}
+use Rattle.zone_model.specs.Placed.{Held, IsTakenAt}
 use Rattle.zone_sets.specs.Index.{IsIndex, placed_of, room_of}
 use Rattle.zone_sets.proofs.Keeping.{taken_index, taken_is, room_grows}
-use Rattle.zone_sets.proofs.Lists.{removed_is_shorter}
+use Rattle.zone_model.proofs.Lists.{removed_is_shorter}
 use Rattle.zone_sets.proofs.sets.ZoneSets.take_at.Goals as goal
 
 pub invariant_of-self : goal.invariant_of-self

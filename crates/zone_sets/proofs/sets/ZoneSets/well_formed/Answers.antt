@@ -1,5 +1,5 @@
 use Rattle.std.proofs.Common.{ap, subst}
-use Rattle.zone_sets.specs.Placed.{Held, AreOfZone}
+use Rattle.zone_model.specs.Placed.{Held, AreOfZone}
 use Rattle.zone_sets.proofs.Keeping.{of_zone}
 use Rattle.zone_sets.proofs.sets.ZoneSets.well_formed.Goals as goal
 

@@ -1,6 +1,6 @@
 use Rattle.std.proofs.Common.{◌≡◌, List, ℕ, ◌∙◌, ap, sym, subst}
 use Rattle.zone_model.specs.Existing.{Exists, IsAncestor}
-use Rattle.zone_sets.specs.Placed.{Placed, sets_of}
+use Rattle.zone_model.specs.Placed.{Placed, sets_of}
 use Rattle.zone_list.specs.Zones.{Zone}
 use Rattle.zone_list.proofs.Members.{apex_exists}
 use Rattle.zone_table.proofs.zones.Zones.closest.Goals as goal

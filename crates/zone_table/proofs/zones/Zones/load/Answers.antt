@@ -1,5 +1,5 @@
 use Rattle.std.proofs.Common.{List, subst}
-use Rattle.zone_sets.specs.Placed.{Placed, IsHere}
+use Rattle.zone_model.specs.Placed.{Placed, IsHere}
 use Rattle.zone_list.specs.Zones.{CanStand}
 use Rattle.zone_list.proofs.Members.{in_all}
 use Rattle.zone_table.proofs.zones.Zones.load.Goals as goal

@@ -3,7 +3,6 @@ use Rattle.std.proofs.Common.{◌≡◌, ◌≢◌, ℕ, zero, suc, ◌+◌, ◌
 use Rattle.std.specs.Prelude.{slice_get, unwrap_or}
 use Rattle.std.specs.List.{AllByRecursion, insert, remove, take-map}
 use Rattle.std.proofs.lemmas.List.{map-append, take-append-drop}
-use Rattle.zone_sets.specs.Index.{AreDistinct}
 use Rattle.zone_model.specs.Zones.{IsAmong}
 
 module _ {X : Type 0} (P : X → Type 0) where
@@ -61,27 +60,6 @@ map_remove f xs n =
     map-append f (take n xs) (drop (suc n) xs)
     ∙ (ap (λ front. front ++ map f (drop (suc n) xs)) (sym (take-map f n xs))
     ∙ ap (λ back. take n (map f xs) ++ back) (sym (drop_map f (suc n) xs)))
-
-pub distinct_put : (front back : List ℕ) (k : ℕ) → AreDistinct (front ++ back)
-    → AllByRecursion (λ j. k ≢ j) (front ++ back) → AreDistinct (front ++ k ∷ back)
-distinct_put [] back k distinct fresh = (fresh, distinct)
-distinct_put (j ∷ front) back k distinct fresh = (
-  all_put (λ i. j ≢ i) front back k distinct.0 (λ e. fresh.0 (sym e)),
-  distinct_put front back k distinct.1 fresh.1,
-)
-
-pub distinct_taken : (front back : List ℕ) (k : ℕ) → AreDistinct (front ++ k ∷ back)
-    → AreDistinct (front ++ back)
-distinct_taken [] back k distinct = distinct.1
-distinct_taken (j ∷ front) back k distinct =
-    (all_taken (λ i. j ≢ i) front back k distinct.0, distinct_taken front back k distinct.1)
-
--- what is taken away stands nowhere else
-pub apart : (front back : List ℕ) (k : ℕ) → AreDistinct (front ++ k ∷ back)
-    → AllByRecursion (λ j. k ≢ j) (front ++ back)
-apart [] back k distinct = distinct.0
-apart (j ∷ front) back k distinct =
-    ((λ e. all_at (λ i. j ≢ i) front back k distinct.0 (sym e)), apart front back k distinct.1)
 
 pub in_put : {X : Type 0} (front back : List X) (k j : X) → IsAmong (front ++ back) j
     → IsAmong (front ++ k ∷ back) j
