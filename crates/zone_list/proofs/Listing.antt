@@ -5,22 +5,22 @@ use Rattle.std.proofs.lemmas.Bool.{cases_eq, eqb-true, eq-eqb}
 use Rattle.std.proofs.lemmas.List.{length-map}
 use Rattle.std.proofs.lemmas.Option.{slice_get_read, slice_get_within, slice_get-map}
 use Rattle.dns_name.specs.Suffix.{EndsWith}
-use Rattle.zone_list.specs.Kept.{Kept, zones_of, IsStored}
+use Rattle.zone_list.specs.Kept.{Listed, named, named_of}
 use Rattle.zone_list.specs.Found.{IsSplit, IsPast, LongestOrNone, IsAsLong, IsNextZone}
-use Rattle.zone_list.specs.Zones.{Zone, AreListed, IsOne, IsZoneId, StandsAlone, placed_in}
+use Rattle.zone_list.specs.Zones.{Zone, AreListed, IsOne, IsZoneId, placed_in}
 use Rattle.zone_model.proofs.Among.{among_at, place_of}
 use Rattle.zone_list.proofs.Members.{filled, in_all}
 
--- the zone that is kept at a place
-pub kept_at : (kept : List Kept) (i : ℕ) (k : Kept) → i < length kept → k ≡ get_or kept i k
-    → slice_get (zones_of kept) i ≡ Some k.zone
-kept_at kept i k lt is =
-    slice_get-map (λ (k : Kept). k.zone) kept i
-    ∙ ap (λ (o : Option Kept). option_map (λ (k : Kept). k.zone) o)
-    (slice_get_read kept (length kept) i k refl lt is)
+-- the zone at a place
+pub kept_at : (list : List Listed) (i : ℕ) (k : Listed) → i < length list → k ≡ get_or list i k
+    → slice_get (named_of list) i ≡ Some (named k)
+kept_at list i k lt is =
+    slice_get-map named list i
+    ∙ ap (λ (o : Option Listed). option_map named o)
+    (slice_get_read list (length list) i k refl lt is)
 
-pub as_many : (kept : List Kept) → length (zones_of kept) ≡ length kept
-as_many kept = length-map kept (λ (k : Kept). k.zone)
+pub as_many : (list : List Listed) → length (named_of list) ≡ length list
+as_many list = length-map list named
 
 pub one_at : (zones : List Zone) (i : ℕ) (x y : Zone) → slice_get zones i ≡ Some x
     → slice_get zones i ≡ Some y → x ≡ y
@@ -212,18 +212,6 @@ none_placed (zone ∷ zones) id none =
     by : (t : Bool) → (zone.id == id) ≡ t → (zone.id == id) ≡ false
     by true e = absurd (none (zone, inl refl, eqb-true zone.id id e))
     by false e = e
-
-pub stored_one : (zones : List Zone) (id i : ℕ) (kept : Kept) → AreListed zones
-    → slice_get zones i ≡ Some kept.zone → kept.zone.id ≡ id → StandsAlone kept.zone
-    → IsStored zones id kept
-stored_one zones id i kept listed at its_id alone =
-    let there = among_at zones i kept.zone at in record {
-      there = there;
-      its_id = its_id;
-      placed = ap (placed_in zones) (sym its_id) ∙ its_placed zones listed kept.zone there;
-      alone = alone;
-      only = λ zone is_one e. one_zone zones listed zone kept.zone is_one there (e ∙ sym its_id);
-    }
 
 -- ---- the longest name
 

@@ -12,10 +12,9 @@ use Rattle.zone_model.specs.Existing.{Exists}
 use Rattle.zone_model.specs.Keys.{key_cmp}
 use Rattle.zone_model.specs.Zones.{IsAmong, IsRising}
 use Rattle.zone_model.proofs.Ordered.{keys_total}
-use Rattle.zone_model.proofs.Among.{among_at, place_of}
-use Rattle.zone_model.specs.Placed.{Placed, IsPut, IsTaken, sets_of}
+use Rattle.zone_model.specs.Placed.{Placed, IsTaken, sets_of}
 use Rattle.zone_list.specs.Zones.{Zone, CanStand}
-use Rattle.zone_model.proofs.Lists.{in_put, in_itself, in_taken, split, split_at}
+use Rattle.zone_model.proofs.Lists.{in_put, in_itself, in_taken, split_at}
 
 module _ {X : Type 0} where
   pub put_or_in : (front back : List X) (x y : X) → IsAmong (front ++ x ∷ back) y
@@ -212,28 +211,6 @@ module _ (before after : List Placed) (key : SetKey) (slot : ℕ) (rising : IsRi
         (λ e. others_differ front back gone (subst (λ ps. IsRising (sets_of ps)) whole rising) p
             still (e ∙ sym taken.same_key)),
       )
-
-module _ (before after : List Placed) (given : Placed) (put : IsPut before given after) where
-  abbrev low : List Placed
-  low = take put.at before
-
-  abbrev high : List Placed
-  high = drop put.at before
-
-  pub comes_put : IsAmong after given
-  comes_put = subst (λ ps. IsAmong ps given) (sym put.inserted) (in_itself low high given)
-
-  pub stays_put : (p : Placed) → IsAmong before p → IsAmong after p
-  stays_put p there =
-      subst (λ ps. IsAmong ps p) (sym put.inserted)
-      (in_put low high given p (subst (λ ps. IsAmong ps p) (split put.at before) there))
-
-  pub was_put : (p : Placed) → IsAmong after p → (given ≡ p) ⊎ IsAmong before p
-  was_put p there =
-      elim (put_or_in low high given p (subst (λ ps. IsAmong ps p) put.inserted there)) [
-        | inl e ↦ inl e
-        | inr rest ↦ inr (subst (λ ps. IsAmong ps p) (sym (split put.at before)) rest)
-      ]
 
 -- where a zone has a set its apex exists
 pub apex_exists : (zone : Zone) → (zone.placed ≡ [] → ⊥)

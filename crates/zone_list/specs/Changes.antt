@@ -1,10 +1,10 @@
 -- Changes of the sets of one zone.
-use Rattle.std.specs.Prelude.{◌≡◌, ◌≢◌, ◌⊎◌, ℕ, List, [], ◌∷◌, length, slice_get, Some, ⊤}
+use Rattle.std.specs.Prelude.{◌≡◌, ◌≢◌, ◌⊎◌, ◌↔◌, ℕ, List, [], ◌∷◌, length, slice_get, Some, ⊤}
 use Rattle.std.specs.List.{AllByRecursion}
 use Rattle.record_set.specs.declared.sets.RecordSet.{RecordSet}
 use Rattle.record_set.specs.declared.sets.SetKey.{SetKey}
 use Rattle.record_set.specs.Sets.{key_of}
-use Rattle.zone_model.specs.Placing.{IsThere}
+use Rattle.zone_model.specs.Placing.{IsThere, placed, without}
 use Rattle.zone_model.specs.Zones.{IsAmong}
 use Rattle.zone_model.specs.Placed.{Placed, IsHere, AreOfZone, sets_of}
 use Rattle.zone_list.specs.declared.refs.SetRef.{SetRef}
@@ -43,9 +43,26 @@ pub record CanChange (apex : List (List ℕ)) (placed : List Placed) (remove : L
 abbrev pub ref_in : (zone : ℕ) → Placed → SetRef
 ref_in zone p = record { zone = zone; slot = p.slot }
 
+-- the sets without those of the keys
+abbrev pub without_all : List SetKey → List RecordSet → List RecordSet
+without_all [] sets = sets
+without_all (key ∷ keys) sets = without_all keys (without key sets)
+
+-- the sets with these among them, each at its place in zone order
+abbrev pub with_all : List RecordSet → List RecordSet → List RecordSet
+with_all [] sets = sets
+with_all (set ∷ add) sets = with_all add (placed set sets)
+
+-- A key keeps its slot while it has a set, also where another set comes for it, and no slot goes from one key to another.
+abbrev pub KeepSlots : (before after : List Placed) → Type 0
+KeepSlots before after = (p q : Placed) → IsHere before p → IsHere after q
+    → (key_of p.set ≡ key_of q.set) ↔ (p.slot ≡ q.slot)
+
 -- The sets of these keys are taken from a zone, and these sets are put, each in a slot of its own. A set that is in neither list
 -- keeps its slot, and so its reference. The references that are told are those of the two lists, in their order.
 pub record Changes (zone : ℕ) (before : List Placed) (remove : List SetKey) (add : List RecordSet) (removed added : List SetRef) (after : List Placed) : Type 0 where
+  pub sets : sets_of after ≡ with_all add (without_all remove (sets_of before))
+  pub slots : KeepSlots before after
   pub stays : (p : Placed) → IsHere before p → (IsKeyOf remove (key_of p.set) → ⊥) → IsHere after p
   pub comes : (i : ℕ) (set : RecordSet) → slice_get add i ≡ Some set
       → (slot : ℕ) × (slice_get added i ≡ Some (record { zone = zone; slot = slot })) × IsHere after (record { slot = slot; set = set })

@@ -1,24 +1,49 @@
--- How zones are kept.
-use Rattle.std.specs.Prelude.{◌≡◌, ℕ, List, [], map, Option, None, Some}
-use Rattle.std.specs.Borrow.{Bor}
-use Rattle.zone_list.specs.Zones.{Zone, IsOne, IsZoneId, StandsAlone, placed_in}
+-- How zones are kept: each with the slots of its sets in a store that all zones share.
+use Rattle.std.specs.Prelude.{◌≡◌, ℕ, List, [], map, Option, Some}
+use Rattle.std.specs.List.{AllByRecursion}
+use Rattle.record_set.specs.declared.sets.RecordSet.{RecordSet}
+use Rattle.set_store.specs.Stored.{Kept}
+use Rattle.zone_model.specs.Zones.{IsAmong}
+use Rattle.zone_order.specs.Orders.{IsOrder, placed_of, set_in}
+use Rattle.zone_list.specs.Zones.{AreListed, CanStand, Zone}
 
--- A zone, and how many more sets it can take without memory.
-pub record Kept : Type 0 where
-  pub zone : Zone
+-- A zone: its number, the name of its apex, the slots of its sets in zone order, and how many more of them it can take
+-- without memory.
+pub record Listed : Type 0 where
+  pub id : ℕ
+  pub apex : List (List ℕ)
+  pub order : List ℕ
   pub room : ℕ
 
-abbrev pub zones_of : List Kept → List Zone
-zones_of kept = map (λ k. k.zone) kept
+-- a zone without its sets
+abbrev pub named : Listed → Zone
+named listed = record { id = listed.id; apex = listed.apex; placed = [] }
 
--- The zone of this number.
-pub record IsStored (zones : List Zone) (id : ℕ) (kept : Kept) : Type 0 where
-  pub there : IsOne zones kept.zone
-  pub its_id : kept.zone.id ≡ id
-  pub placed : placed_in zones id ≡ kept.zone.placed
-  pub alone : StandsAlone kept.zone
-  pub only : (zone : Zone) → IsOne zones zone → zone.id ≡ id → zone ≡ kept.zone
+abbrev pub named_of : List Listed → List Zone
+named_of list = map named list
 
-abbrev pub GetsZone : List Zone → (id : ℕ) → Option (Bor Kept) → Type 0
-GetsZone zones id (Some kept) = IsStored zones id kept.now
-GetsZone zones id None = (IsZoneId zones id → ⊥) × (placed_in zones id ≡ [])
+-- a zone with its sets
+abbrev pub zone_in : List (Option Kept) → Listed → Zone
+zone_in slots listed = record {
+  id = listed.id;
+  apex = listed.apex;
+  placed = placed_of slots listed.id listed.order;
+}
+
+abbrev pub zones_in : List (Option Kept) → List Listed → List Zone
+zones_in slots list = map (zone_in slots) list
+
+-- The zone's sets are in its slots, in zone order, and each can stand in it.
+pub record Stands (slots : List (Option Kept)) (listed : Listed) : Type 0 where
+  pub order : IsOrder slots listed.id listed.order
+  pub each : AllByRecursion (λ p. CanStand listed.apex p.set) (placed_of slots listed.id listed.order)
+
+-- one of them has this number
+abbrev pub HasId : List Listed → ℕ → Type 0
+HasId list id = (listed : Listed) × IsAmong list listed × (listed.id ≡ id)
+
+-- The zones stand by rising number, each with its sets, and each set in the store is of one of them.
+pub record AreKept (slots : List (Option Kept)) (list : List Listed) : Type 0 where
+  pub listed : AreListed (named_of list)
+  pub each : AllByRecursion (Stands slots) list
+  pub owned : (zone slot : ℕ) (set : RecordSet) → set_in slots zone slot ≡ Some set → HasId list zone

@@ -1,29 +1,62 @@
--- Sets taken and put one after another.
-use Rattle.std.specs.Prelude.{◌≡◌, ◌≢◌, ℕ, List, [], ◌∷◌, ⊤}
-use Rattle.std.specs.List.{AllByRecursion}
+-- Sets that come into a zone one after another, and then go from it.
+use Rattle.std.specs.Prelude.{◌≡◌, ◌≢◌, ◌≤◌, ◌<◌, ◌⊎◌, ℕ, List, [], ◌∷◌, Option, None, Some, length, slice_get}
+use Rattle.std.specs.List.{sum_by}
+use Rattle.octet_region.specs.Cells.{cells_for}
 use Rattle.record_set.specs.declared.sets.RecordSet.{RecordSet}
 use Rattle.record_set.specs.declared.sets.SetKey.{SetKey}
 use Rattle.record_set.specs.Sets.{key_of}
+use Rattle.set_octets.specs.Octets.{set_octets}
+use Rattle.zone_changes.specs.Coming.{Comes}
 use Rattle.zone_model.specs.Placing.{IsThere}
-use Rattle.zone_model.specs.Placed.{Placed, IsPut, IsTaken}
+use Rattle.zone_model.specs.Placed.{AreOfZone, IsTaken, Placed}
 use Rattle.zone_list.specs.declared.refs.SetRef.{SetRef}
 
--- The sets of the keys are taken one after another.
-abbrev pub Takes : (zone : ℕ) → (before : List Placed) → List SetKey → (told : List SetRef) → (after : List Placed) → Type 0
-Takes zone before [] told after = (told ≡ []) × (after ≡ before)
-Takes zone before (key ∷ keys) told after =
-    (slot : ℕ) × (middle : List Placed) × (rest : List SetRef) × IsTaken before key slot middle
-    × (told ≡ record { zone = zone; slot = slot } ∷ rest) × Takes zone middle keys rest after
+-- how many cells the octets of the sets take
+abbrev pub cells_in_all : List RecordSet → ℕ
+cells_in_all add = sum_by (λ set. cells_for (length (set_octets set))) add
 
--- The sets are put one after another.
-abbrev pub Puts : (zone : ℕ) → (before : List Placed) → List RecordSet → (told : List SetRef) → (after : List Placed) → Type 0
-Puts zone before [] told after = (told ≡ []) × (after ≡ before)
-Puts zone before (set ∷ sets) told after =
-    (slot : ℕ) × (middle : List Placed) × (rest : List SetRef) × IsPut before (record { slot = slot; set = set }) middle
-    × (told ≡ record { zone = zone; slot = slot } ∷ rest) × Puts zone middle sets rest after
+-- The sets come one after another.
+abbrev pub Comings : (zone : ℕ) → (before : List Placed) → List RecordSet → (told : List SetRef) → (after : List Placed) → Type 0
+Comings zone before [] told after = (told ≡ []) × (after ≡ before)
+Comings zone before (set ∷ sets) told after =
+    (slot : ℕ) × (middle : List Placed) × (rest : List SetRef) × Comes before (record { slot = slot; set = set }) middle
+    × AreOfZone middle × (told ≡ record { zone = zone; slot = slot } ∷ rest) × Comings zone middle sets rest after
 
--- no key of the sets is there, and their keys differ
-abbrev pub AreNew : List RecordSet → (add : List RecordSet) → Type 0
-AreNew sets [] = ⊤
-AreNew sets (set ∷ add) =
-    (IsThere sets (key_of set) → ⊥) × AllByRecursion (λ other. key_of set ≢ key_of other) add × AreNew sets add
+-- The set at a place has the key.
+pub record IsOfKey (add : List RecordSet) (key : SetKey) (at : ℕ) : Type 0 where
+  pub set : RecordSet
+  pub there : slice_get add at ≡ Some set
+  pub same_key : key_of set ≡ key
+
+-- the place of a set with the key, or none has it
+abbrev pub PlaceOrNone : List RecordSet → SetKey → Option ℕ → Type 0
+PlaceOrNone add key (Some at) = IsOfKey add key at
+PlaceOrNone add key None = IsThere add key → ⊥
+
+-- The place of a set with the key, among those from one place on and in front of another.
+abbrev pub FoundBetween : List RecordSet → SetKey → (from to : ℕ) → Option ℕ → Type 0
+FoundBetween add key from to (Some at) = IsOfKey add key at
+FoundBetween add key from to None =
+    (k : ℕ) (set : RecordSet) → from ≤ k → k < to → slice_get add k ≡ Some set → key_of set ≢ key
+
+-- A set came for the key, which keeps its slot.
+pub record HasCome (add : List RecordSet) (added : List SetRef) (key : SetKey) (slot : ℕ) : Type 0 where
+  pub at : ℕ
+  pub came : IsOfKey add key at
+  pub one : SetRef
+  pub told : slice_get added at ≡ Some one
+  pub its_slot : one.slot ≡ slot
+
+-- The set of a key goes, unless a set came for it.
+abbrev pub Leaves : List RecordSet → (added : List SetRef) → (before : List Placed) → SetKey → (slot : ℕ)
+    → (after : List Placed) → Type 0
+Leaves add added before key slot after =
+    (HasCome add added key slot × (after ≡ before)) ⊎ ((IsThere add key → ⊥) × IsTaken before key slot after)
+
+-- The sets of the keys go one after another.
+abbrev pub Leavings : (zone : ℕ) → List RecordSet → (added : List SetRef) → (before : List Placed) → List SetKey
+    → (told : List SetRef) → (after : List Placed) → Type 0
+Leavings zone add added before [] told after = (told ≡ []) × (after ≡ before)
+Leavings zone add added before (key ∷ keys) told after =
+    (slot : ℕ) × (middle : List Placed) × (rest : List SetRef) × Leaves add added before key slot middle
+    × (told ≡ record { zone = zone; slot = slot } ∷ rest) × Leavings zone add added middle keys rest after

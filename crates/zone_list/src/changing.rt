@@ -1,52 +1,172 @@
-//! Sets taken from a zone, and sets put into it.
+//! Sets that come into a zone, and sets that go from it.
 
-ghost use Rattle.std.specs.Prelude.{◌≡◌, ◌≤◌, [], length, map, vec_capacity};
+ghost use Rattle.std.specs.Prelude.{◌≡◌, ◌≤◌, ◌<◌, ◌+◌, [], length, map, slice_get, Some};
+ghost use Rattle.std.specs.Prelude.{IsTrue, ◌↔◌, vec_len, vec_capacity};
+ghost use Rattle.std.specs.List.{AllByRecursion};
+ghost use Rattle.record_set.specs.Sets.{key_of};
+ghost use Rattle.set_octets.specs.Octets.{HasSpelling, set_octets};
+ghost use Rattle.zone_model.specs.Placing.{IsThere};
 ghost use Rattle.zone_model.specs.Placed.{sets_of};
 ghost use Rattle.zone_list.specs.Changes.{AreThere, ref_in};
-ghost use Rattle.zone_list.specs.Steps.{AreNew, Puts, Takes};
+ghost use Rattle.zone_list.specs.Steps.{cells_in_all, Comings, FoundBetween};
+ghost use Rattle.zone_list.specs.Steps.{Leaves, Leavings, PlaceOrNone};
+ghost use Rattle.zone_order.specs.Orders.{IsOrder, OthersStay, placed_of};
 
 use crate::refs::SetRef;
 use record_set::{RecordSet, SetKey};
-use set_search::SetList;
-use zone_sets::ZoneSets;
+use set_store::SetStore;
+use zone_changes::{come, go};
+use zone_model::{key_cmp, keys_are_ordered};
+use zone_order::{of_zone, take_at};
 
-/// Takes away the sets of these keys, and tells their references.
-pub fn take_all(sets: &mut ZoneSets, zone: u32, keys: &[SetKey], removed: &mut Vec<SetRef>)
-    requires there { AreThere (sets_of sets.old.placed) keys.now }
-    requires none { removed.old.items ≡ [] }
-    requires room { length keys.now ≤ vec_capacity removed.old }
-    ensures takes { Takes zone sets.old.placed keys.now removed.new.items sets.new.placed }
-    ensures room { sets.old.room ≤ sets.new.room }
-{
-    for key in keys {
-        sets.well_formed();
-        let slot = sets.take(key);
-        removed.push_reserved(SetRef { zone, slot });
-    }
-}
-
-/// Puts these sets, and tells their references.
-pub fn put_all(sets: &mut ZoneSets, zone: u32, add: Vec<RecordSet>, added: &mut Vec<SetRef>)
-    requires new { AreNew (sets_of sets.old.placed) add.items }
+/// These sets come into a zone, and their references are told.
+pub fn come_all(
+    store: &mut SetStore,
+    zone: u32,
+    order: &mut Vec<u32>,
+    add: &[RecordSet],
+    buffer: &mut [u8],
+    added: &mut Vec<SetRef>,
+)
+    requires order { IsOrder store.old.slots zone order.old.items }
+    requires spelled { AllByRecursion HasSpelling add.now }
+    requires buffer { AllByRecursion (λ set. length (set_octets set) ≤ length buffer.old) add.now }
+    requires cells { cells_in_all add.now ≤ store.old.cells }
+    requires slots { length add.now ≤ store.old.free }
+    requires places { vec_len order.old + length add.now ≤ vec_capacity order.old }
     requires none { added.old.items ≡ [] }
-    requires room { length add.items ≤ sets.old.room }
-    requires refs { length add.items ≤ vec_capacity added.old }
-    ensures { Puts zone sets.old.placed add.items added.new.items sets.new.placed }
+    requires refs { length add.now ≤ vec_capacity added.old }
+    ensures order { IsOrder store.new.slots zone order.new.items }
+    ensures comes { Comings zone (placed_of store.old.slots zone order.old.items) add.now
+        added.new.items (placed_of store.new.slots zone order.new.items) }
+    ensures others { OthersStay zone store.old.slots store.new.slots }
 {
     for set in add {
-        let slot = sets.put(set);
+        let slot = come(store, zone, order, set, buffer);
+        of_zone(store, zone, order);
         added.push_reserved(SetRef { zone, slot });
     }
 }
 
-/// Tells the references of all sets, in zone order.
-pub fn tell_all(sets: &ZoneSets, zone: u32, told: &mut Vec<SetRef>)
-    requires none { told.old.items ≡ [] }
-    requires room { length sets.now.placed ≤ vec_capacity told.old }
-    ensures { told.new.items ≡ map (ref_in zone) sets.now.placed }
+/// The sets of these keys go from a zone, but for those that came for one. Their references are told.
+pub fn leave_all(
+    store: &mut SetStore,
+    zone: u32,
+    order: &mut Vec<u32>,
+    keys: &[SetKey],
+    add: &[RecordSet],
+    added: &[SetRef],
+    removed: &mut Vec<SetRef>,
+)
+    requires order { IsOrder store.old.slots zone order.old.items }
+    requires there { AreThere (sets_of (placed_of store.old.slots zone order.old.items)) keys.now }
+    requires told { length added.now ≡ length add.now }
+    requires none { removed.old.items ≡ [] }
+    requires room { length keys.now ≤ vec_capacity removed.old }
+    ensures order { IsOrder store.new.slots zone order.new.items }
+    ensures leaves { Leavings zone add.now added.now
+        (placed_of store.old.slots zone order.old.items) keys.now removed.new.items
+        (placed_of store.new.slots zone order.new.items) }
+    ensures others { OthersStay zone store.old.slots store.new.slots }
 {
-    for place in 0..sets.count() {
-        let slot = sets.slot_at(place);
-        told.push_reserved(SetRef { zone, slot });
+    let mut hint = 0;
+    for key in keys {
+        let at = place_in(add, key, hint);
+        let slot = leave(store, zone, order, key, add, added, at);
+        removed.push_reserved(SetRef { zone, slot });
+        hint = behind(at, hint);
+    }
+}
+
+/// The place behind one that was found.
+fn behind(at: Option<usize>, hint: usize) -> usize {
+    match at {
+        Some(at) => at.wrapping_add(1),
+        None => hint,
+    }
+}
+
+/// The set of a key goes from a zone, unless one came for it, at this place. Its slot is told.
+fn leave(
+    store: &mut SetStore,
+    zone: u32,
+    order: &mut Vec<u32>,
+    key: &SetKey,
+    add: &[RecordSet],
+    added: &[SetRef],
+    at: Option<usize>,
+) -> u32
+    requires order { IsOrder store.old.slots zone order.old.items }
+    requires there { IsThere (sets_of (placed_of store.old.slots zone order.old.items)) key.now }
+    requires at { PlaceOrNone add.now key.now at }
+    requires told { length added.now ≡ length add.now }
+    ensures order { IsOrder store.new.slots zone order.new.items }
+    ensures leaves { Leaves add.now added.now
+        (placed_of store.old.slots zone order.old.items) key.now result
+        (placed_of store.new.slots zone order.new.items) }
+    ensures others { OthersStay zone store.old.slots store.new.slots }
+{
+    match at {
+        Some(at) => added[at].slot,
+        None => go(store, zone, order, key),
+    }
+}
+
+/// The place of the set of a key among these, looked for from a place on and then in front of it.
+fn place_in(add: &[RecordSet], key: &SetKey, hint: usize) -> Option<usize>
+    ensures { PlaceOrNone add.now key.now result }
+{
+    let middle = hint.min(add.len());
+    match first_of(add, key, middle, add.len()) {
+        Some(at) => Some(at),
+        None => first_of(add, key, 0, middle),
+    }
+}
+
+/// The first place between two at which the set of a key stands.
+fn first_of(add: &[RecordSet], key: &SetKey, from: usize, to: usize) -> Option<usize>
+    requires order { from ≤ to }
+    requires within { to ≤ length add.now }
+    ensures { FoundBetween add.now key.now from to result }
+{
+    for at in from..to {
+        if has_key(&add[at], key) {
+            return Some(at);
+        }
+    }
+    None
+}
+
+/// Whether a set has the key.
+fn has_key(set: &RecordSet, key: &SetKey) -> bool
+    ensures { IsTrue result ↔ (key_of set.now ≡ key.now) }
+{
+    keys_are_ordered();
+    if !set.name.is_same(&key.name) {
+        return false;
+    }
+    key_cmp(&set.key(), key).is_eq()
+}
+
+/// Tells the references of the sets in these slots, in their order.
+pub fn tell_all(store: &SetStore, order: &[u32], zone: u32, told: &mut Vec<SetRef>)
+    requires none { told.old.items ≡ [] }
+    requires room { length order.now ≤ vec_capacity told.old }
+    ensures { told.new.items ≡ map (ref_in zone) (placed_of store.now.slots zone order.now) }
+{
+    for slot in order {
+        told.push_reserved(SetRef { zone, slot: *slot });
+    }
+}
+
+/// All sets of a zone go, the last one first.
+pub fn clear(store: &mut SetStore, zone: u32, order: &mut Vec<u32>)
+    requires { IsOrder store.old.slots zone order.old.items }
+    ensures order { IsOrder store.new.slots zone [] }
+    ensures others { OthersStay zone store.old.slots store.new.slots }
+{
+    while !order.is_empty() {
+        let last = order.len() - 1;
+        take_at(store, zone, order, last);
     }
 }

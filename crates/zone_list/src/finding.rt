@@ -2,7 +2,7 @@
 
 ghost use Rattle.std.specs.Prelude.{◌≡◌, ◌<◌, ◌-◌, IsTrue, ◌↔◌};
 ghost use Rattle.zone_list.specs.Found.{FindsZone, IsAsLong, IsLonger, IsPast, IsSplit, LongestOrNone, NextZoneOrNone};
-ghost use Rattle.zone_list.specs.Kept.{zones_of};
+ghost use Rattle.zone_list.specs.Kept.{named, named_of};
 ghost use Rattle.zone_list.specs.Zones.{AreListed};
 
 use crate::stored::StoredZone;
@@ -10,8 +10,8 @@ use dns_name::Name;
 
 /// The place of the zone with this number.
 pub fn find_zone(list: &[StoredZone], id: u32) -> Option<usize>
-    requires { AreListed (zones_of list.now) }
-    ensures { FindsZone (zones_of list.now) id result }
+    requires { AreListed (named_of list.now) }
+    ensures { FindsZone (named_of list.now) id result }
 {
     let place = first_from(list, id);
     if place == list.len() {
@@ -25,8 +25,8 @@ pub fn find_zone(list: &[StoredZone], id: u32) -> Option<usize>
 
 /// How many zones have smaller numbers.
 pub fn first_from(list: &[StoredZone], id: u32) -> usize
-    requires { AreListed (zones_of list.now) }
-    ensures { IsSplit (zones_of list.now) id result result }
+    requires { AreListed (named_of list.now) }
+    ensures { IsSplit (named_of list.now) id result result }
 {
     let mut low = 0;
     let mut high = list.len();
@@ -40,10 +40,10 @@ pub fn first_from(list: &[StoredZone], id: u32) -> usize
 
 /// Looks at the zone in the middle between two places.
 fn halve(list: &[StoredZone], id: u32, low: usize, high: usize) -> (usize, usize)
-    requires listed { AreListed (zones_of list.now) }
-    requires bracket { IsSplit (zones_of list.now) id low high }
+    requires listed { AreListed (named_of list.now) }
+    requires bracket { IsSplit (named_of list.now) id low high }
     requires apart { low < high }
-    ensures bracket { IsSplit (zones_of list.now) id result.0 result.1 }
+    ensures bracket { IsSplit (named_of list.now) id result.0 result.1 }
     ensures nearer { result.1 - result.0 < high - low }
 {
     let middle = low + (high - low) / 2;
@@ -55,7 +55,7 @@ fn halve(list: &[StoredZone], id: u32, low: usize, high: usize) -> (usize, usize
 
 /// The number of the zone of the longest name that holds this one, and how many labels that name has.
 pub fn longest(list: &[StoredZone], name: &Name) -> Option<(u32, usize)>
-    ensures { LongestOrNone (zones_of list.now) name.now result }
+    ensures { LongestOrNone (named_of list.now) name.now result }
 {
     let mut found = None;
     for zone in list {
@@ -66,7 +66,7 @@ pub fn longest(list: &[StoredZone], name: &Name) -> Option<(u32, usize)>
 
 /// What was found so far, or this zone where it holds the name and its own name is longer.
 fn longer(found: Option<(u32, usize)>, zone: &StoredZone, name: &Name) -> Option<(u32, usize)>
-    ensures { IsLonger found zone.now.zone name.now result }
+    ensures { IsLonger found (named zone.now) name.now result }
 {
     let apex = zone.apex();
     if !name.ends_with(&apex) {
@@ -91,8 +91,8 @@ fn is_as_long(found: Option<(u32, usize)>, labels: usize) -> bool
 
 /// The least number above this one.
 pub fn next_id(list: &[StoredZone], id: u32) -> Option<u32>
-    requires { AreListed (zones_of list.now) }
-    ensures { NextZoneOrNone (zones_of list.now) id result }
+    requires { AreListed (named_of list.now) }
+    ensures { NextZoneOrNone (named_of list.now) id result }
 {
     let place = first_past(list, id);
     if place == list.len() {
@@ -103,8 +103,8 @@ pub fn next_id(list: &[StoredZone], id: u32) -> Option<u32>
 
 /// How many zones have no larger numbers.
 fn first_past(list: &[StoredZone], id: u32) -> usize
-    requires { AreListed (zones_of list.now) }
-    ensures { IsPast (zones_of list.now) id result }
+    requires { AreListed (named_of list.now) }
+    ensures { IsPast (named_of list.now) id result }
 {
     let place = first_from(list, id);
     if place == list.len() {

@@ -1,6 +1,7 @@
-//! Zones by rising number: found by number and by name, and the sets of one of them changed.
+//! Zones by rising number, each with the slots of its sets in a store that all zones share: found by
+//! number and by name, and the sets of one of them changed.
 //!
-//! A set keeps its reference while it stays.
+//! A key keeps its slot while it has a set, and a set its reference while it stays.
 #![tactic(auto)]
 
 mod changing;
@@ -9,6 +10,6 @@ mod refs;
 mod stored;
 
 pub use finding::{find_zone, first_from, longest, next_id};
-pub use rdata::OutOfMemory;
+pub use octets::OutOfMemory;
 pub use refs::{SetRef, SetRefs};
 pub use stored::StoredZone;

@@ -1,120 +1,135 @@
-//! A zone as it is stored: its number, its name and its sets.
+//! A zone as it is stored: its number, its name and the slots of its sets.
 
-ghost use Rattle.std.specs.Prelude.{◌≡◌, ◌≤◌, [], length, map, OnOk, vec_capacity};
+ghost use Rattle.std.specs.Prelude.{◌≡◌, ◌≤◌, [], length, map, IsOk, OnOk, vec_len, vec_capacity};
+ghost use Rattle.std.specs.List.{AllByRecursion};
+ghost use Rattle.set_octets.specs.Octets.{set_octets};
 ghost use Rattle.zone_list.specs.Changes.{CanChange, Changes, ref_in};
-ghost use Rattle.zone_list.specs.Zones.{StandsAlone};
+ghost use Rattle.zone_list.specs.Steps.{cells_in_all};
+ghost use Rattle.zone_order.specs.Orders.{IsOrder, OthersStay, placed_of};
 
-use crate::changing::{put_all, take_all, tell_all};
+use crate::changing::{clear, come_all, leave_all, tell_all};
 use crate::refs::SetRef;
 use dns_name::Name;
-use rdata::OutOfMemory;
+use octets::OutOfMemory;
 use record_set::{RecordSet, SetKey};
+use set_store::SetStore;
 use std::marker::Model;
-use zone_sets::ZoneSets;
+use zone_order::{ZoneView, view_of};
 
-/// A zone. Contracts see it, and how many more sets it can take without memory.
+/// A zone. Contracts see its number, its name, the slots of its sets in zone order, and how many
+/// more of them it can take without memory.
 #[derive(Drop)]
 pub struct StoredZone {
     id: u32,
     apex: Name,
-    sets: ZoneSets,
+    order: Vec<u32>,
 }
 
 impl Model for StoredZone {
-    ghost use Rattle.std.specs.List.{AllByRecursion};
-    ghost use Rattle.zone_list.specs.Kept.{Kept};
-    ghost use Rattle.zone_list.specs.Zones.{CanStand};
+    ghost use Rattle.std.specs.Prelude.{◌-◌, vec_capacity, vec_len};
+    ghost use Rattle.zone_list.specs.Kept.{Listed};
 
-    ghost Value = { Kept };
+    ghost Value = { Listed };
 
     ghost view = { λ s. record {
-      zone = record {
-        id = s.id;
-        apex = s.apex;
-        placed = s.sets.placed;
-      };
-      room = s.sets.room;
+      id = s.id;
+      apex = s.apex;
+      order = s.order.items;
+      room = vec_capacity s.order - vec_len s.order;
     } };
-
-    ghost invariant = { λ s. AllByRecursion (λ p. CanStand s.apex p.set) s.sets.placed };
 }
 
 impl StoredZone {
-    /// A zone without sets, which can take as many as these.
-    pub fn new(id: u32, apex: Name, sets: ZoneSets) -> StoredZone
-        requires { sets.placed ≡ [] }
-        ensures { result ≡ record { zone = record { id = id; apex = apex; placed = [] }; room = sets.room } }
+    /// A zone without sets.
+    pub fn new(id: u32, apex: Name, order: Vec<u32>) -> StoredZone
+        requires { order.items ≡ [] }
+        ensures id { result.id ≡ id }
+        ensures apex { result.apex ≡ apex }
+        ensures order { result.order ≡ [] }
+        ensures room { result.room ≡ vec_capacity order }
     {
-        StoredZone { id, apex, sets }
-    }
-
-    /// Its sets are those of a zone.
-    pub fn well_formed(&self)
-        ensures { StandsAlone self.now.zone }
-    {
-        self.sets.well_formed();
+        StoredZone { id, apex, order }
     }
 
     /// Its number.
     pub fn id(&self) -> u32
-        ensures { result ≡ self.now.zone.id }
+        ensures { result ≡ self.now.id }
     {
         self.id
     }
 
     /// The name of its apex.
     pub fn apex(&self) -> Name
-        ensures { result ≡ self.now.zone.apex }
+        ensures { result ≡ self.now.apex }
     {
         self.apex
     }
 
-    /// Its sets.
-    pub fn sets(&self) -> &ZoneSets
-        ensures { result.now.placed ≡ self.now.zone.placed }
+    /// The slots of its sets, in zone order.
+    pub fn order(&self) -> &[u32]
+        ensures { result.now ≡ self.now.order }
     {
-        &self.sets
+        &self.order
     }
 
-    /// Makes room for so many more sets. Room that was there stays where it succeeds.
+    /// Makes room for so many more sets. Room that was there stays, also where memory runs out.
     pub fn reserve(&mut self, more: usize) -> Result<(), OutOfMemory>
-        ensures zone { self.new.zone ≡ self.old.zone }
+        ensures id { self.new.id ≡ self.old.id }
+        ensures apex { self.new.apex ≡ self.old.apex }
+        ensures order { self.new.order ≡ self.old.order }
         ensures room { OnOk result (more ≤ self.new.room) }
-        ensures kept { OnOk result (self.old.room ≤ self.new.room) }
+        ensures kept { self.old.room ≤ self.new.room }
+        ensures ready { more ≤ self.old.room → IsOk result }
     {
-        self.sets.reserve(more)
+        self.order.reserve(more)?;
+        Ok(())
     }
 
-    /// Takes away the sets of these keys and then puts these sets, and tells their references.
+    /// These sets come, and the sets of these keys go unless one came for the key. Their references
+    /// are told.
     pub fn change(
         &mut self,
+        store: &mut SetStore,
         remove: &[SetKey],
-        add: Vec<RecordSet>,
+        add: &[RecordSet],
+        buffer: &mut [u8],
         removed: &mut Vec<SetRef>,
         added: &mut Vec<SetRef>,
     )
-        requires can { CanChange self.old.zone.apex self.old.zone.placed remove.now add.items }
+        requires order { IsOrder store.old.slots self.old.id self.old.order }
+        requires can { CanChange self.old.apex (placed_of store.old.slots self.old.id self.old.order)
+            remove.now add.now }
         requires none_removed { removed.old.items ≡ [] }
         requires none_added { added.old.items ≡ [] }
         requires removable { length remove.now ≤ vec_capacity removed.old }
-        requires addable { length add.items ≤ vec_capacity added.old }
-        requires room { length add.items ≤ self.old.room }
-        ensures id { self.new.zone.id ≡ self.old.zone.id }
-        ensures apex { self.new.zone.apex ≡ self.old.zone.apex }
-        ensures changes { Changes self.old.zone.id self.old.zone.placed remove.now add.items removed.new.items added.new.items self.new.zone.placed }
+        requires addable { length add.now ≤ vec_capacity added.old }
+        requires buffer { AllByRecursion (λ set. length (set_octets set) ≤ length buffer.old) add.now }
+        requires cells { cells_in_all add.now ≤ store.old.cells }
+        requires slots { length add.now ≤ store.old.free }
+        requires places { length add.now ≤ self.old.room }
+        ensures id { self.new.id ≡ self.old.id }
+        ensures apex { self.new.apex ≡ self.old.apex }
+        ensures order { IsOrder store.new.slots self.new.id self.new.order }
+        ensures changes { Changes self.old.id (placed_of store.old.slots self.old.id self.old.order)
+            remove.now add.now removed.new.items added.new.items
+            (placed_of store.new.slots self.new.id self.new.order) }
+        ensures others { OthersStay self.old.id store.old.slots store.new.slots }
     {
-        self.sets.well_formed();
-        take_all(&mut self.sets, self.id, remove, removed);
-        put_all(&mut self.sets, self.id, add, added);
-        self.sets.well_formed();
+        come_all(store, self.id, &mut self.order, add, buffer, added);
+        leave_all(store, self.id, &mut self.order, remove, add, added, removed);
     }
 
-    /// The references of all its sets, in zone order.
-    pub fn refs(&self, removed: &mut Vec<SetRef>)
+    /// All its sets go. Their references are told, in zone order.
+    pub fn close(&mut self, store: &mut SetStore, removed: &mut Vec<SetRef>)
+        requires order { IsOrder store.old.slots self.old.id self.old.order }
         requires none { removed.old.items ≡ [] }
-        requires room { length self.now.zone.placed ≤ vec_capacity removed.old }
-        ensures { removed.new.items ≡ map (ref_in self.now.zone.id) self.now.zone.placed }
+        requires room { length self.old.order ≤ vec_capacity removed.old }
+        ensures told { removed.new.items
+            ≡ map (ref_in self.old.id) (placed_of store.old.slots self.old.id self.old.order) }
+        ensures order { IsOrder store.new.slots self.old.id [] }
+        ensures others { OthersStay self.old.id store.old.slots store.new.slots }
     {
-        tell_all(&self.sets, self.id, removed);
+        tell_all(store, &self.order, self.id, removed);
+        clear(store, self.id, &mut self.order);
     }
 }

@@ -1,6 +1,5 @@
 -- The sets of a zone with their slots.
 use Rattle.std.specs.Prelude.{◌≡◌, ◌≢◌, ◌≤◌, ◌<◌, ◌^◌, ◌⊎◌, ℕ, List, [], ◌∷◌, map, length, slice_get, Option, None, Some, ⊤}
-use Rattle.std.specs.Borrow.{Bor}
 use Rattle.std.specs.List.{AllByRecursion, insert, remove}
 use Rattle.record_set.specs.declared.sets.RecordSet.{RecordSet}
 use Rattle.record_set.specs.declared.sets.SetKey.{SetKey}
@@ -30,11 +29,6 @@ pub record AreOfZone (placed : List Placed) : Type 0 where
   pub own : HaveOwnSlots placed
   pub few : AllByRecursion (λ p. p.slot < 2 ^ 32) placed
 
--- What is kept: the sets in zone order, and how many more can be put without memory.
-pub record Held : Type 0 where
-  pub placed : List Placed
-  pub room : ℕ
-
 -- A set is put at its place in zone order. All others stay, each in its slot.
 pub record IsPut (before : List Placed) (given : Placed) (after : List Placed) : Type 0 where
   pub at : ℕ
@@ -57,8 +51,3 @@ pub record IsTaken (before : List Placed) (key : SetKey) (slot : ℕ) (after : L
 -- the set at a place is in this slot
 abbrev pub IsSlotAt : List Placed → ℕ → (slot : ℕ) → Type 0
 IsSlotAt placed at slot = (set : RecordSet) × (slice_get placed at ≡ Some (record { slot = slot; set = set }))
-
--- the set in a slot, or none
-abbrev pub Gets : List Placed → (slot : ℕ) → Option (Bor RecordSet) → Type 0
-Gets placed slot (Some set) = IsHere placed (record { slot = slot; set = set.now })
-Gets placed slot None = (set : RecordSet) → IsHere placed (record { slot = slot; set = set }) → ⊥

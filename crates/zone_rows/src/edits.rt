@@ -34,6 +34,18 @@ fn one_goes_and_one_comes(rt: HostRuntime) {
 }
 
 #[test]
+fn the_set_of_a_key_gives_way(rt: HostRuntime) {
+    let alloc = rt.alloc();
+    let mut zones = zones(&rt, alloc);
+    let before = reference(&rt, &zones, 1, goes());
+    let comes = address(b"b.example.com", b"192.0.2.3");
+    change(&rt, alloc, &mut zones, 1, &[goes()], &[comes]);
+    let found = reference(&rt, &zones, 1, comes);
+    assert_eq!(rt; found, before, "the key keeps its slot");
+    loads(&rt, alloc, &zones, found, comes);
+}
+
+#[test]
 fn zone_closed(rt: HostRuntime) {
     let alloc = rt.alloc();
     let mut zones = zones(&rt, alloc);

@@ -1,2 +1,8 @@
-pub mod Made
+pub mod Edited
+pub mod Kept
+pub mod Looked
+pub mod Naming
 pub mod Once
+pub mod Opening
+pub mod Rooms
+pub mod Sizes

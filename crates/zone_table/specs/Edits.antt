@@ -1,5 +1,9 @@
 -- Edits of a table of zones.
 use Rattle.std.specs.Prelude.{◌≡◌, ◌≢◌, ◌≤◌, ◌<◌, ◌↔◌, ℕ, List, [], length, map, slice_get, Some}
+use Rattle.std.specs.List.{AllByRecursion}
+use Rattle.record_set.specs.declared.sets.RecordSet.{RecordSet}
+use Rattle.set_octets.specs.Octets.{set_octets}
+use Rattle.zone_list.specs.Steps.{cells_in_all}
 use Rattle.zone_list.specs.Changes.{CanBeAdded, CanChange, Changes, ref_in}
 use Rattle.zone_list.specs.Zones.{Zone, IsOne, IsZoneId, HasName, placed_in}
 use Rattle.zone_table.specs.declared.edits.ZoneEdit.{ZoneEdit}
@@ -47,25 +51,34 @@ pub record Edits (before : List Zone) (made : ZoneEdit) (after : List Zone) (del
 -- ---- what an edit wants of an earlier call
 
 -- What is ready: an edit, the number of the edits before it, how many references can be told as removed and as added without
--- memory, and how many sets a zone that is opened can take.
+-- memory, how many sets a zone that is opened can take, and how many octets of a set can be written.
 pub record Prepared : Type 0 where
   pub made : ZoneEdit
   pub edits : ℕ
   pub removable : ℕ
   pub addable : ℕ
-  pub blank : ℕ
+  pub places : ℕ
+  pub buffer : ℕ
 
 -- the zone has room for so many more sets
 abbrev pub HasRoomIn : Table → (zone : ℕ) → ℕ → Type 0
 HasRoomIn table zone n =
     (i : ℕ) (its : Zone) (room : ℕ) → slice_get table.zones i ≡ Some its → slice_get table.rooms i ≡ Some room → its.id ≡ zone → n ≤ room
 
+-- putting these sets wants no memory of the store and of what is ready
+pub record HasRoomFor (table : Table) (ready : Prepared) (add : List RecordSet) : Type 0 where
+  pub addable : length add ≤ ready.addable
+  pub slots : length add ≤ table.free
+  pub cells : cells_in_all add ≤ table.cells
+  pub buffer : AllByRecursion (λ set. length (set_octets set) ≤ ready.buffer) add
+
 -- nothing of the edit wants memory
 abbrev pub HasRoom : Table → Prepared → ZoneEdit → Type 0
-HasRoom table ready (edit.Open zone name sets) = (0 < table.spare) × (length sets ≤ ready.addable) × (length sets ≤ ready.blank)
+HasRoom table ready (edit.Open zone name sets) =
+    (0 < table.spare) × (length sets ≤ ready.places) × HasRoomFor table ready sets
 HasRoom table ready (edit.Close zone) = length (placed_in table.zones zone) ≤ ready.removable
 HasRoom table ready (edit.Change zone remove add) =
-    (length remove ≤ ready.removable) × (length add ≤ ready.addable) × HasRoomIn table zone (length add)
+    (length remove ≤ ready.removable) × HasRoomIn table zone (length add) × HasRoomFor table ready add
 
 -- An edit that is ready: nothing was edited since it was prepared, it is allowed, and nothing of it wants memory.
 pub record IsReady (table : Table) (ready : Prepared) : Type 0 where

@@ -1,46 +1,85 @@
 -- What an edit wants of memory.
-use Rattle.std.specs.Prelude.{◌≡◌, ◌≤◌, ◌<◌, ◌-◌, ℕ, List, length, slice_get, Some, Vec, vec_capacity, ⊤}
+use Rattle.std.specs.Prelude.{◌≡◌, ◌≤◌, ◌<◌, ◌-◌, ℕ, List, length, map, slice_get, Option, Some, Vec, vec_capacity, ⊤}
+use Rattle.std.specs.List.{AllByRecursion}
 use Rattle.std.specs.declared.alloc.Global.{Global}
+use Rattle.record_set.specs.declared.sets.RecordSet.{RecordSet}
+use Rattle.set_octets.specs.Octets.{HasSpelling, set_octets}
+use Rattle.set_store.specs.Stored.{Kept, Store}
+use Rattle.zone_list.specs.Kept.{Listed, zones_in}
+use Rattle.zone_list.specs.Steps.{cells_in_all}
+use Rattle.zone_list.specs.Zones.{placed_in}
 use Rattle.zone_table.specs.declared.edits.ZoneEdit.{ZoneEdit}
 use Rattle.zone_table.specs.declared.edits.ZoneEdit.TheVariants as edit
 use Rattle.zone_table.specs.declared.needs.Need.{Need}
 use Rattle.zone_table.specs.Edits.{IsAllowed, Prepared}
-use Rattle.zone_list.specs.Kept.{Kept, zones_of}
-use Rattle.zone_list.specs.Zones.{Zone, placed_in}
 
--- how many sets an edit takes away, how many it puts, and how many of them into a zone that it opens
-abbrev pub Counts : List Zone → ZoneEdit → Need → Type 0
-Counts zones (edit.Open zone name sets) need = (need.addable ≡ length sets) × (need.blank ≡ length sets)
-Counts zones (edit.Close zone) need = need.removable ≡ length (placed_in zones zone)
-Counts zones (edit.Change zone remove add) need = (need.removable ≡ length remove) × (need.addable ≡ length add)
+-- A zone, but for how many more sets it can take.
+pub record Row : Type 0 where
+  pub id : ℕ
+  pub apex : List (List ℕ)
+  pub order : List ℕ
+
+abbrev pub row : Listed → Row
+row listed = record { id = listed.id; apex = listed.apex; order = listed.order }
+
+-- the zones are the same, but for how many more sets they can take
+abbrev pub same_rows : (before after : List Listed) → Type 0
+same_rows before after = map row after ≡ map row before
+
+-- the sets that an edit puts have spellings
+abbrev pub AreSpelled : ZoneEdit → Type 0
+AreSpelled (edit.Open zone name sets) = AllByRecursion HasSpelling sets
+AreSpelled (edit.Close zone) = ⊤
+AreSpelled (edit.Change zone remove add) = AllByRecursion HasSpelling add
+
+-- What it takes to put these sets.
+pub record Adds (add : List RecordSet) (need : Need) : Type 0 where
+  pub addable : need.addable ≡ length add
+  pub cells : need.cells ≡ cells_in_all add
+  pub buffer : AllByRecursion (λ set. length (set_octets set) ≤ need.buffer) add
+
+-- how much an edit wants
+abbrev pub Counts : List Listed → ZoneEdit → Need → Type 0
+Counts list (edit.Open zone name sets) need = (need.places ≡ length sets) × Adds sets need
+Counts list (edit.Close zone) need =
+    (slots : List (Option Kept)) → need.removable ≡ length (placed_in (zones_in slots list) zone)
+Counts list (edit.Change zone remove add) need = (need.removable ≡ length remove) × Adds add need
 
 -- the zone can take so many sets
-abbrev pub CanTake : List Kept → (zone : ℕ) → ℕ → Type 0
-CanTake kept zone n = (i : ℕ) (its : Kept) → slice_get kept i ≡ Some its → its.zone.id ≡ zone → n ≤ its.room
+abbrev pub CanTake : List Listed → (zone : ℕ) → ℕ → Type 0
+CanTake list zone n = (i : ℕ) (its : Listed) → slice_get list i ≡ Some its → its.id ≡ zone → n ≤ its.room
 
 -- the zones have room for an edit
-abbrev pub IsRoomFor : Vec Kept Global → ZoneEdit → Type 0
+abbrev pub IsRoomFor : Vec Listed Global → ZoneEdit → Type 0
 IsRoomFor list (edit.Open zone name sets) = length list.items < vec_capacity list
 IsRoomFor list (edit.Close zone) = ⊤
 IsRoomFor list (edit.Change zone remove add) = CanTake list.items zone (length add)
 
 -- there is no less room, for zones and in each zone
-pub record KeepsRoom (before after : Vec Kept Global) : Type 0 where
+pub record KeepsRoom (before after : Vec Listed Global) : Type 0 where
   pub spare : vec_capacity before - length before.items ≤ vec_capacity after - length after.items
-  pub rooms : (i : ℕ) (its its_now : Kept) → slice_get before.items i ≡ Some its → slice_get after.items i ≡ Some its_now → its.room ≤ its_now.room
+  pub rooms : (i : ℕ) (its its_now : Listed) → slice_get before.items i ≡ Some its → slice_get after.items i ≡ Some its_now → its.room ≤ its_now.room
+
+-- the store and what is ready have room for these sets
+pub record HasRoomToAdd (store : Store) (ready : Prepared) (add : List RecordSet) : Type 0 where
+  pub addable : length add ≤ ready.addable
+  pub slots : length add ≤ store.free
+  pub cells : cells_in_all add ≤ store.cells
+  pub buffer : AllByRecursion (λ set. length (set_octets set) ≤ ready.buffer) add
 
 -- nothing of a ready edit wants memory
-abbrev pub HasRoomFor : Vec Kept Global → Prepared → ZoneEdit → Type 0
-HasRoomFor list ready (edit.Open zone name sets) =
-    (length list.items < vec_capacity list) × (length sets ≤ ready.addable) × (length sets ≤ ready.blank)
-HasRoomFor list ready (edit.Close zone) = length (placed_in (zones_of list.items) zone) ≤ ready.removable
-HasRoomFor list ready (edit.Change zone remove add) =
-    (length remove ≤ ready.removable) × (length add ≤ ready.addable) × CanTake list.items zone (length add)
+abbrev pub NeedsNone : Store → Vec Listed Global → Prepared → ZoneEdit → Type 0
+NeedsNone store list ready (edit.Open zone name sets) =
+    (length list.items < vec_capacity list) × (length sets ≤ ready.places) × HasRoomToAdd store ready sets
+NeedsNone store list ready (edit.Close zone) =
+    length (placed_in (zones_in store.slots list.items) zone) ≤ ready.removable
+NeedsNone store list ready (edit.Change zone remove add) =
+    (length remove ≤ ready.removable) × CanTake list.items zone (length add) × HasRoomToAdd store ready add
 
 -- the edit is allowed, and nothing of it wants memory
-pub record IsReadyFor (list : Vec Kept Global) (ready : Prepared) : Type 0 where
-  pub allowed : IsAllowed (zones_of list.items) ready.made
-  pub room : HasRoomFor list ready ready.made
+pub record IsReadyFor (store : Store) (list : Vec Listed Global) (ready : Prepared) : Type 0 where
+  pub allowed : IsAllowed (zones_in store.slots list.items) ready.made
+  pub room : NeedsNone store list ready ready.made
 
 -- what is made ready
 pub record IsPrepared (made : ZoneEdit) (edits : ℕ) (need : Need) (ready : Prepared) : Type 0 where
@@ -48,4 +87,5 @@ pub record IsPrepared (made : ZoneEdit) (edits : ℕ) (need : Need) (ready : Pre
   pub edits_before : ready.edits ≡ edits
   pub removable : need.removable ≤ ready.removable
   pub addable : need.addable ≤ ready.addable
-  pub blank : need.blank ≤ ready.blank
+  pub places : need.places ≤ ready.places
+  pub buffer : need.buffer ≤ ready.buffer

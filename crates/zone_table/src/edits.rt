@@ -1,16 +1,15 @@
 //! Changes of the zones, as they are asked for and as they are once their memory is taken.
 
-ghost use Rattle.std.specs.Prelude.{◌≡◌, ◌≤◌, length, IfOk};
+ghost use Rattle.std.specs.Prelude.{◌≡◌, length, IfOk};
 ghost use Rattle.zone_table.specs.Needs.{IsPrepared};
 
 use crate::needs::Need;
 use dns_name::Name;
-use rdata::OutOfMemory;
+use octets::{OutOfMemory, zeros};
 use record_set::{RecordSet, SetKey};
 use std::alloc::Global;
 use std::marker::Model;
 use zone_list::SetRef;
-use zone_sets::ZoneSets;
 
 /// Record sets, in any order.
 #[derive(Drop)]
@@ -121,11 +120,14 @@ pub struct Ready {
     pub(crate) edits: u64,
     pub(crate) removed: Vec<SetRef>,
     pub(crate) added: Vec<SetRef>,
-    pub(crate) blank: ZoneSets,
+    /// Places for the sets of a zone that is opened.
+    pub(crate) places: Vec<u32>,
+    /// Where the octets of a set are written.
+    pub(crate) buffer: Vec<u8>,
 }
 
 impl Model for Ready {
-    ghost use Rattle.std.specs.Prelude.{◌≡◌, [], vec_capacity};
+    ghost use Rattle.std.specs.Prelude.{◌≡◌, [], length, vec_capacity};
     ghost use Rattle.zone_table.specs.Edits.{Prepared};
 
     ghost Value = { Prepared };
@@ -135,11 +137,12 @@ impl Model for Ready {
       edits = ready.edits;
       removable = vec_capacity ready.removed;
       addable = vec_capacity ready.added;
-      blank = ready.blank.room;
+      places = vec_capacity ready.places;
+      buffer = length ready.buffer.items;
     } };
 
     ghost invariant = { λ ready. (ready.removed.items ≡ []) × (ready.added.items ≡ [])
-        × (ready.blank.placed ≡ []) };
+        × (ready.places.items ≡ []) };
 }
 
 impl Ready {
@@ -154,14 +157,15 @@ impl Ready {
     {
         let removed = Vec::with_capacity(alloc, need.removable)?;
         let added = Vec::with_capacity(alloc, need.addable)?;
-        let mut blank = ZoneSets::new(alloc);
-        blank.reserve(need.blank)?;
+        let places = Vec::with_capacity(alloc, need.places)?;
+        let buffer = zeros(alloc, need.buffer)?;
         Ok(Ready {
             made,
             edits,
             removed,
             added,
-            blank,
+            places,
+            buffer,
         })
     }
 }

@@ -1,11 +1,13 @@
-//! The zones of a server and their record sets: found by name, by key and by reference, and changed by edits.
+//! The zones of a server and their record sets: found by name, by key and by reference, and changed
+//! by edits.
 //!
 //! An edit is made ready first, which takes all its memory, and then made, which can't fail. A set
-//! that is not in an edit keeps its reference.
+//! that is not in an edit keeps its reference, and a key its slot while it has a set.
 #![tactic(auto)]
 
 mod edits;
 mod laws;
+mod looking;
 mod making;
 mod needs;
 mod refs;
@@ -13,7 +15,7 @@ mod zones;
 
 pub use edits::{Ready, SetKeys, Sets, ZoneEdit};
 pub use laws::{one_apex, one_edit};
-pub use rdata::OutOfMemory;
+pub use octets::OutOfMemory;
 pub use refs::{Delta, Group};
 pub use set_scratch::Scratch;
 pub use zone_list::{SetRef, SetRefs};

@@ -1,67 +1,124 @@
 //! What an edit wants of memory.
 
-ghost use Rattle.std.specs.Prelude.{◌≡◌, length, OnOk};
-ghost use Rattle.zone_list.specs.Kept.{zones_of};
-ghost use Rattle.zone_table.specs.Needs.{CanTake, Counts, IsRoomFor, KeepsRoom};
+ghost use Rattle.std.specs.Prelude.{◌≡◌, ◌≤◌, List, length, Option, IfOk, IfSome, OnOk};
+ghost use Rattle.std.specs.List.{AllByRecursion};
+ghost use Rattle.set_octets.specs.Octets.{HasSpelling, set_octets};
+ghost use Rattle.set_store.specs.Stored.{Kept};
+ghost use Rattle.zone_list.specs.Kept.{named_of, zones_in};
+ghost use Rattle.zone_list.specs.Steps.{cells_in_all};
 ghost use Rattle.zone_list.specs.Zones.{AreListed, placed_in};
+ghost use Rattle.zone_table.specs.Needs.{AreSpelled, CanTake, Counts, IsRoomFor, KeepsRoom};
+ghost use Rattle.zone_table.specs.Needs.{same_rows};
 
-use crate::edits::ZoneEdit;
-use rdata::OutOfMemory;
-use set_search::SetList;
+use crate::edits::{Sets, ZoneEdit};
+use octet_region::cells_for;
+use octets::OutOfMemory;
+use record_set::RecordSet;
+use set_octets::set_len;
 use zone_list::{StoredZone, find_zone};
 
-/// How many references and sets an edit is about.
+/// How much memory an edit wants, each in the unit in which it is used.
 #[derive(Clone, Copy)]
 pub struct Need {
     /// How many sets it takes away.
     pub removable: usize,
     /// How many sets it puts.
     pub addable: usize,
-    /// How many of them it puts into a zone that it opens.
-    pub blank: usize,
+    /// How many places it wants of a zone that it opens.
+    pub places: usize,
+    /// How many cells the octets of the sets take that it puts.
+    pub cells: usize,
+    /// How many octets the longest of them has.
+    pub buffer: usize,
 }
 
-/// How much an edit wants.
-pub fn need_of(list: &[StoredZone], edit: &ZoneEdit) -> Need
-    requires { AreListed (zones_of list.now) }
-    ensures { Counts (zones_of list.now) edit.now result }
+/// How much an edit wants. None can have as much as a number can't tell.
+pub fn need_of(list: &[StoredZone], edit: &ZoneEdit) -> Result<Need, OutOfMemory>
+    requires listed { AreListed (named_of list.now) }
+    requires spelled { AreSpelled edit.now }
+    ensures { IfOk result (λ need. Counts list.now edit.now need) }
 {
     match edit {
-        ZoneEdit::Open { sets, .. } => Need {
-            removable: 0,
-            addable: sets.len(),
-            blank: sets.len(),
-        },
-        ZoneEdit::Close(zone) => Need {
+        ZoneEdit::Open { sets, .. } => need_to_add(0, sets, sets.len()),
+        ZoneEdit::Close(zone) => Ok(Need {
             removable: count_sets(list, *zone),
             addable: 0,
-            blank: 0,
-        },
-        ZoneEdit::Change { remove, add, .. } => Need {
-            removable: remove.len(),
-            addable: add.len(),
-            blank: 0,
-        },
+            places: 0,
+            cells: 0,
+            buffer: 0,
+        }),
+        ZoneEdit::Change { remove, add, .. } => need_to_add(remove.len(), add, 0),
     }
+}
+
+/// How much it takes to put these sets.
+fn need_to_add(removable: usize, add: &Sets, places: usize) -> Result<Need, OutOfMemory>
+    requires { AllByRecursion HasSpelling add.now }
+    ensures removable { IfOk result (λ need. need.removable ≡ removable) }
+    ensures addable { IfOk result (λ need. need.addable ≡ length add.now) }
+    ensures places { IfOk result (λ need. need.places ≡ places) }
+    ensures cells { IfOk result (λ need. need.cells ≡ cells_in_all add.now) }
+    ensures buffer { IfOk result (λ need.
+        AllByRecursion (λ set. length (set_octets set) ≤ need.buffer) add.now) }
+{
+    let Some(cells) = cells_in_all(add.as_slice()) else {
+        return Err(OutOfMemory);
+    };
+    Ok(Need {
+        removable,
+        addable: add.len(),
+        places,
+        cells,
+        buffer: longest(add.as_slice()),
+    })
+}
+
+/// How many cells the octets of the sets take, where a number can tell it.
+fn cells_in_all(add: &[RecordSet]) -> Option<usize>
+    requires { AllByRecursion HasSpelling add.now }
+    ensures { IfSome result (λ cells. cells ≡ cells_in_all add.now) }
+{
+    let mut cells: usize = 0;
+    for set in add {
+        let Some(more) = cells.checked_add(cells_for(set_len(set))) else {
+            return None;
+        };
+        cells = more;
+    }
+    Some(cells)
+}
+
+/// How many octets the longest of the sets has.
+fn longest(add: &[RecordSet]) -> usize
+    requires { AllByRecursion HasSpelling add.now }
+    ensures { AllByRecursion (λ set. length (set_octets set) ≤ result) add.now }
+{
+    let mut most = 0;
+    for set in add {
+        most = set_len(set).max(most);
+    }
+    most
 }
 
 /// How many sets a zone has.
 fn count_sets(list: &[StoredZone], zone: u32) -> usize
-    requires { AreListed (zones_of list.now) }
-    ensures { result ≡ length (placed_in (zones_of list.now) zone) }
+    requires { AreListed (named_of list.now) }
+    ensures { (slots : List (Option Kept))
+        → result ≡ length (placed_in (zones_in slots list.now) zone) }
 {
     match find_zone(list, zone) {
-        Some(place) => list[place].sets().count(),
+        Some(place) => list[place].order().len(),
         None => 0,
     }
 }
 
-/// Makes room among the zones for an edit.
+/// Makes room among the zones for an edit. The zones stay, and room that was there stays too, also
+/// where memory runs out.
 pub fn reserve_for(list: &mut Vec<StoredZone>, edit: &ZoneEdit) -> Result<(), OutOfMemory>
-    requires { AreListed (zones_of list.old.items) }
-    ensures zones { zones_of list.new.items ≡ zones_of list.old.items }
+    requires { AreListed (named_of list.old.items) }
+    ensures rows { same_rows list.old.items list.new.items }
     ensures room { OnOk result (IsRoomFor list.new edit.now) }
-    ensures kept { OnOk result (KeepsRoom list.old list.new) }
+    ensures kept { KeepsRoom list.old list.new }
 {
     match edit {
         ZoneEdit::Open { .. } => {
@@ -75,10 +132,10 @@ pub fn reserve_for(list: &mut Vec<StoredZone>, edit: &ZoneEdit) -> Result<(), Ou
 
 /// Makes room in a zone for so many sets.
 fn reserve_in(list: &mut Vec<StoredZone>, zone: u32, more: usize) -> Result<(), OutOfMemory>
-    requires { AreListed (zones_of list.old.items) }
-    ensures zones { zones_of list.new.items ≡ zones_of list.old.items }
+    requires { AreListed (named_of list.old.items) }
+    ensures rows { same_rows list.old.items list.new.items }
     ensures room { OnOk result (CanTake list.new.items zone more) }
-    ensures kept { OnOk result (KeepsRoom list.old list.new) }
+    ensures kept { KeepsRoom list.old list.new }
 {
     match find_zone(list, zone) {
         Some(place) => list[place].reserve(more),

@@ -1,34 +1,37 @@
 //! The zones of a server: each look-up and each edit, one call a question.
 
-ghost use Rattle.std.specs.Prelude.{◌≡◌, ◌≢◌, ◌<◌, ◌+◌, ◌%◌, ◌^◌, length, List, ℕ, [], IfOk, OnOk, IsTrue, ◌↔◌};
+ghost use Rattle.std.specs.Prelude.{◌≡◌, ◌≢◌, ◌<◌, ◌+◌, ◌%◌, ◌^◌, length, List, ℕ, []};
+ghost use Rattle.std.specs.Prelude.{IfOk, IsTrue, ◌↔◌};
 ghost use Rattle.zone_model.specs.Existing.{Exists, IsAncestor, IsClosest};
-ghost use Rattle.zone_model.specs.Placed.{IsSlotAt, sets_of};
-ghost use Rattle.zone_list.specs.Kept.{GetsZone};
-ghost use Rattle.zone_table.specs.Edits.{Edits, IsAllowed, IsReady, StayReady};
-ghost use Rattle.zone_table.specs.Looking.{ApexOrNone, HoldsOrNone, IsApex, IsGroup, IsGroupNow, IsMember, IsNextSet, Loads, SlotBehind, bound_of};
-ghost use Rattle.set_search.specs.Stops.{bound_of as told};
+ghost use Rattle.zone_model.specs.Placed.{sets_of};
 ghost use Rattle.zone_list.specs.Found.{NextZoneOrNone};
 ghost use Rattle.zone_list.specs.Zones.{AreZones, IsZoneId, placed_in};
+ghost use Rattle.zone_table.specs.Edits.{Edits, IsAllowed, IsReady, StayReady};
+ghost use Rattle.zone_table.specs.Looking.{ApexOrNone, HoldsOrNone, IsApex, IsGroup, IsGroupNow};
+ghost use Rattle.zone_table.specs.Looking.{IsMember, IsNextSet, Loads, bound_of};
+ghost use Rattle.set_search.specs.Stops.{bound_of as told};
 
 use crate::edits::{Ready, ZoneEdit};
+use crate::looking::{copies, load, order_of, slot_behind, slot_in, view};
 use crate::making::make;
 use crate::needs::{need_of, reserve_for};
 use crate::refs::{Delta, Group};
 use dns_name::Name;
-use rdata::{OutOfMemory, RType};
+use octets::OutOfMemory;
+use rdata::RType;
 use record_set::{RecordSet, SetKey};
 use set_scratch::Scratch;
-use set_search::{
-    SetList, Stop, before_key, behind_key, closest_in, count_before, exists_in, group_in,
-};
+use set_search::{Stop, before_key, behind_key, closest_in, exists_in, group_in};
+use set_store::SetStore;
 use std::alloc::Global;
 use std::marker::Model;
 use zone_list::{SetRef, StoredZone, find_zone, longest, next_id};
-use zone_sets::ZoneSets;
+use zone_order::make_room;
 
-/// The zones of a server, by rising number.
+/// The zones of a server, by rising number, and the sets of all of them.
 #[derive(Drop)]
 pub struct Zones {
+    store: SetStore,
     list: Vec<StoredZone>,
     /// How many edits were made, modulo 2^64.
     edits: u64,
@@ -36,20 +39,21 @@ pub struct Zones {
 
 impl Model for Zones {
     ghost use Rattle.std.specs.Prelude.{◌-◌, length, map, vec_capacity};
-    ghost use Rattle.zone_list.specs.Kept.{zones_of};
-    ghost use Rattle.zone_list.specs.Zones.{AreListed};
+    ghost use Rattle.zone_list.specs.Kept.{AreKept, zones_in};
     ghost use Rattle.zone_table.specs.Tables.{Table};
 
     ghost Value = { Table };
 
     ghost view = { λ z. record {
-      zones = zones_of z.list.items;
+      zones = zones_in z.store.slots z.list.items;
       rooms = map (λ k. k.room) z.list.items;
       spare = vec_capacity z.list - length z.list.items;
+      free = z.store.free;
+      cells = z.store.cells;
       edits = z.edits;
     } };
 
-    ghost invariant = { λ z. AreListed (zones_of z.list.items) };
+    ghost invariant = { λ z. AreKept z.store.slots z.list.items };
 }
 
 impl Zones {
@@ -59,18 +63,18 @@ impl Zones {
         ensures edits { result.edits ≡ 0 }
     {
         Zones {
+            store: SetStore::new(alloc),
             list: Vec::new(alloc),
             edits: 0,
         }
     }
 
-    /// The zones stand by rising number with names of their own, and the sets of each are those of a zone.
+    /// The zones stand by rising number with names of their own, and the sets of each are those of
+    /// a zone; it does nothing.
     pub fn well_formed(&self)
         ensures { AreZones self.now.zones }
     {
-        for zone in &self.list {
-            zone.well_formed();
-        }
+        self.store.slots();
     }
 
     /// Copies of all sets of a zone, in zone order.
@@ -78,8 +82,8 @@ impl Zones {
         requires { IsZoneId self.now.zones zone }
         ensures { IfOk result (λ sets. sets.items ≡ sets_of (placed_in self.now.zones zone)) }
     {
-        match self.stored(zone) {
-            Some(stored) => stored.sets().copies(alloc),
+        match order_of(&self.store, &self.list, zone) {
+            Some(order) => copies(alloc, &self.store, zone, order),
             None => unreachable!(),
         }
     }
@@ -105,8 +109,8 @@ impl Zones {
     pub fn apex(&self, zone: u32) -> Option<Name>
         ensures { ApexOrNone self.now.zones zone result }
     {
-        match self.stored(zone) {
-            Some(stored) => Some(stored.apex()),
+        match find_zone(&self.list, zone) {
+            Some(place) => Some(self.list[place].apex()),
             None => None,
         }
     }
@@ -115,10 +119,9 @@ impl Zones {
     pub fn group(&self, zone: u32, name: &Name, rtype: RType) -> Group
         ensures { IsGroup self.now.zones zone name.now rtype result }
     {
-        match self.stored(zone) {
-            Some(stored) => {
-                stored.sets().well_formed();
-                let (start, length) = group_in(stored.sets(), name, rtype, None);
+        match view(&self.store, &self.list, zone) {
+            Some(sets) => {
+                let (start, length) = group_in(&sets, name, rtype, None);
                 Group {
                     zone,
                     start,
@@ -139,12 +142,9 @@ impl Zones {
         requires within { i < group.length }
         ensures { IsMember self.now.zones group i result }
     {
-        match self.stored(group.zone) {
-            Some(stored) => SetRef {
-                zone: group.zone,
-                slot: slot_in(stored.sets(), group.start, i),
-            },
-            None => unreachable!(),
+        SetRef {
+            zone: group.zone,
+            slot: slot_in(&self.store, &self.list, group.zone, group.start, i),
         }
     }
 
@@ -152,25 +152,15 @@ impl Zones {
     pub fn load(&self, set: SetRef, into: &mut Scratch) -> bool
         ensures { Loads self.now.zones set into.old into.new result }
     {
-        let Some(stored) = self.stored(set.zone) else {
-            return false;
-        };
-        let Some(found) = stored.sets().get(set.slot) else {
-            return false;
-        };
-        into.hold(found);
-        true
+        load(&self.store, &self.list, set, into)
     }
 
     /// Whether a name exists in a zone: whether a set has it, or a name below it.
     pub fn exists(&self, zone: u32, name: &Name) -> bool
         ensures { IsTrue result ↔ Exists (sets_of (placed_in self.now.zones zone)) name.now }
     {
-        match self.stored(zone) {
-            Some(stored) => {
-                stored.sets().well_formed();
-                exists_in(stored.sets(), name, None)
-            }
+        match view(&self.store, &self.list, zone) {
+            Some(sets) => exists_in(&sets, name, None),
             None => false,
         }
     }
@@ -181,11 +171,8 @@ impl Zones {
         requires some { placed_in self.now.zones zone ≢ [] }
         ensures { IsClosest (sets_of (placed_in self.now.zones zone)) name.now result }
     {
-        match self.stored(zone) {
-            Some(stored) => {
-                stored.sets().well_formed();
-                closest_in(stored.sets(), name)
-            }
+        match view(&self.store, &self.list, zone) {
+            Some(sets) => closest_in(&sets, name),
             None => unreachable!(),
         }
     }
@@ -194,26 +181,24 @@ impl Zones {
     pub fn next_from(&self, zone: u32, from: &SetKey, past: bool) -> Option<SetRef>
         ensures { IsNextSet self.now.zones zone (bound_of from.now past) result }
     {
-        let Some(stored) = self.stored(zone) else {
-            return None;
-        };
-        match slot_behind(stored.sets(), &stop_at(from, past)) {
+        match slot_behind(&self.store, &self.list, zone, &stop_at(from, past)) {
             Some(slot) => Some(SetRef { zone, slot }),
             None => None,
         }
     }
 
     /// Makes an edit ready: takes all its memory. The zones stay as they are, and edits that are
-    /// ready stay ready where it succeeds.
+    /// ready stay ready, also where memory runs out.
     pub fn ready(&mut self, alloc: Global, edit: ZoneEdit) -> Result<Ready, OutOfMemory>
         requires { IsAllowed self.old.zones edit }
         ensures zones { self.new.zones ≡ self.old.zones }
         ensures edits { self.new.edits ≡ self.old.edits }
         ensures made { IfOk result (λ ready. ready.made ≡ edit) }
         ensures ready { IfOk result (λ ready. IsReady self.new ready) }
-        ensures others { OnOk result (StayReady self.old self.new) }
+        ensures others { StayReady self.old self.new }
     {
-        let need = need_of(&self.list, &edit);
+        let need = need_of(&self.list, &edit)?;
+        make_room(&mut self.store, need.addable, need.cells)?;
         reserve_for(&mut self.list, &edit)?;
         Ready::new(alloc, edit, self.edits, need)
     }
@@ -225,43 +210,8 @@ impl Zones {
         ensures count { self.new.edits ≡ (self.old.edits + 1) % 2 ^ 64 }
     {
         self.edits = self.edits.wrapping_add(1);
-        make(&mut self.list, ready)
+        make(&mut self.store, &mut self.list, ready)
     }
-
-    /// The zone of a number.
-    fn stored(&self, zone: u32) -> Option<&StoredZone>
-        ensures { GetsZone self.now.zones zone result }
-    {
-        match find_zone(&self.list, zone) {
-            Some(place) => {
-                let stored = &self.list[place];
-                stored.well_formed();
-                Some(stored)
-            }
-            None => None,
-        }
-    }
-}
-
-/// The slot of the set at a place of a group that begins at another.
-fn slot_in(sets: &ZoneSets, start: usize, i: usize) -> u32
-    requires { start + i < length sets.now.placed }
-    ensures { IsSlotAt sets.now.placed (start + i) result }
-{
-    sets.count();
-    sets.slot_at(start + i)
-}
-
-/// The slot of the first set behind the bound.
-fn slot_behind(sets: &ZoneSets, to: &Stop) -> Option<u32>
-    ensures { SlotBehind sets.now.placed (told to.now) result }
-{
-    sets.well_formed();
-    let place = count_before(sets, to, None);
-    if place < sets.count() {
-        return Some(sets.slot_at(place));
-    }
-    None
 }
 
 /// The bound in front of a key, or behind it.

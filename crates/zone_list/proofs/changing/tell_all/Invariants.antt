@@ -1,6 +1,8 @@
 use Rattle.std.proofs.Common.{◌≡◌, map, take}
+use Rattle.zone_order.specs.Orders.{placed_of}
 use Rattle.zone_list.specs.Changes.{ref_in}
 use Rattle.zone_list.proofs.changing.tell_all.Given as goal
 
-abbrev pub invariant-loop-place : goal.invariant-loop-place
-invariant-loop-place l = l.told.items ≡ map (ref_in l.zone) (take l.place l.sets.placed)
+abbrev pub invariant-loop-slot : goal.invariant-loop-slot
+invariant-loop-slot l =
+    l.told.items ≡ map (ref_in l.zone) (placed_of l.store.slots l.zone (take l.slot-index l.order))

@@ -1,5 +1,5 @@
 use Rattle.std.proofs.Common.{◌<◌, length, arith}
-use Rattle.zone_list.specs.Kept.{zones_of}
+use Rattle.zone_list.specs.Kept.{named, named_of}
 use Rattle.zone_list.proofs.Listing.{as_many, kept_at, past_at, past_behind}
 use Rattle.zone_list.proofs.finding.first_past.Goals as goal
 
@@ -13,7 +13,7 @@ returns-then-id c =
     let y = c.index-list-place in
     let above = c.if-id.true in
     let its_id = c.id.ensures in
-    past_at (zones_of list) c.args.id c.requires c.first_from-place.result y.result.zone
+    past_at (named_of list) c.args.id c.requires c.first_from-place.result (named y.result)
     c.first_from-place.ensures
     (kept_at list c.first_from-place.result y.result inside y.is) (omega (arith, above, its_id))
 
@@ -27,6 +27,6 @@ returns c =
     let y = c.index-list-place in
     let above = c.if-id.false in
     let its_id = c.id.ensures in
-    past_behind (zones_of list) c.args.id c.requires c.first_from-place.result y.result.zone
+    past_behind (named_of list) c.args.id c.requires c.first_from-place.result (named y.result)
     c.first_from-place.ensures
     (kept_at list c.first_from-place.result y.result inside y.is) (omega (arith, above, its_id))

@@ -1,5 +1,5 @@
 use Rattle.std.proofs.Common.{◌+◌, ◌-◌, ◌/◌, ◌<◌, length, arith}
-use Rattle.zone_list.specs.Kept.{zones_of}
+use Rattle.zone_list.specs.Kept.{named, named_of}
 use Rattle.zone_list.proofs.Listing.{as_many, kept_at, low_up, high_down}
 use Rattle.zone_list.proofs.finding.halve.Goals as goal
 
@@ -15,7 +15,7 @@ returns-then-id-clause-bracket c =
     let x = c.index-list-middle in
     let its_id = c.id.ensures in
     let test = c.if-id.true in
-    low_up (zones_of list) c.args.id c.requires.listed c.args.low c.args.high m x.result.zone
+    low_up (named_of list) c.args.id c.requires.listed c.args.low c.args.high m (named x.result)
     c.requires.bracket (omega arith) below
     (kept_at list m x.result inside x.is) (omega (arith, its_id, test))
 
@@ -31,6 +31,6 @@ returns-clause-bracket c =
     let x = c.index-list-middle in
     let its_id = c.id.ensures in
     let test = c.if-id.false in
-    high_down (zones_of list) c.args.id c.requires.listed c.args.low c.args.high m x.result.zone
+    high_down (named_of list) c.args.id c.requires.listed c.args.low c.args.high m (named x.result)
     c.requires.bracket (omega arith) below
     (kept_at list m x.result inside x.is) (λ h. omega (arith, its_id, test, h))

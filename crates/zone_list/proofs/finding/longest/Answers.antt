@@ -1,10 +1,10 @@
 use Rattle.std.proofs.Common.{◌≡◌, List, Some, length, take, refl, sym, subst, arith}
 use Rattle.std.specs.Prelude.{slice_get}
 use Rattle.std.proofs.lemmas.Option.{slice_get_read}
-use Rattle.zone_list.specs.Kept.{Kept, zones_of}
+use Rattle.zone_list.specs.Kept.{named, named_of}
 use Rattle.zone_list.specs.Found.{LongestOrNone}
 use Rattle.zone_list.specs.Zones.{Zone}
-use Rattle.zone_list.proofs.Stepping.{map_more}
+use Rattle.zone_list.proofs.Made.{map_more}
 use Rattle.zone_list.proofs.finding.longest.Goals as goal
 
 pub loop-zone-preserved : goal.loop-zone-preserved
@@ -16,5 +16,5 @@ loop-zone-preserved c =
     slice_get_read list (length list) i c.zone-item.result refl (omega (arith, test))
     c.zone-item.is in
     subst (λ (zones : List Zone). LongestOrNone zones c.args.name.now c.longer-found.result)
-    (sym (map_more (λ (k : Kept). k.zone) list i c.zone-item.result at))
-    (c.longer-found.ensures (zones_of (take i list)) c.loop-zone.invariant)
+    (sym (map_more named list i c.zone-item.result at))
+    (c.longer-found.ensures (named_of (take i list)) c.loop-zone.invariant)

@@ -1,75 +1,156 @@
-use Rattle.std.proofs.Common.{◌≤◌, List, length, refl, sym, subst}
+use Rattle.std.proofs.Common.{◌≤◌, List, ℕ, suc, take, drop, length, sym, subst, arith}
 use Rattle.std.specs.Prelude.{slice_set}
-use Rattle.std.proofs.lemmas.Option.{slice_get_read}
+use Rattle.std.specs.List.{AllByRecursion}
 use Rattle.record_set.specs.declared.sets.RecordSet.{RecordSet}
 use Rattle.record_set.specs.declared.sets.SetKey.{SetKey}
-use Rattle.zone_table.specs.declared.edits.ZoneEdit.TheVariants.{Change}
+use Rattle.set_octets.specs.Octets.{set_octets}
+use Rattle.zone_model.proofs.Among.{among_at}
+use Rattle.zone_order.specs.Orders.{placed_of}
 use Rattle.zone_list.specs.Changes.{CanChange, Changes}
-use Rattle.zone_list.specs.Kept.{Kept, zones_of}
 use Rattle.zone_list.specs.Found.{IsAt}
-use Rattle.zone_table.proofs.Made.{it_is, its_can, changed_listed, changed_edits, told}
+use Rattle.zone_list.specs.Kept.{Listed, named_of, Stands, zone_in, zones_in}
+use Rattle.zone_list.specs.Zones.{IsZoneId}
+use Rattle.zone_table.specs.declared.edits.ZoneEdit.TheVariants.{Change}
+use Rattle.zone_table.proofs.Edited.{changed_edits, its_can, told}
+use Rattle.zone_table.proofs.Kept.{changed_kept, changed_stands, changed_zones, whole_zones}
+use Rattle.zone_table.proofs.Naming.{in_map, inside_of, it_is, one_named, stands_here, with_sets}
 use Rattle.zone_table.proofs.making.change.Goals as goal
+
+pub unreachable-requires : goal.unreachable-requires
+unreachable-requires c =
+    let list = c.args.list.now.items in
+    let none : IsZoneId (named_of list) c.args.zone → ⊥ =
+    subst (λ (l : List Listed). IsZoneId (named_of l) c.args.zone → ⊥) c.deref.ensures.value
+    c.in_default.ensures in
+    none (one_named c.args.store.now.slots list c.args.zone c.requires.allowed.0)
+
+pub index_mut-requires : goal.index_mut-requires
+index_mut-requires c =
+    let list = c.args.list.now.items in
+    let found : IsAt (named_of list) c.args.zone c.in-Some.place =
+    subst (λ (l : List Listed). IsAt (named_of l) c.args.zone c.in-Some.place) c.deref.ensures.value
+    c.in-Some.ensures in
+    let inside = inside_of list c.args.zone c.in-Some.place found in
+    let many = c.args.list.now.ok.0 in
+    omega (arith, inside, many)
+
+pub change-requires-clause-order : goal.change-requires-clause-order
+change-requires-clause-order c =
+    let list = c.args.list.now.items in
+    let k = c.index_mut.result.now in
+    let found : IsAt (named_of list) c.args.zone c.in-Some.place =
+    subst (λ (l : List Listed). IsAt (named_of l) c.args.zone c.in-Some.place) c.deref.ensures.value
+    c.in-Some.ensures in
+    let it = it_is list c.args.zone c.in-Some.place found k c.index_mut.ensures.value in
+    (stands_here c.args.store.now.slots list c.requires.kept k (among_at list c.in-Some.place k it.1)).order
 
 pub change-requires-clause-can : goal.change-requires-clause-can
 change-requires-clause-can c =
-    let items = c.args.list.now.items in
-    let found : IsAt (zones_of items) c.args.zone c.in-Some.place =
-    subst (λ (l : List Kept). IsAt (zones_of l) c.args.zone c.in-Some.place)
-    c.deref.ensures.value c.in-Some.ensures in
+    let slots = c.args.store.now.slots in
+    let list = c.args.list.now.items in
     let k = c.index_mut.result.now in
-    let it = it_is items c.args.zone c.in-Some.place found k c.index_mut.ensures.value in
-    let can : CanChange k.zone.apex k.zone.placed c.args.remove c.args.add =
-    its_can items c.in-Some.place k k it.1 it.0 c.requires.listed c.args.zone c.args.remove
-    c.args.add it.2 c.requires.allowed in
-    subst (λ (ks : List SetKey). CanChange k.zone.apex k.zone.placed ks c.into_vec.result.items)
+    let found : IsAt (named_of list) c.args.zone c.in-Some.place =
+    subst (λ (l : List Listed). IsAt (named_of l) c.args.zone c.in-Some.place) c.deref.ensures.value
+    c.in-Some.ensures in
+    let it = it_is list c.args.zone c.in-Some.place found k c.index_mut.ensures.value in
+    let can : CanChange k.apex (placed_of slots k.id k.order) c.args.remove c.args.add =
+    its_can (zones_in slots list) (zone_in slots k)
+    (in_map (zone_in slots) list k (among_at list c.in-Some.place k it.1))
+    (with_sets slots list c.requires.kept.listed) c.args.zone c.args.remove c.args.add it.2
+    c.requires.allowed in
+    subst (λ (ks : List SetKey). CanChange k.apex (placed_of slots k.id k.order) ks c.as_slice-2.result.now)
     (sym c.as_slice.ensures)
-    (subst (λ (ss : List RecordSet). CanChange k.zone.apex k.zone.placed c.args.remove ss)
-    (sym c.into_vec.ensures) can)
+    (subst (λ (ss : List RecordSet). CanChange k.apex (placed_of slots k.id k.order) c.args.remove ss)
+    (sym c.as_slice-2.ensures) can)
 
-pub change-requires-clause-room : goal.change-requires-clause-room
-change-requires-clause-room c =
-    let items = c.args.list.now.items in
-    let found : IsAt (zones_of items) c.args.zone c.in-Some.place =
-    subst (λ (l : List Kept). IsAt (zones_of l) c.args.zone c.in-Some.place)
-    c.deref.ensures.value c.in-Some.ensures in
-    let k = c.index_mut.result.now in
-    let it = it_is items c.args.zone c.in-Some.place found k c.index_mut.ensures.value in
-    let at = slice_get_read items (length items) c.in-Some.place k refl it.0
-    c.index_mut.ensures.value in
-    subst (λ (ss : List RecordSet). length ss ≤ k.room) (sym c.into_vec.ensures)
-    (c.requires.room c.in-Some.place k at it.2)
+pub change-requires-clause-buffer : goal.change-requires-clause-buffer
+change-requires-clause-buffer c =
+    subst (λ (ss : List RecordSet). AllByRecursion (λ set. length (set_octets set)
+    ≤ length c.as_mut_slice.result.now) ss) (sym c.as_slice-2.ensures)
+    (subst (λ (b : List ℕ). AllByRecursion (λ set. length (set_octets set) ≤ length b) c.args.add)
+    (sym c.as_mut_slice.ensures.value) c.requires.buffer)
 
-pub returns-clause-listed : goal.returns-clause-listed
-returns-clause-listed c =
-    let items = c.args.list.now.items in
-    let found : IsAt (zones_of items) c.args.zone c.in-Some.place =
-    subst (λ (l : List Kept). IsAt (zones_of l) c.args.zone c.in-Some.place)
-    c.deref.ensures.value c.in-Some.ensures in
+pub change-requires-clause-places : goal.change-requires-clause-places
+change-requires-clause-places c =
+    let list = c.args.list.now.items in
     let k = c.index_mut.result.now in
-    let it = it_is items c.args.zone c.in-Some.place found k c.index_mut.ensures.value in
-    changed_listed items c.in-Some.place k c.change.new.self it.1 it.0 c.requires.listed
-    c.change.ensures.id c.change.ensures.apex
+    let found : IsAt (named_of list) c.args.zone c.in-Some.place =
+    subst (λ (l : List Listed). IsAt (named_of l) c.args.zone c.in-Some.place) c.deref.ensures.value
+    c.in-Some.ensures in
+    let it = it_is list c.args.zone c.in-Some.place found k c.index_mut.ensures.value in
+    subst (λ (ss : List RecordSet). length ss ≤ k.room) (sym c.as_slice-2.ensures)
+    (c.requires.places c.in-Some.place k it.1 it.2)
+
+-- what changed, and what the zone holds now
+changes-of : (c : goal.After-drop-remove-inside) → (IsAt (named_of c.args.list.now.items) c.args.zone c.in-Some.place)
+    × Changes c.index_mut.result.now.id
+    (placed_of c.args.store.now.slots c.index_mut.result.now.id c.index_mut.result.now.order)
+    c.args.remove c.args.add c.change.new.removed.items c.change.new.added.items
+    (placed_of c.change.new.store.slots c.change.new.self.id c.change.new.self.order)
+changes-of c =
+    let slots = c.args.store.now.slots in
+    let k = c.index_mut.result.now in
+    let made = c.change.new in
+    let now = made.store.slots in (
+      subst (λ (l : List Listed). IsAt (named_of l) c.args.zone c.in-Some.place) c.deref.ensures.value
+          c.in-Some.ensures,
+      subst (λ (ks : List SetKey). Changes k.id (placed_of slots k.id k.order) ks c.args.add
+          made.removed.items made.added.items (placed_of now made.self.id made.self.order)) c.as_slice.ensures
+          (subst (λ (ss : List RecordSet). Changes k.id (placed_of slots k.id k.order) c.as_slice.result.now ss
+          made.removed.items made.added.items (placed_of now made.self.id made.self.order)) c.as_slice-2.ensures
+          c.change.ensures.changes),
+    )
+
+stands-now : (c : goal.After-drop-remove-inside) → Stands c.change.new.store.slots c.change.new.self
+stands-now c =
+    let slots = c.args.store.now.slots in
+    let list = c.args.list.now.items in
+    let i = c.in-Some.place in
+    let k = c.index_mut.result.now in
+    let made = c.change.new in
+    let known = changes-of c in
+    let it = it_is list c.args.zone i known.0 k c.index_mut.ensures.value in
+    let there = among_at list i k it.1 in
+    let can : CanChange k.apex (placed_of slots k.id k.order) c.args.remove c.args.add =
+    its_can (zones_in slots list) (zone_in slots k) (in_map (zone_in slots) list k there)
+    (with_sets slots list c.requires.kept.listed) c.args.zone c.args.remove c.args.add it.2
+    c.requires.allowed in
+    changed_stands slots made.store.slots k made.self c.change.ensures.apex c.change.ensures.order
+    c.args.remove c.args.add made.removed.items made.added.items
+    known.1 (stands_here slots list c.requires.kept k there) can.added.each
+
+pub returns-clause-kept : goal.returns-clause-kept
+returns-clause-kept c =
+    let list = c.args.list.now.items in
+    let i = c.in-Some.place in
+    let k = c.index_mut.result.now in
+    let it = it_is list c.args.zone i (changes-of c).0 k c.index_mut.ensures.value in
+    changed_kept c.args.store.now.slots c.change.new.store.slots list i k c.change.new.self it.1 it.0
+    c.requires.kept c.change.ensures.others c.change.ensures.id c.change.ensures.apex (stands-now c)
 
 pub returns-clause-edits : goal.returns-clause-edits
 returns-clause-edits c =
-    let items = c.args.list.now.items in
-    let found : IsAt (zones_of items) c.args.zone c.in-Some.place =
-    subst (λ (l : List Kept). IsAt (zones_of l) c.args.zone c.in-Some.place)
-    c.deref.ensures.value c.in-Some.ensures in
+    let slots = c.args.store.now.slots in
+    let list = c.args.list.now.items in
+    let i = c.in-Some.place in
     let k = c.index_mut.result.now in
-    let it = it_is items c.args.zone c.in-Some.place found k c.index_mut.ensures.value in
+    let known = changes-of c in
+    let it = it_is list c.args.zone i known.0 k c.index_mut.ensures.value in
     let made = c.change.new in
-    let changes : Changes k.zone.id k.zone.placed c.args.remove c.args.add made.removed.items
-    made.added.items made.self.zone.placed =
-    subst (λ (ks : List SetKey). Changes k.zone.id k.zone.placed ks c.args.add made.removed.items
-    made.added.items made.self.zone.placed) c.as_slice.ensures
-    (subst (λ (ss : List RecordSet). Changes k.zone.id k.zone.placed c.as_slice.result.now ss
-    made.removed.items made.added.items made.self.zone.placed) c.into_vec.ensures
-    c.change.ensures.changes) in
-    told (zones_of items) (Change c.args.zone c.args.remove c.args.add)
-    (zones_of (slice_set items c.in-Some.place made.self)) c.args.zone
+    let now = made.store.slots in
+    let stands = stands-now c in
+    told (zones_in slots list) (Change c.args.zone c.args.remove c.args.add)
+    (zones_in now (slice_set list i made.self)) c.args.zone
     made.removed.items c.from_vec.result made.added.items c.from_vec-2.result c.from_vec.ensures
     c.from_vec-2.ensures
-    (changed_edits items c.in-Some.place k made.self it.1 it.0 c.requires.listed c.change.ensures.id
-    c.change.ensures.apex c.args.zone c.args.remove c.args.add
-    made.removed.items made.added.items it.2 changes)
+    (changed_edits (zones_in slots list) (zones_in now (slice_set list i made.self))
+    (zones_in slots (take i list)) (zones_in slots (drop (suc i) list))
+    (zone_in slots k) (zone_in now made.self)
+    (whole_zones slots now list i k made.self it.1 it.0 c.requires.kept c.change.ensures.others
+    c.change.ensures.id c.change.ensures.apex stands)
+    (changed_zones slots now list i k made.self it.1 it.0 c.requires.kept c.change.ensures.others
+    c.change.ensures.id c.change.ensures.apex stands)
+    (with_sets slots list c.requires.kept.listed)
+    (with_sets now (slice_set list i made.self) (returns-clause-kept c).listed)
+    c.change.ensures.id c.change.ensures.apex c.args.zone c.args.remove c.args.add
+    made.removed.items made.added.items it.2 known.1)

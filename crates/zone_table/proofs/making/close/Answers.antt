@@ -1,61 +1,93 @@
-use Rattle.std.proofs.Common.{◌≤◌, ◌∙◌, [], List, length, sym, subst, arith}
-use Rattle.std.specs.Prelude.{vec_capacity}
-use Rattle.zone_model.specs.Placed.{Placed}
+use Rattle.std.proofs.Common.{◌≡◌, ◌∙◌, [], List, suc, take, drop, sym, subst, arith}
+use Rattle.std.specs.List.{remove}
+use Rattle.zone_model.proofs.Among.{among_at}
+use Rattle.zone_list.specs.Found.{IsAt}
+use Rattle.zone_list.specs.Kept.{AreKept, Listed, named_of, zone_in, zones_in}
+use Rattle.zone_list.specs.Zones.{IsZoneId}
 use Rattle.zone_table.specs.declared.edits.ZoneEdit.TheVariants.{Close}
 use Rattle.zone_table.specs.Edits.{Edits}
-use Rattle.zone_list.specs.Kept.{Kept, zones_of}
-use Rattle.zone_list.specs.Found.{IsAt}
-use Rattle.zone_list.specs.Zones.{AreListed}
-use Rattle.zone_table.proofs.Made.{it_is, its_sets, closed_listed, closed_edits, told}
+use Rattle.zone_table.proofs.Edited.{closed_edits, told}
+use Rattle.zone_table.proofs.Kept.{all_zones, closed_kept, closed_zones}
+use Rattle.zone_table.proofs.Naming.{as_many_sets, inside_of, it_is, one_named, stands_here, with_sets}
 use Rattle.zone_table.proofs.making.close.Goals as goal
 
-pub refs-requires-clause-room : goal.refs-requires-clause-room
-refs-requires-clause-room c =
-    let items = c.args.list.now.items in
-    let found : IsAt (zones_of items) c.args.zone c.in-Some.place =
-    subst (λ (l : List Kept). IsAt (zones_of l) c.args.zone c.in-Some.place)
-    c.deref.ensures.value c.in-Some.ensures in
-    let k = c.index.result.now in
-    let it = it_is items c.args.zone c.in-Some.place found k c.index.ensures in
-    subst (λ (ps : List Placed). length ps ≤ vec_capacity c.args.removed)
-    (its_sets items c.args.zone c.in-Some.place k c.requires.listed it.1 it.2)
-    c.requires.removable
+pub unreachable-requires : goal.unreachable-requires
+unreachable-requires c =
+    let list = c.args.list.now.items in
+    let none : IsZoneId (named_of list) c.args.zone → ⊥ =
+    subst (λ (l : List Listed). IsZoneId (named_of l) c.args.zone → ⊥) c.deref.ensures.value
+    c.in_default.ensures in
+    none (one_named c.args.store.now.slots list c.args.zone c.requires.allowed)
 
-pub remove-requires : goal.remove-requires
-remove-requires c =
-    let items = c.args.list.now.items in
-    let found : IsAt (zones_of items) c.args.zone c.in-Some.place =
-    subst (λ (l : List Kept). IsAt (zones_of l) c.args.zone c.in-Some.place)
-    c.deref.ensures.value c.in-Some.ensures in
-    let it = it_is items c.args.zone c.in-Some.place found c.index.result.now c.index.ensures in
-    let inside = it.0 in
-    let len = c.args.list.now.ok.0 in
-    omega (arith, inside, len)
+pub remove-closed-requires : goal.remove-closed-requires
+remove-closed-requires c =
+    let list = c.args.list.now.items in
+    let found : IsAt (named_of list) c.args.zone c.in-Some.place =
+    subst (λ (l : List Listed). IsAt (named_of l) c.args.zone c.in-Some.place) c.deref.ensures.value
+    c.in-Some.ensures in
+    let inside = inside_of list c.args.zone c.in-Some.place found in
+    let many = c.args.list.now.ok.0 in
+    omega (arith, inside, many)
 
-pub returns-clause-listed : goal.returns-clause-listed
-returns-clause-listed c =
-    let items = c.args.list.now.items in
-    let found : IsAt (zones_of items) c.args.zone c.in-Some.place =
-    subst (λ (l : List Kept). IsAt (zones_of l) c.args.zone c.in-Some.place)
-    c.deref.ensures.value c.in-Some.ensures in
-    let k = c.index.result.now in
-    let it = it_is items c.args.zone c.in-Some.place found k c.index.ensures in
-    subst (λ (l : List Kept). AreListed (zones_of l)) (sym c.remove.ensures.items)
-    (closed_listed items c.in-Some.place k k it.1 it.0 c.requires.listed)
+pub close-requires-clause-order : goal.close-requires-clause-order
+close-requires-clause-order c =
+    let list = c.args.list.now.items in
+    let k = c.remove-closed.result in
+    let found : IsAt (named_of list) c.args.zone c.in-Some.place =
+    subst (λ (l : List Listed). IsAt (named_of l) c.args.zone c.in-Some.place) c.deref.ensures.value
+    c.in-Some.ensures in
+    let it = it_is list c.args.zone c.in-Some.place found k c.remove-closed.ensures.value in
+    (stands_here c.args.store.now.slots list c.requires.kept k
+    (among_at list c.in-Some.place k it.1)).order
+
+pub close-requires-clause-room : goal.close-requires-clause-room
+close-requires-clause-room c =
+    let slots = c.args.store.now.slots in
+    let list = c.args.list.now.items in
+    let k = c.remove-closed.result in
+    let found : IsAt (named_of list) c.args.zone c.in-Some.place =
+    subst (λ (l : List Listed). IsAt (named_of l) c.args.zone c.in-Some.place) c.deref.ensures.value
+    c.in-Some.ensures in
+    let it = it_is list c.args.zone c.in-Some.place found k c.remove-closed.ensures.value in
+    let many = as_many_sets slots list c.args.zone c.in-Some.place c.requires.kept.listed found k it.0
+    c.remove-closed.ensures.value in
+    let enough = c.requires.removable in
+    omega (arith, many, enough)
+
+pub returns-clause-kept : goal.returns-clause-kept
+returns-clause-kept c =
+    let slots = c.args.store.now.slots in
+    let list = c.args.list.now.items in
+    let i = c.in-Some.place in
+    let k = c.remove-closed.result in
+    let found : IsAt (named_of list) c.args.zone i =
+    subst (λ (l : List Listed). IsAt (named_of l) c.args.zone i) c.deref.ensures.value
+    c.in-Some.ensures in
+    let it = it_is list c.args.zone i found k c.remove-closed.ensures.value in
+    subst (λ (l : List Listed). AreKept c.close.new.store.slots l) (sym c.remove-closed.ensures.items)
+    (closed_kept slots c.close.new.store.slots list i k it.1 c.requires.kept c.close.ensures.others
+    c.close.ensures.order)
 
 pub returns-clause-edits : goal.returns-clause-edits
 returns-clause-edits c =
-    let items = c.args.list.now.items in
-    let found : IsAt (zones_of items) c.args.zone c.in-Some.place =
-    subst (λ (l : List Kept). IsAt (zones_of l) c.args.zone c.in-Some.place)
-    c.deref.ensures.value c.in-Some.ensures in
-    let k = c.index.result.now in
-    let it = it_is items c.args.zone c.in-Some.place found k c.index.ensures in
-    told (zones_of items) (Close c.args.zone) (zones_of c.remove.new.self.items) c.args.zone
-    c.refs.new.removed.items c.from_vec.result [] c.from_vec-2.result c.from_vec.ensures
-    (c.from_vec-2.ensures ∙ c.requires.none_added)
-    (subst (λ (l : List Kept). Edits (zones_of items) (Close c.args.zone) (zones_of l)
-    (record { zone = c.args.zone; removed = c.refs.new.removed.items; added = [] }))
-    (sym c.remove.ensures.items)
-    (closed_edits items c.in-Some.place k k it.1 it.0 c.requires.listed c.args.zone
-    c.refs.new.removed.items it.2 c.refs.ensures))
+    let slots = c.args.store.now.slots in
+    let now = c.close.new.store.slots in
+    let list = c.args.list.now.items in
+    let i = c.in-Some.place in
+    let k = c.remove-closed.result in
+    let found : IsAt (named_of list) c.args.zone i =
+    subst (λ (l : List Listed). IsAt (named_of l) c.args.zone i) c.deref.ensures.value
+    c.in-Some.ensures in
+    let it = it_is list c.args.zone i found k c.remove-closed.ensures.value in
+    let removed = c.close.new.removed.items in
+    let none : c.from_vec-2.result ≡ [] = c.from_vec-2.ensures ∙ c.requires.none_added in
+    subst (λ (l : List Listed). Edits (zones_in slots list) (Close c.args.zone) (zones_in now l)
+    (record { zone = c.args.zone; removed = c.from_vec.result; added = c.from_vec-2.result }))
+    (sym c.remove-closed.ensures.items)
+    (told (zones_in slots list) (Close c.args.zone) (zones_in now (remove list i)) c.args.zone
+    removed c.from_vec.result [] c.from_vec-2.result c.from_vec.ensures none
+    (closed_edits (zones_in slots list) (zones_in now (remove list i))
+    (zones_in slots (take i list)) (zones_in slots (drop (suc i) list)) (zone_in slots k)
+    (all_zones slots now list i k it.1 c.requires.kept c.close.ensures.others c.close.ensures.order)
+    (closed_zones slots now list i k it.1 c.requires.kept c.close.ensures.others c.close.ensures.order)
+    (with_sets slots list c.requires.kept.listed) c.args.zone removed it.2 c.close.ensures.told))

@@ -1,55 +1,133 @@
-use Rattle.std.proofs.Common.{◌≡◌, ◌∙◌, [], List, ap, sym, subst}
+use Rattle.std.proofs.Common.{◌≡◌, ◌≤◌, ◌∙◌, [], List, ℕ, take, drop, length, sym, subst}
+use Rattle.std.specs.List.{AllByRecursion, insert}
 use Rattle.record_set.specs.declared.sets.RecordSet.{RecordSet}
-use Rattle.zone_table.specs.declared.edits.ZoneEdit.TheVariants.{Open}
-use Rattle.zone_list.specs.Changes.{Changes}
-use Rattle.zone_table.specs.Edits.{Edits}
-use Rattle.zone_list.specs.Kept.{Kept, zones_of}
+use Rattle.set_octets.specs.Octets.{set_octets}
+use Rattle.zone_order.specs.Orders.{IsOrder, OthersStay, placed_of}
+use Rattle.zone_list.specs.Changes.{CanChange, Changes}
 use Rattle.zone_list.specs.Found.{IsSplit}
-use Rattle.zone_list.specs.Zones.{AreListed, Zone}
-use Rattle.zone_table.proofs.Made.{opened_listed, opened_edits, told}
+use Rattle.zone_list.specs.Kept.{AreKept, Listed, named_of, Stands, zone_in, zones_in}
+use Rattle.zone_table.specs.declared.edits.ZoneEdit.TheVariants.{Open}
+use Rattle.zone_table.specs.Edits.{Edits, IsAllowed}
+use Rattle.zone_table.proofs.Edited.{opened_edits, told}
+use Rattle.zone_table.proofs.Kept.{changed_stands, opened_kept, opened_zones, part_zones}
+use Rattle.zone_table.proofs.Opening.{can_open, empty_order, listed_with, new_id, stands_empty}
+use Rattle.zone_table.proofs.Naming.{one_with, with_sets}
 use Rattle.zone_table.proofs.making.open.Goals as goal
 
-pub returns-clause-listed : goal.returns-clause-listed
-returns-clause-listed c =
-    let items = c.args.list.now.items in
-    let kept = c.change.new.self in
-    let place = c.first_from-place.result in
-    let new = c.new-opened.ensures in
-    let split : IsSplit (zones_of items) c.args.zone place place =
-    subst (λ (l : List Kept). IsSplit (zones_of l) c.args.zone place place)
-    c.deref.ensures.value c.first_from-place.ensures in
-    let id : kept.zone.id ≡ c.args.zone = c.change.ensures.id ∙ ap (λ (k : Kept). k.zone.id) new in
-    let apex : kept.zone.apex ≡ c.args.name = c.change.ensures.apex
-    ∙ ap (λ (k : Kept). k.zone.apex) new in
-    subst (λ (l : List Kept). AreListed (zones_of l)) (sym c.insert_zone.ensures)
-    (opened_listed items place c.args.zone c.args.name c.args.sets kept c.requires.listed split
-    c.requires.allowed id apex)
+pub change-requires-clause-order : goal.change-requires-clause-order
+change-requires-clause-order c =
+    let k = c.args.opened in
+    subst (λ (order : List ℕ). IsOrder c.args.store.now.slots k.id order) (sym c.requires.empty)
+    (empty_order c.args.store.now.slots c.args.list.now.items c.requires.kept k.id
+    (λ is. c.requires.allowed.0 (one_with c.args.store.now.slots c.args.list.now.items k.id is)))
+
+pub change-requires-clause-can : goal.change-requires-clause-can
+change-requires-clause-can c =
+    let k = c.args.opened in
+    let slots = c.args.store.now.slots in
+    subst (λ (ss : List RecordSet). CanChange k.apex (placed_of slots k.id k.order) [] ss)
+    (sym c.as_slice-add.ensures)
+    (subst (λ (order : List ℕ). CanChange k.apex (placed_of slots k.id order) [] c.args.sets)
+    (sym c.requires.empty) (can_open k.apex c.args.sets c.requires.allowed.2))
+
+pub change-requires-clause-buffer : goal.change-requires-clause-buffer
+change-requires-clause-buffer c =
+    subst (λ (ss : List RecordSet). AllByRecursion (λ set. length (set_octets set)
+    ≤ length c.as_mut_slice.result.now) ss) (sym c.as_slice-add.ensures)
+    (subst (λ (b : List ℕ). AllByRecursion (λ set. length (set_octets set) ≤ length b) c.args.sets)
+    (sym c.as_mut_slice.ensures.value) c.requires.buffer)
+
+-- what the opened zone is now
+record Opened (c : goal.After-drop-sets-inside) : Type 0 where
+  changes : Changes c.args.opened.id [] [] c.args.sets c.change.new.removed.items
+      c.change.new.added.items (placed_of c.change.new.store.slots c.change.new.self.id c.change.new.self.order)
+  allowed : IsAllowed (zones_in c.args.store.now.slots c.args.list.now.items)
+      (Open c.change.new.self.id c.change.new.self.apex c.args.sets)
+  others : OthersStay c.change.new.self.id c.args.store.now.slots c.change.new.store.slots
+  stands : Stands c.change.new.store.slots c.change.new.self
+  place : IsSplit (named_of c.args.list.now.items) c.change.new.self.id c.first_from-place.result
+      c.first_from-place.result
+
+opened : (c : goal.After-drop-sets-inside) → Opened c
+opened c =
+    let slots = c.args.store.now.slots in
+    let list = c.args.list.now.items in
+    let was = c.args.opened in
+    let k = c.change.new.self in
+    let now = c.change.new.store.slots in
+    let removed = c.change.new.removed.items in
+    let added = c.change.new.added.items in
+    let id : k.id ≡ was.id = c.change.ensures.id in
+    let apex : k.apex ≡ was.apex = c.change.ensures.apex in
+    let changes : Changes was.id (placed_of slots was.id was.order) [] c.args.sets removed added
+    (placed_of now k.id k.order) =
+    subst (λ (ss : List RecordSet). Changes was.id (placed_of slots was.id was.order) [] ss removed added
+    (placed_of now k.id k.order)) c.as_slice-add.ensures c.change.ensures.changes in
+    record {
+      changes = subst (λ (order : List ℕ). Changes was.id (placed_of slots was.id order) [] c.args.sets
+          removed added (placed_of now k.id k.order)) c.requires.empty changes;
+      allowed = subst (λ (n : ℕ). IsAllowed (zones_in slots list) (Open n k.apex c.args.sets)) (sym id)
+          (subst (λ (a : List (List ℕ)). IsAllowed (zones_in slots list) (Open was.id a c.args.sets))
+          (sym apex) c.requires.allowed);
+      others = subst (λ (n : ℕ). OthersStay n slots now) (sym id) c.change.ensures.others;
+      stands = changed_stands slots now was k apex c.change.ensures.order [] c.args.sets removed added
+          changes (stands_empty slots list c.requires.kept was c.requires.empty
+          (λ is. c.requires.allowed.0 (one_with slots list was.id is))) c.requires.allowed.2.each;
+      place = subst (λ (n : ℕ). IsSplit (named_of list) n c.first_from-place.result
+          c.first_from-place.result) (c.id-zone.ensures ∙ sym id)
+          (subst (λ (l : List Listed). IsSplit (named_of l) c.id-zone.result c.first_from-place.result
+          c.first_from-place.result) c.deref.ensures.value c.first_from-place.ensures);
+    }
+
+pub returns-clause-kept : goal.returns-clause-kept
+returns-clause-kept c =
+    let slots = c.args.store.now.slots in
+    let list = c.args.list.now.items in
+    let k = c.change.new.self in
+    let n = c.first_from-place.result in
+    let o = opened c in
+    subst (λ (l : List Listed). AreKept c.change.new.store.slots l) (sym c.insert_zone.ensures)
+    (opened_kept slots c.change.new.store.slots list n k c.requires.kept o.others
+    (new_id slots list n k c.args.sets c.requires.kept.listed o.place o.allowed) o.stands
+    (listed_with slots list n k c.args.sets c.requires.kept.listed o.place o.allowed))
 
 pub returns-clause-edits : goal.returns-clause-edits
 returns-clause-edits c =
-    let items = c.args.list.now.items in
-    let kept = c.change.new.self in
-    let place = c.first_from-place.result in
-    let new = c.new-opened.ensures in
-    let split : IsSplit (zones_of items) c.args.zone place place =
-    subst (λ (l : List Kept). IsSplit (zones_of l) c.args.zone place place)
-    c.deref.ensures.value c.first_from-place.ensures in
-    let id : kept.zone.id ≡ c.args.zone = c.change.ensures.id ∙ ap (λ (k : Kept). k.zone.id) new in
-    let apex : kept.zone.apex ≡ c.args.name = c.change.ensures.apex
-    ∙ ap (λ (k : Kept). k.zone.apex) new in
+    let slots = c.args.store.now.slots in
+    let now = c.change.new.store.slots in
+    let list = c.args.list.now.items in
+    let was = c.args.opened in
+    let k = c.change.new.self in
+    let n = c.first_from-place.result in
     let removed = c.change.new.removed.items in
     let added = c.change.new.added.items in
-    let changes : Changes c.args.zone [] [] c.args.sets removed added kept.zone.placed =
-    subst (λ (z : Zone). Changes z.id z.placed [] c.args.sets removed added kept.zone.placed)
-    (ap (λ (k : Kept). k.zone) new)
-    (subst (λ (ss : List RecordSet). Changes c.new-opened.result.zone.id
-    c.new-opened.result.zone.placed [] ss removed added kept.zone.placed) c.into_vec.ensures
-    c.change.ensures.changes) in
-    told (zones_of items) (Open c.args.zone c.args.name c.args.sets)
-    (zones_of c.insert_zone.new.list.items) c.args.zone
-    removed c.from_vec.result added c.from_vec-2.result c.from_vec.ensures c.from_vec-2.ensures
-    (subst (λ (l : List Kept). Edits (zones_of items) (Open c.args.zone c.args.name c.args.sets)
-    (zones_of l) (record { zone = c.args.zone; removed = removed; added = added }))
+    let o = opened c in
+    let new = new_id slots list n k c.args.sets c.requires.kept.listed o.place o.allowed in
+    let listed = listed_with slots list n k c.args.sets c.requires.kept.listed o.place o.allowed in
+    let id : k.id ≡ was.id = c.change.ensures.id in
+    let edits : Edits (zones_in slots list) (Open k.id k.apex c.args.sets) (zones_in now (insert list n k))
+    (record { zone = k.id; removed = removed; added = added }) =
+    opened_edits (zones_in slots list) (zones_in now (insert list n k)) (zones_in slots (take n list))
+    (zones_in slots (drop n list)) (zone_in now k)
+    (part_zones slots now list n k c.requires.kept o.others new o.stands listed)
+    (opened_zones slots now list n k c.requires.kept o.others new o.stands listed)
+    (with_sets now (insert list n k)
+    (opened_kept slots now list n k c.requires.kept o.others new o.stands listed).listed)
+    c.args.sets removed added
+    (subst (λ (m : ℕ). Changes m [] [] c.args.sets removed added (placed_of now k.id k.order)) (sym id)
+    o.changes) in
+    subst (λ (l : List Listed). Edits (zones_in slots list) (Open was.id was.apex c.args.sets)
+    (zones_in now l)
+    (record { zone = c.id-zone.result; removed = c.from_vec.result; added = c.from_vec-2.result }))
     (sym c.insert_zone.ensures)
-    (opened_edits items place c.args.zone c.args.name c.args.sets kept c.requires.listed split
-    c.requires.allowed id apex removed added changes))
+    (told (zones_in slots list) (Open was.id was.apex c.args.sets) (zones_in now (insert list n k))
+    c.id-zone.result removed c.from_vec.result added c.from_vec-2.result c.from_vec.ensures
+    c.from_vec-2.ensures
+    (subst (λ (m : ℕ). Edits (zones_in slots list) (Open was.id was.apex c.args.sets)
+    (zones_in now (insert list n k)) (record { zone = m; removed = removed; added = added }))
+    (sym c.id-zone.ensures)
+    (subst (λ (m : ℕ). Edits (zones_in slots list) (Open m was.apex c.args.sets)
+    (zones_in now (insert list n k)) (record { zone = m; removed = removed; added = added })) id
+    (subst (λ (a : List (List ℕ)). Edits (zones_in slots list) (Open k.id a c.args.sets)
+    (zones_in now (insert list n k)) (record { zone = k.id; removed = removed; added = added }))
+    c.change.ensures.apex edits))))

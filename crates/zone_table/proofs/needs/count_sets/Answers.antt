@@ -1,21 +1,19 @@
-use Rattle.std.proofs.Common.{◌∙◌, List, length, ap, sym}
-use Rattle.std.proofs.lemmas.List.{length-map}
-use Rattle.zone_model.specs.Placed.{Placed}
-use Rattle.zone_list.specs.Kept.{zones_of}
+use Rattle.std.proofs.Common.{◌∙◌, List, ℕ, ap, length, sym}
+use Rattle.zone_list.specs.Kept.{zones_in}
 use Rattle.zone_list.proofs.Listing.{none_placed}
-use Rattle.zone_table.proofs.Made.{it_is, its_sets}
+use Rattle.zone_table.proofs.Naming.{as_many_sets, inside_of, one_named}
 use Rattle.zone_table.proofs.needs.count_sets.Goals as goal
 
 pub returns-in-Some : goal.returns-in-Some
-returns-in-Some c =
+returns-in-Some c slots =
     let list = c.args.list.now in
-    let k = c.index-list-place.result in
-    let it = it_is list c.args.zone c.in-Some.place c.in-Some.ensures k c.index-list-place.is in
-    c.count.ensures
-    ∙ (length-map c.sets.result.now.placed (λ (p : Placed). p.set)
-    ∙ ap (λ (ps : List Placed). length ps) (c.sets.ensures
-    ∙ sym (its_sets list c.args.zone c.in-Some.place k c.requires it.1 it.2)))
+    ap (λ (order : List ℕ). length order) c.order.ensures
+    ∙ as_many_sets slots list c.args.zone c.in-Some.place c.requires c.in-Some.ensures
+    c.index-list-place.result (inside_of list c.args.zone c.in-Some.place c.in-Some.ensures)
+    c.index-list-place.is
 
 pub returns-in-None : goal.returns-in-None
-returns-in-None c =
-    sym (ap length (none_placed (zones_of c.args.list.now) c.args.zone c.in-None.ensures))
+returns-in-None c slots =
+    let list = c.args.list.now in
+    sym (ap length (none_placed (zones_in slots list) c.args.zone
+    (λ is. c.in-None.ensures (one_named slots list c.args.zone is))))

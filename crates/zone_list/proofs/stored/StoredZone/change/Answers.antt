@@ -1,38 +1,54 @@
-use Rattle.std.proofs.Common.{[], subst, sym}
+use Rattle.std.proofs.Common.{◌∙◌, [], List, length, ap, subst, sym}
+use Rattle.zone_order.specs.Orders.{IsOrder, placed_of, set_in}
+use Rattle.zone_order.proofs.Orders.{of_zone}
+use Rattle.zone_list.specs.declared.refs.SetRef.{SetRef}
 use Rattle.zone_list.specs.Changes.{CanChange, Changes}
-use Rattle.zone_list.specs.Kept.{Kept}
-use Rattle.zone_list.specs.Zones.{CanStand}
-use Rattle.zone_list.proofs.Stepping.{new_then, changed, all_kept}
+use Rattle.zone_list.specs.Kept.{Listed}
+use Rattle.zone_list.specs.Steps.{Leavings}
+use Rattle.zone_list.proofs.Coming.{comings_as_many}
+use Rattle.zone_list.proofs.Made.{changed, still_there}
 use Rattle.zone_list.proofs.stored.StoredZone.change.Goals as goal
 
-pub put_all-requires-clause-new : goal.put_all-requires-clause-new
-put_all-requires-clause-new c =
+pub leave_all-requires-clause-there : goal.leave_all-requires-clause-there
+leave_all-requires-clause-there c =
     let s = c.self.inside in
-    let can : CanChange s.apex s.sets.placed c.args.remove.now c.args.add.items =
-    subst (λ (k : Kept). CanChange k.zone.apex k.zone.placed c.args.remove.now c.args.add.items)
+    let slots = c.args.store.now.slots in
+    let order : IsOrder slots s.id s.order.items =
+    subst (λ (k : Listed). IsOrder slots k.id k.order) (sym c.self.view_is) c.requires.order in
+    let can : CanChange s.apex (placed_of slots s.id s.order.items) c.args.remove.now c.args.add.now =
+    subst (λ (k : Listed). CanChange k.apex (placed_of slots k.id k.order) c.args.remove.now c.args.add.now)
     (sym c.self.view_is) c.requires.can in
-    new_then s.id s.apex s.sets.placed c.take_all.new.sets.placed [] c.args.remove.now
-    c.args.add.items c.take_all.new.removed.items []
-    c.well_formed-2.ensures.rising c.take_all.ensures.takes can
+    still_there s.id s.apex (placed_of slots s.id s.order.items)
+    (placed_of c.come_all.new.store.slots s.id c.come_all.new.order.items) [] c.args.remove.now
+    c.args.add.now [] c.come_all.new.added.items (of_zone (set_in slots s.id) s.order.items order)
+    c.come_all.ensures.comes can
 
-pub invariant_of-self : goal.invariant_of-self
-invariant_of-self c =
+pub leave_all-requires-clause-told : goal.leave_all-requires-clause-told
+leave_all-requires-clause-told c =
     let s = c.self.inside in
-    let can : CanChange s.apex s.sets.placed c.args.remove.now c.args.add.items =
-    subst (λ (k : Kept). CanChange k.zone.apex k.zone.placed c.args.remove.now c.args.add.items)
-    (sym c.self.view_is) c.requires.can in
-    all_kept s.id s.apex s.sets.placed c.take_all.new.sets.placed c.put_all.new.sets.placed
-    c.args.remove.now c.args.add.items c.take_all.new.removed.items c.put_all.new.added.items
-    c.well_formed-2.ensures.rising c.take_all.ensures.takes (CanStand s.apex) c.put_all.ensures
-    c.self.invariant can.added.each
+    ap (λ (refs : List SetRef). length refs) c.deref.ensures.value
+    ∙ comings_as_many s.id (placed_of c.args.store.now.slots s.id s.order.items) c.args.add.now
+    c.come_all.new.added.items _ c.come_all.ensures.comes
 
 pub returns-clause-changes : goal.returns-clause-changes
 returns-clause-changes c =
     let s = c.self.inside in
-    subst (λ (k : Kept). Changes k.zone.id k.zone.placed c.args.remove.now c.args.add.items
-    c.take_all.new.removed.items c.put_all.new.added.items c.put_all.new.sets.placed)
-    c.self.view_is
-    (changed s.id s.apex s.sets.placed c.take_all.new.sets.placed c.put_all.new.sets.placed
-    c.args.remove.now c.args.add.items c.take_all.new.removed.items c.put_all.new.added.items
-    c.well_formed-2.ensures.rising c.take_all.ensures.takes c.put_all.ensures
-    c.well_formed-3.ensures)
+    let slots = c.args.store.now.slots in
+    let order : IsOrder slots s.id s.order.items =
+    subst (λ (k : Listed). IsOrder slots k.id k.order) (sym c.self.view_is) c.requires.order in
+    let can : CanChange s.apex (placed_of slots s.id s.order.items) c.args.remove.now c.args.add.now =
+    subst (λ (k : Listed). CanChange k.apex (placed_of slots k.id k.order) c.args.remove.now c.args.add.now)
+    (sym c.self.view_is) c.requires.can in
+    let middle = placed_of c.come_all.new.store.slots s.id c.come_all.new.order.items in
+    let after = placed_of c.leave_all.new.store.slots s.id c.leave_all.new.order.items in
+    let removed = c.leave_all.new.removed.items in
+    let added = c.come_all.new.added.items in
+    subst (λ (k : Listed). Changes k.id (placed_of slots k.id k.order) c.args.remove.now c.args.add.now
+    removed added after) c.self.view_is
+    (changed s.id s.apex (placed_of slots s.id s.order.items) middle after c.args.remove.now
+    c.args.add.now removed added (of_zone (set_in slots s.id) s.order.items order)
+    c.come_all.ensures.comes can
+    (subst (λ (refs : List SetRef). Leavings s.id c.args.add.now refs middle c.args.remove.now removed after)
+    c.deref.ensures.value c.leave_all.ensures.leaves)
+    (of_zone (set_in c.leave_all.new.store.slots s.id) c.leave_all.new.order.items
+    c.leave_all.ensures.order))

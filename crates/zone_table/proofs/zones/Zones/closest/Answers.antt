@@ -1,23 +1,29 @@
-use Rattle.std.proofs.Common.{◌≡◌, List, ℕ, ◌∙◌, ap, sym, subst}
-use Rattle.zone_model.specs.Existing.{Exists, IsAncestor}
-use Rattle.zone_model.specs.Placed.{Placed, sets_of}
-use Rattle.zone_list.specs.Zones.{Zone}
-use Rattle.zone_list.proofs.Members.{apex_exists}
+use Rattle.std.proofs.Common.{◌≡◌, ◌∙◌, [], List, ap, sym, subst}
+use Rattle.record_set.specs.declared.sets.RecordSet.{RecordSet}
+use Rattle.zone_model.specs.Existing.{Exists}
+use Rattle.zone_model.specs.Placed.{sets_of}
+use Rattle.zone_list.specs.Kept.{Listed, zones_in}
+use Rattle.zone_list.specs.Zones.{placed_in}
+use Rattle.zone_table.specs.Looking.{IsApex}
+use Rattle.zone_table.specs.Tables.{Table}
+use Rattle.zone_table.proofs.Looked.{apex_there}
+use Rattle.zone_table.proofs.Naming.{are_zones}
 use Rattle.zone_table.proofs.zones.Zones.closest.Goals as goal
 
 pub closest_in-requires-clause-some : goal.closest_in-requires-clause-some
 closest_in-requires-clause-some c =
-    let zone = c.in-Some.stored.now.zone in
+    let slots = c.self.inside.store.slots in
+    let list = c.self.inside.list.items in
     let below = c.requires.below in
-    let is_apex = below.1 in
-    let apex : zone.apex ≡ below.0 =
-    ap (λ (z : Zone). z.apex) (sym (c.in-Some.ensures.only is_apex.0 is_apex.1 is_apex.2))
-    ∙ is_apex.3 in
-    let exists =
-    apex_exists zone (λ none. c.requires.some (c.in-Some.ensures.placed ∙ none))
-    c.in-Some.ensures.alone.each in (
-      zone.apex,
-      subst (λ (a : List (List ℕ)). IsAncestor c.args.name.now a) (sym apex) below.2,
-      subst (λ (placed : List Placed). Exists (sets_of placed) zone.apex)
-          (sym c.sets-in-Some.ensures) exists,
+    let apex : IsApex (zones_in slots list) c.args.zone below.0 =
+    subst (λ (t : Table). IsApex t.zones c.args.zone below.0) (sym c.self.view_is) below.1 in
+    let some : placed_in (zones_in slots list) c.args.zone ≡ [] → ⊥ =
+    subst (λ (t : Table). placed_in t.zones c.args.zone ≡ [] → ⊥) (sym c.self.view_is) c.requires.some in
+    let exists = apex_there (zones_in slots list) (are_zones slots list c.self.invariant) c.args.zone below.0
+    apex some in (
+      below.0,
+      below.2,
+      subst (λ (sets : List RecordSet). Exists sets below.0) (sym (c.in-Some.ensures.0
+          ∙ ap (λ (l : List Listed). sets_of (placed_in (zones_in slots l) c.args.zone)) c.deref.ensures.value))
+          exists,
     )

@@ -1,29 +1,99 @@
-use Rattle.std.proofs.Common.{List, sym, subst}
+use Rattle.std.proofs.Common.{◌≡◌, ◌∙◌, List, ap, refl, sym, subst}
+use Rattle.zone_list.specs.Kept.{Listed, zones_in}
 use Rattle.zone_table.specs.Edits.{IsAllowed, StayReady}
-use Rattle.zone_list.specs.Kept.{Kept, zones_of}
 use Rattle.zone_table.specs.Needs.{Counts}
 use Rattle.zone_table.specs.Tables.{Table}
-use Rattle.zone_table.proofs.Made.{is_ready, ok_so, on_ok, stay_ready, table_of}
+use Rattle.zone_table.proofs.Rooms.{counts_still, is_ready, ok_so, rows_are_kept, rows_zones, same_room}
+use Rattle.zone_table.proofs.Rooms.{spelled_of, stay_ready, still_kept, still_zones, table_of}
 use Rattle.zone_table.proofs.zones.Zones.ready.Goals as goal
+
+pub need_of-requires-clause-spelled : goal.need_of-requires-clause-spelled
+need_of-requires-clause-spelled c = spelled_of c.args.self.now.zones c.args.edit c.requires
+
+pub invariant_of-self : goal.invariant_of-self
+invariant_of-self c =
+    still_kept c.self.inside.store.slots c.make_room.new.store.slots c.make_room.ensures.stay
+    c.self.inside.list.items c.self.invariant
+
+pub returns-in_err-make_room-clause-others : goal.returns-in_err-make_room-clause-others
+returns-in_err-make_room-clause-others c =
+    let s = c.self.inside in
+    let store = c.make_room.new.store in
+    subst (λ (t : Table). StayReady t (table_of store s.list s.edits)) c.self.view_is
+    (stay_ready s.store store s.list s.list s.edits
+    (still_zones s.store.slots store.slots c.make_room.ensures.stay s.list.items)
+    c.make_room.ensures.free c.make_room.ensures.cells (same_room s.list) refl)
+
+pub invariant_of-self-in_err-reserve_for : goal.invariant_of-self-in_err-reserve_for
+invariant_of-self-in_err-reserve_for c =
+    let s = c.self.inside in
+    let store = c.make_room.new.store in
+    rows_are_kept store.slots s.list.items c.reserve_for.new.list.items c.reserve_for.ensures.rows
+    (still_kept s.store.slots store.slots c.make_room.ensures.stay s.list.items c.self.invariant)
+
+pub returns-in_err-reserve_for-clause-zones : goal.returns-in_err-reserve_for-clause-zones
+returns-in_err-reserve_for-clause-zones c =
+    let s = c.self.inside in
+    let store = c.make_room.new.store in
+    rows_zones store.slots s.list.items c.reserve_for.new.list.items c.reserve_for.ensures.rows
+    ∙ (still_zones s.store.slots store.slots c.make_room.ensures.stay s.list.items
+    ∙ ap (λ (t : Table). t.zones) c.self.view_is)
+
+pub returns-in_err-reserve_for-clause-others : goal.returns-in_err-reserve_for-clause-others
+returns-in_err-reserve_for-clause-others c =
+    let s = c.self.inside in
+    let store = c.make_room.new.store in
+    let list = c.reserve_for.new.list in
+    subst (λ (t : Table). StayReady t (table_of store list s.edits)) c.self.view_is
+    (stay_ready s.store store s.list list s.edits
+    (rows_zones store.slots s.list.items list.items c.reserve_for.ensures.rows
+    ∙ still_zones s.store.slots store.slots c.make_room.ensures.stay s.list.items)
+    c.make_room.ensures.free c.make_room.ensures.cells c.reserve_for.ensures.kept
+    c.reserve_for.ensures.rows)
+
+pub invariant_of-self-2 : goal.invariant_of-self-2
+invariant_of-self-2 c =
+    let s = c.self.inside in
+    let store = c.make_room.new.store in
+    rows_are_kept store.slots s.list.items c.reserve_for.new.list.items c.reserve_for.ensures.rows
+    (still_kept s.store.slots store.slots c.make_room.ensures.stay s.list.items c.self.invariant)
+
+pub returns-clause-zones : goal.returns-clause-zones
+returns-clause-zones c =
+    let s = c.self.inside in
+    let store = c.make_room.new.store in
+    rows_zones store.slots s.list.items c.reserve_for.new.list.items c.reserve_for.ensures.rows
+    ∙ (still_zones s.store.slots store.slots c.make_room.ensures.stay s.list.items
+    ∙ ap (λ (t : Table). t.zones) c.self.view_is)
 
 pub returns-clause-ready : goal.returns-clause-ready
 returns-clause-ready c =
-    let old = c.self.inside.list in
-    let now = c.reserve_for.new.list in
-    let need = c.need_of-need.result in
-    let allowed : IsAllowed (zones_of old.items) c.args.edit =
-    subst (λ (t : Table). IsAllowed t.zones c.args.edit) (sym c.self.view_is) c.requires in
-    let counts : Counts (zones_of old.items) c.args.edit need =
-    subst (λ (l : List Kept). Counts (zones_of l) c.args.edit need) c.deref.ensures.value
-    c.need_of-need.ensures in
+    let s = c.self.inside in
+    let store = c.make_room.new.store in
+    let list = c.reserve_for.new.list in
+    let edit = c.args.edit in
+    let need = c.in_ok-need.need in
+    let same : zones_in store.slots list.items ≡ c.args.self.now.zones =
+    rows_zones store.slots s.list.items list.items c.reserve_for.ensures.rows
+    ∙ (still_zones s.store.slots store.slots c.make_room.ensures.stay s.list.items
+    ∙ ap (λ (t : Table). t.zones) c.self.view_is) in
+    let allowed : IsAllowed (zones_in store.slots list.items) edit =
+    subst (λ zs. IsAllowed zs edit) (sym same) c.requires in
+    let counts : Counts list.items edit need =
+    counts_still s.list.items list.items c.reserve_for.ensures.rows edit need
+    (subst (λ (l : List Listed). Counts l edit need) c.deref.ensures.value c.in_ok-need.ensures) in
     ok_so c.new.result c.new.ensures
-    (λ ready prepared. is_ready old now c.self.inside.edits c.args.edit need ready allowed counts
-    c.reserve_for.ensures.zones c.in_ok-reserve_for.ensures.room prepared)
+    (λ ready prepared. is_ready store list s.edits need ready c.in_ok-make_room.ensures.room.0
+    c.in_ok-make_room.ensures.room.1 edit prepared counts c.in_ok-reserve_for.ensures.room allowed)
 
 pub returns-clause-others : goal.returns-clause-others
 returns-clause-others c =
-    on_ok c.new.result
-    (subst (λ (t : Table). StayReady t (table_of c.reserve_for.new.list c.self.inside.edits))
-    c.self.view_is
-    (stay_ready c.self.inside.list c.reserve_for.new.list c.self.inside.edits
-    c.reserve_for.ensures.zones c.in_ok-reserve_for.ensures.kept))
+    let s = c.self.inside in
+    let store = c.make_room.new.store in
+    let list = c.reserve_for.new.list in
+    subst (λ (t : Table). StayReady t (table_of store list s.edits)) c.self.view_is
+    (stay_ready s.store store s.list list s.edits
+    (rows_zones store.slots s.list.items list.items c.reserve_for.ensures.rows
+    ∙ still_zones s.store.slots store.slots c.make_room.ensures.stay s.list.items)
+    c.make_room.ensures.free c.make_room.ensures.cells c.reserve_for.ensures.kept
+    c.reserve_for.ensures.rows)

@@ -1,2 +1,0 @@
-pub mod Index
-pub use Rattle.zone_model.specs.Placed

@@ -1,0 +1,129 @@
+-- A set found by its reference.
+use Rattle.std.proofs.Common.{◌≡◌, ◌+◌, ◌<◌, ℕ, zero, suc, get_or, arith, List, [], ◌∷◌, ◌++◌, length, take, ap, ◌∙◌, sym, refl, Bool, true, false, Option, None, Some, cond, subst, arith, inl, inr}
+use Rattle.std.specs.Prelude.{◌==◌, slice_get, unwrap_or}
+use Rattle.std.specs.List.{AllByRecursion}
+use Rattle.std.proofs.lemmas.Bool.{eq-eqb, eqb-true}
+use Rattle.std.proofs.lemmas.List.{map-append}
+use Rattle.record_set.specs.declared.sets.RecordSet.{RecordSet}
+use Rattle.set_store.specs.Index.{no_set}
+use Rattle.set_store.specs.Stored.{IsKept, Kept, zone_told}
+use Rattle.zone_model.specs.Placed.{IsHere, Placed, sets_of}
+use Rattle.zone_model.specs.Zones.{IsAmong}
+use Rattle.zone_model.specs.Existing.{Exists}
+use Rattle.zone_model.proofs.Lists.{take_more}
+use Rattle.zone_order.specs.Orders.{HasSet, IsOrder, of_zone, placed_at, placed_by, placed_of, set_in}
+use Rattle.zone_order.proofs.Orders.{at_place, there}
+use Rattle.zone_order.proofs.Slots.{its_kept}
+use Rattle.zone_list.specs.Kept.{AreKept, Listed, zones_in}
+use Rattle.zone_list.specs.Zones.{AreZones, placed_in, StandsAlone, Zone}
+use Rattle.zone_list.proofs.Listing.{its_placed}
+use Rattle.zone_list.proofs.Members.{apex_exists, in_all}
+use Rattle.zone_table.specs.Looking.{IsApex}
+use Rattle.zone_table.proofs.Naming.{its_sets, stands_here}
+
+module _ (slots : List (Option Kept)) (list : List Listed) (kept : AreKept slots list) (zone slot : ℕ) where
+  -- a set that is told of a zone is kept in its slot
+  pub told_kept : zone_told (slice_get slots slot) ≡ Some zone
+      → (set : RecordSet) × (slice_get slots slot ≡ Some (Some (record { zone = zone; set = set })))
+  told_kept e = by (slice_get slots slot) e
+    where
+      some_same : (n m : ℕ) → Some n ≡ Some m → n ≡ m
+      some_same n m f = cc
+
+      by : (o : Option (Option Kept)) → zone_told o ≡ Some zone
+          → (set : RecordSet) × (o ≡ Some (Some (record { zone = zone; set = set })))
+      by None f = absurd cc
+      by (Some None) f = absurd cc
+      by (Some (Some k)) f =
+          (k.set, ap (λ (z : ℕ). Some (Some (record { zone = z; set = k.set }))) (some_same k.zone zone f))
+
+  -- and is the one that the reference names
+  pub told_here : (set : RecordSet) → slice_get slots slot ≡ Some (Some (record { zone = zone; set = set }))
+      → IsHere (placed_in (zones_in slots list) zone) (record { slot = slot; set = set })
+  told_here set is =
+      let at : set_in slots zone slot ≡ Some set =
+      ap (of_zone zone) is ∙ ap (λ b. cond b (Some set) None) (eq-eqb zone zone refl) in
+      let k = kept.owned zone slot set at in
+      let stands = stands_here slots list kept k.0 k.1 in
+      let here : set_in slots k.0.id slot ≡ Some set = ap (λ n. set_in slots n slot) k.2 ∙ at in
+      subst (λ n. IsHere (placed_in (zones_in slots list) n) (record { slot = slot; set = set })) k.2
+      (subst (λ ps. IsHere ps (record { slot = slot; set = set }))
+      (sym (its_sets slots list kept k.0 k.1))
+      (there (set_in slots k.0.id) k.0.order slot set here (stands.order.only slot set here)))
+
+  -- what is told of none, or of another zone, is not named
+  pub not_named : (zone_told (slice_get slots slot) ≡ Some zone → ⊥) → (set : RecordSet)
+      → IsHere (placed_in (zones_in slots list) zone) (record { slot = slot; set = set }) → ⊥
+  not_named other set here =
+      let k = kept_here list here in
+      let stands = stands_here slots list kept k.0 k.1 in
+      let at : set_in slots k.0.id slot ≡ Some set =
+      placed_set (set_in slots k.0.id) k.0.order stands.order.present k.3 in
+      let is = its_kept slots k.0.id slot set at in
+      other (ap zone_told is ∙ ap (λ (n : ℕ). Some n) k.2)
+    where
+      kept_here : (ks : List Listed) → IsHere (placed_in (zones_in slots ks) zone) (record { slot = slot; set = set })
+          → (k : Listed) × IsAmong ks k × (k.id ≡ zone)
+          × IsHere (placed_of slots k.id k.order) (record { slot = slot; set = set })
+      kept_here [] at = absurd at
+      kept_here (k ∷ ks) at = by (k.id == zone) refl (kept_here ks) at
+        where
+          by : (b : Bool) → (k.id == zone) ≡ b
+              → (IsHere (placed_in (zones_in slots ks) zone) (record { slot = slot; set = set })
+              → (j : Listed) × IsAmong ks j × (j.id ≡ zone)
+              × IsHere (placed_of slots j.id j.order) (record { slot = slot; set = set }))
+              → IsHere (cond b (placed_of slots k.id k.order) (placed_in (zones_in slots ks) zone))
+              (record { slot = slot; set = set })
+              → (j : Listed) × IsAmong (k ∷ ks) j × (j.id ≡ zone)
+              × IsHere (placed_of slots j.id j.order) (record { slot = slot; set = set })
+          by true e rest there = (k, inl refl, eqb-true k.id zone e, there)
+          by false e rest there = let j = rest there in (j.0, inr j.1, j.2, j.3)
+
+      placed_set : (get : ℕ → Option RecordSet) (order : List ℕ) → AllByRecursion (λ j. HasSet get j) order
+          → IsHere (placed_by get order) (record { slot = slot; set = set }) → get slot ≡ Some set
+      placed_set get [] present at = absurd at
+      placed_set get (j ∷ order) present (inl e) =
+          let same : j ≡ slot = ap (λ (p : Placed). p.slot) e in
+          let its : unwrap_or (get j) no_set ≡ set = ap (λ (p : Placed). p.set) e in
+          let has : get j ≡ Some present.0.0 = present.0.1 in
+          let one : present.0.0 ≡ set = ap (λ (o : Option RecordSet). unwrap_or o no_set) (sym has) ∙ its in
+          ap get (sym same) ∙ (has ∙ ap (λ (s : RecordSet). Some s) one)
+      placed_set get (j ∷ order) present (inr at) = placed_set get order present.1 at
+
+-- one more copy
+pub copies_more : (slots : List (Option Kept)) (zone : ℕ) (order : List ℕ) → IsOrder slots zone order
+    → (i k : ℕ) → slice_get order i ≡ Some k → (copies now : List RecordSet) (set : RecordSet)
+    → ((kept : Kept) → IsKept slots k kept → set ≡ kept.set)
+    → copies ≡ sets_of (placed_of slots zone (take i order)) → now ≡ copies ++ set ∷ []
+    → now ≡ sets_of (placed_of slots zone (take (i + 1) order))
+copies_more slots zone order is i k at copies now set read so_far more =
+    let here = at_place (set_in slots zone) order is.present i k at in
+    let kept = its_kept slots zone k here.0 here.1 in
+    let one : set ≡ here.0 = read (record { zone = zone; set = here.0 }) kept in
+    let its : (placed_at (set_in slots zone) k).set ≡ here.0 =
+    ap (λ (o : Option RecordSet). unwrap_or o no_set) here.1 in
+    let rest : sets_of (placed_of slots zone (take (i + 1) order))
+    ≡ sets_of (placed_of slots zone (take i order)) ++ (placed_at (set_in slots zone) k).set ∷ [] =
+    ap sets_of (ap (λ ks. placed_of slots zone ks) (take_more order i k at)
+    ∙ map-append (placed_at (set_in slots zone)) (take i order) (k ∷ []))
+    ∙ map-append (λ (p : Placed). p.set) (placed_of slots zone (take i order))
+    (placed_at (set_in slots zone) k ∷ []) in
+    more ∙ (ap (λ xs. xs ++ set ∷ []) so_far
+    ∙ (ap (λ s. sets_of (placed_of slots zone (take i order)) ++ s ∷ []) (one ∙ sym its) ∙ sym rest))
+
+-- where a zone has a set its apex exists
+pub apex_there : (zones : List Zone) → AreZones zones → (zone : ℕ) (apex : List (List ℕ))
+    → IsApex zones zone apex → (placed_in zones zone ≡ [] → ⊥)
+    → Exists (sets_of (placed_in zones zone)) apex
+apex_there zones are zone apex (z, there, its_id, its_apex) some =
+    let placed : placed_in zones zone ≡ z.placed = ap (placed_in zones) (sym its_id)
+    ∙ its_placed zones are.listed z there in
+    subst (λ ps. Exists (sets_of ps) apex) (sym placed)
+    (subst (λ a. Exists (sets_of z.placed) a) its_apex
+    (apex_exists z (λ none. some (placed ∙ none)) (in_all StandsAlone zones z are.each there).each))
+
+-- a number at a place
+pub number_at : (xs : List ℕ) (i : ℕ) → i < length xs → slice_get xs i ≡ Some (get_or xs i 0)
+number_at [] i lt = absurd (omega (arith, lt))
+number_at (x ∷ xs) zero lt = refl
+number_at (x ∷ xs) (suc i) lt = number_at xs i (omega (arith, lt))

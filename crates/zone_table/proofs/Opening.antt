@@ -1,0 +1,97 @@
+-- A zone that is opened.
+use Rattle.std.proofs.Common.{◌≡◌, ◌≢◌, ◌<◌, ◌≤◌, ℕ, List, [], ◌∷◌, ◌++◌, take, drop, ap, ◌∙◌, sym, Option, Some, subst, arith, inl, inr}
+use Rattle.std.specs.Prelude.{slice_get}
+use Rattle.std.specs.List.{AllByRecursion, take-map}
+use Rattle.std.proofs.lemmas.Bool.{cases_eq}
+use Rattle.std.proofs.lemmas.List.{map-append}
+use Rattle.record_set.specs.declared.sets.RecordSet.{RecordSet}
+use Rattle.set_store.specs.Stored.{Kept}
+use Rattle.record_set.specs.Sets.{key_of}
+use Rattle.zone_model.specs.Placing.{IsThere}
+use Rattle.zone_model.proofs.Among.{among_at}
+use Rattle.zone_model.proofs.Lists.{drop_map, split}
+use Rattle.zone_order.specs.Orders.{IsOrder, placed_of}
+use Rattle.zone_list.specs.Changes.{CanBeAdded, CanChange, IsKeyOf}
+use Rattle.zone_list.specs.Found.{IsSplit}
+use Rattle.zone_list.specs.Kept.{AreKept, HasId, Listed, named, named_of, Stands, zone_in, zones_in}
+use Rattle.zone_list.specs.Zones.{AreListed, CanStand, IsOne, Zone}
+use Rattle.zone_table.specs.declared.edits.ZoneEdit.TheVariants as edit
+use Rattle.zone_table.specs.Edits.{IsAllowed}
+use Rattle.zone_table.proofs.Edited.{all_back, all_front, Before, listed_put}
+use Rattle.zone_table.proofs.Naming.{in_map, of_map, one_with}
+
+-- no set is of a zone that isn't there
+pub empty_order : (slots : List (Option Kept)) (list : List Listed) → AreKept slots list → (id : ℕ)
+    → (HasId list id → ⊥) → IsOrder slots id []
+empty_order slots list kept id new = record {
+  present = tt;
+  only = λ k set at. absurd (new (kept.owned id k set at));
+  distinct = tt;
+  few = tt;
+  rising = tt;
+}
+
+pub stands_empty : (slots : List (Option Kept)) (list : List Listed) → AreKept slots list → (k : Listed)
+    → k.order ≡ [] → (HasId list k.id → ⊥) → Stands slots k
+stands_empty slots list kept k empty new = record {
+  order = subst (λ (order : List ℕ). IsOrder slots k.id order) (sym empty)
+      (empty_order slots list kept k.id new);
+  each = subst (λ (order : List ℕ). AllByRecursion (λ p. CanStand k.apex p.set)
+      (placed_of slots k.id order)) (sym empty) tt;
+}
+
+-- sets that can be added to a zone without sets
+pub can_open : (apex : List (List ℕ)) (add : List RecordSet) → CanBeAdded apex add
+    → CanChange apex [] [] add
+can_open apex add added = record { there = tt; added = added; new = by add }
+  where
+    by : (sets : List RecordSet)
+        → AllByRecursion (λ set. IsThere [] (key_of set) → IsKeyOf [] (key_of set)) sets
+    by [] = tt
+    by (set ∷ sets) = ((λ there. absurd there.1.there), by sets)
+
+module _ (slots : List (Option Kept)) (list : List Listed) (n : ℕ) (k : Listed) (sets : List RecordSet)
+    (listed : AreListed (named_of list)) (here : IsSplit (named_of list) k.id n n)
+    (allowed : IsAllowed (zones_in slots list) (edit.Open k.id k.apex sets)) where
+  abbrev all : List Zone
+  all = named_of list
+
+  other_name : (x : Zone) → IsOne all x → x.apex ≢ k.apex
+  other_name x there e =
+      let j = of_map named list x there in
+      allowed.1 (
+        zone_in slots j.0,
+        in_map (zone_in slots) list j.0 j.1,
+        ap (λ (z : Zone). z.apex) j.2 ∙ e,
+      )
+
+  other_id : (x : Zone) → IsOne all x → x.id ≢ k.id
+  other_id x there e =
+      let j = of_map named list x there in
+      allowed.0 (one_with slots list k.id (j.0, j.1, ap (λ (z : Zone). z.id) j.2 ∙ e))
+
+  pub new_id : HasId list k.id → ⊥
+  new_id is = allowed.0 (one_with slots list k.id is)
+
+  low : (i : ℕ) (x : Zone) → i < n → slice_get all i ≡ Some x → Before x (named k)
+  low i x lt at = (here.before i x lt at, other_name x (among_at all i x at))
+
+  high : (i : ℕ) (x : Zone) → n ≤ i → slice_get all i ≡ Some x → Before (named k) x
+  high i x le at =
+      let up = here.behind i x le at in
+      let there = among_at all i x at in (
+        elim (cases_eq k.id x.id) [
+          | inl e ↦ absurd (other_id x there (sym e))
+          | inr ne ↦ omega (arith, up, ne)
+        ],
+        λ e. other_name x there (sym e),
+      )
+
+  -- the zones with one more, at its place
+  pub listed_with : AreListed (named_of (take n list ++ k ∷ drop n list))
+  listed_with =
+      subst AreListed (sym (map-append named (take n list) (k ∷ drop n list)
+      ∙ (ap (λ zs. zs ++ named k ∷ named_of (drop n list)) (sym (take-map named n list))
+      ∙ ap (λ zs. take n all ++ named k ∷ zs) (sym (drop_map named n list)))))
+      (listed_put (take n all) (drop n all) (named k) (subst AreListed (split n all) listed)
+      (all_front (λ x. Before x (named k)) all n low) (all_back (Before (named k)) all n high))

@@ -1,0 +1,21 @@
+-- The cells and the octets of sets that are put.
+use Rattle.std.proofs.Common.{◌≡◌, ◌≤◌, ℕ, ◌+◌, List, [], ◌∷◌, ◌++◌, length, take, Some, sym, subst, arith}
+use Rattle.std.specs.Prelude.{slice_get}
+use Rattle.std.specs.List.{AllByRecursion}
+use Rattle.record_set.specs.declared.sets.RecordSet.{RecordSet}
+use Rattle.set_octets.specs.Octets.{set_octets}
+use Rattle.zone_model.proofs.Lists.{take_more}
+
+-- what was bounded so far is by the larger bound, and so is one more
+pub longest_more : (add : List RecordSet) (i most now : ℕ) (set : RecordSet)
+    → AllByRecursion (λ s. length (set_octets s) ≤ most) (take i add) → most ≤ now
+    → length (set_octets set) ≤ now → slice_get add i ≡ Some set
+    → AllByRecursion (λ s. length (set_octets s) ≤ now) (take (i + 1) add)
+longest_more add i most now set all more one at =
+    subst (AllByRecursion (λ s. length (set_octets s) ≤ now)) (sym (take_more add i set at))
+    (by (take i add) all)
+  where
+    by : (xs : List RecordSet) → AllByRecursion (λ s. length (set_octets s) ≤ most) xs
+        → AllByRecursion (λ s. length (set_octets s) ≤ now) (xs ++ set ∷ [])
+    by [] each = (one, tt)
+    by (x ∷ xs) each = ((let h = each.0 in omega (arith, h, more)), by xs each.1)

@@ -1,0 +1,8 @@
+use Rattle.std.proofs.Common.{◌≡◌, take}
+use Rattle.zone_model.specs.Placed.{sets_of}
+use Rattle.zone_order.specs.Orders.{placed_of}
+use Rattle.zone_table.proofs.looking.copies.Given as goal
+
+abbrev pub invariant-loop-slot : goal.invariant-loop-slot
+invariant-loop-slot l =
+    l.copies.items ≡ sets_of (placed_of l.store.slots l.zone (take l.slot-index l.order))

@@ -1,0 +1,29 @@
+-- How a zone that is found is stored.
+use Rattle.std.specs.Prelude.{◌≡◌, ℕ, List, [], Option, None, Some}
+use Rattle.std.specs.Borrow.{Bor}
+use Rattle.record_set.specs.declared.sets.RecordSet.{RecordSet}
+use Rattle.set_store.specs.Stored.{Kept}
+use Rattle.zone_list.specs.Kept.{Listed, zones_in}
+use Rattle.zone_list.specs.Zones.{IsZoneId, Zone, placed_in}
+use Rattle.zone_model.specs.Placed.{sets_of}
+use Rattle.zone_model.specs.Zones.{IsRising}
+use Rattle.zone_order.specs.Orders.{IsOrder, placed_of}
+
+-- The slots are those of the zone with this number.
+pub record IsOrderIn (slots : List (Option Kept)) (list : List Listed) (id : ℕ) (order : List ℕ) : Type 0 where
+  pub order_is : IsOrder slots id order
+  pub placed : placed_in (zones_in slots list) id ≡ placed_of slots id order
+  pub there : IsZoneId (zones_in slots list) id
+
+-- no zone has the number, and so no sets
+abbrev pub IsNone : List Zone → ℕ → Type 0
+IsNone zones id = (IsZoneId zones id → ⊥) × (placed_in zones id ≡ [])
+
+abbrev pub GetsOrder : List (Option Kept) → List Listed → ℕ → Option (Bor (List ℕ)) → Type 0
+GetsOrder slots list id (Some order) = IsOrderIn slots list id order.now
+GetsOrder slots list id None = IsNone (zones_in slots list) id
+
+-- the sets of the zone with this number, which are in zone order
+abbrev pub ViewsZone : List Zone → ℕ → Option (List RecordSet) → Type 0
+ViewsZone zones id (Some sets) = (sets ≡ sets_of (placed_in zones id)) × IsRising sets × IsZoneId zones id
+ViewsZone zones id None = IsNone zones id

@@ -1,0 +1,112 @@
+//! A zone found by its number, with its sets in their order.
+
+ghost use Rattle.std.specs.Prelude.{◌≡◌, ◌<◌, ◌+◌, length, slice_get, Some, IfOk};
+ghost use Rattle.set_search.specs.Stops.{bound_of};
+ghost use Rattle.zone_list.specs.Kept.{AreKept, zones_in};
+ghost use Rattle.zone_list.specs.Zones.{placed_in};
+ghost use Rattle.zone_model.specs.Placed.{IsSlotAt, sets_of};
+ghost use Rattle.zone_order.specs.Orders.{IsOrder, placed_of};
+ghost use Rattle.zone_table.specs.Looking.{Loads, SlotBehind};
+ghost use Rattle.zone_table.specs.Stored.{GetsOrder, ViewsZone};
+
+use octets::OutOfMemory;
+use record_set::RecordSet;
+use set_scratch::Scratch;
+use set_search::{SetList, Stop, count_before};
+use set_store::SetStore;
+use std::alloc::Global;
+use zone_list::{SetRef, StoredZone, find_zone};
+use zone_order::{ZoneView, view_of};
+
+/// The slots of a zone's sets, in zone order.
+pub fn order_of<'a>(store: &SetStore, list: &'a [StoredZone], zone: u32) -> Option<&'a [u32]>
+    requires { AreKept store.now.slots list.now }
+    ensures { GetsOrder store.now.slots list.now zone result }
+{
+    match find_zone(list, zone) {
+        Some(place) => Some(list[place].order()),
+        None => None,
+    }
+}
+
+/// The sets of a zone, looked at by their places.
+pub fn view<'a>(store: &'a SetStore, list: &'a [StoredZone], zone: u32) -> Option<ZoneView<'a>>
+    requires { AreKept store.now.slots list.now }
+    ensures { ViewsZone (zones_in store.now.slots list.now) zone result }
+{
+    match order_of(store, list, zone) {
+        Some(order) => Some(view_of(store, zone, order)),
+        None => None,
+    }
+}
+
+/// The slot of the set at a place of a group that begins at another.
+pub fn slot_in(store: &SetStore, list: &[StoredZone], zone: u32, start: usize, i: usize) -> u32
+    requires kept { AreKept store.now.slots list.now }
+    requires place { start + i < length (placed_in (zones_in store.now.slots list.now) zone) }
+    ensures { IsSlotAt (placed_in (zones_in store.now.slots list.now) zone) (start + i) result }
+{
+    match order_of(store, list, zone) {
+        Some(order) => slot_at(order, start, i),
+        None => unreachable!(),
+    }
+}
+
+/// The slot at a place behind another.
+fn slot_at(order: &[u32], start: usize, i: usize) -> u32
+    requires { start + i < length order.now }
+    ensures { slice_get order.now (start + i) ≡ Some result }
+{
+    order[start + i]
+}
+
+/// The slot of the first set of a zone behind the bound.
+pub fn slot_behind(store: &SetStore, list: &[StoredZone], zone: u32, to: &Stop) -> Option<u32>
+    requires { AreKept store.now.slots list.now }
+    ensures { SlotBehind (placed_in (zones_in store.now.slots list.now) zone) (bound_of to.now)
+        result }
+{
+    let Some(sets) = view(store, list, zone) else {
+        return None;
+    };
+    let place = count_before(&sets, to, None);
+    if place < sets.count() {
+        return Some(slot_in(store, list, zone, place, 0));
+    }
+    None
+}
+
+/// Holds the set that a reference names in a scratch. Where it names none, what was held stays.
+pub fn load(store: &SetStore, list: &[StoredZone], set: SetRef, into: &mut Scratch) -> bool
+    requires { AreKept store.now.slots list.now }
+    ensures { Loads (zones_in store.now.slots list.now) set into.old into.new result }
+{
+    match store.zone_of(set.slot) {
+        None => false,
+        Some(zone) => {
+            if zone != set.zone {
+                return false;
+            }
+            store.hold(set.slot, into);
+            true
+        }
+    }
+}
+
+/// Copies of the sets in these slots, in their order.
+pub fn copies(
+    alloc: Global,
+    store: &SetStore,
+    zone: u32,
+    order: &[u32],
+) -> Result<Vec<RecordSet>, OutOfMemory>
+    requires { IsOrder store.now.slots zone order.now }
+    ensures { IfOk result (λ copies. copies.items
+        ≡ sets_of (placed_of store.now.slots zone order.now)) }
+{
+    let mut copies = Vec::with_capacity(alloc, order.len())?;
+    for slot in order {
+        copies.push(store.read(alloc, *slot)?)?;
+    }
+    Ok(copies)
+}
