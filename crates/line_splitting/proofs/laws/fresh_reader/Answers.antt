@@ -1,0 +1,8 @@
+use Rattle.std.proofs.Common.{refl, sym, take}
+use Rattle.line_splitting.specs.Lines.{input_limit, is_too_long, ended_pieces}
+use Rattle.line_splitting.proofs.Turns.{begun_nothing}
+use Rattle.line_splitting.proofs.laws.fresh_reader.Goals as goal
+
+pub returns : goal.returns
+returns c = λ input.
+    (sym (begun_nothing (ended_pieces (is_too_long input) (take input_limit input))), refl)

@@ -1,0 +1,139 @@
+-- A reader of lines, as its callers see it: what is still to come of it and of its source.
+use Rattle.std.specs.Prelude.{◌≡◌, ℕ, ◌+◌, ◌*◌, ◌-◌, ◌<◌, ◌≤◌, List, [], ◌∷◌, ◌++◌, length, take, drop}
+use Rattle.std.specs.Prelude.{Bool, true, false, ◌&&◌, nat_le, if◌then◌else◌, Option, Some, ⊤}
+use Rattle.std.specs.Prelude.{IsTrue, ◌↔◌, not}
+use Rattle.line_splitting.specs.Lines.{Event, Line, TooLong, is_blank, events_of_line, events_of}
+use Rattle.line_splitting.specs.Lines.{ended_pieces, input_limit, input_lines, is_too_long}
+use Rattle.line_splitting.specs.declared.judging.Dropped.{Dropped}
+use Rattle.line_splitting.specs.declared.judging.Dropped.TheVariants as dropped
+use Rattle.line_splitting.specs.declared.reader.Next.{Next}
+use Rattle.line_splitting.specs.declared.reader.Next.TheVariants as next
+
+-- A reader: the line that it gave last; the bytes that were taken from the source and wait,
+-- from the first that is not given; what was dropped of the line that they begin with; whether
+-- the source was seen to end; and how many bytes it may still take.
+pub record Reader : Type 0 where
+  pub line : List ℕ
+  pub waiting : List ℕ
+  pub dropped : Dropped
+  pub ended : Bool
+  pub budget : ℕ
+
+abbrev pub fresh : Reader
+fresh = record {
+  line = [];
+  waiting = [];
+  dropped = dropped.Nothing;
+  ended = false;
+  budget = input_limit;
+}
+
+-- What comes of a line that ends behind this piece. Of a line that is too long, or blank so far,
+-- what stood before it is dropped.
+abbrev pub told : Dropped → List ℕ → List Event
+told dropped.Nothing line = events_of_line line
+told dropped.Blanks piece = if is_blank piece then [] else TooLong ∷ []
+told dropped.Text piece = TooLong ∷ []
+
+-- the same of lines of which the first is begun
+abbrev pub begun : Dropped → List (List ℕ) → List Event
+begun before [] = []
+begun before (piece ∷ more) = told before piece ++ events_of more
+
+-- what the reader takes of what its source has left
+abbrev pub to_come : Reader → (left : List ℕ) → List ℕ
+to_come r left = if r.ended then [] else take r.budget left
+
+-- whether that is not all
+abbrev pub is_cut : Reader → (left : List ℕ) → Bool
+is_cut r left = not r.ended && nat_le r.budget (length left)
+
+-- the lines to come, where the source has these bytes left
+abbrev pub events : Reader → (left : List ℕ) → List Event
+events r left = begun r.dropped (ended_pieces (is_cut r left) (r.waiting ++ to_come r left))
+
+-- the lines that wait whole
+abbrev pub ready : Reader → List Event
+ready r = begun r.dropped (ended_pieces (not r.ended) r.waiting)
+
+-- How far the reader is from its end: this falls with each line, and with each read.
+abbrev pub is_begun : Dropped → ℕ
+is_begun dropped.Nothing = 0
+is_begun dropped.Blanks = 1
+is_begun dropped.Text = 1
+
+abbrev pub steps : Reader → ℕ
+steps r = 2 * r.budget + length r.waiting + is_begun r.dropped + (if r.ended then 0 else 1)
+
+-- The first line that waits is given, and the others are to come.
+pub record Gives (old : Reader) (event : Event) (new : Reader) : Type 0 where
+  pub ready : ready old ≡ event ∷ ready new
+  pub events : (left : List ℕ) → events old left ≡ event ∷ events new left
+  pub ended : new.ended ≡ old.ended
+  pub budget : new.budget ≡ old.budget
+  pub nearer : steps new < steps old
+
+-- No line waits, and none is to come: the source has ended, or its limit is reached.
+pub record IsOver (old new : Reader) : Type 0 where
+  pub none_ready : ready old ≡ []
+  pub none_left : (left : List ℕ) → events old left ≡ []
+  pub none_after : (left : List ℕ) → events new left ≡ []
+  pub ended : new.ended ≡ old.ended
+  pub budget : new.budget ≡ old.budget
+
+-- No line waits, and the source is read.
+pub record ReadsOn (old : Reader) : Type 0 where
+  pub ready : ready old ≡ []
+  pub going : old.ended ≡ false
+  pub budget : 0 < old.budget
+
+-- what an answer says of the reader, before and after
+abbrev pub Answers : (old : Reader) → Next → (new : Reader) → Type 0
+Answers old next.Line new = Gives old (Line new.line) new
+Answers old next.TooLong new = Gives old TooLong new
+Answers old next.Ended new = IsOver old new × (old.ended ≡ true)
+Answers old next.InputTooLong new = IsOver old new × (old.ended ≡ false) × (old.budget ≡ 0)
+Answers old next.Read new = ReadsOn old × (steps new < steps old)
+Answers old next.Failed new = ReadsOn old × (steps new ≤ steps old)
+
+-- A read took the first of the bytes that were left, and none where none was left. What is to
+-- come is what was to come.
+pub record Took (old : Reader) (left : List ℕ) (new : Reader) (after : Option (List ℕ))
+    : Type 0 where
+  pub counted : new.budget ≤ old.budget
+  pub within : old.budget - new.budget ≤ length left
+  pub rest : after ≡ Some (drop (old.budget - new.budget) left)
+  pub events : events new (drop (old.budget - new.budget) left) ≡ events old left
+  pub is_cut : is_cut new (drop (old.budget - new.budget) left) ≡ is_cut old left
+  pub end : IsTrue new.ended ↔ (left ≡ [])
+
+-- A read that failed took nothing.
+pub record TookNothing (old : Reader) (left : List ℕ) (new : Reader) (after : Option (List ℕ))
+    : Type 0 where
+  pub rest : after ≡ Some left
+  pub events : events new left ≡ events old left
+  pub is_cut : is_cut new left ≡ is_cut old left
+
+-- what an answer says of the bytes that the source had left, and has left after it
+abbrev pub Leaves : (old : Reader) → (left : List ℕ) → Next → (new : Reader)
+    → (after : Option (List ℕ)) → Type 0
+Leaves old left next.Read new after = Took old left new after
+Leaves old left next.Failed new after = TookNothing old left new after
+Leaves old left next.Line new after = after ≡ Some left
+Leaves old left next.TooLong new after = after ≡ Some left
+Leaves old left next.Ended new after = after ≡ Some left
+Leaves old left next.InputTooLong new after = after ≡ Some left
+
+-- Of a source that is not read, nothing changes.
+abbrev pub IfStill : Next → Type 0 → Type 0
+IfStill next.Read P = ⊤
+IfStill next.Failed P = ⊤
+IfStill next.Line P = P
+IfStill next.TooLong P = P
+IfStill next.Ended P = P
+IfStill next.InputTooLong P = P
+
+-- A fresh reader has all lines of its source to come.
+abbrev pub FreshReader : Type 0
+FreshReader = (input : List ℕ) → (events fresh input ≡ input_lines input)
+    × (is_cut fresh input ≡ is_too_long input)

@@ -1,0 +1,40 @@
+-- The steps of a turn: a line that is taken, a rest that is dropped.
+use Rattle.std.specs.Prelude.{◌≡◌, ℕ, ◌≤◌, List, [], length, true, None, ⊤}
+use Rattle.line_splitting.specs.Lines.{Line, TooLong, most_bytes}
+use Rattle.line_splitting.specs.Judging.{end_place}
+use Rattle.line_splitting.specs.Reading.{Reader, Gives, events, ready, steps}
+use Rattle.line_splitting.specs.declared.judging.Dropped.TheVariants as dropped
+use Rattle.line_splitting.specs.declared.judging.Told.{Told}
+use Rattle.line_splitting.specs.declared.judging.Told.TheVariants as told
+
+-- Blank lines are gone, and all others are to come.
+pub record Rests (old new : Reader) : Type 0 where
+  pub ready : ready new ≡ ready old
+  pub events : (left : List ℕ) → events new left ≡ events old left
+  pub ended : new.ended ≡ old.ended
+  pub budget : new.budget ≡ old.budget
+  pub nearer : steps new ≤ steps old
+
+-- what was told of the first line that waits, which is taken
+abbrev pub Takes : (old : Reader) → Told → (new : Reader) → Type 0
+Takes old told.Nothing new = Rests old new
+Takes old told.Line new = Gives old (Line new.line) new
+Takes old told.TooLong new = Gives old TooLong new
+
+abbrev pub IfNothing : Told → Type 0 → Type 0
+IfNothing told.Nothing P = P
+IfNothing told.Line P = ⊤
+IfNothing told.TooLong P = ⊤
+
+-- No line waits whole.
+pub record IsOpen (r : Reader) : Type 0 where
+  pub no_end : end_place r.waiting ≡ None
+  pub over : r.ended ≡ true → (r.waiting ≡ []) × (r.dropped ≡ dropped.Nothing)
+
+-- There is room for a read, and all lines are to come.
+pub record HasRoom (old new : Reader) : Type 0 where
+  pub events : (left : List ℕ) → events new left ≡ events old left
+  pub ended : new.ended ≡ old.ended
+  pub budget : new.budget ≡ old.budget
+  pub nearer : steps new ≤ steps old
+  pub room : length new.waiting ≤ most_bytes
