@@ -1,0 +1,3 @@
+pub mod Plain
+pub mod Types
+pub mod Vectors

@@ -1,0 +1,11 @@
+//! Texts of control lines that stand for something: types of records, identifiers, regions,
+//! continents, locations.
+//!
+//! A type that Route 53 has and r53 does not is told as unsupported, with the member Type.
+#![tactic(auto)]
+
+mod words;
+
+pub use words::{
+    continent_of, ident_of, location_of, record_type, region_of, role_of, subdivision_of,
+};
