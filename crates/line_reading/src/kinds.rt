@@ -216,9 +216,16 @@ pub fn zone_id(member: Member, value: &Value) -> Result<u32, LineFault>
     ensures { result ≡ zone_id member (view value.now) }
 {
     match value.as_str() {
-        Some(text) => Ok(id_of(b'Z', without_prefix(text.as_bytes()))),
+        Some(text) => Ok(zone_number(text.as_bytes())),
         None => Err(LineFault::bad(LineReason::WrongKind, member)),
     }
+}
+
+/// The number of the id of a zone, which may stand behind `/hostedzone/`, or 0.
+pub fn zone_number(text: &[u8]) -> u32
+    ensures { result ≡ id_of 90 (without_prefix text.now) }
+{
+    id_of(b'Z', without_prefix(text))
 }
 
 /// A zone's id without the prefix that it may have.

@@ -1,6 +1,6 @@
 //! The members of an object.
 
-ghost use Rattle.std.specs.Prelude.{◌≡◌, ◌<◌, ℕ, length, Result};
+ghost use Rattle.std.specs.Prelude.{◌≡◌, ◌<◌, ℕ, length, Result, IfOk};
 ghost use Rattle.serde_json.specs.Data.{Data};
 ghost use Rattle.serde_json.specs.Find.{get};
 ghost use Rattle.serde_json.specs.View.{view, items_view, members_view};
@@ -96,9 +96,10 @@ pub fn each<T: Drop, F: Fn(u16, &Value) -> Result<T, LineFault>>(
 ) -> Result<Vec<T>, LineFault>
     requires few { length items.now < 65536 }
     requires callable { F.IsAlwaysCallable read }
-    ensures { (reads : ℕ → Data → Result T LineFault)
+    ensures reads { (reads : ℕ → Data → Result T LineFault)
         → ReadsItem (λ k v r. F.post read k v r) reads
         → ReadsAs (λ v. v.items) result (each reads 0 (items_view items.now)) }
+    ensures size { IfOk result (λ v. length v.items ≡ length items.now) }
 {
     let mut list = Vec::new(alloc);
     for (index, item) in items.iter().enumerate() {
