@@ -7,4 +7,4 @@ mod marks;
 mod reading;
 
 pub use marks::place_of;
-pub use reading::{read_number, read_prefix};
+pub use reading::{read_address, read_number, read_prefix};

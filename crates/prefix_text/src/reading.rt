@@ -37,7 +37,7 @@ pub fn read_number(text: &[u8], most: u32) -> Option<u32>
 }
 
 /// The address of a text, of either version.
-fn read_address(text: &[u8]) -> Option<IpAddress>
+pub fn read_address(text: &[u8]) -> Option<IpAddress>
     ensures { result ≡ address_of text.now }
 {
     ipv4_of_text();

@@ -1,0 +1,2 @@
+pub mod Queries
+pub use Rattle.prefix_text.specs.Prefixes
