@@ -1,5 +1,5 @@
 -- Lines at values from outside.
-use Rattle.std.proofs.Common.{◌≡◌, ℕ, List, [], ◌∷◌, ◌++◌, ◌*◌, true, refl}
+use Rattle.std.proofs.Common.{◌≡◌, [], ◌∷◌, ◌++◌, ◌*◌, true, refl}
 use Rattle.std.specs.Prelude.{codes}
 use Rattle.line_splitting.specs.Lines.{Line, lines, most_bytes, input_limit, ended_pieces, events_of}
 

@@ -1,6 +1,6 @@
 -- A reader of lines, as its callers see it: what is still to come of it and of its source.
 use Rattle.std.specs.Prelude.{◌≡◌, ℕ, ◌+◌, ◌*◌, ◌-◌, ◌<◌, ◌≤◌, List, [], ◌∷◌, ◌++◌, length, take, drop}
-use Rattle.std.specs.Prelude.{Bool, true, false, ◌&&◌, nat_le, if◌then◌else◌, Option, Some, ⊤}
+use Rattle.std.specs.Prelude.{Bool, true, false, ◌&&◌, ◌==◌, nat_le, if◌then◌else◌, Option, Some, ⊤}
 use Rattle.std.specs.Prelude.{IsTrue, ◌↔◌, not}
 use Rattle.line_splitting.specs.Lines.{Event, Line, TooLong, is_blank, events_of_line, events_of}
 use Rattle.line_splitting.specs.Lines.{ended_pieces, input_limit, input_lines, is_too_long}
@@ -137,3 +137,26 @@ IfStill next.InputTooLong P = P
 abbrev pub FreshReader : Type 0
 FreshReader = (input : List ℕ) → (events fresh input ≡ input_lines input)
     × (is_cut fresh input ≡ is_too_long input)
+
+-- The answer by what waits. Whether a read fails is the source's.
+abbrev pub first_of : List Event → Next → Next
+first_of (Line line ∷ more) other = next.Line
+first_of (TooLong ∷ more) other = next.TooLong
+first_of [] other = other
+
+abbrev pub turn_of : Reader → Next
+turn_of r = first_of (ready r)
+    (if r.ended then next.Ended else if r.budget == 0 then next.InputTooLong else next.Read)
+
+abbrev pub as_read : Next → Next
+as_read next.Failed = next.Read
+as_read next.Read = next.Read
+as_read next.Line = next.Line
+as_read next.TooLong = next.TooLong
+as_read next.Ended = next.Ended
+as_read next.InputTooLong = next.InputTooLong
+
+-- What waits determines the answer.
+abbrev pub OneAnswer : Type 0
+OneAnswer = (old new : Reader) (answer : Next) → Answers old answer new
+    → as_read answer ≡ turn_of old

@@ -1,8 +1,13 @@
 //! What holds of every reader.
 
-ghost use Rattle.line_splitting.specs.Reading.{FreshReader};
+ghost use Rattle.line_splitting.specs.Reading.{FreshReader, OneAnswer};
 
 /// A fresh reader has all lines of its source to come.
 pub fn fresh_reader()
     ensures { FreshReader }
+{}
+
+/// What waits determines the answer of a turn, but for a read that fails.
+pub fn one_answer()
+    ensures { OneAnswer }
 {}
