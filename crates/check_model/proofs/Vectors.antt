@@ -6,7 +6,8 @@ use Rattle.check_model.specs.declared.checks.Check.{Check}
 use Rattle.check_model.specs.declared.checks.Check.TheVariants.{Endpoint, Calculated}
 use Rattle.check_model.specs.declared.checks.CheckCommand.TheVariants.{Create, Update, Delete}
 use Rattle.check_model.specs.declared.refusals.CheckRefusal.TheVariants.{ChildRepeated, ChildTooDeep, WrongMember, NoSuchHealthCheck, HealthCheckInUse, TooManyHealthChecks, IdsEnded}
-use Rattle.check_model.specs.Checks.{Checks, IsBounded, IsCalculated, IsCalculatedAt, IsWalk}
+use Rattle.check_model.proofs.Walks.{shallow_of}
+use Rattle.check_model.specs.Checks.{AreChildren, IsSound, check_at, Checks, IsBounded, IsCalculated, IsCalculatedAt, IsWalk}
 use Rattle.check_model.specs.Commands.{IsBoundedCommand, answer, checks_after, is_too_deep, refusal_of}
 
 -- of an endpoint, as it is made without members: three in a row turn a view
@@ -94,6 +95,48 @@ walk_of_four = (
 -- a walk doesn't go on to an endpoint's check
 no_calculated : IsCalculatedAt nested.list 1 → ⊥
 no_calculated (check, at, is) = absurd (let no : check ≡ endpoint = cc in subst IsCalculated no is)
+
+-- ---- sound
+
+four_are_sound : IsSound nested
+unfolding is_too_deep
+four_are_sound = record {
+  few = omega arith;
+  from = omega arith;
+  to = omega arith;
+  ids = ((omega arith, omega arith), ((omega arith, omega arith), ((omega arith, omega arith), ((omega arith, omega arith), ((omega arith, omega arith), ((omega arith, omega arith), tt))))));
+  rising = ((omega arith, (omega arith, (omega arith, (omega arith, (omega arith, tt))))), ((omega arith, (omega arith, (omega arith, (omega arith, tt)))), ((omega arith, (omega arith, (omega arith, tt))), ((omega arith, (omega arith, tt)), ((omega arith, tt), (tt, tt))))));
+  children = (none_of_endpoint, (none_of_endpoint, (one 1 endpoint refl, (one 3 (over 1) refl, (one 4 (over 3) refl, (one 5 (over 4) refl, tt))))));
+  shallow = shallow_of nested.list refl;
+  bounded = ((omega arith, omega arith), ((omega arith, omega arith), ((omega arith, omega arith), ((omega arith, omega arith), ((omega arith, omega arith), ((omega arith, omega arith), tt))))));
+}
+  where
+    none_of_endpoint : AreChildren nested.list []
+    none_of_endpoint = record { there = tt; distinct = tt }
+
+    one : (id : ℕ) (check : Check) → check_at nested.list id ≡ Some check
+        → AreChildren nested.list (id ∷ [])
+    one id check at = record { there = ((check, at), tt); distinct = (tt, tt) }
+
+-- a walk of five: h7, h6, h5, h4, h3
+five_are_not : IsSound (checks_after nested (Create (over 6))) → ⊥
+five_are_not sound = sound.shallow (7 ∷ 6 ∷ 5 ∷ 4 ∷ 3 ∷ []) (
+  (over 6, refl, tt),
+  (over 6, refl, (0, omega arith, refl)),
+  (
+    (over 5, refl, tt),
+    (over 5, refl, (0, omega arith, refl)),
+    (
+      (over 4, refl, tt),
+      (over 4, refl, (0, omega arith, refl)),
+      (
+        (over 3, refl, tt),
+        (over 3, refl, (0, omega arith, refl)),
+        (over 1, refl, tt),
+      ),
+    ),
+  ),
+) refl
 
 -- ---- refusals in their order
 

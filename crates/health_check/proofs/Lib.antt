@@ -1,0 +1,4 @@
+pub mod InTurn
+pub mod Marked
+pub mod Places
+pub mod Refusing

@@ -1,0 +1,10 @@
+use Rattle.std.proofs.Common.{ℕ, ◌<◌, ◌≤◌, drop}
+use Rattle.std.specs.Prelude.{◌↔◌}
+use Rattle.std.specs.List.{AllByRecursion}
+use Rattle.check_model.specs.declared.checks.Check.{Check}
+use Rattle.health_check.proofs.soundness.have_ids.Given as goal
+
+abbrev pub invariant-loop-held : goal.invariant-loop-held
+invariant-loop-held l =
+    AllByRecursion (λ (held : ℕ × Check). (1 ≤ held.0) × (held.0 < l.next)) (drop l.held-index l.list)
+    ↔ AllByRecursion (λ (held : ℕ × Check). (1 ≤ held.0) × (held.0 < l.next)) l.list
