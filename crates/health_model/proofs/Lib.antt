@@ -1,0 +1,7 @@
+pub mod Local
+pub mod Members
+pub mod Paths
+pub mod Recursion
+pub mod Reported
+pub mod Working
+mod Vectors

@@ -1,0 +1,13 @@
+pub mod Healthy
+pub mod Laws
+pub mod Nodes
+pub mod Sound
+pub mod Statuses
+pub use Rattle.calculated_health.specs.Status
+pub use Rattle.check_model.specs.Checks
+pub use Rattle.check_model.specs.Commands
+pub use Rattle.checker_state.specs.Standing
+pub use Rattle.checker_state.specs.View
+pub use Rattle.record_set.specs.Sets
+pub use Rattle.zone_model.specs.Walks
+pub use Rattle.zone_model.specs.Zones
