@@ -2,7 +2,7 @@
 use Rattle.std.proofs.Common.{◌≡◌, ◌≢◌, ℕ, zero, suc, ◌<◌, ◌≤◌, Bool, true, false, cond, List, [], ◌∷◌, ◌++◌, length, get_or, take, map, Option, None, Some, ap, ◌∙◌, sym, refl, arith}
 use Rattle.std.specs.Prelude.{Contains, nat_eq, ◌||◌, option_map, slice_get, unwrap_or}
 use Rattle.std.specs.List.{AllByRecursion, list_any}
-use Rattle.std.proofs.lemmas.Bool.{eq-eqb, eqb-true, ne_eqb, false≢true}
+use Rattle.std.proofs.lemmas.Bool.{eq-eqb, eqb-true, ne_eqb, false≢true, or_from, or_parts}
 use Rattle.std.proofs.lemmas.List.Folds.{list_any-append}
 use Rattle.check_model.specs.declared.checks.Check.{Check}
 use Rattle.check_model.specs.declared.checks.Check.TheVariants.{Endpoint, Calculated}
@@ -13,7 +13,7 @@ use Rattle.check_model.proofs.Kept.{fresh}
 use Rattle.check_model.proofs.Members.{all_at, further}
 use Rattle.check_model.proofs.Told.{one_of_id}
 use Rattle.check_model.proofs.Walks.{not_deep, stands_there}
-use Rattle.health_check.specs.Marks.{children_given, marked, marks_of, with_children}
+use Rattle.health_check.specs.Marks.{children_given, is_calculated_in, marked, marks_of, with_children}
 use Rattle.health_check.proofs.Places.{Held, all_apart}
 
 -- ---- lists that pass tests alike
@@ -210,6 +210,34 @@ pub deep_told : (id : ℕ) (children : List ℕ) (list : List Held) → IdsRise 
     ≡ is_too_deep (with_children id children list)
 unfolding is_too_deep
 deep_told id children list rise marks are = stands id children list rise 4 marks are
+
+-- ---- without calculated children
+
+module _ (id : ℕ) (children : List ℕ) (list : List Held) where
+  childless : (b : Bool) (found : Option Check) → is_calculated_there found ≡ false
+      → children_there (cond b (option_map (updated_check (children_given children)) found) found)
+      ≡ []
+  childless true None e = refl
+  childless false None e = refl
+  childless true (Some (Endpoint threshold inverted disabled)) e = refl
+  childless false (Some (Endpoint threshold inverted disabled)) e = refl
+  childless b (Some (Calculated threshold inverted disabled own)) e = absurd (false≢true (sym e))
+
+  no_start : (steps k : ℕ) → is_calculated_in list k ≡ false
+      → starts_walk (suc steps) (with_children id children list) k ≡ false
+  no_start steps k e =
+      ap (list_any (starts_walk steps (with_children id children list)))
+      (ap children_there (at_updated id (children_given children) list k)
+      ∙ childless (nat_eq k id) (check_at list k) e)
+
+  pub none_start : (steps : ℕ) (ks : List ℕ) → list_any (is_calculated_in list) ks ≡ false
+      → list_any (starts_walk (suc steps) (with_children id children list)) ks ≡ false
+  none_start steps [] none = refl
+  none_start steps (k ∷ ks) none =
+      let parts = or_parts (is_calculated_in list k) (list_any (is_calculated_in list) ks) none in
+      or_from (starts_walk (suc steps) (with_children id children list) k)
+      (list_any (starts_walk (suc steps) (with_children id children list)) ks)
+      (no_start steps k parts.0) (none_start steps ks parts.1)
 
 -- ---- without other children
 

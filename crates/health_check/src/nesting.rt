@@ -8,7 +8,7 @@ ghost use Rattle.std.specs.List.{list_any};
 ghost use Rattle.check_model.specs.Checks.{IdsRise, children_of};
 ghost use Rattle.check_model.specs.Commands.{is_calculated, is_too_deep, starts_walk, updated_at};
 ghost use Rattle.check_model.specs.declared.checks.Check.{Check};
-ghost use Rattle.health_check.specs.Marks.{children_given, marked, marks_of, with_children};
+ghost use Rattle.health_check.specs.Marks.{children_given, is_calculated_in, marked, marks_of, with_children};
 
 use crate::children::children_of;
 use crate::finding::place_of;
@@ -34,9 +34,36 @@ pub fn starts_deep(list: &[(u32, Check)], children: &[u32]) -> bool
     requires few { length list.now ≤ 200 }
     ensures { result ≡ list_any (starts_walk 3 (with_children 0 [] list.now)) children.now }
 {
+    if !has_calculated(list, children) {
+        return false;
+    }
     let mut marks = [false; MAX_CHECKS];
     mark(list, 0, &[], 3, &mut marks);
     any_marked(list, children, &marks)
+}
+
+/// Whether one of these is calculated.
+fn has_calculated(list: &[(u32, Check)], children: &[u32]) -> bool
+    requires { IdsRise list.now }
+    ensures { result ≡ list_any (is_calculated_in list.now) children.now }
+{
+    for child in children {
+        if is_calculated_in(list, *child) {
+            return true;
+        }
+    }
+    false
+}
+
+/// Whether the check of a number is calculated.
+fn is_calculated_in(list: &[(u32, Check)], id: u32) -> bool
+    requires { IdsRise list.now }
+    ensures { result ≡ is_calculated_in list.now id }
+{
+    match place_of(list, id) {
+        Some(place) => is_calculated(&list[place].1),
+        None => false,
+    }
 }
 
 /// The first so many marks.
