@@ -23,6 +23,7 @@ fn numbers(rt: HostRuntime) {
     assert_eq!(rt; table.after(0), Some(1), "the first");
     assert_eq!(rt; table.after(5), Some(6), "the last");
     assert_eq!(rt; table.after(6), None, "none behind it");
+    assert_eq!(rt; table.as_slice().len(), 6, "all of them");
 }
 
 #[test]

@@ -1,6 +1,6 @@
 //! Checks found by their numbers, which rise.
 
-ghost use Rattle.std.specs.Prelude.{◌≡◌, ◌≤◌, length, true, false};
+ghost use Rattle.std.specs.Prelude.{◌≡◌, ◌≤◌, length, true, false, IfSome, Some};
 ghost use Rattle.std.specs.List.Sorted.{IsPartitionPoint};
 ghost use Rattle.check_model.specs.Checks.{IdsRise, NextIdOrNone};
 ghost use Rattle.health_check.specs.Places.{PlaceOrNone, comes_before, comes_not_behind};
@@ -9,6 +9,35 @@ use check_model::Check;
 
 /// Where the check of a number stands.
 pub fn place_of(list: &[(u32, Check)], id: u32) -> Option<usize>
+    requires { IdsRise list.now }
+    ensures { PlaceOrNone list.now id result }
+{
+    if let Some(place) = guessed(list, id) {
+        return Some(place);
+    }
+    searched(list, id)
+}
+
+/// Where it stands, if no number is missing between the first check's and its own.
+fn guessed(list: &[(u32, Check)], id: u32) -> Option<usize>
+    requires { IdsRise list.now }
+    ensures { IfSome result (λ place. PlaceOrNone list.now id (Some place)) }
+{
+    if list.is_empty() || id < list[0].0 {
+        return None;
+    }
+    let place = (id - list[0].0) as usize;
+    if place >= list.len() {
+        return None;
+    }
+    if list[place].0 != id {
+        return None;
+    }
+    Some(place)
+}
+
+/// Where it stands, looked for by halves.
+fn searched(list: &[(u32, Check)], id: u32) -> Option<usize>
     requires { IdsRise list.now }
     ensures { PlaceOrNone list.now id result }
 {

@@ -72,6 +72,14 @@ impl CheckTable {
         }
     }
 
+    /// The checks by rising numbers, each with its own.
+    pub fn as_slice(&self) -> &[(u32, Check)]
+        ensures checks { result.now ≡ self.now.checks.list }
+        ensures sound { IsSound self.now.checks }
+    {
+        &self.list
+    }
+
     /// The least number above a given one.
     pub fn after(&self, id: u32) -> Option<u32>
         ensures next { NextIdOrNone self.now.checks.list id result }

@@ -12,7 +12,7 @@ use Rattle.record_set.specs.Sets.{key_of}
 use Rattle.routing.specs.declared.policies.Routing.TheVariants as routing
 use Rattle.health_model.specs.Healthy.{Watched, healthy, healthy_sets}
 use Rattle.health_model.specs.Nodes.{CheckNode, GroupNode, SetNode, feeders, truth}
-use Rattle.health_model.specs.Statuses.{Report, passing, status}
+use Rattle.health_model.specs.Statuses.{Report, passing, status, status_told}
 
 -- ---- endpoints
 
@@ -59,6 +59,29 @@ inverted : status (one (Endpoint 3 true false))
     (of_forty (of_forty (of_forty (each_of 40 false broken)))) 1 ≡ true
 unfolding numbers status
 inverted = refl
+
+-- what is told of h1, and of a check that isn't there
+told : status_told (one (Endpoint 3 false false)) (each_of 40 false broken) 1 ≡ Some (true, 10)
+unfolding numbers status
+told = refl
+
+told_inverted : status_told (one (Endpoint 3 true false))
+    (of_forty (of_forty (of_forty (each_of 40 false broken)))) 1 ≡ Some (true, 9)
+unfolding numbers status
+told_inverted = refl
+
+told_disabled : status_told (one (Endpoint 3 false true))
+    (of_forty (of_forty (of_forty (each_of 40 false broken)))) 1 ≡ Some (true, 9)
+unfolding numbers status
+told_disabled = refl
+
+told_nothing : status_told (one (Endpoint 3 false false)) [] 9 ≡ None
+told_nothing = refl
+
+-- without reports each checker of each check sees a pass
+fresh : (id threshold : ℕ) → passing [] id threshold ≡ 50
+unfolding numbers
+fresh id threshold = refl
 
 -- 41 fails at a threshold of 1
 abbrev down : List Report
@@ -111,6 +134,11 @@ one_up = refl
 two_up : status ((1, Endpoint 1 false false) ∷ (2, over 2 1) ∷ []) [] 2 ≡ false
 unfolding numbers status
 two_up = refl
+
+told_children : status_told ((1, Endpoint 1 false false) ∷ (2, Endpoint 1 false false)
+    ∷ (3, Calculated 1 false true (1 ∷ 2 ∷ [])) ∷ []) down 3 ≡ Some (true, 1)
+unfolding numbers status
+told_children = refl
 
 no_children : status (one (Calculated 0 false false [])) [] 1 ≡ true
 unfolding numbers status

@@ -1,7 +1,12 @@
 -- What the local equations determine, and what working out leaves.
-use Rattle.std.specs.Prelude.{◌≡◌, ◌≢◌, ℕ, ◌≤◌, Bool, List, ◌∷◌, Contains}
+use Rattle.std.specs.Prelude.{◌≡◌, ◌≢◌, ℕ, ◌≤◌, Bool, true, List, ◌∷◌, map, Contains}
+use Rattle.check_model.specs.Checks.{AreDistinct}
 use Rattle.checker_state.specs.Standing.{with_result}
-use Rattle.health_model.specs.Healthy.{Watched}
+use Rattle.record_set.specs.declared.sets.RecordSet.{RecordSet}
+use Rattle.record_set.specs.declared.sets.SetKey.{SetKey}
+use Rattle.record_set.specs.Sets.{key_of}
+use Rattle.zone_model.specs.Zones.{IsAmong}
+use Rattle.health_model.specs.Healthy.{Watched, healthy, healthy_sets, sets_of}
 use Rattle.health_model.specs.Nodes.{CheckNode, Evaluates, InCone, IsConeOf, IsNode, Meets, Node, Passes, Reaches, feeders, local, truth}
 use Rattle.health_model.specs.Sound.{IsSound}
 use Rattle.health_model.specs.Statuses.{Report, results_of}
@@ -57,3 +62,15 @@ pub record OneMoreReport : Type 0 where
   pub equations : (watched : Watched) (report : Report) (reports : List Report) (v : Node → Bool)
       (n : Node) → n ≢ CheckNode report.check
       → local watched (report ∷ reports) v n ≡ local watched reports v n
+
+-- The listed healthy sets are the sets of the zones that are healthy, where no two zones have one
+-- number.
+pub record HealthyAreListed : Type 0 where
+  pub listed : (watched : Watched) (reports : List Report) (zone : ℕ) (one : RecordSet)
+      → IsAmong (sets_of watched zone) one → healthy watched reports zone one ≡ true
+      → IsAmong (healthy_sets watched reports) (zone, key_of one)
+  pub only : (watched : Watched) (reports : List Report) (zone : ℕ) (key : SetKey)
+      → AreDistinct (map (λ (held : ℕ × List RecordSet). held.0) watched.zones)
+      → IsAmong (healthy_sets watched reports) (zone, key)
+      → (one : RecordSet) × IsAmong (sets_of watched zone) one
+      × (healthy watched reports zone one ≡ true) × (key_of one ≡ key)

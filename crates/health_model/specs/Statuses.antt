@@ -1,7 +1,7 @@
 -- The status of a check, worked out from all reports (Route 53 Developer Guide, "How Amazon Route 53
 -- determines whether a health check is healthy").
-use Rattle.std.specs.Prelude.{ℕ, zero, suc, Bool, true, false, ◌&&◌, nat_eq, if◌then◌else◌, List, [], ◌∷◌, length, Option, None, Some}
-use Rattle.std.specs.List.{filter}
+use Rattle.std.specs.Prelude.{ℕ, zero, suc, ◌<◌, Bool, true, false, ◌&&◌, nat_eq, if◌then◌else◌, List, [], ◌∷◌, length, Option, None, Some, option_map}
+use Rattle.std.specs.List.{AllByRecursion, filter}
 use Rattle.calculated_health.specs.Status.{calculated_status, endpoint_status, swapped_if}
 use Rattle.check_model.specs.declared.checks.Check.{Check}
 use Rattle.check_model.specs.declared.checks.Check.TheVariants.{Endpoint, Calculated}
@@ -55,3 +55,25 @@ status_within (suc depth) checks reports id =
 -- No walk of five checks stands, so a depth of four is enough.
 unfoldable pub status : List (ℕ × Check) → List Report → (id : ℕ) → Bool
 status checks reports id = status_within 4 checks reports id
+
+-- ---- what is told of a check
+
+-- the number beside the status: of the passing checkers, or of the healthy children, whether or not
+-- the check is disabled
+abbrev pub number_told : Check → (passing : ℕ → ℕ) → (child : ℕ → Bool) → ℕ
+number_told (Endpoint threshold inverted disabled) passing child = passing threshold
+number_told (Calculated threshold inverted disabled children) passing child =
+    length (filter child children)
+
+-- the status of a check and that number, where the check is there
+abbrev pub status_told : List (ℕ × Check) → List Report → (id : ℕ) → Option (Bool × ℕ)
+status_told checks reports id = option_map (λ check. (
+  status checks reports id,
+  number_told check (passing reports id) (status checks reports),
+)) (check_at checks id)
+
+-- Each report is of a check that there was, by a number below the next one, and of one of the fifty
+-- checkers.
+abbrev pub AreReports : (next : ℕ) → List Report → Type 0
+AreReports next reports =
+    AllByRecursion (λ (report : Report). (report.check < next) × (report.checker < 50)) reports

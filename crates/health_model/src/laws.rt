@@ -1,6 +1,6 @@
 //! Laws over the definitions, each the contract of a function that does nothing.
 
-ghost use Rattle.health_model.specs.Laws.{OneHealth, OneMoreReport, OneNode, OnePass, PathsEnd, RecursionMeets};
+ghost use Rattle.health_model.specs.Laws.{HealthyAreListed, OneHealth, OneMoreReport, OneNode, OnePass, PathsEnd, RecursionMeets};
 
 /// Values of the nodes that meet each local equation are those of the recursion.
 pub fn one_health()
@@ -31,4 +31,9 @@ pub fn paths_end()
 /// What one more report adds to the results of checkers.
 pub fn one_more_report()
     ensures { OneMoreReport }
+{}
+
+/// The listed healthy sets are the sets of the zones that are healthy.
+pub fn healthy_are_listed()
+    ensures { HealthyAreListed }
 {}

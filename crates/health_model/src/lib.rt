@@ -8,5 +8,6 @@
 mod laws;
 
 pub use laws::{
-    one_health, one_more_report, one_node, one_pass, paths_end, recursion_meets_equations,
+    healthy_are_listed, one_health, one_more_report, one_node, one_pass, paths_end,
+    recursion_meets_equations,
 };

@@ -1,7 +1,7 @@
 use Rattle.std.proofs.Common.{ap, ◌∙◌, arith}
 use Rattle.std.proofs.lemmas.List.{get_or_default}
 use Rattle.health_check.proofs.Places.{Held, absent, found_there}
-use Rattle.health_check.proofs.finding.place_of.Goals as goal
+use Rattle.health_check.proofs.finding.searched.Goals as goal
 
 pub returns-then-place-list : goal.returns-then-place-list
 returns-then-place-list c =
