@@ -1,15 +1,17 @@
 -- What the local equations determine, and what working out leaves.
-use Rattle.std.specs.Prelude.{◌≡◌, ◌≢◌, ℕ, ◌≤◌, Bool, true, List, ◌∷◌, map, Contains}
-use Rattle.check_model.specs.Checks.{AreDistinct}
+use Rattle.std.specs.Prelude.{◌≡◌, ◌≢◌, ℕ, ◌≤◌, Bool, true, List, [], ◌∷◌, map, Contains}
+use Rattle.check_model.specs.Checks.{AreDistinct, check_at}
+use Rattle.check_model.specs.declared.checks.Check.{Check}
+use Rattle.rdata_layout.specs.declared.types.RType.{RType}
 use Rattle.checker_state.specs.Standing.{with_result}
 use Rattle.record_set.specs.declared.sets.RecordSet.{RecordSet}
 use Rattle.record_set.specs.declared.sets.SetKey.{SetKey}
 use Rattle.record_set.specs.Sets.{key_of}
-use Rattle.zone_model.specs.Zones.{IsAmong}
+use Rattle.zone_model.specs.Zones.{IsAmong, group}
 use Rattle.health_model.specs.Healthy.{Watched, healthy, healthy_sets, sets_of}
-use Rattle.health_model.specs.Nodes.{CheckNode, Evaluates, InCone, IsConeOf, IsNode, Meets, Node, Passes, Reaches, feeders, local, truth}
+use Rattle.health_model.specs.Nodes.{CheckNode, Evaluates, GroupNode, InCone, IsConeOf, IsNode, Meets, Node, Passes, Reaches, feeders, local, truth}
 use Rattle.health_model.specs.Sound.{IsSound}
-use Rattle.health_model.specs.Statuses.{Report, results_of}
+use Rattle.health_model.specs.Statuses.{AreReports, Report, results_of}
 
 -- An assignment that meets every local equation is the recursion's.
 abbrev pub OneHealth : Type 0
@@ -62,6 +64,30 @@ pub record OneMoreReport : Type 0 where
   pub equations : (watched : Watched) (report : Report) (reports : List Report) (v : Node → Bool)
       (n : Node) → n ≢ CheckNode report.check
       → local watched (report ∷ reports) v n ≡ local watched reports v n
+
+-- A check that comes has no results: no report is of a number that no check had.
+abbrev pub NewCheckHasNone : Type 0
+NewCheckHasNone =
+    (next : ℕ) (reports : List Report) (checker : ℕ) → AreReports next reports
+    → results_of reports next checker ≡ []
+
+-- Where one check comes, changes or goes, no equation changes but its own.
+abbrev pub OneCheckChanges : Type 0
+OneCheckChanges =
+    (watched : Watched) (checks : List (ℕ × Check)) (id : ℕ)
+    → ((other : ℕ) → other ≢ id → check_at checks other ≡ check_at watched.checks other)
+    → (reports : List Report) (v : Node → Bool) (n : Node) → n ≢ CheckNode id
+    → local (record watched { checks = checks }) reports v n ≡ local watched reports v n
+
+-- Where the sets of zones change, no equation changes but of groups that have other sets.
+abbrev pub OnlyGroupsChange : Type 0
+OnlyGroupsChange =
+    (watched : Watched) (zones : List (ℕ × List RecordSet)) (reports : List Report)
+    (v : Node → Bool) (n : Node)
+    → ((zone : ℕ) (name : List (List ℕ)) (rtype : RType) → n ≡ GroupNode zone name rtype
+    → group (sets_of (record watched { zones = zones }) zone) name rtype
+    ≡ group (sets_of watched zone) name rtype)
+    → local (record watched { zones = zones }) reports v n ≡ local watched reports v n
 
 -- The listed healthy sets are the sets of the zones that are healthy, where no two zones have one
 -- number.

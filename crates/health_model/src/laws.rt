@@ -1,6 +1,8 @@
 //! Laws over the definitions, each the contract of a function that does nothing.
 
-ghost use Rattle.health_model.specs.Laws.{HealthyAreListed, OneHealth, OneMoreReport, OneNode, OnePass, PathsEnd, RecursionMeets};
+ghost use Rattle.health_model.specs.Laws.{HealthyAreListed, NewCheckHasNone, OneCheckChanges};
+ghost use Rattle.health_model.specs.Laws.{OneHealth, OneMoreReport, OneNode, OnePass, OnlyGroupsChange};
+ghost use Rattle.health_model.specs.Laws.{PathsEnd, RecursionMeets};
 
 /// Values of the nodes that meet each local equation are those of the recursion.
 pub fn one_health()
@@ -36,4 +38,15 @@ pub fn one_more_report()
 /// The listed healthy sets are the sets of the zones that are healthy.
 pub fn healthy_are_listed()
     ensures { HealthyAreListed }
+{}
+
+/// A check that comes has no results.
+pub fn new_check_has_none()
+    ensures { NewCheckHasNone }
+{}
+
+/// Which equations a command changes: that of its check, and those of groups that have other sets.
+pub fn few_equations_change()
+    ensures check { OneCheckChanges }
+    ensures groups { OnlyGroupsChange }
 {}

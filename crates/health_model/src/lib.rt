@@ -8,6 +8,6 @@
 mod laws;
 
 pub use laws::{
-    healthy_are_listed, one_health, one_more_report, one_node, one_pass, paths_end,
-    recursion_meets_equations,
+    few_equations_change, healthy_are_listed, new_check_has_none, one_health, one_more_report,
+    one_node, one_pass, paths_end, recursion_meets_equations,
 };
