@@ -1,0 +1,10 @@
+pub mod Bounds
+pub mod Cutting
+pub mod Given
+pub mod Locating
+pub mod Naming
+pub mod Policies
+pub mod Replies
+pub mod Scenarios
+pub mod Vectors
+pub mod Zoning

@@ -1,0 +1,9 @@
+pub mod Clients
+pub mod Descent
+pub mod Laws
+pub mod Location
+pub mod Names
+pub mod Records
+pub mod Reply
+pub mod Sections
+pub mod Zones

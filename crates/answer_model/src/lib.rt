@@ -1,0 +1,14 @@
+//! What an answer is: from a packet, the zones and a view of health to the octets of the reply.
+//!
+//! These are definitions over lists of sets, for contracts to cite. Nothing here knows how zones
+//! and tables are kept.
+#![tactic(auto)]
+
+mod laws;
+mod used;
+
+pub use laws::{
+    asked_groups, cuts_are_nearest, enclosers_are_closest, few_choices, locates_as_told,
+    names_exist, one_reply, rcodes_of_sections, zones_are_longest,
+};
+pub use used::Used;
