@@ -7,13 +7,15 @@ use Rattle.std.proofs.lemmas.Bool.{leb-true, le-leb}
 use Rattle.std.proofs.lemmas.Bool.Decides.{Decides-and, Decides-eqb, Decides-ltb, Decides-or}
 use Rattle.address_text.specs.declared.address.IpAddress.{IpAddress}
 use Rattle.address_text.specs.declared.address.IpAddress.TheVariants.{V4, V6}
+use Rattle.cidr_blocks.specs.Places.{rows_of}
+use Rattle.ip_table.specs.Laws.{OneLocation}
 use Rattle.ip_table.specs.Bits.{SharesFirst, first_bits, width_of}
 use Rattle.ip_table.specs.Location.{HasLongerInside, IsFound, IsLonger, IsScope, length_of}
 use Rattle.ip_table.specs.Prefixes.{Covers, LiesInside, Prefix}
 use Rattle.ip_table.specs.Rows.{AreRows}
-use Rattle.answer_model.specs.Laws.{LocatesAsTold}
+use Rattle.answer_model.specs.Laws.{LocatesAsTold, ToldOnce, ToldOnceIn}
 use Rattle.answer_model.specs.Location.{covers, first_apart, found_in, has_longer_inside, is_longer}
-use Rattle.answer_model.specs.Location.{lies_inside, longer, scope_in, scope_from, shares_first}
+use Rattle.answer_model.specs.Location.{lies_inside, longer, scope_in, scope_from, shares_first, told_in}
 
 shares : (n : ℕ) (a b : IpAddress) → Decides (shares_first n a b) (SharesFirst n a b)
 shares n a b =
@@ -236,3 +238,13 @@ module _ {V : Type 0} where
     is_scope = subst (IsScope rows address (found_in rows address)) (scope_is rows address)
         (scope rows address are);
   }
+
+  pub told_once : OneLocation V → ToldOnce V
+  told_once one rows address value reach are located =
+      one rows address value (told_in rows address) reach (scope_in rows address) are located
+      (locates_as_told rows address are)
+
+pub told_once_in : ToldOnce (List ℕ) → ToldOnceIn
+told_once_in once None address name reach are located = located
+told_once_in once (Some collection) address name reach are located =
+    once (rows_of collection.locations) address name reach are located

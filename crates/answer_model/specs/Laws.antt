@@ -2,6 +2,8 @@
 use Rattle.std.specs.Prelude.{◌≡◌, ◌≢◌, ◌≤◌, ◌+◌, ◌⊎◌, ℕ, List, [], Option, None, Some, length}
 use Rattle.std.specs.Bool.{Decides}
 use Rattle.address_text.specs.declared.address.IpAddress.{IpAddress}
+use Rattle.cidr_blocks.specs.declared.places.Collection.{Collection}
+use Rattle.cidr_commands.specs.Stored.{AreRowsIn, LocatesIn}
 use Rattle.dns_message.specs.Judge.{Judges}
 use Rattle.dns_message.specs.declared.query.QueryRead.TheVariants as read
 use Rattle.dns_name.specs.Suffix.{EndsWith}
@@ -14,6 +16,7 @@ use Rattle.rdata_layout.specs.declared.types.RType.TheVariants.{Ns}
 use Rattle.record_set.specs.declared.sets.RecordSet.{RecordSet}
 use Rattle.zone_model.specs.Existing.{Exists, IsAncestor, IsClosest}
 use Rattle.zone_model.specs.Zones.{IsAmong, group}
+use Rattle.answer_model.specs.Clients.{blocks_scope, location_in}
 use Rattle.answer_model.specs.Descent.{Choices, Means, descend}
 use Rattle.answer_model.specs.Location.{scope_in, told_in}
 use Rattle.answer_model.specs.Names.{closest, exists, is_at_or_below, is_below}
@@ -81,6 +84,20 @@ pub record AskedGroups : Type 0 where
 abbrev pub LocatesAsTold : Type 0 → Type 0
 LocatesAsTold V = (rows : List (Prefix × V)) (address : IpAddress)
     → AreRows rows → Locates rows address (told_in rows address) (scope_in rows address)
+
+-- A table tells that of an address, and nothing else.
+abbrev pub ToldOnce : Type 0 → Type 0
+ToldOnce V =
+    (rows : List (Prefix × V)) (address : IpAddress) (value : Option V) (scope : ℕ)
+    → AreRows rows → Locates rows address value scope
+    → (value ≡ told_in rows address) × (scope ≡ scope_in rows address)
+
+-- So does a collection, which is there or not.
+abbrev pub ToldOnceIn : Type 0
+ToldOnceIn =
+    (found : Option Collection) (address : IpAddress) (name : Option (List ℕ)) (scope : ℕ)
+    → AreRowsIn found → LocatesIn found address name scope
+    → (name ≡ location_in found address) × (scope ≡ blocks_scope found address)
 
 -- A query makes at most 17 choices from group to group.
 abbrev pub FewChoices : Type 0

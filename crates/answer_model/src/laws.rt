@@ -2,9 +2,12 @@
 
 ghost use Rattle.answer_model.specs.Laws.{AskedGroups, CutsAreNearest, EnclosersAreClosest};
 ghost use Rattle.answer_model.specs.Laws.{FewChoices, LocatesAsTold, NamesBelow, NamesExist};
-ghost use Rattle.answer_model.specs.Laws.{NoReply, OneReply, RcodesOfSections, ZonesAreLongest};
+ghost use Rattle.answer_model.specs.Laws.{NoReply, OneReply, RcodesOfSections, ToldOnce};
+ghost use Rattle.answer_model.specs.Laws.{ToldOnceIn, ZonesAreLongest};
 
+use cidr_blocks::Ident;
 use dns_message::one_judgement;
+use ip_table::one_location;
 
 /// A packet has one reply, given what is served, who asks, and the words.
 pub fn one_reply()
@@ -42,8 +45,18 @@ pub fn asked_groups()
 
 /// An address is located by the longest row that contains it.
 pub fn locates_as_told<V>()
-    ensures { LocatesAsTold V }
-{}
+    ensures located { LocatesAsTold V }
+    ensures once { ToldOnce V }
+{
+    one_location::<V>();
+}
+
+/// So it is in a collection of address blocks.
+pub fn told_in_collections()
+    ensures { ToldOnceIn }
+{
+    locates_as_told::<Ident>();
+}
 
 /// From a group to the sets that answer there are at most 17 choices.
 pub fn few_choices()

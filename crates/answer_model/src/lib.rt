@@ -9,6 +9,6 @@ mod used;
 
 pub use laws::{
     asked_groups, cuts_are_nearest, enclosers_are_closest, few_choices, locates_as_told,
-    names_exist, one_reply, rcodes_of_sections, zones_are_longest,
+    names_exist, one_reply, rcodes_of_sections, told_in_collections, zones_are_longest,
 };
 pub use used::Used;
