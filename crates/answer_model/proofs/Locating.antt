@@ -15,7 +15,8 @@ use Rattle.ip_table.specs.Prefixes.{Covers, LiesInside, Prefix}
 use Rattle.ip_table.specs.Rows.{AreRows}
 use Rattle.answer_model.specs.Laws.{LocatesAsTold, ToldOnce, ToldOnceIn}
 use Rattle.answer_model.specs.Location.{covers, first_apart, found_in, has_longer_inside, is_longer}
-use Rattle.answer_model.specs.Location.{lies_inside, longer, scope_in, scope_from, shares_first, told_in}
+use Rattle.answer_model.specs.Location.{lies_inside, longer, scope_in, scope_from, shares_first}
+use Rattle.answer_model.specs.Location.{told_in}
 
 shares : (n : ℕ) (a b : IpAddress) → Decides (shares_first n a b) (SharesFirst n a b)
 shares n a b =

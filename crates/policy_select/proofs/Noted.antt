@@ -1,0 +1,56 @@
+-- Lists that are noted set by set.
+use Rattle.std.proofs.Common.{◌≡◌, ◌≤◌, ◌<◌, ◌+◌, ℕ, suc, List, [], ◌∷◌, ◌++◌, Option, Some, length}
+use Rattle.std.proofs.Common.{take, drop, sym, ap, ◌∙◌, arith}
+use Rattle.std.specs.Prelude.{map, slice_get, slice_set}
+use Rattle.std.specs.Option.{option_map, unwrap_or}
+use Rattle.std.proofs.lemmas.List.{length-map, length-take, take_all}
+use Rattle.std.proofs.lemmas.Option.{slice_get-map}
+use Rattle.std.proofs.Math.Seq.{take-suc-set}
+use Rattle.choice_model.specs.Choice.{each}
+use Rattle.record_set.specs.declared.sets.RecordSet.{RecordSet}
+use Rattle.routing.specs.declared.policies.Routing.{Routing}
+use Rattle.zone_list.specs.Zones.{Zone, placed_in}
+use Rattle.zone_sets.proofs.Lists.{take_more}
+use Rattle.zone_sets.specs.Placed.{Placed}
+use Rattle.zone_table.specs.declared.refs.Group.{Group}
+use Rattle.policy_select.specs.Groups.{members_of, sets_in}
+
+-- one element more is noted
+pub noted_more : {X : Type 0} (wanted noted : List X) (i : ℕ) (x : X) → i < length noted
+    → slice_get wanted i ≡ Some x → take i noted ≡ take i wanted
+    → take (i + 1) (slice_set noted i x) ≡ take (i + 1) wanted
+noted_more {X} wanted noted i x within there so_far =
+    ap (λ (k : ℕ). take k (slice_set noted i x)) one ∙ take-suc-set noted i x within
+    ∙ ap (λ (xs : List X). xs ++ x ∷ []) so_far ∙ sym (take_more wanted i x there)
+  where
+    one : i + 1 ≡ suc i
+    one = omega arith
+
+-- what a set says, at its place
+pub said_at : {X : Type 0} (of : Routing → Option X) (first : X) (sets : List RecordSet) (i : ℕ)
+    (set : RecordSet) (routing : Routing) (x : X) → slice_get sets i ≡ Some set → routing ≡ set.routing
+    → x ≡ unwrap_or (of routing) first → slice_get (each of first sets) i ≡ Some x
+said_at of first sets i set routing x there same says =
+    let f = λ (s : RecordSet). unwrap_or (of s.routing) first in
+    slice_get-map f sets i ∙ ap (option_map f) there
+    ∙ ap Some (sym (says ∙ ap (λ (r : Routing). unwrap_or (of r) first) same))
+
+-- a group has no more sets than its length
+pub few_members : (zones : List Zone) (g : Group) → length (members_of zones g) ≤ g.length
+few_members zones g =
+    let e = length-take g.length (drop g.start (placed_in zones g.zone)) in
+    omega (arith, e)
+
+pub few_sets : (zones : List Zone) (g : Group) → length (sets_in zones g) ≤ g.length
+few_sets zones g =
+    let e = length-map (members_of zones g) (λ (p : Placed). p.set) in
+    let few = few_members zones g in
+    omega (arith, e, few)
+
+-- all of it is noted
+pub all_noted : {X Y : Type 0} (f : Y → X) (ys : List Y) (noted : List X) (i n : ℕ) → i ≡ n
+    → length ys ≤ n → take i noted ≡ take i (map f ys) → take n noted ≡ map f ys
+all_noted {X} f ys noted i n done few so_far =
+    let e = length-map ys f in
+    ap (λ (k : ℕ). take k noted) (sym done) ∙ so_far
+    ∙ take_all i (map f ys) (omega (arith, e, few, done))

@@ -1,0 +1,30 @@
+use Rattle.std.proofs.Common.{arith}
+use Rattle.std.specs.Option.{unwrap_or}
+use Rattle.choice_model.specs.Choice.{each}
+use Rattle.choice_model.specs.Policies.{location_of}
+use Rattle.record_set.specs.declared.sets.RecordSet.{RecordSet}
+use Rattle.policy_select.specs.Groups.{sets_in}
+use Rattle.policy_select.proofs.Noted.{all_noted, few_sets, noted_more, said_at}
+use Rattle.policy_select.proofs.lists.note_locations.Goals as goal
+
+pub loop-i-preserved : goal.loop-i-preserved
+loop-i-preserved c =
+    let first = c.args.first.now in
+    let sets = sets_in c.args.zones.now.zones c.args.group in
+    let read = c.routing_at.ensures.routing in
+    let said = said_at location_of first sets c.loop-i.i read.0 c.routing_at.result c.location_or.result read.1 read.2
+    c.location_or.ensures in
+    let within = c.loop-i-test.true in
+    let long = c.loop-i.auto.locations in
+    let room = c.requires.room in
+    noted_more (each location_of first sets) c.loop-i.locations c.loop-i.i c.location_or.result
+    (omega (arith, within, long, room)) said c.loop-i.invariant
+
+pub returns-clause-noted : goal.returns-clause-noted
+returns-clause-noted c =
+    let first = c.args.first.now in
+    let behind = c.loop-i-test.false in
+    let before = c.loop-i.auto.i-end in
+    all_noted (λ (s : RecordSet). unwrap_or (location_of s.routing) first)
+    (sets_in c.args.zones.now.zones c.args.group) c.loop-i.locations c.loop-i.i c.args.group.length
+    (omega (arith, behind, before)) (few_sets c.args.zones.now.zones c.args.group) c.loop-i.invariant

@@ -1,0 +1,8 @@
+use Rattle.std.proofs.Common.{◌≡◌, take}
+use Rattle.choice_model.specs.Choice.{each}
+use Rattle.choice_model.specs.Policies.{region_of}
+use Rattle.policy_select.specs.Groups.{sets_in}
+use Rattle.policy_select.proofs.lists.note_regions.Given as goal
+
+abbrev pub invariant-loop-i : goal.invariant-loop-i
+invariant-loop-i l = take l.i l.regions ≡ take l.i (each region_of l.first (sets_in l.zones.zones l.group))

@@ -1,0 +1,42 @@
+//! What tables and collections tell of a client.
+
+ghost use Rattle.std.specs.Prelude.{◌≡◌};
+ghost use Rattle.std.specs.Option.{option_copied};
+ghost use Rattle.answer_model.specs.Clients.{blocks_scope, location_in};
+ghost use Rattle.answer_model.specs.Location.{told_in};
+ghost use Rattle.cidr_commands.specs.Stored.{collection_at};
+
+use address_text::IpAddress;
+use answer_model::{locates_as_told, told_in_collections};
+use cidr_routing::{Collections, Ident};
+use geo_latency::{Latencies, Location, Tables};
+
+/// Where a client is, by the table of places.
+pub(crate) fn location_of(tables: &Tables, client: IpAddress) -> Option<&Location>
+    ensures { option_copied result ≡ told_in tables.now.places client }
+{
+    locates_as_told::<Location>();
+    tables.places.locate(client).0
+}
+
+/// The latencies of a client, by the table of latencies.
+pub(crate) fn latencies_of(tables: &Tables, client: IpAddress) -> Option<&Latencies>
+    ensures { option_copied result ≡ told_in tables.now.latencies client }
+{
+    locates_as_told::<Latencies>();
+    tables.latencies.locate(client).0
+}
+
+/// The location of a client in a collection, and the scope of that answer.
+pub(crate) fn block_of(
+    collections: &Collections,
+    id: u32,
+    client: IpAddress,
+) -> (Option<&Ident>, u8)
+    ensures location { option_copied result.0
+        ≡ location_in (collection_at id collections.now.list) client }
+    ensures scope { result.1 ≡ blocks_scope (collection_at id collections.now.list) client }
+{
+    told_in_collections();
+    collections.location(id, client)
+}

@@ -1,0 +1,172 @@
+//! The choices of the policies, over lists of what the sets of a group say.
+
+ghost use Rattle.std.specs.Prelude.{◌≡◌, ◌<◌, ◌≤◌};
+ghost use Rattle.std.specs.Option.{option_copied};
+ghost use Rattle.choice_model.specs.Choice.{each};
+ghost use Rattle.choice_model.specs.Policies.{location_of, place_of, region_of, role_of, weight_of};
+ghost use Rattle.answer_model.specs.Location.{told_in};
+ghost use Rattle.cidr_routing.specs.Choice.{chosen as block_chosen};
+ghost use Rattle.failover.specs.Choice.{chosen as role_chosen};
+ghost use Rattle.geo_latency.specs.Places.{chosen as place_chosen};
+ghost use Rattle.geo_latency.specs.Regions.{chosen as region_chosen};
+ghost use Rattle.multivalue.specs.Answer.{picked};
+ghost use Rattle.multivalue.specs.Choice.{chosen as several_chosen};
+ghost use Rattle.weighted.specs.Choice.{chosen as weight_chosen};
+ghost use Rattle.zone_table.specs.Looking.{IsGroupNow};
+ghost use Rattle.policy_select.specs.Groups.{flags_in, sets_in};
+
+use crate::client::{latencies_of, location_of};
+use crate::lists::{
+    note_healthy, note_locations, note_places, note_regions, note_roles, note_weights,
+};
+use crate::view::HealthView;
+use address_text::IpAddress;
+use cidr_routing::Ident;
+use geo_latency::Tables;
+use multivalue::Picked;
+use routing::{Place, Region, Role};
+use zone_table::{Group, Scratch, Zones};
+
+/// The most sets of a group (Route 53 quotas).
+const GROUP: usize = 100;
+
+/// Chooses from a weighted group.
+pub(crate) fn choose_weighted<V: HealthView>(
+    zones: &Zones,
+    group: Group,
+    view: &V,
+    first: u8,
+    word: u64,
+    scratch: &mut Scratch,
+) -> usize
+    requires group { IsGroupNow zones.now.zones group }
+    requires some { 0 < group.length }
+    requires few { group.length ≤ 100 }
+    ensures { result
+        ≡ weight_chosen (each weight_of first (sets_in zones.now.zones group))
+        (flags_in zones.now.zones (V.test view.now) group) word }
+{
+    let mut healthy = [false; GROUP];
+    note_healthy(zones, group, view, &mut healthy);
+    let mut weights = [0; GROUP];
+    note_weights(zones, group, first, scratch, &mut weights);
+    weighted::choose(&weights[..group.length], &healthy[..group.length], word)
+}
+
+/// Chooses from a failover group.
+pub(crate) fn choose_failover<V: HealthView>(
+    zones: &Zones,
+    group: Group,
+    view: &V,
+    first: Role,
+    scratch: &mut Scratch,
+) -> usize
+    requires group { IsGroupNow zones.now.zones group }
+    requires some { 0 < group.length }
+    requires few { group.length ≤ 100 }
+    ensures { result
+        ≡ role_chosen (each role_of first (sets_in zones.now.zones group))
+        (flags_in zones.now.zones (V.test view.now) group) }
+{
+    let mut healthy = [false; GROUP];
+    note_healthy(zones, group, view, &mut healthy);
+    let mut roles = [first; GROUP];
+    note_roles(zones, group, first, scratch, &mut roles);
+    failover::choose(&roles[..group.length], &healthy[..group.length])
+}
+
+/// Chooses from a geolocation group.
+pub(crate) fn choose_place<V: HealthView>(
+    zones: &Zones,
+    group: Group,
+    view: &V,
+    first: &Place,
+    tables: &Tables,
+    client: IpAddress,
+    scratch: &mut Scratch,
+) -> Option<usize>
+    requires group { IsGroupNow zones.now.zones group }
+    requires few { group.length ≤ 100 }
+    ensures { result
+        ≡ place_chosen (each place_of first.now (sets_in zones.now.zones group))
+        (flags_in zones.now.zones (V.test view.now) group) (told_in tables.now.places client) }
+{
+    let mut healthy = [false; GROUP];
+    note_healthy(zones, group, view, &mut healthy);
+    let mut places = [*first; GROUP];
+    note_places(zones, group, first, scratch, &mut places);
+    geo_latency::choose_place(
+        &places[..group.length],
+        &healthy[..group.length],
+        location_of(tables, client),
+    )
+}
+
+/// Chooses from a latency group.
+pub(crate) fn choose_region<V: HealthView>(
+    zones: &Zones,
+    group: Group,
+    view: &V,
+    first: &Region,
+    tables: &Tables,
+    client: IpAddress,
+    scratch: &mut Scratch,
+) -> usize
+    requires group { IsGroupNow zones.now.zones group }
+    requires some { 0 < group.length }
+    requires few { group.length ≤ 100 }
+    ensures { result
+        ≡ region_chosen (each region_of first.now (sets_in zones.now.zones group))
+        (flags_in zones.now.zones (V.test view.now) group)
+        (told_in tables.now.latencies client) }
+{
+    let mut healthy = [false; GROUP];
+    note_healthy(zones, group, view, &mut healthy);
+    let mut regions = [*first; GROUP];
+    note_regions(zones, group, first, scratch, &mut regions);
+    geo_latency::choose_region(
+        &regions[..group.length],
+        &healthy[..group.length],
+        latencies_of(tables, client),
+    )
+}
+
+/// Chooses from a multivalue answer group.
+pub(crate) fn choose_several<V: HealthView>(
+    zones: &Zones,
+    group: Group,
+    view: &V,
+    word: u64,
+) -> Picked
+    requires group { IsGroupNow zones.now.zones group }
+    requires some { 0 < group.length }
+    requires few { group.length ≤ 100 }
+    ensures { result
+        ≡ picked (several_chosen (flags_in zones.now.zones (V.test view.now) group) word) }
+{
+    let mut healthy = [false; GROUP];
+    note_healthy(zones, group, view, &mut healthy);
+    multivalue::choose(&healthy[..group.length], word)
+}
+
+/// Chooses from a group of IP-based routing, by the location of the client in its collection.
+pub(crate) fn choose_block<V: HealthView>(
+    zones: &Zones,
+    group: Group,
+    view: &V,
+    first: &Ident,
+    client: Option<&Ident>,
+    scratch: &mut Scratch,
+) -> Option<usize>
+    requires group { IsGroupNow zones.now.zones group }
+    requires few { group.length ≤ 100 }
+    ensures { result
+        ≡ block_chosen (each location_of first.now (sets_in zones.now.zones group))
+        (flags_in zones.now.zones (V.test view.now) group) (option_copied client.entry) }
+{
+    let mut healthy = [false; GROUP];
+    note_healthy(zones, group, view, &mut healthy);
+    let mut locations = [*first; GROUP];
+    note_locations(zones, group, first, scratch, &mut locations);
+    cidr_routing::choose_block(&locations[..group.length], &healthy[..group.length], client)
+}

@@ -1,0 +1,16 @@
+//! Which sets of a group answer a query, and where a chosen alias leads.
+//!
+//! The sets stay where they are: one at a time is loaded, and no memory is taken.
+#![tactic(auto)]
+
+mod client;
+mod group;
+mod leaves;
+mod lists;
+mod parts;
+mod selection;
+mod view;
+
+pub use answer_model::Used;
+pub use selection::{Selected, select};
+pub use view::{AllHealthy, HealthView};

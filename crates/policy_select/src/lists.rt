@@ -1,0 +1,127 @@
+//! What the sets of a group say, set by set, as lists for the choices.
+
+ghost use Rattle.std.specs.Prelude.{◌≡◌, ◌≤◌, length, take};
+ghost use Rattle.choice_model.specs.Choice.{each};
+ghost use Rattle.choice_model.specs.Policies.{location_of, place_of, region_of, role_of, weight_of};
+ghost use Rattle.zone_table.specs.Looking.{IsGroupNow};
+ghost use Rattle.policy_select.specs.Groups.{flags_in, sets_in};
+
+use crate::group::{is_member_healthy, routing_at};
+use crate::parts::{location_or, place_or, region_or, role_or, weight_or};
+use crate::view::HealthView;
+use cidr_routing::Ident;
+use routing::{Place, Region, Role};
+use zone_table::{Group, Scratch, Zones};
+
+/// Notes which sets of a group are healthy.
+pub(crate) fn note_healthy<V: HealthView>(
+    zones: &Zones,
+    group: Group,
+    view: &V,
+    healthy: &mut [bool],
+)
+    requires group { IsGroupNow zones.now.zones group }
+    requires room { group.length ≤ length healthy.old }
+    ensures noted { take group.length healthy.new
+        ≡ flags_in zones.now.zones (V.test view.now) group }
+    ensures size { length healthy.new ≡ length healthy.old }
+{
+    for i in 0..group.length {
+        healthy[i] = is_member_healthy(zones, group, view, i);
+    }
+}
+
+/// Notes the weights of a group.
+pub(crate) fn note_weights(
+    zones: &Zones,
+    group: Group,
+    first: u8,
+    scratch: &mut Scratch,
+    weights: &mut [u8],
+)
+    requires group { IsGroupNow zones.now.zones group }
+    requires room { group.length ≤ length weights.old }
+    ensures noted { take group.length weights.new
+        ≡ each weight_of first (sets_in zones.now.zones group) }
+    ensures size { length weights.new ≡ length weights.old }
+{
+    for i in 0..group.length {
+        weights[i] = weight_or(&routing_at(zones, group, i, scratch), first);
+    }
+}
+
+/// Notes the roles of a group.
+pub(crate) fn note_roles(
+    zones: &Zones,
+    group: Group,
+    first: Role,
+    scratch: &mut Scratch,
+    roles: &mut [Role],
+)
+    requires group { IsGroupNow zones.now.zones group }
+    requires room { group.length ≤ length roles.old }
+    ensures noted { take group.length roles.new
+        ≡ each role_of first (sets_in zones.now.zones group) }
+    ensures size { length roles.new ≡ length roles.old }
+{
+    for i in 0..group.length {
+        roles[i] = role_or(&routing_at(zones, group, i, scratch), first);
+    }
+}
+
+/// Notes the places of a group.
+pub(crate) fn note_places(
+    zones: &Zones,
+    group: Group,
+    first: &Place,
+    scratch: &mut Scratch,
+    places: &mut [Place],
+)
+    requires group { IsGroupNow zones.now.zones group }
+    requires room { group.length ≤ length places.old }
+    ensures noted { take group.length places.new
+        ≡ each place_of first.now (sets_in zones.now.zones group) }
+    ensures size { length places.new ≡ length places.old }
+{
+    for i in 0..group.length {
+        places[i] = place_or(&routing_at(zones, group, i, scratch), first);
+    }
+}
+
+/// Notes the regions of a group.
+pub(crate) fn note_regions(
+    zones: &Zones,
+    group: Group,
+    first: &Region,
+    scratch: &mut Scratch,
+    regions: &mut [Region],
+)
+    requires group { IsGroupNow zones.now.zones group }
+    requires room { group.length ≤ length regions.old }
+    ensures noted { take group.length regions.new
+        ≡ each region_of first.now (sets_in zones.now.zones group) }
+    ensures size { length regions.new ≡ length regions.old }
+{
+    for i in 0..group.length {
+        regions[i] = region_or(&routing_at(zones, group, i, scratch), first);
+    }
+}
+
+/// Notes the locations of a group.
+pub(crate) fn note_locations(
+    zones: &Zones,
+    group: Group,
+    first: &Ident,
+    scratch: &mut Scratch,
+    locations: &mut [Ident],
+)
+    requires group { IsGroupNow zones.now.zones group }
+    requires room { group.length ≤ length locations.old }
+    ensures noted { take group.length locations.new
+        ≡ each location_of first.now (sets_in zones.now.zones group) }
+    ensures size { length locations.new ≡ length locations.old }
+{
+    for i in 0..group.length {
+        locations[i] = location_or(&routing_at(zones, group, i, scratch), first);
+    }
+}

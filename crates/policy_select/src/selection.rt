@@ -1,0 +1,158 @@
+//! The choice from one group, by the policy of its first set.
+
+ghost use Rattle.std.specs.Prelude.{◌≡◌, ◌<◌, ◌≤◌, ◌∷◌, [], ℕ, List, option_to_list};
+ghost use Rattle.choice_model.specs.Choice.{chosen};
+ghost use Rattle.answer_model.specs.Clients.{client_at};
+ghost use Rattle.answer_model.specs.Descent.{group_uses};
+ghost use Rattle.multivalue.specs.Answer.{picked};
+ghost use Rattle.zone_table.specs.Looking.{IsGroupNow};
+ghost use Rattle.policy_select.specs.Groups.{flags_in, sets_in};
+ghost use Rattle.policy_select.specs.Selecting.{selected_of};
+
+use crate::client::block_of;
+use crate::group::routing_at;
+use crate::leaves::{
+    choose_block, choose_failover, choose_place, choose_region, choose_several, choose_weighted,
+};
+use crate::parts::name_of;
+use crate::view::HealthView;
+use address_text::IpAddress;
+use answer_model::Used;
+use cidr_routing::Collections;
+use geo_latency::Tables;
+use multivalue::Picked;
+use routing::Routing;
+use zone_table::{Group, Scratch, Zones};
+
+/// What is chosen of a group.
+#[derive(Clone, Copy, Debug, PartialEq, Eq)]
+pub enum Selected {
+    /// No set applies to the client.
+    Nothing,
+    /// The sets at these places of the group, in the order of the choice.
+    Sets(Group, Picked),
+}
+
+/// Chooses from a group of 1 to 100 sets by its policy.
+///
+/// The scratch holds some set of the group then.
+pub fn select<V: HealthView>(
+    zones: &Zones,
+    collections: &Collections,
+    group: Group,
+    view: &V,
+    tables: &Tables,
+    client: IpAddress,
+    word: u64,
+    scratch: &mut Scratch,
+) -> Selected
+    requires group { IsGroupNow zones.now.zones group }
+    requires some { 0 < group.length }
+    requires few { group.length ≤ 100 }
+    ensures { result
+        ≡ selected_of group (chosen (sets_in zones.now.zones group)
+        (flags_in zones.now.zones (V.test view.now) group)
+        (client_at tables.now collections.now.list client).rows word) }
+{
+    let mut used = Used {
+        places: false,
+        latencies: false,
+        blocks: 0,
+    };
+    choose(
+        zones,
+        collections,
+        group,
+        view,
+        tables,
+        client,
+        word,
+        &mut used,
+        scratch,
+    )
+}
+
+/// Chooses from a group, and notes what the choice used.
+pub(crate) fn choose<V: HealthView>(
+    zones: &Zones,
+    collections: &Collections,
+    group: Group,
+    view: &V,
+    tables: &Tables,
+    client: IpAddress,
+    word: u64,
+    used: &mut Used,
+    scratch: &mut Scratch,
+) -> Selected
+    requires group { IsGroupNow zones.now.zones group }
+    requires some { 0 < group.length }
+    requires few { group.length ≤ 100 }
+    ensures selected { result
+        ≡ selected_of group (chosen (sets_in zones.now.zones group)
+        (flags_in zones.now.zones (V.test view.now) group)
+        (client_at tables.now collections.now.list client).rows word) }
+    ensures used { used.new
+        ≡ group_uses (client_at tables.now collections.now.list client)
+        (sets_in zones.now.zones group) used.old }
+{
+    match routing_at(zones, group, 0, scratch) {
+        Routing::Simple => one(group, 0),
+        Routing::Weighted(_, weight) => {
+            one(
+                group,
+                choose_weighted(zones, group, view, weight, word, scratch),
+            )
+        }
+        Routing::Failover(_, role) => {
+            one(group, choose_failover(zones, group, view, role, scratch))
+        }
+        Routing::Geolocation(_, place) => {
+            used.places = true;
+            let set = choose_place(zones, group, view, &place, tables, client, scratch);
+            one_or_none(group, set)
+        }
+        Routing::Latency(_, region) => {
+            used.latencies = true;
+            let set = choose_region(zones, group, view, &region, tables, client, scratch);
+            one(group, set)
+        }
+        Routing::Multivalue(_) => several(group, choose_several(zones, group, view, word)),
+        Routing::Cidr(_, id, location) => {
+            let (block, scope) = block_of(collections, id, client);
+            used.blocks = used.blocks.max(scope);
+            let first = name_of(&location);
+            one_or_none(
+                group,
+                choose_block(zones, group, view, &first, block, scratch),
+            )
+        }
+    }
+}
+
+/// One set of a group.
+fn one(group: Group, place: usize) -> Selected
+    ensures { result ≡ selected_of group (place ∷ []) }
+{
+    let places = [place, 0, 0, 0, 0, 0, 0, 0];
+    Selected::Sets(group, Picked { places, count: 1 })
+}
+
+/// One set of a group, or none.
+fn one_or_none(group: Group, place: Option<usize>) -> Selected
+    ensures { result ≡ selected_of group (option_to_list place) }
+{
+    match place {
+        Some(place) => one(group, place),
+        None => Selected::Nothing,
+    }
+}
+
+/// Several sets of a group, or none.
+fn several(group: Group, sets: Picked) -> Selected
+    ensures { (places : List ℕ) → sets ≡ picked places → result ≡ selected_of group places }
+{
+    if sets.count == 0 {
+        return Selected::Nothing;
+    }
+    Selected::Sets(group, sets)
+}
