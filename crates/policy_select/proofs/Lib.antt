@@ -1,2 +1,4 @@
+pub mod Descending
 pub mod Members
 pub mod Noted
+pub mod Targets

@@ -40,22 +40,26 @@ one_slot : (placed : List Placed) → HaveOwnSlots placed → (p q : Placed) →
 one_slot [] own p q first second same = absurd first
 one_slot (x ∷ placed) own p q (inl d) (inl e) same = sym d ∙ e
 one_slot (x ∷ placed) own p q (inl d) (inr second) same =
-    absurd (in_all (λ (y : Placed). x.slot ≢ y.slot) placed q own.0 second (ap (λ (y : Placed). y.slot) d ∙ same))
+    absurd (in_all (λ (y : Placed). x.slot ≢ y.slot) placed q own.0 second
+    (ap (λ (y : Placed). y.slot) d ∙ same))
 one_slot (x ∷ placed) own p q (inr first) (inl e) same =
     absurd (in_all (λ (y : Placed). x.slot ≢ y.slot) placed p own.0 first
     (ap (λ (y : Placed). y.slot) e ∙ sym same))
-one_slot (x ∷ placed) own p q (inr first) (inr second) same = one_slot placed own.1 p q first second same
+one_slot (x
+    ∷ placed) own p q (inr first) (inr second) same = one_slot placed own.1 p q first second same
 
 -- the sets of each zone are in slots of their own, and have spellings
 record AreKept (placed : List Placed) : Type 0 where
   own : HaveOwnSlots placed
   spelled : (p : Placed) → IsAmong placed p → HasSpelling p.set
 
-kept_in : (zones : List Zone) → AllByRecursion StandsAlone zones → (id : ℕ) → AreKept (placed_in zones id)
+kept_in : (zones : List Zone) → AllByRecursion StandsAlone zones → (id : ℕ)
+    → AreKept (placed_in zones id)
 kept_in [] each id = record { own = tt; spelled = λ p there. absurd there }
 kept_in (zone ∷ zones) each id = by (kept_in zones each.1 id) (zone.id == id)
   where
-    by : AreKept (placed_in zones id) → (b : Bool) → AreKept (cond b zone.placed (placed_in zones id))
+    by : AreKept (placed_in zones id) → (b : Bool)
+        → AreKept (cond b zone.placed (placed_in zones id))
     by rest true = record {
       own = each.0.sets.own;
       spelled = λ p there.
@@ -70,7 +74,8 @@ pub record IsNamed (zones : List Zone) (g : Group) (i : ℕ) (ref : SetRef) : Ty
   pub at : slice_get (sets_in zones g) i ≡ Some set
 
 placed_at : (zones : List Zone) (g : Group) (i : ℕ) (p : Placed) → i < g.length
-    → slice_get (placed_in zones g.zone) (g.start + i) ≡ Some p → slice_get (members_of zones g) i ≡ Some p
+    → slice_get (placed_in zones g.zone) (g.start + i) ≡ Some p → slice_get (members_of zones g) i
+    ≡ Some p
 placed_at zones g i p within e =
     got_of_take (drop g.start (placed_in zones g.zone)) g.length i within
     ∙ got_of_drop (placed_in zones g.zone) g.start i ∙ e
@@ -94,7 +99,8 @@ pub one_named : (zones : List Zone) (ref : SetRef) (set other : RecordSet) → A
 one_named zones ref set other are first second =
     ap (λ (p : Placed). p.set)
     (one_slot (placed_in zones ref.zone) (kept_in zones are.each ref.zone).own
-    (record { slot = ref.slot; set = set }) (record { slot = ref.slot; set = other }) first second refl)
+    (record { slot = ref.slot; set = set })
+    (record { slot = ref.slot; set = other }) first second refl)
 
 pub spelled : (zones : List Zone) (ref : SetRef) (set : RecordSet) → AreZones zones
     → Names zones ref set → HasSpelling set

@@ -28,7 +28,8 @@ noted_more {X} wanted noted i x within there so_far =
 
 -- what a set says, at its place
 pub said_at : {X : Type 0} (of : Routing → Option X) (first : X) (sets : List RecordSet) (i : ℕ)
-    (set : RecordSet) (routing : Routing) (x : X) → slice_get sets i ≡ Some set → routing ≡ set.routing
+    (set : RecordSet) (routing : Routing) (x : X) → slice_get sets i ≡ Some set → routing
+    ≡ set.routing
     → x ≡ unwrap_or (of routing) first → slice_get (each of first sets) i ≡ Some x
 said_at of first sets i set routing x there same says =
     let f = λ (s : RecordSet). unwrap_or (of s.routing) first in

@@ -1,33 +1,43 @@
 -- What is selected of a group, and at the end of aliases.
-use Rattle.std.specs.Prelude.{◌≡◌, ◌<◌, ℕ, List, [], ◌∷◌, take, ⊤}
+use Rattle.std.specs.Prelude.{◌≡◌, ◌<◌, ℕ, List, [], ◌∷◌, Bool, length, take, slice_get, Option}
+use Rattle.std.specs.Prelude.{None, Some, ⊤}
 use Rattle.std.specs.List.{All}
 use Rattle.multivalue.specs.Answer.{picked}
+use Rattle.multivalue.specs.declared.choice.Picked.{Picked}
+use Rattle.record_set.specs.Reasons.{IsAlias}
 use Rattle.record_set.specs.declared.sets.RecordSet.{RecordSet}
+use Rattle.record_set.specs.declared.sets.SetKey.{SetKey}
 use Rattle.zone_list.specs.Zones.{Zone}
+use Rattle.zone_model.specs.Zones.{target_group}
 use Rattle.zone_table.specs.Looking.{IsGroupNow}
 use Rattle.zone_table.specs.declared.refs.Group.{Group}
 use Rattle.answer_model.specs.declared.used.Used.{Used}
-use Rattle.answer_model.specs.Descent.{Descended, sets_at}
+use Rattle.answer_model.specs.Clients.{Client}
+use Rattle.answer_model.specs.Descent.{Descended, Means, sets_at}
 use Rattle.policy_select.specs.declared.selection.Selected.{Selected}
 use Rattle.policy_select.specs.declared.selection.Selected.TheVariants.{Nothing, Sets}
-use Rattle.policy_select.specs.Groups.{sets_in}
+use Rattle.policy_select.specs.Groups.{sets_in, sets_in_zone}
 
 -- the sets at some places of a group, in the order of the choice; nothing where there are none
 abbrev pub selected_of : Group → (places : List ℕ) → Selected
 selected_of g [] = Nothing
 selected_of g (place ∷ places) = Sets g (picked (place ∷ places))
 
+-- the places that were chosen
+abbrev pub places_of : Picked → List ℕ
+places_of chosen = take chosen.count chosen.places
+
 -- which sets these are
 abbrev pub selected_sets : List Zone → Selected → List RecordSet
 selected_sets zones Nothing = []
-selected_sets zones (Sets g chosen) = sets_at (sets_in zones g) (take chosen.count chosen.places)
+selected_sets zones (Sets g chosen) = sets_at (sets_in zones g) (places_of chosen)
 
 -- Selected places are places of a group that is there, and there is one at least.
 abbrev pub AreOfGroup : List Zone → Selected → Type 0
 AreOfGroup zones Nothing = ⊤
 AreOfGroup zones (Sets g chosen) =
-    IsGroupNow zones g × (0 < chosen.count)
-    × All (λ place. place < g.length) (take chosen.count chosen.places)
+    IsGroupNow zones g × (0 < length (places_of chosen))
+    × All (λ place. place < g.length) (places_of chosen)
 
 -- What a descent gives: its sets, and its choices with what they used.
 pub record Gives (zones : List Zone) (descended : Descended) (selected : Selected) (made : ℕ)
@@ -35,3 +45,43 @@ pub record Gives (zones : List Zone) (descended : Descended) (selected : Selecte
   pub sets : selected_sets zones selected ≡ descended.sets
   pub count : made ≡ descended.choices.count
   pub uses : used ≡ descended.choices.used
+
+-- what the choices of a zone are made by
+abbrev pub means_of : (healthy : SetKey → Bool) → Client → (words : List ℕ) → Means
+means_of healthy client words = record { healthy = healthy; client = client; words = words }
+
+-- the group is one of this zone
+abbrev pub IsInZone : (zone : ℕ) → Selected → Type 0
+IsInZone zone Nothing = ⊤
+IsInZone zone (Sets g chosen) = g.zone ≡ zone
+
+-- The first selected set is an alias, and this is its target group.
+pub record IsTarget (zones : List Zone) (zone : ℕ) (selected : Selected) (target : Group)
+    : Type 0 where
+  pub set : RecordSet
+  pub first : slice_get (selected_sets zones selected) 0 ≡ Some set
+  pub alias : IsAlias set.body
+  pub group : IsGroupNow zones target
+  pub in_zone : target.zone ≡ zone
+  pub sets : sets_in zones target ≡ target_group (sets_in_zone zones zone) set
+
+-- where a selection leads: to the target group of its first set, or nowhere where that is no alias
+abbrev pub LeadsTo : List Zone → (zone : ℕ) → Selected → Option Group → Type 0
+LeadsTo zones zone selected None = (set : RecordSet)
+    → slice_get (selected_sets zones selected) 0 ≡ Some set → IsAlias set.body → ⊥
+LeadsTo zones zone selected (Some target) = IsTarget zones zone selected target
+
+-- The set at a place of a group is an alias, and this is its target group.
+pub record IsTargetOf (zones : List Zone) (g : Group) (place : ℕ) (target : Group) : Type 0 where
+  pub set : RecordSet
+  pub there : slice_get (sets_in zones g) place ≡ Some set
+  pub alias : IsAlias set.body
+  pub group : IsGroupNow zones target
+  pub in_zone : target.zone ≡ g.zone
+  pub sets : sets_in zones target ≡ target_group (sets_in_zone zones g.zone) set
+
+-- it; or it is no alias
+abbrev pub TargetOf : List Zone → Group → (place : ℕ) → Option Group → Type 0
+TargetOf zones g place None = (set : RecordSet)
+    × (slice_get (sets_in zones g) place ≡ Some set) × (IsAlias set.body → ⊥)
+TargetOf zones g place (Some target) = IsTargetOf zones g place target

@@ -4,6 +4,7 @@
 #![tactic(auto)]
 
 mod client;
+mod descent;
 mod group;
 mod leaves;
 mod lists;
@@ -12,5 +13,6 @@ mod selection;
 mod view;
 
 pub use answer_model::Used;
+pub use descent::descend;
 pub use selection::{Selected, select};
 pub use view::{AllHealthy, HealthView};

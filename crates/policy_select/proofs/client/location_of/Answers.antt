@@ -1,4 +1,5 @@
 use Rattle.policy_select.proofs.client.location_of.Goals as goal
 
 pub returns : goal.returns
-returns c = (c.locates_as_told.ensures.once _ _ _ _ c.locate.ensures.rows c.locate.ensures.located).0
+returns c =
+    (c.locates_as_told.ensures.once _ _ _ _ c.locate.ensures.rows c.locate.ensures.located).0

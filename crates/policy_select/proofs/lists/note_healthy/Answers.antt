@@ -18,6 +18,8 @@ returns-clause-noted g c =
     let behind = c.loop-i-test.false in
     let before = c.loop-i.auto.i-end in
     all_noted
-    (λ (p : Placed). g.V.HealthView.test c.args.view.now (record { zone = c.args.group.zone; slot = p.slot }))
+    (λ (p : Placed). g.V.HealthView.test c.args.view.now
+    (record { zone = c.args.group.zone; slot = p.slot }))
     (members_of c.args.zones.now.zones c.args.group) c.loop-i.healthy c.loop-i.i c.args.group.length
-    (omega (arith, behind, before)) (few_members c.args.zones.now.zones c.args.group) c.loop-i.invariant
+    (omega (arith, behind, before))
+    (few_members c.args.zones.now.zones c.args.group) c.loop-i.invariant

@@ -27,4 +27,5 @@ returns-clause-noted c =
     let before = c.loop-i.auto.i-end in
     all_noted (λ (s : RecordSet). unwrap_or (location_of s.routing) first)
     (sets_in c.args.zones.now.zones c.args.group) c.loop-i.locations c.loop-i.i c.args.group.length
-    (omega (arith, behind, before)) (few_sets c.args.zones.now.zones c.args.group) c.loop-i.invariant
+    (omega (arith, behind, before))
+    (few_sets c.args.zones.now.zones c.args.group) c.loop-i.invariant

@@ -5,4 +5,5 @@ use Rattle.policy_select.specs.Groups.{sets_in}
 use Rattle.policy_select.proofs.lists.note_regions.Given as goal
 
 abbrev pub invariant-loop-i : goal.invariant-loop-i
-invariant-loop-i l = take l.i l.regions ≡ take l.i (each region_of l.first (sets_in l.zones.zones l.group))
+invariant-loop-i l = take l.i l.regions
+    ≡ take l.i (each region_of l.first (sets_in l.zones.zones l.group))

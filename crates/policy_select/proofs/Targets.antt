@@ -1,0 +1,138 @@
+-- Where a chosen alias leads.
+use Rattle.std.proofs.Common.{◌≡◌, ◌<◌, ℕ, zero, suc, List, [], ◌∷◌, Option, Some, None}
+use Rattle.std.proofs.Common.{length}
+use Rattle.std.proofs.Common.{take, drop, get_or, refl, sym, ap, ◌∙◌, subst, arith}
+use Rattle.std.specs.Prelude.{slice_get, IfSome}
+use Rattle.std.specs.List.{cons_option, drop-map, take-map}
+use Rattle.std.specs.Option.{option_map, unwrap_or}
+use Rattle.multivalue.specs.declared.choice.Picked.{Picked}
+use Rattle.rdata_layout.specs.declared.types.RType.{RType}
+use Rattle.record_set.specs.Reasons.{IsAlias}
+use Rattle.record_set.specs.declared.sets.Body.{Body}
+use Rattle.record_set.specs.declared.sets.Body.TheVariants as body
+use Rattle.record_set.specs.declared.sets.RecordSet.{RecordSet}
+use Rattle.set_scratch.specs.Bodies.{alias_of}
+use Rattle.set_search.specs.Found.{IsGroupAt}
+use Rattle.zone_list.specs.Zones.{Zone, placed_in}
+use Rattle.zone_model.specs.Zones.{group, target_group_of}
+use Rattle.zone_sets.specs.Placed.{Placed}
+use Rattle.zone_table.specs.Looking.{IsGroup, IsGroupNow}
+use Rattle.zone_table.specs.declared.refs.Group.{Group}
+use Rattle.answer_model.specs.Descent.{sets_at}
+use Rattle.policy_select.specs.declared.selection.Selected.TheVariants.{Sets}
+use Rattle.policy_select.specs.Groups.{sets_in, sets_in_zone}
+use Rattle.policy_select.specs.Selecting.{AreOfGroup, IsInZone, IsTargetOf, LeadsTo}
+use Rattle.policy_select.specs.Selecting.{TargetOf, places_of, selected_sets}
+
+-- the sets of a group, from those of the zone
+pub of_zone : (zones : List Zone) (g : Group)
+    → sets_in zones g ≡ take g.length (drop g.start (sets_in_zone zones g.zone))
+of_zone zones g =
+    let f = λ (p : Placed). p.set in
+    let placed = placed_in zones g.zone in
+    sym (take-map f g.length (drop g.start placed)) ∙ ap (take g.length)
+    (sym (drop-map f g.start placed))
+
+-- a body with a target is an alias to it
+record HasTarget (b : Body) (name : List (List ℕ)) : Type 0 where
+  alias : IsAlias b
+  sets : (all : List RecordSet) (rtype : RType) → target_group_of all rtype b ≡ group all name rtype
+
+has_target : (b : Body) (name : List (List ℕ)) → option_map (λ told. told.0) (alias_of b)
+    ≡ Some name
+    → HasTarget b name
+has_target (body.Values ttl values) name e = absurd (grind (arith, e))
+has_target (body.Alias target evaluate) name e =
+    let same : target ≡ name = ap (λ (o : Option (List (List ℕ))). unwrap_or o name) e in
+    record {
+      alias = tt;
+      sets = λ all rtype. ap (λ (n : List (List ℕ)). group all n rtype) same;
+    }
+
+-- a group that was found is there, and has the sets of that name and type
+pub found_now : (zones : List Zone) (id : ℕ) (name : List (List ℕ)) (rtype : RType) (found : Group)
+    → IsGroup zones id name rtype found → IsGroupNow zones found
+found_now zones id name rtype found is = (
+  name,
+  rtype,
+  record {
+    zone = refl;
+    sets = subst
+        (λ (z : ℕ). IsGroupAt (sets_in_zone zones z) name rtype found.start found.length)
+        (sym is.zone) is.sets;
+  },
+)
+
+found_sets : (zones : List Zone) (id : ℕ) (name : List (List ℕ)) (rtype : RType) (found : Group)
+    → IsGroup zones id name rtype found → sets_in zones found
+    ≡ group (sets_in_zone zones id) name rtype
+found_sets zones id name rtype found is =
+    of_zone zones found
+    ∙ ap (λ (z : ℕ). take found.length (drop found.start (sets_in_zone zones z))) is.zone
+    ∙ is.sets.members
+
+pub target_is : (zones : List Zone) (g : Group) (place : ℕ) (held : Option RecordSet)
+    (set : RecordSet)
+    (told : Option (List (List ℕ))) (name : List (List ℕ)) (rtype : RType)
+    (found : Group)
+    → held ≡ Some set → held ≡ slice_get (sets_in zones g) place
+    → IfSome held (λ s. told ≡ option_map (λ t. t.0) (alias_of s.body)) → told ≡ Some name
+    → IfSome held (λ s. rtype ≡ s.rtype)
+    → IsGroup zones g.zone name rtype found → IsTargetOf zones g place found
+target_is zones g place held set told name rtype found is loaded tells so typed group_is =
+    let told_of : told ≡ option_map (λ t. t.0) (alias_of set.body) =
+    subst (λ (h : Option RecordSet). IfSome h (λ s. told ≡ option_map (λ t. t.0) (alias_of s.body)))
+    is tells in
+    let type_of : rtype ≡ set.rtype =
+    subst (λ (h : Option RecordSet). IfSome h (λ s. rtype ≡ s.rtype)) is typed in
+    let target = has_target set.body name (sym told_of ∙ so) in
+    record {
+      set = set;
+      there = sym loaded ∙ is;
+      alias = target.alias;
+      group = found_now zones g.zone name rtype found group_is;
+      in_zone = group_is.zone;
+      sets = found_sets zones g.zone name rtype found group_is
+          ∙ ap (λ (t : RType). group (sets_in_zone zones g.zone) name t) type_of
+          ∙ sym (target.sets (sets_in_zone zones g.zone) set.rtype);
+    }
+
+-- ---- the first of the chosen places
+
+head_of : (n : ℕ) (xs : List ℕ) → 0 < length (take n xs)
+    → (ys : List ℕ) × (take n xs ≡ get_or xs 0 0 ∷ ys)
+head_of zero xs some = absurd (omega (arith, some))
+head_of (suc n) [] some = absurd (omega (arith, some))
+head_of (suc n) (x ∷ xs) some = (take n xs, refl)
+
+first_at : (sets : List RecordSet) (place : ℕ) (places : List ℕ) (set : RecordSet)
+    → slice_get sets place ≡ Some set → slice_get (sets_at sets (place ∷ places)) 0 ≡ Some set
+first_at sets place places set e =
+    ap (λ (o : Option RecordSet). slice_get (cons_option o (sets_at sets places)) 0) e
+
+-- the set at the first place is the first selected one
+pub first_selected : (zones : List Zone) (g : Group) (chosen : Picked) (set : RecordSet)
+    → 0 < length (places_of chosen) → slice_get (sets_in zones g) (get_or chosen.places 0 0)
+    ≡ Some set
+    → slice_get (selected_sets zones (Sets g chosen)) 0 ≡ Some set
+first_selected zones g chosen set some there =
+    let head = head_of chosen.count chosen.places some in
+    ap (λ (places : List ℕ). slice_get (sets_at (sets_in zones g) places) 0) head.1
+    ∙ first_at (sets_in zones g) (get_or chosen.places 0 0) head.0 set there
+
+pub leads : (zones : List Zone) (zone : ℕ) (g : Group) (chosen : Picked) (result : Option Group)
+    → AreOfGroup zones (Sets g chosen) → IsInZone zone (Sets g chosen)
+    → TargetOf zones g (get_or chosen.places 0 0) result → LeadsTo zones zone (Sets g chosen) result
+leads zones zone g chosen None are in_zone target = λ set first alias.
+    let it = first_selected zones g chosen target.0 are.1 target.1 in
+    let same : target.0 ≡ set = let both = sym it ∙ first in cc in
+    target.2 (subst (λ (s : RecordSet). IsAlias s.body) (sym same) alias)
+leads zones zone g chosen (Some found) are in_zone target = record {
+  set = target.set;
+  first = first_selected zones g chosen target.set are.1 target.there;
+  alias = target.alias;
+  group = target.group;
+  in_zone = target.in_zone ∙ in_zone;
+  sets = target.sets ∙ ap
+      (λ (z : ℕ). target_group_of (sets_in_zone zones z) target.set.rtype target.set.body) in_zone;
+}

@@ -1,0 +1,6 @@
+use Rattle.answer_model.specs.Descent.{descend}
+use Rattle.policy_select.proofs.descent.descend.Goals as goal
+
+pub returns-clause-gives : goal.returns-clause-gives
+unfolding descend
+returns-clause-gives g c = c.descend_from.ensures.gives

@@ -1,0 +1,229 @@
+//! From a group to the sets that answer, through aliases.
+
+ghost use Rattle.std.specs.Prelude.{◌≡◌, ◌<◌, ◌≤◌, ◌+◌, ℕ, Bool, IfSome, length};
+ghost use Rattle.std.specs.Option.{option_map};
+ghost use Rattle.choice_model.specs.Choice.{chosen};
+ghost use Rattle.answer_model.specs.Clients.{client_at};
+ghost use Rattle.answer_model.specs.Descent.{descend as descended, descends, group_uses, word_of};
+ghost use Rattle.record_set.specs.declared.sets.SetKey.{SetKey};
+ghost use Rattle.set_scratch.specs.Bodies.{alias_of};
+ghost use Rattle.set_scratch.specs.Holding.{IsHolding};
+ghost use Rattle.zone_table.specs.Looking.{IsGroupNow};
+ghost use Rattle.policy_select.specs.Groups.{Agrees, FewInGroups, flags_in, sets_in};
+ghost use Rattle.policy_select.specs.Groups.{sets_in_zone};
+ghost use Rattle.policy_select.specs.Selecting.{AreOfGroup, Gives, IsInZone, LeadsTo, TargetOf};
+ghost use Rattle.policy_select.specs.Selecting.{means_of, selected_of};
+
+use crate::group::load_member;
+use crate::selection::{Selected, choose};
+use crate::view::HealthView;
+use address_text::IpAddress;
+use answer_model::Used;
+use choice_model::chosen_are_of_group;
+use cidr_routing::Collections;
+use dns_name::Name;
+use geo_latency::Tables;
+use zone_table::{Group, Scratch, Zones};
+
+/// The most choices from group to group.
+const MOST: u8 = 17;
+
+/// Chooses from a group, and where an alias is chosen from its target's group, and so on, 17 times
+/// at most.
+///
+/// Each choice is made by the next of the query's eight words, of which `choices` were used before.
+/// What it used is added to `used`.
+pub fn descend<V: HealthView>(
+    zones: &Zones,
+    collections: &Collections,
+    group: Group,
+    view: &V,
+    tables: &Tables,
+    client: IpAddress,
+    words: &[u64; 8],
+    choices: &mut u8,
+    used: &mut Used,
+    scratch: &mut Scratch,
+) -> Selected
+    requires group { IsGroupNow zones.now.zones group }
+    requires few { FewInGroups (sets_in_zone zones.now.zones group.zone) }
+    requires room { choices.old ≤ 238 }
+    ensures gives { (healthy : ℕ → SetKey → Bool)
+        → Agrees zones.now.zones (V.test view.now) healthy
+        → Gives zones.now.zones
+        (descended (means_of (healthy group.zone) (client_at tables.now collections.now.list client)
+        words.now) (sets_in_zone zones.now.zones group.zone) (sets_in zones.now.zones group)
+        (record { count = choices.old; used = used.old }))
+        result choices.new used.new }
+    ensures places { AreOfGroup zones.now.zones result }
+    ensures most { choices.new ≤ choices.old + 17 }
+{
+    descend_from(
+        MOST,
+        zones,
+        collections,
+        group,
+        view,
+        tables,
+        client,
+        words,
+        choices,
+        used,
+        scratch,
+    )
+}
+
+/// The same with so many choices at most.
+fn descend_from<V: HealthView>(
+    most: u8,
+    zones: &Zones,
+    collections: &Collections,
+    group: Group,
+    view: &V,
+    tables: &Tables,
+    client: IpAddress,
+    words: &[u64; 8],
+    choices: &mut u8,
+    used: &mut Used,
+    scratch: &mut Scratch,
+) -> Selected
+    requires group { IsGroupNow zones.now.zones group }
+    requires few { FewInGroups (sets_in_zone zones.now.zones group.zone) }
+    requires room { choices.old + most ≤ 255 }
+    ensures gives { (healthy : ℕ → SetKey → Bool)
+        → Agrees zones.now.zones (V.test view.now) healthy
+        → Gives zones.now.zones
+        (descends most (means_of (healthy group.zone)
+        (client_at tables.now collections.now.list client) words.now)
+        (sets_in_zone zones.now.zones group.zone) (sets_in zones.now.zones group)
+        (record { count = choices.old; used = used.old }))
+        result choices.new used.new }
+    ensures places { AreOfGroup zones.now.zones result }
+    ensures most { choices.new ≤ choices.old + most }
+{
+    if most == 0 {
+        return Selected::Nothing;
+    }
+    if group.length == 0 {
+        return Selected::Nothing;
+    }
+    let selected = choose_next(
+        zones,
+        collections,
+        group,
+        view,
+        tables,
+        client,
+        words,
+        choices,
+        used,
+        scratch,
+    );
+    match lead(zones, group.zone, &selected, scratch) {
+        None => selected,
+        Some(target) => descend_from(
+            most - 1,
+            zones,
+            collections,
+            target,
+            view,
+            tables,
+            client,
+            words,
+            choices,
+            used,
+            scratch,
+        ),
+    }
+}
+
+/// Makes one choice more.
+fn choose_next<V: HealthView>(
+    zones: &Zones,
+    collections: &Collections,
+    group: Group,
+    view: &V,
+    tables: &Tables,
+    client: IpAddress,
+    words: &[u64; 8],
+    choices: &mut u8,
+    used: &mut Used,
+    scratch: &mut Scratch,
+) -> Selected
+    requires group { IsGroupNow zones.now.zones group }
+    requires some { 0 < group.length }
+    requires few { FewInGroups (sets_in_zone zones.now.zones group.zone) }
+    requires room { choices.old < 255 }
+    ensures selected { result
+        ≡ selected_of group (chosen (sets_in zones.now.zones group)
+        (flags_in zones.now.zones (V.test view.now) group)
+        (client_at tables.now collections.now.list client).rows
+        (word_of words.now choices.old)) }
+    ensures choices { choices.new ≡ choices.old + 1 }
+    ensures used { used.new
+        ≡ group_uses (client_at tables.now collections.now.list client)
+        (sets_in zones.now.zones group) used.old }
+    ensures places { AreOfGroup zones.now.zones result }
+    ensures zone { IsInZone group.zone result }
+    ensures some { 0 < length (sets_in zones.now.zones group) }
+{
+    known_few(zones, group);
+    chosen_are_of_group();
+    let word = words[usize::from(*choices % 8)];
+    *choices += 1;
+    choose(
+        zones,
+        collections,
+        group,
+        view,
+        tables,
+        client,
+        word,
+        used,
+        scratch,
+    )
+}
+
+/// A group of a zone whose groups are few has few sets; it does nothing.
+fn known_few(zones: &Zones, group: Group)
+    requires group { IsGroupNow zones.now.zones group }
+    requires few { FewInGroups (sets_in_zone zones.now.zones group.zone) }
+    ensures few { group.length ≤ 100 }
+    ensures all { length (sets_in zones.now.zones group) ≡ group.length }
+{}
+
+/// The target group of the first selected set, where that is an alias.
+fn lead(zones: &Zones, zone: u32, selected: &Selected, scratch: &mut Scratch) -> Option<Group>
+    requires places { AreOfGroup zones.now.zones selected.now }
+    requires zone { IsInZone zone selected.now }
+    ensures { LeadsTo zones.now.zones zone selected.now result }
+{
+    let Selected::Sets(group, picked) = selected else {
+        return None;
+    };
+    target_of(zones, *group, picked.places[0], scratch)
+}
+
+/// The target group of the set at a place of a group, where that is an alias.
+fn target_of(zones: &Zones, group: Group, place: usize, scratch: &mut Scratch) -> Option<Group>
+    requires group { IsGroupNow zones.now.zones group }
+    requires within { place < group.length }
+    ensures { TargetOf zones.now.zones group place result }
+{
+    load_member(zones, group, place, scratch);
+    match target_name(scratch) {
+        None => None,
+        Some(target) => Some(zones.group(group.zone, &target, scratch.rtype())),
+    }
+}
+
+/// The name of the target of the set that is held, where it is an alias.
+fn target_name(scratch: &Scratch) -> Option<Name>
+    requires { IsHolding scratch.now }
+    ensures { IfSome scratch.now (λ set. result ≡ option_map (λ told. told.0) (alias_of set.body)) }
+{
+    match scratch.alias() {
+        None => None,
+        Some((target, _)) => Some(target),
+    }
+}
