@@ -6,17 +6,26 @@ use Rattle.std.specs.Prelude.{cond, slice_get, ◌==◌}
 use Rattle.std.specs.List.{AllByRecursion}
 use Rattle.std.specs.Option.{option_map}
 use Rattle.std.proofs.lemmas.Option.{slice_get-map}
+use Rattle.std.proofs.lemmas.Cmp.{tied_itself}
+use Rattle.std.specs.List.{find}
+use Rattle.std.specs.Ordering.{is_eq}
+use Rattle.std.specs.declared.cmp.Ordering.{Ordering}
+use Rattle.std.specs.declared.cmp.Ordering.TheVariants.{Less, Equal, Greater}
+use Rattle.record_set.specs.Sets.{key_of}
 use Rattle.record_set.specs.declared.sets.RecordSet.{RecordSet}
+use Rattle.record_set.specs.declared.sets.SetKey.{SetKey}
 use Rattle.set_octets.specs.Octets.{HasSpelling}
-use Rattle.zone_list.proofs.Members.{in_all}
+use Rattle.zone_list.proofs.Members.{in_all, one_of_key}
 use Rattle.zone_list.specs.Zones.{AreZones, CanStand, StandsAlone, Zone, placed_in}
 use Rattle.zone_list.specs.declared.refs.SetRef.{SetRef}
 use Rattle.zone_model.proofs.Among.{among_at}
-use Rattle.zone_model.specs.Zones.{IsAmong}
-use Rattle.zone_sets.specs.Placed.{HaveOwnSlots, Placed}
+use Rattle.zone_model.proofs.Ordered.{keys_tie, keys_total}
+use Rattle.zone_model.specs.Keys.{key_cmp}
+use Rattle.zone_model.specs.Zones.{IsAmong, IsRising}
+use Rattle.zone_sets.specs.Placed.{HaveOwnSlots, Placed, sets_of}
 use Rattle.zone_table.specs.Looking.{IsMember, Names}
 use Rattle.zone_table.specs.declared.refs.Group.{Group}
-use Rattle.policy_select.specs.Groups.{members_of, sets_in}
+use Rattle.policy_select.specs.Groups.{ViewsAgree, members_of, said_of, sets_in}
 
 module _ {X : Type 0} where
   got_of_take : (xs : List X) (n i : ℕ) → i < n → slice_get (take n xs) i ≡ slice_get xs i
@@ -51,17 +60,19 @@ one_slot (x
 -- the sets of each zone are in slots of their own, and have spellings
 record AreKept (placed : List Placed) : Type 0 where
   own : HaveOwnSlots placed
+  rising : IsRising (sets_of placed)
   spelled : (p : Placed) → IsAmong placed p → HasSpelling p.set
 
 kept_in : (zones : List Zone) → AllByRecursion StandsAlone zones → (id : ℕ)
     → AreKept (placed_in zones id)
-kept_in [] each id = record { own = tt; spelled = λ p there. absurd there }
+kept_in [] each id = record { own = tt; rising = tt; spelled = λ p there. absurd there }
 kept_in (zone ∷ zones) each id = by (kept_in zones each.1 id) (zone.id == id)
   where
     by : AreKept (placed_in zones id) → (b : Bool)
         → AreKept (cond b zone.placed (placed_in zones id))
     by rest true = record {
       own = each.0.sets.own;
+      rising = each.0.sets.rising;
       spelled = λ p there.
           (in_all (λ (q : Placed). CanStand zone.apex q.set) zone.placed p each.0.each there).spelled;
     }
@@ -106,3 +117,49 @@ pub spelled : (zones : List Zone) (ref : SetRef) (set : RecordSet) → AreZones 
     → Names zones ref set → HasSpelling set
 spelled zones ref set are names =
     (kept_in zones are.each ref.zone).spelled (record { slot = ref.slot; set = set }) names
+
+-- ---- a view as a test of keys
+
+module _ {X : Type 0} (test : X → Bool) where
+  -- where one passes, one that passes is found
+  record IsFound (xs : List X) : Type 0 where
+    one : X
+    is : find test xs ≡ Some one
+    there : IsAmong xs one
+    passes : test one ≡ true
+
+  found_first : (x : X) (xs : List X) (b : Bool) → test x ≡ b → (b ≡ false → IsFound xs)
+      → (y : X) × (cond b (Some x) (find test xs) ≡ Some y) × IsAmong (x ∷ xs) y × (test y ≡ true)
+  found_first x xs true e rest = (x, refl, inl refl, e)
+  found_first x xs false e rest = let r = rest refl in (r.one, r.is, inr r.there, r.passes)
+
+  found : (xs : List X) (x : X) → IsAmong xs x → test x ≡ true → IsFound xs
+  found [] x there passes = absurd there
+  found (y ∷ xs) x (inl e) passes =
+      let same : test y ≡ true = ap test e ∙ passes in
+      let r = found_first y xs (test y) refl (λ fails. absurd (grind (arith, same, fails))) in
+      record { one = r.0; is = r.1; there = r.2; passes = r.3 }
+  found (y ∷ xs) x (inr there) passes =
+      let r = found_first y xs (test y) refl (λ fails. found xs x there passes) in
+      record { one = r.0; is = r.1; there = r.2; passes = r.3 }
+
+is_tie : (o : Ordering) → is_eq o ≡ true → o ≡ Equal
+is_tie Less e = absurd (grind (arith, e))
+is_tie Equal e = refl
+is_tie Greater e = absurd (grind (arith, e))
+
+-- the set of a key is found by it
+by_its_key : (placed : List Placed) → IsRising (sets_of placed) → (p : Placed) → IsAmong placed p
+    → find (λ (q : Placed). is_eq (key_cmp (key_of q.set) (key_of p.set))) placed ≡ Some p
+by_its_key placed rising p there =
+    let test = λ (q : Placed). is_eq (key_cmp (key_of q.set) (key_of p.set)) in
+    let r = found test placed p there (ap is_eq (tied_itself keys_total (key_of p.set))) in
+    let same = keys_tie (key_of r.one.set) (key_of p.set)
+    (is_tie (key_cmp (key_of r.one.set) (key_of p.set)) r.passes) in
+    r.is ∙ ap Some (one_of_key placed rising r.one p r.there there same)
+
+pub views_agree : ViewsAgree
+views_agree zones view are set named names =
+    ap (said_of view set.zone)
+    (sym (by_its_key (placed_in zones set.zone) (kept_in zones are.each set.zone).rising
+    (record { slot = set.slot; set = named }) names))

@@ -1,11 +1,15 @@
 -- The sets of a group as they stand in a zone, and what a view says of them.
-use Rattle.std.specs.Prelude.{◌≡◌, ◌≤◌, ℕ, List, Bool, take, drop, map, length}
+use Rattle.std.specs.Prelude.{◌≡◌, ◌≤◌, ℕ, List, Bool, false, Option, None, Some, take, drop, map}
+use Rattle.std.specs.Prelude.{length}
+use Rattle.std.specs.List.{find}
+use Rattle.std.specs.Ordering.{is_eq}
 use Rattle.rdata_layout.specs.declared.types.RType.{RType}
 use Rattle.record_set.specs.declared.sets.RecordSet.{RecordSet}
 use Rattle.record_set.specs.declared.sets.SetKey.{SetKey}
 use Rattle.record_set.specs.Sets.{key_of}
-use Rattle.zone_list.specs.Zones.{Zone, placed_in}
+use Rattle.zone_list.specs.Zones.{AreZones, Zone, placed_in}
 use Rattle.zone_list.specs.declared.refs.SetRef.{SetRef}
+use Rattle.zone_model.specs.Keys.{key_cmp}
 use Rattle.zone_model.specs.Zones.{group}
 use Rattle.zone_sets.specs.Placed.{Placed, sets_of}
 use Rattle.zone_table.specs.Looking.{Names}
@@ -32,6 +36,22 @@ abbrev pub Agrees : List Zone → (view : SetRef → Bool) → (healthy : (zone 
     → Type 0
 Agrees zones view healthy = (set : SetRef) (named : RecordSet)
     → Names zones set named → view set ≡ healthy set.zone (key_of named)
+
+-- what a view says of the set that was found
+abbrev pub said_of : (view : SetRef → Bool) → (zone : ℕ) → Option Placed → Bool
+said_of view zone None = false
+said_of view zone (Some p) = view (record { zone = zone; slot = p.slot })
+
+-- the test of keys that a view gives: what it says of the set with the key
+abbrev pub by_key : List Zone → (view : SetRef → Bool) → (zone : ℕ) → SetKey → Bool
+by_key zones view zone key =
+    said_of view zone
+    (find (λ (p : Placed). is_eq (key_cmp (key_of p.set) key)) (placed_in zones zone))
+
+-- So there is a test with which it agrees.
+abbrev pub ViewsAgree : Type 0
+ViewsAgree = (zones : List Zone) (view : SetRef → Bool)
+    → AreZones zones → Agrees zones view (by_key zones view)
 
 -- A group has 100 sets at most (Route 53 quotas).
 abbrev pub FewInGroups : List RecordSet → Type 0

@@ -15,4 +15,4 @@ mod view;
 pub use answer_model::Used;
 pub use descent::descend;
 pub use selection::{Selected, select};
-pub use view::{AllHealthy, HealthView};
+pub use view::{AllHealthy, HealthView, views_agree};

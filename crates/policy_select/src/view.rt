@@ -2,6 +2,7 @@
 
 ghost use Rattle.std.specs.Prelude.{◌≡◌, Bool, true};
 ghost use Rattle.zone_list.specs.declared.refs.SetRef.{SetRef};
+ghost use Rattle.policy_select.specs.Groups.{ViewsAgree};
 
 use zone_table::SetRef;
 
@@ -30,3 +31,8 @@ impl HealthView for AllHealthy {
         true
     }
 }
+
+/// A view says of each set what some test of keys says of its key; it does nothing.
+pub fn views_agree()
+    ensures { ViewsAgree }
+{}
