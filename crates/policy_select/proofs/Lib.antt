@@ -1,3 +1,4 @@
+pub mod Choosing
 pub mod Descending
 pub mod Members
 pub mod Noted

@@ -13,7 +13,6 @@ use Rattle.std.specs.declared.cmp.Ordering.{Ordering}
 use Rattle.std.specs.declared.cmp.Ordering.TheVariants.{Less, Equal, Greater}
 use Rattle.record_set.specs.Sets.{key_of}
 use Rattle.record_set.specs.declared.sets.RecordSet.{RecordSet}
-use Rattle.record_set.specs.declared.sets.SetKey.{SetKey}
 use Rattle.set_octets.specs.Octets.{HasSpelling}
 use Rattle.zone_list.proofs.Members.{in_all, one_of_key}
 use Rattle.zone_list.specs.Zones.{AreZones, CanStand, StandsAlone, Zone, placed_in}

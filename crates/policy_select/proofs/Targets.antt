@@ -21,7 +21,7 @@ use Rattle.zone_table.specs.declared.refs.Group.{Group}
 use Rattle.answer_model.specs.Descent.{sets_at}
 use Rattle.policy_select.specs.declared.selection.Selected.TheVariants.{Sets}
 use Rattle.policy_select.specs.Groups.{sets_in, sets_in_zone}
-use Rattle.policy_select.specs.Selecting.{AreOfGroup, IsInZone, IsTargetOf, LeadsTo}
+use Rattle.policy_select.specs.Selecting.{HoldsFirst, IsTargetOf, LeadsTo}
 use Rattle.policy_select.specs.Selecting.{TargetOf, places_of, selected_sets}
 
 -- the sets of a group, from those of the zone
@@ -71,31 +71,33 @@ found_sets zones id name rtype found is =
     ∙ ap (λ (z : ℕ). take found.length (drop found.start (sets_in_zone zones z))) is.zone
     ∙ is.sets.members
 
-pub target_is : (zones : List Zone) (g : Group) (place : ℕ) (held : Option RecordSet)
-    (set : RecordSet)
-    (told : Option (List (List ℕ))) (name : List (List ℕ)) (rtype : RType)
+pub target_is : (zones : List Zone) (zone : ℕ) (set : RecordSet) (name : List (List ℕ))
     (found : Group)
-    → held ≡ Some set → held ≡ slice_get (sets_in zones g) place
-    → IfSome held (λ s. told ≡ option_map (λ t. t.0) (alias_of s.body)) → told ≡ Some name
-    → IfSome held (λ s. rtype ≡ s.rtype)
-    → IsGroup zones g.zone name rtype found → IsTargetOf zones g place found
-target_is zones g place held set told name rtype found is loaded tells so typed group_is =
-    let told_of : told ≡ option_map (λ t. t.0) (alias_of set.body) =
-    subst (λ (h : Option RecordSet). IfSome h (λ s. told ≡ option_map (λ t. t.0) (alias_of s.body)))
-    is tells in
-    let type_of : rtype ≡ set.rtype =
-    subst (λ (h : Option RecordSet). IfSome h (λ s. rtype ≡ s.rtype)) is typed in
-    let target = has_target set.body name (sym told_of ∙ so) in
+    → option_map (λ told. told.0) (alias_of set.body) ≡ Some name
+    → IsGroup zones zone name set.rtype found → IsTargetOf zones zone set found
+target_is zones zone set name found told group_is =
+    let target = has_target set.body name told in
     record {
-      set = set;
-      there = sym loaded ∙ is;
       alias = target.alias;
-      group = found_now zones g.zone name rtype found group_is;
+      group = found_now zones zone name set.rtype found group_is;
       in_zone = group_is.zone;
-      sets = found_sets zones g.zone name rtype found group_is
-          ∙ ap (λ (t : RType). group (sets_in_zone zones g.zone) name t) type_of
-          ∙ sym (target.sets (sets_in_zone zones g.zone) set.rtype);
+      sets = found_sets zones zone name set.rtype found group_is
+          ∙ sym (target.sets (sets_in_zone zones zone) set.rtype);
     }
+
+pub target_of_held : (zones : List Zone) (zone : ℕ) (held : Option RecordSet)
+    (told : Option (List (List ℕ))) (name : List (List ℕ)) (rtype : RType) (found : Group)
+    → IfSome held (λ set. told ≡ option_map (λ t. t.0) (alias_of set.body)) → told ≡ Some name
+    → IfSome held (λ set. rtype ≡ set.rtype) → IsGroup zones zone name rtype found
+    → IfSome held (λ set. IsTargetOf zones zone set found)
+target_of_held zones zone None told name rtype found tells is typed group_is = tt
+target_of_held zones zone (Some set) told name rtype found tells is typed group_is =
+    target_is zones zone set name found (sym tells ∙ is)
+    (subst (λ (t : RType). IsGroup zones zone name t found) typed group_is)
+
+pub no_target : (b : Body) → option_map (λ told. told.0) (alias_of b) ≡ None → IsAlias b → ⊥
+no_target (body.Values ttl values) told alias = alias
+no_target (body.Alias target evaluate) told alias = absurd (grind (arith, told))
 
 -- ---- the first of the chosen places
 
@@ -120,19 +122,24 @@ first_selected zones g chosen set some there =
     ap (λ (places : List ℕ). slice_get (sets_at (sets_in zones g) places) 0) head.1
     ∙ first_at (sets_in zones g) (get_or chosen.places 0 0) head.0 set there
 
-pub leads : (zones : List Zone) (zone : ℕ) (g : Group) (chosen : Picked) (result : Option Group)
-    → AreOfGroup zones (Sets g chosen) → IsInZone zone (Sets g chosen)
-    → TargetOf zones g (get_or chosen.places 0 0) result → LeadsTo zones zone (Sets g chosen) result
-leads zones zone g chosen None are in_zone target = λ set first alias.
-    let it = first_selected zones g chosen target.0 are.1 target.1 in
-    let same : target.0 ≡ set = let both = sym it ∙ first in cc in
-    target.2 (subst (λ (s : RecordSet). IsAlias s.body) (sym same) alias)
-leads zones zone g chosen (Some found) are in_zone target = record {
-  set = target.set;
-  first = first_selected zones g chosen target.set are.1 target.there;
-  alias = target.alias;
-  group = target.group;
-  in_zone = target.in_zone ∙ in_zone;
-  sets = target.sets ∙ ap
-      (λ (z : ℕ). target_group_of (sets_in_zone zones z) target.set.rtype target.set.body) in_zone;
-}
+pub leads : (zones : List Zone) (zone : ℕ) (g : Group) (chosen : Picked) (held : Option RecordSet)
+    (result : Option Group)
+    → HoldsFirst zones (Sets g chosen) held → IfSome held (λ set. TargetOf zones zone set result)
+    → LeadsTo zones zone (Sets g chosen) result
+leads zones zone g chosen held None holds target = λ set first alias.
+    let none = subst
+    (λ (h : Option RecordSet). IfSome h (λ s. TargetOf zones zone s None)) holds.1 target in
+    let same : holds.0 ≡ set = let both = sym holds.2 ∙ first in cc in
+    none (subst (λ (s : RecordSet). IsAlias s.body) (sym same) alias)
+leads zones zone g chosen held (Some found) holds target =
+    let is = subst
+    (λ (h : Option RecordSet). IfSome h
+    (λ s. TargetOf zones zone s (Some found))) holds.1 target in
+    record {
+      set = holds.0;
+      first = holds.2;
+      alias = is.alias;
+      group = is.group;
+      in_zone = is.in_zone;
+      sets = is.sets;
+    }

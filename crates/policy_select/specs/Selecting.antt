@@ -71,17 +71,21 @@ LeadsTo zones zone selected None = (set : RecordSet)
     → slice_get (selected_sets zones selected) 0 ≡ Some set → IsAlias set.body → ⊥
 LeadsTo zones zone selected (Some target) = IsTarget zones zone selected target
 
--- The set at a place of a group is an alias, and this is its target group.
-pub record IsTargetOf (zones : List Zone) (g : Group) (place : ℕ) (target : Group) : Type 0 where
-  pub set : RecordSet
-  pub there : slice_get (sets_in zones g) place ≡ Some set
+-- The set is an alias, and this is its target group in the zone.
+pub record IsTargetOf (zones : List Zone) (zone : ℕ) (set : RecordSet) (target : Group)
+    : Type 0 where
   pub alias : IsAlias set.body
   pub group : IsGroupNow zones target
-  pub in_zone : target.zone ≡ g.zone
-  pub sets : sets_in zones target ≡ target_group (sets_in_zone zones g.zone) set
+  pub in_zone : target.zone ≡ zone
+  pub sets : sets_in zones target ≡ target_group (sets_in_zone zones zone) set
 
 -- it; or it is no alias
-abbrev pub TargetOf : List Zone → Group → (place : ℕ) → Option Group → Type 0
-TargetOf zones g place None = (set : RecordSet)
-    × (slice_get (sets_in zones g) place ≡ Some set) × (IsAlias set.body → ⊥)
-TargetOf zones g place (Some target) = IsTargetOf zones g place target
+abbrev pub TargetOf : List Zone → (zone : ℕ) → RecordSet → Option Group → Type 0
+TargetOf zones zone set None = IsAlias set.body → ⊥
+TargetOf zones zone set (Some target) = IsTargetOf zones zone set target
+
+-- The first selected set is held, where there is one.
+abbrev pub HoldsFirst : List Zone → Selected → (held : Option RecordSet) → Type 0
+HoldsFirst zones Nothing held = ⊤
+HoldsFirst zones (Sets g chosen) held = (set : RecordSet) × (held ≡ Some set)
+    × (slice_get (selected_sets zones (Sets g chosen)) 0 ≡ Some set)

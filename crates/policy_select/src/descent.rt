@@ -6,15 +6,16 @@ ghost use Rattle.choice_model.specs.Choice.{chosen};
 ghost use Rattle.answer_model.specs.Clients.{client_at};
 ghost use Rattle.answer_model.specs.Descent.{descend as descended, descends, group_uses, word_of};
 ghost use Rattle.record_set.specs.declared.sets.SetKey.{SetKey};
+ghost use Rattle.routing.specs.declared.policies.Routing.TheVariants as policy;
 ghost use Rattle.set_scratch.specs.Bodies.{alias_of};
 ghost use Rattle.set_scratch.specs.Holding.{IsHolding};
 ghost use Rattle.zone_table.specs.Looking.{IsGroupNow};
 ghost use Rattle.policy_select.specs.Groups.{Agrees, FewInGroups, flags_in, sets_in};
 ghost use Rattle.policy_select.specs.Groups.{sets_in_zone};
-ghost use Rattle.policy_select.specs.Selecting.{AreOfGroup, Gives, IsInZone, LeadsTo, TargetOf};
-ghost use Rattle.policy_select.specs.Selecting.{means_of, selected_of};
+ghost use Rattle.policy_select.specs.Selecting.{AreOfGroup, Gives, HoldsFirst, IsInZone, LeadsTo};
+ghost use Rattle.policy_select.specs.Selecting.{TargetOf, means_of, selected_of};
 
-use crate::group::load_member;
+use crate::group::{load_member, routing_at};
 use crate::selection::{Selected, choose};
 use crate::view::HealthView;
 use address_text::IpAddress;
@@ -23,6 +24,7 @@ use choice_model::chosen_are_of_group;
 use cidr_routing::Collections;
 use dns_name::Name;
 use geo_latency::Tables;
+use routing::Routing;
 use zone_table::{Group, Scratch, Zones};
 
 /// The most choices from group to group.
@@ -32,7 +34,7 @@ const MOST: u8 = 17;
 /// at most.
 ///
 /// Each choice is made by the next of the query's eight words, of which `choices` were used before.
-/// What it used is added to `used`.
+/// What it used is added to `used`. The scratch holds the first selected set then, if any.
 pub fn descend<V: HealthView>(
     zones: &Zones,
     collections: &Collections,
@@ -56,6 +58,7 @@ pub fn descend<V: HealthView>(
         (record { count = choices.old; used = used.old }))
         result choices.new used.new }
     ensures places { AreOfGroup zones.now.zones result }
+    ensures held { HoldsFirst zones.now.zones result scratch.new }
     ensures most { choices.new ≤ choices.old + 17 }
 {
     descend_from(
@@ -99,6 +102,7 @@ fn descend_from<V: HealthView>(
         (record { count = choices.old; used = used.old }))
         result choices.new used.new }
     ensures places { AreOfGroup zones.now.zones result }
+    ensures held { HoldsFirst zones.now.zones result scratch.new }
     ensures most { choices.new ≤ choices.old + most }
 {
     if most == 0 {
@@ -137,7 +141,7 @@ fn descend_from<V: HealthView>(
     }
 }
 
-/// Makes one choice more.
+/// Makes one choice more. The scratch holds the first selected set then.
 fn choose_next<V: HealthView>(
     zones: &Zones,
     collections: &Collections,
@@ -166,12 +170,15 @@ fn choose_next<V: HealthView>(
     ensures places { AreOfGroup zones.now.zones result }
     ensures zone { IsInZone group.zone result }
     ensures some { 0 < length (sets_in zones.now.zones group) }
+    ensures held { HoldsFirst zones.now.zones result scratch.new }
 {
     known_few(zones, group);
     chosen_are_of_group();
     let word = words[usize::from(*choices % 8)];
     *choices += 1;
-    choose(
+    let routing = routing_at(zones, group, 0, scratch);
+    let selected = choose(
+        &routing,
         zones,
         collections,
         group,
@@ -181,7 +188,33 @@ fn choose_next<V: HealthView>(
         word,
         used,
         scratch,
-    )
+    );
+    hold_first(&routing, zones, &selected, scratch);
+    selected
+}
+
+/// Loads the first selected set, where it isn't held. Of a simple group it is.
+fn hold_first(routing: &Routing, zones: &Zones, selected: &Selected, scratch: &mut Scratch)
+    requires places { AreOfGroup zones.now.zones selected.now }
+    requires simple { routing.now ≡ policy.Simple
+        → HoldsFirst zones.now.zones selected.now scratch.old }
+    ensures { HoldsFirst zones.now.zones selected.now scratch.new }
+{
+    match routing {
+        Routing::Simple => {}
+        _ => load_first(zones, selected, scratch),
+    }
+}
+
+/// Loads the first selected set.
+fn load_first(zones: &Zones, selected: &Selected, scratch: &mut Scratch)
+    requires { AreOfGroup zones.now.zones selected.now }
+    ensures { HoldsFirst zones.now.zones selected.now scratch.new }
+{
+    let Selected::Sets(group, picked) = selected else {
+        return;
+    };
+    load_member(zones, *group, picked.places[0], scratch);
 }
 
 /// A group of a zone whose groups are few has few sets; it does nothing.
@@ -192,28 +225,25 @@ fn known_few(zones: &Zones, group: Group)
     ensures all { length (sets_in zones.now.zones group) ≡ group.length }
 {}
 
-/// The target group of the first selected set, where that is an alias.
-fn lead(zones: &Zones, zone: u32, selected: &Selected, scratch: &mut Scratch) -> Option<Group>
-    requires places { AreOfGroup zones.now.zones selected.now }
-    requires zone { IsInZone zone selected.now }
+/// The target group of the first selected set, which is held, where it is an alias.
+fn lead(zones: &Zones, zone: u32, selected: &Selected, scratch: &Scratch) -> Option<Group>
+    requires held { HoldsFirst zones.now.zones selected.now scratch.now }
     ensures { LeadsTo zones.now.zones zone selected.now result }
 {
-    let Selected::Sets(group, picked) = selected else {
-        return None;
-    };
-    target_of(zones, *group, picked.places[0], scratch)
+    match selected {
+        Selected::Nothing => None,
+        Selected::Sets(_, _) => target_of(zones, zone, scratch),
+    }
 }
 
-/// The target group of the set at a place of a group, where that is an alias.
-fn target_of(zones: &Zones, group: Group, place: usize, scratch: &mut Scratch) -> Option<Group>
-    requires group { IsGroupNow zones.now.zones group }
-    requires within { place < group.length }
-    ensures { TargetOf zones.now.zones group place result }
+/// The target group of the set that is held, where it is an alias.
+fn target_of(zones: &Zones, zone: u32, scratch: &Scratch) -> Option<Group>
+    requires held { IsHolding scratch.now }
+    ensures { IfSome scratch.now (λ set. TargetOf zones.now.zones zone set result) }
 {
-    load_member(zones, group, place, scratch);
     match target_name(scratch) {
         None => None,
-        Some(target) => Some(zones.group(group.zone, &target, scratch.rtype())),
+        Some(target) => Some(zones.group(zone, &target, scratch.rtype())),
     }
 }
 

@@ -30,6 +30,7 @@ pub(crate) fn routing_at(zones: &Zones, group: Group, i: usize, scratch: &mut Sc
     requires within { i < group.length }
     ensures routing { (set : RecordSet) × (slice_get (sets_in zones.now.zones group) i ≡ Some set)
         × (result ≡ set.routing) × HasSpelling set }
+    ensures held { scratch.new ≡ slice_get (sets_in zones.now.zones group) i }
 {
     load_member(zones, group, i, scratch);
     scratch.routing()

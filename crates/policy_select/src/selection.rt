@@ -1,10 +1,13 @@
 //! The choice from one group, by the policy of its first set.
 
-ghost use Rattle.std.specs.Prelude.{◌≡◌, ◌<◌, ◌≤◌, ◌∷◌, [], ℕ, List, option_to_list};
+ghost use Rattle.std.specs.Prelude.{◌≡◌, ◌<◌, ◌≤◌, ◌∷◌, [], ℕ, List, Some, option_to_list, slice_get};
 ghost use Rattle.choice_model.specs.Choice.{chosen};
 ghost use Rattle.answer_model.specs.Clients.{client_at};
 ghost use Rattle.answer_model.specs.Descent.{group_uses};
 ghost use Rattle.multivalue.specs.Answer.{picked};
+ghost use Rattle.record_set.specs.declared.sets.RecordSet.{RecordSet};
+ghost use Rattle.routing.specs.declared.policies.Routing.TheVariants as policy;
+ghost use Rattle.set_octets.specs.Octets.{HasSpelling};
 ghost use Rattle.zone_table.specs.Looking.{IsGroupNow};
 ghost use Rattle.policy_select.specs.Groups.{flags_in, sets_in};
 ghost use Rattle.policy_select.specs.Selecting.{selected_of};
@@ -59,7 +62,9 @@ pub fn select<V: HealthView>(
         latencies: false,
         blocks: 0,
     };
+    let routing = routing_at(zones, group, 0, scratch);
     choose(
+        &routing,
         zones,
         collections,
         group,
@@ -72,8 +77,11 @@ pub fn select<V: HealthView>(
     )
 }
 
-/// Chooses from a group, and notes what the choice used.
+/// Chooses from a group by the policy of its first set, and notes what the choice used.
+///
+/// The scratch is left as it is where that is simple.
 pub(crate) fn choose<V: HealthView>(
+    routing: &Routing,
     zones: &Zones,
     collections: &Collections,
     group: Group,
@@ -87,6 +95,9 @@ pub(crate) fn choose<V: HealthView>(
     requires group { IsGroupNow zones.now.zones group }
     requires some { 0 < group.length }
     requires few { group.length ≤ 100 }
+    requires first { (set : RecordSet)
+        × (slice_get (sets_in zones.now.zones group) 0 ≡ Some set)
+        × (routing.now ≡ set.routing) × HasSpelling set }
     ensures selected { result
         ≡ selected_of group (chosen (sets_in zones.now.zones group)
         (flags_in zones.now.zones (V.test view.now) group)
@@ -94,33 +105,34 @@ pub(crate) fn choose<V: HealthView>(
     ensures used { used.new
         ≡ group_uses (client_at tables.now collections.now.list client)
         (sets_in zones.now.zones group) used.old }
+    ensures simple { routing.now ≡ policy.Simple → scratch.new ≡ scratch.old }
 {
-    match routing_at(zones, group, 0, scratch) {
+    match routing {
         Routing::Simple => one(group, 0),
         Routing::Weighted(_, weight) => {
             one(
                 group,
-                choose_weighted(zones, group, view, weight, word, scratch),
+                choose_weighted(zones, group, view, *weight, word, scratch),
             )
         }
         Routing::Failover(_, role) => {
-            one(group, choose_failover(zones, group, view, role, scratch))
+            one(group, choose_failover(zones, group, view, *role, scratch))
         }
         Routing::Geolocation(_, place) => {
             used.places = true;
-            let set = choose_place(zones, group, view, &place, tables, client, scratch);
+            let set = choose_place(zones, group, view, place, tables, client, scratch);
             one_or_none(group, set)
         }
         Routing::Latency(_, region) => {
             used.latencies = true;
-            let set = choose_region(zones, group, view, &region, tables, client, scratch);
+            let set = choose_region(zones, group, view, region, tables, client, scratch);
             one(group, set)
         }
         Routing::Multivalue(_) => several(group, choose_several(zones, group, view, word)),
         Routing::Cidr(_, id, location) => {
-            let (block, scope) = block_of(collections, id, client);
+            let (block, scope) = block_of(collections, *id, client);
             used.blocks = used.blocks.max(scope);
-            let first = name_of(&location);
+            let first = name_of(location);
             one_or_none(
                 group,
                 choose_block(zones, group, view, &first, block, scratch),

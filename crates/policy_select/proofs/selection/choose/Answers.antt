@@ -1,0 +1,14 @@
+use Rattle.answer_model.specs.Clients.{client_at}
+use Rattle.policy_select.specs.Groups.{flags_in, sets_in}
+use Rattle.policy_select.proofs.Choosing.{of_weighted}
+use Rattle.policy_select.proofs.selection.choose.Goals as goal
+
+pub returns-in-Weighted-clause-selected : goal.returns-in-Weighted-clause-selected
+returns-in-Weighted-clause-selected g c =
+    let first = c.requires.first in
+    let client = client_at c.args.tables.now c.args.collections.now.list c.args.client in
+    of_weighted c.args.group (sets_in c.args.zones.now.zones c.args.group)
+    (flags_in c.args.zones.now.zones (g.V.HealthView.test c.args.view.now) c.args.group) client.rows
+    c.args.word first.0 c.args.routing.now c.in-Weighted.field-0 c.in-Weighted.weight
+    c.choose_weighted.result c.one-in-Weighted.result first.1 first.2 c.in-Weighted.is
+    c.choose_weighted.ensures c.one-in-Weighted.ensures
