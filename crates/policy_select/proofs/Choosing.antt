@@ -15,7 +15,7 @@ use Rattle.routing.specs.declared.policies.Routing.TheVariants as routing
 use Rattle.weighted.specs.Choice as weighted
 use Rattle.zone_list.specs.Zones.{Zone}
 use Rattle.zone_list.specs.declared.refs.SetRef.{SetRef}
-use Rattle.zone_sets.specs.Placed.{Placed}
+use Rattle.zone_model.specs.Placed.{Placed}
 use Rattle.zone_table.specs.Looking.{IsGroupNow}
 use Rattle.zone_table.specs.declared.refs.Group.{Group}
 use Rattle.policy_select.specs.declared.selection.Selected.{Selected}

@@ -15,7 +15,7 @@ use Rattle.record_set.specs.declared.sets.SetKey.{SetKey}
 use Rattle.zone_list.specs.Zones.{Zone, placed_in}
 use Rattle.zone_list.specs.declared.refs.SetRef.{SetRef}
 use Rattle.zone_model.specs.Zones.{IsAmong, target_group}
-use Rattle.zone_sets.specs.Placed.{Placed}
+use Rattle.zone_model.specs.Placed.{Placed}
 use Rattle.zone_table.specs.declared.refs.Group.{Group}
 use Rattle.answer_model.specs.declared.used.Used.{Used}
 use Rattle.answer_model.specs.Clients.{Client}

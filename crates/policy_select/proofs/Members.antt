@@ -21,7 +21,7 @@ use Rattle.zone_model.proofs.Among.{among_at}
 use Rattle.zone_model.proofs.Ordered.{keys_tie, keys_total}
 use Rattle.zone_model.specs.Keys.{key_cmp}
 use Rattle.zone_model.specs.Zones.{IsAmong, IsRising}
-use Rattle.zone_sets.specs.Placed.{HaveOwnSlots, Placed, sets_of}
+use Rattle.zone_model.specs.Placed.{HaveOwnSlots, Placed, sets_of}
 use Rattle.zone_table.specs.Looking.{IsMember, Names}
 use Rattle.zone_table.specs.declared.refs.Group.{Group}
 use Rattle.policy_select.specs.Groups.{ViewsAgree, members_of, said_of, sets_in}

@@ -10,8 +10,8 @@ use Rattle.choice_model.specs.Choice.{each}
 use Rattle.record_set.specs.declared.sets.RecordSet.{RecordSet}
 use Rattle.routing.specs.declared.policies.Routing.{Routing}
 use Rattle.zone_list.specs.Zones.{Zone, placed_in}
-use Rattle.zone_sets.proofs.Lists.{take_more}
-use Rattle.zone_sets.specs.Placed.{Placed}
+use Rattle.zone_model.proofs.Lists.{take_more}
+use Rattle.zone_model.specs.Placed.{Placed}
 use Rattle.zone_table.specs.declared.refs.Group.{Group}
 use Rattle.policy_select.specs.Groups.{members_of, sets_in}
 

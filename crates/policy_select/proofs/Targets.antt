@@ -15,7 +15,7 @@ use Rattle.set_scratch.specs.Bodies.{alias_of}
 use Rattle.set_search.specs.Found.{IsGroupAt}
 use Rattle.zone_list.specs.Zones.{Zone, placed_in}
 use Rattle.zone_model.specs.Zones.{group, target_group_of}
-use Rattle.zone_sets.specs.Placed.{Placed}
+use Rattle.zone_model.specs.Placed.{Placed}
 use Rattle.zone_table.specs.Looking.{IsGroup, IsGroupNow}
 use Rattle.zone_table.specs.declared.refs.Group.{Group}
 use Rattle.answer_model.specs.Descent.{sets_at}

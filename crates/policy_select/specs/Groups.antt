@@ -11,7 +11,7 @@ use Rattle.zone_list.specs.Zones.{AreZones, Zone, placed_in}
 use Rattle.zone_list.specs.declared.refs.SetRef.{SetRef}
 use Rattle.zone_model.specs.Keys.{key_cmp}
 use Rattle.zone_model.specs.Zones.{group}
-use Rattle.zone_sets.specs.Placed.{Placed, sets_of}
+use Rattle.zone_model.specs.Placed.{Placed, sets_of}
 use Rattle.zone_table.specs.Looking.{Names}
 use Rattle.zone_table.specs.declared.refs.Group.{Group}
 
