@@ -1,0 +1,2 @@
+pub mod Collections
+pub use Rattle.prefix_text.specs.Prefixes
