@@ -104,11 +104,78 @@ four_are_sound = record {
   few = omega arith;
   from = omega arith;
   to = omega arith;
-  ids = ((omega arith, omega arith), ((omega arith, omega arith), ((omega arith, omega arith), ((omega arith, omega arith), ((omega arith, omega arith), ((omega arith, omega arith), tt))))));
-  rising = ((omega arith, (omega arith, (omega arith, (omega arith, (omega arith, tt))))), ((omega arith, (omega arith, (omega arith, (omega arith, tt)))), ((omega arith, (omega arith, (omega arith, tt))), ((omega arith, (omega arith, tt)), ((omega arith, tt), (tt, tt))))));
-  children = (none_of_endpoint, (none_of_endpoint, (one 1 endpoint refl, (one 3 (over 1) refl, (one 4 (over 3) refl, (one 5 (over 4) refl, tt))))));
+  ids = (
+    (omega arith, omega arith),
+    (
+      (omega arith, omega arith),
+      (
+        (omega arith, omega arith),
+        (
+          (omega arith, omega arith),
+          (
+            (omega arith, omega arith),
+            (
+              (omega arith, omega arith),
+              tt,
+            ),
+          ),
+        ),
+      ),
+    ),
+  );
+  rising = (
+    (omega arith, (omega arith, (omega arith, (omega arith, (omega arith, tt))))),
+    (
+      (omega arith, (omega arith, (omega arith, (omega arith, tt)))),
+      (
+        (
+          omega arith,
+          (
+            omega arith,
+            (omega arith, tt),
+          ),
+        ),
+        ((omega arith, (omega arith, tt)), ((omega arith, tt), (tt, tt))),
+      ),
+    ),
+  );
+  children = (
+    none_of_endpoint,
+    (
+      none_of_endpoint,
+      (
+        one 1 endpoint refl,
+        (
+          one 3 (over 1) refl,
+          (one 4 (over 3) refl, (one 5 (over 4) refl, tt)),
+        ),
+      ),
+    ),
+  );
   shallow = shallow_of nested.list refl;
-  bounded = ((omega arith, omega arith), ((omega arith, omega arith), ((omega arith, omega arith), ((omega arith, omega arith), ((omega arith, omega arith), ((omega arith, omega arith), tt))))));
+  bounded = (
+    (omega arith, omega arith),
+    (
+      (omega arith, omega arith),
+      (
+        (
+          omega arith,
+          omega
+              arith,
+        ),
+        (
+          (omega arith, omega arith),
+          (
+            (omega arith, omega arith),
+            (
+              (omega arith, omega arith),
+              tt,
+            ),
+          ),
+        ),
+      ),
+    ),
+  );
 }
   where
     none_of_endpoint : AreChildren nested.list []

@@ -1,5 +1,5 @@
--- Health checks of a configuration, by their numbers (Route 53 API Reference, HealthCheckConfig), and
--- when they are sound.
+-- Health checks of a configuration, by their numbers (Route 53 API Reference, HealthCheckConfig),
+-- and when they are sound.
 use Rattle.std.specs.Prelude.{◌≡◌, ◌≢◌, ℕ, ◌<◌, ◌≤◌, List, [], ◌∷◌, length, Option, None, Some, Contains, nat_eq, ⊤}
 use Rattle.std.specs.List.{AllByRecursion}
 use Rattle.std.specs.Map.{lookup}

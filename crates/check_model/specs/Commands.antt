@@ -1,6 +1,6 @@
 -- What a command on health checks makes of them, or its first refusal (Route 53 API Reference,
--- CreateHealthCheck, UpdateHealthCheck and DeleteHealthCheck). That a record set names a check which
--- is deleted is looked at where the sets are.
+-- CreateHealthCheck, UpdateHealthCheck and DeleteHealthCheck). That a record set names a check
+-- which is deleted is looked at where the sets are.
 use Rattle.std.specs.Prelude.{ℕ, zero, suc, ◌+◌, ◌≤◌, Bool, true, false, not, ◌&&◌, ◌||◌, nat_le, nat_eq, if◌then◌else◌, List, [], ◌∷◌, ◌++◌, length, map, Option, None, Some, is_some, unwrap_or, Result, Ok, Err, ⊤}
 use Rattle.std.specs.List.{filter, list_any}
 use Rattle.check_model.specs.declared.checks.Check.{Check}

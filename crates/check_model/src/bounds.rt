@@ -15,8 +15,8 @@ const MAX_THRESHOLD: u16 = 256;
 /// The most children.
 const MAX_CHILDREN: usize = 255;
 
-/// Whether a check is within its bounds: an endpoint's threshold is 1 to 10, a calculated check's at
-/// most 256, and it has at most 255 children.
+/// Whether a check is within its bounds: an endpoint's threshold is 1 to 10, a calculated check's
+/// at most 256, and it has at most 255 children.
 pub fn is_check_bounded(check: &Check) -> bool
     ensures { IsTrue result ↔ IsBounded check.now }
 {
@@ -37,8 +37,8 @@ fn is_turning(threshold: u8) -> bool
     1 <= threshold && threshold <= MAX_FAILURES
 }
 
-/// Whether a command is within its bounds: a check that it makes is, and a threshold that it changes
-/// is at most 256.
+/// Whether a command is within its bounds: a check that it makes is, and a threshold that it
+/// changes is at most 256.
 pub fn is_bounded(command: &CheckCommand) -> bool
     ensures { IsTrue result ↔ IsBoundedCommand command.now }
 {

@@ -5,8 +5,8 @@
 pub enum CheckRefusal {
     /// A child is named twice.
     ChildRepeated,
-    /// A walk of five checks would stand: each calculated, and each but the first a child of the one
-    /// before.
+    /// A walk of five checks would stand: each calculated, and each but the first a child of the
+    /// one before.
     ChildTooDeep,
     /// A threshold or children are given for a check of an endpoint.
     WrongMember,

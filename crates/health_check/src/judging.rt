@@ -1,9 +1,11 @@
 //! The first refusal of a command.
 
-ghost use Rattle.std.specs.Prelude.{◌≡◌, ◌≤◌, ℕ, length, [], ◌∷◌, ◌&&◌, ◌||◌, not, is_some, Some, None};
+ghost use Rattle.std.specs.Prelude.{◌≡◌, ◌≤◌, ◌∷◌, ◌&&◌, ◌||◌, [], ℕ, length, is_some, not};
+ghost use Rattle.std.specs.Prelude.{None, Some};
 ghost use Rattle.check_model.specs.Checks.{IdsRise, IsSound, check_at};
-ghost use Rattle.check_model.specs.Commands.{Given, children_rules, create_refusal, delete_refusal, first_missing};
-ghost use Rattle.check_model.specs.Commands.{first_of, has_repeated, is_calculated, missing, of_there};
+ghost use Rattle.check_model.specs.Commands.{Given, children_rules, create_refusal};
+ghost use Rattle.check_model.specs.Commands.{delete_refusal, first_missing, first_of};
+ghost use Rattle.check_model.specs.Commands.{has_repeated, is_calculated, missing, of_there};
 ghost use Rattle.check_model.specs.Commands.{refusal_of, rule, update_refusal};
 ghost use Rattle.health_check.specs.Marks.{with_children};
 ghost use Rattle.check_model.specs.declared.refusals.CheckRefusal.TheVariants.{ChildRepeated};

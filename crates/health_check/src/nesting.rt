@@ -8,7 +8,8 @@ ghost use Rattle.std.specs.List.{list_any};
 ghost use Rattle.check_model.specs.Checks.{IdsRise, children_of};
 ghost use Rattle.check_model.specs.Commands.{is_calculated, is_too_deep, starts_walk, updated_at};
 ghost use Rattle.check_model.specs.declared.checks.Check.{Check};
-ghost use Rattle.health_check.specs.Marks.{children_given, is_calculated_in, marked, marks_of, with_children};
+ghost use Rattle.health_check.specs.Marks.{children_given, is_calculated_in, marked, marks_of};
+ghost use Rattle.health_check.specs.Marks.{with_children};
 
 use crate::children::children_of;
 use crate::finding::place_of;

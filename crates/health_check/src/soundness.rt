@@ -2,7 +2,8 @@
 
 ghost use Rattle.std.specs.Prelude.{◌≡◌, ◌+◌, ◌<◌, ◌≤◌, ◌↔◌, IsTrue, drop, length};
 ghost use Rattle.std.specs.List.{AllByRecursion};
-ghost use Rattle.check_model.specs.Checks.{AreChildren, Checks, IdsRise, IsBounded, IsSound, children_of};
+ghost use Rattle.check_model.specs.Checks.{AreChildren, Checks, IdsRise, IsBounded, IsSound};
+ghost use Rattle.check_model.specs.Checks.{children_of};
 
 use crate::children::{children_of, first_missing, has_repeated};
 use crate::nesting::is_too_deep_with;

@@ -99,10 +99,10 @@ impl CheckTable {
     /// The first refusal of a command, if there is one.
     ///
     /// A new check is refused by children that are repeated, aren't there, or are nested too deep,
-    /// then by the bound of 200 checks, then by the last number. Changes of a check are refused where
-    /// no check has the number, then by a threshold or children that are given for an endpoint, then
-    /// by the children as those of a new check, where some are given. The end of a check is refused
-    /// where no check has the number, then where a calculated check names it.
+    /// then by the bound of 200 checks, then by the last number. Changes of a check are refused
+    /// where no check has the number, then by a threshold or children that are given for an
+    /// endpoint, then by the children as those of a new check, where some are given. The end of a
+    /// check is refused where no check has the number, then where a calculated check names it.
     pub fn judge(&self, command: &CheckCommand) -> Result<(), CheckRefusal>
         ensures judged { result ≡ unless (refusal_of self.now.checks command.now) tt }
         ensures sound { IsSound self.now.checks }

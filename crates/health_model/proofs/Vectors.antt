@@ -27,7 +27,9 @@ one check = (1, check) ∷ []
 
 -- h1 with a threshold of 3: fail, fail, pass, fail, fail from the checkers 0 to 39
 abbrev broken : List Report
-broken = each_of 40 false (each_of 40 false (each_of 40 true (each_of 40 false (each_of 40 false []))))
+broken =
+    each_of 40 false (each_of 40 false (each_of 40 true
+    (each_of 40 false (each_of 40 false []))))
 
 all_pass : passing broken 1 3 ≡ 50
 unfolding numbers

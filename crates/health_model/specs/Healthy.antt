@@ -52,8 +52,8 @@ group_value healthy sets name rtype = list_any healthy (group sets name rtype)
 abbrev pub no_group : (name : List (List ℕ)) → RType → Bool
 no_group name rtype = false
 
--- The health of a set of a zone, by a recursion along evaluated aliases that goes so deep; below that
--- no target counts.
+-- The health of a set of a zone, by a recursion along evaluated aliases that goes so deep; below
+-- that no target counts.
 abbrev pub healthy_within : (depth : ℕ) → (check : ℕ → Bool) → List RecordSet → RecordSet → Bool
 healthy_within zero check sets set = set_value check no_group set
 healthy_within (suc depth) check sets set =

@@ -46,8 +46,8 @@ OnePass =
     → ((n : Node) → IsNode watched n → (InCone watched x n → ⊥) → Meets watched reports v n)
     → (n : Node) → IsNode watched n → Meets watched reports w n
 
--- No path of feeds has more than 38: four calculated checks over an endpoint's, a set, and 16 times a
--- group and an evaluated alias, and a group.
+-- No path of feeds has more than 38: four calculated checks over an endpoint's, a set, and 16 times
+-- a group and an evaluated alias, and a group.
 abbrev pub PathsEnd : Type 0
 PathsEnd =
     (watched : Watched) → IsSound watched → (x n : Node) → IsNode watched n

@@ -7,8 +7,8 @@ use Rattle.zone_model.specs.Walks.{HasNoTarget, IsTooDeep}
 use Rattle.zone_model.specs.Zones.{IsAmong}
 use Rattle.health_model.specs.Healthy.{Watched, sets_of}
 
--- Children, the checks of sets, and the targets of aliases are there; there is no walk of five checks,
--- and none of 17 aliases.
+-- Children, the checks of sets, and the targets of aliases are there; there is no walk of five
+-- checks, and none of 17 aliases.
 pub record IsSound (watched : Watched) : Type 0 where
   pub children : AllByRecursion (λ held. AreChildren watched.checks (children_of held.1))
       watched.checks

@@ -1,5 +1,5 @@
--- The status of a check, worked out from all reports (Route 53 Developer Guide, "How Amazon Route 53
--- determines whether a health check is healthy").
+-- The status of a check, worked out from all reports (Route 53 Developer Guide, "How Amazon Route
+-- 53 determines whether a health check is healthy").
 use Rattle.std.specs.Prelude.{ℕ, zero, suc, ◌<◌, Bool, true, false, ◌&&◌, nat_eq, if◌then◌else◌, List, [], ◌∷◌, length, Option, None, Some, option_map}
 use Rattle.std.specs.List.{AllByRecursion, filter}
 use Rattle.calculated_health.specs.Status.{calculated_status, endpoint_status, swapped_if}

@@ -1,8 +1,8 @@
 //! Laws over the definitions, each the contract of a function that does nothing.
 
 ghost use Rattle.health_model.specs.Laws.{HealthyAreListed, NewCheckHasNone, OneCheckChanges};
-ghost use Rattle.health_model.specs.Laws.{OneHealth, OneMoreReport, OneNode, OnePass, OnlyGroupsChange};
-ghost use Rattle.health_model.specs.Laws.{PathsEnd, RecursionMeets};
+ghost use Rattle.health_model.specs.Laws.{OneHealth, OneMoreReport, OneNode, OnePass};
+ghost use Rattle.health_model.specs.Laws.{OnlyGroupsChange, PathsEnd, RecursionMeets};
 
 /// Values of the nodes that meet each local equation are those of the recursion.
 pub fn one_health()

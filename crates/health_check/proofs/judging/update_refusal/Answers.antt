@@ -17,8 +17,8 @@ returns-in-Some-children c next given threshold children =
     ∙ ap (λ (l : List ℕ). first_of (children_rules list (with_children id l list) l))
     c.as_slice.ensures
     ∙ children_given next list c.requires.rising id given found.0 found.2
-    (wrong_is given found.0 (get_or list c.in-Some.place seen).1 c.args.threshold c.is_some.result c.is_wrong_member.result
-    c.args.children.now
+    (wrong_is given found.0 (get_or list c.in-Some.place seen).1 c.args.threshold
+    c.is_some.result c.is_wrong_member.result c.args.children.now
     (ap (λ (h : Held). h.1) (get_or_from_slice_get list c.in-Some.place (id, found.0) seen found.1))
     threshold children c.is_some.ensures
     (c.is_wrong_member.ensures) ∙ c.if-is_wrong_member.false) its
@@ -31,8 +31,8 @@ returns-in-None c next given threshold children =
     let found = c.in-Some.ensures in
     let seen = c.index-list-place.result in
     nothing_given next list c.requires.rising id given found.0 found.2
-    (wrong_is given found.0 (get_or list c.in-Some.place seen).1 c.args.threshold c.is_some.result c.is_wrong_member.result
-    c.args.children.now
+    (wrong_is given found.0 (get_or list c.in-Some.place seen).1 c.args.threshold
+    c.is_some.result c.is_wrong_member.result c.args.children.now
     (ap (λ (h : Held). h.1) (get_or_from_slice_get list c.in-Some.place (id, found.0) seen found.1))
     threshold children c.is_some.ensures
     (c.is_wrong_member.ensures) ∙ c.if-is_wrong_member.false)

@@ -7,5 +7,6 @@ use Rattle.health_check.proofs.soundness.have_children.Given as goal
 
 abbrev pub invariant-loop-held : goal.invariant-loop-held
 invariant-loop-held l =
-    AllByRecursion (λ (held : ℕ × Check). AreChildren l.list (children_of held.1)) (drop l.held-index l.list)
+    AllByRecursion (λ (held : ℕ × Check). AreChildren l.list (children_of held.1))
+    (drop l.held-index l.list)
     ↔ AllByRecursion (λ (held : ℕ × Check). AreChildren l.list (children_of held.1)) l.list

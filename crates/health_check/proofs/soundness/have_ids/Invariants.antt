@@ -6,5 +6,6 @@ use Rattle.health_check.proofs.soundness.have_ids.Given as goal
 
 abbrev pub invariant-loop-held : goal.invariant-loop-held
 invariant-loop-held l =
-    AllByRecursion (λ (held : ℕ × Check). (1 ≤ held.0) × (held.0 < l.next)) (drop l.held-index l.list)
+    AllByRecursion (λ (held : ℕ × Check). (1 ≤ held.0) × (held.0 < l.next))
+    (drop l.held-index l.list)
     ↔ AllByRecursion (λ (held : ℕ × Check). (1 ≤ held.0) × (held.0 < l.next)) l.list
