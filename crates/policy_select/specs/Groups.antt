@@ -12,6 +12,8 @@ use Rattle.zone_list.specs.declared.refs.SetRef.{SetRef}
 use Rattle.zone_model.specs.Keys.{key_cmp}
 use Rattle.zone_model.specs.Zones.{group}
 use Rattle.zone_model.specs.Placed.{Placed, sets_of}
+use Rattle.zone_model.specs.Zones.{IsAmong, group}
+use Rattle.zone_sets.specs.Placed.{Placed, sets_of}
 use Rattle.zone_table.specs.Looking.{Names}
 use Rattle.zone_table.specs.declared.refs.Group.{Group}
 
@@ -56,3 +58,9 @@ ViewsAgree = (zones : List Zone) (view : SetRef → Bool)
 -- A group has 100 sets at most (Route 53 quotas).
 abbrev pub FewInGroups : List RecordSet → Type 0
 FewInGroups sets = (name : List (List ℕ)) (rtype : RType) → length (group sets name rtype) ≤ 100
+
+-- So it is where the group of each set has.
+abbrev pub FewByEachSet : Type 0
+FewByEachSet = (sets : List RecordSet)
+    → ((set : RecordSet) → IsAmong sets set → length (group sets set.name set.rtype) ≤ 100)
+    → FewInGroups sets

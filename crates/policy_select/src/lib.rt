@@ -5,6 +5,7 @@
 
 mod client;
 mod descent;
+mod few;
 mod group;
 mod leaves;
 mod lists;
@@ -14,5 +15,6 @@ mod view;
 
 pub use answer_model::Used;
 pub use descent::descend;
+pub use few::{few_by_each_set, groups_are_few};
 pub use selection::{Selected, select};
 pub use view::{AllHealthy, HealthView, views_agree};
