@@ -3,7 +3,7 @@
 ghost use Rattle.std.specs.Prelude.{◌≡◌, ◌<◌, ◌≤◌, not, ◌&&◌, ◌==◌};
 ghost use Rattle.zone_list.specs.Zones.{IsZoneId, placed_in};
 ghost use Rattle.zone_list.specs.declared.refs.SetRef.{SetRef};
-ghost use Rattle.zone_sets.specs.Placed.{sets_of};
+ghost use Rattle.zone_model.specs.Placed.{sets_of};
 ghost use Rattle.zone_table.specs.Edits.{IsAllowed};
 ghost use Rattle.zone_table.specs.Looking.{IsGroupNow};
 ghost use Rattle.policy_select.specs.Groups.{FewInGroups, sets_in_zone};

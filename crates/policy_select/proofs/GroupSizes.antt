@@ -10,7 +10,7 @@ use Rattle.rdata_layout.specs.Types.{number_of}
 use Rattle.rdata_layout.specs.declared.types.RType.{RType}
 use Rattle.record_set.specs.declared.sets.RecordSet.{RecordSet}
 use Rattle.zone_model.proofs.Among.{place_of}
-use Rattle.zone_sets.proofs.Lists.{take_more}
+use Rattle.zone_model.proofs.Lists.{take_more}
 use Rattle.std.proofs.lemmas.Bool.{cases_lt}
 use Rattle.std.proofs.lemmas.Option.{slice_get_within}
 use Rattle.std.proofs.lemmas.List.{length-append}

@@ -10,10 +10,8 @@ use Rattle.record_set.specs.Sets.{key_of}
 use Rattle.zone_list.specs.Zones.{AreZones, Zone, placed_in}
 use Rattle.zone_list.specs.declared.refs.SetRef.{SetRef}
 use Rattle.zone_model.specs.Keys.{key_cmp}
-use Rattle.zone_model.specs.Zones.{group}
 use Rattle.zone_model.specs.Placed.{Placed, sets_of}
 use Rattle.zone_model.specs.Zones.{IsAmong, group}
-use Rattle.zone_sets.specs.Placed.{Placed, sets_of}
 use Rattle.zone_table.specs.Looking.{Names}
 use Rattle.zone_table.specs.declared.refs.Group.{Group}
 
