@@ -170,6 +170,22 @@ rising_in zones are zone (x, there, its_id) =
     subst (λ (ps : List Placed). IsRising (sets_of ps)) (sym (its_placed zones are.listed x there)
     ∙ ap (placed_in zones) its_id) alone.sets.rising
 
+-- a zone has the number, or none
+listed_or_not : (zones : List Zone) (id : ℕ)
+    → (IsZoneId zones id → ⊥) ⊎ ((name : List (List ℕ)) × IsApex zones id name)
+listed_or_not [] id = inl (λ is. is.1)
+listed_or_not (zone ∷ zones) id = elim (cases_eq zone.id id) [
+  | inl e ↦ inr (zone.apex, (zone, inl refl, e, refl))
+  | inr ne ↦ elim (listed_or_not zones id) [
+    | inl none ↦ inl (λ is. by is.0 is.1 is.2 ne none)
+    | inr has ↦ inr (has.0, (has.1.0, inr has.1.1, has.1.2, has.1.3))
+  ]
+]
+  where
+    by : (x : Zone) → IsOne (zone ∷ zones) x → x.id ≡ id → zone.id ≢ id → (IsZoneId zones id → ⊥) → ⊥
+    by x (inl e) same ne none = ne (ap (λ (z : Zone). z.id) e ∙ same)
+    by x (inr there) same ne none = none (x, there, same)
+
 module _ (before one other : List Zone) (told other_told : Delta) where
   both_leave : (made : ZoneEdit) → IsAllowed before made → Makes made before one told
       → Makes made before other other_told → Leave one other (zone_of made)
@@ -195,6 +211,17 @@ module _ (before one other : List Zone) (told other_told : Delta) where
               told.removed told.added other_told.removed other_told.added m.1 n.1,
         ),
       )
+  both_leave (edit.Collections now) allowed m n = elim (listed_or_not before 0) [
+    | inl none ↦ inl (λ is. none (subst (λ zs. IsZoneId zs 0) m.0 is), λ is. none (subst (λ zs. IsZoneId zs 0) n.0 is))
+    | inr has ↦ inr (
+      has.0,
+      (
+        subst (λ zs. IsApex zs 0 has.0) (sym m.0) has.1,
+        subst (λ zs. IsApex zs 0 has.0) (sym n.0) has.1,
+        ap (λ zs. sets_of (placed_in zs 0)) (m.0 ∙ sym n.0),
+      ),
+    )
+  ]
 
   both_tell : (made : ZoneEdit) → AreZones before → IsAllowed before made
       → Makes made before one told → Makes made before other other_told
@@ -206,6 +233,7 @@ module _ (before one other : List Zone) (told other_told : Delta) where
         other_told.removed other_told.added m.1 n.1,
   )
   both_tell (edit.Close zone) are allowed m n = (m.1 ∙ sym n.1, ap length (m.2 ∙ sym n.2))
+  both_tell (edit.Collections now) are allowed m n = (m.1 ∙ sym n.1, ap length (m.2 ∙ sym n.2))
   both_tell (edit.Change zone remove add) are allowed m n = (
     same_removed zone (placed_in before zone) (placed_in one zone) (placed_in other zone) remove add
         told.removed told.added other_told.removed other_told.added m.1 n.1

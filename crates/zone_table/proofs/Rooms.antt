@@ -6,6 +6,7 @@ use Rattle.std.specs.declared.alloc.Global.{Global}
 use Rattle.std.proofs.lemmas.Bool.{cases_eq}
 use Rattle.record_set.specs.declared.sets.RecordSet.{RecordSet}
 use Rattle.set_octets.specs.Octets.{HasSpelling, set_octets}
+use Rattle.cidr_commands.specs.Stored.{Stored}
 use Rattle.set_store.specs.Stored.{Kept, Store}
 use Rattle.zone_model.proofs.Among.{among_at}
 use Rattle.zone_order.specs.Orders.{IsOrderBy, placed_by, set_in}
@@ -248,13 +249,14 @@ module _ {X E : Type 0} where
   on_ok_so (Ok x) p f = f p
   on_ok_so (Err e) p f = tt
 
-abbrev pub table_of : Store → Vec Listed Global → ℕ → Table
-table_of store list edits = record {
+abbrev pub table_of : Store → Vec Listed Global → Stored → ℕ → Table
+table_of store list collections edits = record {
   zones = zones_in store.slots list.items;
   rooms = map (λ (k : Listed). k.room) list.items;
   spare = vec_capacity list - length list.items;
   free = store.free;
   cells = store.cells;
+  collections = collections;
   edits = edits;
 }
 
@@ -265,6 +267,7 @@ spelled_of zones (edit.Open zone name sets) allowed = by sets allowed.2.each
     by [] all = tt
     by (set ∷ add) all = (all.0.spelled, by add all.1)
 spelled_of zones (edit.Close zone) allowed = tt
+spelled_of zones (edit.Collections now) allowed = tt
 spelled_of zones (edit.Change zone remove add) ((x, there, its), can) =
     by x.apex add (can x.apex (x, there, its, refl)).added.each
   where
@@ -278,10 +281,10 @@ bounded : (add : List RecordSet) (n m : ℕ) → n ≤ m → AllByRecursion (λ 
 bounded [] n m le all = tt
 bounded (set ∷ add) n m le all = ((let h = all.0 in omega (arith, h, le)), bounded add n m le all.1)
 
-module _ (store : Store) (list : Vec Listed Global) (edits : ℕ) (need : Need) (ready : Prepared)
+module _ (store : Store) (list : Vec Listed Global) (collections : Stored) (edits : ℕ) (need : Need) (ready : Prepared)
     (slots_are : need.addable ≤ store.free) (cells_are : need.cells ≤ store.cells) where
   room_to_add : (made : ZoneEdit) → IsPrepared made edits need ready → (add : List RecordSet) → Adds add need
-      → HasRoomFor (table_of store list edits) ready add
+      → HasRoomFor (table_of store list collections edits) ready add
   room_to_add made prepared add adds = record {
     addable = (let a = prepared.addable in let n = adds.addable in omega (arith, a, n));
     slots = (let n = adds.addable in omega (arith, slots_are, n));
@@ -290,7 +293,7 @@ module _ (store : Store) (list : Vec Listed Global) (edits : ℕ) (need : Need) 
   }
 
   has_room : (made : ZoneEdit) → IsPrepared made edits need ready → Counts list.items made need
-      → IsRoomFor list made → HasRoom (table_of store list edits) ready made
+      → IsRoomFor list made → HasRoom (table_of store list collections edits) ready made
   has_room (edit.Open zone name sets) prepared counts room = (
     omega (arith, room),
     (let p = prepared.places in let n = counts.0 in omega (arith, p, n)),
@@ -298,13 +301,14 @@ module _ (store : Store) (list : Vec Listed Global) (edits : ℕ) (need : Need) 
   )
   has_room (edit.Close zone) prepared counts room =
       let r = prepared.removable in let n = counts store.slots in omega (arith, r, n)
+  has_room (edit.Collections now) prepared counts room = tt
   has_room (edit.Change zone remove add) prepared counts room = (
     (let r = prepared.removable in let n = counts.0 in omega (arith, r, n)),
     take,
     room_to_add (edit.Change zone remove add) prepared add counts.1,
   )
     where
-      take : HasRoomIn (table_of store list edits) zone (length add)
+      take : HasRoomIn (table_of store list collections edits) zone (length add)
       take i its its_room at at_room e =
           let k = of_map_at (λ (x : Listed). x.room) list.items i its_room at_room in
           let j = of_map_at (zone_in store.slots) list.items i its at in
@@ -316,11 +320,11 @@ module _ (store : Store) (list : Vec Listed Global) (edits : ℕ) (need : Need) 
 
   pub is_ready : (made : ZoneEdit) → IsPrepared made edits need ready → Counts list.items made need
       → IsRoomFor list made → IsAllowed (zones_in store.slots list.items) made
-      → IsReady (table_of store list edits) ready
+      → IsReady (table_of store list collections edits) ready
   is_ready made prepared counts room allowed = record {
     edits = prepared.edits_before;
     allowed = subst (λ m. IsAllowed (zones_in store.slots list.items) m) (sym prepared.made_it) allowed;
-    room = subst (λ m. HasRoom (table_of store list edits) ready m) (sym prepared.made_it)
+    room = subst (λ m. HasRoom (table_of store list collections edits) ready m) (sym prepared.made_it)
         (has_room made prepared counts room);
   }
 
@@ -331,13 +335,14 @@ counts_still list now same (edit.Open zone name sets) need counts = counts
 counts_still list now same (edit.Close zone) need counts = λ slots.
     counts slots ∙ ap (λ zs. length (placed_in zs zone)) (sym (rows_zones slots list now same))
 counts_still list now same (edit.Change zone remove add) need counts = counts
+counts_still list now same (edit.Collections given) need counts = counts
 
-module _ (store store_now : Store) (list now : Vec Listed Global) (edits : ℕ)
+module _ (store store_now : Store) (list now : Vec Listed Global) (collections : Stored) (edits : ℕ)
     (same : zones_in store_now.slots now.items ≡ zones_in store.slots list.items)
     (free : store.free ≤ store_now.free) (cells : store.cells ≤ store_now.cells)
     (keeps : KeepsRoom list now) (rows : same_rows list.items now.items) where
-  still_room : (ready : Prepared) (add : List RecordSet) → HasRoomFor (table_of store list edits) ready add
-      → HasRoomFor (table_of store_now now edits) ready add
+  still_room : (ready : Prepared) (add : List RecordSet) → HasRoomFor (table_of store list collections edits) ready add
+      → HasRoomFor (table_of store_now now collections edits) ready add
   still_room ready add room = record {
     addable = room.addable;
     slots = (let n = room.slots in omega (arith, n, free));
@@ -354,15 +359,15 @@ module _ (store store_now : Store) (list now : Vec Listed Global) (edits : ℕ)
       let j = of_map_at row list.items i (row k) r in
       (j.0, j.1, ap (λ (x : Row). x.id) j.2)
 
-  pub stay_ready : StayReady (table_of store list edits) (table_of store_now now edits)
+  pub stay_ready : StayReady (table_of store list collections edits) (table_of store_now now collections edits)
   stay_ready ready is = record {
     edits = is.edits;
     allowed = subst (λ zs. IsAllowed zs ready.made) (sym same) is.allowed;
     room = by ready.made is.room;
   }
     where
-      by : (m : ZoneEdit) → HasRoom (table_of store list edits) ready m
-          → HasRoom (table_of store_now now edits) ready m
+      by : (m : ZoneEdit) → HasRoom (table_of store list collections edits) ready m
+          → HasRoom (table_of store_now now collections edits) ready m
       by (edit.Open zone name sets) room = (
         (let some = room.0 in let spare = keeps.spare in omega (arith, some, spare)),
         room.1,
@@ -370,9 +375,10 @@ module _ (store store_now : Store) (list now : Vec Listed Global) (edits : ℕ)
       )
       by (edit.Close zone) room =
           subst (λ zs. length (placed_in zs zone) ≤ ready.removable) (sym same) room
+      by (edit.Collections given) room = tt
       by (edit.Change zone remove add) room = (room.0, enough, still_room ready add room.2)
         where
-          enough : HasRoomIn (table_of store_now now edits) zone (length add)
+          enough : HasRoomIn (table_of store_now now collections edits) zone (length add)
           enough i its its_room at at_room e =
               let k = of_map_at (λ (x : Listed). x.room) now.items i its_room at_room in
               let z = of_map_at (zone_in store_now.slots) now.items i its at in
@@ -387,11 +393,12 @@ module _ (store store_now : Store) (list now : Vec Listed Global) (edits : ℕ)
               omega (arith, had, more, its_is)
 
 -- what is ready wants no memory of the store and of the zones
-pub ready_for : (store : Store) (list : Vec Listed Global) (edits : ℕ) (ready : Prepared)
-    → IsReady (table_of store list edits) ready → IsReadyFor store list ready
-ready_for store list edits ready is = record { allowed = is.allowed; room = by ready.made is.room }
+pub ready_for : (store : Store) (list : Vec Listed Global) (collections : Stored) (edits : ℕ)
+    (ready : Prepared)
+    → IsReady (table_of store list collections edits) ready → IsReadyFor store list ready
+ready_for store list collections edits ready is = record { allowed = is.allowed; room = by ready.made is.room }
   where
-    to_add : (add : List RecordSet) → HasRoomFor (table_of store list edits) ready add
+    to_add : (add : List RecordSet) → HasRoomFor (table_of store list collections edits) ready add
         → HasRoomToAdd store ready add
     to_add add room = record {
       addable = room.addable;
@@ -400,10 +407,11 @@ ready_for store list edits ready is = record { allowed = is.allowed; room = by r
       buffer = room.buffer;
     }
 
-    by : (m : ZoneEdit) → HasRoom (table_of store list edits) ready m → NeedsNone store list ready m
+    by : (m : ZoneEdit) → HasRoom (table_of store list collections edits) ready m → NeedsNone store list ready m
     by (edit.Open zone name sets) room =
         ((let some = room.0 in omega (arith, some)), room.1, to_add sets room.2)
     by (edit.Close zone) room = room
+    by (edit.Collections given) room = tt
     by (edit.Change zone remove add) room = (room.0, take, to_add add room.2)
       where
         take : CanTake list.items zone (length add)

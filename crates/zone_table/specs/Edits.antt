@@ -1,8 +1,9 @@
 -- Edits of a table of zones.
-use Rattle.std.specs.Prelude.{◌≡◌, ◌≢◌, ◌≤◌, ◌<◌, ◌↔◌, ℕ, List, [], length, map, slice_get, Some}
+use Rattle.std.specs.Prelude.{◌≡◌, ◌≢◌, ◌≤◌, ◌<◌, ◌↔◌, ℕ, List, [], length, map, slice_get, Some, ⊤}
 use Rattle.std.specs.List.{AllByRecursion}
 use Rattle.record_set.specs.declared.sets.RecordSet.{RecordSet}
 use Rattle.set_octets.specs.Octets.{set_octets}
+use Rattle.cidr_commands.specs.Stored.{Stored}
 use Rattle.zone_list.specs.Steps.{cells_in_all}
 use Rattle.zone_list.specs.Changes.{CanBeAdded, CanChange, Changes, ref_in}
 use Rattle.zone_list.specs.Zones.{Zone, IsOne, IsZoneId, HasName, placed_in}
@@ -17,6 +18,8 @@ abbrev pub zone_of : ZoneEdit → ℕ
 zone_of (edit.Open zone name sets) = zone
 zone_of (edit.Close zone) = zone
 zone_of (edit.Change zone remove add) = zone
+-- of none, which has number 0
+zone_of (edit.Collections now) = 0
 
 -- ---- which edits are allowed
 
@@ -28,6 +31,7 @@ IsAllowed zones (edit.Open zone name sets) =
 IsAllowed zones (edit.Close zone) = IsZoneId zones zone
 IsAllowed zones (edit.Change zone remove add) =
     IsZoneId zones zone × ((apex : List (List ℕ)) → IsApex zones zone apex → CanChange apex (placed_in zones zone) remove add)
+IsAllowed zones (edit.Collections now) = ⊤
 
 -- ---- what an edit makes
 
@@ -41,6 +45,15 @@ Makes (edit.Close zone) before after delta =
 Makes (edit.Change zone remove add) before after delta =
     ((apex : List (List ℕ)) → IsApex before zone apex → IsApex after zone apex)
     × Changes zone (placed_in before zone) remove add delta.removed delta.added (placed_in after zone)
+-- no zone changes
+Makes (edit.Collections now) before after delta = (after ≡ before) × (delta.removed ≡ []) × (delta.added ≡ [])
+
+-- the collections after an edit
+abbrev pub collections_after : ZoneEdit → (before : Stored) → Stored
+collections_after (edit.Open zone name sets) before = before
+collections_after (edit.Close zone) before = before
+collections_after (edit.Change zone remove add) before = before
+collections_after (edit.Collections now) before = now
 
 -- An edit changes one zone, and no other.
 pub record Edits (before : List Zone) (made : ZoneEdit) (after : List Zone) (delta : Delta) : Type 0 where
@@ -79,6 +92,7 @@ HasRoom table ready (edit.Open zone name sets) =
 HasRoom table ready (edit.Close zone) = length (placed_in table.zones zone) ≤ ready.removable
 HasRoom table ready (edit.Change zone remove add) =
     (length remove ≤ ready.removable) × HasRoomIn table zone (length add) × HasRoomFor table ready add
+HasRoom table ready (edit.Collections now) = ⊤
 
 -- An edit that is ready: nothing was edited since it was prepared, it is allowed, and nothing of it wants memory.
 pub record IsReady (table : Table) (ready : Prepared) : Type 0 where

@@ -31,6 +31,7 @@ abbrev pub AreSpelled : ZoneEdit → Type 0
 AreSpelled (edit.Open zone name sets) = AllByRecursion HasSpelling sets
 AreSpelled (edit.Close zone) = ⊤
 AreSpelled (edit.Change zone remove add) = AllByRecursion HasSpelling add
+AreSpelled (edit.Collections now) = ⊤
 
 -- What it takes to put these sets.
 pub record Adds (add : List RecordSet) (need : Need) : Type 0 where
@@ -44,6 +45,7 @@ Counts list (edit.Open zone name sets) need = (need.places ≡ length sets) × A
 Counts list (edit.Close zone) need =
     (slots : List (Option Kept)) → need.removable ≡ length (placed_in (zones_in slots list) zone)
 Counts list (edit.Change zone remove add) need = (need.removable ≡ length remove) × Adds add need
+Counts list (edit.Collections now) need = ⊤
 
 -- the zone can take so many sets
 abbrev pub CanTake : List Listed → (zone : ℕ) → ℕ → Type 0
@@ -54,6 +56,7 @@ abbrev pub IsRoomFor : Vec Listed Global → ZoneEdit → Type 0
 IsRoomFor list (edit.Open zone name sets) = length list.items < vec_capacity list
 IsRoomFor list (edit.Close zone) = ⊤
 IsRoomFor list (edit.Change zone remove add) = CanTake list.items zone (length add)
+IsRoomFor list (edit.Collections now) = ⊤
 
 -- there is no less room, for zones and in each zone
 pub record KeepsRoom (before after : Vec Listed Global) : Type 0 where
@@ -75,6 +78,7 @@ NeedsNone store list ready (edit.Close zone) =
     length (placed_in (zones_in store.slots list.items) zone) ≤ ready.removable
 NeedsNone store list ready (edit.Change zone remove add) =
     (length remove ≤ ready.removable) × CanTake list.items zone (length add) × HasRoomToAdd store ready add
+NeedsNone store list ready (edit.Collections now) = ⊤
 
 -- the edit is allowed, and nothing of it wants memory
 pub record IsReadyFor (store : Store) (list : Vec Listed Global) (ready : Prepared) : Type 0 where

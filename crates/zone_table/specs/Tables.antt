@@ -1,14 +1,16 @@
 -- Tables of zones.
 use Rattle.std.specs.Prelude.{ℕ, List}
+use Rattle.cidr_commands.specs.Stored.{Stored}
 use Rattle.zone_list.specs.Zones.{Zone}
 
 -- A table of zones: the zones by rising number, how many more sets each of them can take without memory (in their order),
 -- how many more zones can be opened, how many more sets of all zones can be put, and how many more cells of their octets,
--- without memory; and the number of edits that were made, modulo 2^64.
+-- without memory; the collections of address blocks; and the number of edits that were made, modulo 2^64.
 pub record Table : Type 0 where
   pub zones : List Zone
   pub rooms : List ℕ
   pub spare : ℕ
   pub free : ℕ
   pub cells : ℕ
+  pub collections : Stored
   pub edits : ℕ

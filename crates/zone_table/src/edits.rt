@@ -4,6 +4,7 @@ ghost use Rattle.std.specs.Prelude.{◌≡◌, length, IfOk};
 ghost use Rattle.zone_table.specs.Needs.{IsPrepared};
 
 use crate::needs::Need;
+use cidr_routing::Collections;
 use dns_name::Name;
 use octets::{OutOfMemory, zeros};
 use record_set::{RecordSet, SetKey};
@@ -111,6 +112,8 @@ pub enum ZoneEdit {
         remove: SetKeys,
         add: Sets,
     },
+    /// These collections of address blocks take the place of those that are there.
+    Collections(Collections),
 }
 
 /// An edit that is ready: all its memory is taken.

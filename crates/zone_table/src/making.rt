@@ -7,22 +7,28 @@ ghost use Rattle.zone_list.specs.Kept.{AreKept, zones_in};
 ghost use Rattle.zone_list.specs.Steps.{cells_in_all};
 ghost use Rattle.zone_list.specs.Zones.{placed_in};
 ghost use Rattle.zone_table.specs.declared.edits.ZoneEdit.TheVariants.{Open, Close, Change};
-ghost use Rattle.zone_table.specs.Edits.{Edits, IsAllowed};
+ghost use Rattle.zone_table.specs.Edits.{Edits, IsAllowed, collections_after};
 ghost use Rattle.zone_table.specs.Needs.{CanTake, IsReadyFor};
 
 use crate::edits::{Ready, SetKeys, Sets, ZoneEdit};
 use crate::refs::Delta;
-use dns_name::Name;
+use cidr_routing::Collections;
 use set_store::SetStore;
 use zone_list::{SetRef, SetRefs, StoredZone, find_zone, first_from};
 
 /// Makes an edit that is ready.
-pub fn make(store: &mut SetStore, list: &mut Vec<StoredZone>, ready: Ready) -> Delta
+pub fn make(
+    store: &mut SetStore,
+    list: &mut Vec<StoredZone>,
+    collections: &mut Collections,
+    ready: Ready,
+) -> Delta
     requires kept { AreKept store.old.slots list.old.items }
     requires ready { IsReadyFor store.old list.old ready }
     ensures kept { AreKept store.new.slots list.new.items }
     ensures edits { Edits (zones_in store.old.slots list.old.items) ready.made
         (zones_in store.new.slots list.new.items) result }
+    ensures collections { collections.new ≡ collections_after ready.made collections.old }
 {
     let Ready {
         made,
@@ -40,6 +46,14 @@ pub fn make(store: &mut SetStore, list: &mut Vec<StoredZone>, ready: Ready) -> D
         ZoneEdit::Close(zone) => close(store, list, zone, removed, added),
         ZoneEdit::Change { zone, remove, add } => {
             change(store, list, zone, remove, add, removed, added, buffer)
+        }
+        ZoneEdit::Collections(now) => {
+            *collections = now;
+            Delta {
+                zone: 0,
+                removed: SetRefs::from_vec(removed),
+                added: SetRefs::from_vec(added),
+            }
         }
     }
 }

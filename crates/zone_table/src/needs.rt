@@ -48,6 +48,13 @@ pub fn need_of(list: &[StoredZone], edit: &ZoneEdit) -> Result<Need, OutOfMemory
             buffer: 0,
         }),
         ZoneEdit::Change { remove, add, .. } => need_to_add(remove.len(), add, 0),
+        ZoneEdit::Collections(_) => Ok(Need {
+            removable: 0,
+            addable: 0,
+            places: 0,
+            cells: 0,
+            buffer: 0,
+        }),
     }
 }
 
@@ -127,6 +134,7 @@ pub fn reserve_for(list: &mut Vec<StoredZone>, edit: &ZoneEdit) -> Result<(), Ou
         }
         ZoneEdit::Close(_) => Ok(()),
         ZoneEdit::Change { zone, add, .. } => reserve_in(list, *zone, add.len()),
+        ZoneEdit::Collections(_) => Ok(()),
     }
 }
 

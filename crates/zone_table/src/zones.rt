@@ -7,6 +7,7 @@ ghost use Rattle.zone_model.specs.Placed.{sets_of};
 ghost use Rattle.zone_list.specs.Found.{NextZoneOrNone};
 ghost use Rattle.zone_list.specs.Zones.{AreZones, IsZoneId, placed_in};
 ghost use Rattle.zone_table.specs.Edits.{Edits, IsAllowed, IsReady, StayReady};
+ghost use Rattle.zone_table.specs.Edits.{collections_after};
 ghost use Rattle.zone_table.specs.Looking.{ApexOrNone, HoldsOrNone, IsApex, IsGroup, IsGroupNow};
 ghost use Rattle.zone_table.specs.Looking.{IsMember, IsNextSet, Loads, bound_of};
 ghost use Rattle.set_search.specs.Stops.{bound_of as told};
@@ -16,6 +17,7 @@ use crate::looking::{copies, load, order_of, slot_behind, slot_in, view};
 use crate::making::make;
 use crate::needs::{need_of, reserve_for};
 use crate::refs::{Delta, Group};
+use cidr_routing::Collections;
 use dns_name::Name;
 use octets::OutOfMemory;
 use rdata::RType;
@@ -33,6 +35,7 @@ use zone_order::make_room;
 pub struct Zones {
     store: SetStore,
     list: Vec<StoredZone>,
+    collections: Collections,
     /// How many edits were made, modulo 2^64.
     edits: u64,
 }
@@ -50,6 +53,7 @@ impl Model for Zones {
       spare = vec_capacity z.list - length z.list.items;
       free = z.store.free;
       cells = z.store.cells;
+      collections = z.collections;
       edits = z.edits;
     } };
 
@@ -57,14 +61,16 @@ impl Model for Zones {
 }
 
 impl Zones {
-    /// No zones.
+    /// No zones, and no collections.
     pub fn new(alloc: Global) -> Zones
         ensures zones { result.zones ≡ [] }
+        ensures collections { result.collections ≡ record { next = 1; list = [] } }
         ensures edits { result.edits ≡ 0 }
     {
         Zones {
             store: SetStore::new(alloc),
             list: Vec::new(alloc),
+            collections: Collections::new(alloc),
             edits: 0,
         }
     }
@@ -86,6 +92,13 @@ impl Zones {
             Some(order) => copies(alloc, &self.store, zone, order),
             None => unreachable!(),
         }
+    }
+
+    /// The collections of address blocks.
+    pub fn collections(&self) -> &Collections
+        ensures { result.now ≡ self.now.collections }
+    {
+        &self.collections
     }
 
     /// The zone that holds a name: the one of the longest name at or above it.
@@ -192,6 +205,7 @@ impl Zones {
     pub fn ready(&mut self, alloc: Global, edit: ZoneEdit) -> Result<Ready, OutOfMemory>
         requires { IsAllowed self.old.zones edit }
         ensures zones { self.new.zones ≡ self.old.zones }
+        ensures collections { self.new.collections ≡ self.old.collections }
         ensures edits { self.new.edits ≡ self.old.edits }
         ensures made { IfOk result (λ ready. ready.made ≡ edit) }
         ensures ready { IfOk result (λ ready. IsReady self.new ready) }
@@ -207,10 +221,17 @@ impl Zones {
     pub fn edit(&mut self, ready: Ready) -> Delta
         requires { IsReady self.old ready }
         ensures edits { Edits self.old.zones ready.made self.new.zones result }
+        ensures collections { self.new.collections
+            ≡ collections_after ready.made self.old.collections }
         ensures count { self.new.edits ≡ (self.old.edits + 1) % 2 ^ 64 }
     {
         self.edits = self.edits.wrapping_add(1);
-        make(&mut self.store, &mut self.list, ready)
+        make(
+            &mut self.store,
+            &mut self.list,
+            &mut self.collections,
+            ready,
+        )
     }
 }
 

@@ -6,5 +6,5 @@ use Rattle.zone_table.proofs.zones.Zones.edit.Goals as goal
 
 pub make-requires-clause-ready : goal.make-requires-clause-ready
 make-requires-clause-ready c =
-    ready_for c.self.inside.store c.self.inside.list c.self.inside.edits c.args.ready
+    ready_for c.self.inside.store c.self.inside.list c.self.inside.collections c.self.inside.edits c.args.ready
     (subst (λ (t : Table). IsReady t c.args.ready) (sym c.self.view_is) c.requires)

@@ -19,8 +19,8 @@ pub returns-in_err-make_room-clause-others : goal.returns-in_err-make_room-claus
 returns-in_err-make_room-clause-others c =
     let s = c.self.inside in
     let store = c.make_room.new.store in
-    subst (λ (t : Table). StayReady t (table_of store s.list s.edits)) c.self.view_is
-    (stay_ready s.store store s.list s.list s.edits
+    subst (λ (t : Table). StayReady t (table_of store s.list s.collections s.edits)) c.self.view_is
+    (stay_ready s.store store s.list s.list s.collections s.edits
     (still_zones s.store.slots store.slots c.make_room.ensures.stay s.list.items)
     c.make_room.ensures.free c.make_room.ensures.cells (same_room s.list) refl)
 
@@ -44,8 +44,8 @@ returns-in_err-reserve_for-clause-others c =
     let s = c.self.inside in
     let store = c.make_room.new.store in
     let list = c.reserve_for.new.list in
-    subst (λ (t : Table). StayReady t (table_of store list s.edits)) c.self.view_is
-    (stay_ready s.store store s.list list s.edits
+    subst (λ (t : Table). StayReady t (table_of store list s.collections s.edits)) c.self.view_is
+    (stay_ready s.store store s.list list s.collections s.edits
     (rows_zones store.slots s.list.items list.items c.reserve_for.ensures.rows
     ∙ still_zones s.store.slots store.slots c.make_room.ensures.stay s.list.items)
     c.make_room.ensures.free c.make_room.ensures.cells c.reserve_for.ensures.kept
@@ -83,7 +83,7 @@ returns-clause-ready c =
     counts_still s.list.items list.items c.reserve_for.ensures.rows edit need
     (subst (λ (l : List Listed). Counts l edit need) c.deref.ensures.value c.in_ok-need.ensures) in
     ok_so c.new.result c.new.ensures
-    (λ ready prepared. is_ready store list s.edits need ready c.in_ok-make_room.ensures.room.0
+    (λ ready prepared. is_ready store list s.collections s.edits need ready c.in_ok-make_room.ensures.room.0
     c.in_ok-make_room.ensures.room.1 edit prepared counts c.in_ok-reserve_for.ensures.room allowed)
 
 pub returns-clause-others : goal.returns-clause-others
@@ -91,8 +91,8 @@ returns-clause-others c =
     let s = c.self.inside in
     let store = c.make_room.new.store in
     let list = c.reserve_for.new.list in
-    subst (λ (t : Table). StayReady t (table_of store list s.edits)) c.self.view_is
-    (stay_ready s.store store s.list list s.edits
+    subst (λ (t : Table). StayReady t (table_of store list s.collections s.edits)) c.self.view_is
+    (stay_ready s.store store s.list list s.collections s.edits
     (rows_zones store.slots s.list.items list.items c.reserve_for.ensures.rows
     ∙ still_zones s.store.slots store.slots c.make_room.ensures.stay s.list.items)
     c.make_room.ensures.free c.make_room.ensures.cells c.reserve_for.ensures.kept
