@@ -1,5 +1,6 @@
 -- The definitions at values from outside: the rules' own examples.
-use Rattle.std.proofs.Common.{◌≡◌, ℕ, zero, suc, Bool, true, false, List, [], ◌∷◌, Option, None, Some, refl}
+use Rattle.std.proofs.Common.{◌≡◌, ℕ, zero, suc, Bool, true, false, List, [], ◌∷◌, Option, None, Some, ap, sym, refl, arith, inl, inr}
+use Rattle.std.proofs.lemmas.Option.{none-some}
 use Rattle.std.specs.Prelude.{codes}
 use Rattle.checker_state.specs.Standing.{numbers}
 use Rattle.check_model.specs.declared.checks.Check.{Check}
@@ -11,7 +12,7 @@ use Rattle.record_set.specs.declared.sets.RecordSet.{RecordSet}
 use Rattle.record_set.specs.Sets.{key_of}
 use Rattle.routing.specs.declared.policies.Routing.TheVariants as routing
 use Rattle.health_model.specs.Healthy.{Watched, healthy, healthy_sets}
-use Rattle.health_model.specs.Nodes.{CheckNode, GroupNode, SetNode, feeders, truth}
+use Rattle.health_model.specs.Nodes.{CheckNode, GroupNode, IsNode, Reaches, SetNode, feeders, truth}
 use Rattle.health_model.specs.Statuses.{Report, passing, status, status_told}
 
 -- ---- endpoints
@@ -297,3 +298,27 @@ group_is_healthy : truth (zone_of (healthy_one ∷ unhealthy_one ∷ [])) down
     (GroupNode 7 (name 1) rtype.A) ≡ true
 unfolding numbers status healthy
 group_is_healthy = refl
+
+-- from h1 to a set that names it, and on to the set's group
+abbrev one_zone : Watched
+one_zone = zone_of (unhealthy_one ∷ [])
+
+reached : Reaches one_zone 2 (CheckNode 1) (GroupNode 7 (name 1) rtype.A)
+reached = (
+  (unhealthy_one, inl refl),
+  (
+    SetNode 7 unhealthy_one,
+    (0, omega arith, refl),
+    (inl refl, (CheckNode 1, (0, omega arith, refl), refl)),
+  ),
+)
+
+-- a set that no zone has is no node, and neither is a group without sets
+no_node : IsNode one_zone (SetNode 7 healthy_one) → ⊥
+no_node (inl is) =
+    let differ : Some 1 ≡ None = ap (λ (one : RecordSet). one.check) is in
+    none-some 1 (sym differ)
+no_node (inr m) = m
+
+no_group_node : IsNode one_zone (GroupNode 7 (name 2) rtype.A) → ⊥
+no_group_node (one, m) = m
