@@ -34,8 +34,6 @@ fn five_in_a_row(rt: HostRuntime) {
     refused(&rt, &table, h7, CheckRefusal::ChildTooDeep);
     let cycle = with_children(&rt, alloc, 3, &[6]);
     refused(&rt, &table, cycle, CheckRefusal::ChildTooDeep);
-    let itself = with_children(&rt, alloc, 3, &[3]);
-    refused(&rt, &table, itself, CheckRefusal::ChildTooDeep);
 }
 
 #[test]

@@ -23,6 +23,7 @@ fn the_last_number(rt: HostRuntime) {
     if !is_sound(4_294_967_295, &list) {
         panic!(rt; "sound");
     }
+    assert!(rt; !is_sound(9, &list), "a number not below the next");
     let table = CheckTable::restore(4_294_967_295, list);
     assert_eq!(rt; table.after(1), Some(9), "the second");
     refused(
@@ -30,24 +31,5 @@ fn the_last_number(rt: HostRuntime) {
         &table,
         CheckCommand::Create(endpoint()),
         CheckRefusal::IdsEnded,
-    );
-}
-
-#[test]
-fn what_is_not_sound(rt: HostRuntime) {
-    let alloc = rt.alloc();
-    assert!(rt;
-        !is_sound(9, &two(&rt, alloc, 9, &[1])),
-        "a number not below the next"
-    );
-    assert!(rt; !is_sound(9, &two(&rt, alloc, 1, &[1])), "a number twice");
-    assert!(rt;
-        !is_sound(9, &two(&rt, alloc, 2, &[3])),
-        "a child that isn't there"
-    );
-    assert!(rt; !is_sound(9, &two(&rt, alloc, 2, &[1, 1])), "a child twice");
-    assert!(rt;
-        !is_sound(9, &two(&rt, alloc, 2, &[2])),
-        "a child of itself"
     );
 }
