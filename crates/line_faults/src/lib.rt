@@ -5,7 +5,9 @@
 #![tactic(auto)]
 
 mod fault;
+mod laws;
 mod member;
 
 pub use fault::{LineFault, LineReason};
+pub use laws::{one_name, one_reason};
 pub use member::Member;
