@@ -1,5 +1,6 @@
 -- Groups of few sets.
-use Rattle.std.proofs.Common.{◌≡◌, ◌≤◌, ◌<◌, ◌+◌, ◌⊎◌, ℕ, Bool, true, false, List, [], ◌∷◌, ◌++◌, Some}
+use Rattle.std.proofs.Common.{◌≡◌, ◌≤◌, ◌<◌, ◌+◌, ◌⊎◌, ℕ, Bool, true, false, List, [], ◌∷◌, ◌++◌}
+use Rattle.std.proofs.Common.{Some}
 use Rattle.std.proofs.Common.{length, take, refl, sym, ap, ◌∙◌, subst, inl, inr, arith}
 use Rattle.std.specs.Prelude.{cond, slice_get, ◌&&◌, ◌==◌}
 use Rattle.std.specs.List.{filter}
@@ -19,13 +20,15 @@ use Rattle.zone_model.specs.Zones.{IsAmong, group, is_of_group}
 use Rattle.policy_select.specs.Groups.{FewByEachSet, FewInGroups}
 
 -- a set of a name and a type: its own group is that one
-same_group : (name : List (List ℕ)) (rtype : RType) (set : RecordSet) → is_of_group name rtype set ≡ true
+same_group : (name : List (List ℕ)) (rtype : RType) (set : RecordSet) → is_of_group name rtype set
+    ≡ true
     → (sets : List RecordSet) → group sets name rtype ≡ group sets set.name set.rtype
 same_group name rtype set h sets =
     let both = (Decides-and _ _ (same_labels-Decides name set.name)
     (Decides-eqb (number_of rtype) (number_of set.rtype))).0 h in
     ap (λ (n : List (List ℕ)). group sets n rtype) both.0
-    ∙ ap (λ (k : ℕ). filter (λ (s : RecordSet). same_labels set.name s.name && k == number_of s.rtype) sets)
+    ∙ ap (λ (k : ℕ). filter
+    (λ (s : RecordSet). same_labels set.name s.name && k == number_of s.rtype) sets)
     both.1
 
 -- a group is empty, or has a set
@@ -33,7 +36,8 @@ some_or_none : (name : List (List ℕ)) (rtype : RType) (sets : List RecordSet)
     → (length (group sets name rtype) ≡ 0)
     ⊎ ((set : RecordSet) × IsAmong sets set × (is_of_group name rtype set ≡ true))
 some_or_none name rtype [] = inl refl
-some_or_none name rtype (x ∷ sets) = by (is_of_group name rtype x) refl (some_or_none name rtype sets)
+some_or_none name rtype (x
+    ∷ sets) = by (is_of_group name rtype x) refl (some_or_none name rtype sets)
   where
     by : (b : Bool) → is_of_group name rtype x ≡ b
         → ((length (group sets name rtype) ≡ 0)
@@ -47,7 +51,8 @@ some_or_none name rtype (x ∷ sets) = by (is_of_group name rtype x) refl (some_
 pub few_by_each_set : FewByEachSet
 few_by_each_set sets each name rtype = elim (some_or_none name rtype sets) [
   | inl none ↦ omega (arith, none)
-  | inr some ↦ subst (λ (g : List RecordSet). length g ≤ 100) (sym (same_group name rtype some.0 some.2 sets))
+  | inr some ↦ subst (λ (g : List RecordSet). length g ≤ 100)
+      (sym (same_group name rtype some.0 some.2 sets))
       (each some.0 some.1)
 ]
 
@@ -66,7 +71,8 @@ pub counted_more : (name : List (List ℕ)) (rtype : RType) (sets : List RecordS
 counted_more name rtype sets i count set one there so_far is =
     let test = is_of_group name rtype in
     let front = take i sets in
-    let whole : length (filter test (take (i + 1) sets)) ≡ length (filter test front ++ filter test (set ∷ [])) =
+    let whole : length (filter test (take (i + 1) sets))
+    ≡ length (filter test front ++ filter test (set ∷ [])) =
     ap (λ (xs : List RecordSet). length (filter test xs)) (take_more sets i set there)
     ∙ ap (λ (xs : List RecordSet). length xs) (filter-append test front (set ∷ [])) in
     let parts = length-append (filter test front) (filter test (set ∷ [])) in
@@ -97,7 +103,8 @@ few_more sets n count set there counted few before k other within at =
     ]
 
 -- all have
-pub few_of_all : FewByEachSet → (sets : List RecordSet) (n : ℕ) → length sets ≤ n → FewAtFirst sets n
+pub few_of_all : FewByEachSet → (sets : List RecordSet) (n : ℕ) → length sets ≤ n
+    → FewAtFirst sets n
     → FewInGroups sets
 few_of_all law sets n all few = law sets each
   where

@@ -1,6 +1,6 @@
 //! The bound on the sets of a group, and its test.
 
-ghost use Rattle.std.specs.Prelude.{◌≡◌, IsTrue, length};
+ghost use Rattle.std.specs.Prelude.{◌≡◌, ◌↔◌, IsTrue, length};
 ghost use Rattle.zone_model.specs.Zones.{group, is_of_group};
 ghost use Rattle.policy_select.specs.Groups.{FewByEachSet, FewInGroups};
 
@@ -18,7 +18,7 @@ pub fn few_by_each_set()
 
 /// Whether no group of these sets has more than 100.
 pub fn groups_are_few(sets: &[RecordSet]) -> bool
-    ensures { IsTrue result → FewInGroups sets.now }
+    ensures { IsTrue result ↔ FewInGroups sets.now }
 {
     few_by_each_set();
     for set in sets {

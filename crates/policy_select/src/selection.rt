@@ -1,6 +1,7 @@
 //! The choice from one group, by the policy of its first set.
 
-ghost use Rattle.std.specs.Prelude.{◌≡◌, ◌<◌, ◌≤◌, ◌∷◌, [], ℕ, List, Some, option_to_list, slice_get};
+ghost use Rattle.std.specs.Prelude.{◌≡◌, ◌<◌, ◌≤◌, ◌∷◌, [], ℕ, List, Some};
+ghost use Rattle.std.specs.Prelude.{option_to_list, slice_get};
 ghost use Rattle.choice_model.specs.Choice.{chosen};
 ghost use Rattle.answer_model.specs.Clients.{client_at};
 ghost use Rattle.answer_model.specs.Descent.{group_uses};
