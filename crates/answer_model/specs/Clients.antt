@@ -1,4 +1,4 @@
--- Where a client's address comes from (RFC 7871, 7.1.1), what is told of it, and how far that
+-- Where a client's address comes from (RFC 7871, 7.2.1), what is told of it, and how far that
 -- reaches.
 use Rattle.std.specs.Prelude.{ℕ, ◌==◌, List, take, Option, None, Some, if◌then◌else◌}
 use Rattle.address_text.specs.declared.address.IpAddress.{IpAddress}
