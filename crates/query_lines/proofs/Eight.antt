@@ -14,7 +14,7 @@ pub eight_items : (xs : List Value) (a b c d e f g h : Value) → length xs ≡ 
     → a ≡ get_or xs 0 a → b ≡ get_or xs 1 b → c ≡ get_or xs 2 c → d ≡ get_or xs 3 d
     → e ≡ get_or xs 4 e → f ≡ get_or xs 5 f → g ≡ get_or xs 6 g → h ≡ get_or xs 7 h
     → items_view xs ≡ item (view a) (item (view b) (item (view c) (item (view d)
-      (item (view e) (item (view f) (item (view g) (item (view h) no_items)))))))
+    (item (view e) (item (view f) (item (view g) (item (view h) no_items)))))))
 eight_items xs a b c d e f g h n ea eb ec ed ee ef eg eh =
     at xs 0 a (omega (arith, n)) ea ∙ ap (item (view a))
     (at xs 1 b (omega (arith, n)) eb ∙ ap (item (view b))
