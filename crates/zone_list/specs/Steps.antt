@@ -33,7 +33,7 @@ abbrev pub PlaceOrNone : List RecordSet → SetKey → Option ℕ → Type 0
 PlaceOrNone add key (Some at) = IsOfKey add key at
 PlaceOrNone add key None = IsThere add key → ⊥
 
--- The place of a set with the key, among those from one place on and in front of another.
+-- The place of a set with the key; where there is none, none stands from one place on and in front of another.
 abbrev pub FoundBetween : List RecordSet → SetKey → (from to : ℕ) → Option ℕ → Type 0
 FoundBetween add key from to (Some at) = IsOfKey add key at
 FoundBetween add key from to None =

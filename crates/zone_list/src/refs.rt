@@ -9,7 +9,7 @@ use std::marker::Model;
 pub struct SetRef {
     /// The number of the zone.
     pub zone: u32,
-    /// The slot of the set in its zone.
+    /// The slot of the set in the store of all zones; no set of another zone has it.
     pub slot: u32,
 }
 

@@ -1,3 +1,4 @@
+pub mod Apart
 pub mod Edited
 pub mod Kept
 pub mod Looked

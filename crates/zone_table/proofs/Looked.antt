@@ -21,6 +21,18 @@ use Rattle.zone_list.proofs.Members.{apex_exists, in_all}
 use Rattle.zone_table.specs.Looking.{IsApex}
 use Rattle.zone_table.proofs.Naming.{its_sets, stands_here}
 
+-- the set of a slot, where it is among those of an order
+pub placed_set : (slot : ℕ) (set : RecordSet) (get : ℕ → Option RecordSet) (order : List ℕ) → AllByRecursion (λ j. HasSet get j) order
+    → IsHere (placed_by get order) (record { slot = slot; set = set }) → get slot ≡ Some set
+placed_set slot set get [] present at = absurd at
+placed_set slot set get (j ∷ order) present (inl e) =
+    let same : j ≡ slot = ap (λ (p : Placed). p.slot) e in
+    let its : unwrap_or (get j) no_set ≡ set = ap (λ (p : Placed). p.set) e in
+    let has : get j ≡ Some present.0.0 = present.0.1 in
+    let one : present.0.0 ≡ set = ap (λ (o : Option RecordSet). unwrap_or o no_set) (sym has) ∙ its in
+    ap get (sym same) ∙ (has ∙ ap (λ (s : RecordSet). Some s) one)
+placed_set slot set get (j ∷ order) present (inr at) = placed_set slot set get order present.1 at
+
 module _ (slots : List (Option Kept)) (list : List Listed) (kept : AreKept slots list) (zone slot : ℕ) where
   -- a set that is told of a zone is kept in its slot
   pub told_kept : zone_told (slice_get slots slot) ≡ Some zone
@@ -58,7 +70,7 @@ module _ (slots : List (Option Kept)) (list : List Listed) (kept : AreKept slots
       let k = kept_here list here in
       let stands = stands_here slots list kept k.0 k.1 in
       let at : set_in slots k.0.id slot ≡ Some set =
-      placed_set (set_in slots k.0.id) k.0.order stands.order.present k.3 in
+      placed_set slot set (set_in slots k.0.id) k.0.order stands.order.present k.3 in
       let is = its_kept slots k.0.id slot set at in
       other (ap zone_told is ∙ ap (λ (n : ℕ). Some n) k.2)
     where
@@ -78,17 +90,6 @@ module _ (slots : List (Option Kept)) (list : List Listed) (kept : AreKept slots
               × IsHere (placed_of slots j.id j.order) (record { slot = slot; set = set })
           by true e rest there = (k, inl refl, eqb-true k.id zone e, there)
           by false e rest there = let j = rest there in (j.0, inr j.1, j.2, j.3)
-
-      placed_set : (get : ℕ → Option RecordSet) (order : List ℕ) → AllByRecursion (λ j. HasSet get j) order
-          → IsHere (placed_by get order) (record { slot = slot; set = set }) → get slot ≡ Some set
-      placed_set get [] present at = absurd at
-      placed_set get (j ∷ order) present (inl e) =
-          let same : j ≡ slot = ap (λ (p : Placed). p.slot) e in
-          let its : unwrap_or (get j) no_set ≡ set = ap (λ (p : Placed). p.set) e in
-          let has : get j ≡ Some present.0.0 = present.0.1 in
-          let one : present.0.0 ≡ set = ap (λ (o : Option RecordSet). unwrap_or o no_set) (sym has) ∙ its in
-          ap get (sym same) ∙ (has ∙ ap (λ (s : RecordSet). Some s) one)
-      placed_set get (j ∷ order) present (inr at) = placed_set get order present.1 at
 
 -- one more copy
 pub copies_more : (slots : List (Option Kept)) (zone : ℕ) (order : List ℕ) → IsOrder slots zone order

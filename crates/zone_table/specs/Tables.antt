@@ -1,7 +1,8 @@
 -- Tables of zones.
-use Rattle.std.specs.Prelude.{ℕ, List}
+use Rattle.std.specs.Prelude.{◌≡◌, ℕ, List}
 use Rattle.cidr_commands.specs.Stored.{Stored}
-use Rattle.zone_list.specs.Zones.{Zone}
+use Rattle.zone_list.specs.Zones.{Zone, IsOne}
+use Rattle.zone_model.specs.Placed.{Placed, IsHere}
 
 -- A table of zones: the zones by rising number, how many more sets each of them can take without memory (in their order),
 -- how many more zones can be opened, how many more sets of all zones can be put, and how many more cells of their octets,
@@ -14,3 +15,8 @@ pub record Table : Type 0 where
   pub cells : ℕ
   pub collections : Stored
   pub edits : ℕ
+
+-- No slot stands in two zones, so that a slot alone tells a set.
+abbrev pub HaveSlotsApart : List Zone → Type 0
+HaveSlotsApart zones = (zone other : Zone) (p q : Placed) → IsOne zones zone → IsOne zones other
+    → IsHere zone.placed p → IsHere other.placed q → p.slot ≡ q.slot → zone.id ≡ other.id

@@ -106,7 +106,8 @@ pub enum ZoneEdit {
     },
     /// The zone of this number goes, with all its sets.
     Close(u32),
-    /// The sets of these keys go from a zone, and then these sets come.
+    /// These sets come into a zone, each in place of the one with its key, and the sets of these keys
+    /// go, but of those for which one came.
     Change {
         zone: u32,
         remove: SetKeys,

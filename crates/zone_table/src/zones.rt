@@ -10,6 +10,7 @@ ghost use Rattle.zone_table.specs.Edits.{Edits, IsAllowed, IsReady, StayReady};
 ghost use Rattle.zone_table.specs.Edits.{collections_after};
 ghost use Rattle.zone_table.specs.Looking.{ApexOrNone, HoldsOrNone, IsApex, IsGroup, IsGroupNow};
 ghost use Rattle.zone_table.specs.Looking.{IsMember, IsNextSet, Loads, bound_of};
+ghost use Rattle.zone_table.specs.Tables.{HaveSlotsApart};
 ghost use Rattle.set_search.specs.Stops.{bound_of as told};
 
 use crate::edits::{Ready, ZoneEdit};
@@ -79,6 +80,13 @@ impl Zones {
     /// a zone; it does nothing.
     pub fn well_formed(&self)
         ensures { AreZones self.now.zones }
+    {
+        self.store.slots();
+    }
+
+    /// No slot stands in two zones, so that a slot alone tells a set; it does nothing.
+    pub fn slots_apart(&self)
+        ensures { HaveSlotsApart self.now.zones }
     {
         self.store.slots();
     }
