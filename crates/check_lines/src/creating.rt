@@ -3,7 +3,8 @@
 ghost use Rattle.std.specs.Prelude.{◌≡◌};
 ghost use Rattle.serde_json.specs.View.{view};
 ghost use Rattle.line_reading.specs.Reading.{Reads};
-ghost use Rattle.check_lines.specs.Checks.{create_health_check, health_check_config, endpoint, calculated, check_of};
+ghost use Rattle.check_lines.specs.Checks.{create_health_check, health_check_config, endpoint};
+ghost use Rattle.check_lines.specs.Checks.{calculated, check_of};
 
 use crate::ids::Ids;
 use crate::types::{Kind, check_type, children};

@@ -2,7 +2,8 @@
 
 ghost use Rattle.std.specs.Prelude.{◌≡◌};
 ghost use Rattle.serde_json.specs.View.{view};
-ghost use Rattle.check_lines.specs.Checks.{check_named, delete_health_check, get_health_check_status, observe};
+ghost use Rattle.check_lines.specs.Checks.{check_named, delete_health_check};
+ghost use Rattle.check_lines.specs.Checks.{get_health_check_status, observe};
 
 use line_reading::{LineFault, Member, check_id, flag, number_u8, object, required};
 use serde_json::Value;

@@ -4,7 +4,8 @@ ghost use Rattle.std.specs.Prelude.{◌≡◌, ◌<◌, length};
 ghost use Rattle.serde_json.specs.View.{view, items_view};
 ghost use Rattle.line_reading.specs.Reading.{Reads, each};
 ghost use Rattle.line_reading.specs.Kinds.{check_id};
-ghost use Rattle.check_lines.specs.Checks.{check_type, kind_of, children, is_endpoint_type, is_unsupported_type};
+ghost use Rattle.check_lines.specs.Checks.{check_type, kind_of, children, is_endpoint_type};
+ghost use Rattle.check_lines.specs.Checks.{is_unsupported_type};
 
 use crate::ids::Ids;
 use line_reading::{LineFault, LineReason, Member, check_id, each, list};

@@ -37,7 +37,8 @@ TellsAs view (Err fault) read = read ≡ Err fault
 
 -- One thing after another: the first fault is the answer.
 infixl 10 ◌>>=◌
-abbrev pub ◌>>=◌ : {A B : Type 0} → Result A LineFault → (A → Result B LineFault) → Result B LineFault
+abbrev pub ◌>>=◌ : {A B : Type 0} → Result A LineFault → (A → Result B LineFault)
+    → Result B LineFault
 (Ok x) >>= f = f x
 (Err fault) >>= f = Err fault
 

@@ -104,7 +104,8 @@ pieces_open (b ∷ w) x h = open_at b w x (b == 10) h (pieces_open w x)
 
 -- Bytes with their first 0x0A at place k before others: it ends the first piece.
 abbrev pub Ends : (w x : List ℕ) (k : ℕ) → Type 0
-Ends w x k = (first_piece (w ++ x) ≡ take k w) × (more_pieces (w ++ x) ≡ pieces (drop (suc k) w ++ x))
+Ends w x k = (first_piece (w ++ x) ≡ take k w)
+    × (more_pieces (w ++ x) ≡ pieces (drop (suc k) w ++ x))
 
 ends_at : (b : ℕ) (w x : List ℕ) (k : ℕ) (t : Bool)
     → (if t then Some 0 else option_map suc (end_place w)) ≡ Some k

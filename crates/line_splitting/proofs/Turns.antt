@@ -142,7 +142,8 @@ pub line_taken : (v now : Reader) (w : Held) (k : ℕ) (t : Told) (piece : List 
 line_taken v now w k t piece e is place p h =
     subst (λ r. Takes r t (with_window w dropped.Nothing v.ended v.budget)) e
     (subst (λ x. Takes v t (with_window x dropped.Nothing v.ended v.budget))
-    (sym (is ∙ ap (λ j. record { line = take k v.waiting; waiting = drop j v.waiting }) (add-one k)))
+    (sym (is
+    ∙ ap (λ j. record { line = take k v.waiting; waiting = drop j v.waiting }) (add-one k)))
     (takes_line v k t (place ∙ ap (λ r. end_place r.waiting) (sym e))
     (subst (λ q. told v.dropped q ≡ as_events t q) p h)))
 
@@ -222,7 +223,8 @@ pub last_taken : (v now : Reader) (w : Held) (n : ℕ) (t : Told) (piece : List 
     → Takes now t (with_window w dropped.Nothing v.ended v.budget)
 last_taken v now w n t piece e is len none ended p h =
     let m : n ≡ length v.waiting = len ∙ ap length p in
-    let line : take n v.waiting ≡ v.waiting = ap (λ j. take j v.waiting) m ∙ take-length v.waiting in
+    let line : take n v.waiting ≡ v.waiting = ap (λ j. take j v.waiting) m
+    ∙ take-length v.waiting in
     let rest : drop n v.waiting ≡ [] = drop_all n v.waiting (omega arith) in
     let whole : w ≡ record { line = v.waiting; waiting = [] } =
     is ∙ ap (λ l. record { line = l; waiting = drop n v.waiting }) line
@@ -265,7 +267,8 @@ at_limit r h e z = (
   z,
 )
 
-pub reads_on : (r : Reader) → end_place r.waiting ≡ None → r.ended ≡ false → 0 < r.budget → ReadsOn r
+pub reads_on : (r : Reader) → end_place r.waiting ≡ None → r.ended ≡ false → 0 < r.budget
+    → ReadsOn r
 reads_on r h e z = record { ready = ready_open r h e; going = e; budget = z }
 
 -- what was dropped tells as much as what stood there
@@ -311,7 +314,8 @@ same_rest d e false p q ps h = ap (λ es. es ++ events_of ps) h
 same_rest d e true p q [] h = refl
 same_rest d e true p q (n ∷ ps) h = ap (λ es. es ++ events_of (but_last (n ∷ ps))) h
 
-as_if : (c : Bool) (bytes : List ℕ) → ended_pieces c bytes ≡ (if c then but_last (pieces bytes) else pieces bytes)
+as_if : (c : Bool) (bytes : List ℕ)
+    → ended_pieces c bytes ≡ (if c then but_last (pieces bytes) else pieces bytes)
 as_if true bytes = refl
 as_if false bytes = refl
 
@@ -393,7 +397,8 @@ read_with d new left n b ended =
     (new ++ (if ended then [] else take (b - n) (drop n left))))
 
 -- what is to come stays, where bytes are taken from the source and wait
-events_read : (d : Dropped) (w new left : List ℕ) (after : Option (List ℕ)) (n b : ℕ) → 0 < b → n ≤ b
+events_read : (d : Dropped) (w new left : List ℕ) (after : Option (List ℕ)) (n b : ℕ) → 0 < b
+    → n ≤ b
     → Adds left after n w new
     → begun d (ended_pieces (not (n == 0) && nat_le (b - n) (length (drop n left)))
     (new ++ (if n == 0 then [] else take (b - n) (drop n left))))
@@ -438,8 +443,10 @@ true_not_false e = absurd cc
 end_read : (left : List ℕ) (w new : List ℕ) (after : Option (List ℕ)) (n : ℕ)
     → Adds left after n w new → ((n == 0) ≡ true) ↔ (left ≡ [])
 end_read left w new after zero a = (λ e. a.at_end refl, λ e. refl)
-end_read left w new after (suc m) a =
-    (λ e. let z = eqb-suc-zero m in absurd (true_not_false (sym e ∙ z)), λ e. let k = a.within in absurd (omega (arith, k, ap length e)))
+end_read left w new after (suc m) a = (
+  λ e. let z = eqb-suc-zero m in absurd (true_not_false (sym e ∙ z)),
+  λ e. let k = a.within in absurd (omega (arith, k, ap length e)),
+)
 
 going : (r : Reader) (left : List ℕ) → r.ended ≡ false
     → events r left
@@ -519,7 +526,8 @@ leaves_after old mid left next.Failed new after r t = record {
   is_cut = t.is_cut ∙ same_cut old mid left r;
 }
   where
-    same_cut : (old mid : Reader) (left : List ℕ) → Rests old mid → is_cut mid left ≡ is_cut old left
+    same_cut : (old mid : Reader) (left : List ℕ) → Rests old mid
+        → is_cut mid left ≡ is_cut old left
     same_cut old mid left r = ap (λ e. not e && nat_le mid.budget (length left)) r.ended
         ∙ ap (λ b. not old.ended && nat_le b (length left)) r.budget
 leaves_after old mid left next.Read new after r t =

@@ -37,7 +37,8 @@ pub read_in : (left buffer old new : List ℕ) (after : Option (List ℕ)) (got 
 read_in left buffer old new after (Bytes n) at k h p e gives w = record {
   within = gives.within;
   rest = gives.after_it;
-  bytes = take-put_mid-part at k n buffer new h (omega (arith, w)) ∙ ap (λ t. take at buffer ++ t) gives.bytes;
+  bytes = take-put_mid-part at k n buffer new h (omega (arith, w))
+      ∙ ap (λ t. take at buffer ++ t) gives.bytes;
   at_end = λ z. gives.at_end z p;
 }
 read_in left buffer old new after Failed at k h p e gives w = gives.0

@@ -1,6 +1,7 @@
 //! The reader of lines.
 
-ghost use Rattle.std.specs.Prelude.{◌≡◌, ◌≤◌, ℕ, List, [], Some, None, length, take, drop, IfOk, ◌+◌, ◌<◌, IfSome, IsTrue};
+ghost use Rattle.std.specs.Prelude.{◌≡◌, ◌≤◌, ℕ, List, [], Some, None, length, take, drop, IfOk};
+ghost use Rattle.std.specs.Prelude.{◌+◌, ◌<◌, IfSome, IsTrue};
 ghost use Rattle.octets.specs.Counts.{Rose};
 ghost use Rattle.line_splitting.specs.Reading.{Reader, fresh, Answers, Leaves, IfStill};
 ghost use Rattle.line_splitting.specs.Judging.{end_place};

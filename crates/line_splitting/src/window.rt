@@ -1,6 +1,7 @@
 //! The bytes that wait, in one buffer.
 
-ghost use Rattle.std.specs.Prelude.{◌≡◌, ◌≤◌, ◌<◌, ◌+◌, ◌-◌, ℕ, List, [], Some, length, take, drop, IfOk};
+ghost use Rattle.std.specs.Prelude.{◌≡◌, ◌≤◌, ◌<◌, ◌+◌, ◌-◌, ℕ, List, [], Some, length, take, drop};
+ghost use Rattle.std.specs.Prelude.{IfOk};
 ghost use Rattle.octets.specs.Counts.{Rose};
 ghost use Rattle.line_splitting.specs.Waiting.{Held, Grows, Takes, GrowsIn, TakesIn};
 

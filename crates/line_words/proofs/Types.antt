@@ -24,13 +24,16 @@ type_again rtype.Srv = refl
 type_again rtype.Spf = refl
 type_again rtype.Caa = refl
 
-none_named : (ts : List RType) (s : List ℕ) → ((t : RType) → text_of t ≢ s) → named text_of ts s ≡ None
+none_named : (ts : List RType) (s : List ℕ) → ((t : RType) → text_of t ≢ s)
+    → named text_of ts s ≡ None
 none_named [] s h = refl
 none_named (t ∷ ts) s h =
-    let e : bytes_eq s (text_of t) ≡ false = false_from_ne_true _ (λ q. h t (sym ((bytes_eq-Decides s (text_of t)).0 q))) in
+    let e : bytes_eq s (text_of t)
+    ≡ false = false_from_ne_true _ (λ q. h t (sym ((bytes_eq-Decides s (text_of t)).0 q))) in
     rw e (none_named ts s h)
 
-pub type_found : (s : List ℕ) (r : Option RType) → IfSome r (λ t. text_of t ≡ s) → IfNone r ((t : RType) → text_of t ≢ s) → r ≡ type_named s
+pub type_found : (s : List ℕ) (r : Option RType) → IfSome r (λ t. text_of t ≡ s)
+    → IfNone r ((t : RType) → text_of t ≢ s) → r ≡ type_named s
 unfolding type_named
 type_found s None some none = sym (none_named types s none)
 type_found s (Some t) some none = sym (ap type_named (sym some) ∙ type_again t)

@@ -3,7 +3,8 @@
 ghost use Rattle.std.specs.Prelude.{◌≡◌, ◌<◌, length};
 ghost use Rattle.serde_json.specs.View.{view, items_view};
 ghost use Rattle.line_reading.specs.Reading.{Reads, each, in_change};
-ghost use Rattle.set_lines.specs.ChangeLines.{action_of, change, changes, change_batch, change_sets};
+ghost use Rattle.set_lines.specs.ChangeLines.{action_of, change, changes, change_batch};
+ghost use Rattle.set_lines.specs.ChangeLines.{change_sets};
 
 use crate::sets::resource_record_set;
 use batch_model::{Action, Batch, Change, Changes};

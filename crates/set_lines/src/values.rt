@@ -4,7 +4,8 @@ ghost use Rattle.std.specs.Prelude.{◌≡◌, ◌≤◌, length, IfOk};
 ghost use Rattle.serde_json.specs.View.{view, items_view};
 ghost use Rattle.rdata.specs.Gives.{IsValueOfText};
 ghost use Rattle.line_reading.specs.Reading.{Reads};
-ghost use Rattle.set_lines.specs.Values.{value_of, value, record_value, together, values_in, records};
+ghost use Rattle.set_lines.specs.Values.{value_of, value, record_value, together, values_in};
+ghost use Rattle.set_lines.specs.Values.{records};
 
 use line_reading::{LineFault, LineReason, Member, each, list, object, required};
 use octets::OutOfMemory;

@@ -5,7 +5,9 @@ ghost use Rattle.serde_json.specs.View.{view, items_view};
 ghost use Rattle.serde_json.specs.Data.{item, no_items};
 ghost use Rattle.line_reading.specs.Reading.{each};
 ghost use Rattle.line_reading.specs.Kinds.{name};
-ghost use Rattle.zone_lines.specs.Zones.{create_hosted_zone, delete_hosted_zone, hosted_zone_config, not_private, four_names, default_servers};
+ghost use Rattle.zone_lines.specs.Zones.{create_hosted_zone, delete_hosted_zone};
+ghost use Rattle.zone_lines.specs.Zones.{hosted_zone_config, not_private, four_names};
+ghost use Rattle.zone_lines.specs.Zones.{default_servers};
 
 use dns_name::Name;
 use line_reading::{LineFault, Member, flag, list, name, object, optional, required, zone_id};

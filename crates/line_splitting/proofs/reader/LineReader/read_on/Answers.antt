@@ -4,7 +4,8 @@ use Rattle.line_splitting.proofs.reader.LineReader.read_on.Goals as goal
 
 pub returns-then-self-eq0-clause-answers : goal.returns-then-self-eq0-clause-answers
 returns-then-self-eq0-clause-answers g c =
-    at_limit c.args.self.now c.requires.no_end (sym (ap (λ r. r.ended) c.self.view_is) ∙ c.if-self.false)
+    at_limit c.args.self.now c.requires.no_end (sym (ap (λ r. r.ended) c.self.view_is)
+    ∙ c.if-self.false)
     (sym (ap (λ r. r.budget) c.self.view_is) ∙ c.if-self-eq0.true)
 
 pub returns-in-Bytes-clause-answers : goal.returns-in-Bytes-clause-answers

@@ -10,4 +10,5 @@ returns-in-Bytes-clause-takes g c = λ left h.
     ∙ c.move_to_front-len.ensures.front ∙ ap (λ b. drop c.self.inside.start (take c.self.inside.end b)) c.as_mut_slice-buffer.ensures.value
     ∙ ap (λ w. w.waiting) c.self.view_is)
     (omega (arith, c.in-Bytes.ensures.grows.1, c.in-Bytes.ensures.size))
-    (c.in-Bytes.ensures.size ∙ c.move_to_front-len.ensures.size ∙ c.as_mut_slice-buffer.ensures.len) (c.in-Bytes.ensures.takes left h)
+    (c.in-Bytes.ensures.size ∙ c.move_to_front-len.ensures.size
+    ∙ c.as_mut_slice-buffer.ensures.len) (c.in-Bytes.ensures.takes left h)
