@@ -119,15 +119,15 @@ impl StoredZone {
         leave_all(store, self.id, &mut self.order, remove, add, added, removed);
     }
 
-    /// All its sets go. Their references are told, in zone order.
-    pub fn close(&mut self, store: &mut SetStore, removed: &mut Vec<SetRef>)
-        requires order { IsOrder store.old.slots self.old.id self.old.order }
+    /// The zone goes, with all its sets. Their references are told, in zone order.
+    pub fn close(mut self, store: &mut SetStore, removed: &mut Vec<SetRef>)
+        requires order { IsOrder store.old.slots self.id self.order }
         requires none { removed.old.items ≡ [] }
-        requires room { length self.old.order ≤ vec_capacity removed.old }
+        requires room { length self.order ≤ vec_capacity removed.old }
         ensures told { removed.new.items
-            ≡ map (ref_in self.old.id) (placed_of store.old.slots self.old.id self.old.order) }
-        ensures order { IsOrder store.new.slots self.old.id [] }
-        ensures others { OthersStay self.old.id store.old.slots store.new.slots }
+            ≡ map (ref_in self.id) (placed_of store.old.slots self.id self.order) }
+        ensures order { IsOrder store.new.slots self.id [] }
+        ensures others { OthersStay self.id store.old.slots store.new.slots }
     {
         tell_all(store, &self.order, self.id, removed);
         clear(store, self.id, &mut self.order);

@@ -136,7 +136,7 @@ fn close(
     let Some(place) = find_zone(list, zone) else {
         unreachable!()
     };
-    let mut closed = list.remove(place);
+    let closed = list.remove(place);
     closed.close(store, &mut removed);
     Delta {
         zone,
