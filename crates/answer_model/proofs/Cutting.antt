@@ -18,7 +18,8 @@ use Rattle.zone_model.specs.Zones.{IsAmong, group, is_of_group}
 use Rattle.answer_model.specs.Laws.{CutOrNone, CutsAreNearest, IsCutAbove}
 use Rattle.answer_model.specs.Names.{is_below}
 use Rattle.answer_model.specs.Sections.{cut_above, cut_at}
-use Rattle.answer_model.specs.Zones.{Zone, or_else}
+use Rattle.zone_model.specs.Hosted.{HostedZone}
+use Rattle.answer_model.specs.Zones.{or_else}
 use Rattle.answer_model.proofs.Naming.{below, ends_shorter, ends_under, splits}
 
 module _ {X : Type 0} where
@@ -72,11 +73,11 @@ of_group name set =
     Decides-and _ _ (same_labels-Decides name set.name) (is_ns set.rtype)
 
 -- an NS set at a name that is below the apex; or there is none
-abbrev IsCutAt : Zone → (name : List (List ℕ)) → Option RecordSet → Type 0
+abbrev IsCutAt : HostedZone → (name : List (List ℕ)) → Option RecordSet → Type 0
 IsCutAt zone name None = (other : RecordSet) → IsCutAbove zone name other → name ≡ other.name → ⊥
 IsCutAt zone name (Some cut) = IsCutAbove zone name cut × (name ≡ cut.name)
 
-below_apex : (zone : Zone) (name : List (List ℕ)) (found : Option RecordSet)
+below_apex : (zone : HostedZone) (name : List (List ℕ)) (found : Option RecordSet)
     → IsAncestor name zone.apex
     → FirstOf (is_of_group name Ns) zone.sets found → IsCutAt zone name found
 below_apex zone name None ancestor none = λ other cut same.
@@ -94,7 +95,7 @@ below_apex zone name (Some cut) ancestor found =
       is_one.0,
     )
 
-at_name : (zone : Zone) (name : List (List ℕ)) → IsCutAt zone name (cut_at zone name)
+at_name : (zone : HostedZone) (name : List (List ℕ)) → IsCutAt zone name (cut_at zone name)
 at_name zone name = by (is_below name zone.apex) (below name zone.apex)
   where
     by : (b : Bool) → Decides b (IsAncestor name zone.apex)
@@ -108,7 +109,7 @@ at_name zone name = by (is_below name zone.apex) (below name zone.apex)
     ))
 
 -- a cut above the parent is one above the name
-of_parent : (zone : Zone) (label : List ℕ) (name : List (List ℕ)) (cut : RecordSet)
+of_parent : (zone : HostedZone) (label : List ℕ) (name : List (List ℕ)) (cut : RecordSet)
     → IsCutAbove zone name cut → IsCutAbove zone (label ∷ name) cut
 of_parent zone label name cut is = record {
   there = is.there;
@@ -118,7 +119,7 @@ of_parent zone label name cut is = record {
 }
 
 -- a cut above a name is at it, or above the parent
-at_or_above : (zone : Zone) (label : List ℕ) (name : List (List ℕ)) (cut : RecordSet)
+at_or_above : (zone : HostedZone) (label : List ℕ) (name : List (List ℕ)) (cut : RecordSet)
     → IsCutAbove zone (label ∷ name) cut
     → (label ∷ name ≡ cut.name) ⊎ IsCutAbove zone name cut
 at_or_above zone label name cut is = elim (splits label name cut.name is.above) [
@@ -131,7 +132,7 @@ at_or_above zone label name cut is = elim (splits label name cut.name is.above) 
   })
 ]
 
-joined : (zone : Zone) (label : List ℕ) (name : List (List ℕ)) (above here : Option RecordSet)
+joined : (zone : HostedZone) (label : List ℕ) (name : List (List ℕ)) (above here : Option RecordSet)
     → CutOrNone zone name above → IsCutAt zone (label ∷ name) here
     → CutOrNone zone (label ∷ name) (or_else above here)
 joined zone label name (Some cut) here rest at = (
@@ -156,7 +157,7 @@ joined zone label name None None none none_here = λ other is.
       | inr higher ↦ none other higher
     ]
 
-at_root : (zone : Zone) (found : Option RecordSet) → IsCutAt zone [] found → CutOrNone zone [] found
+at_root : (zone : HostedZone) (found : Option RecordSet) → IsCutAt zone [] found → CutOrNone zone [] found
 at_root zone None none = λ other is. none other is (root other.name is.above)
   where
     root : (other : List (List ℕ)) → EndsWith [] other → [] ≡ other

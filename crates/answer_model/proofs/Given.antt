@@ -20,7 +20,7 @@ use Rattle.answer_model.specs.Clients.{Client}
 use Rattle.answer_model.specs.Descent.{unused}
 use Rattle.answer_model.specs.Reply.{Asker, Served, reply_to_read}
 use Rattle.answer_model.specs.Sections.{Lookup, Sections}
-use Rattle.answer_model.specs.Zones.{Zone}
+use Rattle.zone_model.specs.Hosted.{HostedZone}
 
 -- a set with a policy and values
 abbrev pub routed : List (List ℕ) → RType → Routing → (ttl : ℕ) → List (List ℕ) → RecordSet
@@ -60,7 +60,7 @@ nobody = record {
 }
 
 -- looked up in a zone, among zones, where all sets are healthy and each word is 0
-abbrev pub among : List Zone → Zone → (qtype : ℕ) → Lookup
+abbrev pub among : List HostedZone → HostedZone → (qtype : ℕ) → Lookup
 among zones zone qtype = record {
   zones = zones;
   zone = zone;
@@ -72,7 +72,7 @@ among zones zone qtype = record {
   qtype = qtype;
 }
 
-abbrev pub within : Zone → (qtype : ℕ) → Lookup
+abbrev pub within : HostedZone → (qtype : ℕ) → Lookup
 within zone qtype = among (zone ∷ []) zone qtype
 
 -- sections with AA and RCODE 0, for which nothing was used of the client
@@ -140,7 +140,7 @@ soa = wire (codes "ns1" ∷ codes "r53" ∷ codes "invalid" ∷ [])
 abbrev pub apex_soa : Record
 apex_soa = rr example 900 rtype.Soa soa
 
-abbrev pub zone_of : List RecordSet → Zone
+abbrev pub zone_of : List RecordSet → HostedZone
 zone_of sets = record {
   id = 1;
   apex = example;

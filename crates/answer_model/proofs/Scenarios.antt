@@ -12,7 +12,7 @@ use Rattle.routing.specs.declared.policies.Routing.TheVariants as routing
 use Rattle.answer_model.specs.Descent.{descend}
 use Rattle.answer_model.specs.Reply.{reply_to_read}
 use Rattle.answer_model.specs.Sections.{sections}
-use Rattle.answer_model.specs.Zones.{Zone}
+use Rattle.zone_model.specs.Hosted.{HostedZone}
 use Rattle.answer_model.proofs.Given.{alias, among, answered, no_data_with, routed, rr, simple}
 use Rattle.answer_model.proofs.Given.{within}
 use Rattle.answer_model.proofs.Given.{apex_soa, asker, example, net, query, reply, serving, www}
@@ -230,14 +230,14 @@ outside : sections (within (zone_of (to_elsewhere ∷ [])) 1) www
 unfolding sections descend
 outside = refl
 
-abbrev net_zone : Zone
+abbrev net_zone : HostedZone
 net_zone = record {
   id = 2;
   apex = codes "example" ∷ codes "net" ∷ [];
   sets = simple elsewhere rtype.A 60 (net 1 ∷ []) ∷ [];
 }
 
-abbrev com_zone : Zone
+abbrev com_zone : HostedZone
 com_zone = zone_of (to_elsewhere ∷ [])
 
 in_another_zone : sections (among (com_zone ∷ net_zone ∷ []) com_zone 1) www
@@ -246,10 +246,10 @@ unfolding sections descend
 in_another_zone = refl
 
 -- a zone of a longer name holds the target
-abbrev sub_zone : Zone
+abbrev sub_zone : HostedZone
 sub_zone = record { id = 2; apex = sub; sets = simple sub rtype.A 60 (net 1 ∷ []) ∷ [] }
 
-abbrev to_sub : Zone
+abbrev to_sub : HostedZone
 to_sub = zone_of (simple www rtype.Cname 300 (name_wire sub ∷ [])
     ∷ simple sub rtype.A 60 (net 2 ∷ []) ∷ [])
 

@@ -7,7 +7,7 @@ use Rattle.rdata_layout.specs.declared.types.RType.TheVariants as rtype
 use Rattle.answer_model.specs.Descent.{descend}
 use Rattle.answer_model.specs.Names.{closest, source}
 use Rattle.answer_model.specs.Sections.{sections}
-use Rattle.answer_model.specs.Zones.{Zone}
+use Rattle.zone_model.specs.Hosted.{HostedZone}
 use Rattle.answer_model.proofs.Given.{simple, rr, within, answered, no_data_with, no_name_with}
 use Rattle.answer_model.proofs.Given.{referral_to, soa_data}
 
@@ -48,7 +48,7 @@ no_wildcard = 22 ∷ codes "this is not a wildcard"
 abbrev exchange : List ℕ
 exchange = 0 ∷ 10 ∷ wire host1
 
-abbrev zone : Zone
+abbrev zone : HostedZone
 zone = record {
   id = 1;
   apex = example;
@@ -179,7 +179,7 @@ ns1_xx = codes "ns1" ∷ xx
 abbrev xx_soa : List ℕ
 xx_soa = soa_data ns1_xx (codes "hostmaster" ∷ ns1_xx) 120
 
-abbrev xx_zone : Zone
+abbrev xx_zone : HostedZone
 xx_zone = record {
   id = 2;
   apex = xx;
@@ -206,7 +206,7 @@ unfolding sections descend
 no_mx = refl
 
 -- the SOA's own TTL is the lesser one
-abbrev short_soa : Zone
+abbrev short_soa : HostedZone
 short_soa = record xx_zone { sets = simple xx rtype.Soa 60 (xx_soa ∷ []) ∷ [] }
 
 shorter : sections (within short_soa 1) tripple ≡ no_name_with (rr xx 60 rtype.Soa xx_soa)
@@ -242,7 +242,7 @@ root_soa = wire sri_nic ++ (wire (codes "hostmaster" ∷ sri_nic) ++ (0 ∷ 0x0D
     ∷ 0 ∷ 0 ∷ 0x07 ∷ 0x08 ∷ 0 ∷ 0 ∷ 0x01 ∷ 0x2C ∷ 0 ∷ 0x09 ∷ 0x3A ∷ 0x80 ∷ 0 ∷ 1 ∷ 0x51 ∷ 0x80
     ∷ []))
 
-abbrev root_zone : Zone
+abbrev root_zone : HostedZone
 root_zone = record {
   id = 3;
   apex = [];

@@ -13,35 +13,36 @@ use Rattle.record_set.specs.declared.sets.RecordSet.{RecordSet}
 use Rattle.zone_model.specs.Zones.{IsAmong}
 use Rattle.answer_model.specs.Laws.{AskedGroups, IsZoneFor, ZoneOrNone, ZonesAreLongest}
 use Rattle.answer_model.specs.Sections.{asked_group}
-use Rattle.answer_model.specs.Zones.{Zone, or_else, zone_at, zone_for}
+use Rattle.zone_model.specs.Hosted.{HostedZone}
+use Rattle.answer_model.specs.Zones.{or_else, zone_at, zone_for}
 use Rattle.answer_model.proofs.Naming.{ends_shorter, ends_under, splits}
 
 -- the zone at a name is one of them and has the name; or none has it
-abbrev IsAtName : List Zone → (name : List (List ℕ)) → Option Zone → Type 0
-IsAtName zones name None = (zone : Zone) → IsAmong zones zone → zone.apex ≢ name
+abbrev IsAtName : List HostedZone → (name : List (List ℕ)) → Option HostedZone → Type 0
+IsAtName zones name None = (zone : HostedZone) → IsAmong zones zone → zone.apex ≢ name
 IsAtName zones name (Some zone) = IsAmong zones zone × (zone.apex ≡ name)
 
 -- one zone more, which has the name or not
-one_more : (zone : Zone) (zones : List Zone) (name : List (List ℕ)) (b : Bool)
-    → Decides b (zone.apex ≡ name) → (found : Option Zone) → IsAtName zones name found
+one_more : (zone : HostedZone) (zones : List HostedZone) (name : List (List ℕ)) (b : Bool)
+    → Decides b (zone.apex ≡ name) → (found : Option HostedZone) → IsAtName zones name found
     → IsAtName (zone ∷ zones) name (cond b (Some zone) found)
 one_more zone zones name true decides found rest = (inl refl, decides.0 refl)
 one_more zone zones name false decides None rest = other
   where
-    other : (x : Zone) → IsAmong (zone ∷ zones) x → x.apex ≢ name
+    other : (x : HostedZone) → IsAmong (zone ∷ zones) x → x.apex ≢ name
     other x (inl e) same =
-        absurd (grind (arith, decides.1 (subst (λ (z : Zone). z.apex ≡ name) (sym e) same)))
+        absurd (grind (arith, decides.1 (subst (λ (z : HostedZone). z.apex ≡ name) (sym e) same)))
     other x (inr there) same = rest x there same
 one_more zone zones name false decides (Some found) rest = (inr rest.0, rest.1)
 
-at_name : (zones : List Zone) (name : List (List ℕ)) → IsAtName zones name (zone_at zones name)
+at_name : (zones : List HostedZone) (name : List (List ℕ)) → IsAtName zones name (zone_at zones name)
 at_name [] name = λ zone there. absurd there
 at_name (zone ∷ zones) name =
     one_more zone zones name (same_labels zone.apex name) (same_labels-Decides zone.apex name)
     (zone_at zones name) (at_name zones name)
 
 -- of the zones that hold a name that one of them has, it is the longest
-has_name : (zones : List Zone) (name : List (List ℕ)) (zone : Zone) → IsAmong zones zone
+has_name : (zones : List HostedZone) (name : List (List ℕ)) (zone : HostedZone) → IsAmong zones zone
     → zone.apex ≡ name → IsZoneFor zones name zone
 has_name zones name zone there same = record {
   there = there;
@@ -51,7 +52,7 @@ has_name zones name zone there same = record {
       (ends_shorter name other.apex ends);
 }
 
-root_zone : (zones : List Zone) (found : Option Zone) → IsAtName zones [] found
+root_zone : (zones : List HostedZone) (found : Option HostedZone) → IsAtName zones [] found
     → ZoneOrNone zones [] found
 root_zone zones None none = λ zone there ends. none zone there (root zone.apex ends)
   where
@@ -61,7 +62,7 @@ root_zone zones None none = λ zone there ends. none zone there (root zone.apex 
 root_zone zones (Some zone) at = has_name zones [] zone at.0 at.1
 
 -- the zone at a name comes before the one for its parent
-nearer : (zones : List Zone) (label : List ℕ) (name : List (List ℕ)) (found above : Option Zone)
+nearer : (zones : List HostedZone) (label : List ℕ) (name : List (List ℕ)) (found above : Option HostedZone)
     → IsAtName zones (label ∷ name) found → ZoneOrNone zones name above
     → ZoneOrNone zones (label ∷ name) (or_else found above)
 nearer zones label name (Some zone) above at rest = has_name zones (label ∷ name) zone at.0 at.1

@@ -22,7 +22,8 @@ use Rattle.answer_model.specs.Location.{scope_in, told_in}
 use Rattle.answer_model.specs.Names.{closest, exists, is_at_or_below, is_below}
 use Rattle.answer_model.specs.Reply.{Answers, Asker, Served}
 use Rattle.answer_model.specs.Sections.{Lookup, asked_group, cut_above, sections}
-use Rattle.answer_model.specs.Zones.{Zone, zone_for}
+use Rattle.zone_model.specs.Hosted.{HostedZone}
+use Rattle.answer_model.specs.Zones.{zone_for}
 
 -- A name is at or below another one where its last labels are those of the other, and below it
 -- where it isn't that one too.
@@ -42,36 +43,36 @@ EnclosersAreClosest = (sets : List RecordSet) (name ancestor : List (List ℕ))
     → IsAncestor name ancestor → Exists sets ancestor → IsClosest sets name (closest sets name)
 
 -- Of the zones that hold a name it is the one of the longest name.
-pub record IsZoneFor (zones : List Zone) (name : List (List ℕ)) (zone : Zone) : Type 0 where
+pub record IsZoneFor (zones : List HostedZone) (name : List (List ℕ)) (zone : HostedZone) : Type 0 where
   pub there : IsAmong zones zone
   pub above : EndsWith name zone.apex
-  pub longest : (other : Zone) → IsAmong zones other → EndsWith name other.apex
+  pub longest : (other : HostedZone) → IsAmong zones other → EndsWith name other.apex
       → length other.apex ≤ length zone.apex
 
 -- it, or that no zone holds the name
-abbrev pub ZoneOrNone : List Zone → (name : List (List ℕ)) → Option Zone → Type 0
+abbrev pub ZoneOrNone : List HostedZone → (name : List (List ℕ)) → Option HostedZone → Type 0
 ZoneOrNone zones name (Some zone) = IsZoneFor zones name zone
-ZoneOrNone zones name None = (zone : Zone) → IsAmong zones zone → EndsWith name zone.apex → ⊥
+ZoneOrNone zones name None = (zone : HostedZone) → IsAmong zones zone → EndsWith name zone.apex → ⊥
 
 abbrev pub ZonesAreLongest : Type 0
-ZonesAreLongest = (zones : List Zone) (name : List (List ℕ))
+ZonesAreLongest = (zones : List HostedZone) (name : List (List ℕ))
     → ZoneOrNone zones name (zone_for zones name)
 
 -- An NS set above or at a name, below the apex.
-pub record IsCutAbove (zone : Zone) (name : List (List ℕ)) (cut : RecordSet) : Type 0 where
+pub record IsCutAbove (zone : HostedZone) (name : List (List ℕ)) (cut : RecordSet) : Type 0 where
   pub there : IsAmong zone.sets cut
   pub servers : cut.rtype ≡ Ns
   pub above : EndsWith name cut.name
   pub below_apex : IsAncestor cut.name zone.apex
 
 -- It is the one nearest the apex; or there is none.
-abbrev pub CutOrNone : Zone → (name : List (List ℕ)) → Option RecordSet → Type 0
+abbrev pub CutOrNone : HostedZone → (name : List (List ℕ)) → Option RecordSet → Type 0
 CutOrNone zone name None = (other : RecordSet) → IsCutAbove zone name other → ⊥
 CutOrNone zone name (Some cut) = IsCutAbove zone name cut
     × ((other : RecordSet) → IsCutAbove zone name other → length cut.name ≤ length other.name)
 
 abbrev pub CutsAreNearest : Type 0
-CutsAreNearest = (zone : Zone) (name : List (List ℕ)) → CutOrNone zone name (cut_above zone name)
+CutsAreNearest = (zone : HostedZone) (name : List (List ℕ)) → CutOrNone zone name (cut_above zone name)
 
 -- The sets of QTYPE are the group of that type, and none where no type has the number.
 pub record AskedGroups : Type 0 where

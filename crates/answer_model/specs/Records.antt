@@ -13,7 +13,7 @@ use Rattle.record_set.specs.declared.sets.RecordSet.{RecordSet}
 use Rattle.routing.specs.declared.policies.Routing.{Routing}
 use Rattle.routing.specs.declared.policies.Routing.TheVariants as routing
 use Rattle.zone_model.specs.Zones.{group}
-use Rattle.answer_model.specs.Zones.{Zone}
+use Rattle.zone_model.specs.Hosted.{HostedZone}
 
 -- records of a name with these data
 abbrev pub records : (owner : List (List ℕ)) → RType → (ttl : ℕ) → (rdatas : List (List ℕ))
@@ -74,7 +74,7 @@ soa_record apex ttl rdata = record {
   rdata = rdata;
 }
 
-abbrev pub soa_records : Zone → List Record
+abbrev pub soa_records : HostedZone → List Record
 soa_records zone = flat_map (λ (set : RecordSet).
     map (soa_record zone.apex (ttl_of set.body)) (data_of set.body))
     (group zone.sets zone.apex rtype.Soa)

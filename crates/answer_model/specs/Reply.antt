@@ -18,12 +18,13 @@ use Rattle.record_set.specs.declared.sets.SetKey.{SetKey}
 use Rattle.answer_model.specs.declared.used.Used.{Used}
 use Rattle.answer_model.specs.Clients.{Client, client_address, client_at}
 use Rattle.answer_model.specs.Sections.{Lookup, Sections, sections}
-use Rattle.answer_model.specs.Zones.{Zone, zone_for}
+use Rattle.zone_model.specs.Hosted.{HostedZone}
+use Rattle.answer_model.specs.Zones.{zone_for}
 
 -- What queries are answered from: the zones and the collections of address blocks, the test of
 -- healthy sets by the zone's number and the set's key, and the tables of places and latencies.
 pub record Served : Type 0 where
-  pub zones : List Zone
+  pub zones : List HostedZone
   pub collections : List (ℕ × Collection)
   pub healthy : (zone : ℕ) → SetKey → Bool
   pub tables : Tables
@@ -65,7 +66,7 @@ abbrev pub client_of : Served → (peer : IpAddress) → Query → Client
 client_of served peer query =
     client_at served.tables served.collections (client_address (subnet_of query.edns) peer)
 
-abbrev pub lookup_of : Served → (words : List ℕ) → Query → Client → Zone → Lookup
+abbrev pub lookup_of : Served → (words : List ℕ) → Query → Client → HostedZone → Lookup
 lookup_of served words query client zone = record {
   zones = served.zones;
   zone = zone;
@@ -85,7 +86,7 @@ with_sections query client found = record (reply_to query) {
 }
 
 -- in the zone of the longest name; REFUSED (5) where no zone holds the name
-abbrev pub zone_reply : Served → Asker → Query → Option Zone → Message
+abbrev pub zone_reply : Served → Asker → Query → Option HostedZone → Message
 zone_reply served asker query None = refusal_of query
 zone_reply served asker query (Some zone) =
     with_sections query (client_of served asker.peer query)

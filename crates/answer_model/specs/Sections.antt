@@ -13,7 +13,8 @@ use Rattle.answer_model.specs.declared.used.Used.{Used}
 use Rattle.answer_model.specs.Descent.{Choices, Means, Descended, descend, no_choices}
 use Rattle.answer_model.specs.Names.{is_below, source}
 use Rattle.answer_model.specs.Records.{answer_records, data_of, glue_of, set_records, soa_records}
-use Rattle.answer_model.specs.Zones.{Zone, or_else, zone_for}
+use Rattle.zone_model.specs.Hosted.{HostedZone}
+use Rattle.answer_model.specs.Zones.{or_else, zone_for}
 
 -- The records of the three sections, AA, RCODE, and what the choices used.
 pub record Sections : Type 0 where
@@ -26,8 +27,8 @@ pub record Sections : Type 0 where
 
 -- How names are looked up: by all zones, in this one, with these means, for this QTYPE.
 pub record Lookup : Type 0 where
-  pub zones : List Zone
-  pub zone : Zone
+  pub zones : List HostedZone
+  pub zone : HostedZone
   pub means : Means
   pub qtype : ℕ
 
@@ -45,11 +46,11 @@ ends used = record {
 }
 
 -- No data: the name exists, without a record that answers (RFC 2308, 2.2).
-abbrev pub no_data : Zone → Used → Sections
+abbrev pub no_data : HostedZone → Used → Sections
 no_data zone used = record (ends used) { authorities = soa_records zone }
 
 -- NXDOMAIN (3): the name doesn't exist (RFC 2308, 2.1).
-abbrev pub nxdomain : Zone → Used → Sections
+abbrev pub nxdomain : HostedZone → Used → Sections
 nxdomain zone used = record (no_data zone used) { rcode = 3 }
 
 -- A referral: the name servers of the cut, and the addresses that the zone has of them. The answer
@@ -64,13 +65,13 @@ referral sets cut used = record (ends used) {
 -- ---- one name
 
 -- the NS set at a name, below the apex
-abbrev pub cut_at : Zone → (name : List (List ℕ)) → Option RecordSet
+abbrev pub cut_at : HostedZone → (name : List (List ℕ)) → Option RecordSet
 cut_at zone name =
     if is_below name zone.apex then slice_get (group zone.sets name rtype.Ns) 0 else None
 
 -- The zone cut above or at a name: of the NS sets at it and between it and the apex, the apex left
 -- out, the one nearest the apex (RFC 1034, 4.2 and 4.3.2, step 3b).
-abbrev pub cut_above : Zone → (name : List (List ℕ)) → Option RecordSet
+abbrev pub cut_above : HostedZone → (name : List (List ℕ)) → Option RecordSet
 cut_above zone [] = cut_at zone []
 cut_above zone (label ∷ name) = or_else (cut_above zone name) (cut_at zone (label ∷ name))
 
@@ -132,7 +133,7 @@ abbrev pub with_cname : Record → Sections → Sections
 with_cname cname rest = record rest { answers = cname ∷ rest.answers; aa = true }
 
 -- the zone of the longest name is this one
-abbrev pub is_zone : Zone → Option Zone → Bool
+abbrev pub is_zone : HostedZone → Option HostedZone → Bool
 is_zone zone None = false
 is_zone zone (Some other) = zone.id == other.id
 

@@ -1,18 +1,12 @@
 -- The zones that are served, and the one in which a name is looked for (RFC 1034, 4.3.2, step 2).
-use Rattle.std.specs.Prelude.{ℕ, List, [], ◌∷◌, Option, None, Some}
+use Rattle.std.specs.Prelude.{List, ℕ, [], ◌∷◌, Option, None, Some}
 use Rattle.std.specs.List.{find}
 use Rattle.dns_name.specs.Order.{same_labels}
-use Rattle.record_set.specs.declared.sets.RecordSet.{RecordSet}
-
--- A zone: its number, the name of its apex, and its sets in zone order.
-pub record Zone : Type 0 where
-  pub id : ℕ
-  pub apex : List (List ℕ)
-  pub sets : List RecordSet
+use Rattle.zone_model.specs.Hosted.{HostedZone}
 
 -- the zone of this name
-abbrev pub zone_at : List Zone → (name : List (List ℕ)) → Option Zone
-zone_at zones name = find (λ (zone : Zone). same_labels zone.apex name) zones
+abbrev pub zone_at : List HostedZone → (name : List (List ℕ)) → Option HostedZone
+zone_at zones name = find (λ (zone : HostedZone). same_labels zone.apex name) zones
 
 -- the first where there is one, else the other
 abbrev pub or_else : {X : Type 0} → (first other : Option X) → Option X
@@ -20,6 +14,6 @@ or_else (Some x) other = Some x
 or_else None other = other
 
 -- The zone that is the nearest ancestor of a name: the one at the name, else that of its parent.
-abbrev pub zone_for : List Zone → (name : List (List ℕ)) → Option Zone
+abbrev pub zone_for : List HostedZone → (name : List (List ℕ)) → Option HostedZone
 zone_for zones [] = zone_at zones []
 zone_for zones (label ∷ name) = or_else (zone_at zones (label ∷ name)) (zone_for zones name)

@@ -4,14 +4,19 @@ use Rattle.std.specs.List.{AllByRecursion}
 use Rattle.dns_name.specs.Suffix.{EndsWith}
 use Rattle.record_set.specs.declared.sets.RecordSet.{RecordSet}
 use Rattle.set_octets.specs.Octets.{HasSpelling}
+use Rattle.zone_model.specs.Hosted.{HostedZone}
 use Rattle.zone_model.specs.Zones.{IsAmong}
-use Rattle.zone_model.specs.Placed.{Placed, AreOfZone}
+use Rattle.zone_model.specs.Placed.{Placed, AreOfZone, sets_of}
 
 -- A zone: its number, the name of its apex, and its sets in zone order, each with its slot.
 pub record Zone : Type 0 where
   pub id : ℕ
   pub apex : List (List ℕ)
   pub placed : List Placed
+
+-- a zone without the slots of its sets
+abbrev pub hosted : Zone → HostedZone
+hosted zone = record { id = zone.id; apex = zone.apex; sets = sets_of zone.placed }
 
 -- one of the zones
 abbrev pub IsOne : List Zone → Zone → Type 0

@@ -1,4 +1,5 @@
 pub mod Existing
+pub mod Hosted
 pub mod KeyLaws
 pub mod Keys
 pub mod Laws

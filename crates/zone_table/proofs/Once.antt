@@ -6,18 +6,19 @@ use Rattle.std.proofs.lemmas.Bool.{cases_eq}
 use Rattle.std.proofs.lemmas.Option.{slice_get_within}
 use Rattle.record_set.specs.declared.sets.RecordSet.{RecordSet}
 use Rattle.record_set.specs.declared.sets.SetKey.{SetKey}
+use Rattle.zone_model.specs.Hosted.{HostedZone}
 use Rattle.zone_model.specs.Zones.{IsAmong, IsRising}
 use Rattle.zone_model.specs.Placed.{Placed, sets_of}
 use Rattle.zone_list.specs.declared.refs.SetRef.{SetRef}
 use Rattle.zone_list.specs.Changes.{Changes, ref_in}
-use Rattle.zone_list.specs.Zones.{Zone, AreListed, AreZones, IsOne, IsZoneId, StandsAlone, placed_in}
+use Rattle.zone_list.specs.Zones.{Zone, AreListed, AreZones, IsOne, IsZoneId, StandsAlone, hosted, placed_in}
 use Rattle.zone_list.proofs.Listing.{its_placed, one_zone}
 use Rattle.zone_list.proofs.Members.{filled, in_all, one_of_key, placed_with, same_sets, set_in, sorted_same, Sorted}
 use Rattle.zone_table.specs.declared.edits.ZoneEdit.{ZoneEdit}
 use Rattle.zone_table.specs.declared.edits.ZoneEdit.TheVariants as edit
 use Rattle.zone_table.specs.declared.refs.Delta.{Delta}
 use Rattle.zone_table.specs.Edits.{Edits, IsAllowed, Makes, zone_of}
-use Rattle.zone_table.specs.Laws.{OneApex, OneEdit, Seen, seen}
+use Rattle.zone_table.specs.Laws.{OneApex, OneEdit}
 use Rattle.zone_table.specs.Looking.{IsApex}
 
 -- ---- lists of zones
@@ -98,53 +99,53 @@ one_apex zones id one other are (x, there, x_id, x_apex) (y, there_too, y_id, y_
     ∙ (ap (λ (z : Zone). z.apex) (one_zone zones are.listed x y there there_too (x_id
     ∙ sym y_id)) ∙ y_apex)
 
-abbrev Lower : Seen → Seen → Type 0
+abbrev Lower : HostedZone → HostedZone → Type 0
 Lower x y = x.id < y.id
 
-lower_one_way : (x y : Seen) → Lower x y → Lower y x → ⊥
+lower_one_way : (x y : HostedZone) → Lower x y → Lower y x → ⊥
 lower_one_way x y lower higher = omega (arith, lower, higher)
 
--- what is seen of the zone with this number and name
-abbrev seen_at : List Zone → (zone : ℕ) (name : List (List ℕ)) → Seen
-seen_at zones zone name = record { id = zone; apex = name; sets = sets_of (placed_in zones zone) }
+-- what is hosted of the zone with this number and name
+abbrev hosted_at : List Zone → (zone : ℕ) (name : List (List ℕ)) → HostedZone
+hosted_at zones zone name = record { id = zone; apex = name; sets = sets_of (placed_in zones zone) }
 
-its_seen : (zones : List Zone) → AreListed zones → (x : Zone) → IsOne zones x
+its_hosted : (zones : List Zone) → AreListed zones → (x : Zone) → IsOne zones x
     → (zone : ℕ) (name : List (List ℕ)) → x.id ≡ zone → x.apex ≡ name
-    → seen x ≡ seen_at zones zone name
-its_seen zones listed x there zone name its_id its_apex =
+    → hosted x ≡ hosted_at zones zone name
+its_hosted zones listed x there zone name its_id its_apex =
     ap (λ (n : ℕ). record { id = n; apex = x.apex; sets = sets_of x.placed }) its_id
     ∙ (ap (λ (a : List (List ℕ)). record { id = zone; apex = a; sets = sets_of x.placed }) its_apex
     ∙ ap (λ (ps : List Placed). record { id = zone; apex = name; sets = sets_of ps })
     (sym (its_placed zones listed x there) ∙ ap (placed_in zones) its_id))
 
-apex_seen : (zones : List Zone) → AreListed zones → (zone : ℕ) (name : List (List ℕ))
-    → IsApex zones zone name → IsAmong (map seen zones) (seen_at zones zone name)
-apex_seen zones listed zone name (x, there, its_id, its_apex) =
-    subst (λ s. IsAmong (map seen zones) s)
-    (its_seen zones listed x there zone name its_id its_apex) (in_map seen zones x there)
+apex_hosted : (zones : List Zone) → AreListed zones → (zone : ℕ) (name : List (List ℕ))
+    → IsApex zones zone name → IsAmong (map hosted zones) (hosted_at zones zone name)
+apex_hosted zones listed zone name (x, there, its_id, its_apex) =
+    subst (λ s. IsAmong (map hosted zones) s)
+    (its_hosted zones listed x there zone name its_id its_apex) (in_map hosted zones x there)
 
 -- the zone with the number that has an apex
 seen_as : (zones : List Zone) → AreListed zones → (x : Zone) → IsOne zones x
     → (zone : ℕ) (name : List (List ℕ)) → x.id ≡ zone → IsApex zones zone name
-    → seen x ≡ seen_at zones zone name
+    → hosted x ≡ hosted_at zones zone name
 seen_as zones listed x there zone name its_id (y, there_too, y_id, y_apex) =
     let same : x ≡ y = one_zone zones listed x y there there_too (its_id ∙ sym y_id) in
-    its_seen zones listed x there zone name its_id (ap (λ (z : Zone). z.apex) same ∙ y_apex)
+    its_hosted zones listed x there zone name its_id (ap (λ (z : Zone). z.apex) same ∙ y_apex)
 
-seen_rises : (zones : List Zone) (s : Seen) (zone : Zone) → seen zone ≡ s
+hosted_rises : (zones : List Zone) (s : HostedZone) (zone : Zone) → hosted zone ≡ s
     → AllByRecursion (λ (other : Zone). (zone.id < other.id) × (zone.apex ≢ other.apex)) zones
-    → AllByRecursion (Lower s) (map seen zones)
-seen_rises [] s zone e all = tt
-seen_rises (x ∷ zones) s zone e all = (
-  (let lower = all.0.0 in let its_id : zone.id ≡ s.id = ap (λ (t : Seen). t.id) e in
+    → AllByRecursion (Lower s) (map hosted zones)
+hosted_rises [] s zone e all = tt
+hosted_rises (x ∷ zones) s zone e all = (
+  (let lower = all.0.0 in let its_id : zone.id ≡ s.id = ap (λ (t : HostedZone). t.id) e in
       omega (arith, lower, its_id)),
-  seen_rises zones s zone e all.1,
+  hosted_rises zones s zone e all.1,
 )
 
-seen_listed : (zones : List Zone) → AreListed zones → Sorted Lower lower_one_way (map seen zones)
-seen_listed [] listed = tt
-seen_listed (zone ∷ zones) listed =
-    (seen_rises zones (seen zone) zone refl listed.0, seen_listed zones listed.1)
+hosted_listed : (zones : List Zone) → AreListed zones → Sorted Lower lower_one_way (map hosted zones)
+hosted_listed [] listed = tt
+hosted_listed (zone ∷ zones) listed =
+    (hosted_rises zones (hosted zone) zone refl listed.0, hosted_listed zones listed.1)
 
 -- ---- what two edits made
 
@@ -242,32 +243,32 @@ module _ (before one other : List Zone) (told other_told : Delta) where
         told.removed told.added other_told.removed other_told.added m.1 n.1,
   )
 
--- what is seen in one is seen in the other
+-- what is hosted in one is hosted in the other
 seen_too : (before one other : List Zone) (made : ZoneEdit) (told other_told : Delta)
     → AreListed one → AreListed other
     → Edits before made one told → Edits before made other other_told
     → Leave one other (zone_of made)
-    → (s : Seen) → IsAmong (map seen one) s → IsAmong (map seen other) s
+    → (s : HostedZone) → IsAmong (map hosted one) s → IsAmong (map hosted other) s
 seen_too before one other made told other_told listed listed_too e f leave s there =
-    let x = of_map seen one s there in
+    let x = of_map hosted one s there in
     elim (cases_eq x.0.id (zone_of made)) [
       | inl same ↦ its x.0 x.1 x.2 same leave
       | inr apart ↦
-          subst (λ t. IsAmong (map seen other) t) x.2
-          (in_map seen other x.0 ((f.others x.0 apart).0 ((e.others x.0 apart).1 x.1)))
+          subst (λ t. IsAmong (map hosted other) t) x.2
+          (in_map hosted other x.0 ((f.others x.0 apart).0 ((e.others x.0 apart).1 x.1)))
     ]
   where
-    its : (x : Zone) → IsOne one x → seen x ≡ s → x.id ≡ zone_of made
-        → Leave one other (zone_of made) → IsAmong (map seen other) s
+    its : (x : Zone) → IsOne one x → hosted x ≡ s → x.id ≡ zone_of made
+        → Leave one other (zone_of made) → IsAmong (map hosted other) s
     its x at seen_x same (inl gone) = absurd (gone.0 (x, at, same))
     its x at seen_x same (inr (name, keep)) =
-        let here : seen x ≡ seen_at one (zone_of made) name =
+        let here : hosted x ≡ hosted_at one (zone_of made) name =
         seen_as one listed x at (zone_of made) name same keep.0 in
-        let other_one : seen_at one (zone_of made) name ≡ seen_at other (zone_of made) name =
+        let other_one : hosted_at one (zone_of made) name ≡ hosted_at other (zone_of made) name =
         ap (λ (sets : List RecordSet). record { id = zone_of made; apex = name; sets = sets })
         keep.2 in
-        subst (λ t. IsAmong (map seen other) t) (sym other_one
-        ∙ (sym here ∙ seen_x)) (apex_seen other listed_too (zone_of made) name keep.1)
+        subst (λ t. IsAmong (map hosted other) t) (sym other_one
+        ∙ (sym here ∙ seen_x)) (apex_hosted other listed_too (zone_of made) name keep.1)
 
 pub one_edit : OneEdit
 one_edit before one other made told other_told are are_one are_other allowed e f =
@@ -275,8 +276,8 @@ one_edit before one other made told other_told are are_one are_other allowed e f
     let tells = both_tell before one other told other_told made are allowed e.its f.its in
     record {
       zones =
-          sorted_same Lower lower_one_way (map seen one) (map seen other)
-          (seen_listed one are_one.listed) (seen_listed other are_other.listed)
+          sorted_same Lower lower_one_way (map hosted one) (map hosted other)
+          (hosted_listed one are_one.listed) (hosted_listed other are_other.listed)
           (seen_too before one other made told other_told are_one.listed are_other.listed e f leave)
           (seen_too before other one made other_told told are_other.listed are_one.listed f e
           (turned one other (zone_of made) leave));

@@ -1,8 +1,6 @@
 -- Laws over the definitions of this crate.
 use Rattle.std.specs.Prelude.{◌≡◌, ℕ, List, length, map}
-use Rattle.record_set.specs.declared.sets.RecordSet.{RecordSet}
-use Rattle.zone_model.specs.Placed.{sets_of}
-use Rattle.zone_list.specs.Zones.{Zone, AreZones}
+use Rattle.zone_list.specs.Zones.{Zone, AreZones, hosted}
 use Rattle.zone_table.specs.declared.edits.ZoneEdit.{ZoneEdit}
 use Rattle.zone_table.specs.declared.refs.Delta.{Delta}
 use Rattle.zone_table.specs.Edits.{Edits, IsAllowed}
@@ -12,18 +10,9 @@ use Rattle.zone_table.specs.Looking.{IsApex}
 abbrev pub OneApex : Type 0
 OneApex = (zones : List Zone) (id : ℕ) (one other : List (List ℕ)) → AreZones zones → IsApex zones id one → IsApex zones id other → one ≡ other
 
--- A zone without the slots of its sets.
-pub record Seen : Type 0 where
-  pub id : ℕ
-  pub apex : List (List ℕ)
-  pub sets : List RecordSet
-
-abbrev pub seen : Zone → Seen
-seen zone = record { id = zone.id; apex = zone.apex; sets = sets_of zone.placed }
-
 -- The zones and what is told of them are the same, but for the slots of sets.
 pub record AreAlike (one other : List Zone) (told other_told : Delta) : Type 0 where
-  pub zones : map seen one ≡ map seen other
+  pub zones : map hosted one ≡ map hosted other
   pub zone : told.zone ≡ other_told.zone
   pub removed : told.removed ≡ other_told.removed
   pub added : length told.added ≡ length other_told.added
