@@ -3,3 +3,4 @@ pub mod Found
 pub mod Held
 pub mod Named
 pub mod Placed
+pub mod Told

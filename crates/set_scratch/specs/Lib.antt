@@ -2,3 +2,4 @@ pub mod Bodies
 pub mod Holding
 pub mod Kept
 pub mod Spelling
+pub mod Telling

@@ -7,9 +7,11 @@
 mod parts;
 mod places;
 mod scratch;
+mod telling;
 #[cfg(test)]
 mod tests;
 
 pub use octet_region::{Handle, Region};
 pub use octets::OutOfMemory;
 pub use scratch::Scratch;
+pub use telling::{Watch, is_alias_in, target_in, watch_in};

@@ -27,7 +27,7 @@ pub(crate) struct Places {
 }
 
 /// The octets of a body before its values: its kind, four of the time to live, two of their number.
-const BEFORE_VALUES: usize = 7;
+pub(crate) const BEFORE_VALUES: usize = 7;
 
 /// Finds the parts of a set among its octets, and puts the places of its values over others.
 pub(crate) fn find_parts(octets: &[u8], starts: &mut Vec<u16>) -> Places
@@ -72,7 +72,7 @@ fn find_values(octets: &[u8], body: usize, starts: &mut Vec<u16>) -> usize
 }
 
 /// The number of a body's values. None for an alias.
-fn count_in(octets: &[u8]) -> Option<u16>
+pub(crate) fn count_in(octets: &[u8]) -> Option<u16>
     ensures { (what : Body) (rest : List ℕ) → octets.now ≡ body_octets what ++ rest
         → result ≡ count_of what }
 {
@@ -83,7 +83,7 @@ fn count_in(octets: &[u8]) -> Option<u16>
 }
 
 /// What stands behind an alias.
-fn behind_alias(octets: &[u8]) -> &[u8]
+pub(crate) fn behind_alias(octets: &[u8]) -> &[u8]
     ensures within { length result.now ≤ length octets.now }
     ensures behind { (target : List (List ℕ)) (evaluate : Bool) (rest : List ℕ) → IsName target
         → octets.now ≡ body_octets (Alias target evaluate) ++ rest → result.now ≡ rest }
