@@ -1,6 +1,7 @@
 -- One element of a list replaced, and lists seen through functions.
 use Rattle.std.proofs.Common.{◌≡◌, ◌≢◌, ℕ, zero, suc, ◌<◌, List, [], ◌∷◌, ◌++◌, length, set, map, ap, ◌∙◌, refl, arith, Some, inl, inr}
 use Rattle.std.specs.Prelude.{◌⊎◌, slice_get}
+use Rattle.std.proofs.lemmas.List.{length-set}
 use Rattle.std.proofs.lemmas.Option.{slice_get_within}
 
 pub same_or_not : (a b : ℕ) → (a ≡ b) ⊎ (a ≢ b)
@@ -70,3 +71,7 @@ here xs now i was x at is = ap (λ ys. slice_get ys i) is ∙ get_same xs i x (s
 pub elsewhere : {X : Type 0} (xs now : List X) (i : ℕ) (x : X) → now ≡ set xs i x → (j : ℕ) → j ≢ i
     → slice_get now j ≡ slice_get xs j
 elsewhere xs now i x is j apart = ap (λ ys. slice_get ys j) is ∙ get_other xs i j x apart
+
+-- a list of which one element was replaced is as long
+pub as_many : {X : Type 0} (xs now : List X) (i : ℕ) (x : X) → now ≡ set xs i x → length now ≡ length xs
+as_many xs now i x is = ap length is ∙ length-set xs i x

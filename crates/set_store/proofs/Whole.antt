@@ -1,7 +1,9 @@
 -- Octets that are read as a set, whole.
-use Rattle.std.proofs.Common.{◌≡◌, ℕ, List, [], ◌++◌, Result, Ok, Err, length, take, ap, ◌∙◌, sym}
-use Rattle.std.specs.Prelude.{IfOk}
-use Rattle.std.proofs.lemmas.List.{append-nil}
+use Rattle.std.proofs.Common.{◌≡◌, ◌≤◌, ℕ, List, [], ◌++◌, Option, Some, Result, Ok, Err, length, min, take, ap, ◌∙◌, sym, arith}
+use Rattle.std.specs.FinMap as finmap
+use Rattle.std.specs.Prelude.{IfOk, slice_get}
+use Rattle.std.proofs.lemmas.List.{append-nil, take_all}
+use Rattle.octet_region.specs.Stored.{Held}
 use Rattle.std.proofs.Math.Seq.{take-append_seam, take-length}
 use Rattle.record_set.specs.declared.sets.RecordSet.{RecordSet}
 use Rattle.set_octets.specs.Octets.{set_octets}
@@ -9,6 +11,8 @@ use Rattle.set_reading.specs.declared.faults.ReadFault.{ReadFault}
 use Rattle.set_reading.specs.declared.faults.ReadFault.TheVariants as fault
 use Rattle.set_reading.specs.Gives.{ReadsSet}
 use Rattle.set_reading.specs.Sets.{BeginsWithSet}
+use Rattle.set_store.specs.declared.slots.Slot.{Slot}
+use Rattle.set_store.specs.Index.{HoldsAt}
 use Rattle.set_store.specs.Stored.{Spells}
 
 -- octets that are a set's begin with it
@@ -41,3 +45,21 @@ pub copied : (len : ℕ) (octets old into rest : List ℕ) → len ≡ length oc
 copied len octets old into rest size room is =
     let same : into ≡ octets = is ∙ ap (λ k. take k octets) room ∙ take-length octets in
     ap (λ k. take k (into ++ rest)) (size ∙ ap length (sym same)) ∙ take-append_seam into rest ∙ same
+
+-- a slot holds one thing
+pub one_held : (held : Held) (slots : List Slot) (i : ℕ) (one other : List ℕ) → HoldsAt held slots i one
+    → HoldsAt held slots i other → one ≡ other
+one_held held slots i one other holds also =
+    same_octets (finmap.get held holds.0.cell) one other holds.3
+    (ap (λ (s : Slot). finmap.get held s.cell) (same_slot (slice_get slots i) holds.0 also.0 holds.1 also.1)
+    ∙ also.3)
+  where
+    same_slot : (o : Option Slot) (x y : Slot) → o ≡ Some x → o ≡ Some y → x ≡ y
+    same_slot o x y e f = cc
+
+    same_octets : (o : Option (List ℕ)) (x y : List ℕ) → o ≡ Some x → o ≡ Some y → x ≡ y
+    same_octets o x y e f = cc
+
+-- as many as there are, and room for more
+pub all_of : (octets : List ℕ) (room : ℕ) → length octets ≤ room → take (min (length octets) room) octets ≡ octets
+all_of octets room fits = take_all (min (length octets) room) octets (omega (arith, fits))

@@ -3,3 +3,4 @@ pub mod Index
 pub mod Stored
 pub use Rattle.octet_region.specs.Cells
 pub use Rattle.set_reading.specs.Sets
+pub use Rattle.set_scratch.specs.Telling

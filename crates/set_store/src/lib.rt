@@ -13,4 +13,5 @@ mod store;
 mod tests;
 
 pub use octets::OutOfMemory;
+pub use set_scratch::Watch;
 pub use store::SetStore;

@@ -4,6 +4,8 @@ ghost use Rattle.std.specs.Prelude.{◌≡◌, ◌≤◌, ◌<◌, ◌++◌, ℕ
 ghost use Rattle.std.specs.Prelude.{Some, IfOk, IsTrue, ◌↔◌};
 ghost use Rattle.dns_name.specs.Suffix.{EndsWith};
 ghost use Rattle.record_set.specs.declared.sets.RecordSet.{RecordSet};
+ghost use Rattle.set_octets.specs.Octets.{most_octets, set_octets};
+ghost use Rattle.set_scratch.specs.Telling.{is_alias, target_of, watch_of};
 ghost use Rattle.set_search.specs.Bounds.{is_before};
 ghost use Rattle.set_search.specs.Stops.{bound_of};
 ghost use Rattle.set_store.specs.declared.slots.Slot.{Slot};
@@ -16,15 +18,19 @@ use crate::store::SetStore;
 use dns_name::Name;
 use octet_region::{Handle, Region};
 use octets::{OutOfMemory, front, zeros};
+use rdata::RType;
 use record_set::RecordSet;
 use set_parts::keys_are_in_front;
 use set_reading::{ReadFault, read_set, written_reads_back};
-use set_scratch::Scratch;
+use set_scratch::{Scratch, Watch, is_alias_in, target_in, watch_in};
 use set_search::Stop;
 use std::alloc::Global;
 
 /// Sets of so many octets or fewer are copied whole to be compared.
 const SHORT: usize = 64;
+
+/// Sets of so many octets or fewer are copied to be read; for longer ones there is a larger buffer.
+const FEW: usize = 128;
 
 impl SetStore {
     /// The number of the zone of a slot's set. None where the slot is vacant or not there.
@@ -71,6 +77,44 @@ impl SetStore {
             head_at(&self.region, &self.slots, slot, &mut [0; 387]),
             name,
         )
+    }
+
+    /// How many octets the set of a slot has.
+    pub fn size(&self, slot: u32) -> usize
+        requires { IsTaken self.now.slots slot }
+        ensures { (kept : Kept) → IsKept self.now.slots slot kept
+            → result ≡ length (set_octets kept.set) }
+    {
+        written_reads_back();
+        size_at(&self.region, &self.slots, slot)
+    }
+
+    /// Whether the set of a slot is an alias.
+    pub fn is_alias(&self, slot: u32) -> bool
+        requires { IsTaken self.now.slots slot }
+        ensures { (kept : Kept) → IsKept self.now.slots slot kept
+            → result ≡ is_alias kept.set.body }
+    {
+        written_reads_back();
+        is_alias_at(&self.region, &self.slots, slot)
+    }
+
+    /// What decides the health of the set of a slot.
+    pub fn watch(&self, slot: u32) -> Watch
+        requires { IsTaken self.now.slots slot }
+        ensures { (kept : Kept) → IsKept self.now.slots slot kept → result ≡ watch_of kept.set }
+    {
+        written_reads_back();
+        watch_at(&self.region, &self.slots, slot)
+    }
+
+    /// The name and the type of the target group of a slot's set, which an alias alone has.
+    pub fn target(&self, slot: u32) -> Option<(Name, RType)>
+        requires { IsTaken self.now.slots slot }
+        ensures { (kept : Kept) → IsKept self.now.slots slot kept → result ≡ target_of kept.set }
+    {
+        written_reads_back();
+        target_at(&self.region, &self.slots, slot)
     }
 
     /// Holds the set of a slot in a scratch, in place of the set that it held, and takes no memory.
@@ -165,6 +209,98 @@ fn head_at<'a>(region: &Region, slots: &Vec<Slot>, slot: u32, buffer: &'a mut [u
     let count = size_at(region, slots, slot).min(buffer.len());
     copy_at(region, slots, slot, &mut buffer[..count]);
     front(buffer, count)
+}
+
+/// Room for the octets of any set.
+fn room_in(room: &mut [u8; 65536]) -> &mut [u8]
+    ensures { length result.now ≡ most_octets }
+{
+    room
+}
+
+/// All octets of a slot's set, in a buffer that has room for them.
+fn whole_at<'a>(region: &Region, slots: &Vec<Slot>, slot: u32, buffer: &'a mut [u8]) -> &'a [u8]
+    requires { (octets : List ℕ) × HoldsAt region.now.held slots.now.items slot octets
+        × (length octets ≤ length buffer.old) }
+    ensures { (octets : List ℕ) → HoldsAt region.now.held slots.now.items slot octets
+        → result.now ≡ octets }
+{
+    head_at(region, slots, slot, buffer)
+}
+
+/// Whether the set of a slot is an alias.
+fn is_alias_at(region: &Region, slots: &Vec<Slot>, slot: u32) -> bool
+    requires { (octets : List ℕ) × HoldsAt region.now.held slots.now.items slot octets
+        × IsSpelling octets }
+    ensures { (octets : List ℕ) (set : RecordSet)
+        → HoldsAt region.now.held slots.now.items slot octets → Spells octets set
+        → result ≡ is_alias set.body }
+{
+    if size_at(region, slots, slot) <= FEW {
+        return is_alias_in(whole_at(region, slots, slot, &mut [0; 128]));
+    }
+    is_long_alias(region, slots, slot)
+}
+
+/// The same of a set of any size.
+fn is_long_alias(region: &Region, slots: &Vec<Slot>, slot: u32) -> bool
+    requires { (octets : List ℕ) × HoldsAt region.now.held slots.now.items slot octets
+        × IsSpelling octets }
+    ensures { (octets : List ℕ) (set : RecordSet)
+        → HoldsAt region.now.held slots.now.items slot octets → Spells octets set
+        → result ≡ is_alias set.body }
+{
+    is_alias_in(whole_at(region, slots, slot, room_in(&mut [0; 65536])))
+}
+
+/// What decides the health of a slot's set.
+fn watch_at(region: &Region, slots: &Vec<Slot>, slot: u32) -> Watch
+    requires { (octets : List ℕ) × HoldsAt region.now.held slots.now.items slot octets
+        × IsSpelling octets }
+    ensures { (octets : List ℕ) (set : RecordSet)
+        → HoldsAt region.now.held slots.now.items slot octets → Spells octets set
+        → result ≡ watch_of set }
+{
+    if size_at(region, slots, slot) <= FEW {
+        return watch_in(whole_at(region, slots, slot, &mut [0; 128]));
+    }
+    long_watch(region, slots, slot)
+}
+
+/// The same of a set of any size.
+fn long_watch(region: &Region, slots: &Vec<Slot>, slot: u32) -> Watch
+    requires { (octets : List ℕ) × HoldsAt region.now.held slots.now.items slot octets
+        × IsSpelling octets }
+    ensures { (octets : List ℕ) (set : RecordSet)
+        → HoldsAt region.now.held slots.now.items slot octets → Spells octets set
+        → result ≡ watch_of set }
+{
+    watch_in(whole_at(region, slots, slot, room_in(&mut [0; 65536])))
+}
+
+/// The target group of a slot's set, which an alias alone has.
+fn target_at(region: &Region, slots: &Vec<Slot>, slot: u32) -> Option<(Name, RType)>
+    requires { (octets : List ℕ) × HoldsAt region.now.held slots.now.items slot octets
+        × IsSpelling octets }
+    ensures { (octets : List ℕ) (set : RecordSet)
+        → HoldsAt region.now.held slots.now.items slot octets → Spells octets set
+        → result ≡ target_of set }
+{
+    if size_at(region, slots, slot) <= FEW {
+        return target_in(whole_at(region, slots, slot, &mut [0; 128]));
+    }
+    long_target(region, slots, slot)
+}
+
+/// The same of a set of any size.
+fn long_target(region: &Region, slots: &Vec<Slot>, slot: u32) -> Option<(Name, RType)>
+    requires { (octets : List ℕ) × HoldsAt region.now.held slots.now.items slot octets
+        × IsSpelling octets }
+    ensures { (octets : List ℕ) (set : RecordSet)
+        → HoldsAt region.now.held slots.now.items slot octets → Spells octets set
+        → result ≡ target_of set }
+{
+    target_in(whole_at(region, slots, slot, room_in(&mut [0; 65536])))
 }
 
 /// The cell of a slot.

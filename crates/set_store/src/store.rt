@@ -1,7 +1,7 @@
 //! A region of octets and the slots of the sets that stand in it.
 
 ghost use Rattle.std.specs.Prelude.{◌≡◌, ◌≢◌, ◌≤◌, ◌<◌, ◌+◌, ◌-◌, ◌^◌, ◌++◌, ℕ, [], length, Some};
-ghost use Rattle.std.specs.Prelude.{None, slice_get, slice_set, IsOk, OnOk, max};
+ghost use Rattle.std.specs.Prelude.{None, slice_get, slice_set, IsOk, MatchResult, max};
 ghost use Rattle.octet_region.specs.Cells.{cells_for};
 ghost use Rattle.record_set.specs.declared.sets.RecordSet.{RecordSet};
 ghost use Rattle.set_octets.specs.Octets.{set_octets};
@@ -86,6 +86,7 @@ impl SetStore {
         ensures others { (other : ℕ) → other ≢ result
             → slice_get self.new.slots other ≡ slice_get self.old.slots other }
 
+        ensures count { length self.new.slots ≡ length self.old.slots }
         ensures cells { self.new.cells ≡ self.old.cells - cells_for (length octets.now) }
         ensures free { self.new.free + 1 ≡ self.old.free }
     {
@@ -101,10 +102,11 @@ impl SetStore {
     /// Makes room for so many more sets, of so many cells in all, where there isn't as much. All
     /// that is kept stays, and room that was there too, also where memory runs out.
     pub fn reserve(&mut self, slots: usize, cells: usize) -> Result<(), OutOfMemory>
-        ensures slots { (more : ℕ) × (self.new.slots ≡ self.old.slots ++ nothing more) }
-        ensures cells { self.old.cells ≤ self.new.cells }
-        ensures free { self.old.free ≤ self.new.free }
-        ensures room { OnOk result ((slots ≤ self.new.free) × (cells ≤ self.new.cells)) }
+        ensures slots { self.new.slots ≡ self.old.slots ++ nothing (self.new.free - self.old.free) }
+        ensures free { MatchResult result (λ _. self.new.free ≡ max self.old.free slots)
+            (λ _. self.new.free ≡ self.old.free) }
+        ensures cells { MatchResult result (λ _. self.new.cells ≡ max self.old.cells cells)
+            (λ _. self.old.cells ≤ self.new.cells) }
         ensures ready { slots ≤ self.old.free → cells ≤ self.old.cells → IsOk result }
     {
         self.region.reserve(cells)?;
@@ -113,10 +115,10 @@ impl SetStore {
 
     /// Makes so many slots free, where there aren't as many.
     fn reserve_slots(&mut self, slots: usize) -> Result<(), OutOfMemory>
-        ensures slots { (more : ℕ) × (self.new.slots ≡ self.old.slots ++ nothing more) }
+        ensures slots { self.new.slots ≡ self.old.slots ++ nothing (self.new.free - self.old.free) }
+        ensures free { MatchResult result (λ _. self.new.free ≡ max self.old.free slots)
+            (λ _. self.new.free ≡ self.old.free) }
         ensures cells { self.new.cells ≡ self.old.cells }
-        ensures free { self.old.free ≤ self.new.free }
-        ensures room { OnOk result (slots ≤ self.new.free) }
         ensures ready { slots ≤ self.old.free → IsOk result }
     {
         if slots <= self.spare {
@@ -151,6 +153,7 @@ impl SetStore {
         ensures others { (other : ℕ) → other ≢ slot
             → slice_get self.new.slots other ≡ slice_get self.old.slots other }
 
+        ensures count { length self.new.slots ≡ length self.old.slots }
         ensures cells { (kept : Kept) → IsKept self.old.slots slot kept
             → self.new.cells + cells_for (length octets.now)
             ≡ self.old.cells + cells_for (length (set_octets kept.set)) }
@@ -181,6 +184,7 @@ impl SetStore {
         ensures others { (other : ℕ) → other ≢ slot
             → slice_get self.new.slots other ≡ slice_get self.old.slots other }
 
+        ensures count { length self.new.slots ≡ length self.old.slots }
         ensures cells { (kept : Kept) → IsKept self.old.slots slot kept
             → self.new.cells ≡ self.old.cells + cells_for (length (set_octets kept.set)) }
         ensures free { self.new.free ≡ self.old.free + 1 }

@@ -2,7 +2,7 @@ use Rattle.std.proofs.Common.{None, ◌-◌, Some, map, set, sym, ap, subst, ◌
 use Rattle.set_store.specs.Index.{IsIndex, kept_in}
 use Rattle.set_store.specs.Stored.{IsVacant, Store}
 use Rattle.set_store.proofs.Keeping.{is_cell, some_spare}
-use Rattle.set_store.proofs.Lists.{elsewhere, here}
+use Rattle.set_store.proofs.Lists.{as_many, elsewhere, here}
 use Rattle.set_store.proofs.Puts.{filled, front, inside, put_seen, vacant}
 use Rattle.set_store.proofs.store.SetStore.put.Goals as goal
 
@@ -81,3 +81,9 @@ returns-clause-others c other ne =
     let it = c.requires.spelling in
     elsewhere c.args.self.now.slots _ c.self.inside.free (Some (record { zone = c.args.zone; set = it.0 }))
     (returns-clause-slots c it.0 it.1) other ne
+
+pub returns-clause-count : goal.returns-clause-count
+returns-clause-count c =
+    let it = c.requires.spelling in
+    as_many c.args.self.now.slots _ c.self.inside.free (Some (record { zone = c.args.zone; set = it.0 }))
+    (returns-clause-slots c it.0 it.1)

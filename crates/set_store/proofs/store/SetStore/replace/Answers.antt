@@ -2,7 +2,7 @@ use Rattle.std.proofs.Common.{◌≡◌, ◌≤◌, ℕ, ◌+◌, List, length, 
 use Rattle.set_store.specs.Index.{IsIndex, kept_in}
 use Rattle.set_store.specs.Stored.{IsKept, IsTaken, Store}
 use Rattle.set_store.proofs.Keeping.{is_cell, is_live, zone_kept}
-use Rattle.set_store.proofs.Lists.{elsewhere, here}
+use Rattle.set_store.proofs.Lists.{as_many, elsewhere, here}
 use Rattle.set_store.proofs.Replaces.{replaced, replaced_seen}
 use Rattle.set_store.proofs.Reading.{found_in}
 use Rattle.set_store.proofs.Back.{come_back, same_cell, cells_back}
@@ -92,3 +92,10 @@ returns-clause-cells c kept is =
     back
     ∙ ap (λ (o : List ℕ). c.self.inside.region.spare + cells_for (length o)) f.spelled.same
     ∙ ap (λ (s : Store). s.cells + cells_for (length (set_octets kept.set))) c.self.view_is
+
+pub returns-clause-count : goal.returns-clause-count
+returns-clause-count c =
+    let it = c.requires.spelling in
+    let kept = c.requires.taken in
+    as_many c.args.self.now.slots _ c.args.slot (Some (record { zone = kept.0.zone; set = it.0 }))
+    (returns-clause-slots c it.0 kept.0 it.1 kept.1)

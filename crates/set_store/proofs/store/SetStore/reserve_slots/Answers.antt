@@ -6,9 +6,7 @@ use Rattle.set_store.proofs.store.SetStore.reserve_slots.Goals as goal
 pub returns-clause-slots : goal.returns-clause-slots
 returns-clause-slots c =
     let more = c.args.slots - c.self.inside.spare in
-    let held = c.self.inside.region.held in (
-      more,
-      c.give_slots-self-inside.ensures.seen held ∙ ap (λ xs. map (kept_in held) xs
-          ++ nothing more) c.make_room.ensures.items
-          ∙ ap (λ (s : Store). s.slots ++ nothing more) c.self.view_is,
-    )
+    let held = c.self.inside.region.held in
+    c.give_slots-self-inside.ensures.seen held ∙ ap (λ xs. map (kept_in held) xs
+    ++ nothing more) c.make_room.ensures.items
+    ∙ ap (λ (s : Store). s.slots ++ nothing (c.args.slots - s.free)) c.self.view_is

@@ -7,7 +7,7 @@ use Rattle.set_octets.specs.Octets.{set_octets}
 use Rattle.octet_region.specs.Cells.{cells_for}
 use Rattle.std.specs.FinMap as finmap
 use Rattle.set_store.proofs.Keeping.{is_live}
-use Rattle.set_store.proofs.Lists.{elsewhere, here}
+use Rattle.set_store.proofs.Lists.{as_many, elsewhere, here}
 use Rattle.set_store.proofs.Takes.{taken, taken_seen}
 use Rattle.set_store.proofs.store.SetStore.take.Goals as goal
 
@@ -54,3 +54,6 @@ returns-clause-cells c kept is =
     c.free.ensures.freed
     ∙ ap (λ (o : List ℕ). c.self.inside.region.spare + cells_for (length o)) f.spelled.same
     ∙ ap (λ (s : Store). s.cells + cells_for (length (set_octets kept.set))) c.self.view_is
+
+pub returns-clause-count : goal.returns-clause-count
+returns-clause-count c = as_many c.args.self.now.slots _ c.args.slot None (returns-clause-slots c)
