@@ -24,6 +24,8 @@ pub fn make_room(store: &mut SetStore, slots: usize, cells: usize) -> Result<(),
         slot }
     ensures orders { (zone : ℕ) (order : List ℕ) → IsOrder store.old.slots zone order
         → IsOrder store.new.slots zone order }
+    ensures slots { length store.new.slots + store.old.free
+        ≡ length store.old.slots + store.new.free }
     ensures cells { store.old.cells ≤ store.new.cells }
     ensures free { store.old.free ≤ store.new.free }
     ensures room { OnOk result ((slots ≤ store.new.free) × (cells ≤ store.new.cells)) }
@@ -53,6 +55,7 @@ pub fn put_at(
         (record { slot = result; set = set })
         (placed_of store.new.slots zone order.new.items) }
     ensures others { OthersStay zone store.old.slots store.new.slots }
+    ensures slots { length store.new.slots ≡ length store.old.slots }
     ensures cells { store.new.cells ≡ store.old.cells - cells_for (length octets.now) }
     ensures free { store.new.free + 1 ≡ store.old.free }
     ensures length { vec_len order.new ≡ vec_len order.old + 1 }
@@ -72,6 +75,7 @@ pub fn take_at(store: &mut SetStore, zone: u32, order: &mut Vec<u32>, place: usi
     ensures taken { IsTakenAt (placed_of store.old.slots zone order.old.items) place result
         (placed_of store.new.slots zone order.new.items) }
     ensures others { OthersStay zone store.old.slots store.new.slots }
+    ensures slots { length store.new.slots ≡ length store.old.slots }
     ensures cells { (was : Placed)
         → slice_get (placed_of store.old.slots zone order.old.items) place ≡ Some was
         → store.new.cells ≡ store.old.cells + cells_for (length (set_octets was.set)) }
@@ -104,6 +108,7 @@ pub fn replace_at(
         ≡ slice_set (placed_of store.old.slots zone order.now) place
         (record { slot = result; set = set }) }
     ensures others { OthersStay zone store.old.slots store.new.slots }
+    ensures slots { length store.new.slots ≡ length store.old.slots }
     ensures cells { (was : Placed)
         → slice_get (placed_of store.old.slots zone order.now) place ≡ Some was
         → store.new.cells + cells_for (length octets.now)
