@@ -38,6 +38,7 @@ pub fn come(
         (record { slot = result; set = set.now })
         (placed_of store.new.slots zone order.new.items) }
     ensures others { OthersStay zone store.old.slots store.new.slots }
+    ensures slots { length store.new.slots ≡ length store.old.slots }
     ensures cells { store.new.cells + cells_of (placed_of store.new.slots zone order.new.items)
         ≡ store.old.cells + cells_of (placed_of store.old.slots zone order.old.items) }
     ensures enough { store.old.cells ≤ store.new.cells + cells_for (length (set_octets set.now)) }
@@ -63,6 +64,7 @@ pub fn go(store: &mut SetStore, zone: u32, order: &mut Vec<u32>, key: &SetKey) -
     ensures goes { IsTaken (placed_of store.old.slots zone order.old.items) key.now result
         (placed_of store.new.slots zone order.new.items) }
     ensures others { OthersStay zone store.old.slots store.new.slots }
+    ensures slots { length store.new.slots ≡ length store.old.slots }
     ensures cells { store.new.cells + cells_of (placed_of store.new.slots zone order.new.items)
         ≡ store.old.cells + cells_of (placed_of store.old.slots zone order.old.items) }
     ensures free { store.new.free ≡ store.old.free + 1 }
