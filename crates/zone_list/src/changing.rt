@@ -40,6 +40,7 @@ pub fn come_all(
     ensures comes { Comings zone (placed_of store.old.slots zone order.old.items) add.now
         added.new.items (placed_of store.new.slots zone order.new.items) }
     ensures others { OthersStay zone store.old.slots store.new.slots }
+    ensures slots { length store.new.slots ≡ length store.old.slots }
 {
     for set in add {
         let slot = come(store, zone, order, set, buffer);
@@ -68,6 +69,7 @@ pub fn leave_all(
         (placed_of store.old.slots zone order.old.items) keys.now removed.new.items
         (placed_of store.new.slots zone order.new.items) }
     ensures others { OthersStay zone store.old.slots store.new.slots }
+    ensures slots { length store.new.slots ≡ length store.old.slots }
 {
     let mut hint = 0;
     for key in keys {
@@ -105,6 +107,7 @@ fn leave(
         (placed_of store.old.slots zone order.old.items) key.now result
         (placed_of store.new.slots zone order.new.items) }
     ensures others { OthersStay zone store.old.slots store.new.slots }
+    ensures slots { length store.new.slots ≡ length store.old.slots }
 {
     match at {
         Some(at) => added[at].slot,
@@ -164,6 +167,7 @@ pub fn clear(store: &mut SetStore, zone: u32, order: &mut Vec<u32>)
     requires { IsOrder store.old.slots zone order.old.items }
     ensures order { IsOrder store.new.slots zone [] }
     ensures others { OthersStay zone store.old.slots store.new.slots }
+    ensures slots { length store.new.slots ≡ length store.old.slots }
 {
     while !order.is_empty() {
         let last = order.len() - 1;

@@ -114,6 +114,7 @@ impl StoredZone {
             remove.now add.now removed.new.items added.new.items
             (placed_of store.new.slots self.new.id self.new.order) }
         ensures others { OthersStay self.old.id store.old.slots store.new.slots }
+        ensures slots { length store.new.slots ≡ length store.old.slots }
     {
         come_all(store, self.id, &mut self.order, add, buffer, added);
         leave_all(store, self.id, &mut self.order, remove, add, added, removed);
@@ -128,6 +129,7 @@ impl StoredZone {
             ≡ map (ref_in self.id) (placed_of store.old.slots self.id self.order) }
         ensures order { IsOrder store.new.slots self.id [] }
         ensures others { OthersStay self.id store.old.slots store.new.slots }
+        ensures slots { length store.new.slots ≡ length store.old.slots }
     {
         tell_all(store, &self.order, self.id, removed);
         clear(store, self.id, &mut self.order);

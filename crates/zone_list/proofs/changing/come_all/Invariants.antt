@@ -18,4 +18,5 @@ invariant-loop-set l = record {
   places : vec_len l.order + length (drop l.set-index l.add) ≤ vec_capacity l.order;
   refs : length l.added.items + length (drop l.set-index l.add) ≤ vec_capacity l.added;
   buffer : length l.buffer ≡ length l.fn.buffer;
+  slots_stay : length l.store.slots ≡ length l.fn.store.slots;
 }

@@ -52,6 +52,7 @@ loop-key-preserved c =
       others = λ other at_slot apart. c.leave-slot.ensures.others other at_slot apart
           ∙ inv.others other at_slot apart;
       refs = omega (arith, refs, one_less, one_more, same);
+      slots_stay = c.leave-slot.ensures.slots ∙ inv.slots_stay;
     }
 
 pub returns-clause-leaves : goal.returns-clause-leaves

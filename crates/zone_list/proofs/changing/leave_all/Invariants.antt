@@ -1,4 +1,4 @@
-use Rattle.std.proofs.Common.{◌≤◌, ◌+◌, ◌++◌, List, length, drop, vec_capacity}
+use Rattle.std.proofs.Common.{◌≡◌, ◌≤◌, ◌+◌, ◌++◌, List, length, drop, vec_capacity}
 use Rattle.zone_model.specs.Placed.{Placed, sets_of}
 use Rattle.zone_order.specs.Orders.{IsOrder, OthersStay, placed_of}
 use Rattle.zone_list.specs.declared.refs.SetRef.{SetRef}
@@ -17,4 +17,5 @@ invariant-loop-key l = record {
       (l.removed.items ++ told) after;
   others : OthersStay l.zone l.fn.store.slots l.store.slots;
   refs : length l.removed.items + length (drop l.key-index l.keys) ≤ vec_capacity l.removed;
+  slots_stay : length l.store.slots ≡ length l.fn.store.slots;
 }
