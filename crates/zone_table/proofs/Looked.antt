@@ -18,7 +18,10 @@ use Rattle.zone_list.specs.Kept.{AreKept, Listed, zones_in}
 use Rattle.zone_list.specs.Zones.{AreZones, placed_in, StandsAlone, Zone}
 use Rattle.zone_list.proofs.Listing.{its_placed}
 use Rattle.zone_list.proofs.Members.{apex_exists, in_all}
-use Rattle.zone_table.specs.Looking.{IsApex}
+use Rattle.zone_list.specs.declared.refs.SetRef.{SetRef}
+use Rattle.rdata_layout.specs.declared.types.RType.{RType}
+use Rattle.set_scratch.specs.Telling.{target_of}
+use Rattle.zone_table.specs.Looking.{IsApex, Names, Targets}
 use Rattle.zone_table.proofs.Naming.{its_sets, stands_here}
 
 -- the set of a slot, where it is among those of an order
@@ -63,16 +66,17 @@ module _ (slots : List (Option Kept)) (list : List Listed) (kept : AreKept slots
       (sym (its_sets slots list kept k.0 k.1))
       (there (set_in slots k.0.id) k.0.order slot set here (stands.order.only slot set here)))
 
-  -- what is told of none, or of another zone, is not named
-  pub not_named : (zone_told (slice_get slots slot) ≡ Some zone → ⊥) → (set : RecordSet)
-      → IsHere (placed_in (zones_in slots list) zone) (record { slot = slot; set = set }) → ⊥
-  not_named other set here =
+  -- the set that a reference names is kept in its slot
+  pub here_kept : (set : RecordSet)
+      → IsHere (placed_in (zones_in slots list) zone) (record { slot = slot; set = set })
+      → IsKept slots slot (record { zone = zone; set = set })
+  here_kept set here =
       let k = kept_here list here in
       let stands = stands_here slots list kept k.0 k.1 in
       let at : set_in slots k.0.id slot ≡ Some set =
       placed_set slot set (set_in slots k.0.id) k.0.order stands.order.present k.3 in
-      let is = its_kept slots k.0.id slot set at in
-      other (ap zone_told is ∙ ap (λ (n : ℕ). Some n) k.2)
+      its_kept slots k.0.id slot set at
+      ∙ ap (λ (n : ℕ). Some (Some (record { zone = n; set = set }))) k.2
     where
       kept_here : (ks : List Listed) → IsHere (placed_in (zones_in slots ks) zone) (record { slot = slot; set = set })
           → (k : Listed) × IsAmong ks k × (k.id ≡ zone)
@@ -90,6 +94,26 @@ module _ (slots : List (Option Kept)) (list : List Listed) (kept : AreKept slots
               × IsHere (placed_of slots j.id j.order) (record { slot = slot; set = set })
           by true e rest there = (k, inl refl, eqb-true k.id zone e, there)
           by false e rest there = let j = rest there in (j.0, inr j.1, j.2, j.3)
+
+  -- what is told of none, or of another zone, is not named
+  pub not_named : (zone_told (slice_get slots slot) ≡ Some zone → ⊥) → (set : RecordSet)
+      → IsHere (placed_in (zones_in slots list) zone) (record { slot = slot; set = set }) → ⊥
+  not_named other set here = other (ap zone_told (here_kept set here))
+
+one_kept : (o : Option (Option Kept)) (x y : Kept) → o ≡ Some (Some x) → o ≡ Some (Some y) → x ≡ y
+one_kept o x y e f = cc
+
+-- the target of the set that a reference names
+pub its_target : (slots : List (Option Kept)) (list : List Listed) → AreKept slots list → (ref : SetRef)
+    → (named : RecordSet) → Names (zones_in slots list) ref named
+    → IsKept slots ref.slot (record { zone = ref.zone; set = named })
+    → (told : Option (List (List ℕ) × RType)) → told ≡ target_of named → Targets (zones_in slots list) ref told
+its_target slots list kept ref named here at (Some target) is = (named, here, sym is)
+its_target slots list kept ref named here at None is = λ other there.
+    let also = here_kept slots list kept ref.zone ref.slot other there in
+    let same : other ≡ named = ap (λ (k : Kept). k.set) (one_kept (slice_get slots ref.slot)
+    (record { zone = ref.zone; set = other }) (record { zone = ref.zone; set = named }) also at) in
+    ap target_of same ∙ sym is
 
 -- one more copy
 pub copies_more : (slots : List (Option Kept)) (zone : ℕ) (order : List ℕ) → IsOrder slots zone order

@@ -252,6 +252,7 @@ module _ {X E : Type 0} where
 abbrev pub table_of : Store → Vec Listed Global → Stored → ℕ → Table
 table_of store list collections edits = record {
   zones = zones_in store.slots list.items;
+  slots = length store.slots;
   rooms = map (λ (k : Listed). k.room) list.items;
   spare = vec_capacity list - length list.items;
   free = store.free;

@@ -7,6 +7,7 @@ pub mod Tables
 pub use Rattle.zone_model.specs.Existing
 pub use Rattle.zone_model.specs.Placed
 pub use Rattle.zone_model.specs.Zones as Sets
+pub use Rattle.set_scratch.specs.Telling
 pub use Rattle.set_search.specs.Bounds
 pub use Rattle.set_search.specs.Found
 pub use Rattle.zone_list.specs.Changes

@@ -6,6 +6,8 @@ use Rattle.record_set.specs.declared.sets.RecordSet.{RecordSet}
 use Rattle.record_set.specs.declared.sets.SetKey.{SetKey}
 use Rattle.set_search.specs.declared.bounds.Bound.{Bound}
 use Rattle.set_search.specs.declared.bounds.Bound.TheVariants as bound
+use Rattle.set_scratch.specs.declared.telling.Watch.{Watch}
+use Rattle.set_scratch.specs.Telling.{target_of, watch_of}
 use Rattle.set_search.specs.Found.{IsCount, IsGroupAt}
 use Rattle.zone_model.specs.Placed.{Placed, IsHere, IsSlotAt, sets_of}
 use Rattle.zone_table.specs.declared.refs.Group.{Group}
@@ -26,6 +28,16 @@ pub record IsMember (zones : List Zone) (group : Group) (i : ℕ) (set : SetRef)
   pub zone : set.zone ≡ group.zone
   pub slot : IsSlotAt (placed_in zones group.zone) (group.start + i) set.slot
 
+-- The slot of the set at place i, or none where there are no more sets than i.
+abbrev pub SlotAt : List Placed → (i : ℕ) → Option ℕ → Type 0
+SlotAt placed i (Some slot) = IsSlotAt placed i slot
+SlotAt placed i None = length placed ≤ i
+
+-- The set at place i of a zone in its order, or none.
+abbrev pub IsSetAt : List Zone → (zone i : ℕ) → Option SetRef → Type 0
+IsSetAt zones zone i (Some set) = (set.zone ≡ zone) × SlotAt (placed_in zones zone) i (Some set.slot)
+IsSetAt zones zone i None = SlotAt (placed_in zones zone) i None
+
 -- a reference names this set
 abbrev pub Names : List Zone → SetRef → RecordSet → Type 0
 Names zones set named = IsHere (placed_in zones set.zone) (record { slot = set.slot; set = named })
@@ -34,6 +46,16 @@ Names zones set named = IsHere (placed_in zones set.zone) (record { slot = set.s
 abbrev pub Loads : List Zone → SetRef → (held held_now : Option RecordSet) → Bool → Type 0
 Loads zones set held held_now true = (named : RecordSet) × Names zones set named × (held_now ≡ Some named)
 Loads zones set held held_now false = ((named : RecordSet) → Names zones set named → ⊥) × (held_now ≡ held)
+
+-- What decides the health of the set that a reference names, or none where it names none.
+abbrev pub Watches : List Zone → SetRef → Option Watch → Type 0
+Watches zones set (Some watch) = (named : RecordSet) × Names zones set named × (watch ≡ watch_of named)
+Watches zones set None = (named : RecordSet) → Names zones set named → ⊥
+
+-- The target of the set that a reference names, or none where it names none or one that is no alias.
+abbrev pub Targets : List Zone → SetRef → Option (List (List ℕ) × RType) → Type 0
+Targets zones set (Some target) = (named : RecordSet) × Names zones set named × (target_of named ≡ Some target)
+Targets zones set None = (named : RecordSet) → Names zones set named → target_of named ≡ None
 
 -- a search from the key on, or from what is behind it
 abbrev pub bound_of : SetKey → (past : Bool) → Bound

@@ -1,10 +1,12 @@
 -- How a zone that is found is stored.
-use Rattle.std.specs.Prelude.{◌≡◌, ℕ, List, [], Option, None, Some}
+use Rattle.std.specs.Prelude.{◌≡◌, ℕ, List, [], Bool, true, false, Option, None, Some}
 use Rattle.std.specs.Borrow.{Bor}
 use Rattle.record_set.specs.declared.sets.RecordSet.{RecordSet}
-use Rattle.set_store.specs.Stored.{Kept}
+use Rattle.set_store.specs.Stored.{IsKept, Kept}
 use Rattle.zone_list.specs.Kept.{Listed, zones_in}
 use Rattle.zone_list.specs.Zones.{IsZoneId, Zone, placed_in}
+use Rattle.zone_list.specs.declared.refs.SetRef.{SetRef}
+use Rattle.zone_table.specs.Looking.{Names}
 use Rattle.zone_model.specs.Placed.{sets_of}
 use Rattle.zone_model.specs.Zones.{IsRising}
 use Rattle.zone_order.specs.Orders.{IsOrder, placed_of}
@@ -27,3 +29,8 @@ GetsOrder slots list id None = IsNone (zones_in slots list) id
 abbrev pub ViewsZone : List Zone → ℕ → Option (List RecordSet) → Type 0
 ViewsZone zones id (Some sets) = (sets ≡ sets_of (placed_in zones id)) × IsRising sets × IsZoneId zones id
 ViewsZone zones id None = IsNone zones id
+
+-- whether a reference names a set, which its slot holds then
+abbrev pub IsNamed : List (Option Kept) → List Zone → SetRef → Bool → Type 0
+IsNamed slots zones set true = (named : RecordSet) × Names zones set named × IsKept slots set.slot (record { zone = set.zone; set = named })
+IsNamed slots zones set false = (named : RecordSet) → Names zones set named → ⊥

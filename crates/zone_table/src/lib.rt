@@ -18,5 +18,6 @@ pub use laws::{one_apex, one_edit};
 pub use octets::OutOfMemory;
 pub use refs::{Delta, Group};
 pub use set_scratch::Scratch;
+pub use set_store::Watch;
 pub use zone_list::{SetRef, SetRefs};
 pub use zones::Zones;

@@ -6,14 +6,16 @@ ghost use Rattle.zone_list.specs.Kept.{AreKept, zones_in};
 ghost use Rattle.zone_list.specs.Zones.{placed_in};
 ghost use Rattle.zone_model.specs.Placed.{IsSlotAt, sets_of};
 ghost use Rattle.zone_order.specs.Orders.{IsOrder, placed_of};
-ghost use Rattle.zone_table.specs.Looking.{Loads, SlotBehind};
-ghost use Rattle.zone_table.specs.Stored.{GetsOrder, ViewsZone};
+ghost use Rattle.zone_table.specs.Looking.{Loads, SlotAt, SlotBehind, Targets, Watches};
+ghost use Rattle.zone_table.specs.Stored.{GetsOrder, IsNamed, ViewsZone};
 
+use dns_name::Name;
 use octets::OutOfMemory;
+use rdata::RType;
 use record_set::RecordSet;
 use set_scratch::Scratch;
 use set_search::{SetList, Stop, count_before};
-use set_store::SetStore;
+use set_store::{SetStore, Watch};
 use std::alloc::Global;
 use zone_list::{SetRef, StoredZone, find_zone};
 use zone_order::{ZoneView, view_of};
@@ -47,17 +49,31 @@ pub fn slot_in(store: &SetStore, list: &[StoredZone], zone: u32, start: usize, i
     ensures { IsSlotAt (placed_in (zones_in store.now.slots list.now) zone) (start + i) result }
 {
     match order_of(store, list, zone) {
-        Some(order) => slot_at(order, start, i),
+        Some(order) => slot_of(order, start + i),
         None => unreachable!(),
     }
 }
 
-/// The slot at a place behind another.
-fn slot_at(order: &[u32], start: usize, i: usize) -> u32
-    requires { start + i < length order.now }
-    ensures { slice_get order.now (start + i) ≡ Some result }
+/// The slot of the set at a place of a zone.
+pub fn slot_at(store: &SetStore, list: &[StoredZone], zone: u32, i: usize) -> Option<u32>
+    requires { AreKept store.now.slots list.now }
+    ensures { SlotAt (placed_in (zones_in store.now.slots list.now) zone) i result }
 {
-    order[start + i]
+    let Some(order) = order_of(store, list, zone) else {
+        return None;
+    };
+    if i < order.len() {
+        return Some(slot_of(order, i));
+    }
+    None
+}
+
+/// The slot at a place.
+fn slot_of(order: &[u32], place: usize) -> u32
+    requires { place < length order.now }
+    ensures { slice_get order.now place ≡ Some result }
+{
+    order[place]
 }
 
 /// The slot of the first set of a zone behind the bound.
@@ -76,10 +92,10 @@ pub fn slot_behind(store: &SetStore, list: &[StoredZone], zone: u32, to: &Stop) 
     None
 }
 
-/// Holds the set that a reference names in a scratch. Where it names none, what was held stays.
-pub fn load(store: &SetStore, list: &[StoredZone], set: SetRef, into: &mut Scratch) -> bool
+/// Whether a reference names a set.
+fn is_named(store: &SetStore, list: &[StoredZone], set: SetRef) -> bool
     requires { AreKept store.now.slots list.now }
-    ensures { Loads (zones_in store.now.slots list.now) set into.old into.new result }
+    ensures { IsNamed store.now.slots (zones_in store.now.slots list.now) set result }
 {
     match store.zone_of(set.slot) {
         None => false,
@@ -87,10 +103,43 @@ pub fn load(store: &SetStore, list: &[StoredZone], set: SetRef, into: &mut Scrat
             if zone != set.zone {
                 return false;
             }
-            store.hold(set.slot, into);
             true
         }
     }
+}
+
+/// Holds the set that a reference names in a scratch. Where it names none, what was held stays.
+pub fn load(store: &SetStore, list: &[StoredZone], set: SetRef, into: &mut Scratch) -> bool
+    requires { AreKept store.now.slots list.now }
+    ensures { Loads (zones_in store.now.slots list.now) set into.old into.new result }
+{
+    if !is_named(store, list, set) {
+        return false;
+    }
+    store.hold(set.slot, into);
+    true
+}
+
+/// What decides the health of the set that a reference names.
+pub fn watch(store: &SetStore, list: &[StoredZone], set: SetRef) -> Option<Watch>
+    requires { AreKept store.now.slots list.now }
+    ensures { Watches (zones_in store.now.slots list.now) set result }
+{
+    if !is_named(store, list, set) {
+        return None;
+    }
+    Some(store.watch(set.slot))
+}
+
+/// The name and the type of the target group of the alias that a reference names.
+pub fn target(store: &SetStore, list: &[StoredZone], set: SetRef) -> Option<(Name, RType)>
+    requires { AreKept store.now.slots list.now }
+    ensures { Targets (zones_in store.now.slots list.now) set result }
+{
+    if !is_named(store, list, set) {
+        return None;
+    }
+    store.target(set.slot)
 }
 
 /// Copies of the sets in these slots, in their order.

@@ -26,6 +26,7 @@ pub fn make(
     requires kept { AreKept store.old.slots list.old.items }
     requires ready { IsReadyFor store.old list.old ready }
     ensures kept { AreKept store.new.slots list.new.items }
+    ensures slots { length store.new.slots ≡ length store.old.slots }
     ensures edits { Edits (zones_in store.old.slots list.old.items) ready.made
         (zones_in store.new.slots list.new.items) result }
     ensures collections { collections.new ≡ collections_after ready.made collections.old }
@@ -81,6 +82,7 @@ fn open(
     requires cells { cells_in_all sets ≤ store.old.cells }
     requires buffer { AllByRecursion (λ set. length (set_octets set) ≤ length buffer.items) sets }
     ensures kept { AreKept store.new.slots list.new.items }
+    ensures slots { length store.new.slots ≡ length store.old.slots }
     ensures edits { Edits (zones_in store.old.slots list.old.items)
         (Open opened.id opened.apex sets) (zones_in store.new.slots list.new.items) result }
 {
@@ -130,6 +132,7 @@ fn close(
     requires removable { length (placed_in (zones_in store.old.slots list.old.items) zone)
         ≤ vec_capacity removed }
     ensures kept { AreKept store.new.slots list.new.items }
+    ensures slots { length store.new.slots ≡ length store.old.slots }
     ensures edits { Edits (zones_in store.old.slots list.old.items) (Close zone)
         (zones_in store.new.slots list.new.items) result }
 {
@@ -167,6 +170,7 @@ fn change(
     requires cells { cells_in_all add ≤ store.old.cells }
     requires buffer { AllByRecursion (λ set. length (set_octets set) ≤ length buffer.items) add }
     ensures kept { AreKept store.new.slots list.new.items }
+    ensures slots { length store.new.slots ≡ length store.old.slots }
     ensures edits { Edits (zones_in store.old.slots list.old.items) (Change zone remove add)
         (zones_in store.new.slots list.new.items) result }
 {

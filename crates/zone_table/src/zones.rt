@@ -1,6 +1,6 @@
 //! The zones of a server: each look-up and each edit, one call a question.
 
-ghost use Rattle.std.specs.Prelude.{◌≡◌, ◌≢◌, ◌<◌, ◌+◌, ◌%◌, ◌^◌, length, List, ℕ, []};
+ghost use Rattle.std.specs.Prelude.{◌≡◌, ◌≢◌, ◌≤◌, ◌<◌, ◌+◌, ◌%◌, ◌^◌, length, List, ℕ, []};
 ghost use Rattle.std.specs.Prelude.{IfOk, IsTrue, ◌↔◌};
 ghost use Rattle.zone_model.specs.Existing.{Exists, IsAncestor, IsClosest};
 ghost use Rattle.zone_model.specs.Placed.{sets_of};
@@ -9,12 +9,13 @@ ghost use Rattle.zone_list.specs.Zones.{AreZones, IsZoneId, placed_in};
 ghost use Rattle.zone_table.specs.Edits.{Edits, IsAllowed, IsReady, StayReady};
 ghost use Rattle.zone_table.specs.Edits.{collections_after};
 ghost use Rattle.zone_table.specs.Looking.{ApexOrNone, HoldsOrNone, IsApex, IsGroup, IsGroupNow};
-ghost use Rattle.zone_table.specs.Looking.{IsMember, IsNextSet, Loads, bound_of};
-ghost use Rattle.zone_table.specs.Tables.{HaveSlotsApart};
+ghost use Rattle.zone_table.specs.Looking.{IsMember, IsNextSet, IsSetAt, Loads, Targets, Watches};
+ghost use Rattle.zone_table.specs.Looking.{bound_of};
+ghost use Rattle.zone_table.specs.Tables.{HaveSlotsApart, HaveSlotsBelow};
 ghost use Rattle.set_search.specs.Stops.{bound_of as told};
 
 use crate::edits::{Ready, ZoneEdit};
-use crate::looking::{copies, load, order_of, slot_behind, slot_in, view};
+use crate::looking::{copies, load, order_of, slot_at, slot_behind, slot_in, target, view, watch};
 use crate::making::make;
 use crate::needs::{need_of, reserve_for};
 use crate::refs::{Delta, Group};
@@ -25,7 +26,7 @@ use rdata::RType;
 use record_set::{RecordSet, SetKey};
 use set_scratch::Scratch;
 use set_search::{Stop, before_key, behind_key, closest_in, exists_in, group_in};
-use set_store::SetStore;
+use set_store::{SetStore, Watch};
 use std::alloc::Global;
 use std::marker::Model;
 use zone_list::{SetRef, StoredZone, find_zone, longest, next_id};
@@ -50,6 +51,7 @@ impl Model for Zones {
 
     ghost view = { λ z. record {
       zones = zones_in z.store.slots z.list.items;
+      slots = length z.store.slots;
       rooms = map (λ k. k.room) z.list.items;
       spare = vec_capacity z.list - length z.list.items;
       free = z.store.free;
@@ -89,6 +91,42 @@ impl Zones {
         ensures { HaveSlotsApart self.now.zones }
     {
         self.store.slots();
+    }
+
+    /// How many slots there are, in use or free: what an array over slots has room for.
+    pub fn slots(&self) -> usize
+        ensures { result ≡ self.now.slots }
+    {
+        self.store.slots()
+    }
+
+    /// Each slot in which a set stands is below `slots`, and these are at most 2^32; it does
+    /// nothing.
+    pub fn slots_within(&self)
+        ensures within { HaveSlotsBelow self.now.zones self.now.slots }
+        ensures most { self.now.slots ≤ 2 ^ 32 }
+    {
+        self.store.slots();
+    }
+
+    /// How many sets a zone has. None has any where it isn't there.
+    pub fn count(&self, zone: u32) -> usize
+        ensures { result ≡ length (placed_in self.now.zones zone) }
+    {
+        match order_of(&self.store, &self.list, zone) {
+            Some(order) => order.len(),
+            None => 0,
+        }
+    }
+
+    /// The set at a place of a zone in zone order, where the zone has as many.
+    pub fn at(&self, zone: u32, i: usize) -> Option<SetRef>
+        ensures { IsSetAt self.now.zones zone i result }
+    {
+        match slot_at(&self.store, &self.list, zone, i) {
+            Some(slot) => Some(SetRef { zone, slot }),
+            None => None,
+        }
     }
 
     /// Copies of all sets of a zone, in zone order.
@@ -176,6 +214,21 @@ impl Zones {
         load(&self.store, &self.list, set, into)
     }
 
+    /// What decides the health of the set that a reference names. None where it names none.
+    pub fn watch(&self, set: SetRef) -> Option<Watch>
+        ensures { Watches self.now.zones set result }
+    {
+        watch(&self.store, &self.list, set)
+    }
+
+    /// The name and the type of the target group of the alias that a reference names. None where it
+    /// names no set, or one that is no alias.
+    pub fn target(&self, set: SetRef) -> Option<(Name, RType)>
+        ensures { Targets self.now.zones set result }
+    {
+        target(&self.store, &self.list, set)
+    }
+
     /// Whether a name exists in a zone: whether a set has it, or a name below it.
     pub fn exists(&self, zone: u32, name: &Name) -> bool
         ensures { IsTrue result ↔ Exists (sets_of (placed_in self.now.zones zone)) name.now }
@@ -214,6 +267,7 @@ impl Zones {
         requires { IsAllowed self.old.zones edit }
         ensures zones { self.new.zones ≡ self.old.zones }
         ensures collections { self.new.collections ≡ self.old.collections }
+        ensures slots { self.old.slots ≤ self.new.slots }
         ensures edits { self.new.edits ≡ self.old.edits }
         ensures made { IfOk result (λ ready. ready.made ≡ edit) }
         ensures ready { IfOk result (λ ready. IsReady self.new ready) }
@@ -231,6 +285,7 @@ impl Zones {
         ensures edits { Edits self.old.zones ready.made self.new.zones result }
         ensures collections { self.new.collections
             ≡ collections_after ready.made self.old.collections }
+        ensures slots { self.new.slots ≡ self.old.slots }
         ensures count { self.new.edits ≡ (self.old.edits + 1) % 2 ^ 64 }
     {
         self.edits = self.edits.wrapping_add(1);
