@@ -70,6 +70,13 @@ impl SetStore {
         self.slots.len()
     }
 
+    /// How many slots are free: how many sets can be put without memory for more.
+    pub fn spare(&self) -> usize
+        ensures { result ≡ self.now.free }
+    {
+        self.spare
+    }
+
     /// Keeps a set, told by its octets, in a slot that is vacant.
     pub fn put(&mut self, zone: u32, octets: &[u8]) -> u32
         requires spelling { IsSpelling octets.now }

@@ -8,39 +8,41 @@ use Rattle.zone_model.specs.Placed.{Placed, IsPut, IsTakenAt}
 use Rattle.zone_model.proofs.Lists.{split, split_at}
 use Rattle.zone_changes.specs.Coming.{cells_in, cells_of, Comes}
 
-first : (x : Placed) (xs : List Placed) → sum_by cells_in (x ∷ xs) ≡ cells_in x + sum_by cells_in xs
-first x xs = sum_by-cons cells_in x xs
+-- ---- sums over lists, where one element comes or goes
 
-sum_set : (xs : List Placed) (n : ℕ) (was x : Placed) → slice_get xs n ≡ Some was
-    → sum_by cells_in (set xs n x) + cells_in was ≡ sum_by cells_in xs + cells_in x
-sum_set [] n was x e = absurd (grind (arith, e))
-sum_set (y ∷ xs) zero was x e =
-    let same : y ≡ was = grind (arith, e) in
-    let c : cells_in y ≡ cells_in was = ap cells_in same in
-    let a = first x xs in
-    let b = first y xs in
-    omega (arith, c, a, b)
-sum_set (y ∷ xs) (suc n) was x e = let rest = sum_set xs n was x e in
-    let a = first y (set xs n x) in
-    let b = first y xs in
-    omega (arith, rest, a, b)
+module _ {X : Type 0} (f : X → ℕ) where
+  first : (x : X) (xs : List X) → sum_by f (x ∷ xs) ≡ f x + sum_by f xs
+  first x xs = sum_by-cons f x xs
 
-sum_insert : (xs : List Placed) (n : ℕ) (x : Placed)
-    → sum_by cells_in (insert xs n x) ≡ sum_by cells_in xs + cells_in x
-sum_insert xs n x =
-    let with_it = sum_by-append cells_in (take n xs) (x ∷ drop n xs) in
-    let without = ap (sum_by cells_in) (split n xs) ∙ sum_by-append cells_in (take n xs) (drop n xs) in
-    let a = first x (drop n xs) in
-    omega (arith, with_it, without, a)
+  pub sum_set : (xs : List X) (n : ℕ) (was x : X) → slice_get xs n ≡ Some was
+      → sum_by f (set xs n x) + f was ≡ sum_by f xs + f x
+  sum_set [] n was x e = absurd (grind (arith, e))
+  sum_set (y ∷ xs) zero was x e =
+      let same : y ≡ was = grind (arith, e) in
+      let c : f y ≡ f was = ap f same in
+      let a = first x xs in
+      let b = first y xs in
+      omega (arith, c, a, b)
+  sum_set (y ∷ xs) (suc n) was x e = let rest = sum_set xs n was x e in
+      let a = first y (set xs n x) in
+      let b = first y xs in
+      omega (arith, rest, a, b)
 
-sum_remove : (xs : List Placed) (n : ℕ) (was : Placed) → slice_get xs n ≡ Some was
-    → sum_by cells_in (remove xs n) + cells_in was ≡ sum_by cells_in xs
-sum_remove xs n was there =
-    let without = sum_by-append cells_in (take n xs) (drop (suc n) xs) in
-    let with_it = ap (sum_by cells_in) (split_at xs n was there)
-    ∙ sum_by-append cells_in (take n xs) (was ∷ drop (suc n) xs) in
-    let a = first was (drop (suc n) xs) in
-    omega (arith, with_it, without, a)
+  pub sum_insert : (xs : List X) (n : ℕ) (x : X) → sum_by f (insert xs n x) ≡ sum_by f xs + f x
+  sum_insert xs n x =
+      let with_it = sum_by-append f (take n xs) (x ∷ drop n xs) in
+      let without = ap (sum_by f) (split n xs) ∙ sum_by-append f (take n xs) (drop n xs) in
+      let a = first x (drop n xs) in
+      omega (arith, with_it, without, a)
+
+  pub sum_remove : (xs : List X) (n : ℕ) (was : X) → slice_get xs n ≡ Some was
+      → sum_by f (remove xs n) + f was ≡ sum_by f xs
+  sum_remove xs n was there =
+      let without = sum_by-append f (take n xs) (drop (suc n) xs) in
+      let with_it = ap (sum_by f) (split_at xs n was there)
+      ∙ sum_by-append f (take n xs) (was ∷ drop (suc n) xs) in
+      let a = first was (drop (suc n) xs) in
+      omega (arith, with_it, without, a)
 
 -- one comes in place of another
 pub replaced_cells : (before : List Placed) (given was : Placed) (after : List Placed) (at : ℕ)
@@ -48,7 +50,7 @@ pub replaced_cells : (before : List Placed) (given was : Placed) (after : List P
     → many ≡ cells_in given → new + many ≡ old + cells_in was
     → new + sum_by cells_in after ≡ old + sum_by cells_in before
 replaced_cells before given was after at there replaced old new many is gave =
-    let sums = sum_set before at was given there in
+    let sums = sum_set cells_in before at was given there in
     let here : sum_by cells_in after ≡ sum_by cells_in (set before at given) =
     ap (sum_by cells_in) replaced in
     omega (arith, sums, here, is, gave)
@@ -59,7 +61,7 @@ pub put_cells : (before : List Placed) (given : Placed) (after : List Placed)
     → new ≡ old - many
     → new + sum_by cells_in after ≡ old + sum_by cells_in before
 put_cells before given after r old new many is enough took =
-    let sums = sum_insert before r.at given in
+    let sums = sum_insert cells_in before r.at given in
     let here : sum_by cells_in after ≡ sum_by cells_in (insert before r.at given) = ap (sum_by cells_in) r.inserted in
     omega (arith, sums, here, is, enough, took)
 
@@ -69,7 +71,7 @@ pub taken_cells : (before : List Placed) (at slot : ℕ) (after : List Placed)
     → new ≡ old + cells_in (record { slot = slot; set = t.set })
     → new + sum_by cells_in after ≡ old + sum_by cells_in before
 taken_cells before at slot after t old new gave =
-    let sums = sum_remove before at (record { slot = slot; set = t.set }) t.there in
+    let sums = sum_remove cells_in before at (record { slot = slot; set = t.set }) t.there in
     let here : sum_by cells_in after ≡ sum_by cells_in (remove before at) = ap (sum_by cells_in) t.removed in
     omega (arith, sums, here, gave)
 
@@ -77,10 +79,10 @@ taken_cells before at slot after t old new gave =
 pub few_more : (before : List Placed) (given : Placed) (after : List Placed) → Comes before given after
     → (old new : ℕ) → new + cells_of after ≡ old + cells_of before → old ≤ new + cells_in given
 few_more before given after (inl r) old new same =
-    let sums = sum_set before r.at (record { slot = given.slot; set = r.was }) given r.there in
+    let sums = sum_set cells_in before r.at (record { slot = given.slot; set = r.was }) given r.there in
     let here : sum_by cells_in after ≡ sum_by cells_in (set before r.at given) = ap (sum_by cells_in) r.replaced in
     omega (arith, sums, here, same)
 few_more before given after (inr r) old new same =
-    let sums = sum_insert before r.at given in
+    let sums = sum_insert cells_in before r.at given in
     let here : sum_by cells_in after ≡ sum_by cells_in (insert before r.at given) = ap (sum_by cells_in) r.inserted in
     omega (arith, sums, here, same)

@@ -4,7 +4,9 @@
 #![tactic(auto)]
 
 mod single;
+mod sums;
 #[cfg(test)]
 mod tests;
 
 pub use single::{come, go};
+pub use sums::{Sums, no_sums};

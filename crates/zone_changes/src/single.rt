@@ -7,10 +7,12 @@ ghost use Rattle.set_octets.specs.Octets.{HasSpelling, set_octets};
 ghost use Rattle.set_search.specs.Found.{Finds};
 ghost use Rattle.set_store.specs.Stored.{Spells};
 ghost use Rattle.zone_changes.specs.Coming.{Comes, cells_of};
+ghost use Rattle.zone_changes.specs.Sums.{sums_of};
 ghost use Rattle.zone_model.specs.Placing.{IsThere};
 ghost use Rattle.zone_order.specs.Orders.{IsOrder, OthersStay, placed_of};
 ghost use Rattle.zone_model.specs.Placed.{IsSlotAt, IsTaken, sets_of};
 
+use crate::sums::{Sums, with_set, without_at};
 use octets::front;
 use record_set::{RecordSet, SetKey};
 use set_octets::fill_set;
@@ -26,6 +28,7 @@ pub fn come(
     order: &mut Vec<u32>,
     set: &RecordSet,
     buffer: &mut [u8],
+    sums: &mut Sums,
 ) -> u32
     requires order { IsOrder store.old.slots zone order.old.items }
     requires spelled { HasSpelling set.now }
@@ -33,6 +36,7 @@ pub fn come(
     requires cells { cells_for (length (set_octets set.now)) ≤ store.old.cells }
     requires slot { 0 < store.old.free }
     requires room { vec_len order.old < vec_capacity order.old }
+    requires sums { sums.old ≡ sums_of (placed_of store.old.slots zone order.old.items) }
     ensures order { IsOrder store.new.slots zone order.new.items }
     ensures comes { Comes (placed_of store.old.slots zone order.old.items)
         (record { slot = result; set = set.now })
@@ -43,6 +47,8 @@ pub fn come(
         ≡ store.old.cells + cells_of (placed_of store.old.slots zone order.old.items) }
     ensures enough { store.old.cells ≤ store.new.cells + cells_for (length (set_octets set.now)) }
     ensures free { store.old.free ≤ store.new.free + 1 }
+    ensures sums { sums.new ≡ sums_of (placed_of store.new.slots zone order.new.items) }
+    ensures sets { store.new.free + vec_len order.new ≡ store.old.free + vec_len order.old }
     ensures length { vec_len order.new ≤ vec_len order.old + 1 }
     ensures room { vec_capacity order.new ≡ vec_capacity order.old }
     ensures buffer { length buffer.new ≡ length buffer.old }
@@ -50,15 +56,29 @@ pub fn come(
     one_spelling();
     let octets = spell(set, buffer);
     let key = set.key();
+    let counted = with_set(*sums, octets.len(), set);
     match place_of(store, zone, order, &key) {
-        Ok(place) => replace_at(store, zone, order, place, octets),
-        Err(place) => put_at(store, zone, order, place, octets),
+        Ok(place) => {
+            *sums = without_at(counted, store, zone, order, place);
+            replace_at(store, zone, order, place, octets)
+        }
+        Err(place) => {
+            *sums = counted;
+            put_at(store, zone, order, place, octets)
+        }
     }
 }
 
 /// The set of a key goes from a zone, and the slot that it had is told.
-pub fn go(store: &mut SetStore, zone: u32, order: &mut Vec<u32>, key: &SetKey) -> u32
+pub fn go(
+    store: &mut SetStore,
+    zone: u32,
+    order: &mut Vec<u32>,
+    key: &SetKey,
+    sums: &mut Sums,
+) -> u32
     requires order { IsOrder store.old.slots zone order.old.items }
+    requires sums { sums.old ≡ sums_of (placed_of store.old.slots zone order.old.items) }
     requires there { IsThere (sets_of (placed_of store.old.slots zone order.old.items)) key.now }
     ensures order { IsOrder store.new.slots zone order.new.items }
     ensures goes { IsTaken (placed_of store.old.slots zone order.old.items) key.now result
@@ -68,11 +88,15 @@ pub fn go(store: &mut SetStore, zone: u32, order: &mut Vec<u32>, key: &SetKey) -
     ensures cells { store.new.cells + cells_of (placed_of store.new.slots zone order.new.items)
         ≡ store.old.cells + cells_of (placed_of store.old.slots zone order.old.items) }
     ensures free { store.new.free ≡ store.old.free + 1 }
+    ensures sums { sums.new ≡ sums_of (placed_of store.new.slots zone order.new.items) }
     ensures length { vec_len order.new + 1 ≡ vec_len order.old }
     ensures room { vec_capacity order.new ≡ vec_capacity order.old }
 {
     match place_of(store, zone, order, key) {
-        Ok(place) => take_at(store, zone, order, place),
+        Ok(place) => {
+            *sums = without_at(*sums, store, zone, order, place);
+            take_at(store, zone, order, place)
+        }
         Err(_) => unreachable!(),
     }
 }

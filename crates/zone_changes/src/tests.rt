@@ -1,6 +1,6 @@
 //! A set that comes into a zone without sets.
 
-use crate::come;
+use crate::{come, no_sums};
 use dns_name::Name;
 use octet_region::cells_for;
 use octets::zeros;
@@ -39,7 +39,17 @@ fn a_set_comes(rt: HostRuntime) -> Result<(), Fail> {
         "memory"
     );
     assert!(rt; order.reserve(1).is_ok(), "memory");
-    come(&mut store, 7, &mut order, &set, buffer.as_mut_slice());
+    let mut sums = no_sums();
+    come(
+        &mut store,
+        7,
+        &mut order,
+        &set,
+        buffer.as_mut_slice(),
+        &mut sums,
+    );
     assert_eq!(rt; order.len(), 1, "it came");
+    assert_eq!(rt; sums.octets, 13, "its octets");
+    assert_eq!(rt; sums.aliases, 1, "an alias");
     Ok(())
 }

@@ -3,17 +3,20 @@ use Rattle.std.specs.Prelude.{◌≡◌, ℕ, List, [], map, Option, Some}
 use Rattle.std.specs.List.{AllByRecursion}
 use Rattle.record_set.specs.declared.sets.RecordSet.{RecordSet}
 use Rattle.set_store.specs.Stored.{Kept}
+use Rattle.zone_changes.specs.declared.sums.Sums.{Sums}
+use Rattle.zone_changes.specs.Sums.{sums_of}
 use Rattle.zone_model.specs.Zones.{IsAmong}
 use Rattle.zone_order.specs.Orders.{IsOrder, placed_of, set_in}
 use Rattle.zone_list.specs.Zones.{AreListed, CanStand, Zone}
 
--- A zone: its number, the name of its apex, the slots of its sets in zone order, and how many more of them it can take
--- without memory.
+-- A zone: its number, the name of its apex, the slots of its sets in zone order, how many more of them it can take without
+-- memory, and what is counted of them.
 pub record Listed : Type 0 where
   pub id : ℕ
   pub apex : List (List ℕ)
   pub order : List ℕ
   pub room : ℕ
+  pub sums : Sums
 
 -- a zone without its sets
 abbrev pub named : Listed → Zone
@@ -33,10 +36,11 @@ zone_in slots listed = record {
 abbrev pub zones_in : List (Option Kept) → List Listed → List Zone
 zones_in slots list = map (zone_in slots) list
 
--- The zone's sets are in its slots, in zone order, and each can stand in it.
+-- The zone's sets are in its slots, in zone order, each can stand in it, and they are counted.
 pub record Stands (slots : List (Option Kept)) (listed : Listed) : Type 0 where
   pub order : IsOrder slots listed.id listed.order
   pub each : AllByRecursion (λ p. CanStand listed.apex p.set) (placed_of slots listed.id listed.order)
+  pub counted : listed.sums ≡ sums_of (placed_of slots listed.id listed.order)
 
 -- one of them has this number
 abbrev pub HasId : List Listed → ℕ → Type 0

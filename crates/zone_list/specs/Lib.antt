@@ -7,4 +7,5 @@ pub use Rattle.zone_model.specs.Placing
 pub use Rattle.zone_model.specs.Zones as Sets
 pub use Rattle.zone_model.specs.Placed
 pub use Rattle.zone_changes.specs.Coming
+pub use Rattle.zone_changes.specs.Sums
 pub use Rattle.zone_order.specs.Orders

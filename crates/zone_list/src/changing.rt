@@ -5,6 +5,7 @@ ghost use Rattle.std.specs.Prelude.{IsTrue, ◌↔◌, vec_len, vec_capacity};
 ghost use Rattle.std.specs.List.{AllByRecursion};
 ghost use Rattle.record_set.specs.Sets.{key_of};
 ghost use Rattle.set_octets.specs.Octets.{HasSpelling, set_octets};
+ghost use Rattle.zone_changes.specs.Sums.{sums_of};
 ghost use Rattle.zone_model.specs.Placing.{IsThere};
 ghost use Rattle.zone_model.specs.Placed.{sets_of};
 ghost use Rattle.zone_list.specs.Changes.{AreThere, ref_in};
@@ -15,7 +16,7 @@ ghost use Rattle.zone_order.specs.Orders.{IsOrder, OthersStay, placed_of};
 use crate::refs::SetRef;
 use record_set::{RecordSet, SetKey};
 use set_store::SetStore;
-use zone_changes::{come, go};
+use zone_changes::{Sums, come, go};
 use zone_model::{key_cmp, keys_are_ordered};
 use zone_order::{of_zone, take_at};
 
@@ -27,6 +28,7 @@ pub fn come_all(
     add: &[RecordSet],
     buffer: &mut [u8],
     added: &mut Vec<SetRef>,
+    sums: &mut Sums,
 )
     requires order { IsOrder store.old.slots zone order.old.items }
     requires spelled { AllByRecursion HasSpelling add.now }
@@ -36,14 +38,18 @@ pub fn come_all(
     requires places { vec_len order.old + length add.now ≤ vec_capacity order.old }
     requires none { added.old.items ≡ [] }
     requires refs { length add.now ≤ vec_capacity added.old }
+    requires sums { sums.old ≡ sums_of (placed_of store.old.slots zone order.old.items) }
     ensures order { IsOrder store.new.slots zone order.new.items }
     ensures comes { Comings zone (placed_of store.old.slots zone order.old.items) add.now
         added.new.items (placed_of store.new.slots zone order.new.items) }
     ensures others { OthersStay zone store.old.slots store.new.slots }
     ensures slots { length store.new.slots ≡ length store.old.slots }
+    ensures sums { sums.new ≡ sums_of (placed_of store.new.slots zone order.new.items) }
+    ensures sets { store.new.free + length order.new.items
+        ≡ store.old.free + length order.old.items }
 {
     for set in add {
-        let slot = come(store, zone, order, set, buffer);
+        let slot = come(store, zone, order, set, buffer, sums);
         of_zone(store, zone, order);
         added.push_reserved(SetRef { zone, slot });
     }
@@ -58,23 +64,28 @@ pub fn leave_all(
     add: &[RecordSet],
     added: &[SetRef],
     removed: &mut Vec<SetRef>,
+    sums: &mut Sums,
 )
     requires order { IsOrder store.old.slots zone order.old.items }
     requires there { AreThere (sets_of (placed_of store.old.slots zone order.old.items)) keys.now }
     requires told { length added.now ≡ length add.now }
     requires none { removed.old.items ≡ [] }
     requires room { length keys.now ≤ vec_capacity removed.old }
+    requires sums { sums.old ≡ sums_of (placed_of store.old.slots zone order.old.items) }
     ensures order { IsOrder store.new.slots zone order.new.items }
     ensures leaves { Leavings zone add.now added.now
         (placed_of store.old.slots zone order.old.items) keys.now removed.new.items
         (placed_of store.new.slots zone order.new.items) }
     ensures others { OthersStay zone store.old.slots store.new.slots }
     ensures slots { length store.new.slots ≡ length store.old.slots }
+    ensures sums { sums.new ≡ sums_of (placed_of store.new.slots zone order.new.items) }
+    ensures sets { store.new.free + length order.new.items
+        ≡ store.old.free + length order.old.items }
 {
     let mut hint = 0;
     for key in keys {
         let at = place_in(add, key, hint);
-        let slot = leave(store, zone, order, key, add, added, at);
+        let slot = leave(store, zone, order, key, add, added, at, sums);
         removed.push_reserved(SetRef { zone, slot });
         hint = behind(at, hint);
     }
@@ -97,21 +108,26 @@ fn leave(
     add: &[RecordSet],
     added: &[SetRef],
     at: Option<usize>,
+    sums: &mut Sums,
 ) -> u32
     requires order { IsOrder store.old.slots zone order.old.items }
     requires there { IsThere (sets_of (placed_of store.old.slots zone order.old.items)) key.now }
     requires at { PlaceOrNone add.now key.now at }
     requires told { length added.now ≡ length add.now }
+    requires sums { sums.old ≡ sums_of (placed_of store.old.slots zone order.old.items) }
     ensures order { IsOrder store.new.slots zone order.new.items }
     ensures leaves { Leaves add.now added.now
         (placed_of store.old.slots zone order.old.items) key.now result
         (placed_of store.new.slots zone order.new.items) }
     ensures others { OthersStay zone store.old.slots store.new.slots }
     ensures slots { length store.new.slots ≡ length store.old.slots }
+    ensures sums { sums.new ≡ sums_of (placed_of store.new.slots zone order.new.items) }
+    ensures sets { store.new.free + length order.new.items
+        ≡ store.old.free + length order.old.items }
 {
     match at {
         Some(at) => added[at].slot,
-        None => go(store, zone, order, key),
+        None => go(store, zone, order, key, sums),
     }
 }
 
@@ -168,6 +184,7 @@ pub fn clear(store: &mut SetStore, zone: u32, order: &mut Vec<u32>)
     ensures order { IsOrder store.new.slots zone [] }
     ensures others { OthersStay zone store.old.slots store.new.slots }
     ensures slots { length store.new.slots ≡ length store.old.slots }
+    ensures sets { store.new.free ≡ store.old.free + length order.old.items }
 {
     while !order.is_empty() {
         let last = order.len() - 1;

@@ -13,3 +13,4 @@ pub use finding::{find_zone, first_from, longest, next_id};
 pub use octets::OutOfMemory;
 pub use refs::{SetRef, SetRefs};
 pub use stored::StoredZone;
+pub use zone_changes::Sums;

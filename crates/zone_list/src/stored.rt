@@ -1,8 +1,9 @@
 //! A zone as it is stored: its number, its name and the slots of its sets.
 
-ghost use Rattle.std.specs.Prelude.{◌≡◌, ◌≤◌, [], length, map, IsOk, OnOk, vec_len, vec_capacity};
+ghost use Rattle.std.specs.Prelude.{◌≡◌, ◌≤◌, ◌+◌, [], length, map, IsOk, OnOk, vec_len, vec_capacity};
 ghost use Rattle.std.specs.List.{AllByRecursion};
 ghost use Rattle.set_octets.specs.Octets.{set_octets};
+ghost use Rattle.zone_changes.specs.Sums.{sums_of};
 ghost use Rattle.zone_list.specs.Changes.{CanChange, Changes, ref_in};
 ghost use Rattle.zone_list.specs.Steps.{cells_in_all};
 ghost use Rattle.zone_order.specs.Orders.{IsOrder, OthersStay, placed_of};
@@ -14,15 +15,17 @@ use octets::OutOfMemory;
 use record_set::{RecordSet, SetKey};
 use set_store::SetStore;
 use std::marker::Model;
-use zone_order::{ZoneView, view_of};
+use zone_changes::{Sums, no_sums};
 
-/// A zone. Contracts see its number, its name, the slots of its sets in zone order, and how many
-/// more of them it can take without memory.
+/// A zone. Contracts see its number, its name, the slots of its sets in zone order, how many more of
+/// them it can take without memory, and what is counted of them.
 #[derive(Drop)]
 pub struct StoredZone {
     id: u32,
     apex: Name,
     order: Vec<u32>,
+    /// What is counted of its sets.
+    sums: Sums,
 }
 
 impl Model for StoredZone {
@@ -36,6 +39,7 @@ impl Model for StoredZone {
       apex = s.apex;
       order = s.order.items;
       room = vec_capacity s.order - vec_len s.order;
+      sums = s.sums;
     } };
 }
 
@@ -47,8 +51,14 @@ impl StoredZone {
         ensures apex { result.apex ≡ apex }
         ensures order { result.order ≡ [] }
         ensures room { result.room ≡ vec_capacity order }
+        ensures sums { result.sums ≡ sums_of [] }
     {
-        StoredZone { id, apex, order }
+        StoredZone {
+            id,
+            apex,
+            order,
+            sums: no_sums(),
+        }
     }
 
     /// Its number.
@@ -72,11 +82,19 @@ impl StoredZone {
         &self.order
     }
 
+    /// How many octets its sets have, and how many of them are aliases, each modulo 2^64.
+    pub fn sums(&self) -> Sums
+        ensures { result ≡ self.now.sums }
+    {
+        self.sums
+    }
+
     /// Makes room for so many more sets. Room that was there stays, also where memory runs out.
     pub fn reserve(&mut self, more: usize) -> Result<(), OutOfMemory>
         ensures id { self.new.id ≡ self.old.id }
         ensures apex { self.new.apex ≡ self.old.apex }
         ensures order { self.new.order ≡ self.old.order }
+        ensures sums { self.new.sums ≡ self.old.sums }
         ensures room { OnOk result (more ≤ self.new.room) }
         ensures kept { self.old.room ≤ self.new.room }
         ensures ready { more ≤ self.old.room → IsOk result }
@@ -107,6 +125,7 @@ impl StoredZone {
         requires cells { cells_in_all add.now ≤ store.old.cells }
         requires slots { length add.now ≤ store.old.free }
         requires places { length add.now ≤ self.old.room }
+        requires sums { self.old.sums ≡ sums_of (placed_of store.old.slots self.old.id self.old.order) }
         ensures id { self.new.id ≡ self.old.id }
         ensures apex { self.new.apex ≡ self.old.apex }
         ensures order { IsOrder store.new.slots self.new.id self.new.order }
@@ -115,9 +134,30 @@ impl StoredZone {
             (placed_of store.new.slots self.new.id self.new.order) }
         ensures others { OthersStay self.old.id store.old.slots store.new.slots }
         ensures slots { length store.new.slots ≡ length store.old.slots }
+        ensures sums { self.new.sums
+            ≡ sums_of (placed_of store.new.slots self.new.id self.new.order) }
+        ensures sets { store.new.free + length self.new.order
+            ≡ store.old.free + length self.old.order }
     {
-        come_all(store, self.id, &mut self.order, add, buffer, added);
-        leave_all(store, self.id, &mut self.order, remove, add, added, removed);
+        come_all(
+            store,
+            self.id,
+            &mut self.order,
+            add,
+            buffer,
+            added,
+            &mut self.sums,
+        );
+        leave_all(
+            store,
+            self.id,
+            &mut self.order,
+            remove,
+            add,
+            added,
+            removed,
+            &mut self.sums,
+        );
     }
 
     /// The zone goes, with all its sets. Their references are told, in zone order.
@@ -130,6 +170,7 @@ impl StoredZone {
         ensures order { IsOrder store.new.slots self.id [] }
         ensures others { OthersStay self.id store.old.slots store.new.slots }
         ensures slots { length store.new.slots ≡ length store.old.slots }
+        ensures sets { store.new.free ≡ store.old.free + length self.order }
     {
         tell_all(store, &self.order, self.id, removed);
         clear(store, self.id, &mut self.order);

@@ -1,12 +1,13 @@
-use Rattle.std.proofs.Common.{◌≡◌, ◌≤◌, ℕ, List, length, set, ap, subst, sym, ◌∙◌, inl}
+use Rattle.std.proofs.Common.{◌≡◌, ◌≤◌, ℕ, List, length, set, ap, refl, subst, sym, ◌∙◌, inl}
 use Rattle.std.specs.Prelude.{slice_get}
 use Rattle.record_set.specs.Sets.{key_of}
 use Rattle.set_search.specs.Found.{FindsAt, FindsNone}
-use Rattle.zone_model.specs.Placed.{sets_of}
+use Rattle.zone_model.specs.Placed.{Placed, sets_of}
 use Rattle.zone_order.specs.Orders.{placed_of, set_in}
 use Rattle.zone_changes.proofs.Coming.{gives_way, one_spelled, set_there}
 use Rattle.octet_region.specs.Cells.{cells_for}
 use Rattle.zone_changes.proofs.Cells.{few_more, put_cells, replaced_cells}
+use Rattle.zone_changes.proofs.Counted.{put_sums, replaced_sums}
 use Rattle.zone_changes.proofs.single.come.Goals as goal
 
 pub replace_at-requires-clause-there : goal.replace_at-requires-clause-there
@@ -77,3 +78,28 @@ returns-in-Ok-clause-enough c =
     few_more (placed_of c.args.store.now.slots c.args.zone c.args.order.now.items)
     (record { slot = c.replace_at.result; set = c.args.set.now }) _ (returns-in-Ok-clause-comes c)
     c.args.store.now.cells c.replace_at.new.store.cells (returns-in-Ok-clause-cells c)
+
+pub returns-in-Ok-clause-sums : goal.returns-in-Ok-clause-sums
+returns-in-Ok-clause-sums c =
+    let slice = c.deref.ensures.value in
+    let found = c.in-Ok.ensures in
+    let there = set_there (set_in c.args.store.now.slots c.args.zone) c.args.order.now.items
+    c.requires.order.present c.in-Ok.place c.replace_at.result found.kept
+    (ap (λ xs. slice_get xs c.in-Ok.place) (sym slice) ∙ c.replace_at.ensures.slot) found.there in
+    let given : Placed = record { slot = c.replace_at.result; set = c.args.set.now } in
+    let was : Placed = record { slot = c.replace_at.result; set = found.kept } in
+    replaced_sums (placed_of c.args.store.now.slots c.args.zone c.args.order.now.items) given was _ c.in-Ok.place there
+    (subst (λ xs. placed_of c.replace_at.new.store.slots c.args.zone xs ≡ set
+    (placed_of c.args.store.now.slots c.args.zone xs) c.in-Ok.place given) slice
+    (c.replace_at.ensures.replaced c.args.set.now c.spell-octets.ensures.spells))
+    c.args.sums.now c.with_set-counted.result c.without_at.result c.requires.sums
+    (c.with_set-counted.ensures given refl (ap length c.spell-octets.ensures.spells.same))
+    c.without_at.ensures.octets c.without_at.ensures.aliases (c.without_at.ensures.without was there)
+
+pub returns-in-Err-clause-sums : goal.returns-in-Err-clause-sums
+returns-in-Err-clause-sums c =
+    let given : Placed = record { slot = c.put_at.result; set = c.args.set.now } in
+    put_sums (placed_of c.args.store.now.slots c.args.zone c.args.order.now.items) given _
+    (c.put_at.ensures.put c.args.set.now c.spell-octets.ensures.spells)
+    c.args.sums.now c.with_set-counted.result c.requires.sums
+    (c.with_set-counted.ensures given refl (ap length c.spell-octets.ensures.spells.same))

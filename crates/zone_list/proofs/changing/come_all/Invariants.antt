@@ -1,4 +1,5 @@
 use Rattle.std.proofs.Common.{◌≡◌, ◌≤◌, ◌+◌, ◌++◌, List, length, drop, vec_len, vec_capacity}
+use Rattle.zone_changes.specs.Sums.{sums_of}
 use Rattle.zone_model.specs.Placed.{Placed}
 use Rattle.zone_order.specs.Orders.{IsOrder, OthersStay, placed_of}
 use Rattle.zone_list.specs.declared.refs.SetRef.{SetRef}
@@ -19,4 +20,6 @@ invariant-loop-set l = record {
   refs : length l.added.items + length (drop l.set-index l.add) ≤ vec_capacity l.added;
   buffer : length l.buffer ≡ length l.fn.buffer;
   slots_stay : length l.store.slots ≡ length l.fn.store.slots;
+  sums : l.sums ≡ sums_of (placed_of l.store.slots l.zone l.order.items);
+  sets : l.store.free + length l.order.items ≡ l.fn.store.free + length l.fn.order.items;
 }

@@ -53,6 +53,8 @@ loop-key-preserved c =
           ∙ inv.others other at_slot apart;
       refs = omega (arith, refs, one_less, one_more, same);
       slots_stay = c.leave-slot.ensures.slots ∙ inv.slots_stay;
+      sums = c.leave-slot.ensures.sums;
+      sets = c.leave-slot.ensures.sets ∙ inv.sets;
     }
 
 pub returns-clause-leaves : goal.returns-clause-leaves

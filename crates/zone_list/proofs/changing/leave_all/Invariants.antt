@@ -1,4 +1,5 @@
 use Rattle.std.proofs.Common.{◌≡◌, ◌≤◌, ◌+◌, ◌++◌, List, length, drop, vec_capacity}
+use Rattle.zone_changes.specs.Sums.{sums_of}
 use Rattle.zone_model.specs.Placed.{Placed, sets_of}
 use Rattle.zone_order.specs.Orders.{IsOrder, OthersStay, placed_of}
 use Rattle.zone_list.specs.declared.refs.SetRef.{SetRef}
@@ -18,4 +19,6 @@ invariant-loop-key l = record {
   others : OthersStay l.zone l.fn.store.slots l.store.slots;
   refs : length l.removed.items + length (drop l.key-index l.keys) ≤ vec_capacity l.removed;
   slots_stay : length l.store.slots ≡ length l.fn.store.slots;
+  sums : l.sums ≡ sums_of (placed_of l.store.slots l.zone l.order.items);
+  sets : l.store.free + length l.order.items ≡ l.fn.store.free + length l.fn.order.items;
 }

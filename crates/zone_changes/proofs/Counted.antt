@@ -1,0 +1,70 @@
+-- What is counted of a zone's sets, where one comes or goes.
+use Rattle.std.proofs.Common.{◌≡◌, ℕ, ◌+◌, ◌%◌, ◌^◌, ◌<◌, List, Some, set, ap, ◌∙◌, sym, arith}
+use Rattle.std.specs.Prelude.{slice_get}
+use Rattle.std.specs.List.{sum_by}
+use Rattle.zone_model.specs.Placed.{Placed, IsPut, IsTakenAt}
+use Rattle.zone_changes.specs.declared.sums.Sums.{Sums}
+use Rattle.zone_changes.specs.Sums.{aliases_in, octets_in, plus, sums_of}
+use Rattle.zone_changes.proofs.Cells.{sum_insert, sum_remove, sum_set}
+
+both : (x y : Sums) → x.octets ≡ y.octets → x.aliases ≡ y.aliases → x ≡ y
+both x y octets aliases =
+    ap (λ (n : ℕ). record { octets = n; aliases = x.aliases }) octets
+    ∙ ap (λ (n : ℕ). record { octets = y.octets; aliases = n }) aliases
+
+more : (before after given counted : ℕ) → after ≡ before + given → counted ≡ (before % 2 ^ 64 + given) % 2 ^ 64
+    → counted ≡ after % 2 ^ 64
+more before after given counted sum is = omega (arith, sum, is)
+
+fewer : (before after was left : ℕ) → after + was ≡ before → left < 2 ^ 64
+    → (left + was) % 2 ^ 64 ≡ before % 2 ^ 64 → left ≡ after % 2 ^ 64
+fewer before after was left sum few is = omega (arith, sum, few, is)
+
+swapped : (before after given was counted left : ℕ) → after + was ≡ before + given
+    → counted ≡ (before % 2 ^ 64 + given) % 2 ^ 64 → left < 2 ^ 64 → (left + was) % 2 ^ 64 ≡ counted
+    → left ≡ after % 2 ^ 64
+swapped before after given was counted left sum is few without = omega (arith, sum, is, few, without)
+
+-- one more comes
+pub put_sums : (before : List Placed) (given : Placed) (after : List Placed) → IsPut before given after
+    → (sums counted : Sums) → sums ≡ sums_of before → counted ≡ plus sums given → counted ≡ sums_of after
+put_sums before given after put sums counted so_far is =
+    let now = is ∙ ap (λ s. plus s given) so_far in
+    both counted (sums_of after)
+    (more (sum_by octets_in before) (sum_by octets_in after) (octets_in given) counted.octets
+    (ap (sum_by octets_in) put.inserted ∙ sum_insert octets_in before put.at given)
+    (ap (λ (s : Sums). s.octets) now))
+    (more (sum_by aliases_in before) (sum_by aliases_in after) (aliases_in given) counted.aliases
+    (ap (sum_by aliases_in) put.inserted ∙ sum_insert aliases_in before put.at given)
+    (ap (λ (s : Sums). s.aliases) now))
+
+-- one comes in place of another
+pub replaced_sums : (before : List Placed) (given was : Placed) (after : List Placed) (at : ℕ)
+    → slice_get before at ≡ Some was → after ≡ set before at given → (sums counted left : Sums)
+    → sums ≡ sums_of before → counted ≡ plus sums given → left.octets < 2 ^ 64 → left.aliases < 2 ^ 64
+    → plus left was ≡ counted → left ≡ sums_of after
+replaced_sums before given was after at there replaced sums counted left so_far is few few_too without =
+    let now = is ∙ ap (λ s. plus s given) so_far in
+    both left (sums_of after)
+    (swapped (sum_by octets_in before) (sum_by octets_in after) (octets_in given) (octets_in was) counted.octets left.octets
+    (ap (λ ps. sum_by octets_in ps + octets_in was) replaced ∙ sum_set octets_in before at was given there)
+    (ap (λ (s : Sums). s.octets) now) few (ap (λ (s : Sums). s.octets) without))
+    (swapped (sum_by aliases_in before) (sum_by aliases_in after) (aliases_in given) (aliases_in was) counted.aliases left.aliases
+    (ap (λ ps. sum_by aliases_in ps + aliases_in was) replaced ∙ sum_set aliases_in before at was given there)
+    (ap (λ (s : Sums). s.aliases) now) few_too (ap (λ (s : Sums). s.aliases) without))
+
+-- one goes
+pub taken_sums : (before : List Placed) (at slot : ℕ) (after : List Placed)
+    → (t : IsTakenAt before at slot after) → (sums left : Sums) → sums ≡ sums_of before
+    → left.octets < 2 ^ 64 → left.aliases < 2 ^ 64
+    → plus left (record { slot = slot; set = t.set }) ≡ sums → left ≡ sums_of after
+taken_sums before at slot after t sums left so_far few few_too without =
+    let was : Placed = record { slot = slot; set = t.set } in
+    let now = without ∙ so_far in
+    both left (sums_of after)
+    (fewer (sum_by octets_in before) (sum_by octets_in after) (octets_in was) left.octets
+    (ap (λ ps. sum_by octets_in ps + octets_in was) t.removed ∙ sum_remove octets_in before at was t.there)
+    few (ap (λ (s : Sums). s.octets) now))
+    (fewer (sum_by aliases_in before) (sum_by aliases_in after) (aliases_in was) left.aliases
+    (ap (λ ps. sum_by aliases_in ps + aliases_in was) t.removed ∙ sum_remove aliases_in before at was t.there)
+    few_too (ap (λ (s : Sums). s.aliases) now))
