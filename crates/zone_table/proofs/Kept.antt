@@ -9,6 +9,7 @@ use Rattle.set_store.specs.Stored.{Kept}
 use Rattle.zone_model.specs.Zones.{IsAmong}
 use Rattle.zone_model.proofs.Lists.{all_put, all_taken, in_itself, in_put, in_taken, split, split_at}
 use Rattle.zone_order.specs.Orders.{IsOrder, IsOrderBy, OthersStay, placed_by, placed_of, set_in}
+use Rattle.zone_changes.specs.Sums.{sums_of}
 use Rattle.zone_list.specs.Kept.{AreKept, HasId, Listed, named, named_of, Stands, zone_in, zones_in}
 use Rattle.zone_list.specs.Zones.{AreListed, CanStand, Zone}
 use Rattle.record_set.specs.declared.sets.SetKey.{SetKey}
@@ -47,6 +48,7 @@ module _ (slots now : List (Option Kept)) (zone : ℕ) (others : OthersStay zone
     order = subst (λ get. IsOrderBy get k.order) (sym (same_get k.id ne)) stands.order;
     each = subst (λ get. AllByRecursion (λ p. CanStand k.apex p.set) (placed_by get k.order))
         (sym (same_get k.id ne)) stands.each;
+    counted = stands.counted ∙ ap (λ get. sums_of (placed_by get k.order)) (sym (same_get k.id ne));
   }
 
   same_zones : (ks : List Listed) → AllByRecursion (λ k. k.id ≢ zone) ks → zones_in now ks ≡ zones_in slots ks
@@ -92,13 +94,15 @@ pub changed_stands : (slots now : List (Option Kept)) (k k_now : Listed) → k_n
     → IsOrder now k_now.id k_now.order → (remove : List SetKey) (add : List RecordSet)
     → (removed added : List SetRef)
     → Changes k.id (placed_of slots k.id k.order) remove add removed added (placed_of now k_now.id k_now.order)
-    → Stands slots k → AllByRecursion (CanStand k.apex) add → Stands now k_now
-changed_stands slots now k k_now same_apex order remove add removed added changes stands each = record {
+    → Stands slots k → AllByRecursion (CanStand k.apex) add
+    → k_now.sums ≡ sums_of (placed_of now k_now.id k_now.order) → Stands now k_now
+changed_stands slots now k k_now same_apex order remove add removed added changes stands each counted = record {
   order = order;
   each = subst (λ (a : List (List ℕ)). AllByRecursion (λ p. CanStand a p.set)
       (placed_of now k_now.id k_now.order)) (sym same_apex)
       (all_kept (CanStand k.apex) k.id (placed_of slots k.id k.order) remove add removed added
       (placed_of now k_now.id k_now.order) changes stands.each each);
+  counted = counted;
 }
 
 -- ---- a zone changed

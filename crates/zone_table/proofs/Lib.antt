@@ -7,3 +7,4 @@ pub mod Once
 pub mod Opening
 pub mod Rooms
 pub mod Sizes
+pub mod Totals

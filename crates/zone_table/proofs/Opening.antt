@@ -13,6 +13,7 @@ use Rattle.zone_model.proofs.Lists.{drop_map, split}
 use Rattle.zone_order.specs.Orders.{IsOrder, placed_of}
 use Rattle.zone_list.specs.Changes.{CanBeAdded, CanChange, IsKeyOf}
 use Rattle.zone_list.specs.Found.{IsSplit}
+use Rattle.zone_changes.specs.Sums.{sums_of}
 use Rattle.zone_list.specs.Kept.{AreKept, HasId, Listed, named, named_of, Stands, zone_in, zones_in}
 use Rattle.zone_list.specs.Zones.{AreListed, CanStand, IsOne, Zone}
 use Rattle.zone_table.specs.declared.edits.ZoneEdit.TheVariants as edit
@@ -32,12 +33,13 @@ empty_order slots list kept id new = record {
 }
 
 pub stands_empty : (slots : List (Option Kept)) (list : List Listed) → AreKept slots list → (k : Listed)
-    → k.order ≡ [] → (HasId list k.id → ⊥) → Stands slots k
-stands_empty slots list kept k empty new = record {
+    → k.order ≡ [] → k.sums ≡ sums_of [] → (HasId list k.id → ⊥) → Stands slots k
+stands_empty slots list kept k empty none new = record {
   order = subst (λ (order : List ℕ). IsOrder slots k.id order) (sym empty)
       (empty_order slots list kept k.id new);
   each = subst (λ (order : List ℕ). AllByRecursion (λ p. CanStand k.apex p.set)
       (placed_of slots k.id order)) (sym empty) tt;
+  counted = none ∙ ap (λ (order : List ℕ). sums_of (placed_of slots k.id order)) (sym empty);
 }
 
 -- sets that can be added to a zone without sets

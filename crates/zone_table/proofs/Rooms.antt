@@ -10,6 +10,8 @@ use Rattle.cidr_commands.specs.Stored.{Stored}
 use Rattle.set_store.specs.Stored.{Kept, Store}
 use Rattle.zone_model.proofs.Among.{among_at}
 use Rattle.zone_order.specs.Orders.{IsOrderBy, placed_by, set_in}
+use Rattle.zone_changes.specs.declared.sums.Sums.{Sums}
+use Rattle.zone_changes.specs.Sums.{sums_of}
 use Rattle.zone_list.specs.Kept.{AreKept, HasId, Listed, named, named_of, Stands, zone_in, zones_in}
 use Rattle.zone_list.specs.Zones.{AreListed, CanStand, IsZoneId, placed_in, Zone}
 use Rattle.zone_list.proofs.Listing.{listed_at}
@@ -23,21 +25,23 @@ use Rattle.zone_table.proofs.Naming.{in_map, map_at, of_map_at}
 
 -- ---- rows
 
-same_row : (k now : Listed) → now.id ≡ k.id → now.apex ≡ k.apex → now.order ≡ k.order → row now ≡ row k
-same_row k now id apex order =
-    ap (λ (n : ℕ). record { id = n; apex = now.apex; order = now.order }) id
-    ∙ (ap (λ (a : List (List ℕ)). record { id = k.id; apex = a; order = now.order }) apex
-    ∙ ap (λ (o : List ℕ). record { id = k.id; apex = k.apex; order = o }) order)
+same_row : (k now : Listed) → now.id ≡ k.id → now.apex ≡ k.apex → now.order ≡ k.order → now.sums ≡ k.sums
+    → row now ≡ row k
+same_row k now id apex order sums =
+    ap (λ (n : ℕ). record { id = n; apex = now.apex; order = now.order; sums = now.sums }) id
+    ∙ (ap (λ (a : List (List ℕ)). record { id = k.id; apex = a; order = now.order; sums = now.sums }) apex
+    ∙ (ap (λ (o : List ℕ). record { id = k.id; apex = k.apex; order = o; sums = now.sums }) order
+    ∙ ap (λ (x : Sums). record { id = k.id; apex = k.apex; order = k.order; sums = x }) sums))
 
 pub rows_kept : (list : List Listed) (i : ℕ) (k now : Listed) → slice_get list i ≡ Some k
-    → now.id ≡ k.id → now.apex ≡ k.apex → now.order ≡ k.order
+    → now.id ≡ k.id → now.apex ≡ k.apex → now.order ≡ k.order → now.sums ≡ k.sums
     → same_rows list (slice_set list i now)
-rows_kept [] i k now at id apex order = absurd (grind (arith, at))
-rows_kept (j ∷ list) zero k now at id apex order =
+rows_kept [] i k now at id apex order sums = absurd (grind (arith, at))
+rows_kept (j ∷ list) zero k now at id apex order sums =
     let one : j ≡ k = grind (arith, at) in
-    ap (λ r. r ∷ map row list) (same_row k now id apex order ∙ ap row (sym one))
-rows_kept (j ∷ list) (suc i) k now at id apex order =
-    ap (λ rs. row j ∷ rs) (rows_kept list i k now at id apex order)
+    ap (λ r. r ∷ map row list) (same_row k now id apex order sums ∙ ap row (sym one))
+rows_kept (j ∷ list) (suc i) k now at id apex order sums =
+    ap (λ rs. row j ∷ rs) (rows_kept list i k now at id apex order sums)
 
 abbrev zone_of_row : List (Option Kept) → Row → Zone
 zone_of_row slots r = record { id = r.id; apex = r.apex; placed = placed_by (set_in slots r.id) r.order }
@@ -84,15 +88,12 @@ rows_stand slots (k ∷ list) (j ∷ now) same each =
     stands_row : Row → Type 0
     stands_row r = IsOrderBy (set_in slots r.id) r.order
         × AllByRecursion (λ p. CanStand r.apex p.set) (placed_by (set_in slots r.id) r.order)
+        × (r.sums ≡ sums_of (placed_by (set_in slots r.id) r.order))
 
     by : row j ≡ row k → Stands slots k → Stands slots j
     by e stands =
-        let h : IsOrderBy (set_in slots j.id) j.order
-        × AllByRecursion (λ p. CanStand j.apex p.set) (placed_by (set_in slots j.id) j.order) =
-        subst (λ (r : Row). IsOrderBy (set_in slots r.id) r.order
-        × AllByRecursion (λ p. CanStand r.apex p.set) (placed_by (set_in slots r.id) r.order)) (sym e)
-        (stands.order, stands.each) in
-        record { order = h.0; each = h.1 }
+        let h : stands_row (row j) = subst stands_row (sym e) (stands.order, stands.each, stands.counted) in
+        record { order = h.0; each = h.1; counted = h.2 }
 
 rows_ids : (list now : List Listed) → same_rows list now → (id : ℕ) → HasId list id → HasId now id
 rows_ids [] now same id is = absurd is.1
@@ -130,6 +131,7 @@ module _ (slots now : List (Option Kept)) (stay : (zone slot : ℕ) → set_in n
       order = subst (λ get. IsOrderBy get k.order) (sym (same_get k.id)) each.0.order;
       each = subst (λ get. AllByRecursion (λ p. CanStand k.apex p.set) (placed_by get k.order))
           (sym (same_get k.id)) each.0.each;
+      counted = each.0.counted ∙ ap (λ get. sums_of (placed_by get k.order)) (sym (same_get k.id));
     },
     still_stand list each.1,
   )

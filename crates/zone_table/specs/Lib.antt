@@ -1,3 +1,4 @@
+pub mod Counted
 pub mod Edits
 pub mod Laws
 pub mod Looking
@@ -10,6 +11,7 @@ pub use Rattle.zone_model.specs.Zones as Sets
 pub use Rattle.set_scratch.specs.Telling
 pub use Rattle.set_search.specs.Bounds
 pub use Rattle.set_search.specs.Found
+pub use Rattle.zone_changes.specs.Sums
 pub use Rattle.zone_list.specs.Changes
 pub use Rattle.zone_list.specs.Found as FoundZones
 pub use Rattle.zone_list.specs.Zones

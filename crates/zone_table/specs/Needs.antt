@@ -5,6 +5,7 @@ use Rattle.std.specs.declared.alloc.Global.{Global}
 use Rattle.record_set.specs.declared.sets.RecordSet.{RecordSet}
 use Rattle.set_octets.specs.Octets.{HasSpelling, set_octets}
 use Rattle.set_store.specs.Stored.{Kept, Store}
+use Rattle.zone_changes.specs.declared.sums.Sums.{Sums}
 use Rattle.zone_list.specs.Kept.{Listed, zones_in}
 use Rattle.zone_list.specs.Steps.{cells_in_all}
 use Rattle.zone_list.specs.Zones.{placed_in}
@@ -18,9 +19,10 @@ pub record Row : Type 0 where
   pub id : ℕ
   pub apex : List (List ℕ)
   pub order : List ℕ
+  pub sums : Sums
 
 abbrev pub row : Listed → Row
-row listed = record { id = listed.id; apex = listed.apex; order = listed.order }
+row listed = record { id = listed.id; apex = listed.apex; order = listed.order; sums = listed.sums }
 
 -- the zones are the same, but for how many more sets they can take
 abbrev pub same_rows : (before after : List Listed) → Type 0

@@ -2,6 +2,7 @@
 
 ghost use Rattle.std.specs.Prelude.{◌≡◌, ◌<◌, ◌+◌, length, slice_get, Some, IfOk};
 ghost use Rattle.set_search.specs.Stops.{bound_of};
+ghost use Rattle.zone_changes.specs.Sums.{sums_of};
 ghost use Rattle.zone_list.specs.Kept.{AreKept, zones_in};
 ghost use Rattle.zone_list.specs.Zones.{placed_in};
 ghost use Rattle.zone_model.specs.Placed.{IsSlotAt, sets_of};
@@ -17,7 +18,8 @@ use set_scratch::Scratch;
 use set_search::{SetList, Stop, count_before};
 use set_store::{SetStore, Watch};
 use std::alloc::Global;
-use zone_list::{SetRef, StoredZone, find_zone};
+use zone_changes::no_sums;
+use zone_list::{SetRef, StoredZone, Sums, find_zone};
 use zone_order::{ZoneView, view_of};
 
 /// The slots of a zone's sets, in zone order.
@@ -90,6 +92,17 @@ pub fn slot_behind(store: &SetStore, list: &[StoredZone], zone: u32, to: &Stop) 
         return Some(slot_in(store, list, zone, place, 0));
     }
     None
+}
+
+/// How many octets the sets of a zone have, and how many of them are aliases.
+pub fn sums_in(store: &SetStore, list: &[StoredZone], zone: u32) -> Sums
+    requires { AreKept store.now.slots list.now }
+    ensures { result ≡ sums_of (placed_in (zones_in store.now.slots list.now) zone) }
+{
+    match find_zone(list, zone) {
+        Some(place) => list[place].sums(),
+        None => no_sums(),
+    }
 }
 
 /// Whether a reference names a set.

@@ -1,12 +1,15 @@
 //! Edits, made.
 
-ghost use Rattle.std.specs.Prelude.{◌≡◌, ◌≤◌, ◌<◌, [], length, vec_capacity};
+ghost use Rattle.std.specs.Prelude.{◌≡◌, ◌≤◌, ◌<◌, ◌+◌, ◌%◌, ◌^◌, [], length, slice_get, Some};
+ghost use Rattle.std.specs.Prelude.{vec_capacity};
 ghost use Rattle.std.specs.List.{AllByRecursion, insert};
 ghost use Rattle.set_octets.specs.Octets.{set_octets};
-ghost use Rattle.zone_list.specs.Kept.{AreKept, zones_in};
+ghost use Rattle.zone_changes.specs.Sums.{sums_of};
+ghost use Rattle.zone_list.specs.Kept.{AreKept, Listed, zones_in};
 ghost use Rattle.zone_list.specs.Steps.{cells_in_all};
 ghost use Rattle.zone_list.specs.Zones.{placed_in};
 ghost use Rattle.zone_table.specs.declared.edits.ZoneEdit.TheVariants.{Open, Close, Change};
+ghost use Rattle.zone_table.specs.Counted.{AreCounted};
 ghost use Rattle.zone_table.specs.Edits.{Edits, IsAllowed, collections_after};
 ghost use Rattle.zone_table.specs.Needs.{CanTake, IsReadyFor};
 
@@ -21,11 +24,14 @@ pub fn make(
     store: &mut SetStore,
     list: &mut Vec<StoredZone>,
     collections: &mut Collections,
+    octets: &mut u64,
     ready: Ready,
 ) -> Delta
     requires kept { AreKept store.old.slots list.old.items }
+    requires counted { AreCounted store.old list.old.items octets.old }
     requires ready { IsReadyFor store.old list.old ready }
     ensures kept { AreKept store.new.slots list.new.items }
+    ensures counted { AreCounted store.new list.new.items octets.new }
     ensures slots { length store.new.slots ≡ length store.old.slots }
     ensures edits { Edits (zones_in store.old.slots list.old.items) ready.made
         (zones_in store.new.slots list.new.items) result }
@@ -42,11 +48,13 @@ pub fn make(
     match made {
         ZoneEdit::Open { zone, name, sets } => {
             let opened = StoredZone::new(zone, name, places);
-            open(store, list, opened, sets, removed, added, buffer)
+            open(store, list, octets, opened, sets, removed, added, buffer)
         }
-        ZoneEdit::Close(zone) => close(store, list, zone, removed, added),
+        ZoneEdit::Close(zone) => close(store, list, octets, zone, removed, added),
         ZoneEdit::Change { zone, remove, add } => {
-            change(store, list, zone, remove, add, removed, added, buffer)
+            change(
+                store, list, octets, zone, remove, add, removed, added, buffer,
+            )
         }
         ZoneEdit::Collections(now) => {
             *collections = now;
@@ -63,6 +71,7 @@ pub fn make(
 fn open(
     store: &mut SetStore,
     list: &mut Vec<StoredZone>,
+    octets: &mut u64,
     mut opened: StoredZone,
     sets: Sets,
     mut removed: Vec<SetRef>,
@@ -70,10 +79,12 @@ fn open(
     mut buffer: Vec<u8>,
 ) -> Delta
     requires kept { AreKept store.old.slots list.old.items }
+    requires counted { AreCounted store.old list.old.items octets.old }
     requires allowed { IsAllowed (zones_in store.old.slots list.old.items)
         (Open opened.id opened.apex sets) }
     requires spare { length list.old.items < vec_capacity list.old }
     requires empty { opened.order ≡ [] }
+    requires none { opened.sums ≡ sums_of [] }
     requires none_removed { removed.items ≡ [] }
     requires none_added { added.items ≡ [] }
     requires addable { length sets ≤ vec_capacity added }
@@ -82,6 +93,7 @@ fn open(
     requires cells { cells_in_all sets ≤ store.old.cells }
     requires buffer { AllByRecursion (λ set. length (set_octets set) ≤ length buffer.items) sets }
     ensures kept { AreKept store.new.slots list.new.items }
+    ensures counted { AreCounted store.new list.new.items octets.new }
     ensures slots { length store.new.slots ≡ length store.old.slots }
     ensures edits { Edits (zones_in store.old.slots list.old.items)
         (Open opened.id opened.apex sets) (zones_in store.new.slots list.new.items) result }
@@ -96,6 +108,7 @@ fn open(
         &mut removed,
         &mut added,
     );
+    *octets = recount(*octets, 0, opened.sums().octets);
     let place = first_from(list, zone);
     insert_zone(list, place, opened);
     Delta {
@@ -103,6 +116,23 @@ fn open(
         removed: SetRefs::from_vec(removed),
         added: SetRefs::from_vec(added),
     }
+}
+
+/// The count of all octets once those of a zone changed.
+fn recount(octets: u64, before: u64, after: u64) -> u64
+    ensures again { (result + before) % 2 ^ 64 ≡ (octets + after) % 2 ^ 64 }
+    ensures few { result < 2 ^ 64 }
+{
+    octets.wrapping_sub(before).wrapping_add(after)
+}
+
+/// How many octets the sets of the zone at a place have, as they are counted.
+fn octets_at(list: &Vec<StoredZone>, place: usize) -> u64
+    requires { place < length list.now.items }
+    ensures { (its : Listed) → slice_get list.now.items place ≡ Some its
+        → result ≡ its.sums.octets }
+{
+    list[place].sums().octets
 }
 
 /// Puts a zone before the place.
@@ -121,17 +151,20 @@ fn insert_zone(list: &mut Vec<StoredZone>, place: usize, zone: StoredZone)
 fn close(
     store: &mut SetStore,
     list: &mut Vec<StoredZone>,
+    octets: &mut u64,
     zone: u32,
     mut removed: Vec<SetRef>,
     added: Vec<SetRef>,
 ) -> Delta
     requires kept { AreKept store.old.slots list.old.items }
+    requires counted { AreCounted store.old list.old.items octets.old }
     requires allowed { IsAllowed (zones_in store.old.slots list.old.items) (Close zone) }
     requires none_removed { removed.items ≡ [] }
     requires none_added { added.items ≡ [] }
     requires removable { length (placed_in (zones_in store.old.slots list.old.items) zone)
         ≤ vec_capacity removed }
     ensures kept { AreKept store.new.slots list.new.items }
+    ensures counted { AreCounted store.new list.new.items octets.new }
     ensures slots { length store.new.slots ≡ length store.old.slots }
     ensures edits { Edits (zones_in store.old.slots list.old.items) (Close zone)
         (zones_in store.new.slots list.new.items) result }
@@ -140,6 +173,7 @@ fn close(
         unreachable!()
     };
     let closed = list.remove(place);
+    *octets = recount(*octets, closed.sums().octets, 0);
     closed.close(store, &mut removed);
     Delta {
         zone,
@@ -152,6 +186,7 @@ fn close(
 fn change(
     store: &mut SetStore,
     list: &mut Vec<StoredZone>,
+    octets: &mut u64,
     zone: u32,
     remove: SetKeys,
     add: Sets,
@@ -160,6 +195,7 @@ fn change(
     mut buffer: Vec<u8>,
 ) -> Delta
     requires kept { AreKept store.old.slots list.old.items }
+    requires counted { AreCounted store.old list.old.items octets.old }
     requires allowed { IsAllowed (zones_in store.old.slots list.old.items) (Change zone remove add) }
     requires none_removed { removed.items ≡ [] }
     requires none_added { added.items ≡ [] }
@@ -170,6 +206,7 @@ fn change(
     requires cells { cells_in_all add ≤ store.old.cells }
     requires buffer { AllByRecursion (λ set. length (set_octets set) ≤ length buffer.items) add }
     ensures kept { AreKept store.new.slots list.new.items }
+    ensures counted { AreCounted store.new list.new.items octets.new }
     ensures slots { length store.new.slots ≡ length store.old.slots }
     ensures edits { Edits (zones_in store.old.slots list.old.items) (Change zone remove add)
         (zones_in store.new.slots list.new.items) result }
@@ -177,6 +214,7 @@ fn change(
     let Some(place) = find_zone(list, zone) else {
         unreachable!()
     };
+    let before = octets_at(list, place);
     list[place].change(
         store,
         remove.as_slice(),
@@ -185,6 +223,7 @@ fn change(
         &mut removed,
         &mut added,
     );
+    *octets = recount(*octets, before, octets_at(list, place));
     Delta {
         zone,
         removed: SetRefs::from_vec(removed),

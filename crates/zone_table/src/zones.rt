@@ -4,8 +4,10 @@ ghost use Rattle.std.specs.Prelude.{◌≡◌, ◌≢◌, ◌≤◌, ◌<◌, �
 ghost use Rattle.std.specs.Prelude.{IfOk, IsTrue, ◌↔◌};
 ghost use Rattle.zone_model.specs.Existing.{Exists, IsAncestor, IsClosest};
 ghost use Rattle.zone_model.specs.Placed.{sets_of};
+ghost use Rattle.zone_changes.specs.Sums.{aliases_of, octets_of};
 ghost use Rattle.zone_list.specs.Found.{NextZoneOrNone};
 ghost use Rattle.zone_list.specs.Zones.{AreZones, IsZoneId, placed_in};
+ghost use Rattle.zone_table.specs.Counted.{octets_in_all, sets_in_all};
 ghost use Rattle.zone_table.specs.Edits.{Edits, IsAllowed, IsReady, StayReady};
 ghost use Rattle.zone_table.specs.Edits.{collections_after};
 ghost use Rattle.zone_table.specs.Looking.{ApexOrNone, HoldsOrNone, IsApex, IsGroup, IsGroupNow};
@@ -15,7 +17,9 @@ ghost use Rattle.zone_table.specs.Tables.{HaveSlotsApart, HaveSlotsBelow};
 ghost use Rattle.set_search.specs.Stops.{bound_of as told};
 
 use crate::edits::{Ready, ZoneEdit};
-use crate::looking::{copies, load, order_of, slot_at, slot_behind, slot_in, target, view, watch};
+use crate::looking::{
+    copies, load, order_of, slot_at, slot_behind, slot_in, sums_in, target, view, watch,
+};
 use crate::making::make;
 use crate::needs::{need_of, reserve_for};
 use crate::refs::{Delta, Group};
@@ -38,6 +42,8 @@ pub struct Zones {
     store: SetStore,
     list: Vec<StoredZone>,
     collections: Collections,
+    /// How many octets the sets of all zones have.
+    octets: u64,
     /// How many edits were made, modulo 2^64.
     edits: u64,
 }
@@ -45,6 +51,7 @@ pub struct Zones {
 impl Model for Zones {
     ghost use Rattle.std.specs.Prelude.{◌-◌, length, map, vec_capacity};
     ghost use Rattle.zone_list.specs.Kept.{AreKept, zones_in};
+    ghost use Rattle.zone_table.specs.Counted.{AreCounted};
     ghost use Rattle.zone_table.specs.Tables.{Table};
 
     ghost Value = { Table };
@@ -60,7 +67,8 @@ impl Model for Zones {
       edits = z.edits;
     } };
 
-    ghost invariant = { λ z. AreKept z.store.slots z.list.items };
+    ghost invariant = { λ z. AreKept z.store.slots z.list.items
+        × AreCounted z.store z.list.items z.octets };
 }
 
 impl Zones {
@@ -74,6 +82,7 @@ impl Zones {
             store: SetStore::new(alloc),
             list: Vec::new(alloc),
             collections: Collections::new(alloc),
+            octets: 0,
             edits: 0,
         }
     }
@@ -127,6 +136,37 @@ impl Zones {
             Some(slot) => Some(SetRef { zone, slot }),
             None => None,
         }
+    }
+
+    /// How many octets the sets of a zone have.
+    pub fn octets(&self, zone: u32) -> u64
+        ensures { result ≡ octets_of (placed_in self.now.zones zone) }
+    {
+        self.store.slots();
+        sums_in(&self.store, &self.list, zone).octets
+    }
+
+    /// How many sets of a zone are aliases.
+    pub fn aliases(&self, zone: u32) -> usize
+        ensures { result ≡ aliases_of (placed_in self.now.zones zone) }
+    {
+        self.store.slots();
+        sums_in(&self.store, &self.list, zone).aliases as usize
+    }
+
+    /// How many sets all zones have.
+    pub fn all_sets(&self) -> u64
+        ensures { result ≡ sets_in_all self.now.zones }
+    {
+        (self.store.slots() - self.store.spare()) as u64
+    }
+
+    /// How many octets the sets of all zones have.
+    pub fn all_octets(&self) -> u64
+        ensures { result ≡ octets_in_all self.now.zones }
+    {
+        self.store.slots();
+        self.octets
     }
 
     /// Copies of all sets of a zone, in zone order.
@@ -293,6 +333,7 @@ impl Zones {
             &mut self.store,
             &mut self.list,
             &mut self.collections,
+            &mut self.octets,
             ready,
         )
     }

@@ -1,4 +1,4 @@
-use Rattle.std.proofs.Common.{◌≤◌, List, ℕ, suc, take, drop, length, sym, subst, arith}
+use Rattle.std.proofs.Common.{◌≤◌, ◌+◌, ◌%◌, ◌^◌, ◌∙◌, ap, List, ℕ, suc, take, drop, length, sym, subst, arith}
 use Rattle.std.specs.Prelude.{slice_set}
 use Rattle.std.specs.List.{AllByRecursion}
 use Rattle.record_set.specs.declared.sets.RecordSet.{RecordSet}
@@ -14,6 +14,8 @@ use Rattle.zone_table.specs.declared.edits.ZoneEdit.TheVariants.{Change}
 use Rattle.zone_table.proofs.Edited.{changed_edits, its_can, told}
 use Rattle.zone_table.proofs.Kept.{changed_kept, changed_stands, changed_zones, whole_zones}
 use Rattle.zone_table.proofs.Naming.{in_map, inside_of, it_is, one_named, stands_here, with_sets}
+use Rattle.set_store.proofs.Lists.{get_same}
+use Rattle.zone_table.proofs.Totals.{changed_counted}
 use Rattle.zone_table.proofs.making.change.Goals as goal
 
 pub unreachable-requires : goal.unreachable-requires
@@ -117,7 +119,7 @@ stands-now c =
     c.requires.allowed in
     changed_stands slots made.store.slots k made.self c.change.ensures.apex c.change.ensures.order
     c.args.remove c.args.add made.removed.items made.added.items
-    known.1 (stands_here slots list c.requires.kept k there) can.added.each
+    known.1 (stands_here slots list c.requires.kept k there) can.added.each c.change.ensures.sums
 
 pub returns-clause-kept : goal.returns-clause-kept
 returns-clause-kept c =
@@ -154,3 +156,27 @@ returns-clause-edits c =
     (with_sets now (slice_set list i made.self) (returns-clause-kept c).listed)
     c.change.ensures.id c.change.ensures.apex c.args.zone c.args.remove c.args.add
     made.removed.items made.added.items it.2 known.1)
+
+pub change-requires-clause-sums : goal.change-requires-clause-sums
+change-requires-clause-sums c =
+    let list = c.args.list.now.items in
+    let k = c.index_mut.result.now in
+    let found : IsAt (named_of list) c.args.zone c.in-Some.place =
+    subst (λ (l : List Listed). IsAt (named_of l) c.args.zone c.in-Some.place) c.deref.ensures.value
+    c.in-Some.ensures in
+    let it = it_is list c.args.zone c.in-Some.place found k c.index_mut.ensures.value in
+    (stands_here c.args.store.now.slots list c.requires.kept k (among_at list c.in-Some.place k it.1)).counted
+
+pub returns-clause-counted : goal.returns-clause-counted
+returns-clause-counted c =
+    let list = c.args.list.now.items in
+    let i = c.in-Some.place in
+    let k = c.index_mut.result.now in
+    let it = it_is list c.args.zone i (changes-of c).0 k c.index_mut.ensures.value in
+    let before = c.octets_at-before.ensures k it.1 in
+    let after = c.octets_at.ensures c.change.new.self (get_same list i c.change.new.self it.0) in
+    let again = c.recount.ensures.again in
+    changed_counted c.args.store.now c.change.new.store list c.args.octets.now c.requires.counted
+    c.change.ensures.slots c.recount.result c.recount.ensures.few i k c.change.new.self it.1 c.change.ensures.sets
+    (ap (λ n. (c.recount.result + n) % 2 ^ 64) (sym before) ∙ (again
+    ∙ ap (λ n. (c.args.octets.now + n) % 2 ^ 64) after))

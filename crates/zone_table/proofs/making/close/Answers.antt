@@ -1,4 +1,4 @@
-use Rattle.std.proofs.Common.{◌≡◌, ◌∙◌, [], List, suc, take, drop, sym, subst, arith}
+use Rattle.std.proofs.Common.{◌≡◌, ◌∙◌, ◌+◌, ◌%◌, ◌^◌, ap, [], List, suc, take, drop, sym, subst, arith}
 use Rattle.std.specs.List.{remove}
 use Rattle.zone_model.proofs.Among.{among_at}
 use Rattle.zone_list.specs.Found.{IsAt}
@@ -9,6 +9,9 @@ use Rattle.zone_table.specs.Edits.{Edits}
 use Rattle.zone_table.proofs.Edited.{closed_edits, told}
 use Rattle.zone_table.proofs.Kept.{all_zones, closed_kept, closed_zones}
 use Rattle.zone_table.proofs.Naming.{as_many_sets, inside_of, it_is, one_named, stands_here, with_sets}
+use Rattle.zone_changes.specs.declared.sums.Sums.{Sums}
+use Rattle.zone_table.specs.Counted.{AreCounted}
+use Rattle.zone_table.proofs.Totals.{closed_counted}
 use Rattle.zone_table.proofs.making.close.Goals as goal
 
 pub unreachable-requires : goal.unreachable-requires
@@ -91,3 +94,18 @@ returns-clause-edits c =
     (all_zones slots now list i k it.1 c.requires.kept c.close.ensures.others c.close.ensures.order)
     (closed_zones slots now list i k it.1 c.requires.kept c.close.ensures.others c.close.ensures.order)
     (with_sets slots list c.requires.kept.listed) c.args.zone removed it.2 c.close.ensures.told))
+
+pub returns-clause-counted : goal.returns-clause-counted
+returns-clause-counted c =
+    let list = c.args.list.now.items in
+    let i = c.in-Some.place in
+    let k = c.remove-closed.result in
+    let found : IsAt (named_of list) c.args.zone i =
+    subst (λ (l : List Listed). IsAt (named_of l) c.args.zone i) c.deref.ensures.value
+    c.in-Some.ensures in
+    let it = it_is list c.args.zone i found k c.remove-closed.ensures.value in
+    let octets = ap (λ (x : Sums). x.octets) c.sums.ensures in
+    subst (λ (l : List Listed). AreCounted c.close.new.store l c.recount.result) (sym c.remove-closed.ensures.items)
+    (closed_counted c.args.store.now c.close.new.store list c.args.octets.now c.requires.counted
+    c.close.ensures.slots c.recount.result c.recount.ensures.few i k it.1 c.close.ensures.sets
+    (ap (λ n. (c.recount.result + n) % 2 ^ 64) (sym octets) ∙ c.recount.ensures.again))

@@ -1,4 +1,4 @@
-use Rattle.std.proofs.Common.{◌≡◌, ◌≤◌, ◌∙◌, [], List, ℕ, take, drop, length, sym, subst}
+use Rattle.std.proofs.Common.{◌≡◌, ◌≤◌, ◌∙◌, ◌+◌, ◌%◌, ◌^◌, ap, arith, [], List, ℕ, take, drop, length, sym, subst}
 use Rattle.std.specs.List.{AllByRecursion, insert}
 use Rattle.record_set.specs.declared.sets.RecordSet.{RecordSet}
 use Rattle.set_octets.specs.Octets.{set_octets}
@@ -12,6 +12,9 @@ use Rattle.zone_table.proofs.Edited.{opened_edits, told}
 use Rattle.zone_table.proofs.Kept.{changed_stands, opened_kept, opened_zones, part_zones}
 use Rattle.zone_table.proofs.Opening.{can_open, empty_order, listed_with, new_id, stands_empty}
 use Rattle.zone_table.proofs.Naming.{one_with, with_sets}
+use Rattle.zone_changes.specs.declared.sums.Sums.{Sums}
+use Rattle.zone_table.specs.Counted.{AreCounted}
+use Rattle.zone_table.proofs.Totals.{opened_counted}
 use Rattle.zone_table.proofs.making.open.Goals as goal
 
 pub change-requires-clause-order : goal.change-requires-clause-order
@@ -71,8 +74,9 @@ opened c =
           (sym apex) c.requires.allowed);
       others = subst (λ (n : ℕ). OthersStay n slots now) (sym id) c.change.ensures.others;
       stands = changed_stands slots now was k apex c.change.ensures.order [] c.args.sets removed added
-          changes (stands_empty slots list c.requires.kept was c.requires.empty
-          (λ is. c.requires.allowed.0 (one_with slots list was.id is))) c.requires.allowed.2.each;
+          changes (stands_empty slots list c.requires.kept was c.requires.empty c.requires.none
+          (λ is. c.requires.allowed.0 (one_with slots list was.id is))) c.requires.allowed.2.each
+          c.change.ensures.sums;
       place = subst (λ (n : ℕ). IsSplit (named_of list) n c.first_from-place.result
           c.first_from-place.result) (c.id-zone.ensures ∙ sym id)
           (subst (λ (l : List Listed). IsSplit (named_of l) c.id-zone.result c.first_from-place.result
@@ -131,3 +135,22 @@ returns-clause-edits c =
     (subst (λ (a : List (List ℕ)). Edits (zones_in slots list) (Open k.id a c.args.sets)
     (zones_in now (insert list n k)) (record { zone = k.id; removed = removed; added = added }))
     c.change.ensures.apex edits))))
+
+pub change-requires-clause-sums : goal.change-requires-clause-sums
+change-requires-clause-sums c =
+    let k = c.args.opened in
+    (stands_empty c.args.store.now.slots c.args.list.now.items c.requires.kept k c.requires.empty c.requires.none
+    (λ is. c.requires.allowed.0 (one_with c.args.store.now.slots c.args.list.now.items k.id is))).counted
+
+pub returns-clause-counted : goal.returns-clause-counted
+returns-clause-counted c =
+    let list = c.args.list.now.items in
+    let k = c.change.new.self in
+    let n = c.first_from-place.result in
+    let octets = ap (λ (x : Sums). x.octets) c.sums.ensures in
+    let sets = c.change.ensures.sets in
+    let none = ap (λ (xs : List ℕ). length xs) c.requires.empty in
+    subst (λ (l : List Listed). AreCounted c.change.new.store l c.recount.result) (sym c.insert_zone.ensures)
+    (opened_counted c.args.store.now c.change.new.store list c.args.octets.now c.requires.counted
+    c.change.ensures.slots c.recount.result c.recount.ensures.few n k (omega (arith, sets, none))
+    (c.recount.ensures.again ∙ ap (λ m. (c.args.octets.now + m) % 2 ^ 64) octets))

@@ -16,7 +16,7 @@ returns-in-Some-clause-rows c =
     subst (λ (l : List Listed). IsAt (named_of l) c.args.zone i) c.deref.ensures.value c.in-Some.ensures in
     let it = it_is items c.args.zone i found k c.index_mut.ensures.value in
     let r = c.reserve.ensures in
-    rows_kept items i k c.reserve.new.self it.1 r.id r.apex r.order
+    rows_kept items i k c.reserve.new.self it.1 r.id r.apex r.order r.sums
 
 pub returns-in-Some-clause-room : goal.returns-in-Some-clause-room
 returns-in-Some-clause-room c =

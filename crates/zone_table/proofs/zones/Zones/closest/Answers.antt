@@ -19,7 +19,7 @@ closest_in-requires-clause-some c =
     subst (λ (t : Table). IsApex t.zones c.args.zone below.0) (sym c.self.view_is) below.1 in
     let some : placed_in (zones_in slots list) c.args.zone ≡ [] → ⊥ =
     subst (λ (t : Table). placed_in t.zones c.args.zone ≡ [] → ⊥) (sym c.self.view_is) c.requires.some in
-    let exists = apex_there (zones_in slots list) (are_zones slots list c.self.invariant) c.args.zone below.0
+    let exists = apex_there (zones_in slots list) (are_zones slots list c.self.invariant.0) c.args.zone below.0
     apex some in (
       below.0,
       below.2,

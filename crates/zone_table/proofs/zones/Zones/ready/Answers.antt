@@ -5,15 +5,19 @@ use Rattle.zone_table.specs.Needs.{Counts}
 use Rattle.zone_table.specs.Tables.{Table}
 use Rattle.zone_table.proofs.Rooms.{counts_still, is_ready, ok_so, rows_are_kept, rows_zones, same_room}
 use Rattle.zone_table.proofs.Rooms.{spelled_of, stay_ready, still_kept, still_zones, table_of}
+use Rattle.zone_table.proofs.Totals.{roomy, rows_counted}
 use Rattle.zone_table.proofs.zones.Zones.ready.Goals as goal
 
 pub need_of-requires-clause-spelled : goal.need_of-requires-clause-spelled
 need_of-requires-clause-spelled c = spelled_of c.args.self.now.zones c.args.edit c.requires
 
 pub invariant_of-self : goal.invariant_of-self
-invariant_of-self c =
-    still_kept c.self.inside.store.slots c.make_room.new.store.slots c.make_room.ensures.stay
-    c.self.inside.list.items c.self.invariant
+invariant_of-self c = (
+  still_kept c.self.inside.store.slots c.make_room.new.store.slots c.make_room.ensures.stay
+      c.self.inside.list.items c.self.invariant.0,
+  roomy c.self.inside.store c.make_room.new.store c.self.inside.list.items c.self.inside.octets
+      c.self.invariant.1 c.make_room.ensures.slots,
+)
 
 pub returns-in_err-make_room-clause-others : goal.returns-in_err-make_room-clause-others
 returns-in_err-make_room-clause-others c =
@@ -27,9 +31,12 @@ returns-in_err-make_room-clause-others c =
 pub invariant_of-self-in_err-reserve_for : goal.invariant_of-self-in_err-reserve_for
 invariant_of-self-in_err-reserve_for c =
     let s = c.self.inside in
-    let store = c.make_room.new.store in
-    rows_are_kept store.slots s.list.items c.reserve_for.new.list.items c.reserve_for.ensures.rows
-    (still_kept s.store.slots store.slots c.make_room.ensures.stay s.list.items c.self.invariant)
+    let store = c.make_room.new.store in (
+      rows_are_kept store.slots s.list.items c.reserve_for.new.list.items c.reserve_for.ensures.rows
+          (still_kept s.store.slots store.slots c.make_room.ensures.stay s.list.items c.self.invariant.0),
+      rows_counted store s.list.items c.reserve_for.new.list.items s.octets c.reserve_for.ensures.rows
+          (roomy s.store store s.list.items s.octets c.self.invariant.1 c.make_room.ensures.slots),
+    )
 
 pub returns-in_err-reserve_for-clause-zones : goal.returns-in_err-reserve_for-clause-zones
 returns-in_err-reserve_for-clause-zones c =
@@ -54,9 +61,12 @@ returns-in_err-reserve_for-clause-others c =
 pub invariant_of-self-2 : goal.invariant_of-self-2
 invariant_of-self-2 c =
     let s = c.self.inside in
-    let store = c.make_room.new.store in
-    rows_are_kept store.slots s.list.items c.reserve_for.new.list.items c.reserve_for.ensures.rows
-    (still_kept s.store.slots store.slots c.make_room.ensures.stay s.list.items c.self.invariant)
+    let store = c.make_room.new.store in (
+      rows_are_kept store.slots s.list.items c.reserve_for.new.list.items c.reserve_for.ensures.rows
+          (still_kept s.store.slots store.slots c.make_room.ensures.stay s.list.items c.self.invariant.0),
+      rows_counted store s.list.items c.reserve_for.new.list.items s.octets c.reserve_for.ensures.rows
+          (roomy s.store store s.list.items s.octets c.self.invariant.1 c.make_room.ensures.slots),
+    )
 
 pub returns-clause-zones : goal.returns-clause-zones
 returns-clause-zones c =

@@ -6,4 +6,4 @@ use Rattle.zone_table.proofs.zones.Zones.slots_within.Goals as goal
 pub returns-clause-within : goal.returns-clause-within
 returns-clause-within c =
     subst (λ (t : Table). HaveSlotsBelow t.zones t.slots) c.self.view_is
-    (below c.self.inside.store.slots c.self.inside.list.items c.self.invariant)
+    (below c.self.inside.store.slots c.self.inside.list.items c.self.invariant.0)

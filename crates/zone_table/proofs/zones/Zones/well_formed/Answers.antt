@@ -7,4 +7,4 @@ use Rattle.zone_table.proofs.zones.Zones.well_formed.Goals as goal
 pub returns : goal.returns
 returns c =
     subst (λ (t : Table). AreZones t.zones) c.self.view_is
-    (are_zones c.self.inside.store.slots c.self.inside.list.items c.self.invariant)
+    (are_zones c.self.inside.store.slots c.self.inside.list.items c.self.invariant.0)
