@@ -1,6 +1,6 @@
 //! Whether an edit is allowed, tried on the zones and the sets.
 
-ghost use Rattle.std.specs.Prelude.{◌≡◌, List, IsTrue};
+ghost use Rattle.std.specs.Prelude.{◌≡◌, ◌<◌, List, IsTrue};
 ghost use Rattle.std.specs.List.{AllByRecursion};
 ghost use Rattle.record_set.specs.Sets.{key_of};
 ghost use Rattle.zone_model.specs.Placing.{IsThere};
@@ -18,12 +18,13 @@ use record_set::{RecordSet, SetKey};
 use set_octets::has_spelling;
 use zone_table::{SetKeys, Sets, Zones, one_apex};
 
-/// Whether no zone has the number, and none the name or one above it.
+/// Whether no zone has the number, which is not 0, and none the name or one above it.
 pub fn is_free(zones: &Zones, zone: u32, name: &Name) -> bool
     ensures number { IsTrue result → IsZoneId zones.now.zones zone → ⊥ }
     ensures name { IsTrue result → HasName zones.now.zones name.now → ⊥ }
+    ensures numbered { IsTrue result → 0 < zone }
 {
-    zones.apex(zone).is_none() && zones.zone_for(name).is_none()
+    zone > 0 && zones.apex(zone).is_none() && zones.zone_for(name).is_none()
 }
 
 /// Whether the sets can stand in a zone of this name together.

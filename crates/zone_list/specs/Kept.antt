@@ -1,5 +1,5 @@
 -- How zones are kept: each with the slots of its sets in a store that all zones share.
-use Rattle.std.specs.Prelude.{◌≡◌, ℕ, List, [], map, Option, Some}
+use Rattle.std.specs.Prelude.{◌≡◌, ◌<◌, ℕ, List, [], map, Option, Some}
 use Rattle.std.specs.List.{AllByRecursion}
 use Rattle.record_set.specs.declared.sets.RecordSet.{RecordSet}
 use Rattle.set_store.specs.Stored.{Kept}
@@ -36,8 +36,9 @@ zone_in slots listed = record {
 abbrev pub zones_in : List (Option Kept) → List Listed → List Zone
 zones_in slots list = map (zone_in slots) list
 
--- The zone's sets are in its slots, in zone order, each can stand in it, and they are counted.
+-- The zone has a number, its sets are in its slots, in zone order, each can stand in it, and they are counted.
 pub record Stands (slots : List (Option Kept)) (listed : Listed) : Type 0 where
+  pub numbered : 0 < listed.id
   pub order : IsOrder slots listed.id listed.order
   pub each : AllByRecursion (λ p. CanStand listed.apex p.set) (placed_of slots listed.id listed.order)
   pub counted : listed.sums ≡ sums_of (placed_of slots listed.id listed.order)

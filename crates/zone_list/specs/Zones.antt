@@ -40,8 +40,10 @@ pub record CanStand (apex : List (List ℕ)) (set : RecordSet) : Type 0 where
   pub inside : EndsWith set.name apex
   pub spelled : HasSpelling set
 
--- A zone by itself: its sets are in zone order and in slots of their own, and each can stand in it.
+-- A zone by itself: its number is not 0, which is of no zone; its sets are in zone order and in slots of their own, and each
+-- can stand in it.
 pub record StandsAlone (zone : Zone) : Type 0 where
+  pub numbered : 0 < zone.id
   pub sets : AreOfZone zone.placed
   pub each : AllByRecursion (λ p. CanStand zone.apex p.set) zone.placed
 

@@ -69,7 +69,7 @@ fn longer(found: Option<(u32, usize)>, zone: &StoredZone, name: &Name) -> Option
     ensures { IsLonger found (named zone.now) name.now result }
 {
     let apex = zone.apex();
-    if !name.ends_with(&apex) {
+    if !name.ends_with(apex) {
         return found;
     }
     let labels = apex.labels();

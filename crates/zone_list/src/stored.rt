@@ -69,10 +69,10 @@ impl StoredZone {
     }
 
     /// The name of its apex.
-    pub fn apex(&self) -> Name
-        ensures { result ≡ self.now.apex }
+    pub fn apex(&self) -> &Name
+        ensures { result.now ≡ self.now.apex }
     {
-        self.apex
+        &self.apex
     }
 
     /// The slots of its sets, in zone order.

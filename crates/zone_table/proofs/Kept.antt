@@ -45,6 +45,7 @@ module _ (slots now : List (Option Kept)) (zone : ℕ) (others : OthersStay zone
 
   stands_still : (k : Listed) → k.id ≢ zone → Stands slots k → Stands now k
   stands_still k ne stands = record {
+    numbered = stands.numbered;
     order = subst (λ get. IsOrderBy get k.order) (sym (same_get k.id ne)) stands.order;
     each = subst (λ get. AllByRecursion (λ p. CanStand k.apex p.set) (placed_by get k.order))
         (sym (same_get k.id ne)) stands.each;
@@ -95,8 +96,9 @@ pub changed_stands : (slots now : List (Option Kept)) (k k_now : Listed) → k_n
     → (removed added : List SetRef)
     → Changes k.id (placed_of slots k.id k.order) remove add removed added (placed_of now k_now.id k_now.order)
     → Stands slots k → AllByRecursion (CanStand k.apex) add
-    → k_now.sums ≡ sums_of (placed_of now k_now.id k_now.order) → Stands now k_now
-changed_stands slots now k k_now same_apex order remove add removed added changes stands each counted = record {
+    → k_now.sums ≡ sums_of (placed_of now k_now.id k_now.order) → k_now.id ≡ k.id → Stands now k_now
+changed_stands slots now k k_now same_apex order remove add removed added changes stands each counted same_id = record {
+  numbered = (let some = stands.numbered in omega (arith, some, same_id));
   order = order;
   each = subst (λ (a : List (List ℕ)). AllByRecursion (λ p. CanStand a p.set)
       (placed_of now k_now.id k_now.order)) (sym same_apex)

@@ -124,6 +124,7 @@ module _ (slots : List (Option Kept)) where
 
   pub alone : (k : Listed) → Stands slots k → StandsAlone (zone_in slots k)
   alone k stands = record {
+    numbered = stands.numbered;
     sets = of_zone (set_in slots k.id) k.order stands.order;
     each = stands.each;
   }

@@ -33,8 +33,9 @@ empty_order slots list kept id new = record {
 }
 
 pub stands_empty : (slots : List (Option Kept)) (list : List Listed) → AreKept slots list → (k : Listed)
-    → k.order ≡ [] → k.sums ≡ sums_of [] → (HasId list k.id → ⊥) → Stands slots k
-stands_empty slots list kept k empty none new = record {
+    → k.order ≡ [] → k.sums ≡ sums_of [] → 0 < k.id → (HasId list k.id → ⊥) → Stands slots k
+stands_empty slots list kept k empty none numbered new = record {
+  numbered = numbered;
   order = subst (λ (order : List ℕ). IsOrder slots k.id order) (sym empty)
       (empty_order slots list kept k.id new);
   each = subst (λ (order : List ℕ). AllByRecursion (λ p. CanStand k.apex p.set)

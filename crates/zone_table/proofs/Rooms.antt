@@ -88,12 +88,12 @@ rows_stand slots (k ∷ list) (j ∷ now) same each =
     stands_row : Row → Type 0
     stands_row r = IsOrderBy (set_in slots r.id) r.order
         × AllByRecursion (λ p. CanStand r.apex p.set) (placed_by (set_in slots r.id) r.order)
-        × (r.sums ≡ sums_of (placed_by (set_in slots r.id) r.order))
+        × (r.sums ≡ sums_of (placed_by (set_in slots r.id) r.order)) × (0 < r.id)
 
     by : row j ≡ row k → Stands slots k → Stands slots j
     by e stands =
-        let h : stands_row (row j) = subst stands_row (sym e) (stands.order, stands.each, stands.counted) in
-        record { order = h.0; each = h.1; counted = h.2 }
+        let h : stands_row (row j) = subst stands_row (sym e) (stands.order, stands.each, stands.counted, stands.numbered) in
+        record { numbered = h.3; order = h.0; each = h.1; counted = h.2 }
 
 rows_ids : (list now : List Listed) → same_rows list now → (id : ℕ) → HasId list id → HasId now id
 rows_ids [] now same id is = absurd is.1
@@ -128,6 +128,7 @@ module _ (slots now : List (Option Kept)) (stay : (zone slot : ℕ) → set_in n
   still_stand [] each = tt
   still_stand (k ∷ list) each = (
     record {
+      numbered = each.0.numbered;
       order = subst (λ get. IsOrderBy get k.order) (sym (same_get k.id)) each.0.order;
       each = subst (λ get. AllByRecursion (λ p. CanStand k.apex p.set) (placed_by get k.order))
           (sym (same_get k.id)) each.0.each;

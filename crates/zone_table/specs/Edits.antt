@@ -25,9 +25,9 @@ zone_of (edit.Collections now) = 0
 
 -- when an edit is allowed
 abbrev pub IsAllowed : List Zone → ZoneEdit → Type 0
--- no zone has the number or the name
+-- no zone has the number or the name, and the number is not 0, which is of no zone
 IsAllowed zones (edit.Open zone name sets) =
-    (IsZoneId zones zone → ⊥) × (HasName zones name → ⊥) × CanBeAdded name sets
+    (IsZoneId zones zone → ⊥) × (HasName zones name → ⊥) × CanBeAdded name sets × (0 < zone)
 IsAllowed zones (edit.Close zone) = IsZoneId zones zone
 IsAllowed zones (edit.Change zone remove add) =
     IsZoneId zones zone × ((apex : List (List ℕ)) → IsApex zones zone apex → CanChange apex (placed_in zones zone) remove add)

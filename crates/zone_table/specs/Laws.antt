@@ -1,6 +1,6 @@
 -- Laws over the definitions of this crate.
 use Rattle.std.specs.Prelude.{◌≡◌, ℕ, List, length, map}
-use Rattle.zone_list.specs.Zones.{Zone, AreZones, hosted}
+use Rattle.zone_list.specs.Zones.{Zone, AreListed, AreZones, IsOne, hosted, placed_in}
 use Rattle.zone_table.specs.declared.edits.ZoneEdit.{ZoneEdit}
 use Rattle.zone_table.specs.declared.refs.Delta.{Delta}
 use Rattle.zone_table.specs.Edits.{Edits, IsAllowed}
@@ -9,6 +9,10 @@ use Rattle.zone_table.specs.Looking.{IsApex}
 -- A number has one name at most.
 abbrev pub OneApex : Type 0
 OneApex = (zones : List Zone) (id : ℕ) (one other : List (List ℕ)) → AreZones zones → IsApex zones id one → IsApex zones id other → one ≡ other
+
+-- The sets of a number are those of the zone that has it.
+abbrev pub SetsOfOne : Type 0
+SetsOfOne = (zones : List Zone) (zone : Zone) → AreListed zones → IsOne zones zone → placed_in zones zone.id ≡ zone.placed
 
 -- The zones and what is told of them are the same, but for the slots of sets.
 pub record AreAlike (one other : List Zone) (told other_told : Delta) : Type 0 where

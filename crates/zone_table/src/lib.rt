@@ -14,7 +14,7 @@ mod refs;
 mod zones;
 
 pub use edits::{Ready, SetKeys, Sets, ZoneEdit};
-pub use laws::{one_apex, one_edit};
+pub use laws::{one_apex, one_edit, sets_of_one};
 pub use octets::OutOfMemory;
 pub use refs::{Delta, Group};
 pub use set_scratch::Scratch;

@@ -209,7 +209,7 @@ impl Zones {
         ensures { ApexOrNone self.now.zones zone result }
     {
         match find_zone(&self.list, zone) {
-            Some(place) => Some(self.list[place].apex()),
+            Some(place) => Some(*self.list[place].apex()),
             None => None,
         }
     }

@@ -119,7 +119,7 @@ stands-now c =
     c.requires.allowed in
     changed_stands slots made.store.slots k made.self c.change.ensures.apex c.change.ensures.order
     c.args.remove c.args.add made.removed.items made.added.items
-    known.1 (stands_here slots list c.requires.kept k there) can.added.each c.change.ensures.sums
+    known.1 (stands_here slots list c.requires.kept k there) can.added.each c.change.ensures.sums c.change.ensures.id
 
 pub returns-clause-kept : goal.returns-clause-kept
 returns-clause-kept c =

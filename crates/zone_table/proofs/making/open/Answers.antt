@@ -74,9 +74,9 @@ opened c =
           (sym apex) c.requires.allowed);
       others = subst (λ (n : ℕ). OthersStay n slots now) (sym id) c.change.ensures.others;
       stands = changed_stands slots now was k apex c.change.ensures.order [] c.args.sets removed added
-          changes (stands_empty slots list c.requires.kept was c.requires.empty c.requires.none
+          changes (stands_empty slots list c.requires.kept was c.requires.empty c.requires.none c.requires.allowed.3
           (λ is. c.requires.allowed.0 (one_with slots list was.id is))) c.requires.allowed.2.each
-          c.change.ensures.sums;
+          c.change.ensures.sums id;
       place = subst (λ (n : ℕ). IsSplit (named_of list) n c.first_from-place.result
           c.first_from-place.result) (c.id-zone.ensures ∙ sym id)
           (subst (λ (l : List Listed). IsSplit (named_of l) c.id-zone.result c.first_from-place.result
@@ -139,7 +139,7 @@ returns-clause-edits c =
 pub change-requires-clause-sums : goal.change-requires-clause-sums
 change-requires-clause-sums c =
     let k = c.args.opened in
-    (stands_empty c.args.store.now.slots c.args.list.now.items c.requires.kept k c.requires.empty c.requires.none
+    (stands_empty c.args.store.now.slots c.args.list.now.items c.requires.kept k c.requires.empty c.requires.none c.requires.allowed.3
     (λ is. c.requires.allowed.0 (one_with c.args.store.now.slots c.args.list.now.items k.id is))).counted
 
 pub returns-clause-counted : goal.returns-clause-counted
