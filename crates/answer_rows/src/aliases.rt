@@ -2,7 +2,6 @@
 
 use crate::made::{AllBut, Row, address, alias, group, ident, know_few, scratch, zone};
 use address_text::IpAddress;
-use cidr_routing::Collections;
 use geo_latency::{TableLine, Tables};
 use policy_select::{Selected, Used, descend};
 use routing::{Region, Routing};
@@ -58,7 +57,6 @@ fn answers(rt: &impl Abort, alloc: Global, zones: &Zones, view: &AllBut) -> Opti
     let mut scratch = scratch(rt, alloc);
     let selected = descend(
         zones,
-        &Collections::new(alloc),
         top,
         view,
         &tables(rt, alloc),

@@ -2,7 +2,6 @@
 
 use crate::made::{Row, address, group, ident, scratch, zone};
 use address_text::IpAddress;
-use cidr_routing::Collections;
 use geo_latency::Tables;
 use policy_select::{AllHealthy, Selected, select};
 use routing::{Place, Routing};
@@ -19,7 +18,6 @@ fn chosen(rt: &impl Abort, alloc: Global, rows: &[Row], word: u64) -> Selected {
     let mut scratch = scratch(rt, alloc);
     select(
         &zones,
-        &Collections::new(alloc),
         group,
         &AllHealthy,
         &Tables::new(alloc),

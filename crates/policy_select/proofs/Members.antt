@@ -73,7 +73,8 @@ kept_in (zone ∷ zones) each id = by (kept_in zones each.1 id) (zone.id == id)
       own = each.0.sets.own;
       rising = each.0.sets.rising;
       spelled = λ p there.
-          (in_all (λ (q : Placed). CanStand zone.apex q.set) zone.placed p each.0.each there).spelled;
+          let can = in_all (λ (q : Placed). CanStand zone.apex q.set) zone.placed p each.0.each there in
+          can.spelled;
     }
     by rest false = rest
 

@@ -1,8 +1,12 @@
 -- Where a chosen alias leads.
-use Rattle.std.proofs.Common.{◌≡◌, ◌<◌, ℕ, zero, suc, List, [], ◌∷◌, Option, Some, None}
-use Rattle.std.proofs.Common.{length}
+use Rattle.std.proofs.Common.{◌≡◌, ◌<◌, ◌≤◌, ℕ, zero, suc, List, [], ◌∷◌, Option, Some, None}
+use Rattle.std.proofs.Common.{length, Bool, true, false, inl, inr, eqb-true}
 use Rattle.std.proofs.Common.{take, drop, get_or, refl, sym, ap, ◌∙◌, subst, arith}
-use Rattle.std.specs.Prelude.{slice_get, IfSome}
+use Rattle.std.specs.Prelude.{slice_get, IfSome, cond, ◌&&◌, ◌==◌}
+use Rattle.std.specs.List.{filter}
+use Rattle.dns_name.specs.Order.{same_labels}
+use Rattle.rdata_layout.specs.Types.{number_of}
+use Rattle.std.proofs.lemmas.List.{length-drop, length-take-le}
 use Rattle.std.specs.List.{cons_option, drop-map, take-map}
 use Rattle.std.specs.Option.{option_map, unwrap_or}
 use Rattle.multivalue.specs.declared.choice.Picked.{Picked}
@@ -14,7 +18,7 @@ use Rattle.record_set.specs.declared.sets.RecordSet.{RecordSet}
 use Rattle.set_scratch.specs.Bodies.{alias_of}
 use Rattle.set_search.specs.Found.{IsGroupAt}
 use Rattle.zone_list.specs.Zones.{Zone, placed_in}
-use Rattle.zone_model.specs.Zones.{group, target_group_of}
+use Rattle.zone_model.specs.Zones.{IsAmong, group, is_of_group, target_group_of}
 use Rattle.zone_model.specs.Placed.{Placed}
 use Rattle.zone_table.specs.Looking.{IsGroup, IsGroupNow}
 use Rattle.zone_table.specs.declared.refs.Group.{Group}
@@ -23,6 +27,35 @@ use Rattle.policy_select.specs.declared.selection.Selected.TheVariants.{Sets}
 use Rattle.policy_select.specs.Groups.{sets_in, sets_in_zone}
 use Rattle.policy_select.specs.Selecting.{HoldsFirst, IsTargetOf, LeadsTo}
 use Rattle.policy_select.specs.Selecting.{TargetOf, places_of, selected_sets}
+
+-- no two types have one number
+abbrev OneNumber : Type 0
+OneNumber = (rtype other : RType) → number_of rtype ≡ number_of other → rtype ≡ other
+
+-- a set that a test picks passes it
+picked_so : (f : RecordSet → Bool) (xs : List RecordSet) (x : RecordSet) → IsAmong (filter f xs) x
+    → f x ≡ true
+picked_so f [] x there = absurd there
+picked_so f (y ∷ ys) x there = by (f y) refl (picked_so f ys x) there
+  where
+    by : (b : Bool) → f y ≡ b → (IsAmong (filter f ys) x → f x ≡ true)
+        → IsAmong (cond b (y ∷ filter f ys) (filter f ys)) x → f x ≡ true
+    by true e rest (inl same) = ap f (sym same) ∙ e
+    by true e rest (inr more) = rest more
+    by false e rest more = rest more
+
+both : (a b : Bool) → (a && b) ≡ true → b ≡ true
+both true b e = e
+both false b e = absurd (grind (arith, e))
+
+-- the sets of a name and type are of the type
+pub of_its_type : OneNumber → (all : List RecordSet) (name : List (List ℕ)) (rtype : RType)
+    (set : RecordSet) → IsAmong (group all name rtype) set → rtype ≡ set.rtype
+of_its_type own all name rtype set there =
+    own rtype set.rtype
+    (eqb-true (number_of rtype) (number_of set.rtype)
+    (both (same_labels name set.name) (number_of rtype == number_of set.rtype)
+    (picked_so (is_of_group name rtype) all set there)))
 
 -- the sets of a group, from those of the zone
 pub of_zone : (zones : List Zone) (g : Group)
@@ -63,13 +96,42 @@ found_now zones id name rtype found is = (
   },
 )
 
-found_sets : (zones : List Zone) (id : ℕ) (name : List (List ℕ)) (rtype : RType) (found : Group)
+pub found_sets : (zones : List Zone) (id : ℕ) (name : List (List ℕ)) (rtype : RType) (found : Group)
     → IsGroup zones id name rtype found → sets_in zones found
     ≡ group (sets_in_zone zones id) name rtype
 found_sets zones id name rtype found is =
     of_zone zones found
     ∙ ap (λ (z : ℕ). take found.length (drop found.start (sets_in_zone zones z))) is.zone
     ∙ is.sets.members
+
+-- the sets of a group that was found are as many as it says
+pub found_count : (zones : List Zone) (id : ℕ) (name : List (List ℕ)) (rtype : RType)
+    (found : Group) → IsGroup zones id name rtype found
+    → found.length ≡ length (group (sets_in_zone zones id) name rtype)
+found_count zones id name rtype found is =
+    let sets = sets_in_zone zones id in
+    let within = is.sets.within in
+    let enough : found.length ≤ length (drop found.start sets) =
+    simp length-drop (omega (arith, within)) in
+    sym (length-take-le found.length (drop found.start sets) enough)
+    ∙ ap (λ (xs : List RecordSet). length xs) is.sets.members
+
+-- a group has as many sets as it says
+pub as_many : (zones : List Zone) (g : Group) → IsGroupNow zones g
+    → length (sets_in zones g) ≡ g.length
+as_many zones g (name, rtype, is) =
+    ap (λ (sets : List RecordSet). length sets) (found_sets zones g.zone name rtype g is)
+    ∙ sym (found_count zones g.zone name rtype g is)
+
+-- the sets of a group have one type
+pub of_one_type : OneNumber → (zones : List Zone) (g : Group) → IsGroupNow zones g
+    → (set other : RecordSet) → IsAmong (sets_in zones g) set → IsAmong (sets_in zones g) other
+    → set.rtype ≡ other.rtype
+of_one_type own zones g (name, rtype, is) set other there too =
+    let sets = found_sets zones g.zone name rtype g is in
+    let all = sets_in_zone zones g.zone in
+    sym (of_its_type own all name rtype set (subst (λ (xs : List RecordSet). IsAmong xs set) sets there))
+    ∙ of_its_type own all name rtype other (subst (λ (xs : List RecordSet). IsAmong xs other) sets too)
 
 pub target_is : (zones : List Zone) (zone : ℕ) (set : RecordSet) (name : List (List ℕ))
     (found : Group)

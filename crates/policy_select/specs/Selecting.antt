@@ -13,10 +13,12 @@ use Rattle.zone_table.specs.Looking.{IsGroupNow}
 use Rattle.zone_table.specs.declared.refs.Group.{Group}
 use Rattle.answer_model.specs.declared.used.Used.{Used}
 use Rattle.answer_model.specs.Clients.{Client}
-use Rattle.answer_model.specs.Descent.{Descended, Means, sets_at}
+use Rattle.answer_model.specs.Descent.{Choices, Descended, Means, sets_at}
+use Rattle.choice_model.specs.Choice.{chosen}
+use Rattle.zone_list.specs.declared.refs.SetRef.{SetRef}
 use Rattle.policy_select.specs.declared.selection.Selected.{Selected}
 use Rattle.policy_select.specs.declared.selection.Selected.TheVariants.{Nothing, Sets}
-use Rattle.policy_select.specs.Groups.{sets_in, sets_in_zone}
+use Rattle.policy_select.specs.Groups.{Agrees, flags_in, sets_in, sets_in_zone}
 
 -- the sets at some places of a group, in the order of the choice; nothing where there are none
 abbrev pub selected_of : Group → (places : List ℕ) → Selected
@@ -89,3 +91,18 @@ abbrev pub HoldsFirst : List Zone → Selected → (held : Option RecordSet) →
 HoldsFirst zones Nothing held = ⊤
 HoldsFirst zones (Sets g chosen) held = (set : RecordSet) × (held ≡ Some set)
     × (slice_get (selected_sets zones (Sets g chosen)) 0 ≡ Some set)
+
+-- what is chosen of a group by a word
+abbrev pub choice_of : List Zone → (view : SetRef → Bool) → Client → Group → (word : ℕ) → Selected
+choice_of zones view client g word =
+    selected_of g (chosen (sets_in zones g) (flags_in zones view g) client.rows word)
+
+-- A descent from a group gives this, by each test of keys with which the view agrees.
+abbrev pub GivesDescent : List Zone → (view : SetRef → Bool) → Client → (words : List ℕ) → Group
+    → (descent : Means → (zone group : List RecordSet) → Choices → Descended) → Choices
+    → Selected → (made : ℕ) → Used → Type 0
+GivesDescent zones view client words g descent before selected made used =
+    (healthy : ℕ → SetKey → Bool) → Agrees zones view healthy
+    → Gives zones
+    (descent (means_of (healthy g.zone) client words) (sets_in_zone zones g.zone)
+    (sets_in zones g) before) selected made used

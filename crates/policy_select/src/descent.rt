@@ -1,19 +1,16 @@
 //! From a group to the sets that answer, through aliases.
 
-ghost use Rattle.std.specs.Prelude.{◌≡◌, ◌<◌, ◌≤◌, ◌+◌, ℕ, Bool, IfSome, length};
+ghost use Rattle.std.specs.Prelude.{◌≡◌, ◌<◌, ◌≤◌, ◌+◌, IfSome, length};
 ghost use Rattle.std.specs.Option.{option_map};
-ghost use Rattle.choice_model.specs.Choice.{chosen};
 ghost use Rattle.answer_model.specs.Clients.{client_at};
 ghost use Rattle.answer_model.specs.Descent.{descend as descended, descends, group_uses, word_of};
-ghost use Rattle.record_set.specs.declared.sets.SetKey.{SetKey};
 ghost use Rattle.routing.specs.declared.policies.Routing.TheVariants as policy;
 ghost use Rattle.set_scratch.specs.Bodies.{alias_of};
 ghost use Rattle.set_scratch.specs.Holding.{IsHolding};
 ghost use Rattle.zone_table.specs.Looking.{IsGroupNow};
-ghost use Rattle.policy_select.specs.Groups.{Agrees, FewInGroups, flags_in, sets_in};
-ghost use Rattle.policy_select.specs.Groups.{sets_in_zone};
-ghost use Rattle.policy_select.specs.Selecting.{AreOfGroup, Gives, HoldsFirst, IsInZone, LeadsTo};
-ghost use Rattle.policy_select.specs.Selecting.{TargetOf, means_of, selected_of};
+ghost use Rattle.policy_select.specs.Groups.{FewInGroups, sets_in, sets_in_zone};
+ghost use Rattle.policy_select.specs.Selecting.{AreOfGroup, GivesDescent, HoldsFirst, IsInZone};
+ghost use Rattle.policy_select.specs.Selecting.{LeadsTo, TargetOf, choice_of};
 
 use crate::group::{load_member, routing_at};
 use crate::selection::{Selected, choose};
@@ -21,7 +18,6 @@ use crate::view::HealthView;
 use address_text::IpAddress;
 use answer_model::Used;
 use choice_model::chosen_are_of_group;
-use cidr_routing::Collections;
 use dns_name::Name;
 use geo_latency::Tables;
 use routing::Routing;
@@ -37,7 +33,6 @@ const MOST: u8 = 17;
 /// What it used is added to `used`. The scratch holds the first selected set then, if any.
 pub fn descend<V: HealthView>(
     zones: &Zones,
-    collections: &Collections,
     group: Group,
     view: &V,
     tables: &Tables,
@@ -50,29 +45,15 @@ pub fn descend<V: HealthView>(
     requires group { IsGroupNow zones.now.zones group }
     requires few { FewInGroups (sets_in_zone zones.now.zones group.zone) }
     requires room { choices.old ≤ 238 }
-    ensures gives { (healthy : ℕ → SetKey → Bool)
-        → Agrees zones.now.zones (V.test view.now) healthy
-        → Gives zones.now.zones
-        (descended (means_of (healthy group.zone) (client_at tables.now collections.now.list client)
-        words.now) (sets_in_zone zones.now.zones group.zone) (sets_in zones.now.zones group)
-        (record { count = choices.old; used = used.old }))
-        result choices.new used.new }
+    ensures gives { GivesDescent zones.now.zones (V.test view.now)
+        (client_at tables.now zones.now.collections.list client) words.now group descended
+        (record { count = choices.old; used = used.old }) result choices.new used.new }
     ensures places { AreOfGroup zones.now.zones result }
     ensures held { HoldsFirst zones.now.zones result scratch.new }
     ensures most { choices.new ≤ choices.old + 17 }
 {
     descend_from(
-        MOST,
-        zones,
-        collections,
-        group,
-        view,
-        tables,
-        client,
-        words,
-        choices,
-        used,
-        scratch,
+        MOST, zones, group, view, tables, client, words, choices, used, scratch,
     )
 }
 
@@ -80,7 +61,6 @@ pub fn descend<V: HealthView>(
 fn descend_from<V: HealthView>(
     most: u8,
     zones: &Zones,
-    collections: &Collections,
     group: Group,
     view: &V,
     tables: &Tables,
@@ -93,14 +73,9 @@ fn descend_from<V: HealthView>(
     requires group { IsGroupNow zones.now.zones group }
     requires few { FewInGroups (sets_in_zone zones.now.zones group.zone) }
     requires room { choices.old + most ≤ 255 }
-    ensures gives { (healthy : ℕ → SetKey → Bool)
-        → Agrees zones.now.zones (V.test view.now) healthy
-        → Gives zones.now.zones
-        (descends most (means_of (healthy group.zone)
-        (client_at tables.now collections.now.list client) words.now)
-        (sets_in_zone zones.now.zones group.zone) (sets_in zones.now.zones group)
-        (record { count = choices.old; used = used.old }))
-        result choices.new used.new }
+    ensures gives { GivesDescent zones.now.zones (V.test view.now)
+        (client_at tables.now zones.now.collections.list client) words.now group (descends most)
+        (record { count = choices.old; used = used.old }) result choices.new used.new }
     ensures places { AreOfGroup zones.now.zones result }
     ensures held { HoldsFirst zones.now.zones result scratch.new }
     ensures most { choices.new ≤ choices.old + most }
@@ -112,23 +87,13 @@ fn descend_from<V: HealthView>(
         return Selected::Nothing;
     }
     let selected = choose_next(
-        zones,
-        collections,
-        group,
-        view,
-        tables,
-        client,
-        words,
-        choices,
-        used,
-        scratch,
+        zones, group, view, tables, client, words, choices, used, scratch,
     );
     match lead(zones, group.zone, &selected, scratch) {
         None => selected,
         Some(target) => descend_from(
             most - 1,
             zones,
-            collections,
             target,
             view,
             tables,
@@ -144,7 +109,6 @@ fn descend_from<V: HealthView>(
 /// Makes one choice more. The scratch holds the first selected set then.
 fn choose_next<V: HealthView>(
     zones: &Zones,
-    collections: &Collections,
     group: Group,
     view: &V,
     tables: &Tables,
@@ -159,13 +123,12 @@ fn choose_next<V: HealthView>(
     requires few { FewInGroups (sets_in_zone zones.now.zones group.zone) }
     requires room { choices.old < 255 }
     ensures selected { result
-        ≡ selected_of group (chosen (sets_in zones.now.zones group)
-        (flags_in zones.now.zones (V.test view.now) group)
-        (client_at tables.now collections.now.list client).rows
-        (word_of words.now choices.old)) }
+        ≡ choice_of zones.now.zones (V.test view.now)
+        (client_at tables.now zones.now.collections.list client) group
+        (word_of words.now choices.old) }
     ensures choices { choices.new ≡ choices.old + 1 }
     ensures used { used.new
-        ≡ group_uses (client_at tables.now collections.now.list client)
+        ≡ group_uses (client_at tables.now zones.now.collections.list client)
         (sets_in zones.now.zones group) used.old }
     ensures places { AreOfGroup zones.now.zones result }
     ensures zone { IsInZone group.zone result }
@@ -178,16 +141,7 @@ fn choose_next<V: HealthView>(
     *choices += 1;
     let routing = routing_at(zones, group, 0, scratch);
     let selected = choose(
-        &routing,
-        zones,
-        collections,
-        group,
-        view,
-        tables,
-        client,
-        word,
-        used,
-        scratch,
+        &routing, zones, group, view, tables, client, word, used, scratch,
     );
     hold_first(&routing, zones, &selected, scratch);
     selected

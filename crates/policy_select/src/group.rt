@@ -1,17 +1,32 @@
 //! The sets of a group, one at a time.
 
-ghost use Rattle.std.specs.Prelude.{◌≡◌, ◌<◌, slice_get, Some};
+ghost use Rattle.std.specs.Prelude.{◌≡◌, ◌<◌, length, slice_get, Some};
 ghost use Rattle.record_set.specs.declared.sets.RecordSet.{RecordSet};
 ghost use Rattle.set_octets.specs.Octets.{HasSpelling};
 ghost use Rattle.zone_table.specs.Looking.{IsGroupNow};
-ghost use Rattle.policy_select.specs.Groups.{flags_in, sets_in};
+ghost use Rattle.policy_select.specs.Groups.{flags_in, sets_in, sets_in_zone};
+ghost use Rattle.zone_model.specs.Zones.{group};
 
 use crate::view::HealthView;
+use dns_name::Name;
+use rdata::RType;
 use routing::Routing;
 use zone_table::{Group, Scratch, Zones};
 
+/// The sets of a name and type of a zone.
+pub fn find_group(zones: &Zones, zone: u32, name: &Name, rtype: RType) -> Group
+    ensures now { IsGroupNow zones.now.zones result }
+    ensures zone { result.zone ≡ zone }
+    ensures sets { sets_in zones.now.zones result
+        ≡ group (sets_in_zone zones.now.zones zone) name.now rtype }
+    ensures count { result.length
+        ≡ length (group (sets_in_zone zones.now.zones zone) name.now rtype) }
+{
+    zones.group(zone, name, rtype)
+}
+
 /// Loads the set at a place of a group.
-pub(crate) fn load_member(zones: &Zones, group: Group, i: usize, scratch: &mut Scratch)
+pub fn load_member(zones: &Zones, group: Group, i: usize, scratch: &mut Scratch)
     requires group { IsGroupNow zones.now.zones group }
     requires within { i < group.length }
     ensures loaded { scratch.new ≡ slice_get (sets_in zones.now.zones group) i }
@@ -24,8 +39,8 @@ pub(crate) fn load_member(zones: &Zones, group: Group, i: usize, scratch: &mut S
     }
 }
 
-/// The routing policy of the set at a place of a group.
-pub(crate) fn routing_at(zones: &Zones, group: Group, i: usize, scratch: &mut Scratch) -> Routing
+/// Loads the set at a place of a group, and tells its routing policy.
+pub fn routing_at(zones: &Zones, group: Group, i: usize, scratch: &mut Scratch) -> Routing
     requires group { IsGroupNow zones.now.zones group }
     requires within { i < group.length }
     ensures routing { (set : RecordSet) × (slice_get (sets_in zones.now.zones group) i ≡ Some set)

@@ -10,11 +10,15 @@ mod group;
 mod leaves;
 mod lists;
 mod parts;
+mod places;
 mod selection;
 mod view;
 
 pub use answer_model::Used;
 pub use descent::descend;
 pub use few::{few_by_each_set, groups_are_few};
+pub use group::{find_group, load_member, routing_at};
+pub use multivalue::Picked;
+pub use places::places_of;
 pub use selection::{Selected, select};
 pub use view::{AllHealthy, HealthView, views_agree};

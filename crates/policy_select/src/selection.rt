@@ -2,7 +2,6 @@
 
 ghost use Rattle.std.specs.Prelude.{◌≡◌, ◌<◌, ◌≤◌, ◌∷◌, [], ℕ, List, Some};
 ghost use Rattle.std.specs.Prelude.{option_to_list, slice_get};
-ghost use Rattle.choice_model.specs.Choice.{chosen};
 ghost use Rattle.answer_model.specs.Clients.{client_at};
 ghost use Rattle.answer_model.specs.Descent.{group_uses};
 ghost use Rattle.multivalue.specs.Answer.{picked};
@@ -10,8 +9,8 @@ ghost use Rattle.record_set.specs.declared.sets.RecordSet.{RecordSet};
 ghost use Rattle.routing.specs.declared.policies.Routing.TheVariants as policy;
 ghost use Rattle.set_octets.specs.Octets.{HasSpelling};
 ghost use Rattle.zone_table.specs.Looking.{IsGroupNow};
-ghost use Rattle.policy_select.specs.Groups.{flags_in, sets_in};
-ghost use Rattle.policy_select.specs.Selecting.{selected_of};
+ghost use Rattle.policy_select.specs.Groups.{sets_in};
+ghost use Rattle.policy_select.specs.Selecting.{choice_of, selected_of};
 
 use crate::client::block_of;
 use crate::group::routing_at;
@@ -22,7 +21,6 @@ use crate::parts::name_of;
 use crate::view::HealthView;
 use address_text::IpAddress;
 use answer_model::Used;
-use cidr_routing::Collections;
 use geo_latency::Tables;
 use multivalue::Picked;
 use routing::Routing;
@@ -42,7 +40,6 @@ pub enum Selected {
 /// The scratch holds some set of the group then.
 pub fn select<V: HealthView>(
     zones: &Zones,
-    collections: &Collections,
     group: Group,
     view: &V,
     tables: &Tables,
@@ -54,9 +51,8 @@ pub fn select<V: HealthView>(
     requires some { 0 < group.length }
     requires few { group.length ≤ 100 }
     ensures { result
-        ≡ selected_of group (chosen (sets_in zones.now.zones group)
-        (flags_in zones.now.zones (V.test view.now) group)
-        (client_at tables.now collections.now.list client).rows word) }
+        ≡ choice_of zones.now.zones (V.test view.now)
+        (client_at tables.now zones.now.collections.list client) group word }
 {
     let mut used = Used {
         places: false,
@@ -65,16 +61,7 @@ pub fn select<V: HealthView>(
     };
     let routing = routing_at(zones, group, 0, scratch);
     choose(
-        &routing,
-        zones,
-        collections,
-        group,
-        view,
-        tables,
-        client,
-        word,
-        &mut used,
-        scratch,
+        &routing, zones, group, view, tables, client, word, &mut used, scratch,
     )
 }
 
@@ -84,7 +71,6 @@ pub fn select<V: HealthView>(
 pub(crate) fn choose<V: HealthView>(
     routing: &Routing,
     zones: &Zones,
-    collections: &Collections,
     group: Group,
     view: &V,
     tables: &Tables,
@@ -100,11 +86,10 @@ pub(crate) fn choose<V: HealthView>(
         × (slice_get (sets_in zones.now.zones group) 0 ≡ Some set)
         × (routing.now ≡ set.routing) × HasSpelling set }
     ensures selected { result
-        ≡ selected_of group (chosen (sets_in zones.now.zones group)
-        (flags_in zones.now.zones (V.test view.now) group)
-        (client_at tables.now collections.now.list client).rows word) }
+        ≡ choice_of zones.now.zones (V.test view.now)
+        (client_at tables.now zones.now.collections.list client) group word }
     ensures used { used.new
-        ≡ group_uses (client_at tables.now collections.now.list client)
+        ≡ group_uses (client_at tables.now zones.now.collections.list client)
         (sets_in zones.now.zones group) used.old }
     ensures simple { routing.now ≡ policy.Simple → scratch.new ≡ scratch.old }
 {
@@ -131,7 +116,7 @@ pub(crate) fn choose<V: HealthView>(
         }
         Routing::Multivalue(_) => several(group, choose_several(zones, group, view, word)),
         Routing::Cidr(_, id, location) => {
-            let (block, scope) = block_of(collections, *id, client);
+            let (block, scope) = block_of(zones.collections(), *id, client);
             used.blocks = used.blocks.max(scope);
             let first = name_of(location);
             one_or_none(

@@ -8,7 +8,7 @@ pub hold_first-requires : goal.hold_first-requires
 hold_first-requires g c =
     let zones = c.args.zones.now.zones in
     let test = g.V.HealthView.test c.args.view.now in
-    let rows = (client_at c.args.tables.now c.args.collections.now.list c.args.client).rows in
+    let rows = (client_at c.args.tables.now c.args.zones.now.collections.list c.args.client).rows in
     let read = c.routing_at-routing.ensures.routing in
     let is = c.choose-selected.ensures.selected in
     record {
@@ -24,5 +24,5 @@ pub returns-clause-places : goal.returns-clause-places
 returns-clause-places g c =
     places_are c.chosen_are_of_group.ensures c.args.zones.now.zones
     (g.V.HealthView.test c.args.view.now) c.args.group
-    (client_at c.args.tables.now c.args.collections.now.list c.args.client).rows _
+    (client_at c.args.tables.now c.args.zones.now.collections.list c.args.client).rows _
     c.choose-selected.result c.choose-selected.ensures.selected c.requires.group

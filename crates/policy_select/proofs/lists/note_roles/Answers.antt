@@ -12,7 +12,8 @@ loop-i-preserved c =
     let first = c.args.first in
     let sets = sets_in c.args.zones.now.zones c.args.group in
     let read = c.routing_at.ensures.routing in
-    let said = said_at role_of first sets c.loop-i.i read.0 c.routing_at.result c.role_or.result read.1 read.2
+    let said = said_at role_of first sets c.loop-i.i read.0 c.routing_at.result
+    c.role_or.result read.1 read.2
     c.role_or.ensures in
     let within = c.loop-i-test.true in
     let long = c.loop-i.auto.roles in

@@ -6,7 +6,7 @@ use Rattle.policy_select.proofs.selection.choose.Goals as goal
 pub returns-in-Weighted-clause-selected : goal.returns-in-Weighted-clause-selected
 returns-in-Weighted-clause-selected g c =
     let first = c.requires.first in
-    let client = client_at c.args.tables.now c.args.collections.now.list c.args.client in
+    let client = client_at c.args.tables.now c.args.zones.now.collections.list c.args.client in
     of_weighted c.args.group (sets_in c.args.zones.now.zones c.args.group)
     (flags_in c.args.zones.now.zones (g.V.HealthView.test c.args.view.now) c.args.group) client.rows
     c.args.word first.0 c.args.routing.now c.in-Weighted.field-0 c.in-Weighted.weight
