@@ -1,0 +1,15 @@
+//! What a name is in a zone: below a zone cut, or whose sets are taken for it.
+//!
+//! A name of which a set has a name below it exists too, without a set of its own: no wildcard
+//! answers for it.
+#![tactic(auto)]
+
+mod cut;
+mod groups;
+mod hosting;
+mod source;
+
+pub use cut::cut_above;
+pub use groups::{asked_group, group_of};
+pub use hosting::{find_zone, is_held_by, known_few};
+pub use source::source_of;

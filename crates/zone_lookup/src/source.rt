@@ -1,0 +1,36 @@
+//! The name whose sets are taken for a name (RFC 4592, 3.3.1).
+
+ghost use Rattle.std.specs.Prelude.{◌≡◌, ◌≢◌, []};
+ghost use Rattle.answer_model.specs.Names.{source};
+ghost use Rattle.dns_name.specs.Suffix.{EndsWith};
+ghost use Rattle.policy_select.specs.Groups.{sets_in_zone};
+ghost use Rattle.zone_list.specs.Zones.{placed_in};
+ghost use Rattle.zone_table.specs.Looking.{IsApex};
+
+use answer_model::{enclosers_are_closest, names_exist};
+use dns_name::Name;
+use zone_table::Zones;
+
+/// The name whose sets are taken for a name of a zone: itself where it exists, else the wildcard
+/// below its closest encloser where that exists. There is none else.
+pub fn source_of(zones: &Zones, zone: u32, apex: &Name, name: &Name) -> Option<Name>
+    requires there { IsApex zones.now.zones zone apex.now }
+    requires inside { EndsWith name.now apex.now }
+    requires some { placed_in zones.now.zones zone ≢ [] }
+    ensures { result ≡ source (sets_in_zone zones.now.zones zone) name.now }
+{
+    zones.well_formed();
+    names_exist();
+    enclosers_are_closest();
+    if zones.exists(zone, name) {
+        return Some(*name);
+    }
+    let closest = zones.closest(zone, name);
+    let Some(wildcard) = closest.wildcard() else {
+        return None;
+    };
+    if zones.exists(zone, &wildcard) {
+        return Some(wildcard);
+    }
+    None
+}
