@@ -11,6 +11,8 @@ use Rattle.octet_reading.proofs.Rules.{one_spelling}
 use Rattle.octet_reading.proofs.Whole.{whole_again, tells_whole}
 use Rattle.set_reading.specs.declared.faults.ReadFault.{ReadFault}
 use Rattle.set_reading.specs.Laws as set_laws
+use Rattle.check_reading.specs.Laws as check_laws
+use Rattle.block_reading.specs.Laws as block_laws
 use Rattle.command_octets.specs.declared.commands.Command.{Command}
 use Rattle.command_codec.specs.Commands.{Spells}
 use Rattle.command_codec.specs.Gives.{ReadsCommand}
@@ -31,9 +33,11 @@ told_of octets (Ok x) t = record {
 told_of octets (Err place) t =
     (t.0, λ what s. t.1 (s.version, what) (s.is_version, (s.is, s.has_spelling)) s.spelled)
 
-module _ (written : set_laws.WrittenReadsBack) (told : set_laws.SetsAreTold) where
+module _ (written : set_laws.WrittenReadsBack) (told : set_laws.SetsAreTold)
+    (check_commands : check_laws.CheckCommandsAreRead)
+    (cidr_commands : block_laws.CidrCommandsAreRead) where
   front : IsReadAs IsIn octets_in front_at
-  front = front_read written told
+  front = front_read written told check_commands cidr_commands
 
   -- ---- laws
 

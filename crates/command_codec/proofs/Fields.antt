@@ -1,5 +1,6 @@
 -- The readers of a command's fields, each by the rules for readers that are built from readers.
-use Rattle.std.proofs.Common.{◌≡◌, ℕ, ◌-◌, ◌<◌, ◌^◌, ◌≤◌, inl, inr, Bool, true, false, List, [], ◌∷◌, ◌++◌, length, drop, arith, ap, ◌∙◌, sym, refl, subst, eqb, append_assoc, Some, Result, Ok, Err}
+use Rattle.std.proofs.Common.{◌≡◌, ℕ, ◌-◌, ◌<◌, ◌^◌, ◌≤◌, ◌⊎◌, inl, inr, Bool, true, false, List, [], ◌∷◌, ◌++◌, length, drop, arith, ap, ◌∙◌, sym, refl, subst, eqb, cond, append_assoc, Some, Result, Ok, Err}
+use Rattle.std.proofs.lemmas.Bool.{eqb-true}
 use Rattle.std.specs.Prelude.{⊤}
 use Rattle.std.specs.List.{AllByRecursion, flat_map}
 use Rattle.std.proofs.lemmas.List.{length-drop}
@@ -8,14 +9,14 @@ use Rattle.octets.specs.Numbers.{two_octets, four_octets}
 use Rattle.dns_name.specs.Labels.{wire}
 use Rattle.dns_name.specs.Names.{IsName}
 use Rattle.octet_reading.specs.Reading.{four_at}
-use Rattle.octet_reading.specs.Readers.{has_kind}
+use Rattle.octet_reading.specs.Readers.{seen, has_kind}
 use Rattle.octet_reading.specs.Rules.{IsReadAs, AreListed, list_octets}
 use Rattle.octet_reading.proofs.Base.{read_as, octet_read, name_read}
 use Rattle.octet_reading.proofs.Digits.{ok_is, four_is, four_again}
 use Rattle.octet_reading.proofs.Rules.{err_is, alike, seen_read}
 use Rattle.octet_reading.proofs.Composed.{in_turn_read, in_turn_by_read, so_many_read, tested_read}
 use Rattle.octet_reading.proofs.Optional.{list_read, meaning_read, numbered_is}
-use Rattle.octet_reading.proofs.OfKind.{kinds_read}
+use Rattle.octet_reading.proofs.OfKind.{LinesRead, kinds_read}
 use Rattle.octet_reading.proofs.Within.{four_within}
 use Rattle.batch_model.specs.declared.batches.Action.{Action}
 use Rattle.batch_model.specs.declared.batches.Action.TheVariants as action
@@ -26,11 +27,23 @@ use Rattle.set_octets.specs.Octets as set_spelling
 use Rattle.set_reading.specs.Sets.{IsSet}
 use Rattle.set_reading.specs.Reading as sets
 use Rattle.set_reading.specs.Laws as set_laws
+use Rattle.check_model.specs.declared.checks.CheckCommand.{CheckCommand}
+use Rattle.check_octets.specs.Octets as checks
+use Rattle.check_reading.specs.Laws as check_laws
+use Rattle.cidr_commands.specs.declared.command.CidrCommand.{CidrCommand}
+use Rattle.block_octets.specs.Octets as collections
+use Rattle.block_reading.specs.Laws as block_laws
+use Rattle.check_model.specs.declared.checks.CheckCommand.TheVariants as check_command
+use Rattle.cidr_commands.specs.declared.command.CidrCommand.TheVariants as cidr_command
 use Rattle.command_octets.specs.declared.commands.Command.{Command}
 use Rattle.command_octets.specs.declared.commands.Command.TheVariants as command
 use Rattle.command_octets.specs.Octets.{action_number, change_octets, kind_of, field_octets, spelling, IsVersion, HasSpelledSet, HasSpelling}
 use Rattle.command_codec.specs.Commands.{HasSet, AreServers, IsCommand}
-use Rattle.command_codec.specs.Reading.{is_version, version_at, servers_at, created, create_at, delete_at, actions, action_of, action_at, behind_set, set_at, changed, change_at, batched, batch_at, lines, command_at, front_at}
+use Rattle.command_codec.specs.Reading.{is_version, version_at, servers_at, created, create_at, delete_at, actions, action_of, action_at, behind_set, set_at, changed, change_at, batched, batch_at}
+use Rattle.command_codec.specs.Reading.{check_made_at, check_changed_at, check_deleted_at}
+use Rattle.command_codec.specs.Reading.{collection_made_at, collection_changed_at}
+use Rattle.command_codec.specs.Reading.{collection_deleted_at, lines, command_at}
+use Rattle.command_codec.specs.Reading.{front_at}
 
 -- ---- versions
 
@@ -56,6 +69,31 @@ version_read =
     alike (tested_read is_version octet_read) (λ version h. (version_of version h.1, refl))
     version_to
 
+-- ---- kinds
+
+-- the kinds of commands on checks and on collections
+abbrev IsAmong : (from to : ℕ) → ℕ → Type 0
+IsAmong from to kind = (from ≤ kind) × (kind ≤ to)
+
+check_kind : (what : CheckCommand) → IsAmong 4 6 (checks.kind_of what)
+check_kind (check_command.Create check) = (omega arith, omega arith)
+check_kind (check_command.Update id inverted disabled threshold children) = (omega arith, omega arith)
+check_kind (check_command.Delete id) = (omega arith, omega arith)
+
+collection_kind : (what : CidrCommand) → IsAmong 7 9 (collections.kind_of what)
+collection_kind (cidr_command.Create name) = (omega arith, omega arith)
+collection_kind (cidr_command.Change id changes) = (omega arith, omega arith)
+collection_kind (cidr_command.Delete id) = (omega arith, omega arith)
+
+no_check : {X : Type 0} (what : CheckCommand) (kind : ℕ) → IsAmong 7 9 kind ⊎ IsAmong 1 3 kind
+    → checks.kind_of what ≡ kind → X
+no_check what kind (inl k) e = absurd (omega (arith, check_kind what, k, e))
+no_check what kind (inr k) e = absurd (omega (arith, check_kind what, k, e))
+
+no_collection : {X : Type 0} (what : CidrCommand) (kind : ℕ) → kind ≤ 6
+    → collections.kind_of what ≡ kind → X
+no_collection what kind k e = absurd (omega (arith, collection_kind what, k, e))
+
 -- ---- zones
 
 -- a number of four octets, of whatever size
@@ -74,7 +112,7 @@ servers_read =
 abbrev pub IsOfKind : (version kind : ℕ) → Command → Type 0
 IsOfKind version kind what = (IsCommand what × HasSpelling version what) × (kind_of what ≡ kind)
 
-create_read : (version : ℕ) → IsReadAs (IsOfKind version 1) field_octets create_at
+create_read : (version : ℕ) → IsReadAs (IsOfKind version 1) (field_octets version) create_at
 unfolding create_at
 create_read version =
     seen_read created (in_turn_read name_read servers_read)
@@ -86,8 +124,10 @@ create_read version =
     from (command.CreateZone name servers) h = ((name, servers), h.0.0, refl)
     from (command.DeleteZone zone) h = absurd (grind (arith, h.1))
     from (command.Change batch) h = absurd (grind (arith, h.1))
+    from (command.Health what) h = no_check what 1 (inr (omega arith, omega arith)) h.1
+    from (command.Cidr what) h = no_collection what 1 (omega arith) h.1
 
-delete_read : (version : ℕ) → IsReadAs (IsOfKind version 2) field_octets delete_at
+delete_read : (version : ℕ) → IsReadAs (IsOfKind version 2) (field_octets version) delete_at
 unfolding delete_at
 delete_read version =
     seen_read command.DeleteZone four_read (λ zone h. (((tt, tt), refl), refl)) from
@@ -97,6 +137,8 @@ delete_read version =
     from (command.CreateZone name servers) h = absurd (grind (arith, h.1))
     from (command.DeleteZone zone) h = (zone, tt, refl)
     from (command.Change batch) h = absurd (grind (arith, h.1))
+    from (command.Health what) h = no_check what 2 (inr (omega arith, omega arith)) h.1
+    from (command.Cidr what) h = no_collection what 2 (omega arith) h.1
 
 -- a command in a version
 abbrev pub IsIn : ℕ × Command → Type 0
@@ -195,13 +237,13 @@ module _ (written : set_laws.WrittenReadsBack) (told : set_laws.SetsAreTold) whe
   apart (change ∷ changes) each = let rest = apart changes each.1 in
       ((each.0.0, rest.0), (each.0.1, rest.1))
 
-  batch_read : (version : ℕ) → IsReadAs (IsOfKind version 3) field_octets batch_at
+  batch_read : (version : ℕ) → IsReadAs (IsOfKind version 3) (field_octets version) batch_at
   unfolding batch_at
   batch_read version = seen_read batched (in_turn_read four_read (list_read change_read)) into from
     where
       into : (p : ℕ × List Change) → ⊤ × AreListed IsSpelledChange p.1
           → IsOfKind version 3 (batched p)
-          × (four_octets p.0 ++ list_octets change_octets p.1 ≡ field_octets (batched p))
+          × (four_octets p.0 ++ list_octets change_octets p.1 ≡ field_octets version (batched p))
       into p h =
           let split = apart p.1 h.1.each in (
             ((split.0, record { count = h.1.count; each = split.1 }), refl),
@@ -218,23 +260,131 @@ module _ (written : set_laws.WrittenReadsBack) (told : set_laws.SetsAreTold) whe
         (tt, record { count = h.0.1.count; each = both batch.changes h.0.0 h.0.1.each }),
         refl,
       )
+      from (command.Health what) h = no_check what 3 (inr (omega arith, omega arith)) h.1
+      from (command.Cidr what) h = no_collection what 3 (omega arith) h.1
 
   -- ---- commands
 
-  has_line : (what : Command) → has_kind lines (kind_of what) ≡ true
-  has_line (command.CreateZone name servers) = refl
-  has_line (command.DeleteZone zone) = refl
-  has_line (command.Change batch) = refl
+  module _ (check_commands : check_laws.CheckCommandsAreRead)
+      (cidr_commands : block_laws.CidrCommandsAreRead) where
+    health_read : {read : List ℕ → Result (CheckCommand × List ℕ) ℕ} (version kind : ℕ)
+        → IsAmong 4 6 kind
+        → IsReadAs (check_laws.IsOfKind version kind) (checks.field_octets version) read
+        → IsReadAs (IsOfKind version kind) (field_octets version) (seen command.Health read)
+    health_read version kind k inside =
+        seen_read command.Health inside (λ what h. (((tt, h.0), h.1), refl)) from
+      where
+        from : (what : Command) → IsOfKind version kind what
+            → (inner : CheckCommand) × check_laws.IsOfKind version kind inner
+            × (command.Health inner ≡ what)
+        from (command.CreateZone name servers) h = absurd (omega (arith, k, h.1))
+        from (command.DeleteZone zone) h = absurd (omega (arith, k, h.1))
+        from (command.Change batch) h = absurd (omega (arith, k, h.1))
+        from (command.Health what) h = (what, (h.0.1, h.1), refl)
+        from (command.Cidr what) h = no_collection what kind k.1 h.1
 
-  command_read : (version : ℕ)
-      → IsReadAs (λ what. IsCommand what
-      × HasSpelling version what) (λ what. kind_of what ∷ field_octets what) command_at
-  unfolding command_at
-  command_read version =
-      kinds_read kind_of (λ what. IsCommand what × HasSpelling version what) field_octets lines
-      (create_read version, (delete_read version, (batch_read version, tt)))
-      (λ what h. has_line what)
+    cidr_read : {read : List ℕ → Result (CidrCommand × List ℕ) ℕ} (kind : ℕ)
+        → IsAmong 7 9 kind → IsReadAs (block_laws.IsOfKind kind) collections.field_octets read
+        → IsReadAs (IsOfKind 2 kind) (field_octets 2) (seen command.Cidr read)
+    cidr_read kind k inside =
+        seen_read command.Cidr inside (λ what h. (((tt, (refl, h.0)), h.1), refl)) from
+      where
+        from : (what : Command) → IsOfKind 2 kind what
+            → (inner : CidrCommand) × block_laws.IsOfKind kind inner
+            × (command.Cidr inner ≡ what)
+        from (command.CreateZone name servers) h = absurd (omega (arith, k, h.1))
+        from (command.DeleteZone zone) h = absurd (omega (arith, k, h.1))
+        from (command.Change batch) h = absurd (omega (arith, k, h.1))
+        from (command.Health what) h = no_check what kind (inl k) h.1
+        from (command.Cidr what) h = (what, (h.0.1.1, h.1), refl)
 
-  pub front_read : IsReadAs IsIn octets_in front_at
-  unfolding front_at
-  front_read = in_turn_by_read version_read command_read
+    check_made_read : (version : ℕ)
+        → IsReadAs (IsOfKind version 4) (field_octets version) (check_made_at version)
+    unfolding check_made_at
+    check_made_read version =
+        health_read version 4 (omega arith, omega arith) (check_commands.created version)
+
+    check_changed_read : (version : ℕ)
+        → IsReadAs (IsOfKind version 5) (field_octets version) (check_changed_at version)
+    unfolding check_changed_at
+    check_changed_read version =
+        health_read version 5 (omega arith, omega arith) (check_commands.updated version)
+
+    check_deleted_read : (version : ℕ)
+        → IsReadAs (IsOfKind version 6) (field_octets version) check_deleted_at
+    unfolding check_deleted_at
+    check_deleted_read version =
+        health_read version 6 (omega arith, omega arith) (check_commands.deleted version)
+
+    collection_made_read : IsReadAs (IsOfKind 2 7) (field_octets 2) collection_made_at
+    unfolding collection_made_at
+    collection_made_read = cidr_read 7 (omega arith, omega arith) cidr_commands.created
+
+    collection_changed_read : IsReadAs (IsOfKind 2 8) (field_octets 2) collection_changed_at
+    unfolding collection_changed_at
+    collection_changed_read = cidr_read 8 (omega arith, omega arith) cidr_commands.changed
+
+    collection_deleted_read : IsReadAs (IsOfKind 2 9) (field_octets 2) collection_deleted_at
+    unfolding collection_deleted_at
+    collection_deleted_read = cidr_read 9 (omega arith, omega arith) cidr_commands.deleted
+
+    -- what is asked of a command in a version
+    abbrev IsSpelled : (version : ℕ) → Command → Type 0
+    IsSpelled version what = IsCommand what × HasSpelling version what
+
+    abbrev AreRead : (version : ℕ) → List (ℕ × (List ℕ → Result (Command × List ℕ) ℕ)) → Type 0
+    AreRead version table = LinesRead kind_of (IsSpelled version) (field_octets version) table
+
+    collections_read : (version : ℕ) (second : Bool) → eqb version 2 ≡ second
+        → AreRead version (cond second
+        ((7, collection_made_at) ∷ (8, collection_changed_at) ∷ (9, collection_deleted_at) ∷ []) [])
+    collections_read version false e = tt
+    collections_read version true e =
+        subst (λ v. AreRead v ((7, collection_made_at) ∷ (8, collection_changed_at)
+        ∷ (9, collection_deleted_at) ∷ [])) (sym (eqb-true version 2 e))
+        (collection_made_read, (collection_changed_read, (collection_deleted_read, tt)))
+
+    has_line : (version : ℕ) (what : Command) → IsSpelled version what
+        → has_kind (lines version) (kind_of what) ≡ true
+    has_line version (command.CreateZone name servers) h = refl
+    has_line version (command.DeleteZone zone) h = refl
+    has_line version (command.Change batch) h = refl
+    has_line version (command.Health (check_command.Create check)) h = refl
+    has_line version (command.Health (check_command.Update id inverted disabled threshold children)) h = refl
+    has_line version (command.Health (check_command.Delete id)) h = refl
+    has_line version (command.Cidr (cidr_command.Create name)) h =
+        subst (λ v. has_kind (lines v) 7 ≡ true) (sym h.1.0) refl
+    has_line version (command.Cidr (cidr_command.Change id changes)) h =
+        subst (λ v. has_kind (lines v) 8 ≡ true) (sym h.1.0) refl
+    has_line version (command.Cidr (cidr_command.Delete id)) h =
+        subst (λ v. has_kind (lines v) 9 ≡ true) (sym h.1.0) refl
+
+    command_read : (version : ℕ)
+        → IsReadAs (IsSpelled version) (λ what. kind_of what
+        ∷ field_octets version what) (command_at version)
+    unfolding command_at
+    command_read version =
+        kinds_read kind_of (IsSpelled version) (field_octets version) (lines version) (
+          create_read version,
+          (
+            delete_read version,
+            (
+              batch_read version,
+              (
+                check_made_read version,
+                (
+                  check_changed_read version,
+                  (
+                    check_deleted_read version,
+                    collections_read version (eqb version 2) refl,
+                  ),
+                ),
+              ),
+            ),
+          ),
+        )
+        (has_line version)
+
+    pub front_read : IsReadAs IsIn octets_in front_at
+    unfolding front_at
+    front_read = in_turn_by_read version_read command_read

@@ -21,6 +21,8 @@ abbrev pub IsCommand : Command → Type 0
 IsCommand (command.CreateZone name servers) = IsName name × AreServers servers
 IsCommand (command.DeleteZone zone) = ⊤
 IsCommand (command.Change batch) = AllByRecursion HasSet batch.changes
+IsCommand (command.Health command) = ⊤
+IsCommand (command.Cidr command) = ⊤
 
 -- These octets are the command's, in one of the versions.
 pub record Spells (octets : List ℕ) (command : Command) : Type 0 where

@@ -1,13 +1,15 @@
 -- Reading the octets of a command from left to right, with the first fault that is met (FORMATS, Octets of commands).
-use Rattle.std.specs.Prelude.{ℕ, ◌-◌, List, [], ◌∷◌, length, drop, Bool, ◌==◌, ◌||◌, Option, Result, Ok, Err}
+use Rattle.std.specs.Prelude.{ℕ, ◌-◌, List, [], ◌∷◌, length, drop, Bool, ◌==◌, ◌||◌, Option, Result, Ok, Err, if◌then◌else◌}
 use Rattle.octet_reading.specs.Reading.{octet_at, four_at}
 use Rattle.octet_reading.specs.Names.{name_at}
-use Rattle.octet_reading.specs.Readers.{seen, in_turn, so_many, list_at, tested, meaning, numbered, kinds, whole}
+use Rattle.octet_reading.specs.Readers.{seen, in_turn, in_turn_by, so_many, list_at, tested, meaning, numbered, kinds, whole}
 use Rattle.batch_model.specs.declared.batches.Action.{Action}
 use Rattle.batch_model.specs.declared.batches.Action.TheVariants as action
 use Rattle.batch_model.specs.declared.batches.Change.{Change}
 use Rattle.record_set.specs.declared.sets.RecordSet.{RecordSet}
 use Rattle.set_reading.specs.Reading as sets
+use Rattle.check_reading.specs.Reading as checks
+use Rattle.block_reading.specs.Reading as collections
 use Rattle.command_octets.specs.declared.commands.Command.{Command}
 use Rattle.command_octets.specs.declared.commands.Command.TheVariants as command
 use Rattle.command_octets.specs.Octets.{action_number}
@@ -67,16 +69,45 @@ batched fields = command.Change (record { zone = fields.0; changes = fields.1 })
 unfoldable pub batch_at : List ℕ → Result (Command × List ℕ) ℕ
 batch_at octets = seen batched (in_turn four_at (list_at change_at)) octets
 
--- the kinds, a line each: its number, and how its fields are read
-abbrev pub lines : List (ℕ × (List ℕ → Result (Command × List ℕ) ℕ))
-lines = (1, create_at) ∷ (2, delete_at) ∷ (3, batch_at) ∷ []
+-- commands on health checks, of which the first version says less
+unfoldable pub check_made_at : (version : ℕ) → List ℕ → Result (Command × List ℕ) ℕ
+check_made_at version octets = seen command.Health (checks.create_at version) octets
 
-unfoldable pub command_at : List ℕ → Result (Command × List ℕ) ℕ
-command_at octets = kinds lines octets
+unfoldable pub check_changed_at : (version : ℕ) → List ℕ → Result (Command × List ℕ) ℕ
+check_changed_at version octets = seen command.Health (checks.update_at version) octets
+
+unfoldable pub check_deleted_at : List ℕ → Result (Command × List ℕ) ℕ
+check_deleted_at octets = seen command.Health checks.delete_at octets
+
+-- commands on collections
+unfoldable pub collection_made_at : List ℕ → Result (Command × List ℕ) ℕ
+collection_made_at octets = seen command.Cidr collections.create_at octets
+
+unfoldable pub collection_changed_at : List ℕ → Result (Command × List ℕ) ℕ
+collection_changed_at octets = seen command.Cidr collections.change_collection_at octets
+
+unfoldable pub collection_deleted_at : List ℕ → Result (Command × List ℕ) ℕ
+collection_deleted_at octets = seen command.Cidr collections.delete_at octets
+
+-- the kinds, a line each: its number, and how its fields are read; those of collections stand in
+-- the second version alone
+abbrev pub collection_lines : (version : ℕ) → List (ℕ × (List ℕ → Result (Command × List ℕ) ℕ))
+collection_lines version =
+    if version == 2
+    then (7, collection_made_at) ∷ (8, collection_changed_at) ∷ (9, collection_deleted_at) ∷ []
+    else []
+
+abbrev pub lines : (version : ℕ) → List (ℕ × (List ℕ → Result (Command × List ℕ) ℕ))
+lines version =
+    (1, create_at) ∷ (2, delete_at) ∷ (3, batch_at) ∷ (4, check_made_at version)
+    ∷ (5, check_changed_at version) ∷ (6, check_deleted_at) ∷ collection_lines version
+
+unfoldable pub command_at : (version : ℕ) → List ℕ → Result (Command × List ℕ) ℕ
+command_at version octets = kinds (lines version) octets
 
 -- the version and a command behind it
 unfoldable pub front_at : List ℕ → Result ((ℕ × Command) × List ℕ) ℕ
-front_at octets = in_turn version_at command_at octets
+front_at octets = in_turn_by version_at command_at octets
 
 -- the command, whatever its version
 abbrev pub unversioned : Result (ℕ × Command) ℕ → Result Command ℕ

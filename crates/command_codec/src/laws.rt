@@ -8,6 +8,8 @@ pub fn one_spelling()
 {
     set_reading::written_reads_back();
     set_reading::sets_are_told();
+    check_reading::check_commands_are_read();
+    block_reading::cidr_commands_are_read();
 }
 
 /// What is written, in either version, is read again.
@@ -16,6 +18,8 @@ pub fn written_reads_back()
 {
     set_reading::written_reads_back();
     set_reading::sets_are_told();
+    check_reading::check_commands_are_read();
+    block_reading::cidr_commands_are_read();
 }
 
 /// The octets of a command are read as nothing else.
@@ -24,6 +28,8 @@ pub fn read_as_nothing_else()
 {
     set_reading::written_reads_back();
     set_reading::sets_are_told();
+    check_reading::check_commands_are_read();
+    block_reading::cidr_commands_are_read();
 }
 
 /// Reading tells the command that octets are, or that they are none.
@@ -32,4 +38,6 @@ pub fn commands_are_told()
 {
     set_reading::written_reads_back();
     set_reading::sets_are_told();
+    check_reading::check_commands_are_read();
+    block_reading::cidr_commands_are_read();
 }

@@ -9,7 +9,8 @@ mod parts;
 mod reading;
 
 pub use command_octets::{
-    Action, Batch, Change, Changes, Command, OutOfMemory, has_spelling, write,
+    Action, Batch, Change, Changes, CheckCommand, CidrCommand, Command, OutOfMemory, has_spelling,
+    write,
 };
 pub use laws::{commands_are_told, one_spelling, read_as_nothing_else, written_reads_back};
 pub use parts::well_formed;

@@ -18,7 +18,7 @@ pub fn well_formed(command: &Command)
             name.well_formed();
             four_names(servers);
         }
-        Command::DeleteZone(_) => {}
+        Command::DeleteZone(_) | Command::Health(_) | Command::Cidr(_) => {}
         Command::Change(batch) => sets_in_changes(batch.changes.as_slice()),
     }
 }

@@ -5,9 +5,15 @@ ghost use Rattle.octet_reading.specs.Reading.{Gives, GivesOrStops};
 ghost use Rattle.command_octets.specs.declared.commands.Command.{Command};
 ghost use Rattle.command_codec.specs.Commands.{Spells};
 ghost use Rattle.command_codec.specs.Gives.{IsInside, ReadsCommand};
-ghost use Rattle.command_codec.specs.Reading.{version_at, servers_at, create_at, delete_at, action_of, action_at, set_at, change_at, batch_at, command_at, front_at, read};
+ghost use Rattle.command_codec.specs.Reading.{version_at, servers_at, create_at, delete_at, action_of, action_at, set_at, change_at};
+ghost use Rattle.command_codec.specs.Reading.{batch_at, check_made_at, check_changed_at};
+ghost use Rattle.command_codec.specs.Reading.{check_deleted_at, collection_made_at};
+ghost use Rattle.command_codec.specs.Reading.{collection_changed_at, collection_deleted_at};
+ghost use Rattle.command_codec.specs.Reading.{command_at, front_at, read};
 
 use batch_model::{Action, Batch, Change, Changes};
+use block_reading::{change_collection_at, create_collection_at, delete_collection_at};
+use check_reading::{create_check_at, delete_check_at, update_check_at};
 use command_octets::Command;
 use dns_name::Name;
 use octet_reading::{Fault, Field, Stop, four_at, list_at, name_at, octet_at};
@@ -29,6 +35,8 @@ pub fn read(alloc: Global, bytes: &[u8]) -> Result<Command, ReadFault>
 {
     set_reading::written_reads_back();
     set_reading::sets_are_told();
+    check_reading::check_commands_are_read();
+    block_reading::cidr_commands_are_read();
     read_whole(alloc, bytes)
 }
 
@@ -40,6 +48,8 @@ fn read_whole(alloc: Global, bytes: &[u8]) -> Result<Command, ReadFault>
 {
     set_reading::written_reads_back();
     set_reading::sets_are_told();
+    check_reading::check_commands_are_read();
+    block_reading::cidr_commands_are_read();
     match front_at(alloc, bytes) {
         Ok((_, command, rest)) => {
             if rest.len() > 0 {
@@ -58,7 +68,7 @@ fn front_at(alloc: Global, bytes: &[u8]) -> Result<(u8, Command, &[u8]), Stop>
     ensures { GivesOrStops (λ x. ((x.0, x.1), x.2.now)) result (front_at bytes.now) }
 {
     let (version, rest) = version_at(bytes)?;
-    match command_at(alloc, rest) {
+    match command_at(alloc, version, rest) {
         Ok((command, rest)) => Ok((version, command, rest)),
         Err(stop) => Err(stop),
     }
@@ -78,14 +88,20 @@ fn version_at(bytes: &[u8]) -> Result<(u8, &[u8]), Fault>
 
 /// A command behind the version.
 #[tactic(auto, unfolding(crate::specs::Reading::command_at))]
-fn command_at(alloc: Global, bytes: &[u8]) -> Result<(Command, &[u8]), Stop>
-    ensures { GivesOrStops (λ x. (x.0, x.1.now)) result (command_at bytes.now) }
+fn command_at(alloc: Global, version: u8, bytes: &[u8]) -> Result<(Command, &[u8]), Stop>
+    ensures { GivesOrStops (λ x. (x.0, x.1.now)) result (command_at version bytes.now) }
 {
     let (kind, rest) = octet_at(bytes)?;
     match kind {
         1 => Ok(create_at(rest)?),
         2 => Ok(delete_at(rest)?),
         3 => batch_at(alloc, rest),
+        4 => check_made_at(alloc, version, rest),
+        5 => check_changed_at(alloc, version, rest),
+        6 => Ok(check_deleted_at(rest)?),
+        7 if version == 2 => collection_made_at(rest),
+        8 if version == 2 => collection_changed_at(alloc, rest),
+        9 if version == 2 => Ok(collection_deleted_at(rest)?),
         _ => Err(Stop::Bad(bytes.len())),
     }
 }
@@ -148,6 +164,72 @@ fn batch_at(alloc: Global, bytes: &[u8]) -> Result<(Command, &[u8]), Stop>
     let (changes, rest) = list_at(alloc, &OneChange, rest)?;
     let changes = Changes::from_vec(changes);
     Ok((Command::Change(Batch { zone, changes }), rest))
+}
+
+/// A new health check.
+#[tactic(auto, unfolding(crate::specs::Reading::check_made_at))]
+fn check_made_at(alloc: Global, version: u8, bytes: &[u8]) -> Result<(Command, &[u8]), Stop>
+    ensures { GivesOrStops (λ x. (x.0, x.1.now)) result (check_made_at version bytes.now) }
+{
+    match create_check_at(alloc, version, bytes) {
+        Ok((command, rest)) => Ok((Command::Health(command), rest)),
+        Err(stop) => Err(stop),
+    }
+}
+
+/// A change of a health check.
+#[tactic(auto, unfolding(crate::specs::Reading::check_changed_at))]
+fn check_changed_at(alloc: Global, version: u8, bytes: &[u8]) -> Result<(Command, &[u8]), Stop>
+    ensures { GivesOrStops (λ x. (x.0, x.1.now)) result (check_changed_at version bytes.now) }
+{
+    match update_check_at(alloc, version, bytes) {
+        Ok((command, rest)) => Ok((Command::Health(command), rest)),
+        Err(stop) => Err(stop),
+    }
+}
+
+/// The end of a health check.
+#[tactic(auto, unfolding(crate::specs::Reading::check_deleted_at))]
+fn check_deleted_at(bytes: &[u8]) -> Result<(Command, &[u8]), Fault>
+    ensures { Gives (λ x. (x.0, x.1.now)) result (check_deleted_at bytes.now) }
+{
+    match delete_check_at(bytes) {
+        Ok((command, rest)) => Ok((Command::Health(command), rest)),
+        Err(fault) => Err(fault),
+    }
+}
+
+/// A new collection.
+#[tactic(auto, unfolding(crate::specs::Reading::collection_made_at))]
+fn collection_made_at(bytes: &[u8]) -> Result<(Command, &[u8]), Stop>
+    ensures { GivesOrStops (λ x. (x.0, x.1.now)) result (collection_made_at bytes.now) }
+{
+    match create_collection_at(bytes) {
+        Ok((command, rest)) => Ok((Command::Cidr(command), rest)),
+        Err(Fault(left)) => Err(Stop::Bad(left)),
+    }
+}
+
+/// Changes of a collection.
+#[tactic(auto, unfolding(crate::specs::Reading::collection_changed_at))]
+fn collection_changed_at(alloc: Global, bytes: &[u8]) -> Result<(Command, &[u8]), Stop>
+    ensures { GivesOrStops (λ x. (x.0, x.1.now)) result (collection_changed_at bytes.now) }
+{
+    match change_collection_at(alloc, bytes) {
+        Ok((command, rest)) => Ok((Command::Cidr(command), rest)),
+        Err(stop) => Err(stop),
+    }
+}
+
+/// The end of a collection.
+#[tactic(auto, unfolding(crate::specs::Reading::collection_deleted_at))]
+fn collection_deleted_at(bytes: &[u8]) -> Result<(Command, &[u8]), Fault>
+    ensures { Gives (λ x. (x.0, x.1.now)) result (collection_deleted_at bytes.now) }
+{
+    match delete_collection_at(bytes) {
+        Ok((command, rest)) => Ok((Command::Cidr(command), rest)),
+        Err(fault) => Err(fault),
+    }
 }
 
 /// A change, as an item of a list.

@@ -9,6 +9,8 @@ use Rattle.batch_model.specs.declared.batches.Batch.{Batch}
 use Rattle.batch_model.specs.declared.batches.Change.{Change}
 use Rattle.set_octets.specs.Octets.{set_octets}
 use Rattle.set_octets.specs.Octets as sets
+use Rattle.check_octets.specs.Octets as checks
+use Rattle.block_octets.specs.Octets as collections
 use Rattle.command_octets.specs.declared.commands.Command.{Command}
 use Rattle.command_octets.specs.declared.commands.Command.TheVariants as command
 
@@ -34,16 +36,20 @@ abbrev pub kind_of : Command → ℕ
 kind_of (command.CreateZone name servers) = 1
 kind_of (command.DeleteZone zone) = 2
 kind_of (command.Change batch) = 3
+kind_of (command.Health command) = checks.kind_of command
+kind_of (command.Cidr command) = collections.kind_of command
 
--- the fields of a command
-abbrev pub field_octets : Command → List ℕ
-field_octets (command.CreateZone name servers) = wire name ++ flat_map wire servers
-field_octets (command.DeleteZone zone) = four_octets zone
-field_octets (command.Change batch) = batch_octets batch
+-- the fields of a command in a version; those of checks alone differ
+abbrev pub field_octets : (version : ℕ) → Command → List ℕ
+field_octets version (command.CreateZone name servers) = wire name ++ flat_map wire servers
+field_octets version (command.DeleteZone zone) = four_octets zone
+field_octets version (command.Change batch) = batch_octets batch
+field_octets version (command.Health command) = checks.field_octets version command
+field_octets version (command.Cidr command) = collections.field_octets command
 
 -- the octets of a command in a version: the version, the kind, and the fields of that kind
 abbrev pub spelling : (version : ℕ) → Command → List ℕ
-spelling version command = version ∷ kind_of command ∷ field_octets command
+spelling version command = version ∷ kind_of command ∷ field_octets version command
 
 -- a command as it is written
 abbrev pub command_octets : Command → List ℕ
@@ -58,8 +64,10 @@ pub record IsSpelledBatch (batch : Batch) : Type 0 where
   pub count : length batch.changes < 2 ^ 16
   pub each : AllByRecursion HasSpelledSet batch.changes
 
--- What has a spelling in a version.
+-- What has a spelling in a version. Commands on collections have one in the second alone.
 abbrev pub HasSpelling : (version : ℕ) → Command → Type 0
 HasSpelling version (command.CreateZone name servers) = ⊤
 HasSpelling version (command.DeleteZone zone) = ⊤
 HasSpelling version (command.Change batch) = IsSpelledBatch batch
+HasSpelling version (command.Health command) = checks.HasSpelling version command
+HasSpelling version (command.Cidr command) = (version ≡ 2) × collections.HasSpelling command

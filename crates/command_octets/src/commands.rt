@@ -1,6 +1,8 @@
 //! Commands: what a client asks to be changed.
 
 use batch_model::Batch;
+use block_octets::CidrCommand;
+use check_octets::CheckCommand;
 use dns_name::Name;
 
 /// What a client asks to be changed.
@@ -16,4 +18,8 @@ pub enum Command {
     DeleteZone(u32),
     /// Changes the sets of a zone.
     Change(Batch),
+    /// Makes, changes or deletes a health check.
+    Health(CheckCommand),
+    /// Makes, changes or deletes a collection of CIDR blocks.
+    Cidr(CidrCommand),
 }

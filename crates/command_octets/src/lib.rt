@@ -1,6 +1,7 @@
 //! The octets of commands, as the journal keeps them: one spelling each in a version.
 //!
-//! Numbers have their highest octet first. No spelling begins another.
+//! Numbers have their highest octet first. No spelling begins another. The first version says
+//! nothing of Disabled, and has no commands on collections.
 #![tactic(auto)]
 
 mod commands;
@@ -8,6 +9,8 @@ mod spelling;
 mod writing;
 
 pub use batch_model::{Action, Batch, Change, Changes};
+pub use block_octets::{CidrCommand, has_cidr_spelling};
+pub use check_octets::{CheckCommand, has_check_spelling};
 pub use commands::Command;
 pub use octets::OutOfMemory;
 pub use spelling::has_spelling;

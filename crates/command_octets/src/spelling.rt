@@ -6,9 +6,11 @@ ghost use Rattle.command_octets.specs.Octets.{HasSpelledSet, HasSpelling};
 
 use crate::commands::Command;
 use batch_model::Change;
+use block_octets::has_cidr_spelling;
+use check_octets::has_check_spelling;
 
-/// Whether a command has a spelling in the version that is written: its changes and their sets are
-/// within their bounds.
+/// Whether a command has a spelling in the version that is written: its parts are within their
+/// bounds, and its lists can be counted.
 pub fn has_spelling(command: &Command) -> bool
     ensures { IsTrue result ↔ HasSpelling 2 command.now }
 {
@@ -17,6 +19,8 @@ pub fn has_spelling(command: &Command) -> bool
         Command::Change(batch) => {
             batch.changes.len() < 1 << 16 && have_spellings(batch.changes.as_slice())
         }
+        Command::Health(command) => has_check_spelling(command),
+        Command::Cidr(command) => has_cidr_spelling(command),
     }
 }
 

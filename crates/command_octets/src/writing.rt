@@ -7,6 +7,8 @@ ghost use Rattle.command_octets.specs.Octets.{action_number, change_octets, batc
 
 use crate::commands::Command;
 use batch_model::{Action, Batch, Change};
+use block_octets::write_cidr_command;
+use check_octets::write_check_command;
 use dns_name::Name;
 use octets::{OutOfMemory, append, four_octets, two_octets};
 use set_octets::write_set;
@@ -43,6 +45,14 @@ fn append_command(command: &Command, into: &mut Vec<u8>) -> Result<(), OutOfMemo
         Command::Change(batch) => {
             append(&[VERSION, 3], into)?;
             append_batch(batch, into)
+        }
+        Command::Health(command) => {
+            append(&[VERSION], into)?;
+            write_check_command(command, into)
+        }
+        Command::Cidr(command) => {
+            append(&[VERSION], into)?;
+            write_cidr_command(command, into)
         }
     }
 }

@@ -1,0 +1,4 @@
+pub mod Blocks
+pub mod Laws
+pub mod Reading
+pub use Rattle.block_octets.specs.Octets

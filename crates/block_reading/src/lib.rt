@@ -1,0 +1,15 @@
+//! Reading the octets of commands on collections of CIDR blocks.
+//!
+//! Each kind has its reader; which kind it is stands before it, and is read by the caller. Where a
+//! bit behind a block's length is set, it is the length that is faulty.
+#![tactic(auto)]
+
+mod blocks;
+mod laws;
+mod names;
+mod reading;
+
+pub use block_octets::{Blocks, Changes, CidrChange, CidrCommand, Ident, IpPrefix};
+pub use laws::cidr_commands_are_read;
+pub use octet_reading::{Fault, Stop};
+pub use reading::{change_collection_at, create_collection_at, delete_collection_at};
