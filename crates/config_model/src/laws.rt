@@ -1,8 +1,36 @@
 //! Laws over the definitions, each the contract of a function that does nothing.
 
-ghost use Rattle.config_model.specs.Laws.{OneDecision};
+ghost use Rattle.config_model.specs.Laws.{EmptyIsSound, KeepsSound, OneOutcome};
+ghost use Rattle.config_model.specs.Told.{RefusalsAreTold};
 
-/// A batch on a configuration has one answer, but for want of memory.
-pub fn one_decision()
-    ensures { OneDecision }
+/// A command on a configuration has one outcome, but for want of memory.
+pub fn one_outcome()
+    ensures { OneOutcome }
+{
+    batch_model::one_answer();
+}
+
+/// What a command makes of a sound configuration is sound.
+pub fn commands_keep_sound()
+    ensures { KeepsSound }
+{
+    batch_model::zones_stay();
+    check_model::commands_keep_sound();
+    check_model::rest_is_left();
+    cidr_commands::commands_keep_sound();
+    cidr_commands::commands_keep_used();
+    dns_name::one_name_of_a_wire();
+    refusals_are_told();
+}
+
+/// The configuration of a new server is sound.
+pub fn empty_is_sound()
+    ensures { EmptyIsSound }
+{
+    check_model::no_checks_are_sound();
+}
+
+/// What the refusals after the last change of a batch say.
+pub fn refusals_are_told()
+    ensures { RefusalsAreTold }
 {}

@@ -1,9 +1,12 @@
-//! Configurations: the hosted zones and health checks of a server, when they are sound, and what a
-//! batch makes of them.
+//! Configurations: the hosted zones, health checks and collections of a server, when they are
+//! sound, and what each command makes of them.
 //!
-//! These are definitions over plain lists, for contracts to cite; nothing runs here.
+//! These are definitions over plain lists, for contracts to cite; what runs here only tells
+//! refusals.
 #![tactic(auto)]
 
 mod laws;
+mod refusals;
 
-pub use laws::one_decision;
+pub use laws::{commands_keep_sound, empty_is_sound, one_outcome, refusals_are_told};
+pub use refusals::{InputReason, Made, Refusal, of_batch, of_check, of_fault};

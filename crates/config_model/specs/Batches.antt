@@ -1,0 +1,151 @@
+-- What a batch makes of a zone, or its first refusal (API Reference, ChangeResourceRecordSets).
+--
+-- It is tested by itself, its changes are applied in their order, and the zone is looked at once
+-- after the last of them (own). Of several sets of which one refusal holds the first in zone order
+-- is told.
+use Rattle.std.specs.Prelude.{◌≡◌, ℕ, zero, suc, Bool, true, false, not, ◌&&◌, ◌||◌, nat_lt}
+use Rattle.std.specs.Prelude.{◌⊎◌, List, [], ◌∷◌, length, map, Option, None, Some, is_some}
+use Rattle.std.specs.Prelude.{Result, Ok, Err}
+use Rattle.std.specs.List.{list_any, sum_by}
+use Rattle.std.specs.Str.{bytes_eq}
+use Rattle.batch_model.specs.Batches.{Prepares}
+use Rattle.batch_model.specs.declared.batches.Batch.{Batch}
+use Rattle.batch_model.specs.declared.refusals.BatchRefusal.{BatchRefusal}
+use Rattle.check_model.specs.Commands.{is_there}
+use Rattle.check_model.specs.declared.checks.Check.{Check}
+use Rattle.cidr_blocks.specs.Idents.{star}
+use Rattle.cidr_blocks.specs.Places.{names_of}
+use Rattle.cidr_blocks.specs.declared.places.Collection.{Collection}
+use Rattle.cidr_commands.specs.Stored.{collection_at}
+use Rattle.record_set.specs.Sets.{key_of}
+use Rattle.record_set.specs.declared.sets.Body.{Body}
+use Rattle.record_set.specs.declared.sets.Body.TheVariants as body
+use Rattle.record_set.specs.declared.sets.RecordSet.{RecordSet}
+use Rattle.routing.specs.declared.policies.Routing.{Routing}
+use Rattle.routing.specs.declared.policies.Routing.TheVariants as routing
+use Rattle.zone_model.specs.Hosted.{HostedZone}
+use Rattle.zone_model.specs.Zones.{target_group}
+use Rattle.config_model.specs.Configs.{Config, count_of, octets_of, with_sets, zone_with}
+use Rattle.config_model.specs.Telling.{first_of, of_batch, rule, unless}
+use Rattle.config_model.specs.declared.refusals.Made.{Made}
+use Rattle.config_model.specs.declared.refusals.Made.TheVariants as made
+use Rattle.config_model.specs.declared.refusals.Refusal.{Refusal}
+use Rattle.config_model.specs.declared.refusals.Refusal.TheVariants as refusal
+
+-- ---- what is looked at after the last change
+
+-- the first refusal of sets, in their order
+abbrev pub first_among : (RecordSet → Option Refusal) → List RecordSet → Option Refusal
+first_among refuses sets = first_of (map refuses sets)
+
+-- a set names a check that isn't there
+abbrev pub named_check : List (ℕ × Check) → Option ℕ → Option Refusal
+named_check checks None = None
+named_check checks (Some id) = rule (not (is_there checks id)) (refusal.NoSuchHealthCheck id)
+
+abbrev pub check_refusal : List (ℕ × Check) → RecordSet → Option Refusal
+check_refusal checks set = named_check checks set.check
+
+-- or a collection that isn't there
+abbrev pub named_collection : List (ℕ × Collection) → Routing → Option Refusal
+named_collection list (routing.Cidr ident id location) =
+    rule (not (is_some (collection_at id list))) (refusal.NoSuchCidrCollection id)
+named_collection list other = None
+
+abbrev pub collection_refusal : List (ℕ × Collection) → RecordSet → Option Refusal
+collection_refusal list set = named_collection list set.routing
+
+-- or a location other than `*` that has no block there
+abbrev pub is_location_in : Option Collection → (location : List ℕ) → Bool
+is_location_in None location = false
+is_location_in (Some collection) location =
+    list_any (bytes_eq location) (names_of collection.locations)
+
+abbrev pub named_location : List (ℕ × Collection) → Routing → Option Refusal
+named_location list (routing.Cidr ident id location) =
+    rule (not (bytes_eq location star || is_location_in (collection_at id list) location))
+    (refusal.NoSuchCidrLocation location)
+named_location list other = None
+
+abbrev pub location_refusal : List (ℕ × Collection) → RecordSet → Option Refusal
+location_refusal list set = named_location list set.routing
+
+-- an alias whose target group is empty
+abbrev pub is_alias : Body → Bool
+is_alias (body.Values ttl values) = false
+is_alias (body.Alias target evaluate) = true
+
+abbrev pub is_empty : List RecordSet → Bool
+is_empty [] = true
+is_empty (set ∷ sets) = false
+
+abbrev pub target_refusal : (zone : List RecordSet) → RecordSet → Option Refusal
+target_refusal zone set =
+    rule (is_alias set.body && is_empty (target_group zone set))
+    (refusal.AliasTargetMissing (key_of set))
+
+-- A walk of alias links starts at a set, which leads on so many times from an alias to a set of its
+-- target group that is an alias too, evaluated or not.
+abbrev pub leads_on : (times : ℕ) → (zone : List RecordSet) → RecordSet → Bool
+leads_on zero zone set = is_alias set.body
+leads_on (suc times) zone set = list_any (leads_on times zone) (target_group zone set)
+
+-- a walk of 17 links (own)
+unfoldable pub is_too_deep : (zone : List RecordSet) → RecordSet → Bool
+is_too_deep zone set = leads_on 16 zone set
+
+abbrev pub depth_refusal : (zone : List RecordSet) → RecordSet → Option Refusal
+depth_refusal zone set = rule (is_too_deep zone set) (refusal.AliasTooDeep (key_of set))
+
+-- more than 10,000 sets in a zone (Route 53 quotas)
+abbrev pub is_zone_full : List RecordSet → Bool
+is_zone_full zone = nat_lt 10000 (length zone)
+
+-- The first refusal of the sets of a zone, beside these checks and collections.
+abbrev pub sets_refusal : List (ℕ × Check) → List (ℕ × Collection) → List RecordSet
+    → Option Refusal
+sets_refusal checks collections zone = first_of (
+    first_among (check_refusal checks) zone
+    ∷ first_among (collection_refusal collections) zone
+    ∷ first_among (location_refusal collections) zone
+    ∷ first_among (target_refusal zone) zone
+    ∷ first_among (depth_refusal zone) zone
+    ∷ rule (is_zone_full zone) refusal.ZoneFull
+    ∷ [])
+
+-- more than 100,000 sets, or more than 67,108,864 octets of sets, in all zones (own)
+abbrev pub is_store_full : List HostedZone → Bool
+is_store_full zones =
+    nat_lt 100000 (sum_by count_of zones) || nat_lt 67108864 (sum_by octets_of zones)
+
+abbrev pub store_refusal : List HostedZone → Option Refusal
+store_refusal zones = rule (is_store_full zones) refusal.StoreFull
+
+-- ---- a batch
+
+-- the zones, where the one of a number has these sets, or the first refusal of that
+abbrev pub changed_zones : Config → (id : ℕ) → (after : List RecordSet)
+    → Result (Config × Made) Refusal
+changed_zones config id after = unless
+    (first_of (
+    sets_refusal config.checks.list config.collections.list after
+    ∷ store_refusal (with_sets config.zones id after)
+    ∷ []))
+    (record config { zones = with_sets config.zones id after }, made.Nothing)
+
+-- A batch on a zone: it is refused by itself or at one of its changes, or makes sets of it.
+abbrev pub ChangesZone : Config → HostedZone → Batch → Result (Config × Made) Refusal → Type 0
+ChangesZone config zone batch answer =
+    ((why : BatchRefusal) × Prepares zone.sets zone.apex batch.changes (Err why)
+    × (answer ≡ Err (of_batch why)))
+    ⊎ ((after : List RecordSet) × Prepares zone.sets zone.apex batch.changes (Ok after)
+    × (answer ≡ changed_zones config zone.id after))
+
+-- a batch on the zone of its number, if there is one
+abbrev pub ChangesIn : Config → Option HostedZone → Batch → Result (Config × Made) Refusal → Type 0
+ChangesIn config None batch answer = answer ≡ Err refusal.NoSuchHostedZone
+ChangesIn config (Some zone) batch answer = ChangesZone config zone batch answer
+
+abbrev pub AppliesBatch : Config → Batch → Result (Config × Made) Refusal → Type 0
+AppliesBatch config batch answer =
+    ChangesIn config (zone_with config.zones batch.zone) batch answer
