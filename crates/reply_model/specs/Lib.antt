@@ -1,0 +1,5 @@
+pub mod Errors
+pub mod Json
+pub mod Lists
+pub mod Outcomes
+pub mod Sets
