@@ -1,6 +1,10 @@
 -- The name that octets of a key begin with.
-use Rattle.std.proofs.Common.{◌≡◌, ◌++◌, ℕ, List, Result, Ok, Err, ap, ◌∙◌, append_assoc}
+use Rattle.std.proofs.Common.{◌≡◌, Less, Equal, Greater, ◌++◌, ℕ, List, Result, Ok, Err, ap, refl, ◌∙◌, append_assoc}
+use Rattle.std.specs.declared.cmp.Ordering.{Ordering}
+use Rattle.std.specs.Ordering.{ordering_reverse}
 use Rattle.octets.specs.Numbers.{two_octets}
+use Rattle.dns_name.specs.Order.{zone_cmp}
+use Rattle.dns_name.specs.OrderLaws.{zone_cmp_total}
 use Rattle.dns_name.specs.Labels.{wire}
 use Rattle.octet_reading.specs.Names.{name_at}
 use Rattle.octet_reading.specs.Rules.{BaseFieldsAreRead}
@@ -25,3 +29,12 @@ read_one read x y e f = let same : x ≡ y = cc in ap (λ (p : List (List ℕ) �
 
 pub never : (read : Read) (x : List (List ℕ) × List ℕ) (left : ℕ) → read ≡ Ok x → read ≡ Err left → ⊥
 never read x left e f = cc
+
+same_as_back : (o : Ordering) → o ≡ ordering_reverse o → o ≡ Equal
+same_as_back Less e = absurd cc
+same_as_back Equal e = refl
+same_as_back Greater e = absurd cc
+
+-- a name stands where it stands
+pub as_itself : (name : List (List ℕ)) → zone_cmp name name ≡ Equal
+as_itself name = same_as_back (zone_cmp name name) (zone_cmp_total.antisymm name name)

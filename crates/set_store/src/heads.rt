@@ -16,7 +16,7 @@ ghost use Rattle.set_search.specs.Bounds.{group_cmp, is_before};
 ghost use Rattle.set_search.specs.Stops.{bound_of};
 ghost use Rattle.set_store.specs.Heads.{IsHead, IsPartedBy};
 
-use dns_name::{Name, octets_cmp};
+use dns_name::{Name, octets_cmp, one_name_of_a_wire};
 use octet_reading::{base_fields_are_read, name_at};
 use rdata::RType;
 use record_set::Ident;
@@ -101,7 +101,19 @@ fn name_order(octets: &[u8], name: &Name) -> Ordering
     ensures { (labels : List (List ℕ)) → IsName labels → octets.now ≡ wire labels
         → result ≡ zone_cmp labels name.now }
 {
-    octets_cmp(octets, name.octets())
+    one_name_of_a_wire();
+    let others = name.octets();
+    if is_same(octets, others) {
+        return Ordering::Equal;
+    }
+    octets_cmp(octets, others)
+}
+
+/// Whether octets are the same.
+fn is_same(octets: &[u8], others: &[u8]) -> bool
+    ensures { IsTrue result ↔ (octets.now ≡ others.now) }
+{
+    octets == others
 }
 
 /// The order of two identifiers.

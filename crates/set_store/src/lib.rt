@@ -5,6 +5,7 @@
 #![tactic(auto)]
 
 mod growth;
+mod hashes;
 mod heads;
 mod reads;
 mod slots;
@@ -12,6 +13,7 @@ mod store;
 #[cfg(test)]
 mod tests;
 
+pub use hashes::hash_of;
 pub use octets::OutOfMemory;
 pub use set_scratch::Watch;
 pub use store::SetStore;

@@ -12,6 +12,7 @@ ghost use Rattle.set_store.specs.declared.slots.Slot.{Slot};
 ghost use Rattle.set_store.specs.Index.{HoldsAt};
 ghost use Rattle.set_store.specs.Stored.{IsKept, IsSpelling, IsTaken, Kept, Spells, zone_told};
 
+use crate::hashes::hash_of;
 use crate::heads::{head_is_before, head_is_below};
 use crate::slots::{NO_CELL, Slot};
 use crate::store::SetStore;
@@ -20,7 +21,7 @@ use octet_region::{Handle, Region};
 use octets::{OutOfMemory, front, zeros};
 use rdata::RType;
 use record_set::RecordSet;
-use set_parts::keys_are_in_front;
+use set_parts::{keys_are_in_front, name_and_rest};
 use set_reading::{ReadFault, read_set, written_reads_back};
 use set_scratch::{Scratch, Watch, is_alias_in, target_in, watch_in};
 use set_search::Stop;
@@ -77,6 +78,17 @@ impl SetStore {
             head_at(&self.region, &self.slots, slot, &mut [0; 387]),
             name,
         )
+    }
+
+    /// A hash of the name of a slot's set, of which no contract speaks.
+    pub fn name_hash(&self, slot: u32) -> u64
+        requires { IsTaken self.now.slots slot }
+    {
+        written_reads_back();
+        if size_at(&self.region, &self.slots, slot) <= SHORT {
+            return front_hash(head_at(&self.region, &self.slots, slot, &mut [0; 64]));
+        }
+        front_hash(head_at(&self.region, &self.slots, slot, &mut [0; 387]))
     }
 
     /// How many octets the set of a slot has.
@@ -136,6 +148,11 @@ impl SetStore {
         let octets = octets_at(alloc, &self.region, &self.slots, slot)?;
         set_of(alloc, &octets)
     }
+}
+
+/// A hash of the name with which octets begin.
+fn front_hash(octets: &[u8]) -> u64 {
+    hash_of(name_and_rest(octets).0)
 }
 
 /// A copy of the octets of a slot's set.

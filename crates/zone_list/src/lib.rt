@@ -6,10 +6,12 @@
 
 mod changing;
 mod finding;
+mod hints;
 mod refs;
 mod stored;
 
 pub use finding::{find_zone, first_from, longest, next_id};
+pub use hints::Hints;
 pub use octets::OutOfMemory;
 pub use refs::{SetRef, SetRefs};
 pub use stored::StoredZone;

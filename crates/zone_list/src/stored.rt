@@ -9,6 +9,7 @@ ghost use Rattle.zone_list.specs.Steps.{cells_in_all};
 ghost use Rattle.zone_order.specs.Orders.{IsOrder, OthersStay, placed_of};
 
 use crate::changing::{clear, come_all, leave_all, tell_all};
+use crate::hints::Hints;
 use crate::refs::SetRef;
 use dns_name::Name;
 use octets::OutOfMemory;
@@ -26,6 +27,8 @@ pub struct StoredZone {
     order: Vec<u32>,
     /// What is counted of its sets.
     sums: Sums,
+    /// Where its names may stand.
+    hints: Hints,
 }
 
 impl Model for StoredZone {
@@ -45,7 +48,7 @@ impl Model for StoredZone {
 
 impl StoredZone {
     /// A zone without sets.
-    pub fn new(id: u32, apex: Name, order: Vec<u32>) -> StoredZone
+    pub fn new(id: u32, apex: Name, order: Vec<u32>, hints: Hints) -> StoredZone
         requires { order.items ≡ [] }
         ensures id { result.id ≡ id }
         ensures apex { result.apex ≡ apex }
@@ -58,6 +61,7 @@ impl StoredZone {
             apex,
             order,
             sums: no_sums(),
+            hints,
         }
     }
 
@@ -89,6 +93,11 @@ impl StoredZone {
         self.sums
     }
 
+    /// A place at which the sets of a name may stand: a hint, which may be wrong.
+    pub fn hint(&self, name: &Name) -> Option<usize> {
+        self.hints.find(name.octets())
+    }
+
     /// Makes room for so many more sets. Room that was there stays, also where memory runs out.
     pub fn reserve(&mut self, more: usize) -> Result<(), OutOfMemory>
         ensures id { self.new.id ≡ self.old.id }
@@ -100,6 +109,7 @@ impl StoredZone {
         ensures ready { more ≤ self.old.room → IsOk result }
     {
         self.order.reserve(more)?;
+        self.hints.grow(self.order.len().saturating_add(more));
         Ok(())
     }
 
@@ -139,6 +149,7 @@ impl StoredZone {
         ensures sets { store.new.free + length self.new.order
             ≡ store.old.free + length self.old.order }
     {
+        let before = self.order.len();
         come_all(
             store,
             self.id,
@@ -148,6 +159,7 @@ impl StoredZone {
             added,
             &mut self.sums,
         );
+        let middle = self.order.len();
         leave_all(
             store,
             self.id,
@@ -158,6 +170,10 @@ impl StoredZone {
             removed,
             &mut self.sums,
         );
+        let came = middle.wrapping_sub(before);
+        let gone = middle.wrapping_sub(self.order.len());
+        self.hints
+            .refresh(store, self.id, &self.order, came.wrapping_add(gone));
     }
 
     /// The zone goes, with all its sets. Their references are told, in zone order.

@@ -10,7 +10,7 @@ use octets::{OutOfMemory, zeros};
 use record_set::{RecordSet, SetKey};
 use std::alloc::Global;
 use std::marker::Model;
-use zone_list::SetRef;
+use zone_list::{Hints, SetRef};
 
 /// Record sets, in any order.
 #[derive(Drop)]
@@ -126,6 +126,8 @@ pub struct Ready {
     pub(crate) added: Vec<SetRef>,
     /// Places for the sets of a zone that is opened.
     pub(crate) places: Vec<u32>,
+    /// Hints for a zone that is opened.
+    pub(crate) hints: Hints,
     /// Where the octets of a set are written.
     pub(crate) buffer: Vec<u8>,
 }
@@ -163,12 +165,15 @@ impl Ready {
         let added = Vec::with_capacity(alloc, need.addable)?;
         let places = Vec::with_capacity(alloc, need.places)?;
         let buffer = zeros(alloc, need.buffer)?;
+        let mut hints = Hints::new(Vec::new(alloc));
+        hints.grow(need.places);
         Ok(Ready {
             made,
             edits,
             removed,
             added,
             places,
+            hints,
             buffer,
         })
     }

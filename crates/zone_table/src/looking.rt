@@ -3,8 +3,8 @@
 ghost use Rattle.std.specs.Prelude.{◌≡◌, ◌<◌, ◌+◌, length, slice_get, Some, IfOk};
 ghost use Rattle.set_search.specs.Stops.{bound_of};
 ghost use Rattle.zone_changes.specs.Sums.{sums_of};
-ghost use Rattle.zone_list.specs.Kept.{AreKept, zones_in};
-ghost use Rattle.zone_list.specs.Zones.{placed_in};
+ghost use Rattle.zone_list.specs.Kept.{AreKept, named_of, zones_in};
+ghost use Rattle.zone_list.specs.Zones.{AreListed, placed_in};
 ghost use Rattle.zone_model.specs.Placed.{IsSlotAt, sets_of};
 ghost use Rattle.zone_order.specs.Orders.{IsOrder, placed_of};
 ghost use Rattle.zone_table.specs.Looking.{Loads, SlotAt, SlotBehind, Targets, Watches};
@@ -92,6 +92,16 @@ pub fn slot_behind(store: &SetStore, list: &[StoredZone], zone: u32, to: &Stop) 
         return Some(slot_in(store, list, zone, place, 0));
     }
     None
+}
+
+/// A place at which the sets of a name may stand in a zone: a hint, which may be wrong.
+pub fn hint_of(list: &[StoredZone], zone: u32, name: &Name) -> Option<usize>
+    requires { AreListed (named_of list.now) }
+{
+    match find_zone(list, zone) {
+        Some(place) => list[place].hint(name),
+        None => None,
+    }
 }
 
 /// How many octets the sets of a zone have, and how many of them are aliases.

@@ -42,12 +42,13 @@ pub fn make(
         removed,
         added,
         places,
+        hints,
         buffer,
         ..
     } = ready;
     match made {
         ZoneEdit::Open { zone, name, sets } => {
-            let opened = StoredZone::new(zone, name, places);
+            let opened = StoredZone::new(zone, name, places, hints);
             open(store, list, octets, opened, sets, removed, added, buffer)
         }
         ZoneEdit::Close(zone) => close(store, list, octets, zone, removed, added),

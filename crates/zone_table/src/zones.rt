@@ -18,7 +18,7 @@ ghost use Rattle.set_search.specs.Stops.{bound_of as told};
 
 use crate::edits::{Ready, ZoneEdit};
 use crate::looking::{
-    copies, load, order_of, slot_at, slot_behind, slot_in, sums_in, target, view, watch,
+    copies, hint_of, load, order_of, slot_at, slot_behind, slot_in, sums_in, target, view, watch,
 };
 use crate::making::make;
 use crate::needs::{need_of, reserve_for};
@@ -220,7 +220,8 @@ impl Zones {
     {
         match view(&self.store, &self.list, zone) {
             Some(sets) => {
-                let (start, length) = group_in(&sets, name, rtype, None);
+                let hint = hint_of(&self.list, zone, name);
+                let (start, length) = group_in(&sets, name, rtype, hint);
                 Group {
                     zone,
                     start,
@@ -274,7 +275,7 @@ impl Zones {
         ensures { IsTrue result ↔ Exists (sets_of (placed_in self.now.zones zone)) name.now }
     {
         match view(&self.store, &self.list, zone) {
-            Some(sets) => exists_in(&sets, name, None),
+            Some(sets) => exists_in(&sets, name, hint_of(&self.list, zone, name)),
             None => false,
         }
     }

@@ -1,0 +1,136 @@
+//! Where the sets of a name may stand, told by a hash of the name.
+//!
+//! A hint is tried and never trusted: no contract speaks of what the table holds, so nothing has to
+//! be mended where sets come and go. It is made anew once enough of them did.
+
+ghost use Rattle.zone_order.specs.Orders.{IsOrder};
+
+use set_store::{SetStore, hash_of};
+
+/// An entry that tells nothing.
+const NOTHING: u32 = 0xffff_ffff;
+
+/// How many entries in a row are tried.
+const TRIES: usize = 8;
+
+/// A zone of fewer sets has no table.
+const FEWEST: usize = 16;
+
+/// A flat table: an entry has eight bits of a hash and the place of the first set of that name.
+#[derive(Drop)]
+pub struct Hints {
+    entries: Vec<u32>,
+    /// How many sets came or went since the table was made.
+    moved: usize,
+}
+
+impl Hints {
+    /// A table without entries, for which this list is empty.
+    pub fn new(entries: Vec<u32>) -> Hints {
+        Hints { entries, moved: 0 }
+    }
+
+    /// The place that is told of a name's octets.
+    pub fn find(&self, name: &[u8]) -> Option<usize> {
+        if self.entries.len() == 0 {
+            return None;
+        }
+        let hash = hash_of(name);
+        let start = start_of(hash, self.entries.len());
+        for step in 0..TRIES {
+            match self.entries.get(start.wrapping_add(step)) {
+                None => return None,
+                Some(entry) => {
+                    if *entry == NOTHING {
+                        return None;
+                    }
+                    if *entry >> 24 == tag_of(hash) {
+                        return Some((*entry & 0xff_ffff) as usize);
+                    }
+                }
+            }
+        }
+        None
+    }
+
+    /// Makes the table larger where it is small for so many places. It stays as it is where there is
+    /// no memory.
+    pub fn grow(&mut self, places: usize) {
+        if places < FEWEST {
+            return;
+        }
+        let size = self.entries.len();
+        if places <= size - size / 8 {
+            return;
+        }
+        let more = places.saturating_add(places / 4) - size;
+        if self.entries.reserve_exact(more).is_err() {
+            return;
+        }
+        for _ in 0..more {
+            if self.entries.push(NOTHING).is_err() {
+                return;
+            }
+        }
+        self.moved = usize::MAX;
+    }
+
+    /// Tells that so many sets came or went, and makes the table anew where these are many.
+    pub fn refresh(&mut self, store: &SetStore, zone: u32, order: &[u32], moved: usize)
+        requires { IsOrder store.now.slots zone order.now }
+    {
+        self.moved = self.moved.saturating_add(moved);
+        if self.moved > order.len() / 16 + FEWEST {
+            clear(&mut self.entries);
+            fill(&mut self.entries, store, zone, order);
+            self.moved = 0;
+        }
+    }
+}
+
+/// Takes all entries away.
+fn clear(entries: &mut Vec<u32>) {
+    for entry in entries.iter_mut() {
+        *entry = NOTHING;
+    }
+}
+
+/// Puts an entry for each name of the sets in these slots.
+fn fill(entries: &mut Vec<u32>, store: &SetStore, zone: u32, order: &[u32])
+    requires { IsOrder store.now.slots zone order.now }
+{
+    let mut place: u32 = 0;
+    for slot in order {
+        put(entries, store.name_hash(*slot), place);
+        place = place.wrapping_add(1);
+    }
+}
+
+/// Puts a place into the first free entry, unless one tells of the same hash.
+fn put(entries: &mut Vec<u32>, hash: u64, place: u32) {
+    let start = start_of(hash, entries.len());
+    for step in 0..TRIES {
+        match entries.get_mut(start.wrapping_add(step)) {
+            None => return,
+            Some(entry) => {
+                if *entry == NOTHING {
+                    *entry = (tag_of(hash) << 24) | (place & 0xff_ffff);
+                    return;
+                }
+                if *entry >> 24 == tag_of(hash) {
+                    return;
+                }
+            }
+        }
+    }
+}
+
+/// The entry at which a hash is looked for first.
+fn start_of(hash: u64, size: usize) -> usize {
+    ((hash >> 32) as usize).wrapping_mul(size) >> 32
+}
+
+/// The bits of a hash that an entry has.
+fn tag_of(hash: u64) -> u32 {
+    ((hash >> 24) & 0xff) as u32
+}
