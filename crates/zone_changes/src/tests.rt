@@ -49,7 +49,7 @@ fn a_set_comes(rt: HostRuntime) -> Result<(), Fail> {
         &mut sums,
     );
     assert_eq!(rt; order.len(), 1, "it came");
-    assert_eq!(rt; sums.octets, 13, "its octets");
+    assert_eq!(rt; sums.octets, 12, "its octets");
     assert_eq!(rt; sums.aliases, 1, "an alias");
     Ok(())
 }
