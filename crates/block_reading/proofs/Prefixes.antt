@@ -1,8 +1,11 @@
 -- The readers of CIDR blocks, each by the rules for readers that are built from readers.
-use Rattle.std.proofs.Common.{◌≡◌, ℕ, zero, suc, ◌≤◌, ◌<◌, ◌^◌, Bool, true, false, List, [], ◌∷◌, ◌++◌, length}
-use Rattle.std.proofs.Common.{◌-◌, ◌%◌, take, drop, arith, ap, ◌∙◌, sym, refl, subst, ltb, Result, Ok, Err, cond}
+use Rattle.std.proofs.Common.{◌≡◌, ℕ, zero, suc, ◌≤◌, ◌<◌, ◌^◌, Bool, true, false, List, [], ◌∷◌}
+use Rattle.std.proofs.Common.{◌++◌, length}
+use Rattle.std.proofs.Common.{◌-◌, ◌%◌, take, drop, arith, ap, ◌∙◌, sym, refl, subst, ltb, Result}
+use Rattle.std.proofs.Common.{Ok, Err, cond}
 use Rattle.std.specs.Prelude.{slice_index}
-use Rattle.std.proofs.lemmas.Bool.{leb-true, le-leb, eqb-true, eq-eqb, le-ltb, ltb-false, and_from, and_parts}
+use Rattle.std.proofs.lemmas.Bool.{leb-true, le-leb, eqb-true, eq-eqb, le-ltb, ltb-false, and_from}
+use Rattle.std.proofs.lemmas.Bool.{and_parts}
 use Rattle.std.proofs.lemmas.List.{length-append, length-drop, length-take-le, take-append-drop}
 use Rattle.std.proofs.Math.Seq.{take-append_seam, drop-append_seam}
 use Rattle.address_text.specs.declared.address.IpAddress.{IpAddress}
@@ -19,7 +22,8 @@ use Rattle.ip_table.specs.Bits.{IsAddress, width_of, number_of}
 use Rattle.ip_table.specs.Prefixes.{IsPrefix, Prefix}
 use Rattle.cidr_blocks.specs.Places.{octets_of}
 use Rattle.block_octets.specs.Octets.{family_of, block_octets}
-use Rattle.block_reading.specs.Blocks.{octets_at, short_address_at, long_address_at, is_length, length_at}
+use Rattle.block_reading.specs.Blocks.{octets_at, short_address_at, long_address_at, is_length}
+use Rattle.block_reading.specs.Blocks.{length_at}
 use Rattle.block_reading.specs.Blocks.{prefix_of, short_at, long_at, block_lines, block_at}
 
 -- ---- so many octets
@@ -51,10 +55,12 @@ module _ (count : ℕ) where
       let long : count ≤ length (piece ++ rest) = omega (arith, h.0, length-append piece rest) in
       ap (λ short. cut short (piece ++ rest)) (le-ltb (length (piece ++ rest)) count long)
       ∙ ap (λ n. Ok (take n (piece ++ rest), drop n (piece ++ rest))) (sym h.0)
-      ∙ ap (λ (p : List ℕ). Ok (p, drop (length piece) (piece ++ rest))) (take-append_seam piece rest)
+      ∙ ap (λ (p : List ℕ). Ok (p, drop (length piece) (piece ++ rest)))
+      (take-append_seam piece rest)
       ∙ ap (λ (p : List ℕ). Ok (piece, p)) (drop-append_seam piece rest)
 
-  stands : (octets piece rest : List ℕ) → AreOctets octets → octets_at count octets ≡ Ok (piece, rest)
+  stands : (octets piece rest : List ℕ) → AreOctets octets
+      → octets_at count octets ≡ Ok (piece, rest)
       → (octets ≡ piece ++ rest) × IsPiece piece
   stands octets piece rest are e =
       let c = cut_ok (ltb (length octets) count) octets (piece, rest) e in
@@ -66,7 +72,8 @@ module _ (count : ℕ) where
         subst IsPiece front (length-take-le count octets long, taken octets are count),
       )
 
-  pub octets_read : IsReadAs (λ piece. (length piece ≡ count) × AreOctets piece) (λ piece. piece) (octets_at count)
+  pub octets_read : IsReadAs (λ piece. (length piece ≡ count) × AreOctets piece)
+      (λ piece. piece) (octets_at count)
   octets_read = record {
     again = again;
     stands = stands;

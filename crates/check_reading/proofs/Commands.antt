@@ -19,7 +19,8 @@ use Rattle.check_octets.specs.Octets.{disabled_octets, check_octets, field_octet
 use Rattle.check_octets.specs.Octets.{IsTold, IsListable, IsSpelledCheck}
 use Rattle.check_reading.specs.Laws.{IsOfKind, CheckCommandsAreRead}
 use Rattle.check_reading.specs.Reading.{endpoint, endpoint_at, calculated, calculated_at}
-use Rattle.check_reading.specs.Reading.{check_lines, check_at, create_at, updated, update_at, delete_at}
+use Rattle.check_reading.specs.Reading.{check_lines, check_at, create_at, updated, update_at}
+use Rattle.check_reading.specs.Reading.{delete_at}
 use Rattle.check_reading.proofs.Parts.{number_read, failures_read, threshold_read, children_read}
 use Rattle.check_reading.proofs.Parts.{inverting_read, thresholds_read, given_children_read}
 use Rattle.check_reading.proofs.Parts.{disabled_read, disabling_read}
@@ -41,7 +42,8 @@ check_fields version (Calculated threshold inverted disabled children) =
 abbrev IsCheckOf : (version kind : ℕ) → Check → Type 0
 IsCheckOf version kind check = IsSpelledCheck version check × (check_kind check ≡ kind)
 
-endpoint_read : (version : ℕ) → IsReadAs (IsCheckOf version 1) (check_fields version) (endpoint_at version)
+endpoint_read : (version : ℕ)
+    → IsReadAs (IsCheckOf version 1) (check_fields version) (endpoint_at version)
 unfolding endpoint_at
 endpoint_read version =
     seen_read endpoint

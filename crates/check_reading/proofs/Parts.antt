@@ -53,7 +53,8 @@ each_number : (numbers : List ℕ) → AllByRecursion (λ n. ⊤) numbers
 each_number [] = tt
 each_number (n ∷ numbers) = (tt, each_number numbers)
 
-pub children_read : IsReadAs (λ children. length children ≤ 255) (list_octets four_octets) children_at
+pub children_read : IsReadAs (λ children. length children ≤ 255) (list_octets four_octets)
+    children_at
 unfolding children_at
 children_read =
     alike (then_read (λ (children : List ℕ). length children) few_read (so_many_read number_read))
@@ -84,7 +85,8 @@ pub thresholds_read : IsReadAs IsThreshold (optional_octets two_octets) (optiona
 thresholds_read = alike (optional_read threshold_read)
     (λ threshold h. (threshold_is threshold h, refl)) threshold_from
 
-pub given_children_read : IsReadAs (WhereSome IsListable) (optional_octets (list_octets four_octets)) (optional_at (list_at four_at))
+pub given_children_read : IsReadAs (WhereSome IsListable)
+    (optional_octets (list_octets four_octets)) (optional_at (list_at four_at))
 given_children_read = optional_read any_children_read
 
 -- ---- what a version tells
@@ -92,7 +94,8 @@ given_children_read = optional_read any_children_read
 -- a field that stands there where it is told
 told_read : {A : Type 0} {is : A → Type 0} {octets_of : A → List ℕ} {read : Reader A}
     (told : Bool) (left : A) → IsReadAs is octets_of read → ((x : A) → is x)
-    → IsReadAs (λ x. told ≡ false → x ≡ left) (λ x. where_told told (octets_of x)) (told_at told left read)
+    → IsReadAs (λ x. told ≡ false → x ≡ left) (λ x. where_told told (octets_of x))
+    (told_at told left read)
 told_read true left inside each =
     alike inside (λ x h. (λ e. absurd (let k : true ≡ false = e in cc), refl)) (λ x h. each x)
 told_read false left inside each =
@@ -104,6 +107,8 @@ unfolding disabled_at
 disabled_read version = told_read (tells_disabled version) false flag_read (λ flag. tt)
 
 pub disabling_read : (version : ℕ)
-    → IsReadAs (IsTold version None) (λ disabled. where_told (tells_disabled version) (optional_octets flag_octets disabled)) (disabling_at version)
+    → IsReadAs (IsTold version None)
+    (λ disabled. where_told (tells_disabled version) (optional_octets flag_octets disabled))
+    (disabling_at version)
 unfolding disabling_at
 disabling_read version = told_read (tells_disabled version) None inverting_read (λ flag. tt)

@@ -1,3 +1,5 @@
+pub mod CheckVectors
+pub mod CollectionVectors
 pub mod Commands
 pub mod Fields
 pub mod Vectors
