@@ -1,0 +1,4 @@
+pub mod Joined
+pub mod Named
+pub mod Shown
+pub mod Written

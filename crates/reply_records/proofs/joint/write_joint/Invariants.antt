@@ -1,0 +1,14 @@
+use Rattle.std.proofs.Common.{[], take}
+use Rattle.answer_model.specs.Records.{joint_data, records}
+use Rattle.dns_wire.specs.declared.reply.Section.TheVariants.{Answer}
+use Rattle.reply_records.specs.Chosen.{sets_of_places}
+use Rattle.reply_records.specs.Writing.{IsOpen, Writes}
+use Rattle.reply_records.proofs.joint.write_joint.Given as goal
+
+abbrev pub invariant-loop-i : goal.invariant-loop-i
+invariant-loop-i l = record {
+  still_open : IsOpen Answer l.reply;
+  written : Writes Answer (records l.owner l.rtype l.ttl
+      (joint_data [] (sets_of_places l.zones.zones l.group (take l.i l.places))))
+      l.fn.reply l.reply;
+}

@@ -1,0 +1,132 @@
+//! The records with which chosen sets answer a name.
+
+ghost use Rattle.std.specs.Prelude.{◌≡◌, ◌<◌, ◌∷◌, [], length, Some};
+ghost use Rattle.answer_model.specs.Records.{answer_records};
+ghost use Rattle.dns_wire.specs.declared.reply.Section.TheVariants.{Answer};
+ghost use Rattle.policy_select.specs.Selecting.{AreOfGroup, HoldsFirst, selected_sets};
+ghost use Rattle.record_set.specs.declared.sets.RecordSet.{RecordSet};
+ghost use Rattle.set_scratch.specs.Holding.{IsHolding};
+ghost use Rattle.zone_table.specs.Looking.{IsGroupNow};
+ghost use Rattle.reply_records.specs.Chosen.{ArePlaces, HoldsValued, StartsOrNone, sets_of_places};
+ghost use Rattle.reply_records.specs.Writing.{IsOpen, Writes};
+
+use crate::held::{count_of, rtype_of, ttl_of, write_values};
+use crate::joint::{least_ttl, write_joint};
+use dns_name::Name;
+use dns_wire::{Reply, Section, records_add_up};
+use policy_select::{Selected, load_member, places_of};
+use rdata_layout::types_have_their_own_number;
+use zone_table::{Group, Scratch, Zones};
+
+/// Writes the records with which chosen sets answer a name. The first of the sets is held.
+pub fn write_chosen(
+    zones: &Zones,
+    selected: &Selected,
+    owner: &Name,
+    reply: &mut Reply,
+    scratch: &mut Scratch,
+)
+    requires places { AreOfGroup zones.now.zones selected.now }
+    requires held { HoldsFirst zones.now.zones selected.now scratch.old }
+    requires open { IsOpen Answer reply.old }
+    ensures { Writes Answer (answer_records owner.now
+        (selected_sets zones.now.zones selected.now)) reply.old reply.new }
+{
+    records_add_up();
+    let Selected::Sets(group, picked) = selected else {
+        return;
+    };
+    let places = places_of(picked);
+    if places.len() == 1 {
+        write_values(reply, Section::Answer, owner, ttl_of(scratch), scratch);
+        return;
+    }
+    write_several(zones, *group, places, owner, reply, scratch);
+}
+
+/// Writes the records of the sets at some places of a group.
+fn write_several(
+    zones: &Zones,
+    group: Group,
+    places: &[usize],
+    owner: &Name,
+    reply: &mut Reply,
+    scratch: &mut Scratch,
+)
+    requires group { IsGroupNow zones.now.zones group }
+    requires places { ArePlaces group places.now }
+    requires some { 0 < length places.now }
+    requires open { IsOpen Answer reply.old }
+    ensures { Writes Answer (answer_records owner.now
+        (sets_of_places zones.now.zones group places.now)) reply.old reply.new }
+{
+    types_have_their_own_number();
+    let ttl = least_ttl(zones, group, places, scratch);
+    load_member(zones, group, places[0], scratch);
+    let rtype = rtype_of(scratch);
+    write_joint(zones, group, places, rtype, owner, ttl, reply, scratch);
+}
+
+/// The TTL of the first record with which chosen sets answer, or none where they have no record.
+/// Then the set of that record is held, and its data are the first value's.
+pub fn first_record(zones: &Zones, selected: &Selected, scratch: &mut Scratch) -> Option<u32>
+    requires places { AreOfGroup zones.now.zones selected.now }
+    requires held { HoldsFirst zones.now.zones selected.now scratch.old }
+    ensures { StartsOrNone (selected_sets zones.now.zones selected.now) scratch.new result }
+{
+    let Selected::Sets(group, picked) = selected else {
+        return None;
+    };
+    let places = places_of(picked);
+    if places.len() == 1 {
+        return first_of_one(scratch);
+    }
+    first_of_several(zones, *group, places, scratch)
+}
+
+/// The same of the one set that is held.
+fn first_of_one(scratch: &Scratch) -> Option<u32>
+    requires { IsHolding scratch.now }
+    ensures { (set : RecordSet) → scratch.now ≡ Some set
+        → StartsOrNone (set ∷ []) scratch.now result }
+{
+    if count_of(scratch) == 0 {
+        return None;
+    }
+    Some(ttl_of(scratch))
+}
+
+/// The same of the sets at some places of a group.
+fn first_of_several(
+    zones: &Zones,
+    group: Group,
+    places: &[usize],
+    scratch: &mut Scratch,
+) -> Option<u32>
+    requires group { IsGroupNow zones.now.zones group }
+    requires places { ArePlaces group places.now }
+    requires some { 0 < length places.now }
+    ensures { StartsOrNone (sets_of_places zones.now.zones group places.now) scratch.new result }
+{
+    types_have_their_own_number();
+    let ttl = least_ttl(zones, group, places, scratch);
+    if hold_valued(zones, group, places, scratch) {
+        return Some(ttl);
+    }
+    None
+}
+
+/// Holds the first set at some places that has a value, and tells whether there is one.
+fn hold_valued(zones: &Zones, group: Group, places: &[usize], scratch: &mut Scratch) -> bool
+    requires group { IsGroupNow zones.now.zones group }
+    requires places { ArePlaces group places.now }
+    ensures { HoldsValued (sets_of_places zones.now.zones group places.now) scratch.new result }
+{
+    for place in places {
+        load_member(zones, group, *place, scratch);
+        if count_of(scratch) > 0 {
+            return true;
+        }
+    }
+    false
+}

@@ -1,0 +1,209 @@
+//! Records of several sets of a group: the least TTL, and each value of an earlier set left out.
+
+ghost use Rattle.std.specs.Prelude.{◌≡◌, ◌<◌, ◌≤◌, ◌∷◌, [], ℕ, List, length, slice_get, take, Some};
+ghost use Rattle.std.specs.Str.{bytes_eq};
+ghost use Rattle.answer_model.specs.Records.{data_of, is_among, joint_data, least_ttl, records};
+ghost use Rattle.dns_wire.specs.declared.reply.Section.TheVariants.{Answer};
+ghost use Rattle.policy_select.specs.Groups.{sets_in};
+ghost use Rattle.rdata_layout.specs.Layout.{IsLayout};
+ghost use Rattle.record_set.specs.declared.sets.RecordSet.{RecordSet};
+ghost use Rattle.set_scratch.specs.Holding.{HasValue, IsHolding};
+ghost use Rattle.zone_table.specs.Looking.{IsGroupNow};
+ghost use Rattle.reply_records.specs.Chosen.{ArePlaces, all_data, new_data, sets_of_places};
+ghost use Rattle.reply_records.specs.Writing.{IsOpen, Writes};
+
+use crate::held::{count_of, rdata_at, ttl_of, write_one};
+use dns_name::Name;
+use dns_wire::{Reply, Section, records_add_up};
+use octets::{fill_front, front};
+use policy_select::load_member;
+use rdata::RType;
+use zone_table::{Group, Scratch, Zones};
+
+/// The most octets of a value (own).
+const MOST_OCTETS: usize = 4000;
+
+/// The least TTL of the sets at some places of a group.
+pub(crate) fn least_ttl(zones: &Zones, group: Group, places: &[usize], scratch: &mut Scratch) -> u32
+    requires group { IsGroupNow zones.now.zones group }
+    requires places { ArePlaces group places.now }
+    requires some { 0 < length places.now }
+    ensures { (set : RecordSet) (others : List RecordSet)
+        → sets_of_places zones.now.zones group places.now ≡ set ∷ others
+        → result ≡ least_ttl set others }
+{
+    load_member(zones, group, places[0], scratch);
+    let mut least = ttl_of(scratch);
+    for place in places {
+        load_member(zones, group, *place, scratch);
+        least = least.min(ttl_of(scratch));
+    }
+    least
+}
+
+/// Writes the records of the sets at some places of a group, which have this type.
+pub(crate) fn write_joint(
+    zones: &Zones,
+    group: Group,
+    places: &[usize],
+    rtype: RType,
+    owner: &Name,
+    ttl: u32,
+    reply: &mut Reply,
+    scratch: &mut Scratch,
+)
+    requires group { IsGroupNow zones.now.zones group }
+    requires places { ArePlaces group places.now }
+    requires rtype { (i : ℕ) (set : RecordSet)
+        → slice_get (sets_in zones.now.zones group) i ≡ Some set → set.rtype ≡ rtype }
+    requires open { IsOpen Answer reply.old }
+    ensures { Writes Answer (records owner.now rtype ttl
+        (joint_data [] (sets_of_places zones.now.zones group places.now))) reply.old reply.new }
+{
+    records_add_up();
+    for i in 0..places.len() {
+        let earlier = places_before(places, i);
+        write_new(
+            zones, group, earlier, places[i], rtype, owner, ttl, reply, scratch,
+        );
+    }
+}
+
+/// The first places.
+fn places_before(places: &[usize], i: usize) -> &[usize]
+    requires { i ≤ length places.now }
+    ensures { result.now ≡ take i places.now }
+{
+    &places[..i]
+}
+
+/// Writes the values of the set at a place that no earlier set has.
+fn write_new(
+    zones: &Zones,
+    group: Group,
+    earlier: &[usize],
+    place: usize,
+    rtype: RType,
+    owner: &Name,
+    ttl: u32,
+    reply: &mut Reply,
+    scratch: &mut Scratch,
+)
+    requires group { IsGroupNow zones.now.zones group }
+    requires earlier { ArePlaces group earlier.now }
+    requires place { place < group.length }
+    requires rtype { (i : ℕ) (set : RecordSet)
+        → slice_get (sets_in zones.now.zones group) i ≡ Some set → set.rtype ≡ rtype }
+    requires open { IsOpen Answer reply.old }
+    ensures there { (set : RecordSet) × (slice_get (sets_in zones.now.zones group) place ≡ Some set) }
+    ensures written { (set : RecordSet)
+        → slice_get (sets_in zones.now.zones group) place ≡ Some set
+        → Writes Answer (records owner.now rtype ttl
+        (new_data (sets_of_places zones.now.zones group earlier.now) (data_of set.body)))
+        reply.old reply.new }
+{
+    records_add_up();
+    load_member(zones, group, place, scratch);
+    for i in 0..count_of(scratch) {
+        write_if_new(
+            zones, group, earlier, place, i, rtype, owner, ttl, reply, scratch,
+        );
+    }
+}
+
+/// Writes a value of the set at a place, which is held, where no earlier set has it.
+fn write_if_new(
+    zones: &Zones,
+    group: Group,
+    earlier: &[usize],
+    place: usize,
+    i: usize,
+    rtype: RType,
+    owner: &Name,
+    ttl: u32,
+    reply: &mut Reply,
+    scratch: &mut Scratch,
+)
+    requires group { IsGroupNow zones.now.zones group }
+    requires earlier { ArePlaces group earlier.now }
+    requires place { place < group.length }
+    requires held { scratch.old ≡ slice_get (sets_in zones.now.zones group) place }
+    requires value { HasValue scratch.old i }
+    requires rtype { (set : RecordSet) → scratch.old ≡ Some set → set.rtype ≡ rtype }
+    requires open { IsOpen Answer reply.old }
+    ensures held { scratch.new ≡ scratch.old }
+    ensures written { (set : RecordSet) (rdata : List ℕ) → scratch.old ≡ Some set
+        → slice_get (data_of set.body) i ≡ Some rdata
+        → Writes Answer (records owner.now rtype ttl
+        (new_data (sets_of_places zones.now.zones group earlier.now) (rdata ∷ [])))
+        reply.old reply.new }
+{
+    records_add_up();
+    let mut octets = [0; MOST_OCTETS];
+    let length = copy_rdata(scratch, rtype, i, &mut octets);
+    let rdata = front(&octets, length);
+    let is_old = is_in_sets(zones, group, earlier, rdata, scratch);
+    load_member(zones, group, place, scratch);
+    if is_old {
+        return;
+    }
+    write_one(reply, Section::Answer, owner, rtype, ttl, rdata);
+}
+
+/// Copies the data of a value to the front, and says how many octets they have.
+fn copy_rdata(scratch: &Scratch, rtype: RType, i: usize, into: &mut [u8]) -> usize
+    requires value { HasValue scratch.now i }
+    requires rtype { (set : RecordSet) → scratch.now ≡ Some set → set.rtype ≡ rtype }
+    requires room { 4000 ≤ length into.old }
+    ensures copied { (set : RecordSet) → scratch.now ≡ Some set
+        → slice_get (data_of set.body) i ≡ Some (take result into.new) }
+    ensures layout { IsLayout rtype (take result into.new) }
+    ensures within { result ≤ length into.new }
+{
+    let rdata = rdata_at(scratch, rtype, i);
+    fill_front(into, rdata);
+    rdata.len()
+}
+
+/// Whether one of the sets at some places has a value.
+fn is_in_sets(
+    zones: &Zones,
+    group: Group,
+    places: &[usize],
+    rdata: &[u8],
+    scratch: &mut Scratch,
+) -> bool
+    requires group { IsGroupNow zones.now.zones group }
+    requires places { ArePlaces group places.now }
+    ensures { result
+        ≡ is_among (all_data (sets_of_places zones.now.zones group places.now)) rdata.now }
+{
+    for place in places {
+        load_member(zones, group, *place, scratch);
+        if has_value(scratch, rdata) {
+            return true;
+        }
+    }
+    false
+}
+
+/// Whether the set that is held has a value.
+fn has_value(scratch: &Scratch, rdata: &[u8]) -> bool
+    requires { IsHolding scratch.now }
+    ensures { (set : RecordSet) → scratch.now ≡ Some set
+        → result ≡ is_among (data_of set.body) rdata.now }
+{
+    for i in 0..count_of(scratch) {
+        if is_same(rdata, scratch.value(i)) {
+            return true;
+        }
+    }
+    false
+}
+
+/// Whether octets are the same.
+fn is_same(octets: &[u8], others: &[u8]) -> bool
+    ensures { result ≡ bytes_eq octets.now others.now }
+{
+    octets == others
+}
