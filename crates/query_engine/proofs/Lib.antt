@@ -1,0 +1,5 @@
+pub mod Added
+pub mod Finishing
+pub mod Following
+pub mod Stepping
+pub mod Typed

@@ -1,0 +1,44 @@
+//! What is asked, how far its choices have come, and how its answer ends.
+
+use address_text::IpAddress;
+use answer_model::Used;
+use dns_name::Name;
+
+/// What a query asks of a zone, and what its choices are made by.
+#[derive(Clone, Copy)]
+pub(crate) struct Asked {
+    /// The number of the zone that holds the name.
+    pub zone: u32,
+    /// The name of its apex.
+    pub apex: Name,
+    /// QTYPE.
+    pub qtype: u16,
+    /// The client's address.
+    pub client: IpAddress,
+    /// The words that are drawn for the query.
+    pub words: [u64; 8],
+}
+
+/// How many choices a query has made, and what they used.
+#[derive(Clone, Copy)]
+pub(crate) struct Progress {
+    pub count: u8,
+    pub used: Used,
+}
+
+/// How the answer ends.
+#[derive(Clone, Copy)]
+pub(crate) struct End {
+    /// AA: the answer is authoritative.
+    pub aa: bool,
+    /// RCODE.
+    pub rcode: u16,
+}
+
+/// What a name comes to: the end of the answer, or a CNAME record of this TTL, whose set is held,
+/// and whose target is looked up next.
+#[derive(Clone, Copy)]
+pub(crate) enum Next {
+    Ends(End),
+    Follows(u32, Name),
+}

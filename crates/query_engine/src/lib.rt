@@ -1,0 +1,12 @@
+//! The reply to a packet, from the zones, a view of health, and tables of places and latencies.
+//!
+//! Every reply is made in room that is taken before: no call takes memory, for any packet.
+#![tactic(auto)]
+
+mod asking;
+mod client;
+mod ends;
+mod replies;
+mod steps;
+
+pub use replies::answer;

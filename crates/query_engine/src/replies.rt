@@ -1,0 +1,193 @@
+//! The reply to a packet.
+
+ghost use Rattle.std.specs.Prelude.{◌≡◌, ◌<◌, ◌≤◌, ℕ, Bool, None, IfSome, length};
+ghost use Rattle.answer_model.specs.Reply.{Answers, is_refused, query_reply};
+ghost use Rattle.answer_model.specs.Sections.{sections};
+ghost use Rattle.dns_message.specs.Whole.{IsWhole};
+ghost use Rattle.dns_wire.specs.Draft.{reply_to};
+ghost use Rattle.dns_wire.specs.Header.{FitsRcode};
+ghost use Rattle.dns_wire.specs.Limit.{limit_of as most_of};
+ghost use Rattle.dns_wire.specs.Message.{wire};
+ghost use Rattle.policy_select.specs.Groups.{Agrees};
+ghost use Rattle.record_set.specs.declared.sets.SetKey.{SetKey};
+ghost use Rattle.zone_lookup.specs.Served.{AreServed, IsFound};
+ghost use Rattle.query_engine.specs.Asking.{answer_of, asker_of, served_by, zone_reply_of};
+
+use crate::asking::{Asked, Progress};
+use crate::client::{client_address, told_scope};
+use crate::steps::look_up;
+use address_text::IpAddress;
+use answer_model::{Used, zones_are_longest};
+use dns_message::{Query, QueryRead, read_query};
+use dns_name::Name;
+use dns_wire::{Reply, limit_of};
+use geo_latency::Tables;
+use policy_select::{HealthView, views_agree};
+use zone_lookup::find_zone;
+use zone_table::{Scratch, Zones};
+
+/// REFUSED (RFC 1035, 4.1.1).
+const REFUSED: u16 = 5;
+
+/// BADVERS (RFC 6891, 9).
+const BADVERS: u16 = 16;
+
+/// The most CNAME records of an answer (own).
+const MOST_CNAMES: u8 = 8;
+
+/// Makes the reply to a packet that came from `peer`, and says how many octets it has. Packets that
+/// aren't heard have none.
+pub fn answer<V: HealthView>(
+    zones: &Zones,
+    view: &V,
+    tables: &Tables,
+    packet: &[u8],
+    peer: IpAddress,
+    words: &[u64; 8],
+    scratch: &mut Scratch,
+    reply: &mut Reply,
+) -> Option<usize>
+    requires served { AreServed zones.now.zones }
+    requires room { 4096 ≤ reply.old.room }
+
+    // The reply is the one of the definitions, by each test of sets with which the view agrees.
+    ensures answers { (healthy : ℕ → SetKey → Bool)
+        → Agrees zones.now.zones (V.test view.now) healthy
+        → Answers (served_by zones.now.zones zones.now.collections.list healthy tables.now)
+        (asker_of peer words.now) packet.now (answer_of result reply.new) }
+    ensures length { IfSome result (λ n. n ≡ length reply.new.bytes) }
+
+    // The room stays, and where nothing is answered all of it.
+    ensures room { reply.new.room ≡ reply.old.room }
+    ensures silent { result ≡ None → reply.new ≡ reply.old }
+{
+    match read_query(packet) {
+        QueryRead::Silent => None,
+        QueryRead::Bad {
+            id,
+            opcode,
+            rd,
+            rcode,
+        } => Some(reply.short(id, opcode, rd, rcode)),
+        QueryRead::BadVersion(query) => Some(refuse(&query, BADVERS, reply)),
+        QueryRead::Query(query) => {
+            let length = answer_query(zones, view, tables, &query, peer, words, scratch, reply);
+            Some(length)
+        }
+    }
+}
+
+/// The reply to a query without a record, with this RCODE.
+fn refuse(query: &Query, rcode: u16, reply: &mut Reply) -> usize
+    requires whole { IsWhole query.now }
+    requires rcode { FitsRcode rcode query.now.edns }
+    requires room { 4096 ≤ reply.old.room }
+    ensures bytes { reply.new.bytes
+        ≡ wire (record (reply_to query.now) { rcode = rcode }) (most_of query.now.edns) }
+    ensures length { result ≡ length reply.new.bytes }
+    ensures room { reply.new.room ≡ reply.old.room }
+{
+    reply.begin(query);
+    reply.finish(false, rcode, limit_of(&query.edns), 0)
+}
+
+/// Whether a query asks for another class than IN, or for a type that isn't answered.
+fn is_refused(query: &Query) -> bool
+    ensures { result ≡ is_refused query.now }
+{
+    query.qclass != 1 || matches!(query.qtype, 251 | 252 | 255)
+}
+
+/// The reply to a query.
+fn answer_query<V: HealthView>(
+    zones: &Zones,
+    view: &V,
+    tables: &Tables,
+    query: &Query,
+    peer: IpAddress,
+    words: &[u64; 8],
+    scratch: &mut Scratch,
+    reply: &mut Reply,
+) -> usize
+    requires served { AreServed zones.now.zones }
+    requires whole { IsWhole query.now }
+    requires room { 4096 ≤ reply.old.room }
+    ensures bytes { (healthy : ℕ → SetKey → Bool)
+        → Agrees zones.now.zones (V.test view.now) healthy
+        → reply.new.bytes ≡ wire (query_reply
+        (served_by zones.now.zones zones.now.collections.list healthy tables.now)
+        (asker_of peer words.now) query.now) (most_of query.now.edns) }
+    ensures length { result ≡ length reply.new.bytes }
+    ensures room { reply.new.room ≡ reply.old.room }
+{
+    if is_refused(query) {
+        return refuse(query, REFUSED, reply);
+    }
+    match find_zone(zones, &query.name) {
+        None => refuse(query, REFUSED, reply),
+        Some(found) => answer_in_zone(
+            zones, found.0, &found.1, view, tables, query, peer, words, scratch, reply,
+        ),
+    }
+}
+
+/// The reply from the zone that holds the name.
+fn answer_in_zone<V: HealthView>(
+    zones: &Zones,
+    zone: u32,
+    apex: &Name,
+    view: &V,
+    tables: &Tables,
+    query: &Query,
+    peer: IpAddress,
+    words: &[u64; 8],
+    scratch: &mut Scratch,
+    reply: &mut Reply,
+) -> usize
+    requires served { AreServed zones.now.zones }
+    requires zone { IsFound zones.now.zones query.now.name zone apex.now }
+    requires whole { IsWhole query.now }
+    requires room { 4096 ≤ reply.old.room }
+    ensures bytes { (healthy : ℕ → SetKey → Bool)
+        → Agrees zones.now.zones (V.test view.now) healthy
+        → reply.new.bytes ≡ wire (zone_reply_of
+        (served_by zones.now.zones zones.now.collections.list healthy tables.now)
+        (asker_of peer words.now) query.now zones.now.zones zone apex.now)
+        (most_of query.now.edns) }
+    ensures length { result ≡ length reply.new.bytes }
+    ensures room { reply.new.room ≡ reply.old.room }
+{
+    zones_are_longest();
+    views_agree();
+    zones.well_formed();
+    reply.begin(query);
+    let client = client_address(&query.edns, peer);
+    let asked = Asked {
+        zone,
+        apex: *apex,
+        qtype: query.qtype,
+        client,
+        words: *words,
+    };
+    let mut progress = Progress {
+        count: 0,
+        used: Used {
+            places: false,
+            latencies: false,
+            blocks: 0,
+        },
+    };
+    let end = look_up(
+        MOST_CNAMES,
+        zones,
+        view,
+        tables,
+        &asked,
+        &query.name,
+        &mut progress,
+        reply,
+        scratch,
+    );
+    let scope = told_scope(zones, tables, &query.edns, client, &progress.used);
+    reply.finish(end.aa, end.rcode, limit_of(&query.edns), scope)
+}

@@ -1,0 +1,390 @@
+//! From a name to what it comes to, and along CNAME records.
+
+ghost use Rattle.std.specs.Prelude.{◌≡◌, ◌≢◌, ◌<◌, ◌≤◌, ◌+◌, ◌*◌, ◌∷◌, [], ℕ, Bool, List, Some};
+ghost use Rattle.std.specs.Prelude.{slice_get};
+ghost use Rattle.answer_model.specs.Descent.{descend as descended};
+ghost use Rattle.answer_model.specs.Names.{source};
+ghost use Rattle.answer_model.specs.Records.{answer_records, data_of};
+ghost use Rattle.answer_model.specs.Sections.{asked as answered, asked_group, canonical, ends};
+ghost use Rattle.answer_model.specs.Sections.{look_up as found, step as step_at};
+ghost use Rattle.answer_model.specs.Sections.{step_from, step_of};
+ghost use Rattle.answer_model.specs.declared.used.Used.{Used};
+ghost use Rattle.dns_name.specs.Suffix.{EndsWith};
+ghost use Rattle.dns_wire.specs.declared.reply.Section.TheVariants.{Answer};
+ghost use Rattle.policy_select.specs.Groups.{Agrees, FewInGroups, sets_in, sets_in_zone};
+ghost use Rattle.policy_select.specs.Selecting.{AreOfGroup, HoldsFirst, selected_sets};
+ghost use Rattle.rdata_layout.specs.declared.types.RType.TheVariants as rtype;
+ghost use Rattle.record_set.specs.declared.sets.RecordSet.{RecordSet};
+ghost use Rattle.record_set.specs.declared.sets.SetKey.{SetKey};
+ghost use Rattle.reply_records.specs.Writing.{IsOpen, Writes};
+ghost use Rattle.zone_list.specs.Zones.{placed_in};
+ghost use Rattle.zone_lookup.specs.Served.{AreServed};
+ghost use Rattle.zone_model.specs.Zones.{IsAmong, group};
+ghost use Rattle.zone_table.specs.Looking.{IsApex, IsGroupNow};
+ghost use Rattle.query_engine.specs.Asking.{Comes, EndsWell, HoldsCname, HoldsNext, IsEnd};
+ghost use Rattle.query_engine.specs.Asking.{Leaves, asked_of, choices_of};
+
+use crate::asking::{Asked, End, Next, Progress};
+use crate::ends::{answer_nodata, answer_nxdomain, answer_referral};
+use answer_model::{cuts_are_nearest, names_exist};
+use dns_name::Name;
+use dns_wire::{Reply, Section, records_add_up};
+use geo_latency::Tables;
+use policy_select::{HealthView, Selected, descend, find_group, views_agree};
+use rdata::RType;
+use rdata_layout::types_have_their_own_number;
+use reply_records::{first_record, name_in, write_chosen, write_one};
+use zone_lookup::{asked_group, cut_above, is_held_by, known_few, source_of};
+use zone_table::{Group, Scratch, Zones};
+
+/// The records of a group of the asked type answer a name. Where nothing is chosen it is no data.
+fn answer_group<V: HealthView>(
+    zones: &Zones,
+    view: &V,
+    tables: &Tables,
+    asked: &Asked,
+    name: &Name,
+    group: Group,
+    progress: &mut Progress,
+    reply: &mut Reply,
+    scratch: &mut Scratch,
+) -> End
+    requires group { IsGroupNow zones.now.zones group }
+    requires zone { group.zone ≡ asked.now.zone }
+    requires few { FewInGroups (sets_in_zone zones.now.zones group.zone) }
+    requires room { progress.old.count ≤ 238 }
+    requires open { IsOpen Answer reply.old }
+    ensures ends { (healthy : ℕ → SetKey → Bool)
+        → Agrees zones.now.zones (V.test view.now) healthy
+        → IsEnd (answered (asked_of zones.now.zones zones.now.collections.list healthy tables.now
+        asked.now) name.now
+        (descended (asked_of zones.now.zones zones.now.collections.list healthy tables.now
+        asked.now).means (sets_in_zone zones.now.zones asked.now.zone)
+        (sets_in zones.now.zones group) (choices_of progress.old)))
+        reply.old reply.new result progress.new.used }
+    ensures rcode { result.rcode < 16 }
+    ensures most { progress.new.count ≤ progress.old.count + 17 }
+{
+    records_add_up();
+    let selected = descend(
+        zones,
+        group,
+        view,
+        tables,
+        asked.client,
+        &asked.words,
+        &mut progress.count,
+        &mut progress.used,
+        scratch,
+    );
+    match selected {
+        Selected::Nothing => answer_nodata(zones, asked, reply, scratch),
+        Selected::Sets(_, _) => answer_chosen(zones, &selected, name, reply, scratch),
+    }
+}
+
+/// The records of chosen sets answer a name. The first of them is held.
+fn answer_chosen(
+    zones: &Zones,
+    selected: &Selected,
+    name: &Name,
+    reply: &mut Reply,
+    scratch: &mut Scratch,
+) -> End
+    requires places { AreOfGroup zones.now.zones selected.now }
+    requires held { HoldsFirst zones.now.zones selected.now scratch.old }
+    requires open { IsOpen Answer reply.old }
+    ensures ends { (used : Used) → Leaves (record (ends used) {
+      answers = answer_records name.now (selected_sets zones.now.zones selected.now);
+    }) reply.old reply.new result used }
+    ensures rcode { result.rcode < 16 }
+{
+    write_chosen(zones, selected, name, reply, scratch);
+    End { aa: true, rcode: 0 }
+}
+
+/// What a name comes to by the CNAME sets that are taken for it: the first record, where they have
+/// one, is followed. Else it is no data.
+fn step_cname<V: HealthView>(
+    zones: &Zones,
+    view: &V,
+    tables: &Tables,
+    asked: &Asked,
+    name: &Name,
+    group: Group,
+    progress: &mut Progress,
+    reply: &mut Reply,
+    scratch: &mut Scratch,
+) -> Next
+    requires group { IsGroupNow zones.now.zones group }
+    requires zone { group.zone ≡ asked.now.zone }
+    requires typed { (set : RecordSet) → IsAmong (sets_in zones.now.zones group) set
+        → set.rtype ≡ rtype.Cname }
+    requires few { FewInGroups (sets_in_zone zones.now.zones asked.now.zone) }
+    requires room { progress.old.count ≤ 238 }
+    requires open { IsOpen Answer reply.old }
+    ensures comes { (healthy : ℕ → SetKey → Bool)
+        → Agrees zones.now.zones (V.test view.now) healthy
+        → Comes (canonical (asked_of zones.now.zones zones.now.collections.list healthy tables.now
+        asked.now) name.now
+        (descended (asked_of zones.now.zones zones.now.collections.list healthy tables.now
+        asked.now).means (sets_in_zone zones.now.zones asked.now.zone)
+        (sets_in zones.now.zones group) (choices_of progress.old))) name.now
+        reply.old reply.new scratch.new progress.new result }
+    ensures held { HoldsNext scratch.new result }
+    ensures rcode { EndsWell result }
+    ensures most { progress.new.count ≤ progress.old.count + 17 }
+{
+    records_add_up();
+    views_agree();
+    zones.well_formed();
+    types_have_their_own_number();
+    let selected = descend(
+        zones,
+        group,
+        view,
+        tables,
+        asked.client,
+        &asked.words,
+        &mut progress.count,
+        &mut progress.used,
+        scratch,
+    );
+    match first_record(zones, &selected, scratch) {
+        None => Next::Ends(answer_nodata(zones, asked, reply, scratch)),
+        Some(ttl) => Next::Follows(ttl, name_in(scratch.value(0))),
+    }
+}
+
+/// What a name comes to by the sets of the name that are taken for it: those of the asked type, or
+/// where there are none of these its CNAME sets.
+fn step_from<V: HealthView>(
+    zones: &Zones,
+    view: &V,
+    tables: &Tables,
+    asked: &Asked,
+    name: &Name,
+    from: &Name,
+    progress: &mut Progress,
+    reply: &mut Reply,
+    scratch: &mut Scratch,
+) -> Next
+    requires few { FewInGroups (sets_in_zone zones.now.zones asked.now.zone) }
+    requires room { progress.old.count ≤ 238 }
+    requires open { IsOpen Answer reply.old }
+    ensures comes { (healthy : ℕ → SetKey → Bool)
+        → Agrees zones.now.zones (V.test view.now) healthy
+        → Comes (step_of (asked_of zones.now.zones zones.now.collections.list healthy tables.now
+        asked.now) name.now
+        (asked_group (sets_in_zone zones.now.zones asked.now.zone) from.now asked.now.qtype)
+        (group (sets_in_zone zones.now.zones asked.now.zone) from.now rtype.Cname)
+        (choices_of progress.old)) name.now
+        reply.old reply.new scratch.new progress.new result }
+    ensures held { HoldsNext scratch.new result }
+    ensures rcode { EndsWell result }
+    ensures most { progress.new.count ≤ progress.old.count + 17 }
+{
+    types_have_their_own_number();
+    match asked_group(zones, asked.zone, from, asked.qtype) {
+        Some(group) => {
+            let end = answer_group(
+                zones, view, tables, asked, name, group, progress, reply, scratch,
+            );
+            Next::Ends(end)
+        }
+        None => {
+            let cnames = find_group(zones, asked.zone, from, RType::Cname);
+            step_cname(
+                zones, view, tables, asked, name, cnames, progress, reply, scratch,
+            )
+        }
+    }
+}
+
+/// What a name comes to by its source.
+fn step_by_source<V: HealthView>(
+    zones: &Zones,
+    view: &V,
+    tables: &Tables,
+    asked: &Asked,
+    name: &Name,
+    progress: &mut Progress,
+    reply: &mut Reply,
+    scratch: &mut Scratch,
+) -> Next
+    requires there { IsApex zones.now.zones asked.now.zone asked.now.apex }
+    requires inside { EndsWith name.now asked.now.apex }
+    requires some { placed_in zones.now.zones asked.now.zone ≢ [] }
+    requires few { FewInGroups (sets_in_zone zones.now.zones asked.now.zone) }
+    requires room { progress.old.count ≤ 238 }
+    requires open { IsOpen Answer reply.old }
+    ensures comes { (healthy : ℕ → SetKey → Bool)
+        → Agrees zones.now.zones (V.test view.now) healthy
+        → Comes (step_from (asked_of zones.now.zones zones.now.collections.list healthy tables.now
+        asked.now) name.now
+        (source (sets_in_zone zones.now.zones asked.now.zone) name.now)
+        (choices_of progress.old)) name.now
+        reply.old reply.new scratch.new progress.new result }
+    ensures held { HoldsNext scratch.new result }
+    ensures rcode { EndsWell result }
+    ensures most { progress.new.count ≤ progress.old.count + 17 }
+{
+    match source_of(zones, asked.zone, &asked.apex, name) {
+        None => Next::Ends(answer_nxdomain(zones, asked, reply, scratch)),
+        Some(from) => step_from(
+            zones, view, tables, asked, name, &from, progress, reply, scratch,
+        ),
+    }
+}
+
+/// What a name comes to that has no zone cut above it. Its sets of the asked type are looked for
+/// first: where there are some the name exists.
+fn step_in_zone<V: HealthView>(
+    zones: &Zones,
+    view: &V,
+    tables: &Tables,
+    asked: &Asked,
+    name: &Name,
+    progress: &mut Progress,
+    reply: &mut Reply,
+    scratch: &mut Scratch,
+) -> Next
+    requires there { IsApex zones.now.zones asked.now.zone asked.now.apex }
+    requires inside { EndsWith name.now asked.now.apex }
+    requires some { placed_in zones.now.zones asked.now.zone ≢ [] }
+    requires few { FewInGroups (sets_in_zone zones.now.zones asked.now.zone) }
+    requires room { progress.old.count ≤ 238 }
+    requires open { IsOpen Answer reply.old }
+    ensures comes { (healthy : ℕ → SetKey → Bool)
+        → Agrees zones.now.zones (V.test view.now) healthy
+        → Comes (step_from (asked_of zones.now.zones zones.now.collections.list healthy tables.now
+        asked.now) name.now
+        (source (sets_in_zone zones.now.zones asked.now.zone) name.now)
+        (choices_of progress.old)) name.now
+        reply.old reply.new scratch.new progress.new result }
+    ensures held { HoldsNext scratch.new result }
+    ensures rcode { EndsWell result }
+    ensures most { progress.new.count ≤ progress.old.count + 17 }
+{
+    names_exist();
+    match asked_group(zones, asked.zone, name, asked.qtype) {
+        Some(group) => {
+            let end = answer_group(
+                zones, view, tables, asked, name, group, progress, reply, scratch,
+            );
+            Next::Ends(end)
+        }
+        None => step_by_source(zones, view, tables, asked, name, progress, reply, scratch),
+    }
+}
+
+/// What a name comes to: a referral where it is below a zone cut, else by its sets.
+fn step<V: HealthView>(
+    zones: &Zones,
+    view: &V,
+    tables: &Tables,
+    asked: &Asked,
+    name: &Name,
+    progress: &mut Progress,
+    reply: &mut Reply,
+    scratch: &mut Scratch,
+) -> Next
+    requires served { AreServed zones.now.zones }
+    requires there { IsApex zones.now.zones asked.now.zone asked.now.apex }
+    requires inside { EndsWith name.now asked.now.apex }
+    requires room { progress.old.count ≤ 238 }
+    requires open { IsOpen Answer reply.old }
+    ensures comes { (healthy : ℕ → SetKey → Bool)
+        → Agrees zones.now.zones (V.test view.now) healthy
+        → Comes (step_at (asked_of zones.now.zones zones.now.collections.list healthy tables.now
+        asked.now) name.now (choices_of progress.old)) name.now
+        reply.old reply.new scratch.new progress.new result }
+    ensures held { HoldsNext scratch.new result }
+    ensures rcode { EndsWell result }
+    ensures most { progress.new.count ≤ progress.old.count + 17 }
+{
+    cuts_are_nearest();
+    known_few(zones, asked.zone, &asked.apex);
+    match cut_above(zones, asked.zone, &asked.apex, name) {
+        Some(cut) => Next::Ends(answer_referral(zones, cut, reply, scratch)),
+        None => step_in_zone(zones, view, tables, asked, name, progress, reply, scratch),
+    }
+}
+
+/// Looks a name up, and answers, with so many CNAME records more at most.
+pub(crate) fn look_up<V: HealthView>(
+    most: u8,
+    zones: &Zones,
+    view: &V,
+    tables: &Tables,
+    asked: &Asked,
+    name: &Name,
+    progress: &mut Progress,
+    reply: &mut Reply,
+    scratch: &mut Scratch,
+) -> End
+    requires served { AreServed zones.now.zones }
+    requires there { IsApex zones.now.zones asked.now.zone asked.now.apex }
+    requires inside { EndsWith name.now asked.now.apex }
+    requires room { progress.old.count + 17 * most ≤ 238 }
+    requires open { IsOpen Answer reply.old }
+    ensures found { (healthy : ℕ → SetKey → Bool)
+        → Agrees zones.now.zones (V.test view.now) healthy
+        → Leaves (found most (asked_of zones.now.zones zones.now.collections.list healthy tables.now
+        asked.now) name.now (choices_of progress.old))
+        reply.old reply.new result progress.new.used }
+    ensures rcode { result.rcode < 16 }
+{
+    views_agree();
+    zones.well_formed();
+    match step(zones, view, tables, asked, name, progress, reply, scratch) {
+        Next::Ends(end) => end,
+        Next::Follows(ttl, target) => {
+            if most == 0 {
+                return End { aa: true, rcode: 0 };
+            }
+            write_cname(name, ttl, reply, scratch);
+            if !is_held_by(zones, &target, asked.zone) {
+                return End { aa: true, rcode: 0 };
+            }
+            let end = look_up(
+                most - 1,
+                zones,
+                view,
+                tables,
+                asked,
+                &target,
+                progress,
+                reply,
+                scratch,
+            );
+            End {
+                aa: true,
+                rcode: end.rcode,
+            }
+        }
+    }
+}
+
+/// Writes a CNAME record, whose set is held.
+fn write_cname(name: &Name, ttl: u32, reply: &mut Reply, scratch: &Scratch)
+    requires held { HoldsCname scratch.now }
+    requires open { IsOpen Answer reply.old }
+    ensures { (set : RecordSet) (rdata : List ℕ) → scratch.now ≡ Some set
+        → slice_get (data_of set.body) 0 ≡ Some rdata
+        → Writes Answer (record {
+          owner = name.now;
+          rtype = rtype.Cname;
+          ttl = ttl;
+          rdata = rdata;
+        } ∷ []) reply.old reply.new }
+{
+    write_one(
+        reply,
+        Section::Answer,
+        name,
+        RType::Cname,
+        ttl,
+        scratch.value(0),
+    );
+}
