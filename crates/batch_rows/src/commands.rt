@@ -2,7 +2,10 @@
 
 use crate::changes::{address, batch_of};
 use crate::sets::name;
-use command_codec::{Action, Batch, Command, ReadFault, has_spelling, read, write};
+use check_model::Check;
+use command_codec::{
+    Action, Batch, CheckCommand, CidrCommand, Command, ReadFault, has_spelling, read, write,
+};
 use std::alloc::Global;
 use std::process::Abort;
 
@@ -63,6 +66,38 @@ fn octets_of_commands(rt: HostRuntime) {
         rt.alloc(),
         change(&rt, rt.alloc()),
         b"\x02\x03\0\0\x01\x02\0\x01\x03\0\0\0\x09\x03www\x01a\0\0\x01\0\0\0\0\x01\x2c\0\x01\0\x04\xc0\0\x02\x01\0",
+    );
+}
+
+/// A new check of an endpoint.
+fn create_check() -> Command {
+    let check = Check::Endpoint {
+        threshold: 3,
+        inverted: false,
+        disabled: false,
+    };
+    Command::Health(CheckCommand::Create(check))
+}
+
+#[test]
+fn octets_of_checks_and_collections(rt: HostRuntime) {
+    compare(&rt, rt.alloc(), create_check(), b"\x02\x04\x01\x03\0\0");
+    compare(
+        &rt,
+        rt.alloc(),
+        Command::Cidr(CidrCommand::Delete(7)),
+        b"\x02\x09\0\0\0\x07",
+    );
+}
+
+#[test]
+fn first_version_of_checks(rt: HostRuntime) {
+    let command = read(rt.alloc(), b"\x01\x04\x01\x03\0");
+    assert!(rt; matches!(command, Ok(Command::Health(_))), "version 1");
+    let command = read(rt.alloc(), b"\x01\x09\0\0\0\x07");
+    assert!(rt;
+        matches!(command, Err(ReadFault::Bad(1))),
+        "a collection in version 1"
     );
 }
 
