@@ -11,6 +11,7 @@ use Rattle.batch_model.specs.declared.batches.Change.{Change}
 use Rattle.record_set.specs.Reasons.{IsFirst}
 use Rattle.record_set.specs.declared.sets.RecordSet.{RecordSet}
 use Rattle.set_octets.specs.Octets.{HasSpelling, most_octets, set_octets}
+use Rattle.set_reading.specs.Sets.{IsSet}
 use Rattle.zone_model.specs.Hosted.{HostedZone}
 use Rattle.zone_model.specs.Zones.{IsAmong}
 use Rattle.config_model.specs.Batches.{AppliesBatch, ChangesIn, sets_refusal, store_refusal}
@@ -89,6 +90,10 @@ module _ (config : Config) (batch : Batch) (sound : Sound config)
           (record { name = refl; rtype = inl refl }) own.ns prepared.1;
       soa = stays zone.apex batch.changes zone.sets after (soa_key zone.apex)
           (record { name = refl; rtype = inr refl }) own.soa prepared.1;
+      parts = all_left zone.apex IsSet batch.changes zone.sets after own.parts
+          (placed_all (λ change. IsSet change.set) batch.changes
+          (λ i change at. (bounded_at batch.changes i change bounds at).parts))
+          prepared.1;
       allowed = all_left zone.apex (λ set. IsFirst None set zone.apex) batch.changes zone.sets after
           own.allowed
           (placed_all (λ change. IsFirst None change.set zone.apex) batch.changes
@@ -125,7 +130,7 @@ module _ (config : Config) (batch : Batch) (sound : Sound config)
   batch_by : (at : Option HostedZone) → zone_with config.zones batch.zone ≡ at
       → (after : Config) (what : Made) → ChangesIn config at batch (Ok (after, what)) → Sound after
   batch_by None at after what e = absurd (grind (arith, e))
-  batch_by (Some zone) at after what (inl (why, refused, e)) = absurd (grind (arith, e))
+  batch_by (Some zone) at after what (inl (why, known, refused, e)) = absurd (grind (arith, e))
   batch_by (Some zone) at after what (inr (sets, prepared, e)) =
       let zones = with_sets config.zones zone.id sets in
       let answer = accepted

@@ -141,6 +141,7 @@ module _ (told : RefusalsAreTold) (config : Config) (sound : Sound config) where
           sets = own.sets;
           ns = own.ns;
           soa = own.soa;
+          parts = own.parts;
           allowed = own.allowed;
           spelled = own.spelled;
           rules = own.rules;
@@ -210,6 +211,7 @@ module _ (told : RefusalsAreTold) (config : Config) (sound : Sound config) where
           sets = own.sets;
           ns = own.ns;
           soa = own.soa;
+          parts = own.parts;
           allowed = own.allowed;
           spelled = own.spelled;
           rules = own.rules;

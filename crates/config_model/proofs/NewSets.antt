@@ -40,6 +40,7 @@ use Rattle.config_model.specs.Sound.{IsSoundZone}
 use Rattle.config_model.specs.Told.{AreInOrder, RefusalsAreTold}
 use Rattle.config_model.proofs.Ended.{count_less}
 use Rattle.config_model.proofs.Members.{any_of}
+use Rattle.config_model.proofs.NewParts.{ns_parts, soa_parts}
 
 -- ---- servers that differ
 
@@ -313,6 +314,7 @@ module _ (apex : List (List ℕ)) (servers : List (List (List ℕ))) where
       sets = are_zone;
       ns = (ns, record { there = inl refl; same_key = refl });
       soa = (soa, record { there = inr (inl refl); same_key = refl });
+      parts = (ns_parts apex servers name names, (soa_parts apex servers name names four, tt));
       allowed = (ns_allowed, (soa_allowed, tt));
       spelled = (ns_spelled name, (soa_spelled name, tt));
       rules = meets;

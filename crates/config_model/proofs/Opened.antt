@@ -13,7 +13,8 @@ use Rattle.zone_model.specs.Hosted.{HostedZone}
 use Rattle.zone_model.specs.Zones.{IsAmong}
 use Rattle.config_model.specs.Batches.{store_refusal}
 use Rattle.config_model.specs.Configs.{Config}
-use Rattle.config_model.specs.NewZones.{create_refusal, create_zone, has_zone, is_repeated}
+use Rattle.config_model.specs.NewZones.{are_most, create_refusal, create_zone, has_zone}
+use Rattle.config_model.specs.NewZones.{is_repeated}
 use Rattle.config_model.specs.NewZones.{is_zone_name, new_zone, with_zone}
 use Rattle.config_model.specs.Sound.{AreListed, IsSoundZone, Sound}
 use Rattle.config_model.specs.Telling.{invalid, rule}
@@ -48,7 +49,7 @@ module _ (told : RefusalsAreTold) (law : OneNameOfAWire) (config : Config) (soun
   new = new_zone config.next_zone name servers
 
   sound_with : is_zone_name name ≡ true → is_repeated servers ≡ false
-      → has_zone config.zones name ≡ false → nat_le 500 (length config.zones) ≡ false
+      → has_zone config.zones name ≡ false → are_most (length config.zones) ≡ false
       → (config.next_zone == 4294967295) ≡ false
       → store_refusal (with_zone config name servers).zones ≡ None
       → Sound (with_zone config name servers)
@@ -103,7 +104,7 @@ module _ (told : RefusalsAreTold) (law : OneNameOfAWire) (config : Config) (soun
       let none = parts (rule (not (is_zone_name name)) (invalid BadZoneName))
       (rule (is_repeated servers) (invalid RepeatedValue))
       (rule (has_zone config.zones name) (invalid ZoneExists))
-      (rule (nat_le 500 (length config.zones)) TooManyHostedZones)
+      (rule (are_most (length config.zones)) TooManyHostedZones)
       (rule (config.next_zone == 4294967295) IdsEnded)
       (store_refusal now.zones) answer.0 in
       subst Sound (sym (ap (λ (x : Config × Made). x.0) answer.1))
@@ -111,6 +112,6 @@ module _ (told : RefusalsAreTold) (law : OneNameOfAWire) (config : Config) (soun
       (told_not (is_zone_name name) (invalid BadZoneName) none.0)
       (told_false (is_repeated servers) (invalid RepeatedValue) none.1)
       (told_false (has_zone config.zones name) (invalid ZoneExists) none.2)
-      (told_false (nat_le 500 (length config.zones)) TooManyHostedZones none.3)
+      (told_false (are_most (length config.zones)) TooManyHostedZones none.3)
       (told_false (config.next_zone == 4294967295) IdsEnded none.4)
       none.5)

@@ -32,17 +32,17 @@ module _ (law : OneAnswer) where
       one_change : (at : Option HostedZone) → ChangesIn config at changes outcome
           → ChangesIn config at changes other → outcome ≡ other
       one_change None e f = e ∙ sym f
-      one_change (Some zone) (inl (why, p, e)) (inl (too, q, f)) =
+      one_change (Some zone) (inl (why, real, p, e)) (inl (too, real_too, q, f)) =
           let one = law zone.sets zone.apex changes.changes (Err why) (Err too) p q
           (not_memory outcome known why e (Err why) refl)
           (not_memory other known_too too f (Err too) refl) in
           let same : why ≡ too = grind (arith, one) in
           e ∙ (ap (λ w. Err (of_batch w)) same ∙ sym f)
-      one_change (Some zone) (inl (why, p, e)) (inr (sets, q, f)) =
+      one_change (Some zone) (inl (why, real, p, e)) (inr (sets, q, f)) =
           let one = law zone.sets zone.apex changes.changes (Err why) (Ok sets) p q
           (not_memory outcome known why e (Err why) refl) (λ w. grind (arith, w)) in
           absurd (grind (arith, one))
-      one_change (Some zone) (inr (sets, p, e)) (inl (too, q, f)) =
+      one_change (Some zone) (inr (sets, p, e)) (inl (too, real_too, q, f)) =
           let one = law zone.sets zone.apex changes.changes (Ok sets) (Err too) p q
           (λ w. grind (arith, w)) (not_memory other known_too too f (Err too) refl) in
           absurd (grind (arith, one))

@@ -3,7 +3,7 @@
 -- It is tested by itself, its changes are applied in their order, and the zone is looked at once
 -- after the last of them (own). Of several sets of which one refusal holds the first in zone order
 -- is told.
-use Rattle.std.specs.Prelude.{◌≡◌, ℕ, zero, suc, Bool, true, false, not, ◌&&◌, ◌||◌, nat_lt}
+use Rattle.std.specs.Prelude.{◌≡◌, ◌≢◌, ℕ, zero, suc, Bool, true, false, not, ◌&&◌, ◌||◌, nat_lt}
 use Rattle.std.specs.Prelude.{◌⊎◌, List, [], ◌∷◌, length, map, Option, None, Some, is_some}
 use Rattle.std.specs.Prelude.{Result, Ok, Err}
 use Rattle.std.specs.List.{list_any, sum_by}
@@ -11,6 +11,7 @@ use Rattle.std.specs.Str.{bytes_eq}
 use Rattle.batch_model.specs.Batches.{Prepares}
 use Rattle.batch_model.specs.declared.batches.Batch.{Batch}
 use Rattle.batch_model.specs.declared.refusals.BatchRefusal.{BatchRefusal}
+use Rattle.batch_model.specs.declared.refusals.BatchRefusal.TheVariants as refused
 use Rattle.check_model.specs.Commands.{is_there}
 use Rattle.check_model.specs.declared.checks.Check.{Check}
 use Rattle.cidr_blocks.specs.Idents.{star}
@@ -98,8 +99,11 @@ abbrev pub depth_refusal : (zone : List RecordSet) → RecordSet → Option Refu
 depth_refusal zone set = rule (is_too_deep zone set) (refusal.AliasTooDeep (key_of set))
 
 -- more than 10,000 sets in a zone (Route 53 quotas)
+abbrev pub is_over_zone : (sets : ℕ) → Bool
+is_over_zone sets = nat_lt 10000 sets
+
 abbrev pub is_zone_full : List RecordSet → Bool
-is_zone_full zone = nat_lt 10000 (length zone)
+is_zone_full zone = is_over_zone (length zone)
 
 -- The first refusal of the sets of a zone, beside these checks and collections.
 abbrev pub sets_refusal : List (ℕ × Check) → List (ℕ × Collection) → List RecordSet
@@ -114,9 +118,11 @@ sets_refusal checks collections zone = first_of (
     ∷ [])
 
 -- more than 100,000 sets, or more than 67,108,864 octets of sets, in all zones (own)
+abbrev pub is_over : (sets octets : ℕ) → Bool
+is_over sets octets = nat_lt 100000 sets || nat_lt 67108864 octets
+
 abbrev pub is_store_full : List HostedZone → Bool
-is_store_full zones =
-    nat_lt 100000 (sum_by count_of zones) || nat_lt 67108864 (sum_by octets_of zones)
+is_store_full zones = is_over (sum_by count_of zones) (sum_by octets_of zones)
 
 abbrev pub store_refusal : List HostedZone → Option Refusal
 store_refusal zones = rule (is_store_full zones) refusal.StoreFull
@@ -133,11 +139,12 @@ changed_zones config id after = unless
     ∷ []))
     (record config { zones = with_sets config.zones id after }, made.Nothing)
 
--- A batch on a zone: it is refused by itself or at one of its changes, or makes sets of it.
+-- A batch on a zone: it is refused by itself or at one of its changes, or makes sets of it. Want of
+-- memory is no such refusal.
 abbrev pub ChangesZone : Config → HostedZone → Batch → Result (Config × Made) Refusal → Type 0
 ChangesZone config zone batch answer =
-    ((why : BatchRefusal) × Prepares zone.sets zone.apex batch.changes (Err why)
-    × (answer ≡ Err (of_batch why)))
+    ((why : BatchRefusal) × (why ≢ refused.OutOfMemory)
+    × Prepares zone.sets zone.apex batch.changes (Err why) × (answer ≡ Err (of_batch why)))
     ⊎ ((after : List RecordSet) × Prepares zone.sets zone.apex batch.changes (Ok after)
     × (answer ≡ changed_zones config zone.id after))
 

@@ -9,6 +9,7 @@ use Rattle.command_octets.specs.declared.commands.Command.TheVariants as command
 use Rattle.dns_name.specs.Names.{IsName}
 use Rattle.record_set.specs.declared.sets.RecordSet.{RecordSet}
 use Rattle.set_octets.specs.Octets.{AreOfType, IsSpelledBody, IsSpelledRouting}
+use Rattle.set_reading.specs.Sets.{IsSet}
 use Rattle.config_model.specs.Applying.{Applies, Decides, Outcome}
 use Rattle.config_model.specs.Configs.{Config, empty}
 use Rattle.config_model.specs.Sound.{Sound}
@@ -23,8 +24,10 @@ OneOutcome = (config : Config) (command : Command) (outcome other : Outcome)
 
 -- ---- what is kept
 
--- A set whose TTL, codes and letters are within their bounds, and whose values are of its type.
+-- A set of names, identifiers, places and values as sets have them, whose TTL, codes and letters
+-- are within their bounds, and whose values are of its type.
 pub record IsBoundedSet (set : RecordSet) : Type 0 where
+  pub parts : IsSet set
   pub routing : IsSpelledRouting set.routing
   pub body : IsSpelledBody set.body
   pub of_type : AreOfType set.rtype set.body

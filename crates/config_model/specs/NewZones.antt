@@ -94,14 +94,18 @@ with_zone config name servers = record config {
   next_zone = config.next_zone + 1;
 }
 
--- The first refusal of a new zone. There are at most 500 (Route 53 quotas).
+-- as many zones as there may be (Route 53 quotas)
+abbrev pub are_most : (zones : ℕ) → Bool
+are_most zones = nat_le 500 zones
+
+-- The first refusal of a new zone.
 abbrev pub create_refusal : Config → (name : List (List ℕ)) → (servers : List (List (List ℕ)))
     → Option Refusal
 create_refusal config name servers = first_of (
     rule (not (is_zone_name name)) (invalid reason.BadZoneName)
     ∷ rule (is_repeated servers) (invalid reason.RepeatedValue)
     ∷ rule (has_zone config.zones name) (invalid reason.ZoneExists)
-    ∷ rule (nat_le 500 (length config.zones)) refusal.TooManyHostedZones
+    ∷ rule (are_most (length config.zones)) refusal.TooManyHostedZones
     ∷ rule (config.next_zone == 4294967295) refusal.IdsEnded
     ∷ store_refusal (with_zone config name servers).zones
     ∷ [])

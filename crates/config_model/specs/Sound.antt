@@ -10,6 +10,7 @@ use Rattle.rdata_layout.specs.declared.types.RType.TheVariants.{Ns, Soa}
 use Rattle.record_set.specs.Reasons.{IsFirst}
 use Rattle.record_set.specs.declared.sets.SetKey.{SetKey}
 use Rattle.set_octets.specs.Octets.{HasSpelling}
+use Rattle.set_reading.specs.Sets.{IsSet}
 use Rattle.zone_model.specs.Hosted.{HostedZone}
 use Rattle.zone_model.specs.Placing.{IsThere}
 use Rattle.zone_model.specs.Zones.{IsZone}
@@ -32,7 +33,9 @@ pub record IsSoundZone (checks : List (ℕ × Check)) (collections : List (ℕ �
   pub sets : IsZone zone.sets zone.apex
   pub ns : IsThere zone.sets (ns_key zone.apex)
   pub soa : IsThere zone.sets (soa_key zone.apex)
-  -- each set is allowed by itself, and has a spelling in at most 65,536 octets
+  -- each set is made of names, identifiers, places and values as sets are, is allowed by itself,
+  -- and has a spelling in at most 65,536 octets
+  pub parts : AllByRecursion IsSet zone.sets
   pub allowed : AllByRecursion (λ set. IsFirst None set zone.apex) zone.sets
   pub spelled : AllByRecursion HasSpelling zone.sets
   -- the sets meet the rules for groups and names
