@@ -1,0 +1,43 @@
+-- When the aliases of a zone need no look.
+use Rattle.std.specs.Prelude.{◌≡◌, List, []}
+use Rattle.std.specs.List.{AllByRecursion}
+use Rattle.alias_links.specs.After.{changed}
+use Rattle.record_set.specs.Reasons.{IsAlias}
+use Rattle.record_set.specs.Sets.{key_of}
+use Rattle.record_set.specs.declared.sets.RecordSet.{RecordSet}
+use Rattle.record_set.specs.declared.sets.SetKey.{SetKey}
+use Rattle.zone_list.specs.Changes.{DifferByKey, IsKeyOf}
+use Rattle.zone_model.specs.Placing.{IsThere}
+use Rattle.zone_model.specs.Walks.{HasNoTarget, IsTooDeep}
+use Rattle.zone_model.specs.Zones.{IsAmong, group}
+
+-- an alias is among the sets
+abbrev pub HasAlias : List RecordSet → Type 0
+HasAlias sets = (set : RecordSet) × IsAmong sets set × IsAlias set.body
+
+-- the group of one of the keys has no sets among these
+abbrev pub EmptiesGroup : (remove : List SetKey) → (after : List RecordSet) → Type 0
+EmptiesGroup remove after =
+    (key : SetKey) × IsKeyOf remove key × (group after key.name key.rtype ≡ [])
+
+-- What a change says of these sets: those that are added have keys of their own, and none of them
+-- is there but to be removed.
+pub record IsChange (sets : List RecordSet) (remove : List SetKey) (add : List RecordSet)
+    : Type 0 where
+  pub differ : DifferByKey add
+  pub new : AllByRecursion (λ set. IsThere sets (key_of set) → IsKeyOf remove (key_of set)) add
+
+-- no set among these has it
+abbrev pub NoneHas : (RecordSet → Type 0) → List RecordSet → Type 0
+NoneHas Has sets = (set : RecordSet) → IsAmong sets set → Has set → ⊥
+
+pub record AliasesStay : Type 0 where
+  -- where no alias is added no walk of 17 links begins
+  pub walks : (sets : List RecordSet) (remove : List SetKey) (add : List RecordSet)
+      → IsChange sets remove add → (HasAlias add → ⊥) → NoneHas (IsTooDeep sets) sets
+      → NoneHas (IsTooDeep (changed sets remove add)) (changed sets remove add)
+  -- where also no group is emptied each alias still leads to a set
+  pub targets : (sets : List RecordSet) (remove : List SetKey) (add : List RecordSet)
+      → IsChange sets remove add → (HasAlias add → ⊥)
+      → (EmptiesGroup remove (changed sets remove add) → ⊥) → NoneHas (HasNoTarget sets) sets
+      → NoneHas (HasNoTarget (changed sets remove add)) (changed sets remove add)

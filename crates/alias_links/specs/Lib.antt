@@ -1,0 +1,9 @@
+pub mod After
+pub mod Aliases
+pub mod Laws
+pub mod Leasts
+pub mod Links
+pub use Rattle.alias_tree.specs.Firsts
+pub use Rattle.zone_model.specs.Walks
+pub use Rattle.zone_table.specs.Edits
+pub use Rattle.zone_table.specs.Looking

@@ -1,0 +1,123 @@
+//! Keys and sets looked at one by one.
+
+ghost use Rattle.std.specs.Prelude.{◌≡◌, ◌↔◌, IsTrue, Some};
+ghost use Rattle.record_set.specs.Sets.{ident_of, key_of};
+ghost use Rattle.record_set.specs.declared.sets.RecordSet.{RecordSet};
+ghost use Rattle.set_scratch.specs.Holding.{IsHolding};
+ghost use Rattle.zone_list.specs.Changes.{IsKeyOf};
+ghost use Rattle.zone_model.specs.Zones.{IsAmong, is_of_group};
+ghost use Rattle.alias_links.specs.Aliases.{is_alias_set};
+ghost use Rattle.alias_links.specs.Laws.{HasAlias};
+ghost use Rattle.alias_links.specs.Leasts.{IsLesser};
+
+use dns_name::Name;
+use rdata::RType;
+use record_set::{Body, Ident, RecordSet, Routing, SetKey};
+use zone_model::{key_cmp, keys_are_ordered};
+use zone_table::Scratch;
+
+/// Whether the key is one of these.
+pub fn is_key_of(keys: &[SetKey], key: &SetKey) -> bool
+    ensures { IsTrue result ↔ IsKeyOf keys.now key.now }
+{
+    for i in 0..keys.len() {
+        if is_same_key(&keys[i], key) {
+            return true;
+        }
+    }
+    false
+}
+
+/// Whether two keys are one.
+fn is_same_key(key: &SetKey, other: &SetKey) -> bool
+    ensures { IsTrue result ↔ (key.now ≡ other.now) }
+{
+    keys_are_ordered();
+    key_cmp(key, other).is_eq()
+}
+
+/// The lesser of two keys, or the one that there is.
+pub fn lesser(one: Option<SetKey>, other: Option<SetKey>) -> Option<SetKey>
+    ensures { IsLesser one other result }
+{
+    keys_are_ordered();
+    let Some(key) = one else {
+        return other;
+    };
+    let Some(other) = other else {
+        return Some(key);
+    };
+    if key_cmp(&key, &other).is_gt() {
+        return Some(other);
+    }
+    Some(key)
+}
+
+/// The key of the set that is held.
+pub fn key_in(scratch: &Scratch) -> SetKey
+    requires { IsHolding scratch.now }
+    ensures { (set : RecordSet) → scratch.now ≡ Some set → result ≡ key_of set }
+{
+    SetKey {
+        name: scratch.name(),
+        rtype: scratch.rtype(),
+        ident: ident_of(&scratch.routing()),
+    }
+}
+
+/// The identifier of a routing policy.
+fn ident_of(routing: &Routing) -> Option<Ident>
+    ensures { result ≡ ident_of routing.now }
+{
+    match routing {
+        Routing::Simple => None,
+        Routing::Weighted(ident, _)
+        | Routing::Failover(ident, _)
+        | Routing::Geolocation(ident, _)
+        | Routing::Latency(ident, _)
+        | Routing::Multivalue(ident)
+        | Routing::Cidr(ident, _, _) => Some(*ident),
+    }
+}
+
+/// Whether one of the sets is an alias.
+pub fn adds_alias(sets: &[RecordSet]) -> bool
+    ensures { IsTrue result ↔ HasAlias sets.now }
+{
+    for i in 0..sets.len() {
+        if is_alias(&sets[i]) {
+            return true;
+        }
+    }
+    false
+}
+
+/// Whether a set is an alias.
+pub fn is_alias(set: &RecordSet) -> bool
+    ensures { result ≡ is_alias_set set.now }
+{
+    match set.body {
+        Body::Values { .. } => false,
+        Body::Alias { .. } => true,
+    }
+}
+
+/// Whether one of the sets has the name and the type.
+pub fn adds_to(sets: &[RecordSet], name: &Name, rtype: RType) -> bool
+    ensures { IsTrue result ↔ ((set : RecordSet) × IsAmong sets.now set
+        × IsTrue (is_of_group name.now rtype set)) }
+{
+    for i in 0..sets.len() {
+        if is_of_group(&sets[i], name, rtype) {
+            return true;
+        }
+    }
+    false
+}
+
+/// Whether a set has the name and the type.
+fn is_of_group(set: &RecordSet, name: &Name, rtype: RType) -> bool
+    ensures { result ≡ is_of_group name.now rtype set.now }
+{
+    name == &set.name && rtype.number() == set.rtype.number()
+}

@@ -1,0 +1,24 @@
+//! Where the aliases of a zone lead after a change that isn't made yet: the first that would lead
+//! to no set, and the first set from which they would lead on too far.
+//!
+//! Where a change adds no alias and empties no group nothing of this can come about.
+#![tactic(auto)]
+
+mod aliases;
+mod groups;
+mod keys;
+mod laws;
+mod links;
+mod missing;
+mod places;
+#[cfg(test)]
+mod tests;
+mod walks;
+
+pub use groups::empties_group;
+pub use keys::adds_alias;
+pub use laws::aliases_stay;
+pub use links::links_of;
+pub use missing::missing_after;
+pub use octets::OutOfMemory;
+pub use walks::walk_after;
