@@ -1,5 +1,5 @@
 -- Names below a name stand together in zone order.
-use Rattle.std.proofs.Common.{◌≡◌, ℕ, suc, ◌+◌, ◌<◌, ◌≤◌, List, [], ◌∷◌, ◌++◌, length, ap, ◌∙◌, sym, refl, false, Some, Less, Equal, Greater, subst, arith, inl, inr}
+use Rattle.std.proofs.Common.{◌≡◌, ℕ, suc, ◌+◌, ◌-◌, ◌<◌, ◌≤◌, List, [], ◌∷◌, ◌++◌, length, ap, ◌∙◌, sym, refl, false, Some, Less, Equal, Greater, subst, arith, inl, inr}
 use Rattle.std.specs.Prelude.{◌⊎◌, ◌≢◌, ◌↔◌, slice_get, reverse, nat_eq}
 use Rattle.std.specs.declared.cmp.Ordering.{Ordering}
 use Rattle.std.specs.Ordering.{is_gt, is_eq, nat_cmp, ordering_then, ordering_reverse}
@@ -17,8 +17,8 @@ use Rattle.zone_model.specs.Existing.{Exists, IsAncestor, IsClosest}
 use Rattle.zone_model.specs.Zones.{IsRising}
 use Rattle.zone_model.proofs.Among.{among_at, place_of}
 use Rattle.zone_model.proofs.Places.{ordered_at}
-use Rattle.set_search.specs.Found.{IsFirstNamed}
-use Rattle.set_search.proofs.Lookups.{below_or_not}
+use Rattle.set_search.specs.Found.{IsBelowAt, IsFirstNamed}
+use Rattle.set_search.proofs.Lookups.{below_or_not, filled, up_or_tied}
 
 -- labels from the root on
 abbrev Path : Type 0
@@ -169,6 +169,50 @@ module _ (sets : List RecordSet) (name : Path) (n : ℕ) (rising : IsRising sets
       let from = not_before place.0 other place.1 below in
       omega (arith, past, inside, from)
 
+-- The sets beside the place of a name tell which names above it exist.
+module _ (sets : List RecordSet) (name below : Path) (n : ℕ) (rising : IsRising sets)
+    (first : IsFirstNamed sets below n) (ends : EndsWith below name) where
+  pub beside : Exists sets name
+      → ((0 < n) × IsBelowAt sets name (n - 1)) ⊎ IsBelowAt sets name n
+  beside (other, there, is) =
+      let place = place_of sets other there in
+      by place.0 place.1 (below_or_not place.0 n)
+    where
+      by : (k : ℕ) → slice_get sets k ≡ Some other → (k < n) ⊎ (n ≤ k)
+          → ((0 < n) × IsBelowAt sets name (n - 1)) ⊎ IsBelowAt sets name n
+      by k at (inl lt) =
+          let inside = first.within in
+          let y = filled sets (n - 1) (omega (arith, lt, inside)) in
+          inl (
+            omega (arith, lt),
+            (
+              y.0,
+              y.1,
+              below_between name y.0.name below ends
+                  (up_or_tied zone_cmp_total name other.name y.0.name (not_behind name other.name is)
+                  (names_rise sets k (n - 1) other y.0 rising (omega (arith, lt)) at y.1))
+                  (ap is_gt (first.before (n - 1) y.0 (omega (arith, lt)) y.1)),
+            ),
+          )
+      by k at (inr le) =
+          let inside = slice_get_within sets k other at in
+          let y = filled sets n (omega (arith, le, inside)) in
+          let low : is_gt (zone_cmp below y.0.name) ≡ false =
+          subst (λ o. is_gt o ≡ false) (sym (zone_cmp_total.antisymm below y.0.name))
+          (not_less (zone_cmp y.0.name below) (first.behind n y.0 (omega arith) y.1)) in
+          inr (
+            y.0,
+            y.1,
+            below_between name y.0.name other.name is
+                (up_or_tied zone_cmp_total name below y.0.name (not_behind name below ends) low)
+                (names_rise sets n k y.0 other rising le y.1 at),
+          )
+
+-- a set at or below a name shows that it exists
+pub exists_at : (sets : List RecordSet) (name : Path) (k : ℕ) → IsBelowAt sets name k
+    → Exists sets name
+exists_at sets name k (y, at, is) = (y, among_at sets k y at, is)
+
 -- a name ends with itself
 pub ends_itself : (name : Path) → EndsWith name name
 ends_itself name = ([], refl)
@@ -213,7 +257,7 @@ module _ (sets : List RecordSet) (name at : Path) (label : List ℕ) (parent : P
       parent_or_above label parent other
       (subst (λ a. IsAncestor a other) is (above.ancestors other ancestor exists))
 
-  name_above : EndsWith name parent
+  pub name_above : EndsWith name parent
   name_above =
       ends_further name at parent above.suffix
       (subst (λ a. EndsWith a parent) (sym is) (label ∷ [], refl))

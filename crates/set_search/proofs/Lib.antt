@@ -1,4 +1,5 @@
 pub mod Below
+pub mod Beside
 pub mod Filters
 pub mod Lookups
 pub mod Together

@@ -144,7 +144,7 @@ before_too (bound.PastGroup name rtype) x y lower before =
 
 module _ (sets : List RecordSet) (bound : Bound) (rising : IsRising sets) where
   -- before a set that stands before the bound all do
-  all_before : (j k : ℕ) (x y : RecordSet) → j ≤ k → slice_get sets j ≡ Some x
+  pub all_before : (j k : ℕ) (x y : RecordSet) → j ≤ k → slice_get sets j ≡ Some x
       → slice_get sets k ≡ Some y → is_before bound y ≡ true → is_before bound x ≡ true
   all_before j k x y le at_j at_k before = by (up_to j k le)
     where

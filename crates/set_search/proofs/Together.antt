@@ -80,14 +80,14 @@ below_not_above Equal e = refl
 below_not_above Greater e = absurd (grind (arith, e))
 
 module _ (name : List (List ℕ)) (rtype : RType) where
-  abbrev first_key : SetKey
+  abbrev pub first_key : SetKey
   first_key = record { name = name; rtype = rtype; ident = None }
 
-  before_start : (x : RecordSet)
+  pub before_start : (x : RecordSet)
       → is_before (bound.From first_key) x ≡ is_lt (group_cmp x name rtype)
   before_start x = not_below_none (key_of x).ident (group_cmp x name rtype)
 
-  of_group : (x : RecordSet) → is_of_group name rtype x ≡ is_eq (group_cmp x name rtype)
+  pub of_group : (x : RecordSet) → is_of_group name rtype x ≡ is_eq (group_cmp x name rtype)
   of_group x =
       let names : same_labels name x.name ≡ is_eq (zone_cmp x.name name) =
       zone_cmp_ties name x.name

@@ -3,6 +3,7 @@ use Rattle.std.specs.Prelude.{◌≡◌, ◌≢◌, ◌≤◌, ◌<◌, ◌+◌,
 use Rattle.std.specs.List.{filter}
 use Rattle.std.specs.declared.cmp.Ordering.TheVariants.{Less}
 use Rattle.dns_name.specs.Order.{zone_cmp}
+use Rattle.dns_name.specs.Suffix.{EndsWith}
 use Rattle.rdata_layout.specs.declared.types.RType.{RType}
 use Rattle.record_set.specs.declared.sets.RecordSet.{RecordSet}
 use Rattle.record_set.specs.declared.sets.SetKey.{SetKey}
@@ -24,12 +25,26 @@ pub record IsBracket (sets : List RecordSet) (bound : Bound) (low high : ℕ) : 
 abbrev pub IsCount : List RecordSet → Bound → ℕ → Type 0
 IsCount sets bound n = IsBracket sets bound n n
 
+-- a set has the name and the type
+abbrev pub IsOf : (name : List (List ℕ)) → RType → RecordSet → Type 0
+IsOf name rtype set = (set.name ≡ name) × (set.rtype ≡ rtype)
+
+-- the set at a place has the name and the type
+abbrev pub IsMemberAt : List RecordSet → (name : List (List ℕ)) → RType → (place : ℕ) → Type 0
+IsMemberAt sets name rtype place =
+    (set : RecordSet) × (slice_get sets place ≡ Some set) × IsOf name rtype set
+
 -- The sets of a name and type stand side by side, from place `start` on.
 pub record IsGroupAt (sets : List RecordSet) (name : List (List ℕ)) (rtype : RType)
     (start n : ℕ) : Type 0 where
   pub first : IsCount sets (bound.From (record { name = name; rtype = rtype; ident = None })) start
   pub within : start + n ≤ length sets
   pub members : take n (drop start sets) ≡ group sets name rtype
+
+-- the set at a place has the name, or one below it
+abbrev pub IsBelowAt : List RecordSet → (name : List (List ℕ)) → (place : ℕ) → Type 0
+IsBelowAt sets name place =
+    (set : RecordSet) × (slice_get sets place ≡ Some set) × EndsWith set.name name
 
 -- The names of the first n sets come before this name, and those of the others don't.
 pub record IsFirstNamed (sets : List RecordSet) (name : List (List ℕ)) (n : ℕ) : Type 0 where

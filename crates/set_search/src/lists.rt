@@ -4,11 +4,13 @@ ghost use Rattle.std.specs.Prelude.{◌≡◌, ◌<◌, ℕ, List, length, slice
 ghost use Rattle.dns_name.specs.Suffix.{EndsWith};
 ghost use Rattle.record_set.specs.declared.sets.RecordSet.{RecordSet};
 ghost use Rattle.set_search.specs.Bounds.{is_before};
+ghost use Rattle.set_search.specs.Found.{IsOf};
 ghost use Rattle.set_search.specs.Stops.{bound_of};
 
 use crate::bounds::Stop;
 use crate::order::set_is_before;
 use dns_name::Name;
+use rdata::RType;
 use record_set::RecordSet;
 
 /// Sets that are looked at by their places.
@@ -31,6 +33,12 @@ pub trait SetList {
         requires { place < length (sets self.now) }
         ensures { (set : RecordSet) → slice_get (sets self.now) place ≡ Some set
             → IsTrue result ↔ EndsWith set.name name.now };
+
+    /// Whether the set at a place has the name and the type.
+    fn is_of(&self, place: usize, name: &Name, rtype: RType) -> bool
+        requires { place < length (sets self.now) }
+        ensures { (set : RecordSet) → slice_get (sets self.now) place ≡ Some set
+            → IsTrue result ↔ IsOf name.now rtype set };
 }
 
 impl SetList for Vec<RecordSet> {
@@ -47,4 +55,18 @@ impl SetList for Vec<RecordSet> {
     fn is_below(&self, place: usize, name: &Name) -> bool {
         self[place].name.ends_with(name)
     }
+
+    fn is_of(&self, place: usize, name: &Name, rtype: RType) -> bool {
+        has_both(&self[place], name, rtype)
+    }
+}
+
+/// Whether a set has the name and the type.
+fn has_both(set: &RecordSet, name: &Name, rtype: RType) -> bool
+    ensures { IsTrue result ↔ IsOf name.now rtype set.now }
+{
+    if set.rtype != rtype {
+        return false;
+    }
+    set.name.is_same(name)
 }

@@ -4,6 +4,7 @@ pub mod Chains
 pub mod Keeping
 pub mod More
 pub mod Counts
+pub mod Fronts
 pub mod Puts
 pub mod Reading
 pub mod Takes

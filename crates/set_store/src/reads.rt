@@ -1,12 +1,13 @@
 //! Sets read where they stand: compared with bounds and names, and copied.
 
-ghost use Rattle.std.specs.Prelude.{◌≡◌, ◌≤◌, ◌<◌, ◌++◌, ℕ, List, length, take, min, slice_get};
+ghost use Rattle.std.specs.Prelude.{◌≡◌, ◌≤◌, ◌<◌, ◌++◌, ℕ, List, drop, length, take, min, slice_get};
 ghost use Rattle.std.specs.Prelude.{Some, IfOk, IsTrue, ◌↔◌};
 ghost use Rattle.dns_name.specs.Suffix.{EndsWith};
 ghost use Rattle.record_set.specs.declared.sets.RecordSet.{RecordSet};
 ghost use Rattle.set_octets.specs.Octets.{most_octets, set_octets};
 ghost use Rattle.set_scratch.specs.Telling.{is_alias, target_of, watch_of};
 ghost use Rattle.set_search.specs.Bounds.{is_before};
+ghost use Rattle.set_search.specs.Found.{IsOf};
 ghost use Rattle.set_search.specs.Stops.{bound_of};
 ghost use Rattle.set_store.specs.declared.slots.Slot.{Slot};
 ghost use Rattle.set_store.specs.Index.{HoldsAt};
@@ -18,7 +19,7 @@ use crate::slots::{NO_CELL, Slot};
 use crate::store::SetStore;
 use dns_name::Name;
 use octet_region::{Handle, Region};
-use octets::{OutOfMemory, front, zeros};
+use octets::{OutOfMemory, front, two_octets, zeros};
 use rdata::RType;
 use record_set::RecordSet;
 use set_parts::{keys_are_in_front, name_and_rest};
@@ -74,10 +75,29 @@ impl SetStore {
     {
         keys_are_in_front();
         written_reads_back();
+        if size_at(&self.region, &self.slots, slot) <= SHORT {
+            return head_is_below(head_at(&self.region, &self.slots, slot, &mut [0; 64]), name);
+        }
         head_is_below(
             head_at(&self.region, &self.slots, slot, &mut [0; 387]),
             name,
         )
+    }
+
+    /// Whether the set of a slot has the name and the type, told where its octets stand.
+    pub fn is_of(&self, slot: u32, name: &Name, rtype: RType) -> bool
+        requires { IsTaken self.now.slots slot }
+        ensures { (kept : Kept) → IsKept self.now.slots slot kept
+            → IsTrue result ↔ IsOf name.now rtype kept.set }
+    {
+        keys_are_in_front();
+        written_reads_back();
+        let octets = name.octets();
+        if !stands_at(&self.region, &self.slots, slot, 0, octets) {
+            return false;
+        }
+        let number = two_octets(rtype.number());
+        stands_at(&self.region, &self.slots, slot, octets.len(), &number)
     }
 
     /// A hash of the name of a slot's set, of which no contract speaks.
@@ -215,6 +235,15 @@ fn copy_at(region: &Region, slots: &Vec<Slot>, slot: u32, into: &mut [u8])
         → into.new ≡ take (length into.old) octets }
 {
     region.read_at(Handle::of(cell_at(slots, slot)), 0, into);
+}
+
+/// Whether the octets of a slot's set go on with others from a place on.
+fn stands_at(region: &Region, slots: &Vec<Slot>, slot: u32, offset: usize, octets: &[u8]) -> bool
+    requires { (octets : List ℕ) × HoldsAt region.now.held slots.now.items slot octets }
+    ensures { (known : List ℕ) → HoldsAt region.now.held slots.now.items slot known
+        → IsTrue result ↔ (take (length octets.now) (drop offset known) ≡ octets.now) }
+{
+    region.is_at(Handle::of(cell_at(slots, slot)), offset, octets)
 }
 
 /// The first octets of a slot's set, as many as a buffer has room for.

@@ -6,6 +6,7 @@ ghost use Rattle.zone_order.specs.Orders.{IsOrder, placed_of};
 ghost use Rattle.zone_model.specs.Placed.{AreOfZone, IsSlotAt, sets_of};
 
 use dns_name::Name;
+use rdata::RType;
 use set_scratch::Scratch;
 use set_search::{SetList, Stop};
 use set_store::SetStore;
@@ -71,6 +72,10 @@ impl<'a> SetList for ZoneView<'a> {
 
     fn is_below(&self, place: usize, name: &Name) -> bool {
         self.store.is_below(slot_at(self.order, place), name)
+    }
+
+    fn is_of(&self, place: usize, name: &Name, rtype: RType) -> bool {
+        self.store.is_of(slot_at(self.order, place), name, rtype)
     }
 }
 

@@ -1,3 +1,5 @@
+use Rattle.std.proofs.Common.{arith}
+use Rattle.set_search.proofs.Lookups.{filled}
 use Rattle.set_search.proofs.Together.{in_order, group_at}
 use Rattle.set_search.proofs.groups.group_in.Goals as goal
 
@@ -12,3 +14,10 @@ returns g c =
     group_at c.args.name.now c.args.rtype (g.S.SetList.sets c.args.sets.now)
     c.count_before-start.result c.count_before-end.result
     c.count_before-start.ensures c.count_before-end.ensures
+
+pub group_round-requires-clause-member : goal.group_round-requires-clause-member
+group_round-requires-clause-member g c =
+    let count = c.count.ensures in
+    let inside = c.if-place-count.true in
+    let x = filled (g.S.SetList.sets c.args.sets.now) c.in-Some.place (omega (arith, count, inside)) in
+    (x.0, x.1, (c.is_of.ensures x.0 x.1).0 c.if-is_of.true)

@@ -1,0 +1,133 @@
+-- A set of a group, and one beside it that isn't of it.
+use Rattle.std.proofs.Common.{◌≡◌, ℕ, ◌+◌, ◌-◌, ◌<◌, ◌≤◌, List, length, ap, ◌∙◌, sym, refl, Bool, true, false, Some, Less, Equal, Greater, subst, arith}
+use Rattle.std.specs.Prelude.{slice_get, not, ◌≢◌, ◌==◌}
+use Rattle.std.specs.Bool.{Decides}
+use Rattle.std.specs.declared.cmp.Ordering.{Ordering}
+use Rattle.std.specs.Ordering.{is_gt, is_lt, is_eq}
+use Rattle.std.proofs.lemmas.Bool.Decides.{Decides-eqb, Decides-and}
+use Rattle.std.proofs.lemmas.Option.{slice_get_within}
+use Rattle.dns_name.specs.Order.{same_labels}
+use Rattle.dns_name.specs.OrderLaws.{same_labels-Decides}
+use Rattle.rdata_layout.specs.Types.{number_of}
+use Rattle.rdata_layout.specs.declared.types.RType.{RType}
+use Rattle.record_set.specs.declared.sets.RecordSet.{RecordSet}
+use Rattle.zone_model.specs.Zones.{IsRising, is_of_group}
+use Rattle.zone_model.proofs.Ordered.{one_number}
+use Rattle.set_search.specs.declared.bounds.Bound.{Bound}
+use Rattle.set_search.specs.declared.bounds.Bound.TheVariants as bound
+use Rattle.set_search.specs.Bounds.{is_before, group_cmp}
+use Rattle.set_search.specs.Found.{IsBracket, IsCount, IsMemberAt, IsOf}
+use Rattle.set_search.proofs.Lookups.{all_before, low_up, high_down}
+use Rattle.set_search.proofs.Together.{before_start, first_key, of_group}
+
+-- the test of a group
+of_test : (name : List (List ℕ)) (rtype : RType) (x : RecordSet)
+    → Decides (is_of_group name rtype x) (IsOf name rtype x)
+of_test name rtype x =
+    let all =
+    Decides-and (same_labels name x.name) (number_of rtype == number_of x.rtype)
+    (same_labels-Decides name x.name) (Decides-eqb (number_of rtype) (number_of x.rtype)) in (
+      (λ e. let b = all.0 e in (sym b.0, sym (one_number rtype x.rtype b.1))),
+      λ g. all.1 (sym g.0, ap number_of (sym g.1)),
+    )
+
+equal : (o : Ordering) → is_eq o ≡ true → o ≡ Equal
+equal Less e = absurd (grind (arith, e))
+equal Equal e = refl
+equal Greater e = absurd (grind (arith, e))
+
+-- all of a list stands between its ends
+whole : (sets : List RecordSet) (b : Bound) → IsBracket sets b 0 (length sets)
+whole sets b = record {
+  order = omega arith;
+  within = omega arith;
+  before = λ k x lt at. absurd (omega (arith, lt));
+  behind =
+      λ k x le at. absurd (let within = slice_get_within sets k x at in omega (arith, le, within));
+}
+
+module _ (name : List (List ℕ)) (rtype : RType) where
+  tied : (x : RecordSet) → IsOf name rtype x → group_cmp x name rtype ≡ Equal
+  tied x is = equal (group_cmp x name rtype)
+      (sym (of_group name rtype x) ∙ (of_test name rtype x).1 is)
+
+  untied : (x : RecordSet) → (IsOf name rtype x → ⊥) → group_cmp x name rtype ≢ Equal
+  untied x none e = none ((of_test name rtype x).0 (of_group name rtype x ∙ ap is_eq e))
+
+  starts : (x : RecordSet) → IsOf name rtype x
+      → is_before (bound.From (first_key name rtype)) x ≡ false
+  starts x is = before_start name rtype x ∙ ap is_lt (tied x is)
+
+  ends : (x : RecordSet) → IsOf name rtype x → is_before (bound.PastGroup name rtype) x ≡ true
+  ends x is = ap (λ o. not (is_gt o)) (tied x is)
+
+  module _ (sets : List RecordSet) (rising : IsRising sets) (place : ℕ)
+      (member : IsMemberAt sets name rtype place) where
+    within : place < length sets
+    within = slice_get_within sets place member.0 member.1
+
+    not_from : IsBracket sets (bound.From (first_key name rtype)) 0 place
+    not_from =
+        high_down sets (bound.From (first_key name rtype)) rising 0 (length sets) place member.0
+        (whole sets (bound.From (first_key name rtype))) (omega arith) within member.1
+        (starts member.0 member.2)
+
+    pub from_first : place ≡ 0 → IsCount sets (bound.From (first_key name rtype)) 0
+    from_first e =
+        subst (λ n. IsBracket sets (bound.From (first_key name rtype)) 0 n) e not_from
+
+    -- one in front of a member that is none stands before the group
+    front : (y : RecordSet) → 0 < place → slice_get sets (place - 1) ≡ Some y
+        → (IsOf name rtype y → ⊥) → is_before (bound.From (first_key name rtype)) y ≡ true
+    front y some at none = by (group_cmp y name rtype) refl
+      where
+        by : (o : Ordering) → group_cmp y name rtype ≡ o
+            → is_before (bound.From (first_key name rtype)) y ≡ true
+        by Less e = before_start name rtype y ∙ ap is_lt e
+        by Equal e = absurd (untied y none e)
+        by Greater e =
+            let up : is_before (bound.PastGroup name rtype) y ≡ true =
+            all_before sets (bound.PastGroup name rtype) rising (place - 1) place y member.0
+            (omega arith) at member.1 (ends member.0 member.2) in
+            absurd (grind (arith, up, e))
+
+    pub from_here : (y : RecordSet) → 0 < place → slice_get sets (place - 1) ≡ Some y
+        → (IsOf name rtype y → ⊥) → IsCount sets (bound.From (first_key name rtype)) place
+    from_here y some at none =
+        let e : place - 1 + 1 ≡ place = omega (arith, some) in
+        subst (λ n. IsBracket sets (bound.From (first_key name rtype)) n place) e
+        (low_up sets (bound.From (first_key name rtype)) rising 0 place (place - 1) y not_from
+        (omega arith) (omega (arith, some)) at (front y some at none))
+
+    up_to : IsBracket sets (bound.PastGroup name rtype) (place + 1) (length sets)
+    up_to =
+        low_up sets (bound.PastGroup name rtype) rising 0 (length sets) place member.0
+        (whole sets (bound.PastGroup name rtype)) (omega arith) within member.1
+        (ends member.0 member.2)
+
+    pub to_last : length sets ≤ place + 1 → IsCount sets (bound.PastGroup name rtype) (length sets)
+    to_last last =
+        let e : place + 1 ≡ length sets = (let w = within in omega (arith, last, w)) in
+        subst (λ n. IsBracket sets (bound.PastGroup name rtype) n (length sets)) e up_to
+
+    -- one behind a member that is none stands behind the group
+    back : (y : RecordSet) → slice_get sets (place + 1) ≡ Some y
+        → (IsOf name rtype y → ⊥) → is_before (bound.PastGroup name rtype) y ≡ false
+    back y at none = by (group_cmp y name rtype) refl
+      where
+        by : (o : Ordering) → group_cmp y name rtype ≡ o
+            → is_before (bound.PastGroup name rtype) y ≡ false
+        by Less e =
+            let low : is_before (bound.From (first_key name rtype)) member.0 ≡ true =
+            all_before sets (bound.From (first_key name rtype)) rising place (place + 1) member.0 y
+            (omega arith) member.1 at (before_start name rtype y ∙ ap is_lt e) in
+            absurd (let not_low = starts member.0 member.2 in grind (arith, low, not_low))
+        by Equal e = absurd (untied y none e)
+        by Greater e = ap (λ o. not (is_gt o)) e
+
+    pub to_here : (y : RecordSet) → slice_get sets (place + 1) ≡ Some y
+        → (IsOf name rtype y → ⊥) → IsCount sets (bound.PastGroup name rtype) (place + 1)
+    to_here y at none =
+        let w = slice_get_within sets (place + 1) y at in
+        high_down sets (bound.PastGroup name rtype) rising (place + 1) (length sets) (place + 1) y
+        up_to (omega arith) w at (back y at none)
