@@ -1,5 +1,5 @@
 -- A set of a group, and one beside it that isn't of it.
-use Rattle.std.proofs.Common.{◌≡◌, ℕ, ◌+◌, ◌-◌, ◌<◌, ◌≤◌, List, length, ap, ◌∙◌, sym, refl, Bool, true, false, Some, Less, Equal, Greater, subst, arith}
+use Rattle.std.proofs.Common.{◌≡◌, ℕ, ◌+◌, ◌-◌, ◌<◌, ◌≤◌, List, length, ap, ◌∙◌, sym, refl, true, false, Some, Less, Equal, Greater, subst, arith}
 use Rattle.std.specs.Prelude.{slice_get, not, ◌≢◌, ◌==◌}
 use Rattle.std.specs.Bool.{Decides}
 use Rattle.std.specs.declared.cmp.Ordering.{Ordering}

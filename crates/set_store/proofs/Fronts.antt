@@ -1,5 +1,5 @@
 -- A set's name and type told by the octets that stand in front.
-use Rattle.std.proofs.Common.{◌≡◌, ℕ, ◌+◌, ◌/◌, ◌%◌, ◌*◌, List, [], ◌∷◌, ◌++◌, take, drop, length, ap, ◌∙◌, sym, refl, arith, append_assoc, subst}
+use Rattle.std.proofs.Common.{◌≡◌, ℕ, ◌/◌, ◌%◌, List, ◌++◌, take, drop, length, ap, ◌∙◌, sym, arith, append_assoc, subst}
 use Rattle.std.specs.Prelude.{◌↔◌}
 use Rattle.std.proofs.lemmas.List.{take-append-drop}
 use Rattle.std.proofs.Math.Seq.{take-append_seam, drop-append_seam}
@@ -11,7 +11,7 @@ use Rattle.dns_name.proofs.Labels.{labels_of-wire}
 use Rattle.rdata_layout.specs.Types.{number_of}
 use Rattle.rdata_layout.specs.declared.types.RType.{RType}
 use Rattle.record_set.specs.declared.sets.RecordSet.{RecordSet}
-use Rattle.set_parts.specs.Heads.{key_octets, policy_front}
+use Rattle.set_parts.specs.Heads.{policy_front}
 use Rattle.set_parts.specs.Laws.{KeysAreInFront}
 use Rattle.set_scratch.specs.Spelling.{Spells}
 use Rattle.zone_model.proofs.Ordered.{one_number}

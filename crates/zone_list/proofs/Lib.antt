@@ -5,3 +5,4 @@ pub mod Listing
 pub mod Looking
 pub mod Made
 pub mod Members
+pub mod Naming

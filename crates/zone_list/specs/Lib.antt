@@ -1,3 +1,4 @@
+pub mod Apexes
 pub mod Changes
 pub mod Found
 pub mod Kept

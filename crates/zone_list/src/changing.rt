@@ -55,7 +55,8 @@ pub fn come_all(
     }
 }
 
-/// The sets of these keys go from a zone, but for those that came for one. Their references are told.
+/// The sets of these keys go from a zone, but for those that came for one. Their references are
+/// told.
 pub fn leave_all(
     store: &mut SetStore,
     zone: u32,

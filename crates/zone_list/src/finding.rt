@@ -1,7 +1,8 @@
 //! Zones found by their numbers and names.
 
-ghost use Rattle.std.specs.Prelude.{◌≡◌, ◌<◌, ◌-◌, IsTrue, ◌↔◌};
-ghost use Rattle.zone_list.specs.Found.{FindsZone, IsAsLong, IsLonger, IsPast, IsSplit, LongestOrNone, NextZoneOrNone};
+ghost use Rattle.std.specs.Prelude.{◌≡◌, ◌<◌, ◌-◌, IfSome, IsTrue, ◌↔◌};
+ghost use Rattle.zone_list.specs.Found.{FindsZone, IsAsLong, IsAt, IsLonger, IsPast, IsSplit};
+ghost use Rattle.zone_list.specs.Found.{LongestOrNone, NextZoneOrNone};
 ghost use Rattle.zone_list.specs.Kept.{named, named_of};
 ghost use Rattle.zone_list.specs.Zones.{AreListed};
 
@@ -13,8 +14,28 @@ pub fn find_zone(list: &[StoredZone], id: u32) -> Option<usize>
     requires { AreListed (named_of list.now) }
     ensures { FindsZone (named_of list.now) id result }
 {
+    if let Some(place) = by_count(list, id) {
+        return Some(place);
+    }
     let place = first_from(list, id);
     if place == list.len() {
+        return None;
+    }
+    if list[place].id() != id {
+        return None;
+    }
+    Some(place)
+}
+
+/// The place of the zone with this number, where it is the one of so many.
+fn by_count(list: &[StoredZone], id: u32) -> Option<usize>
+    ensures { IfSome result (λ place. IsAt (named_of list.now) id place) }
+{
+    if id == 0 {
+        return None;
+    }
+    let place = id as usize - 1;
+    if place >= list.len() {
         return None;
     }
     if list[place].id() != id {
@@ -53,7 +74,8 @@ fn halve(list: &[StoredZone], id: u32, low: usize, high: usize) -> (usize, usize
     (low, middle)
 }
 
-/// The number of the zone of the longest name that holds this one, and how many labels that name has.
+/// The number of the zone of the longest name that holds this one, and how many labels that name
+/// has.
 pub fn longest(list: &[StoredZone], name: &Name) -> Option<(u32, usize)>
     ensures { LongestOrNone (named_of list.now) name.now result }
 {

@@ -5,6 +5,7 @@
 
 ghost use Rattle.zone_order.specs.Orders.{IsOrder};
 
+use crate::apexes::Apex;
 use set_store::{SetStore, hash_of};
 
 /// An entry that tells nothing.
@@ -53,12 +54,16 @@ impl Hints {
         None
     }
 
-    /// Makes the table larger where it is small for so many places. It stays as it is where there is
-    /// no memory.
+    /// Makes the table larger where it is small for so many places. It stays as it is where there
+    /// is no memory.
     pub fn grow(&mut self, places: usize) {
-        if places < FEWEST {
-            return;
+        if places >= FEWEST {
+            self.widen(places);
         }
+    }
+
+    /// The same for few places too.
+    pub fn widen(&mut self, places: usize) {
         let size = self.entries.len();
         if places <= size - size / 8 {
             return;
@@ -86,6 +91,16 @@ impl Hints {
             self.moved = 0;
         }
     }
+
+    /// Tells that the name of a zone came or went, and makes the table anew where these are many.
+    pub fn refresh_names(&mut self, list: &[Apex]) {
+        self.moved = self.moved.saturating_add(1);
+        if self.moved > list.len() / 64 {
+            clear(&mut self.entries);
+            fill_names(&mut self.entries, list);
+            self.moved = 0;
+        }
+    }
 }
 
 /// Takes all entries away.
@@ -102,6 +117,15 @@ fn fill(entries: &mut Vec<u32>, store: &SetStore, zone: u32, order: &[u32])
     let mut place: u32 = 0;
     for slot in order {
         put(entries, store.name_hash(*slot), place);
+        place = place.wrapping_add(1);
+    }
+}
+
+/// Puts an entry for each of these names.
+fn fill_names(entries: &mut Vec<u32>, list: &[Apex]) {
+    let mut place: u32 = 0;
+    for apex in list {
+        put(entries, hash_of(apex.name.octets()), place);
         place = place.wrapping_add(1);
     }
 }

@@ -1,6 +1,7 @@
 //! A zone as it is stored: its number, its name and the slots of its sets.
 
-ghost use Rattle.std.specs.Prelude.{◌≡◌, ◌≤◌, ◌+◌, [], length, map, IsOk, OnOk, vec_len, vec_capacity};
+ghost use Rattle.std.specs.Prelude.{◌≡◌, ◌≤◌, ◌+◌, [], length, map, IsOk, OnOk, vec_len};
+ghost use Rattle.std.specs.Prelude.{vec_capacity};
 ghost use Rattle.std.specs.List.{AllByRecursion};
 ghost use Rattle.set_octets.specs.Octets.{set_octets};
 ghost use Rattle.zone_changes.specs.Sums.{sums_of};
@@ -18,8 +19,8 @@ use set_store::SetStore;
 use std::marker::Model;
 use zone_changes::{Sums, no_sums};
 
-/// A zone. Contracts see its number, its name, the slots of its sets in zone order, how many more of
-/// them it can take without memory, and what is counted of them.
+/// A zone. Contracts see its number, its name, the slots of its sets in zone order, how many more
+/// of them it can take without memory, and what is counted of them.
 #[derive(Drop)]
 pub struct StoredZone {
     id: u32,
@@ -125,17 +126,19 @@ impl StoredZone {
         added: &mut Vec<SetRef>,
     )
         requires order { IsOrder store.old.slots self.old.id self.old.order }
-        requires can { CanChange self.old.apex (placed_of store.old.slots self.old.id self.old.order)
-            remove.now add.now }
+        requires can { CanChange self.old.apex
+            (placed_of store.old.slots self.old.id self.old.order) remove.now add.now }
         requires none_removed { removed.old.items ≡ [] }
         requires none_added { added.old.items ≡ [] }
         requires removable { length remove.now ≤ vec_capacity removed.old }
         requires addable { length add.now ≤ vec_capacity added.old }
-        requires buffer { AllByRecursion (λ set. length (set_octets set) ≤ length buffer.old) add.now }
+        requires buffer { AllByRecursion (λ set.
+            length (set_octets set) ≤ length buffer.old) add.now }
         requires cells { cells_in_all add.now ≤ store.old.cells }
         requires slots { length add.now ≤ store.old.free }
         requires places { length add.now ≤ self.old.room }
-        requires sums { self.old.sums ≡ sums_of (placed_of store.old.slots self.old.id self.old.order) }
+        requires sums { self.old.sums
+            ≡ sums_of (placed_of store.old.slots self.old.id self.old.order) }
         ensures id { self.new.id ≡ self.old.id }
         ensures apex { self.new.apex ≡ self.old.apex }
         ensures order { IsOrder store.new.slots self.new.id self.new.order }

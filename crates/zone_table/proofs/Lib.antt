@@ -1,3 +1,4 @@
+pub mod Apexes
 pub mod Apart
 pub mod Edited
 pub mod Kept

@@ -1,15 +1,14 @@
 -- What is counted of all zones, kept by edits, and what it tells.
-use Rattle.std.proofs.Common.{◌≡◌, ◌≤◌, ◌<◌, ◌+◌, ◌-◌, ◌*◌, ◌%◌, ◌^◌, ℕ, zero, suc, List, [], ◌∷◌, length, map, set, ap, ◌∙◌, sym, refl, Option, Some, Bool, true, false, cond, subst, arith}
+use Rattle.std.proofs.Common.{◌≡◌, ◌≤◌, ◌<◌, ◌+◌, ◌-◌, ◌*◌, ◌%◌, ◌^◌, ℕ, List, [], ◌∷◌, length, map, set, ap, ◌∙◌, sym, refl, Option, Some, Bool, true, false, cond, arith}
 use Rattle.std.specs.Prelude.{◌==◌, slice_get}
 use Rattle.std.specs.List.{AllByRecursion, insert, remove, sum_by}
 use Rattle.std.proofs.lemmas.List.{length-map}
 use Rattle.std.proofs.lemmas.List.Sums.{sum_by-cons}
-use Rattle.set_octets.specs.Octets.{set_octets}
 use Rattle.set_scratch.specs.Telling.{is_alias}
 use Rattle.set_store.specs.Stored.{Kept, Store}
 use Rattle.zone_changes.proofs.Cells.{sum_insert, sum_remove, sum_set}
 use Rattle.zone_changes.specs.declared.sums.Sums.{Sums}
-use Rattle.zone_changes.specs.Sums.{aliases_in, aliases_of, octets_in, octets_of, one_of, sums_of}
+use Rattle.zone_changes.specs.Sums.{aliases_in, aliases_of, octets_in, octets_of, one_of}
 use Rattle.zone_model.specs.Placed.{Placed}
 use Rattle.zone_order.specs.Orders.{placed_at, placed_of, set_in}
 use Rattle.zone_list.specs.Kept.{AreKept, Listed, Stands, zone_in, zones_in}

@@ -1,3 +1,4 @@
+pub mod Apexes
 pub mod Counted
 pub mod Edits
 pub mod Laws

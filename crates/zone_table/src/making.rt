@@ -9,6 +9,7 @@ ghost use Rattle.zone_list.specs.Kept.{AreKept, Listed, zones_in};
 ghost use Rattle.zone_list.specs.Steps.{cells_in_all};
 ghost use Rattle.zone_list.specs.Zones.{placed_in};
 ghost use Rattle.zone_table.specs.declared.edits.ZoneEdit.TheVariants.{Open, Close, Change};
+ghost use Rattle.zone_table.specs.Apexes.{Notes};
 ghost use Rattle.zone_table.specs.Counted.{AreCounted};
 ghost use Rattle.zone_table.specs.Edits.{Edits, IsAllowed, collections_after};
 ghost use Rattle.zone_table.specs.Needs.{CanTake, IsReadyFor};
@@ -17,7 +18,19 @@ use crate::edits::{Ready, SetKeys, Sets, ZoneEdit};
 use crate::refs::Delta;
 use cidr_routing::Collections;
 use set_store::SetStore;
-use zone_list::{SetRef, SetRefs, StoredZone, find_zone, first_from};
+use zone_list::{Apexes, SetRef, SetRefs, StoredZone, find_zone, first_from};
+
+/// Notes the name of a zone that is opened, and forgets that of one that is closed.
+pub fn note_name(apexes: &mut Apexes, made: &ZoneEdit)
+    ensures { Notes apexes.old made.now apexes.new }
+{
+    match made {
+        ZoneEdit::Open { zone, name, .. } => apexes.come(*zone, name),
+        ZoneEdit::Close(zone) => apexes.go(*zone),
+        ZoneEdit::Change { .. } => {}
+        ZoneEdit::Collections(_) => {}
+    }
+}
 
 /// Makes an edit that is ready.
 pub fn make(

@@ -15,7 +15,7 @@ use octet_region::cells_for;
 use octets::OutOfMemory;
 use record_set::RecordSet;
 use set_octets::set_len;
-use zone_list::{StoredZone, find_zone};
+use zone_list::{Apexes, StoredZone, find_zone};
 
 /// How much memory an edit wants, each in the unit in which it is used.
 #[derive(Clone, Copy)]
@@ -148,5 +148,15 @@ fn reserve_in(list: &mut Vec<StoredZone>, zone: u32, more: usize) -> Result<(), 
     match find_zone(list, zone) {
         Some(place) => list[place].reserve(more),
         None => Ok(()),
+    }
+}
+
+/// Makes room for the name of a zone that is opened.
+pub fn reserve_name(apexes: &mut Apexes, edit: &ZoneEdit) -> Result<(), OutOfMemory>
+    ensures { apexes.new ≡ apexes.old }
+{
+    match edit {
+        ZoneEdit::Open { .. } => apexes.reserve(),
+        _ => Ok(()),
     }
 }

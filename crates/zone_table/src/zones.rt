@@ -20,8 +20,8 @@ use crate::edits::{Ready, ZoneEdit};
 use crate::looking::{
     copies, hint_of, load, order_of, slot_at, slot_behind, slot_in, sums_in, target, view, watch,
 };
-use crate::making::make;
-use crate::needs::{need_of, reserve_for};
+use crate::making::{make, note_name};
+use crate::needs::{need_of, reserve_for, reserve_name};
 use crate::refs::{Delta, Group};
 use cidr_routing::Collections;
 use dns_name::Name;
@@ -33,7 +33,7 @@ use set_search::{Stop, before_key, behind_key, closest_in, exists_in, group_in};
 use set_store::{SetStore, Watch};
 use std::alloc::Global;
 use std::marker::Model;
-use zone_list::{SetRef, StoredZone, find_zone, longest, next_id};
+use zone_list::{Apexes, SetRef, StoredZone, find_zone, longest, next_id};
 use zone_order::make_room;
 
 /// The zones of a server, by rising number, and the sets of all of them.
@@ -41,6 +41,8 @@ use zone_order::make_room;
 pub struct Zones {
     store: SetStore,
     list: Vec<StoredZone>,
+    /// Their names, where these are known.
+    apexes: Apexes,
     collections: Collections,
     /// How many octets the sets of all zones have.
     octets: u64,
@@ -51,6 +53,7 @@ pub struct Zones {
 impl Model for Zones {
     ghost use Rattle.std.specs.Prelude.{◌-◌, length, map, vec_capacity};
     ghost use Rattle.zone_list.specs.Kept.{AreKept, zones_in};
+    ghost use Rattle.zone_table.specs.Apexes.{KnowsNames};
     ghost use Rattle.zone_table.specs.Counted.{AreCounted};
     ghost use Rattle.zone_table.specs.Tables.{Table};
 
@@ -68,7 +71,8 @@ impl Model for Zones {
     } };
 
     ghost invariant = { λ z. AreKept z.store.slots z.list.items
-        × AreCounted z.store z.list.items z.octets };
+        × AreCounted z.store z.list.items z.octets
+        × KnowsNames z.apexes (zones_in z.store.slots z.list.items) };
 }
 
 impl Zones {
@@ -81,6 +85,7 @@ impl Zones {
         Zones {
             store: SetStore::new(alloc),
             list: Vec::new(alloc),
+            apexes: Apexes::new(alloc),
             collections: Collections::new(alloc),
             octets: 0,
             edits: 0,
@@ -191,6 +196,9 @@ impl Zones {
     pub fn zone_for(&self, name: &Name) -> Option<u32>
         ensures { HoldsOrNone self.now.zones name.now result }
     {
+        if self.apexes.is_known() {
+            return self.apexes.longest(name);
+        }
         match longest(&self.list, name) {
             Some((id, _)) => Some(id),
             None => None,
@@ -314,6 +322,7 @@ impl Zones {
         ensures ready { IfOk result (λ ready. IsReady self.new ready) }
         ensures others { StayReady self.old self.new }
     {
+        reserve_name(&mut self.apexes, &edit)?;
         let need = need_of(&self.list, &edit)?;
         make_room(&mut self.store, need.addable, need.cells)?;
         reserve_for(&mut self.list, &edit)?;
@@ -330,6 +339,7 @@ impl Zones {
         ensures count { self.new.edits ≡ (self.old.edits + 1) % 2 ^ 64 }
     {
         self.edits = self.edits.wrapping_add(1);
+        note_name(&mut self.apexes, &ready.made);
         make(
             &mut self.store,
             &mut self.list,

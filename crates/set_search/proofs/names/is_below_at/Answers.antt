@@ -1,5 +1,5 @@
 use Rattle.std.proofs.Common.{arith}
-use Rattle.set_search.proofs.Lookups.{at_one, filled}
+use Rattle.set_search.proofs.Lookups.{filled}
 use Rattle.set_search.proofs.names.is_below_at.Goals as goal
 
 pub returns : goal.returns

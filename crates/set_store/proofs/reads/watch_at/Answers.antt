@@ -1,4 +1,4 @@
-use Rattle.std.proofs.Common.{length, subst, sym, arith}
+use Rattle.std.proofs.Common.{subst, sym, arith}
 use Rattle.set_store.specs.Stored.{Spells}
 use Rattle.set_store.proofs.reads.watch_at.Goals as goal
 

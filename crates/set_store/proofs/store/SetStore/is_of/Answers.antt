@@ -1,8 +1,7 @@
-use Rattle.std.proofs.Common.{◌≡◌, List, ℕ, take, drop, length, subst, sym, ap, ◌∙◌, arith}
-use Rattle.std.specs.Prelude.{IsTrue, ◌↔◌}
+use Rattle.std.proofs.Common.{subst, sym, ap, ◌∙◌, arith}
 use Rattle.octets.specs.Numbers.{two_octets}
 use Rattle.set_store.specs.Stored.{IsKept, Store}
-use Rattle.set_store.proofs.Fronts.{fronted, its_name, its_type}
+use Rattle.set_store.proofs.Fronts.{its_name, its_type}
 use Rattle.set_store.proofs.Reading.{found}
 use Rattle.set_store.proofs.store.SetStore.is_of.Goals as goal
 

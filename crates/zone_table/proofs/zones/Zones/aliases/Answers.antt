@@ -1,4 +1,4 @@
-use Rattle.std.proofs.Common.{◌≡◌, ◌<◌, ◌^◌, ℕ, List, length, ap, subst, ◌∙◌, arith}
+use Rattle.std.proofs.Common.{◌≡◌, ◌<◌, ◌^◌, List, length, ap, subst, ◌∙◌, arith}
 use Rattle.zone_changes.specs.declared.sums.Sums.{Sums}
 use Rattle.zone_changes.specs.Sums.{aliases_of, sums_of}
 use Rattle.zone_list.specs.Kept.{Listed, zones_in}

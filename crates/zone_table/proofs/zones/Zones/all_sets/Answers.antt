@@ -1,4 +1,4 @@
-use Rattle.std.proofs.Common.{◌≡◌, ◌≤◌, ◌<◌, ◌-◌, ◌^◌, length, ap, sym, ◌∙◌, arith}
+use Rattle.std.proofs.Common.{ap, arith}
 use Rattle.zone_table.specs.Counted.{sets_in_all}
 use Rattle.zone_table.specs.Tables.{Table}
 use Rattle.zone_table.proofs.Totals.{all_sets}

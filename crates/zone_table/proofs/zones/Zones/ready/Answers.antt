@@ -3,6 +3,7 @@ use Rattle.zone_list.specs.Kept.{Listed, zones_in}
 use Rattle.zone_table.specs.Edits.{IsAllowed, StayReady}
 use Rattle.zone_table.specs.Needs.{Counts}
 use Rattle.zone_table.specs.Tables.{Table}
+use Rattle.zone_table.proofs.Apexes.{still_known}
 use Rattle.zone_table.proofs.Rooms.{counts_still, is_ready, ok_so, rows_are_kept, rows_zones, same_room}
 use Rattle.zone_table.proofs.Rooms.{spelled_of, stay_ready, still_kept, still_zones, table_of}
 use Rattle.zone_table.proofs.Totals.{roomy, rows_counted}
@@ -11,12 +12,17 @@ use Rattle.zone_table.proofs.zones.Zones.ready.Goals as goal
 pub need_of-requires-clause-spelled : goal.need_of-requires-clause-spelled
 need_of-requires-clause-spelled c = spelled_of c.args.self.now.zones c.args.edit c.requires
 
-pub invariant_of-self : goal.invariant_of-self
-invariant_of-self c = (
+pub invariant_of-self-in_err-make_room : goal.invariant_of-self-in_err-make_room
+invariant_of-self-in_err-make_room c = (
   still_kept c.self.inside.store.slots c.make_room.new.store.slots c.make_room.ensures.stay
       c.self.inside.list.items c.self.invariant.0,
   roomy c.self.inside.store c.make_room.new.store c.self.inside.list.items c.self.inside.octets
       c.self.invariant.1 c.make_room.ensures.slots,
+  still_known c.self.inside.apexes c.reserve_name.new.apexes
+      (zones_in c.self.inside.store.slots c.self.inside.list.items)
+      (zones_in c.make_room.new.store.slots c.self.inside.list.items) c.reserve_name.ensures
+      (still_zones c.self.inside.store.slots c.make_room.new.store.slots c.make_room.ensures.stay
+      c.self.inside.list.items) c.self.invariant.2,
 )
 
 pub returns-in_err-make_room-clause-others : goal.returns-in_err-make_room-clause-others
@@ -36,6 +42,11 @@ invariant_of-self-in_err-reserve_for c =
           (still_kept s.store.slots store.slots c.make_room.ensures.stay s.list.items c.self.invariant.0),
       rows_counted store s.list.items c.reserve_for.new.list.items s.octets c.reserve_for.ensures.rows
           (roomy s.store store s.list.items s.octets c.self.invariant.1 c.make_room.ensures.slots),
+      still_known s.apexes c.reserve_name.new.apexes (zones_in s.store.slots s.list.items)
+          (zones_in store.slots c.reserve_for.new.list.items) c.reserve_name.ensures
+          (rows_zones store.slots s.list.items c.reserve_for.new.list.items c.reserve_for.ensures.rows
+          ∙ still_zones s.store.slots store.slots c.make_room.ensures.stay s.list.items)
+          c.self.invariant.2,
     )
 
 pub returns-in_err-reserve_for-clause-zones : goal.returns-in_err-reserve_for-clause-zones
@@ -66,6 +77,11 @@ invariant_of-self-2 c =
           (still_kept s.store.slots store.slots c.make_room.ensures.stay s.list.items c.self.invariant.0),
       rows_counted store s.list.items c.reserve_for.new.list.items s.octets c.reserve_for.ensures.rows
           (roomy s.store store s.list.items s.octets c.self.invariant.1 c.make_room.ensures.slots),
+      still_known s.apexes c.reserve_name.new.apexes (zones_in s.store.slots s.list.items)
+          (zones_in store.slots c.reserve_for.new.list.items) c.reserve_name.ensures
+          (rows_zones store.slots s.list.items c.reserve_for.new.list.items c.reserve_for.ensures.rows
+          ∙ still_zones s.store.slots store.slots c.make_room.ensures.stay s.list.items)
+          c.self.invariant.2,
     )
 
 pub returns-clause-zones : goal.returns-clause-zones

@@ -1,4 +1,4 @@
-use Rattle.std.proofs.Common.{◌≤◌, ◌^◌, subst, arith}
+use Rattle.std.proofs.Common.{subst}
 use Rattle.zone_table.specs.Tables.{Table, HaveSlotsBelow}
 use Rattle.zone_table.proofs.Apart.{below}
 use Rattle.zone_table.proofs.zones.Zones.slots_within.Goals as goal

@@ -1,10 +1,18 @@
 use Rattle.std.proofs.Common.{List, None, Some, refl, subst}
 use Rattle.zone_list.specs.Found.{LongestOrNone}
-use Rattle.zone_list.specs.Kept.{Listed, named_of}
+use Rattle.zone_list.specs.Kept.{Listed, named_of, zones_in}
 use Rattle.zone_table.specs.Looking.{HoldsOrNone}
 use Rattle.zone_table.specs.Tables.{Table}
+use Rattle.zone_table.proofs.Apexes.{held_by}
 use Rattle.zone_table.proofs.Naming.{holds}
 use Rattle.zone_table.proofs.zones.Zones.zone_for.Goals as goal
+
+pub returns-then-is_known : goal.returns-then-is_known
+returns-then-is_known c =
+    subst (λ (t : Table). HoldsOrNone t.zones c.args.name.now c.longest.result) c.self.view_is
+    (held_by c.self.inside.apexes (zones_in c.self.inside.store.slots c.self.inside.list.items)
+    c.args.name.now c.longest.result c.self.invariant.2 (c.is_known.ensures.0 c.if-is_known.true)
+    c.longest.ensures)
 
 pub returns-in-Some : goal.returns-in-Some
 returns-in-Some c =

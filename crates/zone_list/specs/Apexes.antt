@@ -1,0 +1,73 @@
+-- The numbers and names of zones, in zone order.
+use Rattle.std.specs.Prelude.{◌≡◌, ◌≢◌, ◌≤◌, ◌<◌, ◌↔◌, ℕ, List, [], ◌∷◌, length, slice_get, true, false, Option, None, Some, ⊤}
+use Rattle.std.specs.List.{AllByRecursion}
+use Rattle.std.specs.Ordering.{is_gt}
+use Rattle.std.specs.declared.cmp.Ordering.TheVariants.{Less}
+use Rattle.dns_name.specs.Order.{zone_cmp}
+use Rattle.dns_name.specs.Suffix.{EndsWith}
+use Rattle.zone_model.specs.Existing.{IsAncestor}
+use Rattle.zone_model.specs.Zones.{IsAmong}
+use Rattle.zone_list.specs.declared.apexes.Apex.{Apex}
+
+-- Each name comes before all that stand behind it.
+abbrev pub AreInOrder : List Apex → Type 0
+AreInOrder [] = ⊤
+AreInOrder (apex ∷ list) =
+    AllByRecursion (λ other. zone_cmp apex.name other.name ≡ Less) list × AreInOrder list
+
+-- The names before place `low` are this one or come before it, and those from `high` on come behind it.
+pub record IsParted (list : List Apex) (name : List (List ℕ)) (low high : ℕ) : Type 0 where
+  pub order : low ≤ high
+  pub within : high ≤ length list
+  pub before : (k : ℕ) (x : Apex) → k < low → slice_get list k ≡ Some x → is_gt (zone_cmp x.name name) ≡ false
+  pub behind : (k : ℕ) (x : Apex) → high ≤ k → slice_get list k ≡ Some x → is_gt (zone_cmp x.name name) ≡ true
+
+-- The longest of the names at or above a name, by its number.
+pub record IsLongestName (list : List Apex) (name : List (List ℕ)) (id : ℕ) : Type 0 where
+  pub apex : Apex
+  pub there : IsAmong list apex
+  pub its_id : apex.id ≡ id
+  pub above : EndsWith name apex.name
+  pub longest : (other : Apex) → IsAmong list other → EndsWith name other.name
+      → length other.name ≤ length apex.name
+
+abbrev pub LongestName : List Apex → (name : List (List ℕ)) → Option ℕ → Type 0
+LongestName list name (Some id) = IsLongestName list name id
+LongestName list name None = (apex : Apex) → IsAmong list apex → EndsWith name apex.name → ⊥
+
+-- The same, where None says no more than that the name itself isn't there.
+abbrev pub LongestOrNot : List Apex → (name : List (List ℕ)) → Option ℕ → Type 0
+LongestOrNot list name (Some id) = IsLongestName list name id
+LongestOrNot list name None = (apex : Apex) → IsAmong list apex → apex.name ≢ name
+
+-- All names at or above one are above another, at which a search has come.
+pub record AreAllAbove (list : List Apex) (name rest : List (List ℕ)) : Type 0 where
+  pub suffix : EndsWith name rest
+  pub above : (apex : Apex) → IsAmong list apex → EndsWith name apex.name → IsAncestor rest apex.name
+
+-- the zone of a number stands at a place, or no zone has it
+abbrev pub FindsNumber : List Apex → (id : ℕ) → Option ℕ → Type 0
+FindsNumber list id (Some place) =
+    (apex : Apex) × (slice_get list place ≡ Some apex) × (apex.id ≡ id)
+FindsNumber list id None = (apex : Apex) → IsAmong list apex → apex.id ≢ id
+
+-- one more
+abbrev pub IsWith : List Apex → Apex → (after : List Apex) → Type 0
+IsWith before apex after = (other : Apex) → IsAmong after other ↔ IsAmong (apex ∷ before) other
+
+-- all but that of a number
+abbrev pub IsWithout : List Apex → (id : ℕ) → (after : List Apex) → Type 0
+IsWithout before id after =
+    (other : Apex) → IsAmong after other ↔ (IsAmong before other × (other.id ≢ id))
+
+-- what is known, if anything is, once a zone came
+abbrev pub Comes : Option (List Apex) → Apex → Option (List Apex) → Type 0
+Comes before apex None = ⊤
+Comes None apex (Some after) = ⊥
+Comes (Some before) apex (Some after) = IsWith before apex after
+
+-- and once the zone of a number went
+abbrev pub Goes : Option (List Apex) → (id : ℕ) → Option (List Apex) → Type 0
+Goes before id None = ⊤
+Goes None id (Some after) = ⊥
+Goes (Some before) id (Some after) = IsWithout before id after
