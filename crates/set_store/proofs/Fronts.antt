@@ -1,10 +1,11 @@
 -- A set's name and type told by the octets that stand in front.
 use Rattle.std.proofs.Common.{◌≡◌, ℕ, ◌/◌, ◌%◌, List, ◌++◌, take, drop, length, ap, ◌∙◌, sym, arith, append_assoc, subst}
 use Rattle.std.specs.Prelude.{◌↔◌}
+use Rattle.std.specs.List.{AllByRecursion}
 use Rattle.std.proofs.lemmas.List.{take-append-drop}
 use Rattle.std.proofs.Math.Seq.{take-append_seam, drop-append_seam}
 use Rattle.octets.specs.Numbers.{two_octets}
-use Rattle.dns_name.specs.Labels.{wire}
+use Rattle.dns_name.specs.Labels.{IsRawLabel, wire}
 use Rattle.dns_name.specs.Names.{IsName}
 use Rattle.dns_name.specs.Stored.{labels_of}
 use Rattle.dns_name.proofs.Labels.{labels_of-wire}
@@ -22,6 +23,17 @@ one_front : (octets rest more : List ℕ) (labels others : List (List ℕ)) → 
 one_front octets rest more labels others is others_are e f =
     sym (ap labels_of e ∙ labels_of-wire labels rest is.raw.each)
     ∙ (ap labels_of f ∙ labels_of-wire others more others_are.raw.each)
+
+-- the names are one, where the octets of one stand in front of what the other begins
+pub above_alike : (octets more : List ℕ) (labels others : List (List ℕ))
+    → AllByRecursion IsRawLabel labels → AllByRecursion IsRawLabel others
+    → octets ≡ wire labels ++ more → take (length (wire others)) octets ≡ wire others
+    → labels ≡ others
+above_alike octets more labels others each other_each e h =
+    let n = length (wire others) in
+    sym (ap labels_of e ∙ labels_of-wire labels more each)
+    ∙ (ap labels_of (sym (take-append-drop n octets) ∙ ap (λ xs. xs ++ drop n octets) h)
+    ∙ labels_of-wire others (drop n octets) other_each)
 
 -- octets that begin with a name begin with the octets of that name alone
 pub named : (octets rest : List ℕ) (labels name : List (List ℕ)) → IsName labels → IsName name

@@ -6,6 +6,7 @@ pub mod More
 pub mod Counts
 pub mod Fronts
 pub mod Puts
+pub mod Beside
 pub mod Reading
 pub mod Takes
 pub mod Back

@@ -1,7 +1,7 @@
 //! Sets read where they stand: compared with bounds and names, and copied.
 
-ghost use Rattle.std.specs.Prelude.{◌≡◌, ◌≤◌, ◌<◌, ◌++◌, ℕ, List, drop, length, take, min, slice_get};
-ghost use Rattle.std.specs.Prelude.{Some, IfOk, IsTrue, ◌↔◌};
+ghost use Rattle.std.specs.Prelude.{◌≡◌, ◌≤◌, ◌<◌, ◌++◌, ℕ, List, drop, length, take, min};
+ghost use Rattle.std.specs.Prelude.{slice_get, Some, IfOk, IsTrue, ◌↔◌};
 ghost use Rattle.dns_name.specs.Suffix.{EndsWith};
 ghost use Rattle.record_set.specs.declared.sets.RecordSet.{RecordSet};
 ghost use Rattle.set_octets.specs.Octets.{most_octets, set_octets};
@@ -15,6 +15,7 @@ ghost use Rattle.set_store.specs.Stored.{IsKept, IsSpelling, IsTaken, Kept, Spel
 
 use crate::hashes::hash_of;
 use crate::heads::{head_is_before, head_is_below};
+use crate::siblings::is_before_beside;
 use crate::slots::{NO_CELL, Slot};
 use crate::store::SetStore;
 use dns_name::Name;
@@ -58,6 +59,9 @@ impl SetStore {
     {
         keys_are_in_front();
         written_reads_back();
+        if let Some(before) = is_before_beside(&self.region, &self.slots, slot, stop) {
+            return before;
+        }
         if size_at(&self.region, &self.slots, slot) <= SHORT {
             return head_is_before(head_at(&self.region, &self.slots, slot, &mut [0; 64]), stop);
         }
@@ -237,8 +241,23 @@ fn copy_at(region: &Region, slots: &Vec<Slot>, slot: u32, into: &mut [u8])
     region.read_at(Handle::of(cell_at(slots, slot)), 0, into);
 }
 
+/// The first octets of a slot's set, lent: 32 of them, or all where they are fewer.
+pub(crate) fn front_at<'a>(region: &'a Region, slots: &Vec<Slot>, slot: u32) -> &'a [u8]
+    requires { (octets : List ℕ) × HoldsAt region.now.held slots.now.items slot octets }
+    ensures { (octets : List ℕ) → HoldsAt region.now.held slots.now.items slot octets
+        → result.now ≡ take 32 octets }
+{
+    region.front(Handle::of(cell_at(slots, slot)))
+}
+
 /// Whether the octets of a slot's set go on with others from a place on.
-fn stands_at(region: &Region, slots: &Vec<Slot>, slot: u32, offset: usize, octets: &[u8]) -> bool
+pub(crate) fn stands_at(
+    region: &Region,
+    slots: &Vec<Slot>,
+    slot: u32,
+    offset: usize,
+    octets: &[u8],
+) -> bool
     requires { (octets : List ℕ) × HoldsAt region.now.held slots.now.items slot octets }
     ensures { (known : List ℕ) → HoldsAt region.now.held slots.now.items slot known
         → IsTrue result ↔ (take (length octets.now) (drop offset known) ≡ octets.now) }

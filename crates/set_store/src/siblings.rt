@@ -1,0 +1,97 @@
+//! Names compared where they stand, in the way that serves names right below one name: most names
+//! of a zone are.
+
+ghost use Rattle.std.specs.Prelude.{◌≡◌, ◌≤◌, ◌+◌, ℕ, List, drop, get_or, length, take, if◌then◌else◌};
+ghost use Rattle.std.specs.Prelude.{IfSome};
+ghost use Rattle.std.specs.Cmp.Lexicographic.{slice_cmp};
+ghost use Rattle.std.specs.Ordering.{nat_cmp};
+ghost use Rattle.std.specs.declared.cmp.Ordering.TheVariants.{Greater, Less};
+ghost use Rattle.dns_name.specs.Order.{zone_cmp};
+ghost use Rattle.record_set.specs.declared.sets.RecordSet.{RecordSet};
+ghost use Rattle.set_search.specs.Bounds.{is_before};
+ghost use Rattle.set_search.specs.Stops.{bound_of};
+ghost use Rattle.set_store.specs.Index.{HoldsAt};
+ghost use Rattle.set_store.specs.Stored.{IsSpelling, Spells};
+
+use crate::reads::{front_at, stands_at};
+use crate::slots::Slot;
+use dns_name::Name;
+use octet_region::Region;
+use octets::behind;
+use set_search::Stop;
+use std::cmp::Ordering;
+
+/// Whether the set of a slot stands before a bound, where its name and that of the bound are right
+/// below one name and aren't the same. None where that isn't so.
+pub fn is_before_beside(region: &Region, slots: &Vec<Slot>, slot: u32, stop: &Stop) -> Option<bool>
+    requires { (octets : List ℕ) × HoldsAt region.now.held slots.now.items slot octets
+        × IsSpelling octets }
+    ensures { (octets : List ℕ) (set : RecordSet)
+        → HoldsAt region.now.held slots.now.items slot octets → Spells octets set
+        → IfSome result (λ before. before ≡ is_before (bound_of stop.now) set) }
+{
+    match stop {
+        Stop::From(name, _, _) => is_named_before(region, slots, slot, name),
+        Stop::Past(name, _, _) => is_named_before(region, slots, slot, name),
+        Stop::PastGroup(name, _) => is_named_before(region, slots, slot, name),
+    }
+}
+
+/// Whether the name of a slot's set comes before another, where both are right below one name and
+/// aren't the same.
+fn is_named_before(region: &Region, slots: &Vec<Slot>, slot: u32, name: &Name) -> Option<bool>
+    requires { (octets : List ℕ) × HoldsAt region.now.held slots.now.items slot octets
+        × IsSpelling octets }
+    ensures { (octets : List ℕ) (set : RecordSet)
+        → HoldsAt region.now.held slots.now.items slot octets → Spells octets set
+        → IfSome result (λ before. zone_cmp set.name name.now
+        ≡ (if before then Less else Greater)) }
+{
+    let octets = name.octets();
+    let front = front_at(region, slots, slot);
+    let own = first_octet(front);
+    let size = first_octet(octets);
+    if own == 0 {
+        return None;
+    }
+    if own >= 32 {
+        return None;
+    }
+    if size == 0 {
+        return None;
+    }
+    if !stands_at(region, slots, slot, own + 1, behind(octets, size + 1)) {
+        return None;
+    }
+    label_before(part(front, 1, own), part(octets, 1, size))
+}
+
+/// The first octet, which in a name is how many octets the first label has.
+fn first_octet(octets: &[u8]) -> usize
+    ensures { result ≡ get_or octets.now 0 0 }
+{
+    match octets {
+        [size, ..] => *size as usize,
+        [] => 0,
+    }
+}
+
+/// So many octets from a place on.
+fn part(octets: &[u8], at: usize, n: usize) -> &[u8]
+    requires { at + n ≤ length octets.now }
+    ensures { result.now ≡ take n (drop at octets.now) }
+{
+    &octets[at..at + n]
+}
+
+/// Whether a label comes before another. None where they are the same.
+fn label_before(label: &[u8], other: &[u8]) -> Option<bool>
+    ensures { IfSome result (λ before. slice_cmp nat_cmp label.now other.now
+        ≡ (if before then Less else Greater)) }
+{
+    match label.cmp(other) {
+        Ordering::Less => Some(true),
+        Ordering::Equal => None,
+        Ordering::Greater => Some(false),
+    }
+}
