@@ -1,0 +1,4 @@
+mod Applied
+mod Deciding
+mod Filtered
+mod Ruled
