@@ -1,5 +1,6 @@
 -- Changes applied to the sets of some names.
-use Rattle.std.proofs.Common.{◌≡◌, ℕ, List, [], ◌∷◌, ◌++◌, ap, ◌∙◌, sym, refl, subst, Bool, true, false, cond, not, Less, Equal, Greater}
+use Rattle.std.proofs.Common.{◌≡◌, ℕ, List, [], ◌∷◌, ◌++◌, ap, ◌∙◌, sym, refl, subst, Bool, true}
+use Rattle.std.proofs.Common.{false, cond, not, Less, Equal, Greater}
 use Rattle.std.specs.Prelude.{Ok, Err}
 use Rattle.std.specs.List.{AllByRecursion, filter}
 use Rattle.std.specs.Ordering.{is_gt, is_lt, ordering_reverse}
@@ -119,7 +120,8 @@ module _ (kept : (name : List (List ℕ)) → Bool) where
         (placed given sets, refl, made ∙ sym (placed_few given sets good))
 
     pub gives_few : (change : Change) (sets after : List RecordSet) → kept change.set.name ≡ true
-        → Gives sets apex change (Ok after) → Gives (filter keeps sets) apex change (Ok (filter keeps after))
+        → Gives sets apex change (Ok after) → Gives (filter keeps sets) apex change (Ok
+        (filter keeps after))
     gives_few change sets after good g =
         (g.0, makes_few change.action change.set sets after good g.1)
 
@@ -197,7 +199,8 @@ module _ (kept : (name : List (List ℕ)) → Bool) where
   -- the sets that stand before a key and behind it, without those of the key
   parted : (key : SetKey) (sets : List RecordSet) → IsRising sets
       → ((set : RecordSet) → key_of set ≡ key → spares set ≡ false)
-      → filter spares (filter (comes_before key) sets) ++ filter spares (filter (comes_behind key) sets)
+      → filter spares (filter (comes_before key) sets) ++ filter spares (filter
+      (comes_behind key) sets)
       ≡ filter spares sets
   parted key [] rising gone = refl
   parted key (set ∷ sets) rising gone =
@@ -233,7 +236,8 @@ module _ (kept : (name : List (List ℕ)) → Bool) where
           (ap (λ s. filter spares s ++ filter spares (filter (comes_behind key) sets)) (sym none)
           ∙ rest)
 
-  placed_spared : (given : RecordSet) (sets : List RecordSet) → IsRising sets → kept given.name ≡ true
+  placed_spared : (given : RecordSet) (sets : List RecordSet) → IsRising sets → kept given.name
+      ≡ true
       → filter spares (placed given sets) ≡ filter spares sets
   placed_spared given sets rising good =
       let key = key_of given in

@@ -1,5 +1,6 @@
 -- A batch is decided by the sets of its names.
-use Rattle.std.proofs.Common.{◌≡◌, ℕ, List, [], ◌∷◌, ap, ◌∙◌, sym, refl, subst, Bool, true, false, not, take, zero, suc}
+use Rattle.std.proofs.Common.{◌≡◌, ℕ, List, [], ◌∷◌, ap, ◌∙◌, sym, refl, subst, Bool, true, false}
+use Rattle.std.proofs.Common.{not, take, zero, suc}
 use Rattle.std.specs.Prelude.{Ok, Err, ◌||◌}
 use Rattle.std.specs.List.{filter}
 use Rattle.dns_name.specs.Order.{same_labels}
@@ -15,17 +16,20 @@ use Rattle.batch_model.specs.declared.refusals.ChangeRefusal.{ChangeRefusal}
 use Rattle.batch_model.specs.declared.refusals.ChangeRefusal.TheVariants as refusal
 use Rattle.batch_model.specs.Batches.{BreaksAfter, IsRefusedAt, Leaves, Prepares}
 use Rattle.batch_model.specs.Changing.{Gives}
-use Rattle.batch_model.specs.Rules.{IsFirstBreak, Rule, OnePolicy, CnameAlone, OwnPlace, GroupSize, MeetsAll, rules}
+use Rattle.batch_model.specs.Rules.{IsFirstBreak, Rule, OnePolicy, CnameAlone, OwnPlace, GroupSize}
+use Rattle.batch_model.specs.Rules.{MeetsAll, rules}
 use Rattle.batch_names.specs.Laws.{NamesDecide}
 use Rattle.batch_names.specs.Named.{named_in, names, unnamed_in}
-use Rattle.batch_names.proofs.Applied.{AreKept, leaves_all, leaves_few, leaves_spared, leaves_zone, refused_all, refused_few}
+use Rattle.batch_names.proofs.Applied.{AreKept, leaves_all, leaves_few, leaves_spared, leaves_zone}
+use Rattle.batch_names.proofs.Applied.{refused_all, refused_few}
 use Rattle.batch_names.proofs.Filtered.{in_filter, of_filter}
 use Rattle.batch_names.proofs.Ruled.{first_all, first_few, meets_both, meets_few, spared}
 
 -- ---- lists in zone order
 
 -- a set of one list is of another where both leave the same to two tests that share all sets
-among_other : (f : RecordSet → Bool) (sets others : List RecordSet) → filter f sets ≡ filter f others
+among_other : (f : RecordSet → Bool) (sets others : List RecordSet) → filter f sets
+    ≡ filter f others
     → filter (λ (x : RecordSet). not (f x)) sets ≡ filter (λ (x : RecordSet). not (f x)) others
     → (set : RecordSet) → IsAmong sets set → IsAmong others set
 among_other f sets others same rest set there = by (f set) refl
@@ -51,13 +55,15 @@ same_by_parts f sets others rising rising_too same rest =
 named_later : (change : Change) (changes : List Change) (name : List (List ℕ))
     → names changes name ≡ true → names (change ∷ changes) name ≡ true
 named_later change changes name good =
-    ap (λ b. same_labels change.set.name name || b) good ∙ or_true (same_labels change.set.name name)
+    ap (λ b. same_labels change.set.name name || b) good ∙ or_true
+    (same_labels change.set.name name)
   where
     or_true : (b : Bool) → (b || true) ≡ true
     or_true true = refl
     or_true false = refl
 
-its_own : (change : Change) (changes : List Change) → names (change ∷ changes) change.set.name ≡ true
+its_own : (change : Change) (changes : List Change) → names (change ∷ changes) change.set.name
+    ≡ true
 its_own change changes =
     ap (λ b. b || names changes change.set.name)
     ((same_labels-Decides change.set.name change.set.name).1 refl)
@@ -205,7 +211,8 @@ module _ (sets : List RecordSet) (apex : List (List ℕ)) (changes : List Change
       let left =
       leaves_all its_names apex changes sets (named_in changes after) (all_named changes) p.1
       in
-      let spare = leaves_spared its_names apex changes sets left.0 zone (all_named changes) left.1 in
+      let spare = leaves_spared its_names apex changes sets left.0 zone
+      (all_named changes) left.1 in
       let same : left.0 ≡ after =
       same_by_parts (λ (set : RecordSet). its_names set.name) left.0 after
       (leaves_zone apex changes sets left.0 zone left.1).rising stays.rising (sym left.2)

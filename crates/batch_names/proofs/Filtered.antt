@@ -1,5 +1,6 @@
 -- Lists and those of their elements that pass a test.
-use Rattle.std.proofs.Common.{◌≡◌, ℕ, zero, suc, ◌<◌, ◌≤◌, List, [], ◌∷◌, ap, ◌∙◌, sym, refl, subst, Bool, true, false, cond, Some, arith, inl, inr}
+use Rattle.std.proofs.Common.{◌≡◌, ℕ, zero, suc, ◌<◌, ◌≤◌, List, [], ◌∷◌, ap, ◌∙◌, sym, refl, subst}
+use Rattle.std.proofs.Common.{Bool, true, false, cond, Some, arith, inl, inr}
 use Rattle.std.specs.Prelude.{◌⊎◌, slice_get}
 use Rattle.std.specs.List.{filter}
 use Rattle.zone_model.specs.Zones.{IsAmong}
@@ -12,14 +13,16 @@ below_or_not (suc a) (suc b) =
     elim (below_or_not a b) [ inl lt ↦ inl (omega (arith, lt)) | inr le ↦ inr (omega (arith, le)) ]
 
 module _ {X : Type 0} where
-  pub passes : (f : X → Bool) (x : X) (xs : List X) → f x ≡ true → filter f (x ∷ xs) ≡ x ∷ filter f xs
+  pub passes : (f : X → Bool) (x : X) (xs : List X) → f x ≡ true → filter f (x ∷ xs)
+      ≡ x ∷ filter f xs
   passes f x xs e = ap (λ b. cond b (x ∷ filter f xs) (filter f xs)) e
 
   pub fails : (f : X → Bool) (x : X) (xs : List X) → f x ≡ false → filter f (x ∷ xs) ≡ filter f xs
   fails f x xs e = ap (λ b. cond b (x ∷ filter f xs) (filter f xs)) e
 
   -- of two tests either may come first
-  pub either_first : (f g : X → Bool) (xs : List X) → filter f (filter g xs) ≡ filter g (filter f xs)
+  pub either_first : (f g : X → Bool) (xs : List X) → filter f (filter g xs) ≡ filter g
+      (filter f xs)
   either_first f g [] = refl
   either_first f g (x ∷ xs) = by (either_first f g xs) (f x) refl (g x) refl
     where

@@ -1,4 +1,9 @@
 mod Applied
 mod Deciding
 mod Filtered
+mod Holding
+mod Rising
 mod Ruled
+mod Runs
+mod Starting
+mod Values

@@ -1,5 +1,6 @@
 -- The rules that sets meet together, on the sets of some names.
-use Rattle.std.proofs.Common.{◌≡◌, ℕ, ◌<◌, List, [], ◌∷◌, ap, ◌∙◌, sym, refl, subst, Bool, true, false, not, Some, length, arith, inl, inr}
+use Rattle.std.proofs.Common.{◌≡◌, ℕ, ◌<◌, List, [], ◌∷◌, ap, ◌∙◌, sym, refl, subst, Bool, true}
+use Rattle.std.proofs.Common.{false, not, Some, length, arith, inl, inr}
 use Rattle.std.specs.Prelude.{slice_get, ◌==◌}
 use Rattle.std.specs.List.{filter}
 use Rattle.std.proofs.lemmas.Bool.Decides.{Decides-eqb, Decides-and}
@@ -9,9 +10,12 @@ use Rattle.dns_name.specs.OrderLaws.{same_labels-Decides}
 use Rattle.rdata_layout.specs.declared.types.RType.{RType}
 use Rattle.rdata_layout.specs.Types.{number_of}
 use Rattle.record_set.specs.declared.sets.RecordSet.{RecordSet}
-use Rattle.batch_model.specs.Rules.{Rule, OnePolicy, CnameAlone, OwnPlace, GroupSize, Breaks, BreaksAt, HasCname, HasOtherType, IsFirstBreak, MeetsAll, NoneBreaksBefore, rules, rules_before}
+use Rattle.batch_model.specs.Rules.{Rule, OnePolicy, CnameAlone, OwnPlace, GroupSize, Breaks}
+use Rattle.batch_model.specs.Rules.{BreaksAt, HasCname, HasOtherType, IsFirstBreak, MeetsAll}
+use Rattle.batch_model.specs.Rules.{NoneBreaksBefore, rules, rules_before}
 use Rattle.zone_model.specs.Zones.{AreOneGroup, group, is_of_group}
-use Rattle.batch_names.proofs.Filtered.{absorbed, in_filter, of_filter, rank, at_rank, Stood, stood, rank_below, earlier}
+use Rattle.batch_names.proofs.Filtered.{absorbed, in_filter, of_filter, rank, at_rank, Stood, stood}
+use Rattle.batch_names.proofs.Filtered.{rank_below, earlier}
 
 module _ (kept : (name : List (List ℕ)) → Bool) where
   -- a set's name is one of those that are kept
@@ -145,7 +149,8 @@ module _ (kept : (name : List (List ℕ)) → Bool) where
 
     -- the same, of a place among those that are kept
     pub broken_all : (rule : Rule) (k : ℕ) → BreaksAt rule few apex k
-        → (i : ℕ) × (set : RecordSet) × (slice_get sets i ≡ Some set) × (keeps set ≡ true) × (place i ≡ k)
+        → (i : ℕ) × (set : RecordSet) × (slice_get sets i ≡ Some set) × (keeps set ≡ true) ×
+        (place i ≡ k)
         × Breaks rule sets apex i set
     broken_all rule k (set, at_k, b) =
         let s = stood keeps sets k set at_k in (
@@ -173,7 +178,8 @@ module _ (kept : (name : List (List ℕ)) → Bool) where
 -- ---- the sets of some names, and all others
 
 -- all rules are among those that are looked at
-pub meets_each : (rule : Rule) (sets : List RecordSet) (apex : List (List ℕ)) → MeetsAll rules sets apex
+pub meets_each : (rule : Rule) (sets : List RecordSet) (apex : List (List ℕ))
+    → MeetsAll rules sets apex
     → NoneBreaksBefore rule sets apex (length sets)
 meets_each OnePolicy sets apex meets = meets.0
 meets_each CnameAlone sets apex meets = meets.1.0
@@ -249,7 +255,8 @@ module _ (kept : (name : List (List ℕ)) → Bool) (sets : List RecordSet) (ape
           first = first;
         }
         by false e =
-            absurd (spared_meet rule (meets_each rule theirs apex others) f.at set f.there e f.breaks)
+            absurd (spared_meet rule (meets_each rule theirs apex others) f.at set f.there e
+            f.breaks)
 
     pub first_all : IsFirstBreak rule ours apex set → IsFirstBreak rule sets apex set
     first_all f =
@@ -264,7 +271,8 @@ module _ (kept : (name : List (List ℕ)) → Bool) (sets : List RecordSet) (ape
           first = first s;
         }
       where
-        first : (s : Stood (keeps kept) sets f.at set) → (i : ℕ) → i < s.at → BreaksAt rule sets apex i → ⊥
+        first : (s : Stood (keeps kept) sets f.at set) → (i : ℕ) → i < s.at
+            → BreaksAt rule sets apex i → ⊥
         first s i lt (other, at_i, b) = by (kept other.name) refl
           where
             by : (t : Bool) → kept other.name ≡ t → ⊥

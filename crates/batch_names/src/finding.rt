@@ -1,0 +1,81 @@
+//! The sets of a zone whose names a batch names, read from a table of zones.
+
+ghost use Rattle.std.specs.Prelude.{◌≡◌, ◌≤◌, length, IfOk, OnOk};
+ghost use Rattle.zone_list.specs.Zones.{placed_in};
+ghost use Rattle.zone_model.specs.Placed.{sets_of};
+ghost use Rattle.batch_names.specs.Named.{named_in};
+ghost use Rattle.batch_names.specs.Starts.{ReadsNamed, ReadsRun};
+
+use crate::held::{hold_at, hold_named, read_held};
+use crate::starts::rising_starts;
+use batch_model::Change;
+use dns_name::Name;
+use octets::OutOfMemory;
+use record_set::RecordSet;
+use std::alloc::Global;
+use zone_table::{Scratch, Zones};
+
+/// Copies of the sets of a zone whose names the changes name, in zone order. There are none where
+/// no zone has the number. What the scratch holds afterwards is left open.
+///
+/// It looks at no other sets but some that the search for a name meets.
+pub fn named_sets(
+    alloc: Global,
+    zones: &Zones,
+    zone: u32,
+    changes: &[Change],
+    scratch: &mut Scratch,
+) -> Result<Vec<RecordSet>, OutOfMemory>
+    ensures { IfOk result (λ found. found.items
+        ≡ named_in changes.now (sets_of (placed_in zones.now.zones zone))) }
+{
+    zones.well_formed();
+    let starts = rising_starts(alloc, zones, zone, changes, scratch)?;
+    let mut found = Vec::with_capacity(alloc, starts.len())?;
+    for start in &starts {
+        read_run(alloc, zones, zone, *start, scratch, &mut found)?;
+    }
+    Ok(found)
+}
+
+/// Adds copies of the sets of one name, which begin at a place.
+fn read_run(
+    alloc: Global,
+    zones: &Zones,
+    zone: u32,
+    start: usize,
+    scratch: &mut Scratch,
+    found: &mut Vec<RecordSet>,
+) -> Result<(), OutOfMemory>
+    ensures { OnOk result (ReadsRun (sets_of (placed_in zones.now.zones zone)) start
+        found.old.items found.new.items) }
+{
+    if !hold_at(zones, zone, start, scratch) {
+        return Ok(());
+    }
+    let name = scratch.name();
+    read_named(alloc, zones, zone, start, &name, scratch, found)
+}
+
+/// Adds copies of the sets that have the name, from a place on to the first that has another.
+fn read_named(
+    alloc: Global,
+    zones: &Zones,
+    zone: u32,
+    start: usize,
+    name: &Name,
+    scratch: &mut Scratch,
+    found: &mut Vec<RecordSet>,
+) -> Result<(), OutOfMemory>
+    requires { start ≤ length (sets_of (placed_in zones.now.zones zone)) }
+    ensures { OnOk result (ReadsNamed (sets_of (placed_in zones.now.zones zone)) name.now start
+        found.old.items found.new.items) }
+{
+    for place in start..zones.count(zone) {
+        if !hold_named(zones, zone, place, name, scratch) {
+            return Ok(());
+        }
+        found.push(read_held(alloc, scratch)?)?;
+    }
+    Ok(())
+}

@@ -1,0 +1,74 @@
+//! Where the sets of names begin in a zone.
+
+ghost use Rattle.std.specs.Prelude.{◌≡◌, ◌↔◌, ℕ, List, IfOk};
+ghost use Rattle.std.specs.List.Sorted.{IsStrictlyIncreasing};
+ghost use Rattle.zone_list.specs.Zones.{placed_in};
+ghost use Rattle.zone_model.specs.Placed.{sets_of};
+ghost use Rattle.zone_model.specs.Zones.{IsAmong};
+ghost use Rattle.batch_names.specs.Starts.{AreRisingStarts, AreStarts, StartOrNone};
+
+use crate::held::hold_named;
+use batch_model::Change;
+use dns_name::Name;
+use octets::OutOfMemory;
+use rdata::RType;
+use std::alloc::Global;
+use zone_table::{Scratch, Zones};
+
+/// Where the sets of a name begin, if the zone has any.
+fn start_of(zones: &Zones, zone: u32, name: &Name, scratch: &mut Scratch) -> Option<usize>
+    ensures { StartOrNone (sets_of (placed_in zones.now.zones zone)) name.now result }
+{
+    zones.well_formed();
+    // No type is lower, and a set without an identifier comes first.
+    let start = zones.group(zone, name, RType::A).start;
+    if hold_named(zones, zone, start, name, scratch) {
+        return Some(start);
+    }
+    None
+}
+
+/// Where the sets of each name of the changes begin, change by change.
+fn each_start(
+    alloc: Global,
+    zones: &Zones,
+    zone: u32,
+    changes: &[Change],
+    scratch: &mut Scratch,
+) -> Result<Vec<usize>, OutOfMemory>
+    ensures { IfOk result (λ starts. AreStarts (sets_of (placed_in zones.now.zones zone))
+        changes.now starts.items) }
+{
+    let mut starts = Vec::with_capacity(alloc, changes.len())?;
+    for change in changes {
+        if let Some(start) = start_of(zones, zone, &change.set.name, scratch) {
+            starts.push(start)?;
+        }
+    }
+    Ok(starts)
+}
+
+/// Where the sets of each name of the changes begin, by rising place.
+pub fn rising_starts(
+    alloc: Global,
+    zones: &Zones,
+    zone: u32,
+    changes: &[Change],
+    scratch: &mut Scratch,
+) -> Result<Vec<usize>, OutOfMemory>
+    ensures { IfOk result (λ starts. AreRisingStarts (sets_of (placed_in zones.now.zones zone))
+        changes.now starts.items) }
+{
+    let starts = each_start(alloc, zones, zone, changes, scratch)?;
+    Ok(rise(starts))
+}
+
+/// The numbers in rising order, each once.
+fn rise(mut numbers: Vec<usize>) -> Vec<usize>
+    ensures rising { IsStrictlyIncreasing result.items }
+    ensures same { (n : ℕ) → IsAmong result.items n ↔ IsAmong numbers.items n }
+{
+    numbers.sort_unstable();
+    numbers.dedup();
+    numbers
+}
