@@ -1,9 +1,9 @@
-mod Applied
-mod Deciding
-mod Filtered
-mod Holding
-mod Rising
-mod Ruled
-mod Runs
-mod Starting
-mod Values
+pub mod Applied
+pub mod Deciding
+pub mod Filtered
+pub mod Holding
+pub mod Rising
+pub mod Ruled
+pub mod Runs
+pub mod Starting
+pub mod Values

@@ -90,7 +90,7 @@ same_name name other = by (same_labels name other) refl
     by false e =
         inr (λ same. let b = (same_labels-Decides name other).1 same in grind (arith, b, e))
 
-is_named : (changes : List Change) (name : List (List ℕ)) → names changes name ≡ true
+pub is_named : (changes : List Change) (name : List (List ℕ)) → names changes name ≡ true
     → IsNamed changes name
 is_named [] name e = absurd (grind (arith, e))
 is_named (change ∷ changes) name e = by (same_labels change.set.name name) refl
@@ -102,7 +102,7 @@ is_named (change ∷ changes) name e = by (same_labels change.set.name name) ref
     by true its rest e = (change, inl refl, (same_labels-Decides change.set.name name).0 its)
     by false its rest e = let more = rest e in (more.0, inr more.1, more.2)
 
-named_is : (changes : List Change) (name : List (List ℕ)) → IsNamed changes name
+pub named_is : (changes : List Change) (name : List (List ℕ)) → IsNamed changes name
     → names changes name ≡ true
 named_is [] name named = absurd named.1
 named_is (change ∷ changes) name (other, inl e, its) =

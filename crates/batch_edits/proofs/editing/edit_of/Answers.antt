@@ -1,0 +1,60 @@
+use Rattle.std.proofs.Common.{◌≡◌, ◌∙◌, ap, subst, sym, List}
+use Rattle.batch_model.specs.declared.batches.Change.{Change}
+use Rattle.batch_names.specs.Named.{named_in}
+use Rattle.record_set.specs.declared.sets.RecordSet.{RecordSet}
+use Rattle.zone_list.specs.Zones.{placed_in}
+use Rattle.zone_model.specs.Placed.{sets_of}
+use Rattle.batch_edits.specs.Differences.{IsDifference}
+use Rattle.batch_edits.proofs.Whole.{edited_whole, few_of_zone, refused_whole}
+use Rattle.batch_edits.proofs.editing.edit_of.Goals as goal
+
+pub prepare-requires : goal.prepare-requires
+prepare-requires c =
+    let whole = sets_of (placed_in c.args.zones.now.zones c.args.batch.now.zone) in
+    let few : c.as_slice.result.now ≡ named_in c.args.batch.now.changes whole =
+    c.as_slice.ensures.value ∙ c.in-Ok.ensures
+    ∙ ap (λ (changes : List Change). named_in changes whole) c.as_slice-changes.ensures in
+    few_of_zone c.names_decide.ensures c.one_apex.ensures c.sets_of_one.ensures
+    c.args.zones.now.zones c.args.batch.now.zone c.in-Some.apex c.args.batch.now.changes
+    c.as_slice.result.now c.well_formed-2.ensures c.in-Some.ensures few
+
+pub returns-in-Err-prepare : goal.returns-in-Err-prepare
+returns-in-Err-prepare c =
+    let whole = sets_of (placed_in c.args.zones.now.zones c.args.batch.now.zone) in
+    let few : c.as_slice.result.now ≡ named_in c.args.batch.now.changes whole =
+    c.as_slice.ensures.value ∙ c.in-Ok.ensures
+    ∙ ap (λ (changes : List Change). named_in changes whole) c.as_slice-changes.ensures in
+    refused_whole c.names_decide.ensures c.one_apex.ensures c.sets_of_one.ensures
+    c.args.zones.now.zones c.args.batch.now.zone c.in-Some.apex c.args.batch.now.changes
+    c.as_slice.result.now c.well_formed-2.ensures c.in-Some.ensures few c.requires.rules
+    c.in-Err-prepare.why c.in-Err-prepare.ensures.answer
+
+pub difference-requires-clause-before : goal.difference-requires-clause-before
+difference-requires-clause-before c =
+    let whole = sets_of (placed_in c.args.zones.now.zones c.args.batch.now.zone) in
+    let few : c.as_slice-2.result.now ≡ named_in c.args.batch.now.changes whole =
+    c.as_slice-2.ensures.value ∙ c.in-Ok.ensures
+    ∙ ap (λ (changes : List Change). named_in changes whole) c.as_slice-changes.ensures in
+    let zone =
+    few_of_zone c.names_decide.ensures c.one_apex.ensures c.sets_of_one.ensures
+    c.args.zones.now.zones c.args.batch.now.zone c.in-Some.apex c.args.batch.now.changes
+    c.as_slice-2.result.now c.well_formed-2.ensures c.in-Some.ensures few in
+    zone.rising
+
+pub returns-in-Ok-difference : goal.returns-in-Ok-difference
+returns-in-Ok-difference c =
+    let whole = sets_of (placed_in c.args.zones.now.zones c.args.batch.now.zone) in
+    let few : c.as_slice.result.now ≡ named_in c.args.batch.now.changes whole =
+    c.as_slice.ensures.value ∙ c.in-Ok.ensures
+    ∙ ap (λ (changes : List Change). named_in changes whole) c.as_slice-changes.ensures in
+    edited_whole c.names_decide.ensures c.one_apex.ensures c.sets_of_one.ensures
+    c.args.zones.now.zones c.args.batch.now.zone c.in-Some.apex c.args.batch.now.changes
+    c.as_slice.result.now c.well_formed-2.ensures c.in-Some.ensures few c.requires.rules
+    c.requires.bounded c.in-Ok-prepare.sets.items c.in-Ok-difference.edit
+    c.in-Ok-prepare.ensures.answer c.in-Ok-prepare.ensures.zone
+    (subst (λ (s : List RecordSet). IsDifference s c.in-Ok-prepare.sets.items
+    c.in-Ok-difference.edit.remove c.in-Ok-difference.edit.add)
+    (c.as_slice-2.ensures.value ∙ sym c.as_slice.ensures.value)
+    (subst (λ (s : List RecordSet). IsDifference c.as_slice-2.result.now s
+    c.in-Ok-difference.edit.remove c.in-Ok-difference.edit.add) c.as_slice-3.ensures.value
+    c.in-Ok-difference.ensures))

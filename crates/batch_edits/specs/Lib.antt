@@ -1,0 +1,10 @@
+pub mod Differences
+pub mod Edits
+pub use Rattle.batch_model.specs.Batches
+pub use Rattle.batch_model.specs.Rules
+pub use Rattle.config_model.specs.Laws
+pub use Rattle.zone_list.specs.Changes
+pub use Rattle.zone_list.specs.Zones
+pub use Rattle.zone_model.specs.Placed
+pub use Rattle.zone_table.specs.Edits as Tables
+pub use Rattle.zone_table.specs.Looking

@@ -1,0 +1,81 @@
+//! A batch, as an edit of its zone.
+
+ghost use Rattle.std.specs.Prelude.{ℕ, List, IfOk};
+ghost use Rattle.std.specs.List.{AllByRecursion};
+ghost use Rattle.config_model.specs.Laws.{HasBoundedSet};
+ghost use Rattle.zone_list.specs.Zones.{IsZoneId};
+ghost use Rattle.zone_model.specs.Zones.{IsRising};
+ghost use Rattle.zone_table.specs.Looking.{IsApex};
+ghost use Rattle.batch_edits.specs.Differences.{IsDifference};
+ghost use Rattle.batch_edits.specs.Edits.{EditsOrNot, MeetsRules};
+
+use crate::differences::{missing_keys, missing_sets};
+use batch_model::{Batch, BatchRefusal};
+use batch_names::{named_sets, names_decide};
+use change_batch::prepare;
+use octets::OutOfMemory;
+use record_set::RecordSet;
+use std::alloc::Global;
+use zone_table::{Scratch, SetKeys, Sets, Zones, one_apex, sets_of_one};
+
+/// What changes in a zone: the keys of the sets that go or give way, and the sets that come, both
+/// in zone order.
+#[derive(Drop)]
+pub struct Edit {
+    pub remove: SetKeys,
+    pub add: Sets,
+}
+
+/// The edit that a batch makes of its zone, or the first refusal of the batch. What the scratch
+/// holds afterwards is left open.
+///
+/// It reads the sets of the names that the batch names, and no others.
+pub fn edit_of(
+    alloc: Global,
+    zones: &Zones,
+    batch: &Batch,
+    scratch: &mut Scratch,
+) -> Result<Edit, BatchRefusal>
+    requires there { IsZoneId zones.now.zones batch.now.zone }
+    requires rules { MeetsRules zones.now.zones batch.now.zone }
+    requires bounded { AllByRecursion HasBoundedSet batch.now.changes }
+
+    // The zone's sets after the edit are those after the batch, or the refusal is the batch's.
+    ensures { (apex : List (List ℕ)) → IsApex zones.now.zones batch.now.zone apex
+        → EditsOrNot zones.now.zones batch.now.zone apex batch.now.changes result }
+{
+    names_decide();
+    one_apex();
+    sets_of_one();
+    zones.well_formed();
+    let changes = batch.changes.as_slice();
+    let Some(apex) = zones.apex(batch.zone) else {
+        unreachable!();
+    };
+    let before = match named_sets(alloc, zones, batch.zone, changes, scratch) {
+        Ok(sets) => sets,
+        Err(OutOfMemory) => return Err(BatchRefusal::OutOfMemory),
+    };
+    let after = match prepare(alloc, before.as_slice(), &apex, batch) {
+        Ok(sets) => sets,
+        Err(why) => return Err(why),
+    };
+    match difference(alloc, before.as_slice(), after.as_slice()) {
+        Ok(edit) => Ok(edit),
+        Err(OutOfMemory) => Err(BatchRefusal::OutOfMemory),
+    }
+}
+
+/// What goes and what comes between some sets and others.
+fn difference(alloc: Global, before: &[RecordSet], after: &[RecordSet]) -> Result<Edit, OutOfMemory>
+    requires before { IsRising before.now }
+    requires after { IsRising after.now }
+    ensures { IfOk result (λ edit. IsDifference before.now after.now edit.remove edit.add) }
+{
+    let remove = missing_keys(alloc, before, after)?;
+    let add = missing_sets(alloc, after, before)?;
+    Ok(Edit {
+        remove: SetKeys::from_vec(remove),
+        add: Sets::from_vec(add),
+    })
+}
