@@ -298,6 +298,7 @@ impl Gates {
             → MeetAll net (with_own gate count own) self.new }
         ensures changed { (net : Net) (own : ℕ → ℕ) → Fits net own self.old → MeetAll net own self.old
             → IsTrue result ↔ (value_of self.new gate ≢ value_of self.old gate) }
+        ensures quiet { result ≡ false → steps.new ≡ steps.old }
         ensures cost { (net : Net) (own : ℕ → ℕ) (nodes : List ℕ) → Fits net own self.old → HasCone net (gate ∷ []) nodes
             → steps.new ≤ steps.old + (if result then length nodes else 0) }
     {

@@ -1,0 +1,4 @@
+pub mod Places
+pub mod Reporting
+pub mod Telling
+pub mod Truth

@@ -1,0 +1,38 @@
+use Rattle.std.proofs.Common.{length, arith, ap, sym, ◌∙◌}
+use mathlib.Core.Path.{subst}
+use Rattle.std.proofs.lemmas.Option.{slice_get_within}
+use Rattle.health_index.specs.Index.{Index, IsPlace, StandsFor}
+use Rattle.health_index.proofs.Telling.{nothing_told, told}
+use Rattle.health_index.proofs.index.HealthIndex.check_status.Goals as goal
+
+pub returns-in_default : goal.returns-in_default
+returns-in_default c zones checks reports stands =
+    let ids = ap (λ (i : Index). i.ids) (sym c.self.view_is) ∙ sym c.deref.ensures.value in
+    let none = subst (IsPlace c.deref.result.now c.args.id) c.in_default.is c.place_in.ensures in
+    nothing_told zones checks reports c.args.self.now stands c.args.id (λ place is. none place (rw ids at is))
+
+pub count-requires-clause-gate : goal.count-requires-clause-gate
+count-requires-clause-gate c =
+    let here = (subst (IsPlace c.deref.result.now c.args.id) c.in-Some.is c.place_in.ensures).0 in
+    let within = slice_get_within c.deref.result.now c.in-Some.place c.args.id here in
+    let ids = ap length c.deref.ensures.value in
+    let size = c.self.invariant.fits.laid.size in
+    let few = c.self.invariant.within in
+    omega arith
+
+pub value-requires-clause-gate : goal.value-requires-clause-gate
+value-requires-clause-gate c =
+    let here = (subst (IsPlace c.deref.result.now c.args.id) c.in-Some.is c.place_in.ensures).0 in
+    let within = slice_get_within c.deref.result.now c.in-Some.place c.args.id here in
+    let ids = ap length c.deref.ensures.value in
+    let size = c.self.invariant.fits.laid.size in
+    let few = c.self.invariant.within in
+    omega arith
+
+pub returns : goal.returns
+returns c zones checks reports stands =
+    let here = subst (IsPlace c.deref.result.now c.args.id) c.in-Some.is c.place_in.ensures in
+    let inner = sym c.deref.ensures.value in
+    let old = subst (StandsFor zones checks reports) (sym c.self.view_is) stands in
+    told zones checks reports _ old c.args.id c.in-Some.place (rw inner here.0) (rw inner here.1) c.value.result c.count.result c.short-number.result
+    (c.index_tells_health.ensures zones checks reports _ old) c.value.ensures (c.count.ensures old.net old.own old.fits) c.short-number.ensures

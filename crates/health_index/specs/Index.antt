@@ -1,0 +1,106 @@
+-- When an index stands for a configuration and reports.
+use Rattle.std.specs.Prelude.{◌≡◌, ◌≤◌, ◌<◌, ℕ, suc, Bool, List, [], length, Option, None, Some, slice_get, ⊤}
+use Rattle.check_model.specs.Checks.{Checks, check_at}
+use Rattle.check_model.specs.Checks.{IsSound as AreSoundChecks}
+use Rattle.check_model.specs.declared.checks.Check.{Check}
+use Rattle.check_model.specs.declared.checks.Check.TheVariants.{Endpoint, Calculated}
+use Rattle.checker_state.specs.Standing.{Seen}
+use Rattle.checker_state.specs.Standing.{StandsFor as HasSeen}
+use Rattle.health_gates.specs.Gates.{Fits, Net, value_of}
+use Rattle.health_gates.specs.Pass.{IsIdle, MeetAll}
+use Rattle.health_gates.specs.declared.gates.Gates.{Gates}
+use Rattle.health_model.specs.Healthy.{healthy}
+use Rattle.health_model.specs.Sound.{IsSound}
+use Rattle.health_model.specs.Statuses.{AreReports, Report, results_of, status}
+use Rattle.record_set.specs.declared.sets.RecordSet.{RecordSet}
+use Rattle.zone_list.specs.Zones.{AreZones, Zone}
+use Rattle.zone_list.specs.declared.refs.SetRef.{SetRef}
+use Rattle.zone_table.specs.Looking.{Names}
+use Rattle.health_index.specs.Wired.{IsWired, ids_of, open_in, place_of, seat_of, watched_of}
+use Rattle.health_index.specs.declared.seats.Seat.{Seat}
+
+-- The numbers of the checks, what the checkers of each endpoint saw, the gates of sets by their
+-- slots, and the gates.
+pub record Index : Type 0 where
+  pub ids : List ℕ
+  pub seen : List (Option Seen)
+  pub seats : List Seat
+  pub gates : Gates
+
+-- what the fifty checkers of a check saw; a calculated one has none
+abbrev pub IsSeen : List Report → (id : ℕ) → Check → Option Seen → Type 0
+IsSeen reports id (Endpoint threshold inverted disabled) None = ⊥
+IsSeen reports id (Endpoint threshold inverted disabled) (Some seen) =
+    HasSeen threshold (results_of reports id) seen
+IsSeen reports id (Calculated threshold inverted disabled children) seen = seen ≡ None
+
+-- The index stands for a sound configuration and reports.
+pub record StandsFor (zones : List Zone) (checks : Checks) (reports : List Report) (index : Index)
+    : Type 0 where
+  pub are_zones : AreZones zones
+  pub are_checks : AreSoundChecks checks
+  pub sound : IsSound (watched_of zones checks)
+  pub are_reports : AreReports checks.next reports
+  pub ids : index.ids ≡ ids_of checks.list
+  pub seen : (place id : ℕ) (check : Check) (its : Option Seen)
+      → slice_get checks.list place ≡ Some (id, check) → slice_get index.seen place ≡ Some its
+      → IsSeen reports id check its
+  pub as_many : length index.seen ≡ length index.ids
+  pub net : Net
+  pub own : ℕ → ℕ
+  pub wired : IsWired zones checks.list index.seats net own reports
+  pub fits : Fits net own index.gates
+  pub meet : MeetAll net own index.gates
+  pub idle : IsIdle index.gates
+
+-- Whether the set that a reference names is healthy.
+abbrev pub healthy_in : Index → SetRef → Bool
+healthy_in index set = open_in (value_of index.gates) (seat_of index.seats set.slot)
+
+-- What an index says of the configuration and the reports for which it stands: the status of each
+-- check, and of each set whether it is healthy.
+pub record Tells (zones : List Zone) (checks : Checks) (reports : List Report) (index : Index)
+    : Type 0 where
+  pub statuses : (id : ℕ) (check : Check) → check_at checks.list id ≡ Some check
+      → value_of index.gates (place_of index.ids id) ≡ status checks.list reports id
+  pub sets : (set : SetRef) (named : RecordSet) → Names zones set named
+      → healthy_in index set ≡ healthy (watched_of zones checks) reports set.zone named
+
+-- ---- what holds of every index
+
+-- gates that stand for some net; those whose checkers are counted have no feeders
+pub record IsWhole (index : Index) : Type 0 where
+  pub net : Net
+  pub own : ℕ → ℕ
+  pub fits : Fits net own index.gates
+  pub idle : IsIdle index.gates
+  pub as_many : length index.seen ≡ length index.ids
+  pub few : length index.ids ≤ 200
+  pub within : length index.ids ≤ net.size
+  pub seated : (slot gate : ℕ) → seat_of index.seats slot ≡ suc gate → gate < net.size
+  pub alone : (place : ℕ) (its : Seen) → slice_get index.seen place ≡ Some (Some its)
+      → (net.rule place).feeders ≡ []
+
+-- ---- reports
+
+-- the number of an endpoint's check
+abbrev pub IsEndpoint : Option Check → Type 0
+IsEndpoint None = ⊥
+IsEndpoint (Some (Endpoint threshold inverted disabled)) = ⊤
+IsEndpoint (Some (Calculated threshold inverted disabled children)) = ⊥
+
+abbrev pub IsEndpointOf : Checks → (id : ℕ) → Type 0
+IsEndpointOf checks id = IsEndpoint (check_at checks.list id)
+
+abbrev pub reported : (id checker : ℕ) → Bool → Report
+reported id checker pass = record { check = id; checker = checker; pass = pass }
+
+-- the place of a number, where it stands
+abbrev pub IsPlace : List ℕ → (id : ℕ) → Option ℕ → Type 0
+IsPlace ids id None = (place : ℕ) → slice_get ids place ≡ Some id → ⊥
+IsPlace ids id (Some place) = (slice_get ids place ≡ Some id) × (place_of ids id ≡ place)
+
+-- the gate of the set in a slot, where it has one
+abbrev pub IsGateOf : List Seat → (slot : ℕ) → Option ℕ → Type 0
+IsGateOf seats slot None = seat_of seats slot ≡ 0
+IsGateOf seats slot (Some gate) = seat_of seats slot ≡ suc gate

@@ -1,0 +1,14 @@
+//! Laws over the definitions. Each stands as the contract of a function that does nothing.
+
+ghost use Rattle.health_index.specs.Laws.{IndexTells};
+
+use health_model::one_health;
+use policy_select::views_agree;
+
+/// An index tells the health of that for which it stands.
+pub fn index_tells_health()
+    ensures { IndexTells }
+{
+    one_health();
+    views_agree();
+}
