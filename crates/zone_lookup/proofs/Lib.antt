@@ -1,3 +1,4 @@
 pub mod Cutting
 pub mod Finding
+pub mod Serving
 pub mod Sourcing

@@ -7,9 +7,11 @@
 mod cut;
 mod groups;
 mod hosting;
+mod served;
 mod source;
 
 pub use cut::cut_above;
 pub use groups::{asked_group, group_of};
 pub use hosting::{find_zone, is_held_by, known_few};
+pub use served::are_served;
 pub use source::source_of;
