@@ -1,5 +1,6 @@
 -- Where sets stand, by their keys.
-use Rattle.std.specs.Prelude.{◌≡◌, ◌≢◌, ◌≤◌, ◌<◌, ◌+◌, ℕ, List, take, drop, length, true, false, slice_get, None, Some, Result, Ok, Err}
+use Rattle.std.specs.Prelude.{◌≡◌, ◌≢◌, ◌≤◌, ◌<◌, ◌+◌, ℕ, List, take, drop, length, true, false}
+use Rattle.std.specs.Prelude.{slice_get, None, Some, Result, Ok, Err}
 use Rattle.std.specs.List.{filter}
 use Rattle.std.specs.declared.cmp.Ordering.TheVariants.{Less}
 use Rattle.dns_name.specs.Order.{zone_cmp}
@@ -18,8 +19,10 @@ use Rattle.set_search.specs.Bounds.{is_before}
 pub record IsBracket (sets : List RecordSet) (bound : Bound) (low high : ℕ) : Type 0 where
   pub order : low ≤ high
   pub within : high ≤ length sets
-  pub before : (k : ℕ) (x : RecordSet) → k < low → slice_get sets k ≡ Some x → is_before bound x ≡ true
-  pub behind : (k : ℕ) (x : RecordSet) → high ≤ k → slice_get sets k ≡ Some x → is_before bound x ≡ false
+  pub before : (k : ℕ) (x : RecordSet) → k < low → slice_get sets k ≡ Some x
+      → is_before bound x ≡ true
+  pub behind : (k : ℕ) (x : RecordSet) → high ≤ k → slice_get sets k ≡ Some x
+      → is_before bound x ≡ false
 
 -- So many sets stand before the bound: these are the first ones.
 abbrev pub IsCount : List RecordSet → Bound → ℕ → Type 0
@@ -49,8 +52,10 @@ IsBelowAt sets name place =
 -- The names of the first n sets come before this name, and those of the others don't.
 pub record IsFirstNamed (sets : List RecordSet) (name : List (List ℕ)) (n : ℕ) : Type 0 where
   pub within : n ≤ length sets
-  pub before : (k : ℕ) (x : RecordSet) → k < n → slice_get sets k ≡ Some x → zone_cmp x.name name ≡ Less
-  pub behind : (k : ℕ) (x : RecordSet) → n ≤ k → slice_get sets k ≡ Some x → zone_cmp x.name name ≢ Less
+  pub before : (k : ℕ) (x : RecordSet) → k < n → slice_get sets k ≡ Some x
+      → zone_cmp x.name name ≡ Less
+  pub behind : (k : ℕ) (x : RecordSet) → n ≤ k → slice_get sets k ≡ Some x
+      → zone_cmp x.name name ≢ Less
 
 -- The set at place n is the one of this key.
 pub record FindsAt (sets : List RecordSet) (key : SetKey) (n : ℕ) : Type 0 where
@@ -59,8 +64,10 @@ pub record FindsAt (sets : List RecordSet) (key : SetKey) (n : ℕ) : Type 0 whe
   pub same_key : key_of kept ≡ key
   pub keeps : Keeps sets key kept
   pub only : (other : RecordSet) → Keeps sets key other → other ≡ kept
-  pub before : (k : ℕ) (x : RecordSet) → k < n → slice_get sets k ≡ Some x → comes_before key x ≡ true
-  pub behind : (k : ℕ) (x : RecordSet) → n < k → slice_get sets k ≡ Some x → comes_behind key x ≡ true
+  pub before : (k : ℕ) (x : RecordSet) → k < n → slice_get sets k ≡ Some x
+      → comes_before key x ≡ true
+  pub behind : (k : ℕ) (x : RecordSet) → n < k → slice_get sets k ≡ Some x
+      → comes_behind key x ≡ true
   pub front : filter (comes_before key) sets ≡ take n sets
   pub back : filter (comes_behind key) sets ≡ drop (n + 1) sets
 
@@ -68,8 +75,10 @@ pub record FindsAt (sets : List RecordSet) (key : SetKey) (n : ℕ) : Type 0 whe
 pub record FindsNone (sets : List RecordSet) (key : SetKey) (n : ℕ) : Type 0 where
   pub within : n ≤ length sets
   pub none : IsThere sets key → ⊥
-  pub before : (k : ℕ) (x : RecordSet) → k < n → slice_get sets k ≡ Some x → comes_before key x ≡ true
-  pub behind : (k : ℕ) (x : RecordSet) → n ≤ k → slice_get sets k ≡ Some x → comes_behind key x ≡ true
+  pub before : (k : ℕ) (x : RecordSet) → k < n → slice_get sets k ≡ Some x
+      → comes_before key x ≡ true
+  pub behind : (k : ℕ) (x : RecordSet) → n ≤ k → slice_get sets k ≡ Some x
+      → comes_behind key x ≡ true
   pub front : filter (comes_before key) sets ≡ take n sets
   pub back : filter (comes_behind key) sets ≡ drop n sets
 

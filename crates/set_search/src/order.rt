@@ -29,7 +29,8 @@ pub fn set_is_before(set: &RecordSet, stop: &Stop) -> bool
 
 /// The key of these parts.
 fn key_of(name: &Name, rtype: RType, ident: Option<&Ident>) -> SetKey
-    ensures { result ≡ record { name = name.now; rtype = rtype; ident = option_copied ident.entry } }
+    ensures { result
+        ≡ record { name = name.now; rtype = rtype; ident = option_copied ident.entry } }
 {
     SetKey {
         name: *name,

@@ -18,7 +18,8 @@ abbrev pub IsPartedBy : RecordSet → (name : List (List ℕ)) → RType → (re
     → Result (Bor (List ℕ)) Ordering → Type 0
 IsPartedBy set name rtype rest (Ok policy) =
     (group_cmp set name rtype ≡ Equal) × (policy.now ≡ policy_front set.routing ++ rest)
-IsPartedBy set name rtype rest (Err order) = (group_cmp set name rtype ≡ order) × ((order ≡ Equal) → ⊥)
+IsPartedBy set name rtype rest (Err order) = (group_cmp set name rtype ≡ order)
+    × ((order ≡ Equal) → ⊥)
 
 -- The octets begin with those that tell the key of this set.
 abbrev pub IsHeadIn : List ℕ → RecordSet → Type 0

@@ -1,5 +1,7 @@
 -- How the sets of a store are kept: slots with the handles of octets, and the free ones in a chain.
-use Rattle.std.specs.Prelude.{◌≡◌, ◌≢◌, ◌<◌, ◌^◌, ℕ, zero, suc, ◌+◌, List, [], ◌∷◌, false, Option, None, Some, Result, Ok, Err, ◌==◌, if◌then◌else◌, length, slice_get, unwrap_or}
+use Rattle.std.specs.Prelude.{◌≡◌, ◌≢◌, ◌<◌, ◌^◌, ℕ, zero, suc, ◌+◌, List, [], ◌∷◌, false, Option}
+use Rattle.std.specs.Prelude.{None, Some, Result, Ok, Err, ◌==◌, if◌then◌else◌, length, slice_get}
+use Rattle.std.specs.Prelude.{unwrap_or}
 use Rattle.std.specs.FinMap as finmap
 use Rattle.octet_region.specs.Stored.{Held}
 use Rattle.rdata_layout.specs.declared.types.RType.TheVariants as rtype
@@ -52,7 +54,8 @@ new_slot next = record { cell = no_cell; zone = next }
 abbrev pub IsLive : Slot → Type 0
 IsLive slot = slot.cell ≢ no_cell
 
--- So many slots are free, one behind another. Each has a rank of its own, which falls along the chain.
+-- So many slots are free, one behind another. Each has a rank of its own, which falls along the
+-- chain.
 abbrev pub IsChain : List Slot → (rank : ℕ → ℕ) → (n at : ℕ) → Type 0
 IsChain slots rank zero at = Unit {0}
 IsChain slots rank (suc n) at =
@@ -72,7 +75,8 @@ used (slot ∷ slots) = used_by slot + used slots
 pub record IsIndex (held : Held) (slots : List Slot) (free spare : ℕ) : Type 0 where
   pub live : (i : ℕ) (slot : Slot) → slice_get slots i ≡ Some slot → IsLive slot
       → (octets : List ℕ) × (finmap.get held slot.cell ≡ Some octets) × IsSpelling octets
-  pub apart : (i j : ℕ) (slot other : Slot) → slice_get slots i ≡ Some slot → slice_get slots j ≡ Some other
+  pub apart : (i j : ℕ) (slot other : Slot) → slice_get slots i ≡ Some slot
+      → slice_get slots j ≡ Some other
       → IsLive slot → slot.cell ≡ other.cell → i ≡ j
   pub rank : ℕ → ℕ
   pub chain : IsChain slots rank spare free
@@ -82,4 +86,5 @@ pub record IsIndex (held : Held) (slots : List Slot) (free spare : ℕ) : Type 0
 -- the octets of the slot's set
 abbrev pub HoldsAt : Held → List Slot → (i : ℕ) → (octets : List ℕ) → Type 0
 HoldsAt held slots i octets =
-    (slot : Slot) × (slice_get slots i ≡ Some slot) × IsLive slot × (finmap.get held slot.cell ≡ Some octets)
+    (slot : Slot) × (slice_get slots i ≡ Some slot) × IsLive slot
+    × (finmap.get held slot.cell ≡ Some octets)

@@ -1,5 +1,6 @@
 -- The numbers and names of zones, in zone order.
-use Rattle.std.specs.Prelude.{◌≡◌, ◌≢◌, ◌≤◌, ◌<◌, ◌↔◌, ℕ, List, [], ◌∷◌, length, slice_get, true, false, Option, None, Some, ⊤}
+use Rattle.std.specs.Prelude.{◌≡◌, ◌≢◌, ◌≤◌, ◌<◌, ◌↔◌, ℕ, List, [], ◌∷◌, length, slice_get, true}
+use Rattle.std.specs.Prelude.{false, Option, None, Some, ⊤}
 use Rattle.std.specs.List.{AllByRecursion}
 use Rattle.std.specs.Ordering.{is_gt}
 use Rattle.std.specs.declared.cmp.Ordering.TheVariants.{Less}
@@ -15,12 +16,15 @@ AreInOrder [] = ⊤
 AreInOrder (apex ∷ list) =
     AllByRecursion (λ other. zone_cmp apex.name other.name ≡ Less) list × AreInOrder list
 
--- The names before place `low` are this one or come before it, and those from `high` on come behind it.
+-- The names before place `low` are this one or come before it, and those from `high` on come behind
+-- it.
 pub record IsParted (list : List Apex) (name : List (List ℕ)) (low high : ℕ) : Type 0 where
   pub order : low ≤ high
   pub within : high ≤ length list
-  pub before : (k : ℕ) (x : Apex) → k < low → slice_get list k ≡ Some x → is_gt (zone_cmp x.name name) ≡ false
-  pub behind : (k : ℕ) (x : Apex) → high ≤ k → slice_get list k ≡ Some x → is_gt (zone_cmp x.name name) ≡ true
+  pub before : (k : ℕ) (x : Apex) → k < low → slice_get list k ≡ Some x
+      → is_gt (zone_cmp x.name name) ≡ false
+  pub behind : (k : ℕ) (x : Apex) → high ≤ k → slice_get list k ≡ Some x
+      → is_gt (zone_cmp x.name name) ≡ true
 
 -- The longest of the names at or above a name, by its number.
 pub record IsLongestName (list : List Apex) (name : List (List ℕ)) (id : ℕ) : Type 0 where
@@ -43,7 +47,8 @@ LongestOrNot list name None = (apex : Apex) → IsAmong list apex → apex.name 
 -- All names at or above one are above another, at which a search has come.
 pub record AreAllAbove (list : List Apex) (name rest : List (List ℕ)) : Type 0 where
   pub suffix : EndsWith name rest
-  pub above : (apex : Apex) → IsAmong list apex → EndsWith name apex.name → IsAncestor rest apex.name
+  pub above : (apex : Apex) → IsAmong list apex → EndsWith name apex.name
+      → IsAncestor rest apex.name
 
 -- the zone of a number stands at a place, or no zone has it
 abbrev pub FindsNumber : List Apex → (id : ℕ) → Option ℕ → Type 0

@@ -1,5 +1,6 @@
 -- What is found in a list of zones by rising number.
-use Rattle.std.specs.Prelude.{◌≡◌, ◌≤◌, ◌<◌, ℕ, List, [], ◌∷◌, ◌++◌, length, slice_get, Option, None, Some}
+use Rattle.std.specs.Prelude.{◌≡◌, ◌≤◌, ◌<◌, ℕ, List, [], ◌∷◌, ◌++◌, length, slice_get, Option}
+use Rattle.std.specs.Prelude.{None, Some}
 use Rattle.dns_name.specs.Suffix.{EndsWith}
 use Rattle.zone_list.specs.Zones.{Zone, IsOne, IsZoneId}
 
@@ -26,22 +27,26 @@ abbrev pub FindsZone : List Zone → (id : ℕ) → Option ℕ → Type 0
 FindsZone zones id (Some i) = IsAt zones id i
 FindsZone zones id None = IsZoneId zones id → ⊥
 
--- The longest name of the zones at or above a name, and the number of that zone; none where no zone holds the name.
+-- The longest name of the zones at or above a name, and the number of that zone; none where no zone
+-- holds the name.
 pub record IsLongest (zones : List Zone) (name : List (List ℕ)) (id labels : ℕ) : Type 0 where
   pub zone : Zone
   pub there : IsOne zones zone
   pub its_id : zone.id ≡ id
   pub above : EndsWith name zone.apex
   pub as_long : length zone.apex ≡ labels
-  pub longest : (other : Zone) → IsOne zones other → EndsWith name other.apex → length other.apex ≤ labels
+  pub longest : (other : Zone) → IsOne zones other → EndsWith name other.apex
+      → length other.apex ≤ labels
 
 abbrev pub LongestOrNone : List Zone → (name : List (List ℕ)) → Option (ℕ × ℕ) → Type 0
 LongestOrNone zones name (Some (id, labels)) = IsLongest zones name id labels
 LongestOrNone zones name None = (zone : Zone) → IsOne zones zone → EndsWith name zone.apex → ⊥
 
 -- what is found with one more zone
-abbrev pub IsLonger : Option (ℕ × ℕ) → Zone → (name : List (List ℕ)) → (found : Option (ℕ × ℕ)) → Type 0
-IsLonger before zone name found = (zones : List Zone) → LongestOrNone zones name before → LongestOrNone (zones ++ zone ∷ []) name found
+abbrev pub IsLonger : Option (ℕ × ℕ) → Zone → (name : List (List ℕ)) → (found : Option (ℕ × ℕ))
+    → Type 0
+IsLonger before zone name found = (zones : List Zone) → LongestOrNone zones name before
+    → LongestOrNone (zones ++ zone ∷ []) name found
 
 -- a name with so many labels or more was found
 abbrev pub IsAsLong : Option (ℕ × ℕ) → (labels : ℕ) → Type 0

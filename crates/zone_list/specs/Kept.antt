@@ -9,8 +9,8 @@ use Rattle.zone_model.specs.Zones.{IsAmong}
 use Rattle.zone_order.specs.Orders.{IsOrder, placed_of, set_in}
 use Rattle.zone_list.specs.Zones.{AreListed, CanStand, Zone}
 
--- A zone: its number, the name of its apex, the slots of its sets in zone order, how many more of them it can take without
--- memory, and what is counted of them.
+-- A zone: its number, the name of its apex, the slots of its sets in zone order, how many more of
+-- them it can take without memory, and what is counted of them.
 pub record Listed : Type 0 where
   pub id : ℕ
   pub apex : List (List ℕ)
@@ -36,19 +36,23 @@ zone_in slots listed = record {
 abbrev pub zones_in : List (Option Kept) → List Listed → List Zone
 zones_in slots list = map (zone_in slots) list
 
--- The zone has a number, its sets are in its slots, in zone order, each can stand in it, and they are counted.
+-- The zone has a number, its sets are in its slots, in zone order, each can stand in it, and they
+-- are counted.
 pub record Stands (slots : List (Option Kept)) (listed : Listed) : Type 0 where
   pub numbered : 0 < listed.id
   pub order : IsOrder slots listed.id listed.order
-  pub each : AllByRecursion (λ p. CanStand listed.apex p.set) (placed_of slots listed.id listed.order)
+  pub each : AllByRecursion (λ p. CanStand listed.apex p.set)
+      (placed_of slots listed.id listed.order)
   pub counted : listed.sums ≡ sums_of (placed_of slots listed.id listed.order)
 
 -- one of them has this number
 abbrev pub HasId : List Listed → ℕ → Type 0
 HasId list id = (listed : Listed) × IsAmong list listed × (listed.id ≡ id)
 
--- The zones stand by rising number, each with its sets, and each set in the store is of one of them.
+-- The zones stand by rising number, each with its sets, and each set in the store is of one of
+-- them.
 pub record AreKept (slots : List (Option Kept)) (list : List Listed) : Type 0 where
   pub listed : AreListed (named_of list)
   pub each : AllByRecursion (Stands slots) list
-  pub owned : (zone slot : ℕ) (set : RecordSet) → set_in slots zone slot ≡ Some set → HasId list zone
+  pub owned : (zone slot : ℕ) (set : RecordSet) → set_in slots zone slot ≡ Some set
+      → HasId list zone

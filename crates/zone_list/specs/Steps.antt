@@ -1,5 +1,6 @@
 -- Sets that come into a zone one after another, and then go from it.
-use Rattle.std.specs.Prelude.{◌≡◌, ◌≢◌, ◌≤◌, ◌<◌, ◌⊎◌, ℕ, List, [], ◌∷◌, Option, None, Some, length, slice_get}
+use Rattle.std.specs.Prelude.{◌≡◌, ◌≢◌, ◌≤◌, ◌<◌, ◌⊎◌, ℕ, List, [], ◌∷◌, Option, None, Some, length}
+use Rattle.std.specs.Prelude.{slice_get}
 use Rattle.std.specs.List.{sum_by}
 use Rattle.octet_region.specs.Cells.{cells_for}
 use Rattle.record_set.specs.declared.sets.RecordSet.{RecordSet}
@@ -16,11 +17,14 @@ abbrev pub cells_in_all : List RecordSet → ℕ
 cells_in_all add = sum_by (λ set. cells_for (length (set_octets set))) add
 
 -- The sets come one after another.
-abbrev pub Comings : (zone : ℕ) → (before : List Placed) → List RecordSet → (told : List SetRef) → (after : List Placed) → Type 0
+abbrev pub Comings : (zone : ℕ) → (before : List Placed) → List RecordSet → (told : List SetRef)
+    → (after : List Placed) → Type 0
 Comings zone before [] told after = (told ≡ []) × (after ≡ before)
 Comings zone before (set ∷ sets) told after =
-    (slot : ℕ) × (middle : List Placed) × (rest : List SetRef) × Comes before (record { slot = slot; set = set }) middle
-    × AreOfZone middle × (told ≡ record { zone = zone; slot = slot } ∷ rest) × Comings zone middle sets rest after
+    (slot : ℕ) × (middle : List Placed) × (rest : List SetRef)
+    × Comes before (record { slot = slot; set = set }) middle
+    × AreOfZone middle × (told ≡ record { zone = zone; slot = slot } ∷ rest)
+    × Comings zone middle sets rest after
 
 -- The set at a place has the key.
 pub record IsOfKey (add : List RecordSet) (key : SetKey) (at : ℕ) : Type 0 where
@@ -33,14 +37,16 @@ abbrev pub PlaceOrNone : List RecordSet → SetKey → Option ℕ → Type 0
 PlaceOrNone add key (Some at) = IsOfKey add key at
 PlaceOrNone add key None = IsThere add key → ⊥
 
--- The place of a set with the key; where there is none, none stands from one place on and in front of another.
+-- The place of a set with the key; where there is none, none stands from one place on and in front
+-- of another.
 abbrev pub FoundBetween : List RecordSet → SetKey → (from to : ℕ) → Option ℕ → Type 0
 FoundBetween add key from to (Some at) = IsOfKey add key at
 FoundBetween add key from to None =
     (k : ℕ) (set : RecordSet) → from ≤ k → k < to → slice_get add k ≡ Some set → key_of set ≢ key
 
 -- A set came for the key, which keeps its slot.
-pub record HasCome (add : List RecordSet) (added : List SetRef) (key : SetKey) (slot : ℕ) : Type 0 where
+pub record HasCome (add : List RecordSet) (added : List SetRef) (key : SetKey)
+    (slot : ℕ) : Type 0 where
   pub at : ℕ
   pub came : IsOfKey add key at
   pub one : SetRef
@@ -48,15 +54,20 @@ pub record HasCome (add : List RecordSet) (added : List SetRef) (key : SetKey) (
   pub its_slot : one.slot ≡ slot
 
 -- The set of a key goes, unless a set came for it.
-abbrev pub Leaves : List RecordSet → (added : List SetRef) → (before : List Placed) → SetKey → (slot : ℕ)
+abbrev pub Leaves : List RecordSet → (added : List SetRef) → (before : List Placed) → SetKey
+    → (slot : ℕ)
     → (after : List Placed) → Type 0
 Leaves add added before key slot after =
-    (HasCome add added key slot × (after ≡ before)) ⊎ ((IsThere add key → ⊥) × IsTaken before key slot after)
+    (HasCome add added key slot × (after ≡ before))
+    ⊎ ((IsThere add key → ⊥) × IsTaken before key slot after)
 
 -- The sets of the keys go one after another.
-abbrev pub Leavings : (zone : ℕ) → List RecordSet → (added : List SetRef) → (before : List Placed) → List SetKey
+abbrev pub Leavings : (zone : ℕ) → List RecordSet → (added : List SetRef) → (before : List Placed)
+    → List SetKey
     → (told : List SetRef) → (after : List Placed) → Type 0
 Leavings zone add added before [] told after = (told ≡ []) × (after ≡ before)
 Leavings zone add added before (key ∷ keys) told after =
-    (slot : ℕ) × (middle : List Placed) × (rest : List SetRef) × Leaves add added before key slot middle
-    × (told ≡ record { zone = zone; slot = slot } ∷ rest) × Leavings zone add added middle keys rest after
+    (slot : ℕ) × (middle : List Placed) × (rest : List SetRef)
+    × Leaves add added before key slot middle
+    × (told ≡ record { zone = zone; slot = slot } ∷ rest)
+    × Leavings zone add added middle keys rest after

@@ -35,13 +35,14 @@ abbrev pub placed_in : List Zone → ℕ → List Placed
 placed_in [] id = []
 placed_in (zone ∷ zones) id = if zone.id == id then zone.placed else placed_in zones id
 
--- A set can stand in a zone: it is at or below the apex, and has a spelling (which says that each value is of its type).
+-- A set can stand in a zone: it is at or below the apex, and has a spelling (which says that each
+-- value is of its type).
 pub record CanStand (apex : List (List ℕ)) (set : RecordSet) : Type 0 where
   pub inside : EndsWith set.name apex
   pub spelled : HasSpelling set
 
--- A zone by itself: its number is not 0, which is of no zone; its sets are in zone order and in slots of their own, and each
--- can stand in it.
+-- A zone by itself: its number is not 0, which is of no zone; its sets are in zone order and in
+-- slots of their own, and each can stand in it.
 pub record StandsAlone (zone : Zone) : Type 0 where
   pub numbered : 0 < zone.id
   pub sets : AreOfZone zone.placed
@@ -51,7 +52,8 @@ pub record StandsAlone (zone : Zone) : Type 0 where
 abbrev pub AreListed : List Zone → Type 0
 AreListed [] = ⊤
 AreListed (zone ∷ zones) =
-    AllByRecursion (λ other. (zone.id < other.id) × (zone.apex ≢ other.apex)) zones × AreListed zones
+    AllByRecursion (λ other. (zone.id < other.id) × (zone.apex ≢ other.apex)) zones
+    × AreListed zones
 
 -- A list of zones, each of them with the sets of a zone.
 pub record AreZones (zones : List Zone) : Type 0 where

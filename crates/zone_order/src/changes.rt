@@ -1,6 +1,7 @@
 //! Sets put into a zone, replaced in it, and taken away from it.
 
-ghost use Rattle.std.specs.Prelude.{ℕ, List, IsOk, OnOk, ◌≡◌, ◌≤◌, ◌<◌, ◌+◌, ◌-◌, length, slice_get};
+ghost use Rattle.std.specs.Prelude.{ℕ, List, IsOk, OnOk, ◌≡◌, ◌≤◌, ◌<◌, ◌+◌, ◌-◌, length};
+ghost use Rattle.std.specs.Prelude.{slice_get};
 ghost use Rattle.std.specs.Prelude.{slice_set, Some};
 ghost use Rattle.std.specs.Prelude.{vec_len, vec_capacity};
 ghost use Rattle.std.specs.List.{insert, remove};

@@ -50,7 +50,8 @@ pub fn of_zone(store: &SetStore, zone: u32, order: &[u32])
 {}
 
 impl<'a> ZoneView<'a> {
-    /// Holds the set at a place in a scratch, in place of the set that it held, and takes no memory.
+    /// Holds the set at a place in a scratch, in place of the set that it held, and takes no
+    /// memory.
     pub fn hold(&self, place: usize, into: &mut Scratch)
         requires { place < length self.now }
         ensures { (set : RecordSet) → slice_get self.now place ≡ Some set → into.new ≡ Some set }

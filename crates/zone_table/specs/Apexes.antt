@@ -15,7 +15,8 @@ KnowsNames (Some list) zones = (apex : Apex) → IsAmong list apex ↔ IsApex zo
 
 -- what is known of names once an edit is noted
 abbrev pub Notes : Option (List Apex) → ZoneEdit → Option (List Apex) → Type 0
-Notes before (edit.Open zone name sets) after = Comes before (record { id = zone; name = name }) after
+Notes before (edit.Open zone name sets) after =
+    Comes before (record { id = zone; name = name }) after
 Notes before (edit.Close zone) after = Goes before zone after
 Notes before (edit.Change zone remove add) after = after ≡ before
 Notes before (edit.Collections now) after = after ≡ before

@@ -20,7 +20,8 @@ places_in listed = length listed.order
 abbrev pub counted_in : Listed → ℕ
 counted_in listed = listed.sums.octets
 
--- Each slot that is not free is of a set of one of the zones, and the octets of all are counted, modulo 2^64.
+-- Each slot that is not free is of a set of one of the zones, and the octets of all are counted,
+-- modulo 2^64.
 pub record AreCounted (store : Store) (list : List Listed) (octets : ℕ) : Type 0 where
   pub sets : sum_by places_in list + store.free ≡ length store.slots
   pub all_octets : octets ≡ sum_by counted_in list % 2 ^ 64

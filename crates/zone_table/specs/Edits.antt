@@ -30,7 +30,9 @@ IsAllowed zones (edit.Open zone name sets) =
     (IsZoneId zones zone → ⊥) × (HasName zones name → ⊥) × CanBeAdded name sets × (0 < zone)
 IsAllowed zones (edit.Close zone) = IsZoneId zones zone
 IsAllowed zones (edit.Change zone remove add) =
-    IsZoneId zones zone × ((apex : List (List ℕ)) → IsApex zones zone apex → CanChange apex (placed_in zones zone) remove add)
+    IsZoneId zones zone
+    × ((apex : List (List ℕ)) → IsApex zones zone apex
+    → CanChange apex (placed_in zones zone) remove add)
 IsAllowed zones (edit.Collections now) = ⊤
 
 -- ---- what an edit makes
@@ -38,15 +40,19 @@ IsAllowed zones (edit.Collections now) = ⊤
 -- What an edit makes of the zone that it is about, and which references it tells.
 abbrev pub Makes : ZoneEdit → (before after : List Zone) → Delta → Type 0
 Makes (edit.Open zone name sets) before after delta =
-    IsApex after zone name × Changes zone [] [] sets delta.removed delta.added (placed_in after zone)
+    IsApex after zone name
+    × Changes zone [] [] sets delta.removed delta.added (placed_in after zone)
 -- all its sets go, in zone order
 Makes (edit.Close zone) before after delta =
-    (IsZoneId after zone → ⊥) × (delta.removed ≡ map (ref_in zone) (placed_in before zone)) × (delta.added ≡ [])
+    (IsZoneId after zone → ⊥) × (delta.removed ≡ map (ref_in zone) (placed_in before zone))
+    × (delta.added ≡ [])
 Makes (edit.Change zone remove add) before after delta =
     ((apex : List (List ℕ)) → IsApex before zone apex → IsApex after zone apex)
-    × Changes zone (placed_in before zone) remove add delta.removed delta.added (placed_in after zone)
+    × Changes zone (placed_in before zone) remove add delta.removed delta.added
+    (placed_in after zone)
 -- no zone changes
-Makes (edit.Collections now) before after delta = (after ≡ before) × (delta.removed ≡ []) × (delta.added ≡ [])
+Makes (edit.Collections now) before after delta = (after ≡ before) × (delta.removed ≡ [])
+    × (delta.added ≡ [])
 
 -- the collections after an edit
 abbrev pub collections_after : ZoneEdit → (before : Stored) → Stored
@@ -56,15 +62,17 @@ collections_after (edit.Change zone remove add) before = before
 collections_after (edit.Collections now) before = now
 
 -- An edit changes one zone, and no other.
-pub record Edits (before : List Zone) (made : ZoneEdit) (after : List Zone) (delta : Delta) : Type 0 where
+pub record Edits (before : List Zone) (made : ZoneEdit) (after : List Zone)
+    (delta : Delta) : Type 0 where
   pub zone : delta.zone ≡ zone_of made
   pub others : (other : Zone) → other.id ≢ zone_of made → IsOne before other ↔ IsOne after other
   pub its : Makes made before after delta
 
 -- ---- what an edit wants of an earlier call
 
--- What is ready: an edit, the number of the edits before it, how many references can be told as removed and as added without
--- memory, how many sets a zone that is opened can take, and how many octets of a set can be written.
+-- What is ready: an edit, the number of the edits before it, how many references can be told as
+-- removed and as added without memory, how many sets a zone that is opened can take, and how many
+-- octets of a set can be written.
 pub record Prepared : Type 0 where
   pub made : ZoneEdit
   pub edits : ℕ
@@ -76,7 +84,8 @@ pub record Prepared : Type 0 where
 -- the zone has room for so many more sets
 abbrev pub HasRoomIn : Table → (zone : ℕ) → ℕ → Type 0
 HasRoomIn table zone n =
-    (i : ℕ) (its : Zone) (room : ℕ) → slice_get table.zones i ≡ Some its → slice_get table.rooms i ≡ Some room → its.id ≡ zone → n ≤ room
+    (i : ℕ) (its : Zone) (room : ℕ) → slice_get table.zones i ≡ Some its
+    → slice_get table.rooms i ≡ Some room → its.id ≡ zone → n ≤ room
 
 -- putting these sets wants no memory of the store and of what is ready
 pub record HasRoomFor (table : Table) (ready : Prepared) (add : List RecordSet) : Type 0 where
@@ -91,10 +100,12 @@ HasRoom table ready (edit.Open zone name sets) =
     (0 < table.spare) × (length sets ≤ ready.places) × HasRoomFor table ready sets
 HasRoom table ready (edit.Close zone) = length (placed_in table.zones zone) ≤ ready.removable
 HasRoom table ready (edit.Change zone remove add) =
-    (length remove ≤ ready.removable) × HasRoomIn table zone (length add) × HasRoomFor table ready add
+    (length remove ≤ ready.removable) × HasRoomIn table zone (length add)
+    × HasRoomFor table ready add
 HasRoom table ready (edit.Collections now) = ⊤
 
--- An edit that is ready: nothing was edited since it was prepared, it is allowed, and nothing of it wants memory.
+-- An edit that is ready: nothing was edited since it was prepared, it is allowed, and nothing of it
+-- wants memory.
 pub record IsReady (table : Table) (ready : Prepared) : Type 0 where
   pub edits : ready.edits ≡ table.edits
   pub allowed : IsAllowed table.zones ready.made

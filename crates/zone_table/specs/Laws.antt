@@ -8,11 +8,13 @@ use Rattle.zone_table.specs.Looking.{IsApex}
 
 -- A number has one name at most.
 abbrev pub OneApex : Type 0
-OneApex = (zones : List Zone) (id : ℕ) (one other : List (List ℕ)) → AreZones zones → IsApex zones id one → IsApex zones id other → one ≡ other
+OneApex = (zones : List Zone) (id : ℕ) (one other : List (List ℕ)) → AreZones zones
+    → IsApex zones id one → IsApex zones id other → one ≡ other
 
 -- The sets of a number are those of the zone that has it.
 abbrev pub SetsOfOne : Type 0
-SetsOfOne = (zones : List Zone) (zone : Zone) → AreListed zones → IsOne zones zone → placed_in zones zone.id ≡ zone.placed
+SetsOfOne = (zones : List Zone) (zone : Zone) → AreListed zones → IsOne zones zone
+    → placed_in zones zone.id ≡ zone.placed
 
 -- The zones and what is told of them are the same, but for the slots of sets.
 pub record AreAlike (one other : List Zone) (told other_told : Delta) : Type 0 where
@@ -26,4 +28,5 @@ abbrev pub OneEdit : Type 0
 OneEdit =
     (before one other : List Zone) (made : ZoneEdit) (told other_told : Delta)
     → AreZones before → AreZones one → AreZones other → IsAllowed before made
-    → Edits before made one told → Edits before made other other_told → AreAlike one other told other_told
+    → Edits before made one told → Edits before made other other_told
+    → AreAlike one other told other_told

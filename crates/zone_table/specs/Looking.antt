@@ -15,13 +15,15 @@ use Rattle.zone_list.specs.declared.refs.SetRef.{SetRef}
 use Rattle.zone_list.specs.Zones.{Zone, IsOne, IsZoneId, placed_in}
 
 -- A group of a zone: its sets of this name and type, which stand side by side in zone order.
-pub record IsGroup (zones : List Zone) (id : ℕ) (name : List (List ℕ)) (rtype : RType) (group : Group) : Type 0 where
+pub record IsGroup (zones : List Zone) (id : ℕ) (name : List (List ℕ)) (rtype : RType)
+    (group : Group) : Type 0 where
   pub zone : group.zone ≡ id
   pub sets : IsGroupAt (sets_of (placed_in zones id)) name rtype group.start group.length
 
 -- the group of some name and type as it stands now
 abbrev pub IsGroupNow : List Zone → Group → Type 0
-IsGroupNow zones group = (name : List (List ℕ)) × (rtype : RType) × IsGroup zones group.zone name rtype group
+IsGroupNow zones group = (name : List (List ℕ)) × (rtype : RType)
+    × IsGroup zones group.zone name rtype group
 
 -- the set at place i of a group
 pub record IsMember (zones : List Zone) (group : Group) (i : ℕ) (set : SetRef) : Type 0 where
@@ -35,7 +37,8 @@ SlotAt placed i None = length placed ≤ i
 
 -- The set at place i of a zone in its order, or none.
 abbrev pub IsSetAt : List Zone → (zone i : ℕ) → Option SetRef → Type 0
-IsSetAt zones zone i (Some set) = (set.zone ≡ zone) × SlotAt (placed_in zones zone) i (Some set.slot)
+IsSetAt zones zone i (Some set) = (set.zone ≡ zone)
+    × SlotAt (placed_in zones zone) i (Some set.slot)
 IsSetAt zones zone i None = SlotAt (placed_in zones zone) i None
 
 -- a reference names this set
@@ -44,17 +47,22 @@ Names zones set named = IsHere (placed_in zones set.zone) (record { slot = set.s
 
 -- The set that a reference names was loaded. Where it names none, what was held stays.
 abbrev pub Loads : List Zone → SetRef → (held held_now : Option RecordSet) → Bool → Type 0
-Loads zones set held held_now true = (named : RecordSet) × Names zones set named × (held_now ≡ Some named)
-Loads zones set held held_now false = ((named : RecordSet) → Names zones set named → ⊥) × (held_now ≡ held)
+Loads zones set held held_now true = (named : RecordSet) × Names zones set named
+    × (held_now ≡ Some named)
+Loads zones set held held_now false = ((named : RecordSet) → Names zones set named → ⊥)
+    × (held_now ≡ held)
 
 -- What decides the health of the set that a reference names, or none where it names none.
 abbrev pub Watches : List Zone → SetRef → Option Watch → Type 0
-Watches zones set (Some watch) = (named : RecordSet) × Names zones set named × (watch ≡ watch_of named)
+Watches zones set (Some watch) = (named : RecordSet) × Names zones set named
+    × (watch ≡ watch_of named)
 Watches zones set None = (named : RecordSet) → Names zones set named → ⊥
 
--- The target of the set that a reference names, or none where it names none or one that is no alias.
+-- The target of the set that a reference names, or none where it names none or one that is no
+-- alias.
 abbrev pub Targets : List Zone → SetRef → Option (List (List ℕ) × RType) → Type 0
-Targets zones set (Some target) = (named : RecordSet) × Names zones set named × (target_of named ≡ Some target)
+Targets zones set (Some target) = (named : RecordSet) × Names zones set named
+    × (target_of named ≡ Some target)
 Targets zones set None = (named : RecordSet) → Names zones set named → target_of named ≡ None
 
 -- a search from the key on, or from what is behind it
@@ -64,12 +72,14 @@ bound_of key false = bound.From key
 
 -- The slot of the first set behind the bound, or none where all sets stand before it.
 abbrev pub SlotBehind : List Placed → Bound → Option ℕ → Type 0
-SlotBehind placed to (Some slot) = (at : ℕ) × IsCount (sets_of placed) to at × IsSlotAt placed at slot
+SlotBehind placed to (Some slot) = (at : ℕ) × IsCount (sets_of placed) to at
+    × IsSlotAt placed at slot
 SlotBehind placed to None = IsCount (sets_of placed) to (length placed)
 
 -- The first set of the zone behind the bound, or none.
 abbrev pub IsNextSet : List Zone → (zone : ℕ) → Bound → Option SetRef → Type 0
-IsNextSet zones zone to (Some set) = (set.zone ≡ zone) × SlotBehind (placed_in zones zone) to (Some set.slot)
+IsNextSet zones zone to (Some set) = (set.zone ≡ zone)
+    × SlotBehind (placed_in zones zone) to (Some set.slot)
 IsNextSet zones zone to None = SlotBehind (placed_in zones zone) to None
 
 -- The zone that holds a name: of those at or above it that of the longest name (RFC 1034, 4.3.2).
@@ -78,7 +88,8 @@ pub record Holds (zones : List Zone) (name : List (List ℕ)) (id : ℕ) : Type 
   pub there : IsOne zones zone
   pub its_id : zone.id ≡ id
   pub above : EndsWith name zone.apex
-  pub longest : (other : Zone) → IsOne zones other → EndsWith name other.apex → length other.apex ≤ length zone.apex
+  pub longest : (other : Zone) → IsOne zones other → EndsWith name other.apex
+      → length other.apex ≤ length zone.apex
 
 abbrev pub HoldsOrNone : List Zone → (name : List (List ℕ)) → Option ℕ → Type 0
 HoldsOrNone zones name (Some id) = Holds zones name id

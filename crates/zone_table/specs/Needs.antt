@@ -1,5 +1,6 @@
 -- What an edit wants of memory.
-use Rattle.std.specs.Prelude.{◌≡◌, ◌≤◌, ◌<◌, ◌-◌, ℕ, List, length, map, slice_get, Option, Some, Vec, vec_capacity, ⊤}
+use Rattle.std.specs.Prelude.{◌≡◌, ◌≤◌, ◌<◌, ◌-◌, ℕ, List, length, map, slice_get, Option, Some}
+use Rattle.std.specs.Prelude.{Vec, vec_capacity, ⊤}
 use Rattle.std.specs.List.{AllByRecursion}
 use Rattle.std.specs.declared.alloc.Global.{Global}
 use Rattle.record_set.specs.declared.sets.RecordSet.{RecordSet}
@@ -51,7 +52,8 @@ Counts list (edit.Collections now) need = ⊤
 
 -- the zone can take so many sets
 abbrev pub CanTake : List Listed → (zone : ℕ) → ℕ → Type 0
-CanTake list zone n = (i : ℕ) (its : Listed) → slice_get list i ≡ Some its → its.id ≡ zone → n ≤ its.room
+CanTake list zone n = (i : ℕ) (its : Listed) → slice_get list i ≡ Some its → its.id ≡ zone
+    → n ≤ its.room
 
 -- the zones have room for an edit
 abbrev pub IsRoomFor : Vec Listed Global → ZoneEdit → Type 0
@@ -63,7 +65,8 @@ IsRoomFor list (edit.Collections now) = ⊤
 -- there is no less room, for zones and in each zone
 pub record KeepsRoom (before after : Vec Listed Global) : Type 0 where
   pub spare : vec_capacity before - length before.items ≤ vec_capacity after - length after.items
-  pub rooms : (i : ℕ) (its its_now : Listed) → slice_get before.items i ≡ Some its → slice_get after.items i ≡ Some its_now → its.room ≤ its_now.room
+  pub rooms : (i : ℕ) (its its_now : Listed) → slice_get before.items i ≡ Some its
+      → slice_get after.items i ≡ Some its_now → its.room ≤ its_now.room
 
 -- the store and what is ready have room for these sets
 pub record HasRoomToAdd (store : Store) (ready : Prepared) (add : List RecordSet) : Type 0 where
@@ -75,11 +78,13 @@ pub record HasRoomToAdd (store : Store) (ready : Prepared) (add : List RecordSet
 -- nothing of a ready edit wants memory
 abbrev pub NeedsNone : Store → Vec Listed Global → Prepared → ZoneEdit → Type 0
 NeedsNone store list ready (edit.Open zone name sets) =
-    (length list.items < vec_capacity list) × (length sets ≤ ready.places) × HasRoomToAdd store ready sets
+    (length list.items < vec_capacity list) × (length sets ≤ ready.places)
+    × HasRoomToAdd store ready sets
 NeedsNone store list ready (edit.Close zone) =
     length (placed_in (zones_in store.slots list.items) zone) ≤ ready.removable
 NeedsNone store list ready (edit.Change zone remove add) =
-    (length remove ≤ ready.removable) × CanTake list.items zone (length add) × HasRoomToAdd store ready add
+    (length remove ≤ ready.removable) × CanTake list.items zone (length add)
+    × HasRoomToAdd store ready add
 NeedsNone store list ready (edit.Collections now) = ⊤
 
 -- the edit is allowed, and nothing of it wants memory

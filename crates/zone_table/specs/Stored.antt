@@ -12,7 +12,8 @@ use Rattle.zone_model.specs.Zones.{IsRising}
 use Rattle.zone_order.specs.Orders.{IsOrder, placed_of}
 
 -- The slots are those of the zone with this number.
-pub record IsOrderIn (slots : List (Option Kept)) (list : List Listed) (id : ℕ) (order : List ℕ) : Type 0 where
+pub record IsOrderIn (slots : List (Option Kept)) (list : List Listed) (id : ℕ)
+    (order : List ℕ) : Type 0 where
   pub order_is : IsOrder slots id order
   pub placed : placed_in (zones_in slots list) id ≡ placed_of slots id order
   pub there : IsZoneId (zones_in slots list) id
@@ -27,10 +28,12 @@ GetsOrder slots list id None = IsNone (zones_in slots list) id
 
 -- the sets of the zone with this number, which are in zone order
 abbrev pub ViewsZone : List Zone → ℕ → Option (List RecordSet) → Type 0
-ViewsZone zones id (Some sets) = (sets ≡ sets_of (placed_in zones id)) × IsRising sets × IsZoneId zones id
+ViewsZone zones id (Some sets) = (sets ≡ sets_of (placed_in zones id)) × IsRising sets
+    × IsZoneId zones id
 ViewsZone zones id None = IsNone zones id
 
 -- whether a reference names a set, which its slot holds then
 abbrev pub IsNamed : List (Option Kept) → List Zone → SetRef → Bool → Type 0
-IsNamed slots zones set true = (named : RecordSet) × Names zones set named × IsKept slots set.slot (record { zone = set.zone; set = named })
+IsNamed slots zones set true = (named : RecordSet) × Names zones set named
+    × IsKept slots set.slot (record { zone = set.zone; set = named })
 IsNamed slots zones set false = (named : RecordSet) → Names zones set named → ⊥

@@ -4,10 +4,10 @@ use Rattle.cidr_commands.specs.Stored.{Stored}
 use Rattle.zone_list.specs.Zones.{Zone, IsOne}
 use Rattle.zone_model.specs.Placed.{Placed, IsHere}
 
--- A table of zones: the zones by rising number, how many slots there are, in use or free, how many more sets each zone can
--- take without memory (in their order), how many more zones can be opened, how many more sets of all zones can be put, and
--- how many more cells of their octets, without memory; the collections of address blocks; and the number of edits that were
--- made, modulo 2^64.
+-- A table of zones: the zones by rising number, how many slots there are, in use or free, how many
+-- more sets each zone can take without memory (in their order), how many more zones can be opened,
+-- how many more sets of all zones can be put, and how many more cells of their octets, without
+-- memory; the collections of address blocks; and the number of edits that were made, modulo 2^64.
 pub record Table : Type 0 where
   pub zones : List Zone
   pub slots : ℕ
@@ -25,4 +25,5 @@ HaveSlotsApart zones = (zone other : Zone) (p q : Placed) → IsOne zones zone �
 
 -- Each slot in which a set stands is below this number.
 abbrev pub HaveSlotsBelow : List Zone → ℕ → Type 0
-HaveSlotsBelow zones n = (zone : Zone) (p : Placed) → IsOne zones zone → IsHere zone.placed p → p.slot < n
+HaveSlotsBelow zones n = (zone : Zone) (p : Placed) → IsOne zones zone → IsHere zone.placed p
+    → p.slot < n

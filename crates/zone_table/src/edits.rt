@@ -106,8 +106,8 @@ pub enum ZoneEdit {
     },
     /// The zone of this number goes, with all its sets.
     Close(u32),
-    /// These sets come into a zone, each in place of the one with its key, and the sets of these keys
-    /// go, but of those for which one came.
+    /// These sets come into a zone, each in place of the one with its key, and the sets of these
+    /// keys go, but of those for which one came.
     Change {
         zone: u32,
         remove: SetKeys,

@@ -210,7 +210,8 @@ fn change(
 ) -> Delta
     requires kept { AreKept store.old.slots list.old.items }
     requires counted { AreCounted store.old list.old.items octets.old }
-    requires allowed { IsAllowed (zones_in store.old.slots list.old.items) (Change zone remove add) }
+    requires allowed { IsAllowed (zones_in store.old.slots list.old.items)
+        (Change zone remove add) }
     requires none_removed { removed.items ≡ [] }
     requires none_added { added.items ≡ [] }
     requires removable { length remove ≤ vec_capacity removed }

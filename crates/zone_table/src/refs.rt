@@ -13,7 +13,8 @@ pub struct Group {
     pub length: usize,
 }
 
-/// What an edit took away from a zone and put into it. A set that was replaced stands in both lists.
+/// What an edit took away from a zone and put into it. A set that was replaced stands in both
+/// lists.
 #[derive(Drop)]
 pub struct Delta {
     /// The number of the zone.

@@ -290,7 +290,8 @@ impl Zones {
 
     /// The longest ancestor of a name that exists in a zone.
     pub fn closest(&self, zone: u32, name: &Name) -> Name
-        requires below { (apex : List (List ℕ)) × IsApex self.now.zones zone apex × IsAncestor name.now apex }
+        requires below { (apex : List (List ℕ)) × IsApex self.now.zones zone apex
+            × IsAncestor name.now apex }
         requires some { placed_in self.now.zones zone ≢ [] }
         ensures { IsClosest (sets_of (placed_in self.now.zones zone)) name.now result }
     {
@@ -300,7 +301,8 @@ impl Zones {
         }
     }
 
-    /// The first set of a zone that isn't before the key, or where `past` is set the first that is behind it.
+    /// The first set of a zone that isn't before the key, or where `past` is set the first that is
+    /// behind it.
     pub fn next_from(&self, zone: u32, from: &SetKey, past: bool) -> Option<SetRef>
         ensures { IsNextSet self.now.zones zone (bound_of from.now past) result }
     {
@@ -329,7 +331,8 @@ impl Zones {
         Ready::new(alloc, edit, self.edits, need)
     }
 
-    /// Makes an edit that is ready. Tells the references of the sets that went and of those that came.
+    /// Makes an edit that is ready. Tells the references of the sets that went and of those that
+    /// came.
     pub fn edit(&mut self, ready: Ready) -> Delta
         requires { IsReady self.old ready }
         ensures edits { Edits self.old.zones ready.made self.new.zones result }
