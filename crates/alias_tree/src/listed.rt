@@ -1,6 +1,10 @@
 //! A slice of sets as a list that is searched.
 
+ghost use Rattle.std.specs.Prelude.{IsTrue, ◌↔◌};
+ghost use Rattle.set_search.specs.Found.{IsOf};
+
 use dns_name::Name;
+use rdata::RType;
 use record_set::RecordSet;
 use set_search::{SetList, Stop, set_is_before};
 
@@ -24,4 +28,18 @@ impl<'a> SetList for Listed<'a> {
     fn is_below(&self, place: usize, name: &Name) -> bool {
         self.sets[place].name.ends_with(name)
     }
+
+    fn is_of(&self, place: usize, name: &Name, rtype: RType) -> bool {
+        has_both(&self.sets[place], name, rtype)
+    }
+}
+
+/// Whether a set has the name and the type.
+fn has_both(set: &RecordSet, name: &Name, rtype: RType) -> bool
+    ensures { IsTrue result ↔ IsOf name.now rtype set.now }
+{
+    if set.rtype != rtype {
+        return false;
+    }
+    set.name.is_same(name)
 }
