@@ -1,6 +1,6 @@
 //! What changes of a small zone would leave.
 
-ghost use Rattle.std.specs.Prelude.{◌≡◌};
+ghost use Rattle.std.specs.Prelude.{◌≡◌, ◌≤◌};
 ghost use Rattle.zone_list.specs.Zones.{placed_in};
 ghost use Rattle.zone_model.specs.Placed.{sets_of};
 ghost use Rattle.zone_table.specs.Edits.{IsAllowed};
@@ -157,11 +157,23 @@ fn told(
     let remove = go(rt, alloc, letter);
     let add = come(rt, alloc, set);
     know_allowed(rt, alloc, zones, &remove, &add);
+    ask(rt, alloc, zones, remove.as_slice(), add.as_slice())
+}
+
+/// The same for keys that go and sets that come.
+fn ask(
+    rt: &impl Abort,
+    alloc: Global,
+    zones: &Zones,
+    remove: &[SetKey],
+    add: &[RecordSet],
+) -> (bool, Option<u8>, Option<u8>)
+    requires { IsAllowed zones.now.zones (Change 1 remove.now add.now) }
+{
     let mut scratch = Scratch::new(alloc).ok().expect(rt, "memory");
-    let (keys, sets) = (remove.as_slice(), add.as_slice());
-    let empties = empties_group(zones, 1, keys, sets, &mut scratch);
-    let missing = missing_after(zones, 1, keys, sets, &mut scratch);
-    let far = walk_after(alloc, zones, 1, keys, sets, &mut scratch);
+    let empties = empties_group(zones, 1, remove, add, &mut scratch);
+    let missing = missing_after(zones, 1, remove, add, &mut scratch);
+    let far = walk_after(alloc, zones, 1, remove, add, &mut scratch);
     let far = far.ok().expect(rt, "memory");
     (empties, letter_of(missing), letter_of(far))
 }
