@@ -3,7 +3,7 @@
 ghost use Rattle.std.specs.Prelude.{◌≡◌, not, ◌&&◌, ◌==◌};
 
 use crate::asking::{Row, asks};
-use crate::made::{Set, alias, make, open, valued};
+use crate::made::{Set, alias, ident, make, open, put};
 use address_text::IpAddress;
 use cidr_routing::{
     Blocks, Changes, CidrChange, CidrCommand, Collections, Ident as BlockName, has_names,
@@ -13,22 +13,11 @@ use ip_table::IpPrefix;
 use policy_select::{AllHealthy, HealthView};
 use rdata::RType;
 use record_set::RecordSet;
-use routing::{Ident, Region, Routing};
+use routing::{Region, Routing};
 use std::alloc::Global;
 use std::process::Abort;
 use std::test::Fail;
 use zone_table::{SetRef, ZoneEdit, Zones};
-
-/// An identifier.
-fn ident(rt: &impl Abort, text: &str) -> Ident {
-    Ident::new(text.as_bytes()).expect(rt, "an identifier")
-}
-
-/// Adds a set of a policy.
-fn put(rt: &impl Abort, alloc: Global, sets: &mut Vec<RecordSet>, set: Set, routing: Routing) {
-    let set = valued(rt, alloc, &set, routing);
-    assert!(rt; sets.push(set).is_ok(), "memory");
-}
 
 /// Addresses in the east and in the west.
 const EAST: Set = ("e.example.com", RType::A, 60, &["192.0.2.1"]);
@@ -50,14 +39,14 @@ fn by_latency(rt: &impl Abort, alloc: Global) -> Zones {
         rt,
         alloc,
         &mut sets,
-        EAST,
+        &EAST,
         Routing::Weighted(ident(rt, "1"), 1),
     );
     put(
         rt,
         alloc,
         &mut sets,
-        WEST,
+        &WEST,
         Routing::Weighted(ident(rt, "1"), 1),
     );
     let near = by_region(rt, "1", "us-east-1", "e.example.com");
@@ -191,7 +180,7 @@ fn by_location(
 ) {
     let routing = Routing::Cidr(ident(rt, location), 1, ident(rt, location));
     let set: Set = ("www.example.com", RType::A, 60, texts);
-    put(rt, alloc, sets, set, routing);
+    put(rt, alloc, sets, &set, routing);
 }
 
 /// A zone with a group for the office, the lab and all others.
@@ -245,19 +234,14 @@ fn from(
     asks(rt, alloc, zones, &AllHealthy, &tables, peer, &[0; 8], row)
 }
 
+/// Three clients; then the office, whose set is unhealthy. It is the third of the group: that of
+/// `*` comes first, then the lab's.
 #[test]
 fn address_blocks(rt: HostRuntime) -> Result<(), Fail> {
     let alloc = rt.alloc();
     let zones = by_block(&rt, alloc);
     from(&rt, alloc, &zones, [198, 51, 100, 7], &BLOCKS[0])?;
     from(&rt, alloc, &zones, [198, 51, 7, 7], &BLOCKS[1])?;
-    from(&rt, alloc, &zones, [203, 0, 113, 1], &BLOCKS[2])
-}
-
-/// The set of `*` comes first in the group, then the lab's, then the office's.
-#[test]
-fn an_unhealthy_block(rt: HostRuntime) -> Result<(), Fail> {
-    let alloc = rt.alloc();
-    let zones = by_block(&rt, alloc);
+    from(&rt, alloc, &zones, [203, 0, 113, 1], &BLOCKS[2])?;
     without(&rt, alloc, &zones, 2, &BLOCKS[2])
 }

@@ -5,6 +5,7 @@ ghost use Rattle.zone_table.specs.Edits.{IsAllowed};
 use dns_name::Name;
 use rdata::{RData, RType};
 use record_set::{Body, RecordSet, Routing, Values};
+use routing::Ident;
 use std::alloc::Global;
 use std::process::Abort;
 use zone_allowed::{can_be_added, is_free};
@@ -31,7 +32,7 @@ fn values(rt: &impl Abort, alloc: Global, rtype: RType, texts: &[&str]) -> Value
 }
 
 /// A set with values.
-pub fn valued(rt: &impl Abort, alloc: Global, set: &Set, routing: Routing) -> RecordSet {
+fn valued(rt: &impl Abort, alloc: Global, set: &Set, routing: Routing) -> RecordSet {
     let (owner, rtype, ttl, texts) = *set;
     RecordSet {
         name: name(rt, owner),
@@ -59,11 +60,21 @@ pub fn alias(rt: &impl Abort, owner: &str, target: &str, routing: Routing) -> Re
     }
 }
 
+/// An identifier.
+pub fn ident(rt: &impl Abort, text: &str) -> Ident {
+    Ident::new(text.as_bytes()).expect(rt, "an identifier")
+}
+
+/// Adds a set of a policy.
+pub fn put(rt: &impl Abort, alloc: Global, sets: &mut Vec<RecordSet>, set: &Set, routing: Routing) {
+    let set = valued(rt, alloc, set, routing);
+    assert!(rt; sets.push(set).is_ok(), "memory");
+}
+
 /// Adds simple sets.
 pub fn add(rt: &impl Abort, alloc: Global, sets: &mut Vec<RecordSet>, rows: &[Set]) {
     for row in rows {
-        let set = valued(rt, alloc, row, Routing::Simple);
-        assert!(rt; sets.push(set).is_ok(), "memory");
+        put(rt, alloc, sets, row, Routing::Simple);
     }
 }
 

@@ -28,8 +28,9 @@ const NEW: [Set; 4] = [
     ("a.b.example.com", RType::A, 300, &["192.0.2.4"]),
 ];
 
-/// An empty non-terminal exists: `b.example.com` is above `a.b.example.com`.
-const IN_NEW: [Row; 6] = [
+/// An empty non-terminal exists: `b.example.com` is above `a.b.example.com`. HINFO (13), OPT (41)
+/// and 65280, which is for private use, are types that no set has.
+const IN_NEW: [Row; 11] = [
     Row {
         what: "an address",
         name: "www.example.com",
@@ -100,19 +101,8 @@ const IN_NEW: [Row; 6] = [
             "7a6f6ec0140000000100001c20000003840012750000015180",
         ],
     },
-];
-
-#[test]
-fn in_a_new_zone(rt: HostRuntime) -> Result<(), Fail> {
-    let alloc = rt.alloc();
-    let zones = zone(&rt, alloc, "example.com", &NEW);
-    compare(&rt, alloc, &zones, &IN_NEW)
-}
-
-/// The sets of the apex, asked for.
-const APEX_ASKED: [Row; 2] = [
     Row {
-        what: "its start of authority",
+        what: "the start of authority",
         name: "example.com",
         qtype: 6,
         head: "85000001000100000000",
@@ -124,7 +114,7 @@ const APEX_ASKED: [Row; 2] = [
         ],
     },
     Row {
-        what: "its name servers",
+        what: "the name servers",
         name: "example.com",
         qtype: 2,
         head: "85000001000400000000",
@@ -139,17 +129,6 @@ const APEX_ASKED: [Row; 2] = [
             "c00c000200010002a3000011036e73340372353307696e76616c696400",
         ],
     },
-];
-
-#[test]
-fn sets_of_the_apex(rt: HostRuntime) -> Result<(), Fail> {
-    let alloc = rt.alloc();
-    let zones = zone(&rt, alloc, "example.com", &NEW);
-    compare(&rt, alloc, &zones, &APEX_ASKED)
-}
-
-/// Types that no set has: HINFO (13), and 65280, which is for private use.
-const UNKNOWN: [Row; 3] = [
     Row {
         what: "HINFO",
         name: "www.example.com",
@@ -175,7 +154,7 @@ const UNKNOWN: [Row; 3] = [
         ],
     },
     Row {
-        what: "OPT, which is no type of data",
+        what: "OPT",
         name: "nope.example.com",
         qtype: 41,
         head: "85030001000000010000",
@@ -189,10 +168,10 @@ const UNKNOWN: [Row; 3] = [
 ];
 
 #[test]
-fn types_that_no_set_has(rt: HostRuntime) -> Result<(), Fail> {
+fn in_a_new_zone(rt: HostRuntime) -> Result<(), Fail> {
     let alloc = rt.alloc();
     let zones = zone(&rt, alloc, "example.com", &NEW);
-    compare(&rt, alloc, &zones, &UNKNOWN)
+    compare(&rt, alloc, &zones, &IN_NEW)
 }
 
 /// A zone whose MINIMUM is below the TTL of its SOA.

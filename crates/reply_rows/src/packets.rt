@@ -28,8 +28,9 @@ const ZONE: [Set; 3] = [
     ("www.example.com", RType::A, 300, &["192.0.2.1"]),
 ];
 
-/// Questions that are refused: RCODE 5 without AA.
-const REFUSED: [Packet; 6] = [
+/// Questions that are refused, with RCODE 5 and without AA; what is not heard, not implemented or
+/// malformed; and what comes back of a question and its flags: RD alone of these.
+const PACKETS: [Packet; 17] = [
     Packet {
         what: "class CH",
         packet: &[
@@ -108,17 +109,6 @@ const REFUSED: [Packet; 6] = [
             "03777777076578616d706c65036e65740000010001",
         ],
     },
-];
-
-#[test]
-fn refused(rt: HostRuntime) -> Result<(), Fail> {
-    let alloc = rt.alloc();
-    let zones = zone(&rt, alloc, "example.com", &ZONE);
-    compare_packets(&rt, alloc, &zones, &Tables::new(alloc), &REFUSED)
-}
-
-/// What is not heard, not implemented, or malformed.
-const OTHERS: [Packet; 7] = [
     Packet {
         what: "eleven octets",
         packet: &["1234010000010000000000"],
@@ -186,17 +176,6 @@ const OTHERS: [Packet; 7] = [
         ],
         reply: &["123481010000000000000000"],
     },
-];
-
-#[test]
-fn not_heard_or_malformed(rt: HostRuntime) -> Result<(), Fail> {
-    let alloc = rt.alloc();
-    let zones = zone(&rt, alloc, "example.com", &ZONE);
-    compare_packets(&rt, alloc, &zones, &Tables::new(alloc), &OTHERS)
-}
-
-/// The question comes back as it came, and RD alone of the flags.
-const REPEATED: [Packet; 4] = [
     Packet {
         what: "capitals",
         packet: &[
@@ -261,8 +240,8 @@ const REPEATED: [Packet; 4] = [
 ];
 
 #[test]
-fn repeated(rt: HostRuntime) -> Result<(), Fail> {
+fn packets(rt: HostRuntime) -> Result<(), Fail> {
     let alloc = rt.alloc();
     let zones = zone(&rt, alloc, "example.com", &ZONE);
-    compare_packets(&rt, alloc, &zones, &Tables::new(alloc), &REPEATED)
+    compare_packets(&rt, alloc, &zones, &Tables::new(alloc), &PACKETS)
 }

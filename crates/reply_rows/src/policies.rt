@@ -1,27 +1,16 @@
 //! Replies by policies: which sets answer, with which TTL, and by which of the query's words.
 
 use crate::asking::{ANYBODY, Row, asks, compare};
-use crate::made::{Set, add, alias, open, valued};
+use crate::made::{Set, add, alias, ident, open, put};
 use geo_latency::Tables;
 use policy_select::AllHealthy;
 use rdata::RType;
 use record_set::RecordSet;
-use routing::{Ident, Place, Routing};
+use routing::{Place, Routing};
 use std::alloc::Global;
 use std::process::Abort;
 use std::test::Fail;
 use zone_table::Zones;
-
-/// An identifier.
-fn ident(rt: &impl Abort, text: &str) -> Ident {
-    Ident::new(text.as_bytes()).expect(rt, "an identifier")
-}
-
-/// Adds a set of a policy.
-fn put(rt: &impl Abort, alloc: Global, sets: &mut Vec<RecordSet>, set: Set, routing: Routing) {
-    let set = valued(rt, alloc, &set, routing);
-    assert!(rt; sets.push(set).is_ok(), "memory");
-}
 
 /// Nine sets of a multivalue answer group: their identifiers and addresses, and the TTL of each.
 const NINE: [(&str, u32, &[&str]); 9] = [
@@ -46,7 +35,7 @@ fn nine(rt: &impl Abort, alloc: Global) -> Zones {
             rt,
             alloc,
             &mut sets,
-            set,
+            &set,
             Routing::Multivalue(ident(rt, text)),
         );
     }
@@ -125,14 +114,14 @@ fn weighted(rt: &impl Abort, alloc: Global) -> Zones {
         rt,
         alloc,
         &mut sets,
-        WWW,
+        &WWW,
         Routing::Weighted(ident(rt, "a"), 1),
     );
     put(
         rt,
         alloc,
         &mut sets,
-        OTHER,
+        &OTHER,
         Routing::Weighted(ident(rt, "b"), 1),
     );
     let top = alias(rt, "top.example.com", "www.example.com", Routing::Simple);
@@ -143,14 +132,14 @@ fn weighted(rt: &impl Abort, alloc: Global) -> Zones {
         rt,
         alloc,
         &mut sets,
-        here,
+        &here,
         Routing::Weighted(ident(rt, "a"), 1),
     );
     put(
         rt,
         alloc,
         &mut sets,
-        there,
+        &there,
         Routing::Weighted(ident(rt, "b"), 2),
     );
     open(rt, alloc, &mut zones, 1, "example.com", sets);
@@ -217,7 +206,7 @@ fn one_country(rt: &impl Abort, alloc: Global) -> Zones {
     let mut sets = Vec::new(alloc);
     add(rt, alloc, &mut sets, &SOA);
     let routing = Routing::Geolocation(ident(rt, "us"), Place::Country(*b"US"));
-    put(rt, alloc, &mut sets, WWW, routing);
+    put(rt, alloc, &mut sets, &WWW, routing);
     open(rt, alloc, &mut zones, 1, "example.com", sets);
     zones
 }

@@ -71,8 +71,9 @@ const EDU: [Set; 5] = [
     ("ROME.UCI.EDU", RType::A, 172800, &["192.5.19.31"]),
 ];
 
-/// 6.2.1, 6.2.3, 6.2.4 with the SOA of RFC 2308, and 6.2.5.
-const QUERIES: [Row; 4] = [
+/// Those of 6.2.1, 6.2.3, 6.2.4 with the SOA of RFC 2308, 6.2.5, 6.2.6, a like one for `EDU`,
+/// 6.2.8, and one for a pointer.
+const QUERIES: [Row; 8] = [
     Row {
         what: "addresses",
         name: "SRI-NIC.ARPA",
@@ -118,10 +119,6 @@ const QUERIES: [Row; 4] = [
             "0000012c00093a8000015180",
         ],
     },
-];
-
-/// 6.2.6 and a like one of `EDU`, and 6.2.8.
-const OTHERS: [Row; 4] = [
     Row {
         what: "a referral to MIL",
         name: "BRL.MIL",
@@ -179,19 +176,10 @@ const OTHERS: [Row; 4] = [
 ];
 
 #[test]
-fn answers_of_the_root(rt: HostRuntime) -> Result<(), Fail> {
+fn queries_of_the_root(rt: HostRuntime) -> Result<(), Fail> {
     let alloc = rt.alloc();
     let mut zones = Zones::new(alloc);
     open_simple(&rt, alloc, &mut zones, 2, "EDU", &EDU);
     open_simple(&rt, alloc, &mut zones, 1, ".", &ROOT);
     compare(&rt, alloc, &zones, &QUERIES)
-}
-
-#[test]
-fn referrals_and_others(rt: HostRuntime) -> Result<(), Fail> {
-    let alloc = rt.alloc();
-    let mut zones = Zones::new(alloc);
-    open_simple(&rt, alloc, &mut zones, 2, "EDU", &EDU);
-    open_simple(&rt, alloc, &mut zones, 1, ".", &ROOT);
-    compare(&rt, alloc, &zones, &OTHERS)
 }

@@ -59,8 +59,9 @@ const ZONE: [Set; 10] = [
     ("to.example.com", RType::Cname, 300, &["x.two.example.com."]),
 ];
 
-/// Names at and below a cut.
-const BELOW: [Row; 4] = [
+/// Names at and below a cut; then one with three servers: one with addresses of both families, one
+/// outside of the zone, and one below a cut.
+const QUERIES: [Row; 7] = [
     Row {
         what: "below the cut",
         name: "x.sub.example.com",
@@ -109,18 +110,6 @@ const BELOW: [Row; 4] = [
             "036e7331c0130001000100000e100004c0000235",
         ],
     },
-];
-
-#[test]
-fn at_and_below_a_cut(rt: HostRuntime) -> Result<(), Fail> {
-    let alloc = rt.alloc();
-    let zones = zone(&rt, alloc, "example.com", &ZONE);
-    compare(&rt, alloc, &zones, &BELOW)
-}
-
-/// Three servers: one with addresses of both families, one outside of the zone, and one below a
-/// cut.
-const SEVERAL: [Row; 3] = [
     Row {
         what: "a name of which the zone has a set",
         name: "www.two.example.com",
@@ -180,8 +169,8 @@ const SEVERAL: [Row; 3] = [
 ];
 
 #[test]
-fn several_servers(rt: HostRuntime) -> Result<(), Fail> {
+fn at_and_below_cuts(rt: HostRuntime) -> Result<(), Fail> {
     let alloc = rt.alloc();
     let zones = zone(&rt, alloc, "example.com", &ZONE);
-    compare(&rt, alloc, &zones, &SEVERAL)
+    compare(&rt, alloc, &zones, &QUERIES)
 }

@@ -1,10 +1,10 @@
 //! The client subnet: whose address counts, and the scope of the answer (RFC 7871).
 
 use crate::asking::{Packet, compare_packets};
-use crate::made::{Set, add, open, valued};
+use crate::made::{Set, add, alias, ident, open, put};
 use geo_latency::{TableLine, Tables};
 use rdata::RType;
-use routing::{Ident, Place, Region, Routing};
+use routing::{Place, Region, Routing};
 use std::alloc::Global;
 use std::process::Abort;
 use std::test::Fail;
@@ -37,29 +37,32 @@ fn address(owner: &'static str, texts: &'static [&'static str]) -> Set {
     (owner, RType::A, 300, texts)
 }
 
-/// An identifier.
-fn ident(rt: &impl Abort, text: &[u8]) -> Ident {
-    Ident::new(text).expect(rt, "an identifier")
+/// The policy of a set for a country.
+fn by_country(rt: &impl Abort, text: &str, code: [u8; 2]) -> Routing {
+    Routing::Geolocation(ident(rt, text), Place::Country(code))
 }
 
-/// A geolocation group for two countries, a latency group of one region, and simple sets.
+/// A geolocation group for two countries, a latency group of one region, an alias by place to that,
+/// and simple sets.
 fn zones(rt: &impl Abort, alloc: Global) -> Zones {
     let mut zones = Zones::new(alloc);
     let mut sets = Vec::new(alloc);
     add(rt, alloc, &mut sets, &SIMPLE);
-    let us = Routing::Geolocation(ident(rt, b"us"), Place::Country(*b"US"));
-    let de = Routing::Geolocation(ident(rt, b"de"), Place::Country(*b"DE"));
+    let us = by_country(rt, "us", *b"US");
+    let de = by_country(rt, "de", *b"DE");
     let region = Region::new(b"us-east-1").expect(rt, "a region");
-    let near = Routing::Latency(ident(rt, b"1"), region);
+    let near = Routing::Latency(ident(rt, "1"), region);
     let rows = [
         (address("geo.example.com", &["192.0.2.1"]), us),
         (address("geo.example.com", &["192.0.2.2"]), de),
         (address("lat.example.com", &["192.0.2.3"]), near),
     ];
     for (set, routing) in rows {
-        let set = valued(rt, alloc, &set, routing);
-        assert!(rt; sets.push(set).is_ok(), "memory");
+        put(rt, alloc, &mut sets, &set, routing);
     }
+    let place = by_country(rt, "us", *b"US");
+    let both = alias(rt, "both.example.com", "lat.example.com", place);
+    assert!(rt; sets.push(both).is_ok(), "memory");
     open(rt, alloc, &mut zones, 1, "example.com", sets);
     zones
 }
@@ -78,8 +81,8 @@ fn tables(rt: &impl Abort, alloc: Global) -> Tables {
     tables
 }
 
-/// Questions for a geolocation group.
-const PLACES: [Packet; 4] = [
+/// Questions for a geolocation group, for other groups, and of clients of whom no row tells.
+const SUBNETS: [Packet; 9] = [
     Packet {
         what: "a bit behind the prefix",
         packet: &[
@@ -151,17 +154,25 @@ const PLACES: [Packet; 4] = [
             "000029100000000000000b0008000700011818c633c8",
         ],
     },
-];
-
-#[test]
-fn scopes_of_places(rt: HostRuntime) -> Result<(), Fail> {
-    let alloc = rt.alloc();
-    let zones = zones(&rt, alloc);
-    compare_packets(&rt, alloc, &zones, &tables(&rt, alloc), &PLACES)
-}
-
-/// Questions for other groups, and clients of whom no row tells.
-const OTHERS: [Packet; 4] = [
+    Packet {
+        what: "an alias by place to a latency group: the larger scope",
+        packet: &[
+            // RD
+            "123401000001000000000001",
+            // both.example.com. A IN
+            "04626f7468076578616d706c6503636f6d0000010001",
+            // OPT with 198.51.100.0/24
+            "00002904d000000000000b0008000700011800c63364",
+        ],
+        reply: &[
+            "123485000001000100000001",
+            "04626f7468076578616d706c6503636f6d0000010001",
+            // both.example.com. 300 A 192.0.2.3
+            "c00c000100010000012c0004c0000203",
+            // OPT
+            "000029100000000000000b0008000700011814c63364",
+        ],
+    },
     Packet {
         what: "a latency group",
         packet: &[
@@ -245,8 +256,8 @@ const OTHERS: [Packet; 4] = [
 ];
 
 #[test]
-fn scopes_of_others(rt: HostRuntime) -> Result<(), Fail> {
+fn scopes(rt: HostRuntime) -> Result<(), Fail> {
     let alloc = rt.alloc();
     let zones = zones(&rt, alloc);
-    compare_packets(&rt, alloc, &zones, &tables(&rt, alloc), &OTHERS)
+    compare_packets(&rt, alloc, &zones, &tables(&rt, alloc), &SUBNETS)
 }

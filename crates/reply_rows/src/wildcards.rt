@@ -48,8 +48,9 @@ const ZONE: [Set; 9] = [
     ),
 ];
 
-/// Answers from the wildcard.
-const SYNTHESIZED: [Row; 3] = [
+/// Three answers from the wildcard; five that it has no part in; then the wildcard itself, two
+/// empty non-terminals beside it, and the cut.
+const QUERIES: [Row; 12] = [
     Row {
         what: "the name has no ancestor that exists but the apex",
         name: "host3.example",
@@ -81,17 +82,6 @@ const SYNTHESIZED: [Row; 3] = [
             "c00c0010000100000e100013127468697320697320612077696c6463617264",
         ],
     },
-];
-
-#[test]
-fn synthesized(rt: HostRuntime) -> Result<(), Fail> {
-    let alloc = rt.alloc();
-    let zones = zone(&rt, alloc, "example", &ZONE);
-    compare(&rt, alloc, &zones, &SYNTHESIZED)
-}
-
-/// Answers that the wildcard has no part in.
-const NOT_SYNTHESIZED: [Row; 5] = [
     Row {
         what: "the name exists",
         name: "host1.example",
@@ -146,17 +136,6 @@ const NOT_SYNTHESIZED: [Row; 5] = [
             "026e73c01405686f737431c0140000000100001c20000003840012750000015180",
         ],
     },
-];
-
-#[test]
-fn not_synthesized(rt: HostRuntime) -> Result<(), Fail> {
-    let alloc = rt.alloc();
-    let zones = zone(&rt, alloc, "example", &ZONE);
-    compare(&rt, alloc, &zones, &NOT_SYNTHESIZED)
-}
-
-/// The wildcard itself, and empty non-terminals beside it.
-const BESIDE: [Row; 4] = [
     Row {
         what: "the wildcard, asked for by its name",
         name: "*.example",
@@ -204,8 +183,8 @@ const BESIDE: [Row; 4] = [
 ];
 
 #[test]
-fn beside_the_wildcard(rt: HostRuntime) -> Result<(), Fail> {
+fn example_zone(rt: HostRuntime) -> Result<(), Fail> {
     let alloc = rt.alloc();
     let zones = zone(&rt, alloc, "example", &ZONE);
-    compare(&rt, alloc, &zones, &BESIDE)
+    compare(&rt, alloc, &zones, &QUERIES)
 }
