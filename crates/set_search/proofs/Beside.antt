@@ -18,7 +18,7 @@ use Rattle.set_search.specs.declared.bounds.Bound.TheVariants as bound
 use Rattle.set_search.specs.Bounds.{is_before, group_cmp}
 use Rattle.set_search.specs.Found.{IsBracket, IsCount, IsMemberAt, IsOf}
 use Rattle.set_search.proofs.Lookups.{all_before, low_up, high_down}
-use Rattle.set_search.proofs.Together.{before_start, first_key, of_group}
+use Rattle.set_search.proofs.Together.{before_start, below_not_above, first_key, of_group}
 
 -- the test of a group
 of_test : (name : List (List ℕ)) (rtype : RType) (x : RecordSet)
@@ -131,3 +131,41 @@ module _ (name : List (List ℕ)) (rtype : RType) where
         let w = slice_get_within sets (place + 1) y at in
         high_down sets (bound.PastGroup name rtype) rising (place + 1) (length sets) (place + 1) y
         up_to (omega arith) w at (back y at none)
+
+  module _ (sets : List RecordSet) (rising : IsRising sets) (start : ℕ)
+      (from : IsCount sets (bound.From (first_key name rtype)) start) where
+    -- what stands before a group stands before its end
+    to_start : IsBracket sets (bound.PastGroup name rtype) start (length sets)
+    to_start = record {
+      order = from.within;
+      within = omega arith;
+      before = λ k x lt at. below_not_above (group_cmp x name rtype)
+          (sym (before_start name rtype x) ∙ from.before k x lt at);
+      behind = λ k x le at. absurd (let inside = slice_get_within sets k x at in omega
+          (arith, le, inside));
+    }
+
+    pub none_left : length sets ≤ start → IsCount sets (bound.PastGroup name rtype) start
+    none_left last =
+        let e : length sets ≡ start = (let w = from.within in omega (arith, last, w)) in
+        subst (λ n. IsBracket sets (bound.PastGroup name rtype) start n) e to_start
+
+    -- one at the start that isn't of the group stands behind it
+    behind_all : (y : RecordSet) → slice_get sets start ≡ Some y → (IsOf name rtype y → ⊥)
+        → is_before (bound.PastGroup name rtype) y ≡ false
+    behind_all y at none = by (group_cmp y name rtype) refl
+      where
+        by : (o : Ordering) → group_cmp y name rtype ≡ o
+            → is_before (bound.PastGroup name rtype) y ≡ false
+        by Less e =
+            let low : is_before (bound.From (first_key name rtype)) y ≡ true =
+            before_start name rtype y ∙ ap is_lt e in
+            absurd (let not_low = from.behind start y (omega arith) at in grind (arith, low, not_low))
+        by Equal e = absurd (untied y none e)
+        by Greater e = ap (λ o. not (is_gt o)) e
+
+    pub none_here : (y : RecordSet) → slice_get sets start ≡ Some y → (IsOf name rtype y → ⊥)
+        → IsCount sets (bound.PastGroup name rtype) start
+    none_here y at none =
+        high_down sets (bound.PastGroup name rtype) rising start (length sets) start y to_start
+        (omega arith) (slice_get_within sets start y at) at (behind_all y at none)

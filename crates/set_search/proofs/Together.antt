@@ -74,7 +74,7 @@ neither Less e f = absurd (grind (arith, e))
 neither Equal e f = refl
 neither Greater e f = absurd (grind (arith, f))
 
-below_not_above : (o : Ordering) → is_lt o ≡ true → not (is_gt o) ≡ true
+pub below_not_above : (o : Ordering) → is_lt o ≡ true → not (is_gt o) ≡ true
 below_not_above Less e = refl
 below_not_above Equal e = refl
 below_not_above Greater e = absurd (grind (arith, e))

@@ -30,7 +30,7 @@ pub fn group_in<S: SetList>(
         }
     }
     let start = count_before(sets, &Stop::From(name, rtype, None), hint);
-    let end = count_before(sets, &Stop::PastGroup(name, rtype), Some(start));
+    let end = end_from(sets, name, rtype, start);
     (start, end - start)
 }
 
@@ -43,6 +43,22 @@ fn group_round<S: SetList>(sets: &S, name: &Name, rtype: RType, place: usize) ->
     let start = start_of(sets, name, rtype, place);
     let end = end_of(sets, name, rtype, place);
     (start, end - start)
+}
+
+/// The place behind the last set of a group, from the place that its first one has or would have.
+fn end_from<S: SetList>(sets: &S, name: &Name, rtype: RType, start: usize) -> usize
+    requires rising { IsRising (S.sets sets.now) }
+    requires start { IsCount (S.sets sets.now)
+        (From (record { name = name.now; rtype = rtype; ident = None })) start }
+    ensures { IsCount (S.sets sets.now) (PastGroup name.now rtype) result }
+{
+    if start >= sets.count() {
+        return start;
+    }
+    if !sets.is_of(start, name, rtype) {
+        return start;
+    }
+    end_of(sets, name, rtype, start)
 }
 
 /// The place of the first set of a group, of which one stands at a place.

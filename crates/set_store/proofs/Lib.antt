@@ -1,3 +1,4 @@
+mod Alike
 pub mod Named
 pub mod Lists
 pub mod Chains

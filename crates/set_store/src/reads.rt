@@ -1,6 +1,6 @@
 //! Sets read where they stand: compared with bounds and names, and copied.
 
-ghost use Rattle.std.specs.Prelude.{◌≡◌, ◌≤◌, ◌<◌, ◌++◌, ℕ, List, drop, length, take, min};
+ghost use Rattle.std.specs.Prelude.{◌≡◌, ◌≤◌, ◌<◌, ◌+◌, ◌++◌, ℕ, List, drop, length, take, min};
 ghost use Rattle.std.specs.Prelude.{slice_get, Some, IfOk, IsTrue, ◌↔◌};
 ghost use Rattle.dns_name.specs.Suffix.{EndsWith};
 ghost use Rattle.record_set.specs.declared.sets.RecordSet.{RecordSet};
@@ -263,6 +263,18 @@ pub(crate) fn stands_at(
         → IsTrue result ↔ (take (length octets.now) (drop offset known) ≡ octets.now) }
 {
     region.is_at(Handle::of(cell_at(slots, slot)), offset, octets)
+}
+
+/// The two octets of a slot's set from a place on.
+pub(crate) fn two_at(region: &Region, slots: &Vec<Slot>, slot: u32, offset: usize) -> [u8; 2]
+    requires { (octets : List ℕ) × HoldsAt region.now.held slots.now.items slot octets
+        × (offset + 2 ≤ length octets) }
+    ensures { (octets : List ℕ) → HoldsAt region.now.held slots.now.items slot octets
+        → result ≡ take 2 (drop offset octets) }
+{
+    let mut two = [0; 2];
+    region.read_at(Handle::of(cell_at(slots, slot)), offset, &mut two);
+    two
 }
 
 /// The first octets of a slot's set, as many as a buffer has room for.

@@ -1,5 +1,5 @@
-//! Names compared where they stand, in the way that serves names right below one name: most names
-//! of a zone are.
+//! Keys compared where they stand, in the ways that serve most: names right below one name, as most
+//! names of a zone are, and types where the names are the same.
 
 ghost use Rattle.std.specs.Prelude.{◌≡◌, ◌≤◌, ◌+◌, ℕ, List, drop, get_or, length, take};
 ghost use Rattle.std.specs.Prelude.{if◌then◌else◌};
@@ -8,23 +8,39 @@ ghost use Rattle.std.specs.Cmp.Lexicographic.{slice_cmp};
 ghost use Rattle.std.specs.Ordering.{nat_cmp};
 ghost use Rattle.std.specs.declared.cmp.Ordering.TheVariants.{Greater, Less};
 ghost use Rattle.dns_name.specs.Order.{zone_cmp};
+ghost use Rattle.rdata_layout.specs.Types.{number_of};
 ghost use Rattle.record_set.specs.declared.sets.RecordSet.{RecordSet};
 ghost use Rattle.set_search.specs.Bounds.{is_before};
 ghost use Rattle.set_search.specs.Stops.{bound_of};
 ghost use Rattle.set_store.specs.Index.{HoldsAt};
 ghost use Rattle.set_store.specs.Stored.{IsSpelling, Spells};
 
-use crate::reads::{front_at, stands_at};
+use crate::reads::{front_at, stands_at, two_at};
 use crate::slots::Slot;
 use dns_name::Name;
 use octet_region::Region;
-use octets::behind;
+use octets::{behind, number_at};
+use rdata::RType;
 use set_search::Stop;
 use std::cmp::Ordering;
 
-/// Whether the set of a slot stands before a bound, where its name and that of the bound are right
-/// below one name and aren't the same. None where that isn't so.
+/// Whether the set of a slot stands before a bound, where its name or its type tells that. None
+/// where neither does.
 pub fn is_before_beside(region: &Region, slots: &Vec<Slot>, slot: u32, stop: &Stop) -> Option<bool>
+    requires { (octets : List ℕ) × HoldsAt region.now.held slots.now.items slot octets
+        × IsSpelling octets }
+    ensures { (octets : List ℕ) (set : RecordSet)
+        → HoldsAt region.now.held slots.now.items slot octets → Spells octets set
+        → IfSome result (λ before. before ≡ is_before (bound_of stop.now) set) }
+{
+    if let Some(before) = is_before_by_name(region, slots, slot, stop) {
+        return Some(before);
+    }
+    is_before_by_type(region, slots, slot, stop)
+}
+
+/// The same by names that are right below one name and aren't the same.
+fn is_before_by_name(region: &Region, slots: &Vec<Slot>, slot: u32, stop: &Stop) -> Option<bool>
     requires { (octets : List ℕ) × HoldsAt region.now.held slots.now.items slot octets
         × IsSpelling octets }
     ensures { (octets : List ℕ) (set : RecordSet)
@@ -36,6 +52,53 @@ pub fn is_before_beside(region: &Region, slots: &Vec<Slot>, slot: u32, stop: &St
         Stop::Past(name, _, _) => is_named_before(region, slots, slot, name),
         Stop::PastGroup(name, _) => is_named_before(region, slots, slot, name),
     }
+}
+
+/// The same by types, where the names are the same.
+fn is_before_by_type(region: &Region, slots: &Vec<Slot>, slot: u32, stop: &Stop) -> Option<bool>
+    requires { (octets : List ℕ) × HoldsAt region.now.held slots.now.items slot octets
+        × IsSpelling octets }
+    ensures { (octets : List ℕ) (set : RecordSet)
+        → HoldsAt region.now.held slots.now.items slot octets → Spells octets set
+        → IfSome result (λ before. before ≡ is_before (bound_of stop.now) set) }
+{
+    match stop {
+        Stop::From(name, rtype, ident) => {
+            if ident.is_some() {
+                return None;
+            }
+            let order = type_order(region, slots, slot, name, *rtype)?;
+            Some(order.is_lt())
+        }
+        Stop::Past(_, _, _) => None,
+        Stop::PastGroup(name, rtype) => {
+            let order = type_order(region, slots, slot, name, *rtype)?;
+            Some(!order.is_gt())
+        }
+    }
+}
+
+/// The order of the type of a slot's set and another, where the set has the name.
+fn type_order(
+    region: &Region,
+    slots: &Vec<Slot>,
+    slot: u32,
+    name: &Name,
+    rtype: RType,
+) -> Option<Ordering>
+    requires { (octets : List ℕ) × HoldsAt region.now.held slots.now.items slot octets
+        × IsSpelling octets }
+    ensures { (octets : List ℕ) (set : RecordSet)
+        → HoldsAt region.now.held slots.now.items slot octets → Spells octets set
+        → IfSome result (λ order. (set.name ≡ name.now)
+        × (order ≡ nat_cmp (number_of set.rtype) (number_of rtype))) }
+{
+    let octets = name.octets();
+    if !stands_at(region, slots, slot, 0, octets) {
+        return None;
+    }
+    let own = two_at(region, slots, slot, octets.len());
+    Some(number_at(&own, 0).cmp(&rtype.number()))
 }
 
 /// Whether the name of a slot's set comes before another, where both are right below one name and

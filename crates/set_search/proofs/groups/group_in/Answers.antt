@@ -6,14 +6,14 @@ use Rattle.set_search.proofs.groups.group_in.Goals as goal
 pub overflow_sub-result : goal.overflow_sub-result
 overflow_sub-result g c =
     in_order c.args.name.now c.args.rtype (g.S.SetList.sets c.args.sets.now)
-    c.count_before-start.result c.count_before-end.result
-    c.count_before-start.ensures c.count_before-end.ensures
+    c.count_before-start.result c.end_from-end.result
+    c.count_before-start.ensures c.end_from-end.ensures
 
 pub returns : goal.returns
 returns g c =
     group_at c.args.name.now c.args.rtype (g.S.SetList.sets c.args.sets.now)
-    c.count_before-start.result c.count_before-end.result
-    c.count_before-start.ensures c.count_before-end.ensures
+    c.count_before-start.result c.end_from-end.result
+    c.count_before-start.ensures c.end_from-end.ensures
 
 pub group_round-requires-clause-member : goal.group_round-requires-clause-member
 group_round-requires-clause-member g c =

@@ -5,7 +5,7 @@ use Rattle.set_search.specs.Bounds.{is_before}
 use Rattle.set_search.specs.Stops.{bound_of}
 use Rattle.set_search.specs.declared.bounds.Stop.{Stop}
 use Rattle.set_store.proofs.Beside.{by_from, by_group, by_past}
-use Rattle.set_store.proofs.siblings.is_before_beside.Goals as goal
+use Rattle.set_store.proofs.siblings.is_before_by_name.Goals as goal
 
 pub returns-in-From : goal.returns-in-From
 returns-in-From c octets set holds spells =
