@@ -1,0 +1,3 @@
+mod Counts
+pub mod Found
+pub mod Walked

@@ -1,0 +1,14 @@
+//! The zones of a configuration: what a table of zones is for it, its zones and sets one after
+//! another, and what is counted of them.
+//!
+//! An edit of the table stands for what a command makes of the configuration; it is told here which
+//! edit does so.
+#![tactic(auto)]
+
+mod counting;
+mod laws;
+mod looking;
+
+pub use counting::{is_over, octets_in, zone_count};
+pub use laws::{counts_agree, zones_are_found, zones_follow};
+pub use looking::{check_at, hold_at};

@@ -1,0 +1,42 @@
+//! The sets of a zone by their places, one at a time.
+
+ghost use Rattle.std.specs.Prelude.{◌≡◌, ◌<◌, length, slice_get, Some};
+ghost use Rattle.record_set.specs.declared.sets.RecordSet.{RecordSet};
+ghost use Rattle.set_octets.specs.Octets.{HasSpelling};
+ghost use Rattle.set_scratch.specs.Holding.{IsHolding};
+ghost use Rattle.zone_list.specs.Zones.{placed_in};
+ghost use Rattle.zone_model.specs.Placed.{sets_of};
+
+use zone_table::{Scratch, Zones};
+
+/// Holds the set at a place of a zone.
+pub fn hold_at(zones: &Zones, zone: u32, i: usize, scratch: &mut Scratch)
+    requires { i < length (placed_in zones.now.zones zone) }
+    ensures held { scratch.new ≡ slice_get (sets_of (placed_in zones.now.zones zone)) i }
+    ensures spelled { (set : RecordSet) × (scratch.new ≡ Some set) × HasSpelling set }
+    ensures some { IsHolding scratch.new }
+{
+    zones.well_formed();
+    let Some(set) = zones.at(zone, i) else {
+        unreachable!();
+    };
+    if !zones.load(set, scratch) {
+        unreachable!();
+    }
+}
+
+/// The number of the health check that the set at a place of a zone names.
+pub fn check_at(zones: &Zones, zone: u32, i: usize) -> Option<u32>
+    requires { i < length (placed_in zones.now.zones zone) }
+    ensures { (set : RecordSet)
+        → slice_get (sets_of (placed_in zones.now.zones zone)) i ≡ Some set → result ≡ set.check }
+{
+    zones.well_formed();
+    let Some(set) = zones.at(zone, i) else {
+        unreachable!();
+    };
+    match zones.watch(set) {
+        Some(watch) => watch.check,
+        None => unreachable!(),
+    }
+}
