@@ -1,8 +1,9 @@
 pub mod Differences
 pub mod Edits
+pub mod Laws
 pub use Rattle.batch_model.specs.Batches
 pub use Rattle.batch_model.specs.Rules
-pub use Rattle.config_model.specs.Laws
+pub use Rattle.config_model.specs.Laws as Bounds
 pub use Rattle.zone_list.specs.Changes
 pub use Rattle.zone_list.specs.Zones
 pub use Rattle.zone_model.specs.Placed

@@ -7,8 +7,10 @@
 
 mod differences;
 mod editing;
+mod laws;
 mod order;
 mod sameness;
 
 pub use batch_model::{Batch, BatchRefusal};
 pub use editing::{Edit, edit_of};
+pub use laws::one_batch_edit;
