@@ -1,8 +1,6 @@
 //! What changes of a small zone would leave.
 
-ghost use Rattle.std.specs.Prelude.{◌≡◌, ◌≤◌};
-ghost use Rattle.zone_list.specs.Zones.{placed_in};
-ghost use Rattle.zone_model.specs.Placed.{sets_of};
+ghost use Rattle.std.specs.Prelude.{◌≤◌};
 ghost use Rattle.zone_table.specs.Edits.{IsAllowed};
 ghost use Rattle.zone_table.specs.declared.edits.ZoneEdit.TheVariants.{Change};
 
@@ -12,7 +10,7 @@ use rdata::RType;
 use record_set::{Body, RecordSet, Routing, SetKey, Values};
 use std::alloc::Global;
 use std::process::Abort;
-use zone_allowed::{can_be_added, is_allowed_change, is_free};
+use zone_allowed::{is_allowed, is_change_allowed};
 use zone_table::{Scratch, SetKeys, Sets, ZoneEdit, Zones};
 
 /// The name of one letter.
@@ -72,8 +70,6 @@ fn add(rt: &impl Abort, sets: &mut Vec<RecordSet>, set: RecordSet) {
 fn opened(rt: &impl Abort, alloc: Global, sets: Vec<RecordSet>) -> Zones {
     let mut zones = Zones::new(alloc);
     let name = Name::root();
-    assert!(rt; is_free(&zones, 1, &name), "a number and a name");
-    assert!(rt; can_be_added(&name, sets.as_slice()), "sets for the zone");
     let sets = Sets::from_vec(sets);
     open(
         rt,
@@ -88,10 +84,9 @@ fn opened(rt: &impl Abort, alloc: Global, sets: Vec<RecordSet>) -> Zones {
     zones
 }
 
-/// Makes an edit.
-fn open(rt: &impl Abort, alloc: Global, zones: &mut Zones, edit: ZoneEdit)
-    requires { IsAllowed zones.old.zones edit }
-{
+/// Makes an edit, which is allowed.
+fn open(rt: &impl Abort, alloc: Global, zones: &mut Zones, edit: ZoneEdit) {
+    assert!(rt; is_allowed(zones, &edit), "an edit that is allowed");
     let ready = zones.ready(alloc, edit);
     assert!(rt; ready.is_ok(), "memory");
     if let Ok(ready) = ready {
@@ -126,26 +121,6 @@ fn key(rt: &impl Abort, letter: u8) -> SetKey {
     }
 }
 
-/// Stops unless the change is allowed.
-fn know_allowed(rt: &impl Abort, alloc: Global, zones: &Zones, remove: &SetKeys, add: &Sets)
-    ensures { IsAllowed zones.now.zones (Change 1 remove.now add.now) }
-{
-    let sets = all_sets(rt, alloc, zones);
-    let name = zones.apex(1).expect(rt, "the zone");
-    assert!(rt;
-        is_allowed_change(zones, 1, &name, sets.as_slice(), remove, add),
-        "a change"
-    );
-}
-
-/// Copies of the sets of the zone.
-fn all_sets(rt: &impl Abort, alloc: Global, zones: &Zones) -> Vec<RecordSet>
-    ensures { result.items ≡ sets_of (placed_in zones.now.zones 1) }
-{
-    assert!(rt; zones.apex(1).is_some(), "the zone");
-    zones.sets(alloc, 1).ok().expect(rt, "memory")
-}
-
 /// Whether a change empties a group, and the first letters that lead to no set or too far.
 fn told(
     rt: &impl Abort,
@@ -156,7 +131,8 @@ fn told(
 ) -> (bool, Option<u8>, Option<u8>) {
     let remove = go(rt, alloc, letter);
     let add = come(rt, alloc, set);
-    know_allowed(rt, alloc, zones, &remove, &add);
+    let allowed = is_change_allowed(zones, 1, remove.as_slice(), add.as_slice());
+    assert!(rt; allowed, "a change");
     ask(rt, alloc, zones, remove.as_slice(), add.as_slice())
 }
 

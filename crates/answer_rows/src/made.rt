@@ -1,10 +1,9 @@
 //! A zone of a few sets, its groups, and a view in which one set is unhealthy.
 
 ghost use Rattle.std.specs.Prelude.{◌≡◌, ◌<◌, ◌≤◌, not, ◌&&◌, ◌==◌};
-ghost use Rattle.zone_list.specs.Zones.{IsZoneId, placed_in};
+ghost use Rattle.zone_list.specs.Zones.{placed_in};
 ghost use Rattle.zone_list.specs.declared.refs.SetRef.{SetRef};
 ghost use Rattle.zone_model.specs.Placed.{sets_of};
-ghost use Rattle.zone_table.specs.Edits.{IsAllowed};
 ghost use Rattle.zone_table.specs.Looking.{IsGroupNow};
 ghost use Rattle.policy_select.specs.Groups.{FewInGroups, sets_in_zone};
 
@@ -15,7 +14,7 @@ use record_set::{Body, RecordSet, Routing, Values};
 use routing::Ident;
 use std::alloc::Global;
 use std::process::Abort;
-use zone_allowed::{can_be_added, is_free};
+use zone_allowed::is_allowed;
 use zone_table::{Group, Scratch, SetRef, Sets, ZoneEdit, Zones};
 
 /// A set of type A: its name, its policy, and an address or the name of another.
@@ -97,8 +96,6 @@ pub fn zone(rt: &impl Abort, alloc: Global, rows: &[Row]) -> Zones {
     let mut zones = Zones::new(alloc);
     let name = name(rt, b"example.com");
     let sets = sets(rt, alloc, rows);
-    assert!(rt; is_free(&zones, 1, &name), "a number and a name");
-    assert!(rt; can_be_added(&name, sets.as_slice()), "sets for the zone");
     let sets = Sets::from_vec(sets);
     open(
         rt,
@@ -113,10 +110,9 @@ pub fn zone(rt: &impl Abort, alloc: Global, rows: &[Row]) -> Zones {
     zones
 }
 
-/// Makes an edit.
-fn open(rt: &impl Abort, alloc: Global, zones: &mut Zones, edit: ZoneEdit)
-    requires { IsAllowed zones.old.zones edit }
-{
+/// Makes an edit, which is allowed.
+fn open(rt: &impl Abort, alloc: Global, zones: &mut Zones, edit: ZoneEdit) {
+    assert!(rt; is_allowed(zones, &edit), "an edit that is allowed");
     let ready = zones.ready(alloc, edit);
     assert!(rt; ready.is_ok(), "memory");
     if let Ok(ready) = ready {

@@ -1,14 +1,12 @@
 //! Zones of a few sets.
 
-ghost use Rattle.zone_table.specs.Edits.{IsAllowed};
-
 use dns_name::Name;
 use rdata::{RData, RType};
 use record_set::{Body, RecordSet, Routing, Values};
 use routing::Ident;
 use std::alloc::Global;
 use std::process::Abort;
-use zone_allowed::{can_be_added, is_free};
+use zone_allowed::is_allowed;
 use zone_table::{Sets, ZoneEdit, Zones};
 
 /// A set: its owner, its type, its TTL, and the texts of its values.
@@ -88,16 +86,13 @@ pub fn open(
     sets: Vec<RecordSet>,
 ) {
     let name = name(rt, apex);
-    assert!(rt; is_free(zones, zone, &name), "a number and a name");
-    assert!(rt; can_be_added(&name, sets.as_slice()), "sets for the zone");
     let sets = Sets::from_vec(sets);
     make(rt, alloc, zones, ZoneEdit::Open { zone, name, sets });
 }
 
-/// Makes an edit.
-pub fn make(rt: &impl Abort, alloc: Global, zones: &mut Zones, edit: ZoneEdit)
-    requires { IsAllowed zones.old.zones edit }
-{
+/// Makes an edit, which is allowed.
+pub fn make(rt: &impl Abort, alloc: Global, zones: &mut Zones, edit: ZoneEdit) {
+    assert!(rt; is_allowed(zones, &edit), "an edit that is allowed");
     let ready = zones.ready(alloc, edit);
     assert!(rt; ready.is_ok(), "memory");
     if let Ok(ready) = ready {

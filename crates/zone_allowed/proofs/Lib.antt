@@ -1,2 +1,3 @@
-mod Changed
-mod Keyed
+pub mod Between
+pub mod Naming
+pub mod Rises

@@ -1,87 +1,122 @@
-//! Whether an edit is allowed, tried on the zones and the sets.
+//! Whether an edit of zones is allowed, tried on the zones.
 
-ghost use Rattle.std.specs.Prelude.{◌≡◌, ◌<◌, List, IsTrue};
+ghost use Rattle.std.specs.Prelude.{◌≡◌, ◌<◌, IsTrue, ◌↔◌};
 ghost use Rattle.std.specs.List.{AllByRecursion};
 ghost use Rattle.record_set.specs.Sets.{key_of};
+ghost use Rattle.record_set.specs.declared.sets.RecordSet.{RecordSet};
+ghost use Rattle.zone_list.specs.Changes.{CanBeAdded, IsKeyOf};
+ghost use Rattle.zone_list.specs.Zones.{CanStand, HasName, IsZoneId, placed_in};
 ghost use Rattle.zone_model.specs.Placing.{IsThere};
-ghost use Rattle.zone_model.specs.Placed.{Placed, sets_of};
-ghost use Rattle.zone_table.specs.declared.edits.ZoneEdit.TheVariants.{Change};
-ghost use Rattle.zone_list.specs.Changes.{CanBeAdded, CanChange, IsKeyOf};
+ghost use Rattle.zone_model.specs.Placed.{sets_of};
 ghost use Rattle.zone_table.specs.Edits.{IsAllowed};
-ghost use Rattle.zone_table.specs.Looking.{IsApex};
-ghost use Rattle.zone_list.specs.Zones.{CanStand, IsZoneId, HasName, placed_in};
+ghost use Rattle.zone_table.specs.declared.edits.ZoneEdit.TheVariants.{Change, Open};
 
-use crate::apart::{are_there, keys_differ};
-use crate::there::{is_key_of, is_there};
+use crate::apart::sets_are_apart;
+use crate::there::{are_there, has_key, is_key_of};
 use dns_name::Name;
 use record_set::{RecordSet, SetKey};
 use set_octets::has_spelling;
-use zone_table::{SetKeys, Sets, Zones, one_apex};
+use zone_table::{ZoneEdit, Zones, one_apex};
 
-/// Whether no zone has the number, which is not 0, and none the name or one above it.
-pub fn is_free(zones: &Zones, zone: u32, name: &Name) -> bool
-    ensures number { IsTrue result → IsZoneId zones.now.zones zone → ⊥ }
-    ensures name { IsTrue result → HasName zones.now.zones name.now → ⊥ }
-    ensures numbered { IsTrue result → 0 < zone }
+/// Whether an edit is allowed. Keys that rise are compared once each, others with one another.
+pub fn is_allowed(zones: &Zones, edit: &ZoneEdit) -> bool
+    ensures { IsTrue result ↔ IsAllowed zones.now.zones edit.now }
 {
-    zone > 0 && zones.apex(zone).is_none() && zones.zone_for(name).is_none()
+    match edit {
+        ZoneEdit::Open { zone, name, sets } => is_open_allowed(zones, *zone, name, sets.as_slice()),
+        ZoneEdit::Close(zone) => has_zone(zones, *zone),
+        ZoneEdit::Change { zone, remove, add } => {
+            is_change_allowed(zones, *zone, remove.as_slice(), add.as_slice())
+        }
+        ZoneEdit::Collections(_) => true,
+    }
 }
 
-/// Whether the sets can stand in a zone of this name together.
-pub fn can_be_added(name: &Name, sets: &[RecordSet]) -> bool
-    ensures { IsTrue result → CanBeAdded name.now sets.now }
+/// Whether a zone of this number and name can be opened with these sets.
+fn is_open_allowed(zones: &Zones, zone: u32, name: &Name, sets: &[RecordSet]) -> bool
+    ensures { IsTrue result ↔ IsAllowed zones.now.zones (Open zone name.now sets.now) }
 {
-    can_stand(name, sets) && keys_differ(sets)
+    zone > 0 && !has_zone(zones, zone) && !has_name(zones, name) && can_be_added(name, sets)
 }
 
-/// Whether the sets of a zone of this name can be changed: whether these keys are there, and these sets new
-/// without them.
-fn can_change(name: &Name, sets: &[RecordSet], remove: &[SetKey], add: &[RecordSet]) -> bool
-    ensures { IsTrue result → (placed : List Placed) → sets_of placed ≡ sets.now
-        → CanChange name.now placed remove.now add.now }
+/// Whether a zone has this number.
+fn has_zone(zones: &Zones, zone: u32) -> bool
+    ensures { IsTrue result ↔ IsZoneId zones.now.zones zone }
 {
-    are_there(sets, remove) && can_be_added(name, add) && are_new(sets, remove, add)
+    zones.apex(zone).is_some()
 }
 
-/// Whether a change of a zone is allowed, whose name this is and whose sets these are.
-pub fn is_allowed_change(
-    zones: &Zones,
-    zone: u32,
-    name: &Name,
-    sets: &[RecordSet],
-    remove: &SetKeys,
-    add: &Sets,
-) -> bool
-    requires name { IsApex zones.now.zones zone name.now }
-    requires sets { sets.now ≡ sets_of (placed_in zones.now.zones zone) }
-    ensures { IsTrue result → IsAllowed zones.now.zones (Change zone remove.now add.now) }
+/// Whether a zone has this name.
+fn has_name(zones: &Zones, name: &Name) -> bool
+    ensures { IsTrue result ↔ HasName zones.now.zones name.now }
+{
+    zones.well_formed();
+    let Some(zone) = zones.zone_for(name) else {
+        return false;
+    };
+    match zones.apex(zone) {
+        Some(apex) => apex.is_same(name),
+        None => unreachable!(),
+    }
+}
+
+/// Whether the sets of a zone can be changed: whether these keys are there, and these sets can be
+/// added and are new without them.
+pub fn is_change_allowed(zones: &Zones, zone: u32, remove: &[SetKey], add: &[RecordSet]) -> bool
+    ensures { IsTrue result ↔ IsAllowed zones.now.zones (Change zone remove.now add.now) }
 {
     zones.well_formed();
     one_apex();
-    can_change(name, sets, remove.as_slice(), add.as_slice())
+    let Some(apex) = zones.apex(zone) else {
+        return false;
+    };
+    if !are_there(zones, zone, remove) {
+        return false;
+    }
+    if !can_be_added(&apex, add) {
+        return false;
+    }
+    are_new(zones, zone, remove, add)
+}
+
+/// Whether the sets can stand in a zone of this name together.
+fn can_be_added(name: &Name, sets: &[RecordSet]) -> bool
+    ensures { IsTrue result ↔ CanBeAdded name.now sets.now }
+{
+    can_stand(name, sets) && sets_are_apart(sets)
 }
 
 /// Whether each set can stand in a zone of this name.
 fn can_stand(name: &Name, sets: &[RecordSet]) -> bool
-    ensures { IsTrue result → AllByRecursion (λ set. CanStand name.now set) sets.now }
+    ensures { IsTrue result ↔ AllByRecursion (λ set. CanStand name.now set) sets.now }
 {
-    let Some((set, others)) = sets.split_first() else {
-        return true;
-    };
-    set.name.ends_with(name) && has_spelling(set) && can_stand(name, others)
+    match sets {
+        [] => true,
+        [first, others @ ..] => can_stand_in(name, first) && can_stand(name, others),
+    }
 }
 
-/// Whether no set to add has a key that is there and stays.
-fn are_new(sets: &[RecordSet], remove: &[SetKey], add: &[RecordSet]) -> bool
-    ensures { IsTrue result
-        → AllByRecursion (λ set. IsThere sets.now (key_of set) → IsKeyOf remove.now (key_of set)) add.now }
+/// Whether a set can stand in a zone of this name.
+fn can_stand_in(name: &Name, set: &RecordSet) -> bool
+    ensures { IsTrue result ↔ CanStand name.now set.now }
 {
-    let Some((set, others)) = add.split_first() else {
-        return true;
-    };
+    set.name.ends_with(name) && has_spelling(set)
+}
+
+/// Whether no set has a key that is there and isn't among these.
+fn are_new(zones: &Zones, zone: u32, remove: &[SetKey], add: &[RecordSet]) -> bool
+    ensures { IsTrue result
+        ↔ AllByRecursion (λ set. IsThere (sets_of (placed_in zones.now.zones zone)) (key_of set)
+        → IsKeyOf remove.now (key_of set)) add.now }
+{
+    add.iter().all(|set| is_new(zones, zone, remove, set))
+}
+
+/// Whether a key is not there, or among these.
+fn is_new(zones: &Zones, zone: u32, remove: &[SetKey], set: &RecordSet) -> bool
+    ensures { IsTrue result ↔ (IsThere (sets_of (placed_in zones.now.zones zone)) (key_of set.now)
+        → IsKeyOf remove.now (key_of set.now)) }
+{
     let key = set.key();
-    if is_there(sets, &key) && !is_key_of(remove, &key) {
-        return false;
-    }
-    are_new(sets, remove, others)
+    !has_key(zones, zone, &key) || is_key_of(remove, &key)
 }

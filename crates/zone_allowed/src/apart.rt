@@ -1,49 +1,79 @@
-//! Keys that differ.
+//! Keys of which no two are one: at once where they rise, and else by comparing each with all.
 
-ghost use Rattle.std.specs.Prelude.{◌≢◌, IsTrue};
+ghost use Rattle.std.specs.Prelude.{◌≡◌, ◌≢◌, IsTrue, ◌↔◌, slice_get, Some};
+ghost use Rattle.std.specs.declared.cmp.Ordering.TheVariants.{Less};
 ghost use Rattle.std.specs.List.{AllByRecursion};
 ghost use Rattle.record_set.specs.Sets.{key_of};
-ghost use Rattle.zone_list.specs.Changes.{AreThere, DifferByKey};
+ghost use Rattle.record_set.specs.declared.sets.RecordSet.{RecordSet};
+ghost use Rattle.zone_allowed.specs.Apart.{AreApart};
+ghost use Rattle.zone_list.specs.Changes.{DifferByKey};
+ghost use Rattle.zone_model.specs.Keys.{key_cmp};
+ghost use Rattle.zone_model.specs.Zones.{IsRising};
 
-use crate::there::{is_same_key, is_there};
+use crate::there::is_same_key;
 use record_set::{RecordSet, SetKey};
-
-/// Whether no set has the key.
-pub fn is_apart(key: &SetKey, sets: &[RecordSet]) -> bool
-    ensures { IsTrue result → AllByRecursion (λ other. key.now ≢ key_of other) sets.now }
-{
-    let Some((set, others)) = sets.split_first() else {
-        return true;
-    };
-    !is_same_key(key, &set.key()) && is_apart(key, others)
-}
+use zone_model::{key_cmp, keys_are_ordered};
 
 /// Whether the keys of the sets differ.
-pub fn keys_differ(sets: &[RecordSet]) -> bool
-    ensures { IsTrue result → DifferByKey sets.now }
+pub fn sets_are_apart(sets: &[RecordSet]) -> bool
+    ensures { IsTrue result ↔ DifferByKey sets.now }
 {
-    let Some((set, others)) = sets.split_first() else {
-        return true;
-    };
-    is_apart(&set.key(), others) && keys_differ(others)
+    keys_are_ordered();
+    are_rising(sets) || differ_each(sets)
 }
 
-/// Whether the key is none of these.
-fn is_another(key: &SetKey, keys: &[SetKey]) -> bool
-    ensures { IsTrue result → AllByRecursion (λ other. key.now ≢ other) keys.now }
+/// Whether each set's key comes before those of all behind it.
+fn are_rising(sets: &[RecordSet]) -> bool
+    ensures { IsTrue result → IsRising sets.now }
 {
-    let Some((one, others)) = keys.split_first() else {
+    let Some((first, others)) = sets.split_first() else {
         return true;
     };
-    !is_same_key(key, one) && is_another(key, others)
+    is_before_first(first, others) && are_rising(others)
 }
 
-/// Whether the keys are there, and none is named twice.
-pub fn are_there(sets: &[RecordSet], keys: &[SetKey]) -> bool
-    ensures { IsTrue result → AreThere sets.now keys.now }
+/// Whether a set's key comes before that of the first of these.
+fn is_before_first(set: &RecordSet, others: &[RecordSet]) -> bool
+    ensures { IsTrue result → (other : RecordSet) → slice_get others.now 0 ≡ Some other
+        → key_cmp (key_of set.now) (key_of other) ≡ Less }
 {
-    let Some((key, others)) = keys.split_first() else {
-        return true;
-    };
-    is_there(sets, key) && is_another(key, others) && are_there(sets, others)
+    match others {
+        [] => true,
+        [other, ..] => key_cmp(&set.key(), &other.key()).is_lt(),
+    }
+}
+
+/// Whether each set has another key than all behind it.
+fn differ_each(sets: &[RecordSet]) -> bool
+    ensures { IsTrue result ↔ DifferByKey sets.now }
+{
+    match sets {
+        [] => true,
+        [first, others @ ..] => differs(first, others) && differ_each(others),
+    }
+}
+
+/// Whether a set has another key than each of these.
+fn differs(set: &RecordSet, others: &[RecordSet]) -> bool
+    ensures { IsTrue result ↔ AllByRecursion (λ other. key_of set.now ≢ key_of other) others.now }
+{
+    let key = set.key();
+    others.iter().all(|other| !is_same_key(&key, &other.key()))
+}
+
+/// Whether no two of the keys are one.
+pub fn keys_are_apart(keys: &[SetKey]) -> bool
+    ensures { IsTrue result ↔ AreApart keys.now }
+{
+    match keys {
+        [] => true,
+        [first, others @ ..] => is_another(first, others) && keys_are_apart(others),
+    }
+}
+
+/// Whether a key is none of these.
+fn is_another(key: &SetKey, others: &[SetKey]) -> bool
+    ensures { IsTrue result ↔ AllByRecursion (λ other. key.now ≢ other) others.now }
+{
+    others.iter().all(|other| !is_same_key(key, other))
 }

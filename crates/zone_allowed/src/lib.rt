@@ -1,8 +1,8 @@
-//! Whether an edit of zones is allowed, tried on the zones and the sets.
+//! Whether an edit of zones is allowed: the test for all that an edit has to meet.
 #![tactic(auto)]
 
 mod allowed;
 mod apart;
 mod there;
 
-pub use allowed::{can_be_added, is_allowed_change, is_free};
+pub use allowed::{is_allowed, is_change_allowed};

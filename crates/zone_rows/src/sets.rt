@@ -1,12 +1,8 @@
 //! Sets for the rows, and edits with them.
 
 ghost use Rattle.std.specs.Prelude.{◌≡◌};
-ghost use Rattle.zone_table.specs.declared.edits.ZoneEdit.TheVariants.{Change};
 ghost use Rattle.set_scratch.specs.Holding.{IsHolding};
-ghost use Rattle.zone_model.specs.Placed.{sets_of};
 ghost use Rattle.zone_table.specs.Edits.{IsAllowed, IsReady, StayReady};
-ghost use Rattle.zone_table.specs.Looking.{IsApex};
-ghost use Rattle.zone_list.specs.Zones.{IsZoneId, placed_in};
 
 use dns_name::Name;
 use rdata::{RData, RType};
@@ -14,7 +10,7 @@ use record_set::{Body, Ident, RecordSet, Routing, SetKey, Values};
 use set_octets::has_spelling;
 use std::alloc::Global;
 use std::process::Abort;
-use zone_allowed::{can_be_added, is_allowed_change, is_free};
+use zone_allowed::is_allowed;
 use zone_table::{Delta, Ready, Scratch, SetKeys, SetRef, Sets, ZoneEdit, Zones};
 
 /// A set with one value: its name, its type, its identifier where it is weighted, and the text of the value.
@@ -119,21 +115,12 @@ pub fn open(
 ) -> Delta {
     let name = name(rt, apex);
     let sets = sets(rt, alloc, rows);
-    assert!(rt;
-        is_free(zones, zone, &name),
-        "a number and a name for zone {zone}"
-    );
-    assert!(rt;
-        can_be_added(&name, sets.as_slice()),
-        "sets for zone {zone}"
-    );
     let sets = Sets::from_vec(sets);
     make(rt, alloc, zones, ZoneEdit::Open { zone, name, sets })
 }
 
 /// Closes a zone.
 pub fn close(rt: &impl Abort, alloc: Global, zones: &mut Zones, zone: u32) -> Delta {
-    assert!(rt; zones.apex(zone).is_some(), "zone {zone}");
     make(rt, alloc, zones, ZoneEdit::Close(zone))
 }
 
@@ -148,46 +135,12 @@ pub fn change(
 ) -> Delta {
     let remove = SetKeys::from_vec(keys(rt, alloc, remove));
     let add = Sets::from_vec(sets(rt, alloc, add));
-    allow_change(rt, alloc, zones, zone, &remove, &add);
     make(rt, alloc, zones, ZoneEdit::Change { zone, remove, add })
 }
 
-/// Stops where a change of a zone isn't allowed.
-fn allow_change(
-    rt: &impl Abort,
-    alloc: Global,
-    zones: &Zones,
-    zone: u32,
-    remove: &SetKeys,
-    add: &Sets,
-)
-    ensures { IsAllowed zones.now.zones (Change zone remove.now add.now) }
-{
-    let apex = apex_of(rt, zones, zone);
-    let sets = sets_in(rt, alloc, zones, zone);
-    let allowed = is_allowed_change(zones, zone, &apex, sets.as_slice(), remove, add);
-    assert!(rt; allowed, "a change of zone {zone}");
-}
-
-/// The name of a zone.
-fn apex_of(rt: &impl Abort, zones: &Zones, zone: u32) -> Name
-    ensures { IsApex zones.now.zones zone result }
-{
-    zones.apex(zone).expect(rt, "a zone")
-}
-
-/// Copies of the sets of a zone.
-fn sets_in(rt: &impl Abort, alloc: Global, zones: &Zones, zone: u32) -> Vec<RecordSet>
-    requires { IsZoneId zones.now.zones zone }
-    ensures { result.items ≡ sets_of (placed_in zones.now.zones zone) }
-{
-    zones.sets(alloc, zone).ok().expect(rt, "memory")
-}
-
-/// Makes an edit.
-fn make(rt: &impl Abort, alloc: Global, zones: &mut Zones, edit: ZoneEdit) -> Delta
-    requires { IsAllowed zones.old.zones edit }
-{
+/// Makes an edit, which is allowed.
+fn make(rt: &impl Abort, alloc: Global, zones: &mut Zones, edit: ZoneEdit) -> Delta {
+    assert!(rt; is_allowed(zones, &edit), "an edit that is allowed");
     let ready = ready(rt, alloc, zones, edit);
     zones.edit(ready)
 }

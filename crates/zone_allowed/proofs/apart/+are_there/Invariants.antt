@@ -1,5 +1,0 @@
-use Rattle.std.proofs.Common.{length}
-use Rattle.zone_allowed.proofs.apart.+are_there.Given as goal
-
-abbrev pub decreases-are_there : goal.decreases-are_there
-decreases-are_there l = length l.keys.now

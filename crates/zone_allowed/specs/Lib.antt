@@ -1,0 +1,2 @@
+pub mod Apart
+pub use Rattle.zone_table.specs.Edits
