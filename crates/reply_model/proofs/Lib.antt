@@ -1,3 +1,4 @@
+mod Pages
 mod Refusals
 mod Sets
 mod Vectors

@@ -1,11 +1,10 @@
 -- A set of each policy and of each kind, byte by byte, as a list tells it.
-use Rattle.std.proofs.Common.{◌≡◌, ℕ, List, [], ◌∷◌, ◌++◌, true, false, None, Some, refl}
+use Rattle.std.proofs.Common.{◌≡◌, ℕ, List, [], ◌∷◌, ◌++◌, true, None, Some, refl}
 use Rattle.std.specs.Prelude.{codes}
 use Rattle.std.specs.Fmt.{digits}
 use Rattle.json.specs.Print.{escape_byte}
 use Rattle.rdata_layout.specs.declared.types.RType.TheVariants.{A, Txt}
 use Rattle.record_set.specs.declared.sets.Body.TheVariants.{Alias, Values}
-use Rattle.record_set.specs.declared.sets.RecordSet.{RecordSet}
 use Rattle.routing.specs.declared.policies.Continent.TheVariants as continent
 use Rattle.routing.specs.declared.policies.Place.TheVariants as place
 use Rattle.routing.specs.declared.policies.Role.TheVariants as role

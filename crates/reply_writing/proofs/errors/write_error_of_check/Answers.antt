@@ -1,0 +1,14 @@
+use Rattle.std.proofs.Common.{codes, ◌∷◌}
+use Rattle.json.specs.Print.{escape_byte, quoted}
+use Rattle.std.specs.Fmt.{decimal}
+use Rattle.reply_writing.proofs.Chains.{pieces_7}
+use Rattle.reply_writing.proofs.errors.write_error_of_check.Goals as goal
+
+pub returns-clause-text : goal.returns-clause-text
+unfolding escape_byte
+returns-clause-text c =
+    pieces_7 c.args.into.now.items (codes "{\"Error\":") (quoted c.args.name.now)
+    (codes ",\"HealthCheckId\":") (quoted (104 ∷ decimal c.args.id)) (codes ",\"Number\":")
+    (decimal c.args.number) (codes "}") c.put.ensures.text c.put_quoted.ensures.text
+    c.put-2.ensures.text c.put_id.ensures.text c.put-3.ensures.text c.put_number.ensures.text
+    c.put-4.ensures.text

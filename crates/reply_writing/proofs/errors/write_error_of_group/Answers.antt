@@ -1,0 +1,17 @@
+use Rattle.std.proofs.Common.{codes}
+use Rattle.json.specs.Print.{escape_byte, quoted}
+use Rattle.std.specs.Fmt.{decimal}
+use Rattle.dns_name.specs.Written as names
+use Rattle.rdata_layout.specs.Types as types
+use Rattle.reply_writing.proofs.Chains.{pieces_9}
+use Rattle.reply_writing.proofs.errors.write_error_of_group.Goals as goal
+
+pub returns-clause-text : goal.returns-clause-text
+unfolding escape_byte
+returns-clause-text c =
+    pieces_9 c.args.into.now.items (codes "{\"Error\":") (quoted c.args.name.now)
+    (codes ",\"Name\":") (quoted (names.text_of c.args.owner.now)) (codes ",\"Number\":")
+    (decimal c.args.number) (codes ",\"Type\":") (quoted (types.text_of c.args.rtype))
+    (codes "}") c.put.ensures.text c.put_quoted.ensures.text c.put-2.ensures.text
+    c.put_name.ensures.text c.put-3.ensures.text c.put_number.ensures.text c.put-4.ensures.text
+    c.put_type.ensures.text c.put-5.ensures.text

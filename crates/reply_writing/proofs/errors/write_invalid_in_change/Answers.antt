@@ -1,0 +1,14 @@
+use Rattle.std.proofs.Common.{codes}
+use Rattle.json.specs.Print.{escape_byte, quoted}
+use Rattle.std.specs.Fmt.{digits}
+use Rattle.std.specs.Fmt.{decimal}
+use Rattle.reply_writing.proofs.Chains.{pieces_5}
+use Rattle.reply_writing.proofs.errors.write_invalid_in_change.Goals as goal
+
+pub returns-clause-text : goal.returns-clause-text
+unfolding escape_byte digits
+returns-clause-text c =
+    pieces_5 c.args.into.now.items (codes "{\"Change\":") (decimal c.args.i)
+    (codes ",\"Error\":\"InvalidInput\",\"Number\":2,\"Reason\":") (quoted c.args.reason.now)
+    (codes "}") c.put.ensures.text c.put_number.ensures.text c.put-2.ensures.text
+    c.put_quoted.ensures.text c.put-3.ensures.text

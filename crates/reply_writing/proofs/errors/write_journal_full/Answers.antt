@@ -1,0 +1,13 @@
+use Rattle.std.proofs.Common.{codes}
+use Rattle.json.specs.Print.{escape_byte}
+use Rattle.std.specs.Fmt.{digits}
+use Rattle.std.specs.Fmt.{decimal}
+use Rattle.reply_writing.proofs.Chains.{pieces_3}
+use Rattle.reply_writing.proofs.errors.write_journal_full.Goals as goal
+
+pub returns-clause-text : goal.returns-clause-text
+unfolding escape_byte digits
+returns-clause-text c =
+    pieces_3 c.args.into.now.items (codes "{\"Error\":\"JournalFull\",\"Length\":")
+    (decimal c.args.length) (codes ",\"Number\":19}") c.put.ensures.text
+    c.put_number.ensures.text c.put-2.ensures.text
