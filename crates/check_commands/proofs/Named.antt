@@ -1,0 +1,59 @@
+-- Sets that name a check, looked at one after another.
+use Rattle.std.proofs.Common.{◌≡◌, ℕ, ◌+◌, ◌<◌, Bool, true, false, List, [], ◌∷◌, ◌++◌, length, drop}
+use Rattle.std.proofs.Common.{ap, ◌∙◌, sym, refl, arith, None, Some}
+use Rattle.std.specs.Prelude.{slice_get, ◌||◌}
+use Rattle.std.specs.List.{list_any}
+use Rattle.std.proofs.lemmas.List.{length-map}
+use Rattle.std.proofs.lemmas.List.Folds.{list_any-append}
+use Rattle.config_edits.specs.Laws.{hosted_in}
+use Rattle.config_model.specs.Configs.{all_sets}
+use Rattle.config_model.specs.Others.{is_check_named, is_number}
+use Rattle.config_zones.specs.Laws.{ZonesFollow}
+use Rattle.config_zones.specs.Walks.{above}
+use Rattle.record_set.specs.declared.sets.RecordSet.{RecordSet}
+use Rattle.zone_list.proofs.Members.{filled, left_at, nothing_left}
+use Rattle.zone_list.specs.Found.{IsNextZone, NextZoneOrNone}
+use Rattle.zone_list.specs.Zones.{AreZones, Zone, placed_in}
+use Rattle.zone_model.specs.Placed.{Placed, sets_of}
+
+abbrev pub names : ℕ → RecordSet → Bool
+names id set = is_number id set.check
+
+-- ---- the sets of all zones
+
+abbrev pub IsAsInZones : (id : ℕ) → List Zone → (last : ℕ) → Type 0
+IsAsInZones id zones last =
+    is_check_named id (all_sets (hosted_in (above zones last)))
+    ≡ is_check_named id (all_sets (hosted_in zones))
+
+module _ (id : ℕ) (zones : List Zone) (follow : ZonesFollow) (are : AreZones zones) where
+  pub at_first : IsAsInZones id zones 0
+  at_first =
+      ap (λ (zs : List Zone). is_check_named id (all_sets (hosted_in zs))) (follow.all zones are)
+
+  module _ (last : ℕ) (before : IsAsInZones id zones last) where
+    module _ (next : ℕ) (is : IsNextZone zones last next) where
+      abbrev rest : List RecordSet
+      rest = all_sets (hosted_in (above zones next))
+
+      next_sets : is_check_named id (all_sets (hosted_in (above zones last)))
+          ≡ (is_check_named id (sets_of (placed_in zones next)) || is_check_named id rest)
+      next_sets =
+          ap (is_check_named id) (follow.sets zones last next are is)
+          ∙ list_any-append (names id) (sets_of (placed_in zones next)) rest
+
+      pub in_zone : is_check_named id (sets_of (placed_in zones next)) ≡ true
+          → true ≡ is_check_named id (all_sets (hosted_in zones))
+      in_zone e =
+          sym (ap (λ b. b || is_check_named id rest) e) ∙ (sym next_sets ∙ before)
+
+      pub not_in_zone : is_check_named id (sets_of (placed_in zones next)) ≡ false
+          → IsAsInZones id zones next
+      not_in_zone e = sym (next_sets ∙ ap (λ b. b || is_check_named id rest) e) ∙ before
+
+    pub in_none : NextZoneOrNone zones last None
+        → false ≡ is_check_named id (all_sets (hosted_in zones))
+    in_none none =
+        sym (ap (λ (zs : List Zone). is_check_named id (all_sets (hosted_in zs)))
+        (follow.none zones last none))
+        ∙ before

@@ -1,0 +1,38 @@
+use Rattle.std.proofs.Common.{◌≡◌, ◌∙◌, ap, sym, arith, true, false}
+use Rattle.config_model.specs.Others.{is_number}
+use Rattle.config_zones.proofs.Rest.{as_many, none_left, not_this, set_at, this_one}
+use Rattle.zone_list.specs.Zones.{placed_in}
+use Rattle.zone_model.specs.Placed.{sets_of}
+use Rattle.check_commands.proofs.Named.{names}
+use Rattle.check_commands.proofs.naming.is_named_in.Goals as goal
+
+pub returns-then-is_number : goal.returns-then-is_number
+returns-then-is_number c =
+    let placed = placed_in c.args.zones.now.zones c.args.zone in
+    let count = c.count-i-end.ensures in
+    let lt = c.loop-i-test.true in
+    let one = set_at placed c.loop-i.i (omega (arith, count, lt)) in
+    let is : is_number c.args.id one.0.check ≡ true =
+    ap (is_number c.args.id) (sym (c.check_at.ensures one.0 one.1))
+    ∙ (sym c.is_number.ensures ∙ c.if-is_number.true) in
+    this_one (names c.args.id) (sets_of placed) c.loop-i.i c.loop-i.invariant one.0 one.1 is
+
+pub loop-i-preserved : goal.loop-i-preserved
+loop-i-preserved c =
+    let placed = placed_in c.args.zones.now.zones c.args.zone in
+    let count = c.count-i-end.ensures in
+    let lt = c.loop-i-test.true in
+    let one = set_at placed c.loop-i.i (omega (arith, count, lt)) in
+    let is : is_number c.args.id one.0.check ≡ false =
+    ap (is_number c.args.id) (sym (c.check_at.ensures one.0 one.1))
+    ∙ (sym c.is_number.ensures ∙ c.if-is_number.false) in
+    not_this (names c.args.id) (sets_of placed) c.loop-i.i c.loop-i.invariant one.0 one.1 is
+
+pub returns : goal.returns
+returns c =
+    let placed = placed_in c.args.zones.now.zones c.args.zone in
+    let size = as_many placed in
+    let count = c.count-i-end.ensures in
+    let all = c.loop-i-test.false in
+    none_left (names c.args.id) (sets_of placed) c.loop-i.i c.loop-i.invariant
+    (omega (arith, size, count, all))

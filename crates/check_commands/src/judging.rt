@@ -1,0 +1,46 @@
+//! The first refusal of a command on health checks (API Reference, CreateHealthCheck,
+//! UpdateHealthCheck and DeleteHealthCheck).
+
+ghost use Rattle.std.specs.Prelude.{◌≡◌, ◌∷◌, [], option_map};
+ghost use Rattle.check_model.specs.Commands.{refusal_of};
+ghost use Rattle.config_edits.specs.Laws.{hosted_in};
+ghost use Rattle.config_model.specs.Others.{in_use};
+ghost use Rattle.config_model.specs.Telling.{first_of, of_check, unless};
+
+use crate::naming::is_check_named;
+use config_model::{Refusal, of_check};
+use health_check::{CheckCommand, CheckTable};
+use zone_table::Zones;
+
+/// The first refusal of a command on health checks: that of the table, or where a check is deleted
+/// that a set names. It takes no memory.
+///
+/// Where a check is deleted it goes through the sets of all zones.
+pub fn judge_checks(
+    zones: &Zones,
+    checks: &CheckTable,
+    command: &CheckCommand,
+) -> Result<(), Refusal>
+    ensures { result ≡ unless (first_of (
+        option_map of_check (refusal_of checks.now.checks command.now)
+        ∷ in_use (hosted_in zones.now.zones) command.now
+        ∷ [])) tt }
+{
+    match checks.judge(command) {
+        Ok(()) => judge_use(zones, command),
+        Err(why) => Err(of_check(why)),
+    }
+}
+
+/// Refuses the end of a check that a set names.
+fn judge_use(zones: &Zones, command: &CheckCommand) -> Result<(), Refusal>
+    ensures { result ≡ unless (in_use (hosted_in zones.now.zones) command.now) tt }
+{
+    let CheckCommand::Delete(id) = command else {
+        return Ok(());
+    };
+    if is_check_named(zones, *id) {
+        return Err(Refusal::HealthCheckInUse(*id));
+    }
+    Ok(())
+}

@@ -1,0 +1,49 @@
+//! The sets that name a health check.
+
+ghost use Rattle.std.specs.Prelude.{◌≡◌};
+ghost use Rattle.config_edits.specs.Laws.{hosted_in};
+ghost use Rattle.config_model.specs.Configs.{all_sets};
+ghost use Rattle.config_model.specs.Others.{is_check_named, is_number};
+ghost use Rattle.zone_list.specs.Zones.{placed_in};
+ghost use Rattle.zone_model.specs.Placed.{sets_of};
+
+use config_zones::{check_at, zones_follow};
+use zone_table::Zones;
+
+/// Whether a set of a zone names the health check.
+pub fn is_check_named(zones: &Zones, id: u32) -> bool
+    ensures { result ≡ is_check_named id (all_sets (hosted_in zones.now.zones)) }
+{
+    zones_follow();
+    zones.well_formed();
+    let mut last = 0;
+    while let Some(zone) = zones.zone_after(last) {
+        if is_named_in(zones, zone, id) {
+            return true;
+        }
+        last = zone;
+    }
+    false
+}
+
+/// Whether a set of this zone names it.
+fn is_named_in(zones: &Zones, zone: u32, id: u32) -> bool
+    ensures { result ≡ is_check_named id (sets_of (placed_in zones.now.zones zone)) }
+{
+    for i in 0..zones.count(zone) {
+        if is_number(check_at(zones, zone, i), id) {
+            return true;
+        }
+    }
+    false
+}
+
+/// Whether a set names the check of this number.
+fn is_number(check: Option<u32>, id: u32) -> bool
+    ensures { result ≡ is_number id check }
+{
+    match check {
+        Some(other) => other == id,
+        None => false,
+    }
+}
