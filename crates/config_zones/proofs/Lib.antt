@@ -1,3 +1,4 @@
 mod Counts
 pub mod Found
+pub mod Rest
 pub mod Walked
