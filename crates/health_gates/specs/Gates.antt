@@ -54,7 +54,9 @@ HasRoom false counts fed = (y : ℕ) → slice_index counts y + times y fed < 2 
 
 -- the counts before and after a gate with this list was worked out
 abbrev pub Turned : Bool → Bool → List ℕ → List ℕ → List ℕ → Type 0
-Turned was now before after fed = (y : ℕ) → slice_index after y + (if was then times y fed else 0) ≡ slice_index before y + (if now then times y fed else 0)
+Turned was now before after fed = (y : ℕ)
+    → slice_index after y + (if was then times y fed else 0)
+    ≡ slice_index before y + (if now then times y fed else 0)
 
 -- the gates that a gate feeds
 abbrev pub fed : List Row → List ℕ → ℕ → List ℕ
@@ -74,7 +76,8 @@ pub record IsRow (rule : Rule) (edges : List ℕ) (row : Row) : Type 0 where
 pub record IsLaid (net : Net) (rows : List Row) (edges : List ℕ) : Type 0 where
   pub size : length rows ≡ net.size
   pub each_row : (n : ℕ) (row : Row) → slice_get rows n ≡ Some row → IsRow (net.rule n) edges row
-  pub reversed : (x y : ℕ) → y < net.size → times y (fed rows edges x) ≡ times x (net.rule y).feeders
+  pub reversed : (x y : ℕ) → y < net.size
+      → times y (fed rows edges x) ≡ times x (net.rule y).feeders
   pub within : (x y : ℕ) → Contains (fed rows edges x) y → y < net.size
   pub ends : PathsEnd (Feeds net) 64
 

@@ -1,4 +1,5 @@
--- What stands above some nodes, and in which order it is worked out. `feeds x y` says that x feeds y.
+-- What stands above some nodes, and in which order it is worked out. `feeds x y` says that x feeds
+-- y.
 use Rattle.std.specs.Prelude.{◌≡◌, ◌<◌, ◌↔◌, ℕ, zero, suc, List, [], ◌∷◌}
 use Rattle.std.specs.List.{Contains}
 

@@ -1,10 +1,12 @@
 //! The gates above some gates, each once, and each before all that it feeds.
 
-ghost use Rattle.std.specs.Prelude.{◌≡◌, ◌≤◌, ◌<◌, ◌^◌, ℕ, All, Bool, true, false, List, length, reverse, vec_len, slice_set, if◌then◌else◌, ◌++◌, ◌∷◌, [], ◌⊎◌};
+ghost use Rattle.std.specs.Prelude.{◌≡◌, ◌≤◌, ◌<◌, ◌^◌, ℕ, All, Bool, true, false, List, length};
+ghost use Rattle.std.specs.Prelude.{reverse, vec_len, slice_set, if◌then◌else◌, ◌++◌, ◌∷◌, [], ◌⊎◌};
 ghost use Rattle.std.specs.Vec.{vec_capacity};
 ghost use Rattle.std.specs.List.{Contains};
 ghost use Rattle.health_gates.specs.Gates.{fed, value_in, FedBy};
-ghost use Rattle.health_gates.specs.Walk.{IsAbove, InCone, FeedersFirst, IsWalk, PathsEnd, IsShallow};
+ghost use Rattle.health_gates.specs.Walk.{IsAbove, InCone, FeedersFirst, IsWalk, PathsEnd};
+ghost use Rattle.health_gates.specs.Walk.{IsShallow};
 ghost use Rattle.health_gates.specs.Listed.{Fills, IsListed, IsLaidOut};
 
 use crate::gates::Row;
@@ -25,7 +27,8 @@ fn is_marked(marks: &[bool], gate: u32) -> bool
 fn add(cone: &mut Vec<u32>, marks: &mut Vec<bool>, gate: u32)
     requires gate { gate < vec_len marks.old }
     requires fills { Fills cone.old marks.old }
-    ensures cone { reverse cone.new.items ≡ (if value_in marks.old.items gate then reverse cone.old.items else gate ∷ reverse cone.old.items) }
+    ensures cone { reverse cone.new.items
+        ≡ (if value_in marks.old.items gate then reverse cone.old.items else gate ∷ reverse cone.old.items) }
     ensures marks { marks.new.items ≡ slice_set marks.old.items gate true }
     ensures fills { Fills cone.new marks.new }
     ensures room { vec_capacity cone.new ≡ vec_capacity cone.old }
@@ -48,7 +51,8 @@ fn fed_at<'a>(rows: &[Row], edges: &'a [u32], gate: u32) -> &'a [u32]
     fed_by(edges, row)
 }
 
-/// Lists a gate and what it feeds, and so on, where it isn't listed yet; the gate itself comes last.
+/// Lists a gate and what it feeds, and so on, where it isn't listed yet; the gate itself comes
+/// last.
 #[cycle(walk)]
 fn visit(
     rows: &[Row],
@@ -68,7 +72,8 @@ fn visit(
     // It is listed then, and what was listed still is; and nothing else but what stands above it.
     ensures listed { IsListed (FedBy rows.now edges.now) (reverse cone.new.items) marks.new.items }
     ensures here { Contains (reverse cone.new.items) gate }
-    ensures goes_on { (y : ℕ) → Contains (reverse cone.old.items) y → Contains (reverse cone.new.items) y }
+    ensures goes_on { (y : ℕ) → Contains (reverse cone.old.items) y
+        → Contains (reverse cone.new.items) y }
     ensures only { (y : ℕ) → Contains (reverse cone.new.items) y
         → Contains (reverse cone.old.items) y ⊎ IsAbove (FedBy rows.now edges.now) gate y }
 
@@ -85,7 +90,8 @@ fn visit(
     add(cone, marks, gate);
 }
 
-/// Lists the cone of some gates beside what is listed, each gate when all that it feeds is listed. It takes no memory.
+/// Lists the cone of some gates beside what is listed, each gate when all that it feeds is listed.
+/// It takes no memory.
 #[cycle(walk)]
 fn walk(
     rows: &[Row],
@@ -103,7 +109,8 @@ fn walk(
     requires listed { IsListed (FedBy rows.now edges.now) (reverse cone.old.items) marks.old.items }
     ensures listed { IsListed (FedBy rows.now edges.now) (reverse cone.new.items) marks.new.items }
     ensures gates { (y : ℕ) → Contains gates.now y → Contains (reverse cone.new.items) y }
-    ensures goes_on { (y : ℕ) → Contains (reverse cone.old.items) y → Contains (reverse cone.new.items) y }
+    ensures goes_on { (y : ℕ) → Contains (reverse cone.old.items) y
+        → Contains (reverse cone.new.items) y }
     ensures only { (y : ℕ) → Contains (reverse cone.new.items) y
         → Contains (reverse cone.old.items) y ⊎ InCone (FedBy rows.now edges.now) gates.now y }
 
@@ -117,7 +124,8 @@ fn walk(
     }
 }
 
-/// Lists the cone of some gates; taken from its end, each gate comes before all that it feeds. It takes no memory.
+/// Lists the cone of some gates; taken from its end, each gate comes before all that it feeds. It
+/// takes no memory.
 pub fn list_cone(
     rows: &[Row],
     edges: &[u32],
@@ -133,10 +141,12 @@ pub fn list_cone(
     requires empty { cone.old.items ≡ [] }
     requires unmarked { (y : ℕ) → value_in marks.old.items y ≡ false }
     ensures walk { IsWalk (FedBy rows.now edges.now) starts.now (reverse cone.new.items) }
-    ensures few { (nodes : List ℕ) → ((y : ℕ) → InCone (FedBy rows.now edges.now) starts.now y → Contains nodes y)
+    ensures few { (nodes : List ℕ) → ((y : ℕ) → InCone (FedBy rows.now edges.now) starts.now y
+        → Contains nodes y)
         → length cone.new.items ≤ length nodes }
     ensures within { All (λ y. y < length rows.now) (reverse cone.new.items) }
-    ensures marked { (y : ℕ) → value_in marks.new.items y ≡ true → Contains (reverse cone.new.items) y }
+    ensures marked { (y : ℕ) → value_in marks.new.items y ≡ true
+        → Contains (reverse cone.new.items) y }
     ensures size { length marks.new.items ≡ length marks.old.items }
     ensures room { vec_capacity cone.new ≡ vec_capacity cone.old }
     ensures marks_room { vec_capacity marks.new ≡ vec_capacity marks.old }
@@ -157,7 +167,8 @@ pub fn list_all(rows: &[Row], edges: &[u32], cone: &mut Vec<u32>, marks: &mut Ve
     ensures first { FeedersFirst (FedBy rows.now edges.now) (reverse cone.new.items) }
     ensures few { length cone.new.items ≤ length rows.now }
     ensures within { All (λ y. y < length rows.now) (reverse cone.new.items) }
-    ensures marked { (y : ℕ) → value_in marks.new.items y ≡ true → Contains (reverse cone.new.items) y }
+    ensures marked { (y : ℕ) → value_in marks.new.items y ≡ true
+        → Contains (reverse cone.new.items) y }
     ensures size { length marks.new.items ≡ length marks.old.items }
     ensures room { vec_capacity cone.new ≡ vec_capacity cone.old }
     ensures marks_room { vec_capacity marks.new ≡ vec_capacity marks.old }

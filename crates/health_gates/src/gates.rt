@@ -1,4 +1,5 @@
-//! Gates over gates: each open where enough of its feeders are, kept so as counts from outside turn.
+//! Gates over gates: each open where enough of its feeders are, kept so as counts from outside
+//! turn.
 
 ghost use Rattle.std.specs.Prelude.{◌≡◌, ◌≢◌, ◌≤◌, ◌<◌, ◌+◌, ◌^◌, ◌↔◌, ◌∷◌, [], All, IsTrue};
 ghost use Rattle.std.specs.Prelude.{List, false, if◌then◌else◌, length, slice_index, true, ℕ};
@@ -8,9 +9,10 @@ ghost use Rattle.health_gates.specs.Laying.{HasRoomFor};
 ghost use Rattle.health_gates.specs.Plan.{IsPlanned, Planned, net_in, own_in};
 ghost use Rattle.health_gates.specs.Walk.{PathsEnd};
 ghost use Rattle.health_gates.specs.declared.plan.Link.{Link};
-ghost use Rattle.health_gates.specs.Gates.{Feeds, Fits, IsReady, MeetsEquation, Net, count, equation};
+ghost use Rattle.health_gates.specs.Gates.{Feeds, Fits, IsReady, MeetsEquation, Net, count};
+ghost use Rattle.health_gates.specs.Gates.{equation};
 ghost use Rattle.health_gates.specs.Gates.{size_of, value_in, value_of, with_own};
-ghost use Rattle.health_gates.specs.Pass.{HasCone, HasMarked, IsIdle, IsInOrder, MeetAll};
+ghost use Rattle.health_gates.specs.Pass.{CostsCone, HasCone, HasMarked, IsIdle, IsInOrder, MeetAll};
 ghost use Rattle.health_gates.specs.Pass.{MeetBehind, MeetOutside, TurnsOnly, waiting};
 
 use crate::cone::{list_all, list_cone};
@@ -66,7 +68,8 @@ impl Gates {
     pub fn reserve(&mut self, gates: usize, links: usize) -> Result<(), OutOfMemory>
         ensures room { OnOk result (HasRoomFor self.new gates links) }
         ensures stays { (net : Net) (own : ℕ → ℕ) → Fits net own self.old → Fits net own self.new }
-        ensures meet { (net : Net) (own : ℕ → ℕ) → MeetAll net own self.old → MeetAll net own self.new }
+        ensures meet { (net : Net) (own : ℕ → ℕ) → MeetAll net own self.old
+            → MeetAll net own self.new }
         ensures idle { IsIdle self.old → IsIdle self.new }
     {
         let Ok(()) = self.rows.reserve(gates) else {
@@ -147,7 +150,8 @@ impl Gates {
         requires few { size_of self.old ≤ 2 ^ 32 }
         ensures fits { (net : Net) (own : ℕ → ℕ) → Fits net own self.old → Fits net own self.new }
         ensures idle { IsIdle self.new }
-        ensures meet { (net : Net) (own : ℕ → ℕ) → Fits net own self.old → MeetAll net own self.new }
+        ensures meet { (net : Net) (own : ℕ → ℕ) → Fits net own self.old
+            → MeetAll net own self.new }
         ensures room { (n m : ℕ) → HasRoomFor self.old n m → HasRoomFor self.new n m }
     {
         let mut steps = Steps::<L>::new(blank);
@@ -161,12 +165,15 @@ impl Gates {
 
         // It meets its equation then, and no other value changes.
         ensures fits { (net : Net) (own : ℕ → ℕ) → Fits net own self.old → Fits net own self.new }
-        ensures meets { (net : Net) (own : ℕ → ℕ) → Fits net own self.old → MeetsEquation net own (value_of self.new) node }
+        ensures meets { (net : Net) (own : ℕ → ℕ) → Fits net own self.old
+            → MeetsEquation net own (value_of self.new) node }
         ensures others { (n : ℕ) → n ≢ node → value_of self.new n ≡ value_of self.old n }
 
         // A gate that it doesn't feed goes on meeting its own.
-        ensures spares { (net : Net) (own : ℕ → ℕ) (n : ℕ) → Fits net own self.old → n ≢ node → (Feeds net node n → ⊥)
-            → MeetsEquation net own (value_of self.old) n → MeetsEquation net own (value_of self.new) n }
+        ensures spares { (net : Net) (own : ℕ → ℕ) (n : ℕ) → Fits net own self.old → n ≢ node
+            → (Feeds net node n → ⊥)
+            → MeetsEquation net own (value_of self.old) n
+            → MeetsEquation net own (value_of self.new) n }
 
         ensures changed { IsTrue result ↔ (value_of self.new node ≢ value_of self.old node) }
         ensures tick { steps.new ≡ steps.old + 1 }
@@ -189,11 +196,13 @@ impl Gates {
         requires first { IsInOrder self.old }
         requires marked { HasMarked self.old }
         ensures fits { (net : Net) (own : ℕ → ℕ) → Fits net own self.old → Fits net own self.new }
-        ensures mends { (net : Net) (own : ℕ → ℕ) → Fits net own self.old → MeetBehind net own self.old → MeetBehind net own self.new }
+        ensures mends { (net : Net) (own : ℕ → ℕ) → Fits net own self.old
+            → MeetBehind net own self.old → MeetBehind net own self.new }
         ensures within { All (λ y. y < size_of self.new) (waiting self.new) }
         ensures first { IsInOrder self.new }
         ensures marked { HasMarked self.new }
-        ensures cost { steps.new + length self.new.cone.items ≡ steps.old + length self.old.cone.items }
+        ensures cost { steps.new + length self.new.cone.items
+            ≡ steps.old + length self.old.cone.items }
         ensures fewer { result ≡ true → length self.new.cone.items < length self.old.cone.items }
         ensures end { result ≡ false → self.new.cone.items ≡ [] }
         ensures room { (n m : ℕ) → HasRoomFor self.old n m → HasRoomFor self.new n m }
@@ -213,7 +222,8 @@ impl Gates {
         requires first { IsInOrder self.old }
         requires marked { HasMarked self.old }
         ensures fits { (net : Net) (own : ℕ → ℕ) → Fits net own self.old → Fits net own self.new }
-        ensures mends { (net : Net) (own : ℕ → ℕ) → Fits net own self.old → MeetBehind net own self.old → MeetAll net own self.new }
+        ensures mends { (net : Net) (own : ℕ → ℕ) → Fits net own self.old
+            → MeetBehind net own self.old → MeetAll net own self.new }
         ensures idle { IsIdle self.new }
         ensures cost { steps.new ≡ steps.old + length self.old.cone.items }
         ensures room { (n m : ℕ) → HasRoomFor self.old n m → HasRoomFor self.new n m }
@@ -221,7 +231,8 @@ impl Gates {
         while self.pass_one(steps) {}
     }
 
-    /// Works out the cone of some gates, each gate of it once and before all that it feeds. It takes no memory.
+    /// Works out the cone of some gates, each gate of it once and before all that it feeds. It
+    /// takes no memory.
     pub fn settle<L: Ledger>(&mut self, starts: &[u32], steps: &mut Steps<L>)
         requires ready { IsReady self.old }
         requires idle { IsIdle self.old }
@@ -232,8 +243,11 @@ impl Gates {
         // Where all gates outside the cone met their equations, all gates do then.
         ensures mends { (net : Net) (own : ℕ → ℕ) → Fits net own self.old
             → MeetOutside net own starts.now self.old → MeetAll net own self.new }
-        ensures cost { (net : Net) (own : ℕ → ℕ) (nodes : List ℕ) → Fits net own self.old → HasCone net starts.now nodes
+        ensures cost { (net : Net) (own : ℕ → ℕ) (nodes : List ℕ) → Fits net own self.old
+            → HasCone net starts.now nodes
             → steps.new ≤ steps.old + length nodes }
+        ensures cone { (net : Net) (own : ℕ → ℕ) → Fits net own self.old
+            → CostsCone net starts.now steps.old steps.new }
     {
         list_cone(
             &self.rows,
@@ -252,7 +266,8 @@ impl Gates {
         requires few { size_of self.old ≤ 2 ^ 32 }
         ensures fits { (net : Net) (own : ℕ → ℕ) → Fits net own self.old → Fits net own self.new }
         ensures idle { IsIdle self.new }
-        ensures meet { (net : Net) (own : ℕ → ℕ) → Fits net own self.old → MeetAll net own self.new }
+        ensures meet { (net : Net) (own : ℕ → ℕ) → Fits net own self.old
+            → MeetAll net own self.new }
         ensures cost { steps.new ≤ steps.old + size_of self.old }
         ensures room { (n m : ℕ) → HasRoomFor self.old n m → HasRoomFor self.new n m }
     {
@@ -286,21 +301,28 @@ impl Gates {
         self.rows.len()
     }
 
-    /// Takes what is counted from outside at a gate that nothing feeds. The answer is whether its value changed.
+    /// Takes what is counted from outside at a gate that nothing feeds. The answer is whether its
+    /// value changed.
     pub fn take_count<L: Ledger>(&mut self, gate: u32, count: u32, steps: &mut Steps<L>) -> bool
         requires ready { IsReady self.old }
         requires idle { IsIdle self.old }
         requires gate { gate < size_of self.old }
-        requires alone { (net : Net) (own : ℕ → ℕ) → Fits net own self.old → (net.rule gate).feeders ≡ [] }
-        ensures fits { (net : Net) (own : ℕ → ℕ) → Fits net own self.old → Fits net (with_own gate count own) self.new }
+        requires alone { (net : Net) (own : ℕ → ℕ) → Fits net own self.old
+            → (net.rule gate).feeders ≡ [] }
+        ensures fits { (net : Net) (own : ℕ → ℕ) → Fits net own self.old
+            → Fits net (with_own gate count own) self.new }
         ensures idle { IsIdle self.new }
         ensures meet { (net : Net) (own : ℕ → ℕ) → Fits net own self.old → MeetAll net own self.old
             → MeetAll net (with_own gate count own) self.new }
-        ensures changed { (net : Net) (own : ℕ → ℕ) → Fits net own self.old → MeetAll net own self.old
+        ensures changed { (net : Net) (own : ℕ → ℕ) → Fits net own self.old
+            → MeetAll net own self.old
             → IsTrue result ↔ (value_of self.new gate ≢ value_of self.old gate) }
         ensures quiet { result ≡ false → steps.new ≡ steps.old }
-        ensures cost { (net : Net) (own : ℕ → ℕ) (nodes : List ℕ) → Fits net own self.old → HasCone net (gate ∷ []) nodes
+        ensures cost { (net : Net) (own : ℕ → ℕ) (nodes : List ℕ) → Fits net own self.old
+            → HasCone net (gate ∷ []) nodes
             → steps.new ≤ steps.old + (if result then length nodes else 0) }
+        ensures cone { result ≡ true → (net : Net) (own : ℕ → ℕ) → Fits net own self.old
+            → CostsCone net (gate ∷ []) steps.old steps.new }
     {
         self.put_count(gate, count);
         let row = self.rows[gate as usize];
@@ -317,8 +339,10 @@ impl Gates {
     fn put_count(&mut self, gate: u32, count: u32)
         requires ready { IsReady self.old }
         requires gate { gate < size_of self.old }
-        requires alone { (net : Net) (own : ℕ → ℕ) → Fits net own self.old → (net.rule gate).feeders ≡ [] }
-        ensures fits { (net : Net) (own : ℕ → ℕ) → Fits net own self.old → Fits net (with_own gate count own) self.new }
+        requires alone { (net : Net) (own : ℕ → ℕ) → Fits net own self.old
+            → (net.rule gate).feeders ≡ [] }
+        ensures fits { (net : Net) (own : ℕ → ℕ) → Fits net own self.old
+            → Fits net (with_own gate count own) self.new }
         ensures rest { self.new ≡ record self.old { counts = self.new.counts } }
     {
         self.counts[gate as usize] = count;

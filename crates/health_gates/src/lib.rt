@@ -1,4 +1,5 @@
-//! Gates over gates: a gate is open where enough of those that feed it are. Values are kept, so that
+//! Gates over gates: a gate is open where enough of those that feed it are. Values are kept, so
+//! that
 //! a change costs what stands above it.
 //!
 //! What stands above a change is listed depth first, and worked out once, feeders first. No order

@@ -49,7 +49,8 @@ pub fn take_one(counts: &mut [u32], places: &[u32])
     }
 }
 
-/// Works a gate out from its count. The answer is whether its value changed; then the counts of what it feeds change too.
+/// Works a gate out from its count. The answer is whether its value changed; then the counts of
+/// what it feeds change too.
 pub fn work_out(
     values: &mut [bool],
     counts: &mut [u32],
@@ -62,7 +63,8 @@ pub fn work_out(
     requires at_count { at < length counts.old }
     requires within { All (λ y. y < length counts.old) fed.now }
     requires room { HasRoom (value_in values.old at) counts.old fed.now }
-    ensures value { value_in values.new at ≡ swapped_if inverted (nat_le need (slice_index counts.old at)) }
+    ensures value { value_in values.new at
+        ≡ swapped_if inverted (nat_le need (slice_index counts.old at)) }
     ensures others { (n : ℕ) → n ≢ at → value_in values.new n ≡ value_in values.old n }
     ensures counts { Turned (value_in values.old at) (value_in values.new at) counts.old counts.new fed.now }
     ensures changed { IsTrue result ↔ (value_in values.new at ≢ value_in values.old at) }

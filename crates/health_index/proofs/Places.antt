@@ -62,6 +62,18 @@ above (held ∷ list) n zero id check all e =
     let same = ap (λ (h : ℕ × Check). h.0) (some_same e) in rw (sym same) all.0
 above (held ∷ list) n (suc place) id check all e = above list n place id check all.1 e
 
+-- the check that stands at a place is the one of its number
+pub id_at : (list : List (ℕ × Check)) (place id : ℕ) (check : Check) → IdsRise list
+    → slice_get list place ≡ Some (id, check) → check_at list id ≡ Some check
+id_at [] place id check rise e = let no : ⊥ = cc in absurd no
+id_at (held ∷ list) zero id check rise e =
+    let same = some_same e in
+    rw (eq-eqb id held.0 (sym (ap (λ (h : ℕ × Check). h.0) same)))
+    (ap (λ (h : ℕ × Check). Some h.1) same)
+id_at (held ∷ list) (suc place) id check rise e =
+    let b = above list held.0 place id check rise.0 e in
+    past_first held list id (λ same. omega arith) ∙ id_at list place id check rise.1 e
+
 -- one number stands at one place
 pub one_place : (list : List (ℕ × Check)) (p q id : ℕ) (c d : Check) → IdsRise list
     → slice_get list p ≡ Some (id, c) → slice_get list q ≡ Some (id, d) → p ≡ q

@@ -18,6 +18,7 @@ use Rattle.health_gates.specs.Pass.{IsIdle, MeetAll}
 use Rattle.health_gates.specs.declared.gates.Gates.{Gates}
 use Rattle.health_model.proofs.Members.{filter_same}
 use Rattle.health_model.specs.Laws.{OneMoreReport}
+use Rattle.health_model.specs.Nodes.{CheckNode, GroupNode, Node, SetNode}
 use Rattle.health_model.specs.Statuses.{Report, passing, results_of}
 use Rattle.rdata_layout.specs.declared.types.RType.{RType}
 use Rattle.record_set.specs.declared.sets.Body.{Body}
@@ -25,7 +26,7 @@ use Rattle.record_set.specs.declared.sets.Body.TheVariants as body
 use Rattle.zone_list.specs.Zones.{Zone}
 use Rattle.zone_model.specs.Placed.{Placed}
 use Rattle.health_index.specs.Index.{Index, IsEndpoint, IsEndpointOf, IsSeen, IsWhole, StandsFor, reported}
-use Rattle.health_index.specs.Wired.{IsCheckGate, IsGroupGate, IsSeated, IsTarget, check_own, ids_of, place_of}
+use Rattle.health_index.specs.Wired.{IsCheckGate, IsGateFor, IsGroupGate, IsSeated, IsTarget, check_own, ids_of, place_of}
 use Rattle.health_index.proofs.Places.{check_there, no_check, of_all, one_place}
 
 -- ---- results that are the same, one by one
@@ -67,6 +68,7 @@ module _ (zones : List Zone) (list : List (ℕ × Check)) (index : Index) (net :
       → IsGroupGate (length (ids_of list)) index.seats net own members gate
       → IsGroupGate (length (ids_of list)) index.seats net now members gate
   group_still members gate w = record {
+    seat = w.seat;
     behind = w.behind;
     within = w.within;
     rule = w.rule;
@@ -78,8 +80,16 @@ module _ (zones : List Zone) (list : List (ℕ × Check)) (index : Index) (net :
       → IsTarget zones (length (ids_of list)) index.seats net now zone rtype its target
   target_still zone rtype (body.Values ttl values) target is = is
   target_still zone rtype (body.Alias name evaluate) target (inl off) = inl off
-  target_still zone rtype (body.Alias name evaluate) target (inr (on, (gate, is, w))) =
-      inr (on, (gate, is, group_still _ gate w))
+  target_still zone rtype (body.Alias name evaluate) target (inr (on, (gate, is, (members, are, w)))) =
+      inr (on, (gate, is, (members, are, group_still members gate w)))
+
+  node_still : (gate : ℕ) (node : Node)
+      → IsGateFor zones list index.seats net own gate node
+      → IsGateFor zones list index.seats net now gate node
+  node_still gate (CheckNode id) its = its
+  node_still gate (SetNode zone set) its = its
+  node_still gate (GroupNode zone name rtype) (members, (are, w)) =
+      (members, (are, group_still members gate w))
 
   seated_still : (zone : ℕ) (p : Placed)
       → IsSeated zones (ids_of list) index.seats net own zone p
@@ -218,6 +228,9 @@ module _ (fifty : FiftyAlone) (more : OneMoreReport) (zones : List Zone) (checks
     wired = record {
       its_checks = gate_now;
       its_sets = λ zone p in_zone. seated_still zones checks.list index stands.net stands.own place given early zone p (stands.wired.its_sets zone p in_zone);
+      its_nodes = λ gate within.
+          let n = stands.wired.its_nodes gate within in
+          (n.0, node_still zones checks.list index stands.net stands.own place given early gate n.0 n.1);
     };
     fits = fits;
     meet = meet;

@@ -11,7 +11,6 @@ use Rattle.check_model.specs.Checks.{Checks, check_at, children_of}
 use Rattle.check_model.specs.declared.checks.Check.{Check}
 use Rattle.check_model.specs.declared.checks.Check.TheVariants.{Endpoint, Calculated}
 use Rattle.health_gates.specs.Gates.{Rule, count, value_of}
-use Rattle.health_model.proofs.Members.{of_filter}
 use Rattle.health_model.specs.Healthy.{Watched, by_check, by_target, group_value, set_value, sets_of as sets_at, sets_there}
 use Rattle.health_model.specs.Laws.{OneHealth}
 use Rattle.health_model.specs.Nodes.{CheckNode, GroupNode, IsNode, Meets, Node, SetNode}
@@ -30,7 +29,7 @@ use Rattle.zone_model.specs.Zones.{IsAmong, is_of_group}
 use Rattle.zone_table.specs.Looking.{Names}
 use Rattle.health_index.specs.Index.{Index, StandsFor, healthy_in}
 use Rattle.health_index.specs.Laws.{IndexTells}
-use Rattle.health_index.specs.Wired.{IsGroupGate, IsSeated, IsTarget, check_need, check_own, check_rule, gates_of, ids_of, is_inverted, is_watched, members_in, open_in, place_of, plain_among, seat_of, watched_of, watched_zone, with_gate, plain}
+use Rattle.health_index.specs.Wired.{AreMembers, IsGroupGate, IsSeated, IsTarget, check_need, check_own, check_rule, gates_of, ids_of, is_inverted, is_watched, open_in, place_of, plain_among, seat_of, watched_of, watched_zone, with_gate, plain}
 use Rattle.health_index.specs.declared.seats.Seat.{Seat}
 
 -- ---- lists
@@ -62,20 +61,10 @@ any_same p q (x ∷ xs) same =
     ap (λ (b : Bool). b || list_any p xs) (same x (inl refl))
     ∙ ap (λ (b : Bool). q x || b) (any_same p q xs (λ y m. same y (inr m)))
 
--- the group of a zone's sets, and the sets of the members
-of_members : (placed : List Placed) (q : RecordSet → Bool) (p : RecordSet → Bool)
-    → list_any q (filter p (sets_of placed))
-    ≡ list_any (λ (m : Placed). q m.set) (filter (λ (m : Placed). p m.set) placed)
-of_members [] q p = refl
-of_members (m ∷ placed) q p = step (p m.set) refl (of_members placed q p)
-  where
-    step : (b : Bool) → p m.set ≡ b
-        → list_any q (filter p (sets_of placed))
-        ≡ list_any (λ (n : Placed). q n.set) (filter (λ (n : Placed). p n.set) placed)
-        → list_any q (filter p (sets_of (m ∷ placed)))
-        ≡ list_any (λ (n : Placed). q n.set) (filter (λ (n : Placed). p n.set) (m ∷ placed))
-    step true e r = rw e (ap (λ (b : Bool). q m.set || b) r)
-    step false e r = rw e r
+any_mapped : (q : RecordSet → Bool) (members : List Placed)
+    → list_any q (sets_of members) ≡ list_any (λ (m : Placed). q m.set) members
+any_mapped q [] = refl
+any_mapped q (m ∷ members) = ap (λ (b : Bool). q m.set || b) (any_mapped q members)
 
 -- ---- a group's gate
 
@@ -244,15 +233,17 @@ module _ (zones : List Zone) (checks : Checks) (reports : List Report) (index : 
       → of_set zone p.set ≡ open_in gate_open (seat_of index.seats p.slot)
   seated zone p here = sym (agrees (record { zone = zone; slot = p.slot }) p.set here)
 
-  group_meets : (zone : ℕ) (name : List (List ℕ)) (rtype : RType) (gate : ℕ)
-      → IsGroupGate (length its_ids) index.seats stands.net stands.own (members_in zones zone name rtype) gate
+  group_meets : (zone : ℕ) (name : List (List ℕ)) (rtype : RType) (members : List Placed) (gate : ℕ)
+      → AreMembers zones zone name rtype members
+      → IsGroupGate (length its_ids) index.seats stands.net stands.own members gate
       → gate_open gate ≡ of_group zone name rtype
-  group_meets zone name rtype gate w =
-      says gate (plain_among index.seats (members_in zones zone name rtype)) _ w.within w.rule w.its_own
-      ∙ one_open gate_open index.seats (members_in zones zone name rtype)
-      ∙ any_same (λ (p : Placed). open_in gate_open (seat_of index.seats p.slot)) (λ (p : Placed). of_set zone p.set) (members_in zones zone name rtype)
-      (λ p m. sym (seated zone p (of_filter _ (placed_in zones zone) p m)))
-      ∙ sym (of_members (placed_in zones zone) (of_set zone) (is_of_group name rtype))
+  group_meets zone name rtype members gate are w =
+      says gate (plain_among index.seats members) _ w.within w.rule w.its_own
+      ∙ one_open gate_open index.seats members
+      ∙ any_same (λ (p : Placed). open_in gate_open (seat_of index.seats p.slot)) (λ (p : Placed). of_set zone p.set) members
+      (λ p m. sym (seated zone p (are.here p m)))
+      ∙ sym (any_mapped (of_set zone) members)
+      ∙ ap (list_any (of_set zone)) are.sets
       ∙ ap (λ (sets : List RecordSet). list_any (of_set zone) (filter (is_of_group name rtype) sets)) (sym (zone_sets zones checks zone))
 
   target_meets : (zone : ℕ) (set : RecordSet) (rtype : RType) (its : Body) (target : List ℕ)
@@ -264,8 +255,8 @@ module _ (zones : List Zone) (checks : Checks) (reports : List Report) (index : 
       rw is (by_one gate_open (place_of its_ids) set.check)
   target_meets zone set rtype (body.Alias name evaluate) target (inl (off, is)) =
       rw (is, off) (by_one gate_open (place_of its_ids) set.check)
-  target_meets zone set rtype (body.Alias name evaluate) target (inr (on, (gate, is, w))) =
-      rw (is, on, sym (group_meets zone name rtype gate w)) (by_both gate_open (place_of its_ids) set.check gate)
+  target_meets zone set rtype (body.Alias name evaluate) target (inr (on, (gate, is, (members, are, w)))) =
+      rw (is, on, sym (group_meets zone name rtype members gate are w)) (by_both gate_open (place_of its_ids) set.check gate)
 
   set_meets : (zone : ℕ) (p : Placed) → IsHere (placed_in zones zone) p
       → of_set zone p.set ≡ set_value of_check (of_group zone) p.set

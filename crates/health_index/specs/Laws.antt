@@ -1,11 +1,19 @@
 -- What it is to stand for a configuration and reports.
 use Rattle.std.specs.Prelude.{List}
 use Rattle.check_model.specs.Checks.{Checks}
+use Rattle.check_model.specs.Commands.{checks_after}
+use Rattle.check_model.specs.declared.checks.CheckCommand.{CheckCommand}
 use Rattle.health_model.specs.Statuses.{Report}
 use Rattle.zone_list.specs.Zones.{Zone}
+use Rattle.health_index.specs.Following.{Follows}
 use Rattle.health_index.specs.Index.{Index, StandsFor, Tells}
 
 -- An index tells the health of that for which it stands.
 abbrev pub IndexTells : Type 0
 IndexTells = (zones : List Zone) (checks : Checks) (reports : List Report) (index : Index)
     → StandsFor zones checks reports index → Tells zones checks reports index
+
+-- A command on checks leaves what follows of them.
+abbrev pub CommandsFollow : Type 0
+CommandsFollow =
+    (checks : Checks) (command : CheckCommand) → Follows checks (checks_after checks command)

@@ -1,3 +1,5 @@
+pub mod Building
+pub mod Following
 pub mod Index
 pub mod Laws
 pub mod Wired

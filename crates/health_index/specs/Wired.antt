@@ -1,12 +1,12 @@
 -- Which gates stand for the checks, the sets and the groups of a configuration.
 use Rattle.std.specs.Prelude.{◌≡◌, ◌≤◌, ◌<◌, ◌+◌, ℕ, zero, suc, Bool, true, false, ◌||◌, if◌then◌else◌, nat_eq, List, [], ◌∷◌, ◌++◌, length, map, Some, is_some, slice_get, slice_index_or, ◌⊎◌}
-use Rattle.std.specs.List.{filter}
 use Rattle.std.specs.Option.{option_to_list}
 use Rattle.check_model.specs.Checks.{Checks, children_of}
 use Rattle.check_model.specs.declared.checks.Check.{Check}
 use Rattle.check_model.specs.declared.checks.Check.TheVariants.{Endpoint, Calculated}
 use Rattle.health_gates.specs.Gates.{Net, Rule}
 use Rattle.health_model.specs.Healthy.{Watched}
+use Rattle.health_model.specs.Nodes.{CheckNode, GroupNode, Node, SetNode}
 use Rattle.health_model.specs.Statuses.{Report, passing}
 use Rattle.rdata_layout.specs.declared.types.RType.{RType}
 use Rattle.record_set.specs.declared.sets.Body.{Body}
@@ -15,7 +15,7 @@ use Rattle.record_set.specs.declared.sets.RecordSet.{RecordSet}
 use Rattle.set_scratch.specs.Telling.{evaluates}
 use Rattle.zone_list.specs.Zones.{Zone, placed_in}
 use Rattle.zone_model.specs.Placed.{IsHere, Placed, sets_of}
-use Rattle.zone_model.specs.Zones.{is_of_group}
+use Rattle.zone_model.specs.Zones.{group}
 use Rattle.health_index.specs.declared.seats.Seat.{Seat}
 
 -- what has health
@@ -79,9 +79,11 @@ abbrev pub open_in : (v : ℕ → Bool) → (seat : ℕ) → Bool
 open_in v zero = true
 open_in v (suc gate) = v gate
 
-abbrev pub members_in : List Zone → (zone : ℕ) → (name : List (List ℕ)) → RType → List Placed
-members_in zones zone name rtype =
-    filter (λ (p : Placed). is_of_group name rtype p.set) (placed_in zones zone)
+-- These are the sets of a group of a zone, each with its slot.
+pub record AreMembers (zones : List Zone) (zone : ℕ) (name : List (List ℕ)) (rtype : RType)
+    (members : List Placed) : Type 0 where
+  pub sets : sets_of members ≡ group (sets_of (placed_in zones zone)) name rtype
+  pub here : (p : Placed) → IsHere members p → IsHere (placed_in zones zone) p
 
 -- the gates of those of some sets that have one, and how many have none
 abbrev pub with_gate : (seat : ℕ) → List ℕ → List ℕ
@@ -100,10 +102,24 @@ abbrev pub plain_among : List Seat → List Placed → ℕ
 plain_among seats [] = 0
 plain_among seats (p ∷ placed) = plain (seat_of seats p.slot) + plain_among seats placed
 
+-- the gate of the group whose first set is in a slot, plus one, and 0 where it has none
+abbrev pub group_seat : List Seat → (slot : ℕ) → ℕ
+group_seat seats slot = (slice_index_or seats slot (record { set = 0; group = 0 })).group
+
+-- the first of some sets stands in the slot
+abbrev pub IsFirstIn : List Placed → (slot : ℕ) → Type 0
+IsFirstIn members slot = (p : Placed) × (slice_get members 0 ≡ Some p) × (p.slot ≡ slot)
+
+-- the seat of its first set tells the gate of a group
+abbrev pub IsGroupSeat : List Seat → List Placed → (gate : ℕ) → Type 0
+IsGroupSeat seats members gate =
+    (slot : ℕ) × (IsFirstIn members slot × (group_seat seats slot ≡ suc gate))
+
 -- One healthy member opens the gate of a group. Members without a gate are counted from outside.
 -- The gates of checks stand before all others.
 pub record IsGroupGate (checks : ℕ) (seats : List Seat) (net : Net) (own : ℕ → ℕ)
     (members : List Placed) (gate : ℕ) : Type 0 where
+  pub seat : IsGroupSeat seats members gate
   pub behind : checks ≤ gate
   pub within : gate < net.size
   pub rule : net.rule gate
@@ -117,7 +133,8 @@ IsTarget zones checks seats net own zone rtype (body.Values ttl values) target =
 IsTarget zones checks seats net own zone rtype (body.Alias name evaluate) target =
     ((evaluate ≡ false) × (target ≡ []))
     ⊎ ((evaluate ≡ true) × ((gate : ℕ) × (target ≡ gate ∷ [])
-    × IsGroupGate checks seats net own (members_in zones zone name rtype) gate))
+    × ((members : List Placed) × AreMembers zones zone name rtype members
+    × IsGroupGate checks seats net own members gate)))
 
 -- all that feed the gate of a set have to be open
 abbrev pub set_rule : (feeders : List ℕ) → Rule
@@ -140,10 +157,26 @@ pub record IsSeated (zones : List Zone) (ids : List ℕ) (seats : List Seat) (ne
       → (gate : ℕ) × (seat_of seats p.slot ≡ suc gate)
       × IsSetGate zones ids seats net own zone p.set gate
 
--- the gates are those of the configuration
+-- ---- all gates
+
+-- the gate of a node
+abbrev pub IsGateFor : List Zone → List (ℕ × Check) → List Seat → Net → (own : ℕ → ℕ)
+    → (gate : ℕ) → Node → Type 0
+IsGateFor zones checks seats net own gate (CheckNode id) =
+    (check : Check) × (slice_get checks gate ≡ Some (id, check))
+IsGateFor zones checks seats net own gate (SetNode zone set) =
+    (slot : ℕ) × (IsHere (placed_in zones zone) (record { slot = slot; set = set })
+    × (seat_of seats slot ≡ suc gate))
+IsGateFor zones checks seats net own gate (GroupNode zone name rtype) =
+    (members : List Placed) × (AreMembers zones zone name rtype members
+    × IsGroupGate (length (ids_of checks)) seats net own members gate)
+
+-- The gates are those of the configuration, and there are no others.
 pub record IsWired (zones : List Zone) (checks : List (ℕ × Check)) (seats : List Seat) (net : Net)
     (own : ℕ → ℕ) (reports : List Report) : Type 0 where
   pub its_checks : (place id : ℕ) (check : Check) → slice_get checks place ≡ Some (id, check)
       → IsCheckGate (ids_of checks) net own reports place id check
   pub its_sets : (zone : ℕ) (p : Placed) → IsHere (placed_in zones zone) p
       → IsSeated zones (ids_of checks) seats net own zone p
+  pub its_nodes : (gate : ℕ) → gate < net.size
+      → (node : Node) × IsGateFor zones checks seats net own gate node

@@ -1,21 +1,32 @@
 //! The index: what is asked of it, and how it takes a report.
 
-ghost use Rattle.std.specs.Prelude.{◌≡◌, ◌≢◌, ◌≤◌, ◌<◌, ◌+◌, ◌∷◌, ◌↔◌, ℕ, IsTrue, List, false};
-ghost use Rattle.std.specs.Prelude.{Some, if◌then◌else◌, length, slice_get};
+ghost use Rattle.std.specs.Prelude.{◌≡◌, ◌≢◌, ◌≤◌, ◌<◌, ◌+◌, ◌∷◌, ◌↔◌, [], ℕ, IsTrue, List, false};
+ghost use Rattle.std.specs.Prelude.{Contains, IfOk, Some, if◌then◌else◌, length, slice_get};
 ghost use Rattle.check_model.specs.Checks.{Checks};
-ghost use Rattle.health_index.specs.Index.{IsEndpointOf, IsGateOf, IsPlace, StandsFor, healthy_in, reported};
+ghost use Rattle.health_index.specs.Following.{Follows, Knows};
+ghost use Rattle.health_index.specs.Index.{IsEndpointOf, IsGateOf, IsPlace, StandsFor, healthy_in};
+ghost use Rattle.health_index.specs.Index.{reported};
+ghost use Rattle.health_index.specs.Wired.{watched_of};
+ghost use Rattle.health_model.specs.Nodes.{CheckNode, InCone, Node};
+ghost use Rattle.health_model.specs.Sound.{IsSound};
 ghost use Rattle.health_model.specs.Statuses.{Report, status, status_told};
 ghost use Rattle.zone_list.specs.Zones.{Zone};
 
+use crate::building::{lay_seats, list_ids, list_seen};
+use crate::finding::{place_in, seen_at};
 use crate::laws::index_tells_health;
+use crate::planning::{lay_plan, plan_gates};
 use crate::seats::Seat;
 use checker_state::{CHECKERS, Checkers, fifty_alone};
-use health_gates::{Gates, Steps};
+use health_check::CheckTable;
+use health_gates::{Gates, Plan, Steps};
 use health_model::{one_health, one_more_report};
+use octets::OutOfMemory;
 use policy_select::{HealthView, views_agree};
+use std::alloc::Global;
 use std::marker::Model;
 use std::sync::ledger::Ledger;
-use zone_table::SetRef;
+use zone_table::{SetRef, Zones};
 
 /// The health of a configuration's checks, sets and groups.
 #[derive(Drop)]
@@ -49,19 +60,43 @@ impl Model for HealthIndex {
     }) };
 }
 
-/// The place of a number.
-fn place_in(ids: &[u32], id: u32) -> Option<usize>
-    ensures { IsPlace ids.now id result }
-{
-    for (place, other) in ids.iter().enumerate() {
-        if *other == id {
-            return Some(place);
-        }
-    }
-    None
-}
-
 impl HealthIndex {
+    /// The index of a configuration, before any report.
+    pub fn rebuild(
+        alloc: Global,
+        zones: &Zones,
+        checks: &CheckTable,
+    ) -> Result<HealthIndex, OutOfMemory>
+        requires sound { IsSound (watched_of zones.now.zones checks.now.checks) }
+        ensures stands { IfOk result (λ index.
+            StandsFor zones.now.zones checks.now.checks [] index) }
+    {
+        let Ok(index) = laid(alloc, zones, checks, &[], &[]) else {
+            return Err(OutOfMemory);
+        };
+        Ok(index)
+    }
+
+    /// The index of a configuration that some commands made of this one's, with what its checkers
+    /// saw.
+    pub fn after(
+        &self,
+        alloc: Global,
+        zones: &Zones,
+        checks: &CheckTable,
+    ) -> Result<HealthIndex, OutOfMemory>
+        requires sound { IsSound (watched_of zones.now.zones checks.now.checks) }
+        ensures stands { IfOk result (λ index.
+            (before : List Zone) (old : Checks) (reports : List Report)
+            → StandsFor before old reports self.now → Follows old checks.now.checks
+            → StandsFor zones.now.zones checks.now.checks reports index) }
+    {
+        let Ok(index) = laid(alloc, zones, checks, &self.ids, &self.seen) else {
+            return Err(OutOfMemory);
+        };
+        Ok(index)
+    }
+
     /// Takes a report of an endpoint check. The answer is whether its status changed. A report of
     /// another number changes nothing.
     pub fn on_report<L: Ledger>(
@@ -82,6 +117,11 @@ impl HealthIndex {
             ≢ status checks.list reports id) }
         // No gate is worked out where the status stays.
         ensures quiet { result ≡ false → steps.new ≡ steps.old }
+        // Otherwise as many are as there are nodes above the check at most, itself too.
+        ensures cost { (zones : List Zone) (checks : Checks) (reports : List Report)
+            → StandsFor zones checks reports self.old → (cone : List Node)
+            → ((n : Node) → InCone (watched_of zones checks) (CheckNode id) n → Contains cone n)
+            → steps.new ≤ steps.old + (if result then length cone else 0) }
         ensures other { (zones : List Zone) (checks : Checks) (reports : List Report)
             → StandsFor zones checks reports self.old → (IsEndpointOf checks id → ⊥)
             → (self.new ≡ self.old) × (result ≡ false) × (steps.new ≡ steps.old) }
@@ -132,12 +172,54 @@ impl HealthView for HealthIndex {
     }
 }
 
-/// What the checkers of the check at a place saw.
-fn seen_at(seen: &[Option<Checkers>], place: usize) -> Option<Checkers>
-    requires { place < length seen.now }
-    ensures { slice_get seen.now place ≡ Some result }
+/// The index of a configuration, from what the checkers of the checks before saw.
+fn laid(
+    alloc: Global,
+    zones: &Zones,
+    checks: &CheckTable,
+    ids: &[u32],
+    seen: &[Option<Checkers>],
+) -> Result<HealthIndex, OutOfMemory>
+    requires sound { IsSound (watched_of zones.now.zones checks.now.checks) }
+    requires as_many { length seen.now ≡ length ids.now }
+    ensures first { IfOk result (λ index. ids.now ≡ []
+        → StandsFor zones.now.zones checks.now.checks [] index) }
+    ensures stands { IfOk result (λ index. (old : Checks) (reports : List Report)
+        → Knows old reports ids.now seen.now → Follows old checks.now.checks
+        → StandsFor zones.now.zones checks.now.checks reports index) }
 {
-    seen[place]
+    zones.well_formed();
+    zones.slots_apart();
+    let list = checks.as_slice();
+    let mut ids_now = Vec::new(alloc);
+    let Ok(()) = list_ids(&mut ids_now, list) else {
+        return Err(OutOfMemory);
+    };
+    let mut seen_now = Vec::new(alloc);
+    let Ok(()) = list_seen(&mut seen_now, list, ids, seen) else {
+        return Err(OutOfMemory);
+    };
+    let mut seats = Vec::new(alloc);
+    let Ok(()) = lay_seats(&mut seats, zones.slots()) else {
+        return Err(OutOfMemory);
+    };
+    let mut refs = Vec::new(alloc);
+    let mut plan = Plan::new(alloc);
+    let Ok(()) = plan_gates(
+        zones, checks, &ids_now, &seen_now, &mut refs, &mut seats, &mut plan,
+    ) else {
+        return Err(OutOfMemory);
+    };
+    let mut gates = Gates::new(alloc);
+    let Ok(()) = lay_plan(&mut gates, &mut plan) else {
+        return Err(OutOfMemory);
+    };
+    Ok(HealthIndex {
+        ids: ids_now,
+        seen: seen_now,
+        seats,
+        gates,
+    })
 }
 
 /// A count that is small enough.

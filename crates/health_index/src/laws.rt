@@ -1,6 +1,6 @@
 //! Laws over the definitions. Each stands as the contract of a function that does nothing.
 
-ghost use Rattle.health_index.specs.Laws.{IndexTells};
+ghost use Rattle.health_index.specs.Laws.{CommandsFollow, IndexTells};
 
 use health_model::one_health;
 use policy_select::views_agree;
@@ -12,3 +12,8 @@ pub fn index_tells_health()
     one_health();
     views_agree();
 }
+
+/// A command on checks keeps the thresholds of endpoints, and gives no number twice.
+pub fn commands_follow()
+    ensures { CommandsFollow }
+{}

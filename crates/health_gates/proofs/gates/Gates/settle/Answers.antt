@@ -1,5 +1,6 @@
 use Rattle.std.proofs.Common.{◌≡◌, ◌<◌, ℕ, List, length, arith, ap, refl}
 use Rattle.std.specs.Prelude.{reverse}
+use Rattle.std.proofs.lemmas.List.{length-reverse}
 use Rattle.std.proofs.lemmas.List.Elements.{All-contains}
 use Rattle.health_gates.specs.Gates.{FedBy}
 use Rattle.health_gates.specs.Walk.{IsWalk}
@@ -37,3 +38,24 @@ returns-clause-cost g c net own nodes f has =
     has y (omega arith) (cone_net net s.rows.items s.edges.items f.laid c.args.starts.now y (rw (c.deref.ensures.value, c.deref-2.ensures.value) at k))) in
     let cost = c.pass.ensures.cost in
     omega arith
+
+pub returns-clause-cone : goal.returns-clause-cone
+returns-clause-cone g c net own f =
+    let s = c.args.self.now in
+    let l = c.list_cone.ensures in
+    let rows = ap length c.deref.ensures.value in
+    let size = f.laid.size in
+    let long = length-reverse c.list_cone.new.cone.items in
+    let cost = c.pass.ensures.cost in (
+      reverse c.list_cone.new.cone.items,
+      (
+        record {
+          once = l.walk.once;
+          within = λ y m. let b = All-contains (λ n. n < length c.deref.result.now) _ y l.within m in omega arith;
+          above = λ y m.
+              let k = (l.walk.members y).0 m in
+              cone_net net s.rows.items s.edges.items f.laid c.args.starts.now y (rw (c.deref.ensures.value, c.deref-2.ensures.value) at k);
+        },
+        omega arith,
+      ),
+    )

@@ -54,3 +54,7 @@ returns-clause-changed g c net own f meet =
 
 pub returns-clause-cost : goal.returns-clause-cost
 returns-clause-cost g c net own nodes f has = c.settle.ensures.cost net (with_own c.args.gate c.args.count own) nodes (c.put_count.ensures.fits net own f) has
+
+pub returns-clause-cone : goal.returns-clause-cone
+returns-clause-cone g c is net own f =
+    c.settle.ensures.cone net (with_own c.args.gate c.args.count own) (c.put_count.ensures.fits net own f)

@@ -5,6 +5,7 @@ use Rattle.std.proofs.lemmas.Option.{slice_get_within}
 use Rattle.health_gates.specs.Gates.{value_of}
 use Rattle.health_index.specs.Index.{Index, IsPlace, StandsFor}
 use Rattle.health_index.specs.Wired.{place_of}
+use Rattle.health_index.proofs.Costing.{few_steps}
 use Rattle.health_index.proofs.Reporting.{alone_in_all, at_place, none_seen, not_there, some_seen, stands_after, whole_after}
 use Rattle.health_index.proofs.index.HealthIndex.on_report.Goals as goal
 
@@ -134,3 +135,13 @@ returns-clause-other g c zones checks reports stands never =
     let is = c.seen_at.ensures ∙ ap Some c.in-Some-seen_at.is in
     absurd (never (some_seen zones checks reports c.args.self.now stands c.args.id c.in-Some.place
     (rw ids here.0) (rw ids here.1) c.in-Some-seen_at.checkers (rw seen is)))
+
+pub returns-clause-cost : goal.returns-clause-cost
+returns-clause-cost g c zones checks reports stands cone has =
+    let place = c.in-Some.place in
+    let here = subst (IsPlace c.deref.result.now c.args.id) c.in-Some.is c.place_in.ensures in
+    let old = subst (StandsFor zones checks reports) (sym c.self.view_is) stands in
+    let inner = sym c.deref.ensures.value in
+    few_steps zones checks reports _ old c.args.id place (rw inner here.0) (rw inner here.1) cone has
+    c.take_count.result c.args.steps.now c.take_count.new.steps c.take_count.ensures.quiet
+    (λ turned. c.take_count.ensures.cone turned old.net old.own old.fits)

@@ -3,7 +3,7 @@ use Rattle.std.specs.Prelude.{slice_get}
 use Rattle.std.proofs.lemmas.Option.{slice_get-get_or, slice_get_within, get_or_from_slice_get}
 use Rattle.std.proofs.Common.{below_more}
 use Rattle.health_index.proofs.Places.{placed_at}
-use Rattle.health_index.proofs.index.place_in.Goals as goal
+use Rattle.health_index.proofs.finding.place_in.Goals as goal
 
 pub returns-then-other-id : goal.returns-then-other-id
 returns-then-other-id c =

@@ -1,0 +1,80 @@
+-- An index that was laid out stands for its configuration.
+use Rattle.std.proofs.Common.{◌≡◌, ◌+◌, ℕ, List, length, map, arith, ap, ◌∙◌, Option}
+use Rattle.std.specs.Prelude.{slice_get}
+use Rattle.std.proofs.lemmas.Option.{slice_get_within}
+use Rattle.check_model.specs.Checks.{Checks}
+use Rattle.check_model.specs.Checks.{IsSound as AreSoundChecks}
+use Rattle.checker_state.specs.Standing.{Seen}
+use Rattle.health_gates.specs.Gates.{Fits}
+use Rattle.health_gates.specs.Pass.{IsIdle, MeetAll}
+use Rattle.health_gates.specs.Plan.{Planned, feeders_in, net_in, own_in}
+use Rattle.health_gates.specs.declared.gates.Gates.{Gates}
+use Rattle.health_model.specs.Sound.{IsSound}
+use Rattle.health_model.specs.Statuses.{AreReports, Report}
+use Rattle.zone_list.specs.Zones.{AreZones, Zone}
+use Rattle.zone_list.specs.declared.refs.SetRef.{SetRef}
+use Rattle.zone_table.specs.Tables.{HaveSlotsApart}
+use Rattle.health_index.specs.Building.{AreOfEndpoints, AreSeen, AreShaped, IsBuilt, set_shape}
+use Rattle.health_index.specs.Index.{Index, IsWhole, StandsFor}
+use Rattle.health_index.specs.Wired.{ids_of, place_of, watched_of}
+use Rattle.health_index.specs.declared.seats.Seat.{Seat}
+use Rattle.health_index.proofs.Planned.{fed_by_rule}
+use Rattle.health_index.proofs.Wiring.{ids_long, wired}
+
+module _ (zones : List Zone) (checks : Checks) (refs : List SetRef) (seats : List Seat)
+    (plan : Planned) (gates : Gates) (ids : List ℕ) (seen : List (Option Seen))
+    (are_checks : AreSoundChecks checks) (ids_is : ids ≡ ids_of checks.list)
+    (many : length seen ≡ length ids)
+    (built : IsBuilt zones checks.list refs seats plan.shapes plan.links)
+    (fits : Fits (net_in plan) (own_in plan) gates) (idle : IsIdle gates) where
+  abbrev laid : Index
+  laid = record { ids = ids; seen = seen; seats = seats; gates = gates }
+
+  ids_many : length ids ≡ length checks.list
+  ids_many = ap length ids_is ∙ ids_long checks.list
+
+  pub whole : AreOfEndpoints checks.list seen → IsWhole laid
+  whole kinds =
+      let long = ids_many in
+      let few = are_checks.few in
+      let size = built.size in
+      record {
+        net = net_in plan;
+        own = own_in plan;
+        fits = fits;
+        idle = idle;
+        as_many = many;
+        few = omega arith;
+        within = omega arith;
+        seated = λ slot gate is.
+            let o = built.only slot gate is in
+            let g = built.sets o.0 o.1.0 o.1.2 in
+            let b = slice_get_within plan.shapes (length checks.list + o.0) (set_shape g.named) g.shape in
+            let at = o.1.1 in
+            omega arith;
+        alone = λ place its is.
+            let k = kinds place its is in
+            fed_by_rule (slice_get plan.shapes place) (feeders_in plan.links place)
+            ∙ built.children place k.0 k.1.0 k.1.1.0
+            ∙ ap (map (place_of (ids_of checks.list))) k.1.1.1;
+      }
+
+  pub stands : (reports : List Report) → AreZones zones → HaveSlotsApart zones
+      → IsSound (watched_of zones checks) → AreReports checks.next reports
+      → AreSeen reports checks.list seen → AreShaped reports checks.list plan.shapes
+      → MeetAll (net_in plan) (own_in plan) gates → StandsFor zones checks reports laid
+  stands reports are_zones apart sound are_reports are_seen shaped meet = record {
+    are_zones = are_zones;
+    are_checks = are_checks;
+    sound = sound;
+    are_reports = are_reports;
+    ids = ids_is;
+    seen = are_seen;
+    as_many = many;
+    net = net_in plan;
+    own = own_in plan;
+    wired = wired zones checks.list refs seats plan are_zones apart built reports shaped;
+    fits = fits;
+    meet = meet;
+    idle = idle;
+  }

@@ -1,0 +1,10 @@
+use Rattle.std.proofs.Common.{◌≡◌, ◌≤◌}
+use Rattle.std.specs.Prelude.{replicate}
+use Rattle.health_index.specs.Building.{no_seat}
+use Rattle.health_index.proofs.building.lay_seats.Given as goal
+
+abbrev pub invariant-loop-i : goal.invariant-loop-i
+invariant-loop-i l = record {
+  within : l._i ≤ l.slots;
+  seats : l.seats.items ≡ replicate l._i no_seat;
+}

@@ -1,0 +1,15 @@
+use Rattle.std.proofs.Common.{◌≡◌, ◌≤◌, List, length}
+use Rattle.check_model.specs.Checks.{Checks}
+use Rattle.health_index.specs.Building.{AreOfEndpoints, AreSeen}
+use Rattle.health_index.specs.Following.{EachFollows, Knows}
+use Rattle.health_model.specs.Statuses.{Report}
+use Rattle.health_index.proofs.building.list_seen.Given as goal
+
+abbrev pub invariant-loop-place : goal.invariant-loop-place
+invariant-loop-place l = record {
+  within : l.place ≤ length l.list;
+  size : length l.into.items ≡ l.place;
+  seen : (old : Checks) (reports : List Report) → Knows old reports l.ids l.seen
+      → EachFollows old l.list → AreSeen reports l.list l.into.items;
+  kinds : AreOfEndpoints l.list l.into.items;
+}

@@ -1,0 +1,54 @@
+use Rattle.std.proofs.Common.{◌≡◌, length, arith, sym, refl, ◌∙◌, inl, inr}
+use Rattle.std.proofs.lemmas.Bool.{cases_lt}
+use Rattle.std.proofs.lemmas.Option.{get_or_from_slice_get, slice_get_within}
+use mathlib.Core.Path.{subst}
+use Rattle.zone_list.specs.declared.refs.SetRef.{SetRef}
+use Rattle.zone_table.specs.Looking.{Names}
+use Rattle.health_index.specs.Building.{HasTarget}
+use Rattle.health_index.proofs.Grouped.{none_grouped, target_on}
+use Rattle.health_index.proofs.grouping.group_all.Goals as goal
+
+pub loop-set-init : goal.loop-set-init
+loop-set-init c = record {
+  slots = c.requires.slots;
+  below = c.requires.below;
+  within = c.requires.within;
+  grouped = none_grouped c.args.zones.now.zones c.args.seats.now.items c.args.plan.now.shapes c.args.plan.now.links c.requires.none;
+  all = λ k set named name before at names is. absurd (omega arith);
+  sets = λ slot. refl;
+  shapes = λ n shape at. at;
+  feeders = λ gate early. refl;
+  more = omega arith;
+}
+
+pub loop-set-preserved : goal.loop-set-preserved
+loop-set-preserved c =
+    let zones = c.args.zones.now.zones in
+    let i = c.loop-set.invariant in
+    let o = c.in-Ok.ensures in
+    let grown = i.more in
+    let more = o.more in
+    record {
+      slots = o.size ∙ i.slots;
+      below = λ slot gate is. let b = i.below slot gate (sym (o.sets slot) ∙ is) in omega arith;
+      within = o.within;
+      grouped = o.grouped (length c.args.plan.now.shapes) grown i.grouped;
+      all = λ k set named name before at names is. elim (cases_lt k c.loop-set.set-index) [
+        | inl early ↦ target_on zones _ _ set.zone name named.rtype o.goes_on (i.all k set named name early at names is)
+        | inr late ↦
+            let k_is : k ≡ c.loop-set.set-index = omega arith in
+            let e = get_or_from_slice_get c.args.refs.now c.loop-set.set-index set (record { zone = 0; slot = 0 }) (rw k_is at at) in
+            subst (λ (s : SetRef). HasTarget zones c.group_one.new.seats.items s.zone name named.rtype) e
+            (o.here named name (subst (λ (s : SetRef). Names zones s named) (sym e) names) is)
+      ];
+      sets = λ slot. o.sets slot ∙ i.sets slot;
+      shapes = λ n shape at. o.shapes n shape (i.shapes n shape at);
+      feeders = λ gate early. o.feeders gate (omega arith) ∙ i.feeders gate early;
+      more = omega arith;
+    }
+
+pub returns-clause-all : goal.returns-clause-all
+returns-clause-all c k set named name at names is =
+    let b = slice_get_within c.args.refs.now k set at in
+    let end = c.loop-set-test.false in
+    c.loop-set.invariant.all k set named name (omega arith) at names is

@@ -1,0 +1,155 @@
+use Rattle.std.proofs.Common.{◌≡◌, ◌<◌, ◌≤◌, ◌^◌, ◌∷◌, ◌++◌, [], add-one, true, List, arith, ap, sym, ◌∙◌, length}
+use Rattle.std.specs.Prelude.{not}
+use mathlib.Core.Path.{subst}
+use Rattle.std.proofs.lemmas.Bool.{false≢true}
+use Rattle.health_gates.specs.declared.plan.Link.{Link}
+use Rattle.policy_select.proofs.Members.{one_named}
+use Rattle.policy_select.specs.Groups.{members_of}
+use Rattle.record_set.specs.declared.sets.RecordSet.{RecordSet}
+use Rattle.set_scratch.specs.Telling.{evaluates, target_of}
+use Rattle.zone_table.specs.Looking.{Targets, Watches}
+use Rattle.health_index.specs.Building.{group_shape, links_to}
+use Rattle.health_index.specs.Wired.{gates_of, group_seat, plain_among, seat_of}
+use Rattle.health_index.specs.declared.seats.Seat.{Seat}
+use Rattle.health_index.proofs.Grouped.{feeders_now, grouped_more, seat_now, within_now}
+use Rattle.health_index.proofs.Groups.{member_at, members_are, some_gate, told_target}
+use Rattle.health_index.proofs.ListedOnce.{slot_below, still_at}
+use Rattle.health_index.proofs.grouping.group_one.Goals as goal
+
+pub returns-then-not-watch-clause-here : goal.returns-then-not-watch-clause-here
+returns-then-not-watch-clause-here c named name names is =
+    let zones = c.args.zones.now.zones in
+    let w = subst (Watches zones c.args.set) c.in-Some.is c.watch.ensures in
+    let same = one_named zones c.args.set w.0 named c.well_formed-2.ensures w.1 names in
+    let on : c.in-Some.watch.evaluates ≡ true = ap (λ x. x.evaluates) w.2 ∙ ap (λ (s : RecordSet). evaluates s.body) same ∙ ap evaluates is in
+    absurd (false≢true (ap not (sym on) ∙ c.if-not-watch.true))
+
+pub seat_at-seat-requires : goal.seat_at-seat-requires
+seat_at-seat-requires c =
+    let zones = c.args.zones.now.zones in
+    let first = member_at zones c.find_group-group.result 0 c.member-first.result (omega (arith, c.if-group-eq0.false)) c.member-first.ensures in
+    let b = slot_below zones c.args.zones.now.slots c.member-first.result first.p.set c.slots_within.ensures.within first.names in
+    let slots = c.requires.slots in
+    let within : c.member-first.result.slot < length c.args.seats.now.items = omega arith in
+    let read = ap length c.deref.ensures.value in
+    omega arith
+
+pub returns-then-seat-ne0-clause-here : goal.returns-then-seat-ne0-clause-here
+returns-then-seat-ne0-clause-here c named name names is =
+    let zones = c.args.zones.now.zones in
+    let first = member_at zones c.find_group-group.result 0 c.member-first.result (omega (arith, c.if-group-eq0.false)) c.member-first.ensures in
+    let t = subst (Targets zones c.args.set) c.in-Some-target.is c.target.ensures in
+    let same = one_named zones c.args.set t.0 named c.well_formed-2.ensures t.1 names in
+    let target = told_target named name _ is (ap target_of (sym same) ∙ t.2) in
+    let are = members_are zones c.find_group-group.result c.args.set.zone c.in-Some-target.target.0 c.in-Some-target.target.1 c.find_group-group.ensures.zone c.find_group-group.ensures.sets in
+    let read = c.deref.ensures.value in
+    let set_is = c.seat_at-seat.ensures.set ∙ ap (λ (l : List Seat). seat_of l c.member-first.result.slot) read in
+    let group_is = sym (c.seat_at-seat.ensures.group ∙ ap (λ (l : List Seat). group_seat l c.member-first.result.slot) read) in
+    let gate = some_gate (group_seat c.args.seats.now.items c.member-first.result.slot) (λ e. c.if-seat-ne0.true (sym group_is ∙ e)) in
+    rw (target.0, target.1) (record {
+      members = members_of zones c.find_group-group.result;
+      are = are;
+      slot = c.member-first.result.slot;
+      first = (first.p, first.at, first.slot);
+      gate = gate.0;
+      seat = gate.1;
+    })
+
+pub index_mut-requires : goal.index_mut-requires
+index_mut-requires c =
+    let zones = c.args.zones.now.zones in
+    let first = member_at zones c.find_group-group.result 0 c.member-first.result (omega (arith, c.if-group-eq0.false)) c.member-first.ensures in
+    let b = slot_below zones c.args.zones.now.slots c.member-first.result first.p.set c.slots_within.ensures.within first.names in
+    let slots = c.requires.slots in
+    let within : c.member-first.result.slot < length c.args.seats.now.items = omega arith in
+    let len = c.args.seats.now.ok.0 in
+    omega arith
+
+pub returns-clause-grouped : goal.returns-clause-grouped
+returns-clause-grouped c from least grouped =
+    let zones = c.args.zones.now.zones in
+    let first = member_at zones c.find_group-group.result 0 c.member-first.result (omega (arith, c.if-group-eq0.false)) c.member-first.ensures in
+    let members = members_of zones c.find_group-group.result in
+    let b = slot_below zones c.args.zones.now.slots c.member-first.result first.p.set c.slots_within.ensures.within first.names in
+    let slots = c.requires.slots in
+    let within : c.member-first.result.slot < length c.args.seats.now.items = omega arith in
+    let read = c.deref.ensures.value in
+    let set_is = c.seat_at-seat.ensures.set ∙ ap (λ (l : List Seat). seat_of l c.member-first.result.slot) read in
+    let empty = sym (c.seat_at-seat.ensures.group ∙ ap (λ (l : List Seat). group_seat l c.member-first.result.slot) read) ∙ c.if-seat-ne0.false in
+    let are = members_are zones c.find_group-group.result c.args.set.zone c.in-Some-target.target.0 c.in-Some-target.target.1 c.find_group-group.ensures.zone c.find_group-group.ensures.sets in
+    let plains = c.count_plain-plains.ensures ∙ ap (λ (l : List Seat). plain_among l members) c.deref-2.ensures.value in
+    let few : plain_among c.args.seats.now.items members ≤ 2 ^ 31 = omega (arith, c.if-plains.false) in
+    let links = c.in-Ok-join_members.ensures.links ∙ ap (λ (l : List Link). l ++ links_to c.in-Ok.gate (gates_of c.deref-3.result.now members)) c.add.ensures.links ∙ ap (λ (l : List Seat). c.args.plan.now.links ++ links_to c.in-Ok.gate (gates_of l members)) c.deref-3.ensures.value in
+    let shapes = c.in-Ok-join_members.ensures.shapes ∙ c.in-Ok.ensures.shapes ∙ ap (λ n. c.args.plan.now.shapes ++ group_shape n ∷ []) plains in
+    let gate_is = c.in-Ok.ensures.number in
+    rw (set_is, shapes, links) (grouped_more zones c.args.seats.now.items c.args.plan.now.shapes c.args.plan.now.links c.member-first.result.slot c.in-Ok.gate c.args.set.zone c.in-Some-target.target.0 c.in-Some-target.target.1 members within c.requires.below c.requires.within empty gate_is are (first.p, first.at, first.slot) few from least grouped)
+
+pub returns-clause-here : goal.returns-clause-here
+returns-clause-here c named name names is =
+    let zones = c.args.zones.now.zones in
+    let first = member_at zones c.find_group-group.result 0 c.member-first.result (omega (arith, c.if-group-eq0.false)) c.member-first.ensures in
+    let members = members_of zones c.find_group-group.result in
+    let b = slot_below zones c.args.zones.now.slots c.member-first.result first.p.set c.slots_within.ensures.within first.names in
+    let slots = c.requires.slots in
+    let within : c.member-first.result.slot < length c.args.seats.now.items = omega arith in
+    let read = c.deref.ensures.value in
+    let set_is = c.seat_at-seat.ensures.set ∙ ap (λ (l : List Seat). seat_of l c.member-first.result.slot) read in
+    let empty = sym (c.seat_at-seat.ensures.group ∙ ap (λ (l : List Seat). group_seat l c.member-first.result.slot) read) ∙ c.if-seat-ne0.false in
+    let are = members_are zones c.find_group-group.result c.args.set.zone c.in-Some-target.target.0 c.in-Some-target.target.1 c.find_group-group.ensures.zone c.find_group-group.ensures.sets in
+    let plains = c.count_plain-plains.ensures ∙ ap (λ (l : List Seat). plain_among l members) c.deref-2.ensures.value in
+    let few : plain_among c.args.seats.now.items members ≤ 2 ^ 31 = omega (arith, c.if-plains.false) in
+    let links = c.in-Ok-join_members.ensures.links ∙ ap (λ (l : List Link). l ++ links_to c.in-Ok.gate (gates_of c.deref-3.result.now members)) c.add.ensures.links ∙ ap (λ (l : List Seat). c.args.plan.now.links ++ links_to c.in-Ok.gate (gates_of l members)) c.deref-3.ensures.value in
+    let shapes = c.in-Ok-join_members.ensures.shapes ∙ c.in-Ok.ensures.shapes ∙ ap (λ n. c.args.plan.now.shapes ++ group_shape n ∷ []) plains in
+    let gate_is = c.in-Ok.ensures.number in
+    let t = subst (Targets zones c.args.set) c.in-Some-target.is c.target.ensures in
+    let same = one_named zones c.args.set t.0 named c.well_formed-2.ensures t.1 names in
+    let target = told_target named name _ is (ap target_of (sym same) ∙ t.2) in
+    rw (target.0, target.1) (record {
+      members = members;
+      are = are;
+      slot = c.member-first.result.slot;
+      first = (first.p, first.at, first.slot);
+      gate = c.in-Ok.gate;
+      seat = rw set_is (seat_now c.args.seats.now.items c.member-first.result.slot c.in-Ok.gate within ∙ add-one c.in-Ok.gate);
+    })
+
+pub returns-clause-shapes : goal.returns-clause-shapes
+returns-clause-shapes c n shape at = rw (c.in-Ok-join_members.ensures.shapes, c.in-Ok.ensures.shapes) (still_at c.args.plan.now.shapes _ shape n at)
+
+pub returns-clause-feeders : goal.returns-clause-feeders
+returns-clause-feeders c gate early =
+    let zones = c.args.zones.now.zones in
+    let first = member_at zones c.find_group-group.result 0 c.member-first.result (omega (arith, c.if-group-eq0.false)) c.member-first.ensures in
+    let members = members_of zones c.find_group-group.result in
+    let b = slot_below zones c.args.zones.now.slots c.member-first.result first.p.set c.slots_within.ensures.within first.names in
+    let slots = c.requires.slots in
+    let within : c.member-first.result.slot < length c.args.seats.now.items = omega arith in
+    let read = c.deref.ensures.value in
+    let set_is = c.seat_at-seat.ensures.set ∙ ap (λ (l : List Seat). seat_of l c.member-first.result.slot) read in
+    let empty = sym (c.seat_at-seat.ensures.group ∙ ap (λ (l : List Seat). group_seat l c.member-first.result.slot) read) ∙ c.if-seat-ne0.false in
+    let are = members_are zones c.find_group-group.result c.args.set.zone c.in-Some-target.target.0 c.in-Some-target.target.1 c.find_group-group.ensures.zone c.find_group-group.ensures.sets in
+    let plains = c.count_plain-plains.ensures ∙ ap (λ (l : List Seat). plain_among l members) c.deref-2.ensures.value in
+    let few : plain_among c.args.seats.now.items members ≤ 2 ^ 31 = omega (arith, c.if-plains.false) in
+    let links = c.in-Ok-join_members.ensures.links ∙ ap (λ (l : List Link). l ++ links_to c.in-Ok.gate (gates_of c.deref-3.result.now members)) c.add.ensures.links ∙ ap (λ (l : List Seat). c.args.plan.now.links ++ links_to c.in-Ok.gate (gates_of l members)) c.deref-3.ensures.value in
+    let shapes = c.in-Ok-join_members.ensures.shapes ∙ c.in-Ok.ensures.shapes ∙ ap (λ n. c.args.plan.now.shapes ++ group_shape n ∷ []) plains in
+    let gate_is = c.in-Ok.ensures.number in
+    rw links (feeders_now zones c.args.seats.now.items c.args.plan.now.shapes c.args.plan.now.links c.member-first.result.slot c.in-Ok.gate c.args.set.zone c.in-Some-target.target.0 c.in-Some-target.target.1 members within c.requires.below c.requires.within empty gate_is are (first.p, first.at, first.slot) few gate early)
+
+pub returns-clause-within : goal.returns-clause-within
+returns-clause-within c =
+    let zones = c.args.zones.now.zones in
+    let first = member_at zones c.find_group-group.result 0 c.member-first.result (omega (arith, c.if-group-eq0.false)) c.member-first.ensures in
+    let members = members_of zones c.find_group-group.result in
+    let b = slot_below zones c.args.zones.now.slots c.member-first.result first.p.set c.slots_within.ensures.within first.names in
+    let slots = c.requires.slots in
+    let within : c.member-first.result.slot < length c.args.seats.now.items = omega arith in
+    let read = c.deref.ensures.value in
+    let set_is = c.seat_at-seat.ensures.set ∙ ap (λ (l : List Seat). seat_of l c.member-first.result.slot) read in
+    let empty = sym (c.seat_at-seat.ensures.group ∙ ap (λ (l : List Seat). group_seat l c.member-first.result.slot) read) ∙ c.if-seat-ne0.false in
+    let are = members_are zones c.find_group-group.result c.args.set.zone c.in-Some-target.target.0 c.in-Some-target.target.1 c.find_group-group.ensures.zone c.find_group-group.ensures.sets in
+    let plains = c.count_plain-plains.ensures ∙ ap (λ (l : List Seat). plain_among l members) c.deref-2.ensures.value in
+    let few : plain_among c.args.seats.now.items members ≤ 2 ^ 31 = omega (arith, c.if-plains.false) in
+    let links = c.in-Ok-join_members.ensures.links ∙ ap (λ (l : List Link). l ++ links_to c.in-Ok.gate (gates_of c.deref-3.result.now members)) c.add.ensures.links ∙ ap (λ (l : List Seat). c.args.plan.now.links ++ links_to c.in-Ok.gate (gates_of l members)) c.deref-3.ensures.value in
+    let shapes = c.in-Ok-join_members.ensures.shapes ∙ c.in-Ok.ensures.shapes ∙ ap (λ n. c.args.plan.now.shapes ++ group_shape n ∷ []) plains in
+    let gate_is = c.in-Ok.ensures.number in
+    rw (shapes, links) (within_now zones c.args.seats.now.items c.args.plan.now.shapes c.args.plan.now.links c.member-first.result.slot c.in-Ok.gate c.args.set.zone c.in-Some-target.target.0 c.in-Some-target.target.1 members within c.requires.below c.requires.within empty gate_is are (first.p, first.at, first.slot) few)

@@ -1,0 +1,36 @@
+use Rattle.std.proofs.Common.{ap, sym, refl, ◌∙◌, length}
+use mathlib.Core.Path.{subst}
+use Rattle.std.proofs.lemmas.Bool.{false≢true}
+use Rattle.policy_select.proofs.Members.{one_named}
+use Rattle.zone_table.specs.Looking.{Watches}
+use Rattle.health_index.specs.Wired.{is_watched}
+use Rattle.health_index.proofs.ListedOnce.{last_at, listed_already, listed_more, seat_is, still_at}
+use Rattle.health_index.proofs.listing.list_one.Goals as goal
+
+pub returns-then-not-is_watched-clause-here : goal.returns-then-not-is_watched-clause-here
+returns-then-not-is_watched-clause-here c named names watched =
+    let w = subst (Watches c.args.zones.now.zones c.args.set) c.in-Some.is c.watch.ensures in
+    let same = one_named c.args.zones.now.zones c.args.set w.0 named c.well_formed-2.ensures w.1 names in
+    absurd (false≢true (sym c.if-not-is_watched.true ∙ c.is_watched.ensures w.0 w.2 ∙ ap is_watched same ∙ watched))
+
+pub returns-then-index-ne0-clause-here : goal.returns-then-index-ne0-clause-here
+returns-then-index-ne0-clause-here c named names watched =
+    listed_already c.args.zones.now.zones c.requires.listed.0 c.args.refs.now.items c.args.seats.now.items c.args.plan.now.shapes c.args.set named c.requires.listed.1 c.slots_apart.ensures names
+    (λ e. c.if-index-ne0.true (seat_is c.args.seats.now.items c.args.set.slot c.index.result.now c.requires.slot c.index.ensures ∙ e))
+
+pub returns-clause-listed : goal.returns-clause-listed
+returns-clause-listed c first are =
+    let w = subst (Watches c.args.zones.now.zones c.args.set) c.in-Some.is c.watch.ensures in
+    let empty = sym (seat_is c.args.seats.now.items c.args.set.slot c.index.result.now c.requires.slot c.index.ensures) ∙ c.if-index-ne0.false in
+    let watched = sym (c.is_watched.ensures w.0 w.2) ∙ c.if-not-is_watched.false in
+    let shape = c.shape_of.ensures w.0 w.2 in
+    rw (c.in-Ok-add_ref.ensures, c.in-Ok.ensures.shapes, shape) (listed_more c.args.zones.now.zones first c.args.refs.now.items c.args.seats.now.items c.args.plan.now.shapes c.args.set w.0 c.in-Ok.gate are w.1 watched c.requires.slot empty c.in-Ok.ensures.number)
+
+pub returns-clause-goes_on : goal.returns-clause-goes_on
+returns-clause-goes_on c ref at = (at.0, rw c.in-Ok-add_ref.ensures (still_at c.args.refs.now.items c.args.set ref at.0 at.1))
+
+pub returns-clause-here : goal.returns-clause-here
+returns-clause-here c named names watched = (length c.args.refs.now.items, rw c.in-Ok-add_ref.ensures (last_at c.args.refs.now.items c.args.set (length c.args.refs.now.items) refl))
+
+pub returns-clause-shapes : goal.returns-clause-shapes
+returns-clause-shapes c n shape at = rw c.in-Ok.ensures.shapes (still_at c.args.plan.now.shapes c.shape_of.result shape n at)
