@@ -1,0 +1,3 @@
+mod Closed
+mod Named
+mod Opened

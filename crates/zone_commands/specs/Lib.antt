@@ -1,0 +1,1 @@
+pub use Rattle.config_zones.specs.Configured
