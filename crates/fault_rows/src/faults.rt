@@ -4,6 +4,7 @@ use batch_json::read_line;
 use reply_model::Outcome;
 use reply_writing::{MOST_REPLY, write_outcome};
 use std::alloc::Global;
+use std::process::Abort;
 use std::test::Fail;
 
 /// The line of an outcome, without its line feed.
@@ -65,87 +66,124 @@ fn lines_as_a_whole(rt: HostRuntime) -> Result<(), Fail> {
     Ok(())
 }
 
-#[test]
-fn each_kind_of_member(rt: HostRuntime) -> Result<(), Fail> {
-    // The line, the member that is told, and the reason.
-    let rows: [(&str, &str, &str); 18] = [
-        (r#"{"CreateHostedZone":{}}"#, "Name", "Missing"),
-        (r#"{"CreateHostedZone":{"Name":1}}"#, "Name", "WrongKind"),
-        (r#"{"CreateHostedZone":{"Name":"a..b"}}"#, "Name", "BadName"),
-        (
-            r#"{"CreateHostedZone":{"Name":"a","NameServers":["b","c","d"]}}"#,
-            "NameServers",
-            "OutOfRange",
-        ),
-        (
-            r#"{"CreateHostedZone":{"Name":"a","NameServers":["b","c","d",""]}}"#,
-            "NameServers",
-            "BadName",
-        ),
-        (r#"{"Serve":{"Turns":1000001}}"#, "Turns", "OutOfRange"),
-        (r#"{"Serve":{"Turns":1.0}}"#, "Turns", "WrongKind"),
-        (
-            r#"{"Serve":{"Turns":18446744073709551616}}"#,
-            "Turns",
-            "WrongKind",
-        ),
-        (
-            r#"{"Observe":{"HealthCheckId":"h1","Checker":256,"Pass":true}}"#,
-            "Checker",
-            "OutOfRange",
-        ),
-        (
-            r#"{"Observe":{"HealthCheckId":"h1","Checker":1,"Pass":1}}"#,
-            "Pass",
-            "WrongKind",
-        ),
-        (
-            r#"{"Query":{"Packet":"123","Address":"127.0.0.1"}}"#,
-            "Packet",
-            "BadHex",
-        ),
-        (
-            r#"{"Query":{"Packet":"12","Address":"127.0.0.1 "}}"#,
-            "Address",
-            "BadAddress",
-        ),
-        (
-            r#"{"Query":{"Packet":"12","Address":"::1","Words":[1]}}"#,
-            "Words",
-            "OutOfRange",
-        ),
-        (
-            r#"{"ListResourceRecordSets":{"HostedZoneId":"Z1","MaxItems":"301"}}"#,
-            "MaxItems",
-            "OutOfRange",
-        ),
-        (
-            r#"{"ListResourceRecordSets":{"HostedZoneId":"Z1","StartRecordType":"A"}}"#,
-            "StartRecordName",
-            "Missing",
-        ),
-        (
-            r#"{"CreateHealthCheck":{"HealthCheckConfig":{"Type":"TCP","HealthThreshold":1}}}"#,
-            "HealthThreshold",
-            "Both",
-        ),
-        (
-            r#"{"CreateHealthCheck":{"HealthCheckConfig":1}}"#,
-            "HealthCheckConfig",
-            "WrongKind",
-        ),
-        (
-            r#"{"DeleteHealthCheck":{"HealthCheckId":7}}"#,
-            "HealthCheckId",
-            "WrongKind",
-        ),
-    ];
-    for (line, member, reason) in rows {
-        let told = told(rt.alloc(), line.as_bytes())?;
-        let reply = bad_line(rt.alloc(), "", member, reason)?;
-        assert_eq!(rt; told.as_slice(), reply.as_bytes(), "{line}");
+/// Compares the replies to lines: each row is a line, the member that is told, and the reason.
+fn compare(rt: &impl Abort, alloc: Global, rows: &[(&str, &str, &str)]) -> Result<(), Fail> {
+    for row in rows {
+        let told = told(alloc, row.0.as_bytes())?;
+        let reply = bad_line(alloc, "", row.1, row.2)?;
+        assert_eq!(rt; told.as_slice(), reply.as_bytes(), "{}", row.0);
     }
     Ok(())
+}
+
+#[test]
+fn names_of_zones(rt: HostRuntime) -> Result<(), Fail> {
+    compare(
+        &rt,
+        rt.alloc(),
+        &[
+            (r#"{"CreateHostedZone":{}}"#, "Name", "Missing"),
+            (r#"{"CreateHostedZone":{"Name":1}}"#, "Name", "WrongKind"),
+            (r#"{"CreateHostedZone":{"Name":"a..b"}}"#, "Name", "BadName"),
+            (
+                r#"{"CreateHostedZone":{"Name":"a","NameServers":["b","c","d"]}}"#,
+                "NameServers",
+                "OutOfRange",
+            ),
+            (
+                r#"{"CreateHostedZone":{"Name":"a","NameServers":["b","c","d",""]}}"#,
+                "NameServers",
+                "BadName",
+            ),
+        ],
+    )
+}
+
+#[test]
+fn numbers_and_flags(rt: HostRuntime) -> Result<(), Fail> {
+    compare(
+        &rt,
+        rt.alloc(),
+        &[
+            (r#"{"Serve":{"Turns":1000001}}"#, "Turns", "OutOfRange"),
+            (r#"{"Serve":{"Turns":1.0}}"#, "Turns", "WrongKind"),
+            (
+                r#"{"Serve":{"Turns":18446744073709551616}}"#,
+                "Turns",
+                "WrongKind",
+            ),
+            (
+                r#"{"Observe":{"HealthCheckId":"h1","Checker":256,"Pass":true}}"#,
+                "Checker",
+                "OutOfRange",
+            ),
+            (
+                r#"{"Observe":{"HealthCheckId":"h1","Checker":1,"Pass":1}}"#,
+                "Pass",
+                "WrongKind",
+            ),
+        ],
+    )
+}
+
+#[test]
+fn packets_and_addresses(rt: HostRuntime) -> Result<(), Fail> {
+    compare(
+        &rt,
+        rt.alloc(),
+        &[
+            (
+                r#"{"Query":{"Packet":"123","Address":"127.0.0.1"}}"#,
+                "Packet",
+                "BadHex",
+            ),
+            (
+                r#"{"Query":{"Packet":"12","Address":"127.0.0.1 "}}"#,
+                "Address",
+                "BadAddress",
+            ),
+            (
+                r#"{"Query":{"Packet":"12","Address":"::1","Words":[1]}}"#,
+                "Words",
+                "OutOfRange",
+            ),
+        ],
+    )
+}
+
+#[test]
+fn lists_and_checks(rt: HostRuntime) -> Result<(), Fail> {
+    compare(
+        &rt,
+        rt.alloc(),
+        &[
+            (
+                r#"{"ListResourceRecordSets":{"HostedZoneId":"Z1","MaxItems":"301"}}"#,
+                "MaxItems",
+                "OutOfRange",
+            ),
+            (
+                r#"{"ListResourceRecordSets":{"HostedZoneId":"Z1","StartRecordType":"A"}}"#,
+                "StartRecordName",
+                "Missing",
+            ),
+            (
+                r#"{"CreateHealthCheck":{"HealthCheckConfig":{"Type":"TCP","HealthThreshold":1}}}"#,
+                "HealthThreshold",
+                "Both",
+            ),
+            (
+                r#"{"CreateHealthCheck":{"HealthCheckConfig":1}}"#,
+                "HealthCheckConfig",
+                "WrongKind",
+            ),
+            (
+                r#"{"DeleteHealthCheck":{"HealthCheckId":7}}"#,
+                "HealthCheckId",
+                "WrongKind",
+            ),
+        ],
+    )
 }
 
 /// The reply BadLine, with what stands in front of its name.
@@ -171,67 +209,95 @@ fn batch(alloc: Global, set: &str) -> Result<String, Fail> {
     Ok(line)
 }
 
-#[test]
-fn each_kind_of_member_of_a_change(rt: HostRuntime) -> Result<(), Fail> {
-    // The set, the member that is told, and the reason.
-    let rows: [(&str, &str, &str); 14] = [
-        ("1", "ResourceRecordSet", "WrongKind"),
-        (r#"{"x":1}"#, "ResourceRecordSet", "UnknownMember"),
-        (r#"{"Name":""}"#, "Name", "BadName"),
-        (r#"{"Name":"a"}"#, "Type", "Missing"),
-        (r#"{"Name":"a","Type":"B"}"#, "Type", "OutOfRange"),
-        (
-            r#"{"Name":"a","Type":"A","Weight":256}"#,
-            "Weight",
-            "OutOfRange",
-        ),
-        (
-            r#"{"Name":"a","Type":"A","SetIdentifier":"i","TTL":1,"ResourceRecords":[]}"#,
-            "SetIdentifier",
-            "Alone",
-        ),
-        (
-            r#"{"Name":"a","Type":"A","SetIdentifier":"i","Weight":1,"Region":"r"}"#,
-            "Region",
-            "Both",
-        ),
-        (
-            r#"{"Name":"a","Type":"A","Weight":1}"#,
-            "SetIdentifier",
-            "Missing",
-        ),
-        (
-            r#"{"Name":"a","Type":"A","TTL":2147483648}"#,
-            "TTL",
-            "OutOfRange",
-        ),
-        (
-            r#"{"Name":"a","Type":"A","TTL":1,"ResourceRecords":[{"Value":"1.2.3"}]}"#,
-            "Value",
-            "BadValue",
-        ),
-        (
-            r#"{"Name":"a","Type":"A","TTL":1,"ResourceRecords":[7]}"#,
-            "ResourceRecords",
-            "WrongKind",
-        ),
-        (
-            r#"{"Name":"a","Type":"A","TTL":1,"AliasTarget":{"HostedZoneId":"Z1","DNSName":"b","EvaluateTargetHealth":true}}"#,
-            "AliasTarget",
-            "Both",
-        ),
-        (
-            r#"{"Name":"a","Type":"A","GeoLocation":{"CountryCode":"*","SubdivisionCode":"CA"}}"#,
-            "SubdivisionCode",
-            "Both",
-        ),
-    ];
-    for (set, member, reason) in rows {
-        let told = told(rt.alloc(), batch(rt.alloc(), set)?.as_bytes())?;
-        let reply = bad_line(rt.alloc(), r#""Change":1,"#, member, reason)?;
-        assert_eq!(rt; told.as_slice(), reply.as_bytes(), "{set}");
+/// Compares the replies to batches: each row is the set of the second change, the member that is
+/// told, and the reason.
+fn compare_sets(rt: &impl Abort, alloc: Global, rows: &[(&str, &str, &str)]) -> Result<(), Fail> {
+    for row in rows {
+        let told = told(alloc, batch(alloc, row.0)?.as_bytes())?;
+        let reply = bad_line(alloc, r#""Change":1,"#, row.1, row.2)?;
+        assert_eq!(rt; told.as_slice(), reply.as_bytes(), "{}", row.0);
     }
     Ok(())
+}
+
+#[test]
+fn members_of_a_set(rt: HostRuntime) -> Result<(), Fail> {
+    compare_sets(
+        &rt,
+        rt.alloc(),
+        &[
+            ("1", "ResourceRecordSet", "WrongKind"),
+            (r#"{"x":1}"#, "ResourceRecordSet", "UnknownMember"),
+            (r#"{"Name":""}"#, "Name", "BadName"),
+            (r#"{"Name":"a"}"#, "Type", "Missing"),
+            (r#"{"Name":"a","Type":"B"}"#, "Type", "OutOfRange"),
+            (
+                r#"{"Name":"a","Type":"A","Weight":256}"#,
+                "Weight",
+                "OutOfRange",
+            ),
+        ],
+    )
+}
+
+#[test]
+fn policies_of_a_set(rt: HostRuntime) -> Result<(), Fail> {
+    compare_sets(
+        &rt,
+        rt.alloc(),
+        &[
+            (
+                r#"{"Name":"a","Type":"A","SetIdentifier":"i","TTL":1,"ResourceRecords":[]}"#,
+                "SetIdentifier",
+                "Alone",
+            ),
+            (
+                r#"{"Name":"a","Type":"A","SetIdentifier":"i","Weight":1,"Region":"r"}"#,
+                "Region",
+                "Both",
+            ),
+            (
+                r#"{"Name":"a","Type":"A","Weight":1}"#,
+                "SetIdentifier",
+                "Missing",
+            ),
+        ],
+    )
+}
+
+#[test]
+fn values_of_a_set(rt: HostRuntime) -> Result<(), Fail> {
+    compare_sets(
+        &rt,
+        rt.alloc(),
+        &[
+            (
+                r#"{"Name":"a","Type":"A","TTL":2147483648}"#,
+                "TTL",
+                "OutOfRange",
+            ),
+            (
+                r#"{"Name":"a","Type":"A","TTL":1,"ResourceRecords":[{"Value":"1.2.3"}]}"#,
+                "Value",
+                "BadValue",
+            ),
+            (
+                r#"{"Name":"a","Type":"A","TTL":1,"ResourceRecords":[7]}"#,
+                "ResourceRecords",
+                "WrongKind",
+            ),
+            (
+                r#"{"Name":"a","Type":"A","TTL":1,"AliasTarget":{"HostedZoneId":"Z1","DNSName":"b","EvaluateTargetHealth":true}}"#,
+                "AliasTarget",
+                "Both",
+            ),
+            (
+                r#"{"Name":"a","Type":"A","GeoLocation":{"CountryCode":"*","SubdivisionCode":"CA"}}"#,
+                "SubdivisionCode",
+                "Both",
+            ),
+        ],
+    )
 }
 
 /// The batch of a web server's address, as the AWS command line has it.

@@ -1,8 +1,6 @@
 -- A value's outline is read as the value, and its tokens can be written.
-use Rattle.std.proofs.Common.{◌≡◌, ℕ, suc, ◌<◌, ◌^◌, ◌≤◌, List, [], ◌∷◌, ◌++◌, Option, Some, refl, ap, ap₂}
+use Rattle.std.proofs.Common.{◌≡◌, ℕ, suc, ◌≤◌, List, [], ◌∷◌, ◌++◌, Option, Some, refl, ap, ap₂}
 use Rattle.std.proofs.Common.{◌∙◌, append_assoc, append-nil, arith, max, option_and_then, option_map, subst, sym}
-use Rattle.std.specs.Cmp.Lexicographic.{slice_cmp}
-use Rattle.std.specs.Ordering.{match_ordering, nat_cmp}
 use Rattle.json.proofs.Printed.Decimals.{IsNumber-decimal}
 use Rattle.json.proofs.Printed.Tokens.{tokens-print}
 use Rattle.json.proofs.Printed.Trees.{value-json_tokens}
@@ -16,7 +14,7 @@ use Rattle.serde_json.proofs.Texts.{print-outline}
 use Rattle.serde_json.specs.Data.{Data, Items, Members, Num, array, boolean, depth, float, item}
 use Rattle.serde_json.specs.Data.{items_depth, member, members_depth, negative, no_items}
 use Rattle.serde_json.specs.Data.{no_members, null, number, object, put, string, unsigned}
-use Rattle.serde_json.specs.Read.{max_depth, number_of, of_items, of_json, of_members, read}
+use Rattle.serde_json.specs.Read.{max_depth, of_items, of_json, of_members, read}
 use Rattle.serde_json.specs.Written.{compact_text, items_outline, members_outline, number_text}
 use Rattle.serde_json.specs.Written.{outline}
 use Rattle.json_round_trip.specs.Told.{AreTold, HaveTold, IsBehind, IsCount, IsTold, Rise, with_last}
@@ -68,8 +66,8 @@ mutual
   of_members_told before no_members told rise = ap Some (sym (joined_none before))
   of_members_told before (member name d ms) told rise =
       rw (of_told d told.0) (rw (put_last name d before rise.0) (
-        of_members_told (with_last name d before) ms told.1 rise.1
-        ∙ ap Some (joined_last before name d ms)))
+      of_members_told (with_last name d before) ms told.1 rise.1
+      ∙ ap Some (joined_last before name d ms)))
 
 -- ---- how deep it is
 
@@ -123,9 +121,11 @@ mutual
       → ArePrintable (tree.members_tokens (members_outline ms) ++ ts)
   printable_members no_members ts told h = (tt, h)
   printable_members (member name d ms) ts told h =
-      let rest = tree.members_tokens (members_outline ms) in
-      (tt, subst ArePrintable (sym (append_assoc (tree.json_tokens (outline d)) rest ts))
-      (printable d (rest ++ ts) told.0 (printable_members ms ts told.1 h)))
+      let rest = tree.members_tokens (members_outline ms) in (
+        tt,
+        subst ArePrintable (sym (append_assoc (tree.json_tokens (outline d)) rest ts))
+            (printable d (rest ++ ts) told.0 (printable_members ms ts told.1 h)),
+      )
 
 no_tokens : ArePrintable []
 unfolding ArePrintable

@@ -1,4 +1,5 @@
--- The lines of a dump: health checks, collections, zones and sets, an object of one member each (own).
+-- The lines of a dump: health checks, collections, zones and sets, each an object of one member
+-- (own).
 use Rattle.std.specs.Prelude.{ℕ, List, [], ◌∷◌, ◌++◌, codes, decimal, map}
 use Rattle.std.specs.Net.Text.{ipv4_text}
 use Rattle.address_text.specs.Spelling.{colon_hex}

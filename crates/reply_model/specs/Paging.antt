@@ -1,5 +1,5 @@
--- Which sets of a zone a list gives (API Reference, ListResourceRecordSets): those that are not before a
--- start, in zone order and at most so many, and the one from which the list would go on.
+-- Which sets of a zone a list gives (API Reference, ListResourceRecordSets): those that are not
+-- before a start, in zone order and at most so many, and the one from which it would go on.
 use Rattle.std.specs.Prelude.{ℕ, List, Bool, true, false, not, take, slice_get}
 use Rattle.std.specs.Prelude.{Option, None, Some}
 use Rattle.std.specs.List.{filter}
@@ -59,4 +59,5 @@ next_of start items sets = slice_get (from_start start sets) items
 
 -- the reply to ListResourceRecordSets of a zone with these sets
 abbrev pub page_reply : (zone : ℕ) → Start → (items : ℕ) → (sets : List RecordSet) → Data
-page_reply zone start items sets = list_reply zone (page start items sets) (next_of start items sets)
+page_reply zone start items sets =
+    list_reply zone (page start items sets) (next_of start items sets)

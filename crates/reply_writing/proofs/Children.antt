@@ -20,6 +20,6 @@ child_more before children i h =
     (lt-ltb 0 (i + 1) (omega arith))
     ∙ append_assoc before (comma_if (nat_lt 0 i) ++ child) rest
     ∙ ap (λ t. before ++ t) (
-      append_assoc (comma_if (nat_lt 0 i)) child rest
-      ∙ ap (λ k. comma_if (nat_lt 0 i) ++ (child ++ items_text true (items_of (map check_text (drop k children))))) (add-one i)
-      ∙ ap (λ xs. items_text (nat_lt 0 i) (items_of (map check_text xs))) (sym (drop-cons children i 0 h)))
+    append_assoc (comma_if (nat_lt 0 i)) child rest
+    ∙ ap (λ k. comma_if (nat_lt 0 i) ++ (child ++ items_text true (items_of (map check_text (drop k children))))) (add-one i)
+    ∙ ap (λ xs. items_text (nat_lt 0 i) (items_of (map check_text xs))) (sym (drop-cons children i 0 h)))

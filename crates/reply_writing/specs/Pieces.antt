@@ -129,7 +129,8 @@ list_closing (Some alias) = []
 
 abbrev pub early_policy : Routing → List ℕ
 early_policy policy =
-    led (text_of m.CidrRoutingConfig) (cidr_data policy) ++ (led (text_of m.Failover) (failover_data policy)
+    led (text_of m.CidrRoutingConfig) (cidr_data policy)
+    ++ (led (text_of m.Failover) (failover_data policy)
     ++ led (text_of m.GeoLocation) (place_data policy))
 
 -- what stands before the values of a set
@@ -153,7 +154,8 @@ value_piece later rtype wire =
     comma_if later ++ compact_text (value_object (record { rtype = rtype; wire = wire }))
 
 -- what stands behind the values of a set
-unfoldable pub rest_text : (alias : Option (List (List ℕ) × Bool)) → Routing → (ttl : ℕ) → RType → List ℕ
+unfoldable pub rest_text : (alias : Option (List (List ℕ) × Bool)) → Routing → (ttl : ℕ) → RType
+    → List ℕ
 rest_text alias policy ttl rtype =
     list_closing alias
     ++ (trailed (text_of m.SetIdentifier) (ident_data (ident_of policy))
@@ -177,7 +179,8 @@ set_pieces later zone set =
 -- ---- the pieces of a list: what stands before its sets, the sets, what stands behind them
 
 abbrev pub list_front : (next : Option SetKey) → List ℕ
-list_front None = codes "{\"IsTruncated\":false,\"Ok\":\"ListResourceRecordSets\",\"ResourceRecordSets\":["
+list_front None =
+    codes "{\"IsTruncated\":false,\"Ok\":\"ListResourceRecordSets\",\"ResourceRecordSets\":["
 list_front (Some next) =
     codes "{\"IsTruncated\":true," ++ (led (codes "NextRecordIdentifier") (ident_data next.ident)
     ++ (codes "\"NextRecordName\":" ++ (quoted (names.text_of next.name)

@@ -17,10 +17,7 @@ use json_text::{put, put_flag, put_number};
 pub const MOST_OF_CHECK: usize = 32_768;
 
 /// Appends the line of a zone. The room is that of any reply.
-#[tactic(
-    auto,
-    unfolding(reply_model::specs::Dump::zone_line, reply_model::specs::Json::line_of)
-)]
+#[tactic(auto, unfolding(reply_model::specs::Dump::zone_line, reply_model::specs::Json::line_of))]
 pub fn write_zone_line(id: u32, name: &Name, into: &mut Vec<u8>)
     requires { vec_len into.old + 8192 ≤ vec_capacity into.old }
     ensures text { into.new.items ≡ into.old.items ++ zone_line id name.now }
@@ -32,10 +29,7 @@ pub fn write_zone_line(id: u32, name: &Name, into: &mut Vec<u8>)
 }
 
 /// Appends the line of a health check.
-#[tactic(
-    auto,
-    unfolding(reply_model::specs::Dump::check_line, reply_model::specs::Json::line_of)
-)]
+#[tactic(auto, unfolding(reply_model::specs::Dump::check_line, reply_model::specs::Json::line_of))]
 pub fn write_check_line(id: u32, check: &Check, into: &mut Vec<u8>)
     requires bounded { IsBounded check.now }
     requires room { vec_len into.old + MOST_OF_CHECK ≤ vec_capacity into.old }
@@ -113,7 +107,14 @@ fn put_check(id: u32, check: &Check, into: &mut Vec<u8>)
             inverted,
             disabled,
             children,
-        } => put_calculated(id, *threshold, *inverted, *disabled, children.as_slice(), into),
+        } => put_calculated(
+            id,
+            *threshold,
+            *inverted,
+            *disabled,
+            children.as_slice(),
+            into,
+        ),
     }
 }
 
@@ -148,7 +149,8 @@ fn put_calculated(
     requires children { length children.now ≤ 255 }
     requires room { vec_len into.old + 31_000 ≤ vec_capacity into.old }
     ensures text { into.new.items ≡ into.old.items
-        ++ compact_text (check_object id (check.Calculated threshold inverted disabled children.now)) }
+        ++ compact_text (check_object id
+        (check.Calculated threshold inverted disabled children.now)) }
     ensures len { vec_len into.new ≤ vec_len into.old + 31_000 }
     ensures room { vec_capacity into.old ≤ vec_capacity into.new }
 {

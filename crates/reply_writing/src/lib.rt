@@ -15,9 +15,7 @@ mod refusals;
 mod sets;
 mod words;
 
-pub use dump::{
-    MOST_OF_CHECK, begin_set_line, end_set_line, write_check_line, write_zone_line,
-};
+pub use dump::{MOST_OF_CHECK, begin_set_line, end_set_line, write_check_line, write_zone_line};
 pub use laws::{lists_are_whole, set_lines_are_whole, sets_are_whole};
 pub use lists::{begin_list, end_list};
 pub use outcomes::{MOST_REPLY, write_answer, write_outcome, write_silence};
