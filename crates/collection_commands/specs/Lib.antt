@@ -1,0 +1,2 @@
+pub mod Named
+pub use Rattle.config_zones.specs.Configured
