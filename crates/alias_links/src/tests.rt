@@ -121,6 +121,15 @@ fn key(rt: &impl Abort, letter: u8) -> SetKey {
     }
 }
 
+/// Stops unless the change is allowed.
+fn allow(rt: &impl Abort, zones: &Zones, remove: &[SetKey], add: &[RecordSet])
+    ensures { IsAllowed zones.now.zones (Change 1 remove.now add.now) }
+{
+    if !is_change_allowed(zones, 1, remove, add) {
+        panic!(rt; "a change that is allowed");
+    }
+}
+
 /// Whether a change empties a group, and the first letters that lead to no set or too far.
 fn told(
     rt: &impl Abort,
@@ -129,11 +138,12 @@ fn told(
     letter: Option<u8>,
     set: Option<RecordSet>,
 ) -> (bool, Option<u8>, Option<u8>) {
-    let remove = go(rt, alloc, letter);
-    let add = come(rt, alloc, set);
-    let allowed = is_change_allowed(zones, 1, remove.as_slice(), add.as_slice());
-    assert!(rt; allowed, "a change");
-    ask(rt, alloc, zones, remove.as_slice(), add.as_slice())
+    let keys = go(rt, alloc, letter);
+    let sets = come(rt, alloc, set);
+    let remove = keys.as_slice();
+    let add = sets.as_slice();
+    allow(rt, zones, remove, add);
+    ask(rt, alloc, zones, remove, add)
 }
 
 /// The same for keys that go and sets that come.
