@@ -86,7 +86,7 @@ spelled : (version : ℕ) (check : Check)
 spelled version (Endpoint threshold inverted disabled) = refl
 spelled version (Calculated threshold inverted disabled children) = refl
 
-check_read : (version : ℕ)
+pub check_read : (version : ℕ)
     → IsReadAs (IsSpelledCheck version) (check_octets version) (check_at version)
 unfolding check_at
 check_read version =

@@ -92,7 +92,7 @@ given_children_read = optional_read any_children_read
 -- ---- what a version tells
 
 -- a field that stands there where it is told
-told_read : {A : Type 0} {is : A → Type 0} {octets_of : A → List ℕ} {read : Reader A}
+pub told_read : {A : Type 0} {is : A → Type 0} {octets_of : A → List ℕ} {read : Reader A}
     (told : Bool) (left : A) → IsReadAs is octets_of read → ((x : A) → is x)
     → IsReadAs (λ x. told ≡ false → x ≡ left) (λ x. where_told told (octets_of x))
     (told_at told left read)

@@ -28,8 +28,8 @@ module _ (table : Table) (given : CidrCommand) (checks : Checks) (next : ℕ) wh
   config = config_of table checks next
 
   pub made_whole : (collections : Stored) → collections ≡ table.collections → (used : Used)
-      → ((stored : Stored) → answer stored given used
-      ≡ answer stored given (used_by (hosted_in table.zones)))
+      → answer table.collections given used
+      ≡ answer table.collections given (used_by (hosted_in table.zones))
       → (named : Used) → named ≡ used → (after : Stored)
       → GivesWhere (MayWant collections given named) (Ok after) (answer collections given named)
       → IsEditFor config (command.Cidr given) table (Collections after)
@@ -37,7 +37,7 @@ module _ (table : Table) (given : CidrCommand) (checks : Checks) (next : ℕ) wh
       let e : Ok after ≡ answer table.collections given (used_by (hosted_in table.zones)) =
       answered (MayWant collections given named) after (answer collections given named) gives
       ∙ (ap (λ (s : Stored). answer s given named) same
-      ∙ (ap (answer table.collections given) is ∙ as_all table.collections)) in (
+      ∙ (ap (answer table.collections given) is ∙ as_all)) in (
         record config { collections = after },
         made_collection table.collections given,
         ap (with_collections config (made_collection table.collections given)) e,
@@ -47,4 +47,5 @@ module _ (table : Table) (given : CidrCommand) (checks : Checks) (next : ℕ) wh
           collections = refl;
           least = tt;
         },
+        refl,
       )

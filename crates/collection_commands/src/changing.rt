@@ -4,7 +4,6 @@
 ghost use Rattle.std.specs.Prelude.{◌≡◌, ℕ, IfOk};
 ghost use Rattle.check_model.specs.Checks.{Checks};
 ghost use Rattle.cidr_commands.specs.Commands.{HasNames, answer};
-ghost use Rattle.cidr_commands.specs.Stored.{Stored};
 ghost use Rattle.command_octets.specs.declared.commands.Command.TheVariants.{Cidr};
 ghost use Rattle.config_edits.specs.Laws.{hosted_in};
 ghost use Rattle.config_model.specs.Others.{used_by};
@@ -20,7 +19,7 @@ use zone_table::{Scratch, ZoneEdit, Zones};
 /// The edit by which collections come to be what a command makes of them, or why it is refused.
 /// What the scratch holds afterwards is left open.
 ///
-/// But for a new collection it goes through the sets of all zones.
+/// But for a new collection, and one that isn't there, it goes through the sets of all zones.
 pub fn change_collections(
     alloc: Global,
     zones: &Zones,
@@ -40,18 +39,24 @@ pub fn change_collections(
     }
 }
 
-/// What sets name, as far as the command asks for it: a new collection is named by no set.
+/// What sets name, as far as the command asks for it: a new collection is named by no set, and one
+/// that isn't there is refused whatever they name.
 fn used_for(
     alloc: Global,
     zones: &Zones,
     command: &CidrCommand,
     scratch: &mut Scratch,
 ) -> Result<Vec<(u32, Ident)>, OutOfMemory>
-    ensures { IfOk result (λ used. (stored : Stored) → answer stored command.now used.items
-        ≡ answer stored command.now (used_by (hosted_in zones.now.zones))) }
+    ensures { IfOk result (λ used. answer zones.now.collections command.now used.items
+        ≡ answer zones.now.collections command.now (used_by (hosted_in zones.now.zones))) }
 {
     match command {
         CidrCommand::Create(_) => Ok(Vec::new(alloc)),
-        CidrCommand::Change { .. } | CidrCommand::Delete(_) => used_by(alloc, zones, scratch),
+        CidrCommand::Change { id, .. } | CidrCommand::Delete(id) => {
+            if zones.collections().get(*id).is_none() {
+                return Ok(Vec::new(alloc));
+            }
+            used_by(alloc, zones, scratch)
+        }
     }
 }

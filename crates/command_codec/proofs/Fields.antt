@@ -181,7 +181,7 @@ module _ (written : set_laws.WrittenReadsBack) (told : set_laws.SetsAreTold) whe
   set_fault octets (Err place) left e =
       omega (arith, err_is {A = RecordSet × List ℕ} (length octets - place) left e)
 
-  set_read : IsReadAs IsSpelledSet set_octets set_at
+  pub set_read : IsReadAs IsSpelledSet set_octets set_at
   unfolding set_at
   set_read = record {
     again = λ set rest h.

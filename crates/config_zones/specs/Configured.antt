@@ -4,6 +4,7 @@ use Rattle.std.specs.Prelude.{◌≡◌, ℕ, List, Result, Ok, Err, ⊤}
 use Rattle.batch_edits.specs.Differences.{IsDifference}
 use Rattle.check_model.specs.Checks.{Checks}
 use Rattle.command_octets.specs.declared.commands.Command.{Command}
+use Rattle.command_octets.specs.declared.commands.Command.TheVariants as command
 use Rattle.config_edits.specs.Laws.{changed_in, hosted_in}
 use Rattle.config_model.specs.Applying.{Applies, Decides}
 use Rattle.config_model.specs.Configs.{Config}
@@ -11,7 +12,8 @@ use Rattle.config_model.specs.declared.refusals.Made.{Made}
 use Rattle.config_model.specs.declared.refusals.Refusal.{Refusal}
 use Rattle.zone_list.specs.Zones.{AreZones, Zone, placed_in}
 use Rattle.zone_model.specs.Placed.{sets_of}
-use Rattle.zone_table.specs.Edits.{Edits, IsAllowed, collections_after}
+use Rattle.zone_model.specs.Zones.{IsRising}
+use Rattle.zone_table.specs.Edits.{Edits, IsAllowed, collections_after, zone_of}
 use Rattle.zone_table.specs.Tables.{Table}
 use Rattle.zone_table.specs.declared.edits.ZoneEdit.{ZoneEdit}
 use Rattle.zone_table.specs.declared.edits.ZoneEdit.TheVariants as edit
@@ -27,10 +29,11 @@ config_of table checks next_zone = record {
 }
 
 -- A set that a change of a zone leaves as it is stands in neither of its lists; these are in zone
--- order.
+-- order, and so are the sets with which a zone is opened.
 abbrev pub IsLeast : List Zone → ZoneEdit → Type 0
 IsLeast zones (edit.Change zone remove add) =
     IsDifference (sets_of (placed_in zones zone)) (changed_in zones zone remove add) remove add
+IsLeast zones (edit.Open zone name sets) = IsRising sets
 IsLeast zones other = ⊤
 
 -- An edit of a table is allowed, makes of its zones and collections those of a configuration, and
@@ -42,18 +45,26 @@ pub record LeadsTo (table : Table) (made : ZoneEdit) (after : Config) : Type 0 w
   pub collections : collections_after made table.collections ≡ after.collections
   pub least : IsLeast table.zones made
 
--- The edit that makes what a command makes of a configuration.
+-- The zone that the edit of a command is about; 0, which is of none, where it is about none.
+abbrev pub zone_asked : Config → Command → ℕ
+zone_asked config (command.CreateZone name servers) = config.next_zone
+zone_asked config (command.DeleteZone id) = id
+zone_asked config (command.Change batch) = batch.zone
+zone_asked config (command.Health health) = 0
+zone_asked config (command.Cidr cidr) = 0
+
+-- The edit that makes what a command makes of a configuration, and is about the zone of the command.
 abbrev pub IsEditFor : Config → Command → Table → ZoneEdit → Type 0
-IsEditFor config command table made =
-    (after : Config) × (what : Made) × Decides config command (Ok (after, what))
-    × LeadsTo table made after
+IsEditFor config given table made =
+    (after : Config) × (what : Made) × Decides config given (Ok (after, what))
+    × LeadsTo table made after × (zone_of made ≡ zone_asked config given)
 
 -- It, or why the command is refused, where memory may be wanted.
 abbrev pub TellsEdit : Config → Command → Table → Result ZoneEdit Refusal → Type 0
-TellsEdit config command table (Ok made) = IsEditFor config command table made
-TellsEdit config command table (Err why) = Applies config command (Err why)
+TellsEdit config given table (Ok made) = IsEditFor config given table made
+TellsEdit config given table (Err why) = Applies config given (Err why)
 
 -- It, or why the command is refused, where no memory is taken.
 abbrev pub TellsEditOnly : Config → Command → Table → Result ZoneEdit Refusal → Type 0
-TellsEditOnly config command table (Ok made) = IsEditFor config command table made
-TellsEditOnly config command table (Err why) = Decides config command (Err why)
+TellsEditOnly config given table (Ok made) = IsEditFor config given table made
+TellsEditOnly config given table (Err why) = Decides config given (Err why)

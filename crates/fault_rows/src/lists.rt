@@ -3,12 +3,12 @@
 ghost use Rattle.set_scratch.specs.Holding.{IsHolding};
 
 use dns_name::Name;
+use list_writing::{
+    MOST_OF_SET, MOST_OF_VALUE, ValueText, begin_list, begin_set, end_list, end_set, write_value,
+};
 use rdata::{RData, RType};
 use record_set::{Body, RecordSet, SetKey, Values};
-use reply_writing::{
-    MOST_OF_SET, MOST_OF_VALUE, MOST_REPLY, ValueText, begin_list, begin_set, end_list, end_set,
-    write_value,
-};
+use reply_writing::MOST_REPLY;
 use routing::{Ident, Routing};
 use set_octets::has_spelling;
 use set_scratch::Scratch;

@@ -1,3 +1,4 @@
+mod Dumped
 mod Pages
 mod Refusals
 mod Sets

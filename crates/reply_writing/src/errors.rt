@@ -10,12 +10,12 @@ ghost use Rattle.reply_model.specs.Json.{collection_text, count, field};
 ghost use Rattle.serde_json.specs.Data.{string};
 ghost use Rattle.serde_json.specs.Written.{compact_text};
 
-use crate::words::{put_id, put_member, put_name, put_type};
 use dns_name::Name;
 use json_text::{put, put_number, put_quoted};
 use line_faults::Member;
 use rdata_layout::RType;
 use record_set::SetKey;
+use reply_words::{put_id, put_member, put_name, put_type};
 
 /// An error of which nothing else is told.
 pub(crate) fn write_error(name: &[u8], number: u64, into: &mut Vec<u8>)

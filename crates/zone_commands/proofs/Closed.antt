@@ -61,4 +61,5 @@ module _ (table : Table) (id : ℕ) (checks : Checks) (next : ℕ) (found : Zone
         collections = refl;
         least = tt;
       },
+      refl,
     )

@@ -208,8 +208,9 @@ module _ (table : Table) (next : ℕ) (name : List (List ℕ)) (servers : List (
                 edits.opened table.zones zones next name sets delta are are_after below
                 own.sets.rising made_it;
             collections = refl;
-            least = tt;
+            least = own.sets.rising;
           },
+          refl,
         )
 
 -- ---- room before

@@ -13,6 +13,7 @@ ghost use Rattle.config_model.specs.Telling.{first_of, invalid, rule};
 ghost use Rattle.config_model.specs.declared.refusals.InputReason.TheVariants as reason;
 ghost use Rattle.config_model.specs.declared.refusals.Refusal.TheVariants as refusal;
 ghost use Rattle.config_zones.specs.Configured.{TellsEdit, config_of};
+ghost use Rattle.dns_name.specs.Names.{IsName};
 ghost use Rattle.dns_name.specs.Order.{same_labels};
 ghost use Rattle.set_octets.specs.Octets.{HasSpelling, set_octets};
 ghost use Rattle.zone_table.specs.Counted.{octets_in_all, sets_in_all};
@@ -45,11 +46,11 @@ pub fn create_zone(
     servers: &[Name; 4],
 ) -> Result<ZoneEdit, Refusal>
     requires sound { (checks : Checks) × Sound (config_of zones.now checks next) }
-    requires bounded { IsBounded (CreateZone name.now servers.now) }
     ensures { (checks : Checks) → Sound (config_of zones.now checks next)
         → TellsEdit (config_of zones.now checks next) (CreateZone name.now servers.now) zones.now
         result }
 {
+    are_names(name, servers);
     counts_agree();
     edits_are_told();
     one_name_of_a_wire();
@@ -69,6 +70,24 @@ pub fn create_zone(
         name: *name,
         sets: Sets::from_vec(sets),
     })
+}
+
+/// The name of a zone and those of its servers are names.
+fn are_names(name: &Name, servers: &[Name; 4])
+    ensures { IsBounded (CreateZone name.now servers.now) }
+{
+    name.well_formed();
+    four_names(servers);
+}
+
+/// Servers have names.
+fn four_names(servers: &[Name; 4])
+    ensures names { AllByRecursion IsName servers.now }
+    ensures four { length servers.now ≡ 4 }
+{
+    for server in servers {
+        server.well_formed();
+    }
 }
 
 /// The first refusal of a new zone, but for the bounds of all zones' sets.

@@ -1,7 +1,7 @@
 use Rattle.std.proofs.Common.{codes, ◌∷◌}
 use Rattle.json.specs.Print.{escape_byte, quoted}
 use Rattle.std.specs.Fmt.{decimal}
-use Rattle.reply_writing.proofs.Chains.{pieces_7}
+use Rattle.reply_words.proofs.Chains.{pieces_7}
 use Rattle.reply_writing.proofs.errors.write_error_of_check.Goals as goal
 
 pub returns-clause-text : goal.returns-clause-text

@@ -3,7 +3,7 @@ use Rattle.json.specs.Print.{escape_byte, quoted}
 use Rattle.std.specs.Fmt.{decimal}
 use Rattle.dns_name.specs.Written as names
 use Rattle.rdata_layout.specs.Types as types
-use Rattle.reply_writing.proofs.Chains.{pieces_9}
+use Rattle.reply_words.proofs.Chains.{pieces_9}
 use Rattle.reply_writing.proofs.errors.write_error_of_group.Goals as goal
 
 pub returns-clause-text : goal.returns-clause-text

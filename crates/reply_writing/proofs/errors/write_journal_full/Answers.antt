@@ -2,7 +2,7 @@ use Rattle.std.proofs.Common.{codes}
 use Rattle.json.specs.Print.{escape_byte}
 use Rattle.std.specs.Fmt.{digits}
 use Rattle.std.specs.Fmt.{decimal}
-use Rattle.reply_writing.proofs.Chains.{pieces_3}
+use Rattle.reply_words.proofs.Chains.{pieces_3}
 use Rattle.reply_writing.proofs.errors.write_journal_full.Goals as goal
 
 pub returns-clause-text : goal.returns-clause-text

@@ -3,7 +3,7 @@ use Rattle.json.specs.Print.{escape_byte, quoted}
 use Rattle.std.specs.Fmt.{digits}
 use Rattle.std.specs.Fmt.{decimal}
 use Rattle.line_faults.specs.Texts as members
-use Rattle.reply_writing.proofs.Chains.{pieces_5}
+use Rattle.reply_words.proofs.Chains.{pieces_5}
 use Rattle.reply_writing.proofs.errors.write_unsupported_change.Goals as goal
 
 pub returns-clause-text : goal.returns-clause-text

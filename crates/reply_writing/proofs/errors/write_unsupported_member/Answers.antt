@@ -2,7 +2,7 @@ use Rattle.std.proofs.Common.{codes}
 use Rattle.json.specs.Print.{escape_byte, quoted}
 use Rattle.std.specs.Fmt.{digits}
 use Rattle.line_faults.specs.Texts as members
-use Rattle.reply_writing.proofs.Chains.{pieces_3}
+use Rattle.reply_words.proofs.Chains.{pieces_3}
 use Rattle.reply_writing.proofs.errors.write_unsupported_member.Goals as goal
 
 pub returns-clause-text : goal.returns-clause-text

@@ -3,8 +3,8 @@ use Rattle.json.specs.Print.{escape_byte}
 use Rattle.std.specs.Fmt.{decimal}
 use Rattle.serde_json.specs.Data.{string}
 use Rattle.serde_json.specs.Written.{compact_text}
-use Rattle.reply_writing.specs.Pieces.{id_object}
-use Rattle.reply_writing.proofs.Chains.{pieces_3}
+use Rattle.reply_words.specs.Pieces.{id_object}
+use Rattle.reply_words.proofs.Chains.{pieces_3}
 use Rattle.reply_writing.proofs.outcomes.write_check_made.Goals as goal
 
 pub returns-clause-text : goal.returns-clause-text

@@ -1,7 +1,7 @@
 use Rattle.std.proofs.Common.{codes}
 use Rattle.json.specs.Print.{escape_byte, quoted}
 use Rattle.line_faults.specs.Texts as members
-use Rattle.reply_writing.proofs.Chains.{pieces_3}
+use Rattle.reply_words.proofs.Chains.{pieces_3}
 use Rattle.reply_writing.proofs.outcomes.write_done.Goals as goal
 
 pub returns-clause-text : goal.returns-clause-text

@@ -1,7 +1,7 @@
 use Rattle.std.proofs.Common.{codes}
 use Rattle.json.specs.Print.{escape_byte, quoted}
 use Rattle.hex.specs.Hex.{encode_lower}
-use Rattle.reply_writing.proofs.Chains.{pieces_3}
+use Rattle.reply_words.proofs.Chains.{pieces_3}
 use Rattle.reply_writing.proofs.outcomes.write_octets.Goals as goal
 
 pub returns-clause-text : goal.returns-clause-text

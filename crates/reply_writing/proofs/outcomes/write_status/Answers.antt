@@ -2,7 +2,7 @@ use Rattle.std.proofs.Common.{codes}
 use Rattle.json.specs.Print.{escape_byte, token_text}
 use Rattle.std.specs.Fmt.{decimal}
 use Rattle.json.specs.Token as token
-use Rattle.reply_writing.proofs.Chains.{pieces_5}
+use Rattle.reply_words.proofs.Chains.{pieces_5}
 use Rattle.reply_writing.proofs.outcomes.write_status.Goals as goal
 
 pub returns-clause-text : goal.returns-clause-text

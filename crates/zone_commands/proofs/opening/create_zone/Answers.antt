@@ -17,7 +17,7 @@ returns-in-Some c = λ checks sound.
 
 pub is_over_with-requires-clause-spelled : goal.is_over_with-requires-clause-spelled
 is_over_with-requires-clause-spelled c =
-    let bounded = c.requires.bounded in
+    let bounded = c.are_names.ensures in
     let its = own c.args.zones.now c.args.next c.args.name.now c.args.servers.now
     c.requires.sound.0 c.in_default.ensures c.one_name_of_a_wire.ensures
     c.refusals_are_told.ensures bounded.0 bounded.1 bounded.2 in
@@ -37,7 +37,7 @@ returns-then-is_over_with c = λ checks sound.
 pub returns : goal.returns
 returns c = λ checks sound.
     let zones = c.args.zones.now.zones in
-    let bounded = c.requires.bounded in
+    let bounded = c.are_names.ensures in
     let over = sym (ap (λ (l : List RecordSet). is_over (sets_in_all zones + length l)
     (octets_in_all zones + sum_by (λ set. length (set_octets set)) l))
     (c.as_slice.ensures.value ∙ c.in-Ok.ensures)) in

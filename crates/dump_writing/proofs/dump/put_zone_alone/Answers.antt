@@ -1,0 +1,13 @@
+use Rattle.std.proofs.Common.{codes}
+use Rattle.json.specs.Print.{escape_byte}
+use Rattle.reply_model.specs.Dump.{zone_object}
+use Rattle.serde_json.specs.Written.{compact_text}
+use Rattle.reply_words.proofs.Chains.{pieces_3}
+use Rattle.dump_writing.proofs.dump.put_zone_alone.Goals as goal
+
+pub returns-clause-text : goal.returns-clause-text
+unfolding escape_byte
+returns-clause-text c =
+    pieces_3 c.args.into.now.items (codes "{\"HostedZone\":")
+    (compact_text (zone_object c.args.id c.args.name.now)) (codes "}") c.put.ensures.text
+    c.put_zone.ensures.text c.put-2.ensures.text

@@ -1,0 +1,10 @@
+use Rattle.std.proofs.Common.{codes}
+use Rattle.json.specs.Print.{escape_byte, quoted}
+use Rattle.reply_words.proofs.Chains.{pieces_3}
+use Rattle.list_writing.proofs.lists.put_ident_text.Goals as goal
+
+pub returns-clause-text : goal.returns-clause-text
+unfolding escape_byte
+returns-clause-text c =
+    pieces_3 c.args.into.now.items (codes "\"NextRecordIdentifier\":") (quoted c.args.ident.now)
+    (codes ",") c.put.ensures.text c.put_quoted.ensures.text c.put-2.ensures.text

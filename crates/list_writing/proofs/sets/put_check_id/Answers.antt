@@ -1,0 +1,12 @@
+use Rattle.std.proofs.Common.{codes, ◌∷◌}
+use Rattle.json.specs.Print.{escape_byte, quoted}
+use Rattle.std.specs.Fmt.{decimal}
+use Rattle.reply_words.proofs.Chains.{pieces_3}
+use Rattle.list_writing.proofs.sets.put_check_id.Goals as goal
+
+pub returns-clause-text : goal.returns-clause-text
+unfolding escape_byte
+returns-clause-text c =
+    pieces_3 c.args.into.now.items (codes "\"HealthCheckId\":")
+    (quoted (104 ∷ decimal c.args.check)) (codes ",") c.put.ensures.text c.put_id.ensures.text
+    c.put-2.ensures.text

@@ -1,5 +1,0 @@
-use Rattle.reply_writing.proofs.Whole.{list_is_whole}
-use Rattle.reply_writing.proofs.laws.lists_are_whole.Goals as goal
-
-pub returns : goal.returns
-returns c = list_is_whole

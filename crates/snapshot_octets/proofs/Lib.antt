@@ -1,0 +1,4 @@
+pub mod Fields
+pub mod Sound
+pub mod Told
+pub mod Vectors

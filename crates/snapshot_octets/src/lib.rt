@@ -1,0 +1,9 @@
+//! The octets of a whole configuration: a snapshot, with which a journal file begins.
+//!
+//! There are three versions. The first is that of an earlier server, whose checks couldn't be
+//! disabled; the second is written as long as there never was a collection, and else the third.
+#![tactic(auto)]
+
+mod laws;
+
+pub use laws::{one_configuration, snapshots_are_told, snapshots_read_back, sound_have_snapshots};
