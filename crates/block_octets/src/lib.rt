@@ -12,4 +12,4 @@ pub use cidr_commands::CidrCommand;
 pub use ip_table::IpPrefix;
 pub use octets::OutOfMemory;
 pub use spelling::has_cidr_spelling;
-pub use writing::write_cidr_command;
+pub use writing::{write_blocks, write_cidr_command, write_name};

@@ -22,7 +22,7 @@ pub fn write_cidr_command(command: &CidrCommand, into: &mut Vec<u8>) -> Result<(
     match command {
         CidrCommand::Create(name) => {
             append(&[7], into)?;
-            append_name(name, into)
+            write_name(name, into)
         }
         CidrCommand::Change { id, changes } => {
             append(&[8], into)?;
@@ -37,7 +37,7 @@ pub fn write_cidr_command(command: &CidrCommand, into: &mut Vec<u8>) -> Result<(
 }
 
 /// Appends a name behind its length.
-fn append_name(name: &Ident, into: &mut Vec<u8>) -> Result<(), OutOfMemory>
+pub fn write_name(name: &Ident, into: &mut Vec<u8>) -> Result<(), OutOfMemory>
     ensures { OnOk result (into.new.items ≡ into.old.items ++ text_octets name.now) }
 {
     let bytes = name.bytes();
@@ -74,9 +74,8 @@ fn append_change(change: &CidrChange, into: &mut Vec<u8>) -> Result<(), OutOfMem
     ensures { OnOk result (into.new.items ≡ into.old.items ++ change_octets change.now) }
 {
     append(&[put_number(change.put)], into)?;
-    append_name(&change.location, into)?;
-    append(&two_octets(change.blocks.as_slice().len() as u16), into)?;
-    append_blocks(change.blocks.as_slice(), into)
+    write_name(&change.location, into)?;
+    write_blocks(change.blocks.as_slice(), into)
 }
 
 /// The number of what a change does.
@@ -84,6 +83,16 @@ fn put_number(put: bool) -> u8
     ensures { result ≡ put_number put }
 {
     if put { 1 } else { 2 }
+}
+
+/// Appends the number of blocks, and these.
+pub fn write_blocks(blocks: &[IpPrefix], into: &mut Vec<u8>) -> Result<(), OutOfMemory>
+    requires { length blocks.now < 2 ^ 16 }
+    ensures { OnOk result (into.new.items
+        ≡ into.old.items ++ list_octets block_octets blocks.now) }
+{
+    append(&two_octets(blocks.len() as u16), into)?;
+    append_blocks(blocks, into)
 }
 
 /// Appends blocks one behind another.

@@ -10,4 +10,4 @@ mod writing;
 pub use check_model::{Check, CheckCommand, Children};
 pub use octets::OutOfMemory;
 pub use spelling::has_check_spelling;
-pub use writing::write_check_command;
+pub use writing::{write_check, write_check_command};

@@ -20,7 +20,7 @@ pub fn write_check_command(command: &CheckCommand, into: &mut Vec<u8>) -> Result
     match command {
         CheckCommand::Create(check) => {
             append(&[4], into)?;
-            append_check(check, into)
+            write_check(check, into)
         }
         CheckCommand::Update {
             id,
@@ -43,8 +43,8 @@ pub fn write_check_command(command: &CheckCommand, into: &mut Vec<u8>) -> Result
     }
 }
 
-/// Appends a check.
-fn append_check(check: &Check, into: &mut Vec<u8>) -> Result<(), OutOfMemory>
+/// Appends a check, in version 2.
+pub fn write_check(check: &Check, into: &mut Vec<u8>) -> Result<(), OutOfMemory>
     requires { IsBounded check.now }
     ensures { OnOk result (into.new.items ≡ into.old.items ++ check_octets 2 check.now) }
 {

@@ -84,6 +84,14 @@ impl Collections {
         id_after(&self.list, id)
     }
 
+    /// The collections by rising numbers, each with its own.
+    pub fn as_slice(&self) -> &[(u32, Collection)]
+        ensures collections { result.now ≡ self.now.list }
+        ensures sound { IsSound self.now }
+    {
+        &self.list
+    }
+
     /// The number that the next collection gets.
     pub fn next_number(&self) -> u32
         ensures number { result ≡ self.now.next }

@@ -5,31 +5,14 @@ ghost use Rattle.std.specs.List.{AllByRecursion, sum_by};
 ghost use Rattle.config_model.specs.Batches.{is_over};
 ghost use Rattle.set_octets.specs.Octets.{HasSpelling, set_octets};
 
-use crate::laws::zones_follow;
 use record_set::RecordSet;
 use set_octets::set_len;
-use zone_table::Zones;
 
 /// The most sets of all zones.
 const MAX_SETS: u64 = 100_000;
 
 /// The most octets of the sets of all zones.
 const MAX_OCTETS: u64 = 67_108_864;
-
-/// How many zones there are.
-pub fn zone_count(zones: &Zones) -> usize
-    ensures { result ≡ length zones.now.zones }
-{
-    zones_follow();
-    zones.well_formed();
-    let mut count = 0;
-    let mut last = 0;
-    while let Some(zone) = zones.zone_after(last) {
-        count += 1;
-        last = zone;
-    }
-    count
-}
 
 /// How many octets sets have, which are no more than there may be in a zone.
 pub fn octets_in(sets: &[RecordSet]) -> u64

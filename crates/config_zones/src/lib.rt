@@ -9,6 +9,6 @@ mod counting;
 mod laws;
 mod looking;
 
-pub use counting::{is_over, octets_in, zone_count};
+pub use counting::{is_over, octets_in};
 pub use laws::{counts_agree, zones_are_found, zones_follow};
 pub use looking::{check_at, hold_at};

@@ -20,7 +20,7 @@ ghost use Rattle.zone_table.specs.Counted.{octets_in_all, sets_in_all};
 
 use config_edits::{edits_are_told, new_sets};
 use config_model::{InputReason, Refusal, refusals_are_told};
-use config_zones::{counts_agree, is_over, octets_in, zone_count, zones_are_found};
+use config_zones::{counts_agree, is_over, octets_in, zones_are_found};
 use dns_name::{Name, one_name_of_a_wire};
 use octets::OutOfMemory;
 use record_set::RecordSet;
@@ -110,7 +110,7 @@ fn named_refusal(zones: &Zones, next: u32, name: &Name, servers: &[Name]) -> Opt
     if has_zone(zones, name) {
         return Some(invalid(InputReason::ZoneExists));
     }
-    if zone_count(zones) >= MAX_ZONES {
+    if zones.len() >= MAX_ZONES {
         return Some(Refusal::TooManyHostedZones);
     }
     if next == LAST {

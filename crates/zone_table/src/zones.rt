@@ -107,6 +107,13 @@ impl Zones {
         self.store.slots();
     }
 
+    /// How many zones there are.
+    pub fn len(&self) -> usize
+        ensures { result ≡ length self.now.zones }
+    {
+        self.list.len()
+    }
+
     /// How many slots there are, in use or free: what an array over slots has room for.
     pub fn slots(&self) -> usize
         ensures { result ≡ self.now.slots }
