@@ -1,0 +1,6 @@
+mod Changed
+mod Counted
+mod Firsts
+mod Fullness
+mod Linked
+mod Sums
