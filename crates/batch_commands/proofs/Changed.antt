@@ -287,6 +287,7 @@ module _ (table : Table) (checks : Checks) (next : ℕ) (given : Batch) where
           collections = refl;
           least = difference;
         },
+        refl,
       )
 
     -- ---- an edit, told by its two lists
