@@ -1,5 +1,5 @@
 -- Gates before they are laid: what opens each, and which feeds which.
-use Rattle.std.specs.Prelude.{◌≤◌, ◌<◌, ◌+◌, ◌^◌, ◌==◌, ℕ, false, List, [], ◌∷◌, Option, None, Some, All, length, slice_get, if◌then◌else◌}
+use Rattle.std.specs.Prelude.{◌≡◌, ◌≤◌, ◌<◌, ◌+◌, ◌^◌, ◌==◌, ℕ, false, List, [], ◌∷◌, Option, None, Some, All, length, slice_get, if◌then◌else◌}
 use Rattle.health_gates.specs.Gates.{Net, Rule}
 use Rattle.health_gates.specs.declared.plan.Link.{Link}
 use Rattle.health_gates.specs.declared.plan.Shape.{Shape}
@@ -10,6 +10,15 @@ pub record Planned : Type 0 where
   pub links : List Link
   pub room : ℕ
   pub links_room : ℕ
+
+-- nothing is planned
+abbrev pub no_plan : Planned
+no_plan = record { shapes = []; links = []; room = 0; links_room = 0 }
+
+-- in all as many gates and links have room as before
+pub record KeepsRoom (before after : Planned) : Type 0 where
+  pub gates : after.room + length after.shapes ≡ before.room + length before.shapes
+  pub links : after.links_room + length after.links ≡ before.links_room + length before.links
 
 -- what feeds a gate
 abbrev pub feeders_in : List Link → ℕ → List ℕ

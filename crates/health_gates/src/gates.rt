@@ -6,7 +6,7 @@ ghost use Rattle.std.specs.Prelude.{List, false, if◌then◌else◌, length, sl
 ghost use Rattle.std.specs.Prelude.{OnOk};
 ghost use Rattle.std.specs.List.Sorted.{IsNonDecreasingBy, IsPermutation};
 ghost use Rattle.health_gates.specs.Laying.{HasRoomFor};
-ghost use Rattle.health_gates.specs.Plan.{IsPlanned, Planned, net_in, own_in};
+ghost use Rattle.health_gates.specs.Plan.{IsPlanned, Planned, net_in, no_plan, own_in};
 ghost use Rattle.health_gates.specs.Walk.{PathsEnd};
 ghost use Rattle.health_gates.specs.declared.plan.Link.{Link};
 ghost use Rattle.health_gates.specs.Gates.{Feeds, Fits, IsReady, MeetsEquation, Net, count};
@@ -18,6 +18,7 @@ ghost use Rattle.health_gates.specs.Pass.{MeetBehind, MeetOutside, TurnsOnly, wa
 use crate::cone::{list_all, list_cone};
 use crate::laying::{lay_counts, lay_edges, lay_none, lay_rows};
 use crate::plan::Plan;
+use crate::room::make_room;
 use crate::steps::Steps;
 use crate::writes::{fed_by, is_open, work_out};
 use octets::OutOfMemory;
@@ -52,7 +53,8 @@ pub struct Gates {
 impl Gates {
     /// No gates.
     pub fn new(alloc: Global) -> Gates
-        ensures { IsIdle result }
+        ensures idle { IsIdle result }
+        ensures fits { Fits (net_in no_plan) (own_in no_plan) result }
     {
         Gates {
             rows: Vec::new(alloc),
@@ -64,30 +66,32 @@ impl Gates {
         }
     }
 
-    /// Makes room for a plan of so many gates and links. The gates stay as they are.
+    /// Makes room for a plan of so many gates and links in all. The gates stay as they are.
     pub fn reserve(&mut self, gates: usize, links: usize) -> Result<(), OutOfMemory>
         ensures room { OnOk result (HasRoomFor self.new gates links) }
+        ensures kept { (n m : ℕ) → HasRoomFor self.old n m → HasRoomFor self.new n m }
         ensures stays { (net : Net) (own : ℕ → ℕ) → Fits net own self.old → Fits net own self.new }
         ensures meet { (net : Net) (own : ℕ → ℕ) → MeetAll net own self.old
             → MeetAll net own self.new }
         ensures idle { IsIdle self.old → IsIdle self.new }
+        ensures values { self.new.values.items ≡ self.old.values.items }
     {
-        let Ok(()) = self.rows.reserve(gates) else {
+        let Ok(()) = make_room(&mut self.rows, gates) else {
             return Err(OutOfMemory);
         };
-        let Ok(()) = self.edges.reserve(links) else {
+        let Ok(()) = make_room(&mut self.edges, links) else {
             return Err(OutOfMemory);
         };
-        let Ok(()) = self.values.reserve(gates) else {
+        let Ok(()) = make_room(&mut self.values, gates) else {
             return Err(OutOfMemory);
         };
-        let Ok(()) = self.counts.reserve(gates) else {
+        let Ok(()) = make_room(&mut self.counts, gates) else {
             return Err(OutOfMemory);
         };
-        let Ok(()) = self.cone.reserve(gates) else {
+        let Ok(()) = make_room(&mut self.cone, gates) else {
             return Err(OutOfMemory);
         };
-        let Ok(()) = self.marks.reserve(gates) else {
+        let Ok(()) = make_room(&mut self.marks, gates) else {
             return Err(OutOfMemory);
         };
         Ok(())
@@ -101,7 +105,7 @@ impl Gates {
         ensures fits { Fits (net_in plan.old) (own_in plan.old) self.new }
         ensures meet { MeetAll (net_in plan.old) (own_in plan.old) self.new }
         ensures idle { IsIdle self.new }
-        ensures room { HasRoomFor self.new (length plan.old.shapes) (length plan.old.links) }
+        ensures kept { (n m : ℕ) → HasRoomFor self.old n m → HasRoomFor self.new n m }
         ensures shapes { plan.new.shapes ≡ plan.old.shapes }
         ensures links { length plan.new.links ≡ length plan.old.links }
         ensures plan_room { plan.new.room ≡ plan.old.room }
@@ -125,7 +129,7 @@ impl Gates {
 
         ensures idle { IsIdle self.new }
         ensures size { size_of self.new ≡ length plan.now.shapes }
-        ensures room { HasRoomFor self.new (length plan.now.shapes) (length plan.now.links) }
+        ensures kept { (n m : ℕ) → HasRoomFor self.old n m → HasRoomFor self.new n m }
     {
         self.rows.clear();
         lay_rows(&mut self.rows, plan.shapes(), plan.links());

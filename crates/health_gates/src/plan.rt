@@ -1,16 +1,12 @@
 //! Gates before they are laid, one after another, each with what feeds it.
 
-ghost use Rattle.std.specs.Prelude.{◌≡◌, ◌≤◌, ◌<◌, ◌+◌, ◌-◌, ◌∷◌, ◌++◌, ◌^◌, [], IfOk, OnOk};
-ghost use Rattle.std.specs.Prelude.{IsOk, length, vec_capacity};
+ghost use Rattle.std.specs.Prelude.{◌≡◌, ◌≤◌, ◌+◌, ◌∷◌, ◌++◌, [], OnOk, length};
 ghost use Rattle.std.specs.List.Sorted.{IsNonDecreasingBy, IsPermutation};
 ghost use Rattle.health_gates.specs.declared.plan.Link.{Link};
 
 use octets::OutOfMemory;
 use std::alloc::Global;
 use std::marker::Model;
-
-/// The most gates, and the most links.
-const MOST: usize = 1 << 31;
 
 /// What opens a gate.
 #[derive(Clone, Copy, Debug, PartialEq, Eq)]
@@ -91,7 +87,7 @@ impl Plan {
         self.links.clear();
     }
 
-    /// One gate more, which gets the next number. It takes no memory.
+    /// One gate more, which gets the next number.
     pub fn push(&mut self, shape: Shape)
         requires { 1 ≤ self.old.room }
         ensures shapes { self.new.shapes ≡ self.old.shapes ++ shape ∷ [] }
@@ -102,7 +98,7 @@ impl Plan {
         self.shapes.push_reserved(shape);
     }
 
-    /// One gate feeds another. It takes no memory.
+    /// One gate feeds another.
     pub fn feed(&mut self, link: Link)
         requires { 1 ≤ self.old.links_room }
         ensures shapes { self.new.shapes ≡ self.old.shapes }
@@ -111,48 +107,6 @@ impl Plan {
         ensures links_room { self.new.links_room + 1 ≡ self.old.links_room }
     {
         self.links.push_reserved(link);
-    }
-
-    /// One gate more, which gets the next number, in memory of its own. There are at most 2^31.
-    pub fn add(&mut self, shape: Shape) -> Result<u32, OutOfMemory>
-        ensures shapes { OnOk result (self.new.shapes ≡ self.old.shapes ++ shape ∷ []) }
-        ensures links { self.new.links ≡ self.old.links }
-        ensures number { IfOk result (λ gate. gate ≡ length self.old.shapes) }
-        ensures few { OnOk result (length self.new.shapes ≤ 2 ^ 31) }
-
-        // With room it takes no memory.
-        ensures sure { 1 ≤ self.old.room → length self.old.shapes < 2 ^ 31 → IsOk result }
-        ensures room { self.old.room ≤ self.new.room + 1 }
-        ensures links_room { self.new.links_room ≡ self.old.links_room }
-    {
-        let gate = self.shapes.len();
-        if gate >= MOST {
-            return Err(OutOfMemory);
-        }
-        match self.shapes.push(shape) {
-            Ok(()) => Ok(gate as u32),
-            Err(_) => Err(OutOfMemory),
-        }
-    }
-
-    /// One gate feeds another, in memory of its own. There are at most 2^31 such links.
-    pub fn join(&mut self, link: Link) -> Result<(), OutOfMemory>
-        ensures shapes { self.new.shapes ≡ self.old.shapes }
-        ensures links { OnOk result (self.new.links ≡ self.old.links ++ link ∷ []) }
-        ensures few { OnOk result (length self.new.links ≤ 2 ^ 31) }
-
-        // With room it takes no memory.
-        ensures sure { 1 ≤ self.old.links_room → length self.old.links < 2 ^ 31 → IsOk result }
-        ensures room { self.new.room ≡ self.old.room }
-        ensures links_room { self.old.links_room ≤ self.new.links_room + 1 }
-    {
-        if self.links.len() >= MOST {
-            return Err(OutOfMemory);
-        }
-        match self.links.push(link) {
-            Ok(()) => Ok(()),
-            Err(_) => Err(OutOfMemory),
-        }
     }
 
     /// How many links there are.

@@ -35,7 +35,7 @@ use Rattle.health_index.proofs.Places.{id_at, of_all, one_place}
 use Rattle.health_index.proofs.Truth.{found, zone_sets}
 use Rattle.health_index.proofs.Wiring.{first_same, rising_in}
 
-came_from : {X Y : Type 0} (f : X → Y) (xs : List X) (y : Y) → Contains (map f xs) y
+pub came_from : {X Y : Type 0} (f : X → Y) (xs : List X) (y : Y) → Contains (map f xs) y
     → (x : X) × IsAmong xs x × (y ≡ f x)
 came_from f [] y m = absurd (nothing_in y m)
 came_from f (x ∷ xs) y m = elim (first_or_rest (f x) (map f xs) y m) [
@@ -44,7 +44,7 @@ came_from f (x ∷ xs) y m = elim (first_or_rest (f x) (map f xs) y m) [
 ]
 
 -- the member of a group whose gate this is
-member_gate : (seats : List Seat) (members : List Placed) (gate : ℕ)
+pub member_gate : (seats : List Seat) (members : List Placed) (gate : ℕ)
     → Contains (gates_of seats members) gate
     → (p : Placed) × IsHere members p × (seat_of seats p.slot ≡ suc gate)
 member_gate seats [] gate m = absurd (nothing_in gate m)

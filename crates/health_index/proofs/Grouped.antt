@@ -144,6 +144,12 @@ module _ (zones : List Zone) (seats : List Seat) (shapes : List Shape) (links : 
             ∙ append-nil (feeders_in links found) ∙ h.fed ∙ sym (gates_same seats seats_now same h.members);
       }
 
+  pub new_fed : feeders_in links_now gate ≡ gates_of seats_now members
+  new_fed =
+      feeders_more links (links_to gate (gates_of seats members)) gate
+      ∙ ap (λ (l : List ℕ). l ++ feeders_in (links_to gate (gates_of seats members)) gate) (none_feeds links (length shapes) gate links_within (omega arith))
+      ∙ feeders_to gate (gates_of seats members) ∙ sym (gates_same seats seats_now same members)
+
   new_group : HasGroupGate zones seats_now shapes_now links_now slot gate
   new_group = record {
     zone = zone;
@@ -154,9 +160,7 @@ module _ (zones : List Zone) (seats : List Seat) (shapes : List Shape) (links : 
     first = first;
     shape = rw (plain_same seats seats_now same members) (last_at shapes (group_shape (plain_among seats members)) gate is_gate);
     few = rw (plain_same seats seats_now same members) few;
-    fed = feeders_more links (links_to gate (gates_of seats members)) gate
-        ∙ ap (λ (l : List ℕ). l ++ feeders_in (links_to gate (gates_of seats members)) gate) (none_feeds links (length shapes) gate links_within (omega arith))
-        ∙ feeders_to gate (gates_of seats members) ∙ sym (gates_same seats seats_now same members);
+    fed = new_fed;
   }
 
   pub grouped_more : (from : ℕ) → from ≤ length shapes → AreGrouped zones from seats shapes links

@@ -79,13 +79,13 @@ plain_few (suc gate) = omega arith
 
 -- ---- the sets of a group that was found
 
-in_take : {X : Type 0} (n : ℕ) (xs : List X) (x : X) → IsAmong (take n xs) x → IsAmong xs x
+pub in_take : {X : Type 0} (n : ℕ) (xs : List X) (x : X) → IsAmong (take n xs) x → IsAmong xs x
 in_take zero xs x m = absurd m
 in_take (suc n) [] x m = absurd m
 in_take (suc n) (y ∷ xs) x (inl is) = inl is
 in_take (suc n) (y ∷ xs) x (inr m) = inr (in_take n xs x m)
 
-in_drop : {X : Type 0} (n : ℕ) (xs : List X) (x : X) → IsAmong (drop n xs) x → IsAmong xs x
+pub in_drop : {X : Type 0} (n : ℕ) (xs : List X) (x : X) → IsAmong (drop n xs) x → IsAmong xs x
 in_drop zero xs x m = m
 in_drop (suc n) [] x m = absurd m
 in_drop (suc n) (y ∷ xs) x m = inr (in_drop n xs x m)

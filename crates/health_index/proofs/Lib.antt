@@ -3,6 +3,7 @@ pub mod Commanding
 pub mod Costing
 pub mod Ending
 pub mod Feeding
+pub mod Few
 pub mod Grouped
 pub mod Groups
 pub mod Joined
@@ -11,6 +12,8 @@ pub mod ListedOnce
 pub mod Places
 pub mod Planned
 pub mod Reporting
+pub mod Reserved
+pub mod Roomy
 pub mod Seeing
 pub mod Standing
 pub mod Telling

@@ -25,7 +25,7 @@ use Rattle.record_set.specs.declared.sets.Body.{Body}
 use Rattle.record_set.specs.declared.sets.Body.TheVariants as body
 use Rattle.zone_list.specs.Zones.{Zone}
 use Rattle.zone_model.specs.Placed.{Placed}
-use Rattle.health_index.specs.Index.{Index, IsEndpoint, IsEndpointOf, IsSeen, IsWhole, StandsFor, reported}
+use Rattle.health_index.specs.Index.{Index, IsEndpoint, IsEndpointOf, IsSeen, IsWhole, Space, StandsFor, reported}
 use Rattle.health_index.specs.Wired.{IsCheckGate, IsGateFor, IsGroupGate, IsSeated, IsTarget, check_own, ids_of, place_of}
 use Rattle.health_index.proofs.Places.{check_there, no_check, of_all, one_place}
 
@@ -141,12 +141,12 @@ module _ (fifty : FiftyAlone) (more : OneMoreReport) (zones : List Zone) (checks
     → given ≡ passing_of n results)
     (fits : Fits stands.net (with_own place given stands.own) gates)
     (meet : MeetAll stands.net (with_own place given stands.own) gates)
-    (idle : IsIdle gates) where
+    (idle : IsIdle gates) (space : Space) where
   abbrev report : Report
   report = reported id checker pass
 
   abbrev after : Index
-  after = record index { seen = set index.seen place (Some now); gates = gates }
+  after = record index { seen = set index.seen place (Some now); gates = gates; space = space }
 
   there : (check : Check) × (slice_get checks.list place ≡ Some (id, check))
       × (check_at checks.list id ≡ Some check)
@@ -286,10 +286,11 @@ alone_in_all one two own own_too gates gate within f g none =
 
 -- what stays of an index whose checkers at a place saw one more result
 pub whole_after : (index : Index) (w : IsWhole index) (place given : ℕ) (its now : Seen) (gates : Gates)
+    (space : Space)
     → slice_get index.seen place ≡ Some (Some its)
     → Fits w.net (with_own place given w.own) gates → IsIdle gates
-    → IsWhole (record index { seen = set index.seen place (Some now); gates = gates })
-whole_after index w place given its now gates here fits idle = record {
+    → IsWhole (record index { seen = set index.seen place (Some now); gates = gates; space = space })
+whole_after index w place given its now gates space here fits idle = record {
   net = w.net;
   own = with_own place given w.own;
   fits = fits;

@@ -15,20 +15,20 @@ use Rattle.zone_list.specs.Zones.{AreZones, Zone}
 use Rattle.zone_list.specs.declared.refs.SetRef.{SetRef}
 use Rattle.zone_table.specs.Tables.{HaveSlotsApart}
 use Rattle.health_index.specs.Building.{AreOfEndpoints, AreSeen, AreShaped, IsBuilt, set_shape}
-use Rattle.health_index.specs.Index.{Index, IsWhole, StandsFor}
+use Rattle.health_index.specs.Index.{Index, IsWhole, Space, StandsFor}
 use Rattle.health_index.specs.Wired.{ids_of, place_of, watched_of}
 use Rattle.health_index.specs.declared.seats.Seat.{Seat}
 use Rattle.health_index.proofs.Planned.{fed_by_rule}
 use Rattle.health_index.proofs.Wiring.{ids_long, wired}
 
 module _ (zones : List Zone) (checks : Checks) (refs : List SetRef) (seats : List Seat)
-    (plan : Planned) (gates : Gates) (ids : List ℕ) (seen : List (Option Seen))
+    (plan : Planned) (gates : Gates) (ids : List ℕ) (seen : List (Option Seen)) (space : Space)
     (are_checks : AreSoundChecks checks) (ids_is : ids ≡ ids_of checks.list)
     (many : length seen ≡ length ids)
     (built : IsBuilt zones checks.list refs seats plan.shapes plan.links)
     (fits : Fits (net_in plan) (own_in plan) gates) (idle : IsIdle gates) where
   abbrev laid : Index
-  laid = record { ids = ids; seen = seen; seats = seats; gates = gates }
+  laid = record { ids = ids; seen = seen; seats = seats; gates = gates; space = space }
 
   ids_many : length ids ≡ length checks.list
   ids_many = ap length ids_is ∙ ids_long checks.list

@@ -19,13 +19,26 @@ use Rattle.zone_table.specs.Looking.{Names}
 use Rattle.health_index.specs.Wired.{IsWired, ids_of, open_in, place_of, seat_of, watched_of}
 use Rattle.health_index.specs.declared.seats.Seat.{Seat}
 
+-- For how many there is room: numbers of checks and what their checkers saw, now and before a
+-- command; slots; and what is planned: sets with gates, gates, and links between them.
+pub record Space : Type 0 where
+  pub ids : ℕ
+  pub seen : ℕ
+  pub ids_before : ℕ
+  pub seen_before : ℕ
+  pub seats : ℕ
+  pub refs : ℕ
+  pub shapes : ℕ
+  pub links : ℕ
+
 -- The numbers of the checks, what the checkers of each endpoint saw, the gates of sets by their
--- slots, and the gates.
+-- slots, the gates, and the room that there is.
 pub record Index : Type 0 where
   pub ids : List ℕ
   pub seen : List (Option Seen)
   pub seats : List Seat
   pub gates : Gates
+  pub space : Space
 
 -- what the fifty checkers of a check saw; a calculated one has none
 abbrev pub IsSeen : List Report → (id : ℕ) → Check → Option Seen → Type 0

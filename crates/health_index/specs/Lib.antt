@@ -2,6 +2,7 @@ pub mod Building
 pub mod Following
 pub mod Index
 pub mod Laws
+pub mod Room
 pub mod Wired
 pub use Rattle.check_model.specs.Checks
 pub use Rattle.checker_state.specs.Standing

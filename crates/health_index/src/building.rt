@@ -1,16 +1,18 @@
 //! How the gates of a configuration are planned: those of checks, of sets, and of groups.
 
-ghost use Rattle.std.specs.Prelude.{◌≡◌, ◌≤◌, ◌<◌, ◌+◌, ◌++◌, ◌∷◌, [], ℕ, List, None, Some, OnOk, length};
-ghost use Rattle.std.specs.Prelude.{is_some, map, replicate, slice_get, true};
+ghost use Rattle.std.specs.Prelude.{◌≡◌, ◌≤◌, ◌<◌, ◌+◌, ◌++◌, ◌∷◌, [], ℕ, List, None, Some, length};
+ghost use Rattle.std.specs.Prelude.{is_some, map, replicate, slice_get, true, vec_capacity, vec_len};
 ghost use Rattle.check_model.specs.declared.checks.Check.{Check};
 ghost use Rattle.check_model.specs.Checks.{Checks, IsBounded, children_of};
 ghost use Rattle.checker_state.specs.Standing.{Seen, nothing};
 ghost use Rattle.checker_state.specs.Standing.{StandsFor as HasSeen};
+ghost use Rattle.health_gates.specs.Plan.{KeepsRoom};
 ghost use Rattle.health_gates.specs.declared.plan.Shape.{Shape};
 ghost use Rattle.health_index.specs.Building.{AreSeen, AreThere, check_links, check_shape};
 ghost use Rattle.health_index.specs.Building.{AreOfEndpoints, check_shapes, links_to, no_seat};
 ghost use Rattle.health_index.specs.Following.{EachFollows, FollowsAt, Knows};
 ghost use Rattle.health_index.specs.Index.{IsSeen};
+ghost use Rattle.health_index.specs.Room.{children_among};
 ghost use Rattle.health_index.specs.Wired.{check_need, check_own, ids_of, is_inverted, place_of};
 ghost use Rattle.health_model.specs.Statuses.{Report, passing};
 
@@ -19,19 +21,17 @@ use crate::seats::Seat;
 use checker_state::Checkers;
 use health_check::Check;
 use health_gates::{Link, Plan, Shape};
-use octets::OutOfMemory;
 
 /// The numbers of checks.
-pub fn list_ids(ids: &mut Vec<u32>, list: &[(u32, Check)]) -> Result<(), OutOfMemory>
-    requires { ids.old.items ≡ [] }
-    ensures { OnOk result (ids.new.items ≡ ids_of list.now) }
+pub fn list_ids(ids: &mut Vec<u32>, list: &[(u32, Check)])
+    requires empty { ids.old.items ≡ [] }
+    requires room { length list.now ≤ vec_capacity ids.old }
+    ensures ids { ids.new.items ≡ ids_of list.now }
+    ensures room { vec_capacity ids.new ≡ vec_capacity ids.old }
 {
     for held in list {
-        if ids.push(held.0).is_err() {
-            return Err(OutOfMemory);
-        }
+        ids.push_reserved(held.0);
     }
-    Ok(())
 }
 
 /// How many open the gate of a check.
@@ -87,41 +87,34 @@ fn shape_of(check: &Check, seen: Option<Checkers>) -> Shape
 }
 
 /// The gates of checks, by what their checkers saw.
-pub fn add_checks(
-    plan: &mut Plan,
-    list: &[(u32, Check)],
-    seen: &[Option<Checkers>],
-) -> Result<(), OutOfMemory>
+pub fn add_checks(plan: &mut Plan, list: &[(u32, Check)], seen: &[Option<Checkers>])
     requires empty { plan.old.shapes ≡ [] }
     requires as_many { length seen.now ≡ length list.now }
-    ensures shapes { OnOk result ((reports : List Report) → AreSeen reports list.now seen.now
-        → plan.new.shapes ≡ check_shapes reports list.now) }
-    ensures size { OnOk result (length plan.new.shapes ≡ length list.now) }
-    ensures small { OnOk result ((n : ℕ) (shape : Shape) → slice_get plan.new.shapes n ≡ Some shape
-        → shape.own ≤ 255) }
+    requires room { length list.now ≤ plan.old.room }
+    ensures shapes { (reports : List Report) → AreSeen reports list.now seen.now
+        → plan.new.shapes ≡ check_shapes reports list.now }
+    ensures size { length plan.new.shapes ≡ length list.now }
+    ensures small { (n : ℕ) (shape : Shape) → slice_get plan.new.shapes n ≡ Some shape
+        → shape.own ≤ 255 }
     ensures links { plan.new.links ≡ plan.old.links }
+    ensures kept { KeepsRoom plan.old plan.new }
 {
     for (place, held) in list.iter().enumerate() {
         let shape = shape_of(&held.1, seen_at(seen, place));
-        let Ok(_) = plan.add(shape) else {
-            return Err(OutOfMemory);
-        };
+        plan.push(shape);
     }
-    Ok(())
 }
 
 /// What feeds the gate of a calculated check: those of its children.
-fn join_children(
-    plan: &mut Plan,
-    ids: &[u32],
-    children: &[u32],
-    gate: u32,
-) -> Result<(), OutOfMemory>
+fn join_children(plan: &mut Plan, ids: &[u32], children: &[u32], gate: u32)
     requires there { AreThere ids.now children.now }
     requires few { length ids.now ≤ 200 }
+    requires room { length children.now ≤ plan.old.links_room }
     ensures shapes { plan.new.shapes ≡ plan.old.shapes }
-    ensures links { OnOk result
-        (plan.new.links ≡ plan.old.links ++ links_to gate (map (place_of ids.now) children.now)) }
+    ensures links { plan.new.links
+        ≡ plan.old.links ++ links_to gate (map (place_of ids.now) children.now) }
+    ensures kept { KeepsRoom plan.old plan.new }
+    ensures room { plan.old.links_room ≡ plan.new.links_room + length children.now }
 {
     for child in children {
         let Some(place) = place_in(ids, *child) else {
@@ -131,35 +124,30 @@ fn join_children(
             feeder: place as u32,
             fed: gate,
         };
-        if plan.join(link).is_err() {
-            return Err(OutOfMemory);
-        }
+        plan.feed(link);
     }
-    Ok(())
 }
 
 /// What feeds the gates of checks.
-pub fn join_checks(plan: &mut Plan, ids: &[u32], list: &[(u32, Check)]) -> Result<(), OutOfMemory>
+pub fn join_checks(plan: &mut Plan, ids: &[u32], list: &[(u32, Check)])
     requires there { (place id : ℕ) (check : Check) → slice_get list.now place ≡ Some (id, check)
         → AreThere ids.now (children_of check) }
     requires few { length list.now ≤ 200 }
     requires few_ids { length ids.now ≤ 200 }
+    requires room { children_among list.now ≤ plan.old.links_room }
     ensures shapes { plan.new.shapes ≡ plan.old.shapes }
-    ensures links { OnOk result
-        (plan.new.links ≡ plan.old.links ++ check_links ids.now 0 list.now) }
+    ensures links { plan.new.links ≡ plan.old.links ++ check_links ids.now 0 list.now }
+    ensures kept { KeepsRoom plan.old plan.new }
 {
     for (place, held) in list.iter().enumerate() {
         match &held.1 {
             Check::Endpoint { .. } => {}
             Check::Calculated { children, .. } => {
                 let children = children.as_slice();
-                if join_children(plan, ids, children, place as u32).is_err() {
-                    return Err(OutOfMemory);
-                }
+                join_children(plan, ids, children, place as u32);
             }
         }
     }
-    Ok(())
 }
 
 /// What the checkers of an endpoint saw: nothing yet, where its check wasn't there.
@@ -195,51 +183,39 @@ fn seen_of(ids: &[u32], seen: &[Option<Checkers>], id: u32, check: &Check) -> Op
     }
 }
 
-/// What the checkers of one check more saw.
-fn add_seen(into: &mut Vec<Option<Checkers>>, saw: Option<Checkers>) -> Result<(), OutOfMemory>
-    ensures { OnOk result (into.new.items ≡ into.old.items ++ saw ∷ []) }
-{
-    match into.push(saw) {
-        Ok(()) => Ok(()),
-        Err(_) => Err(OutOfMemory),
-    }
-}
-
 /// What the checkers of each check saw, from what they saw of the checks before.
 pub fn list_seen(
     into: &mut Vec<Option<Checkers>>,
     list: &[(u32, Check)],
     ids: &[u32],
     seen: &[Option<Checkers>],
-) -> Result<(), OutOfMemory>
+)
     requires empty { into.old.items ≡ [] }
+    requires room { length list.now ≤ vec_capacity into.old }
     requires as_many { length seen.now ≡ length ids.now }
     requires bounded { (place id : ℕ) (check : Check) → slice_get list.now place ≡ Some (id, check)
         → IsBounded check }
-    ensures size { OnOk result (length into.new.items ≡ length list.now) }
-    ensures seen { OnOk result ((old : Checks) (reports : List Report)
+    ensures size { length into.new.items ≡ length list.now }
+    ensures seen { (old : Checks) (reports : List Report)
         → Knows old reports ids.now seen.now → EachFollows old list.now
-        → AreSeen reports list.now into.new.items) }
-    ensures kinds { OnOk result (AreOfEndpoints list.now into.new.items) }
+        → AreSeen reports list.now into.new.items }
+    ensures kinds { AreOfEndpoints list.now into.new.items }
+    ensures room { vec_capacity into.new ≡ vec_capacity into.old }
 {
     for (place, held) in list.iter().enumerate() {
         let saw = seen_of(ids, seen, held.0, &held.1);
-        let Ok(()) = add_seen(into, saw) else {
-            return Err(OutOfMemory);
-        };
+        into.push_reserved(saw);
     }
-    Ok(())
 }
 
 /// Seats without gates, one for each slot.
-pub fn lay_seats(seats: &mut Vec<Seat>, slots: usize) -> Result<(), OutOfMemory>
-    requires { seats.old.items ≡ [] }
-    ensures { OnOk result (seats.new.items ≡ replicate slots no_seat) }
+pub fn lay_seats(seats: &mut Vec<Seat>, slots: usize)
+    requires empty { seats.old.items ≡ [] }
+    requires room { slots ≤ vec_capacity seats.old }
+    ensures seats { seats.new.items ≡ replicate slots no_seat }
+    ensures room { vec_capacity seats.new ≡ vec_capacity seats.old }
 {
     for _i in 0..slots {
-        if seats.push(Seat { set: 0, group: 0 }).is_err() {
-            return Err(OutOfMemory);
-        }
+        seats.push_reserved(Seat { set: 0, group: 0 });
     }
-    Ok(())
 }

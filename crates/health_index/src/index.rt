@@ -1,11 +1,12 @@
 //! The index: what is asked of it, and how it takes a report.
 
 ghost use Rattle.std.specs.Prelude.{◌≡◌, ◌≢◌, ◌≤◌, ◌<◌, ◌+◌, ◌∷◌, ◌↔◌, [], ℕ, IsTrue, List, false};
-ghost use Rattle.std.specs.Prelude.{Contains, IfOk, Some, if◌then◌else◌, length, slice_get};
+ghost use Rattle.std.specs.Prelude.{Contains, IfOk, OnOk, Some, if◌then◌else◌, length, slice_get};
 ghost use Rattle.check_model.specs.Checks.{Checks};
-ghost use Rattle.health_index.specs.Following.{Follows, Knows};
+ghost use Rattle.health_index.specs.Following.{Follows};
 ghost use Rattle.health_index.specs.Index.{IsEndpointOf, IsGateOf, IsPlace, StandsFor, healthy_in};
 ghost use Rattle.health_index.specs.Index.{reported};
+ghost use Rattle.health_index.specs.Room.{HasRoom, Keeps};
 ghost use Rattle.health_index.specs.Wired.{watched_of};
 ghost use Rattle.health_model.specs.Nodes.{CheckNode, InCone, Node};
 ghost use Rattle.health_model.specs.Sound.{IsSound};
@@ -15,7 +16,8 @@ ghost use Rattle.zone_list.specs.Zones.{Zone};
 use crate::building::{lay_seats, list_ids, list_seen};
 use crate::finding::{place_in, seen_at};
 use crate::laws::index_tells_health;
-use crate::planning::{lay_plan, plan_gates};
+use crate::planning::plan_gates;
+use crate::reserving::{each_ok, room_for_checks, room_for_slots};
 use crate::seats::Seat;
 use checker_state::{CHECKERS, Checkers, fifty_alone};
 use health_check::CheckTable;
@@ -25,6 +27,7 @@ use octets::OutOfMemory;
 use policy_select::{HealthView, views_agree};
 use std::alloc::Global;
 use std::marker::Model;
+use std::mem;
 use std::sync::ledger::Ledger;
 use zone_table::{SetRef, Zones};
 
@@ -38,9 +41,16 @@ pub struct HealthIndex {
     /// By the slot of a set.
     seats: Vec<Seat>,
     gates: Gates,
+    /// The numbers of the checks before the last command, and what their checkers saw.
+    ids_before: Vec<u32>,
+    seen_before: Vec<Option<Checkers>>,
+    /// The sets with gates, and what was planned: of use while all is laid out.
+    refs: Vec<SetRef>,
+    plan: Plan,
 }
 
 impl Model for HealthIndex {
+    ghost use Rattle.std.specs.Prelude.{◌+◌, length, vec_capacity};
     ghost use Rattle.health_index.specs.Index.{Index, IsWhole};
 
     ghost Value = { Index };
@@ -50,6 +60,16 @@ impl Model for HealthIndex {
       seen = i.seen.items;
       seats = i.seats.items;
       gates = i.gates;
+      space = record {
+        ids = vec_capacity i.ids;
+        seen = vec_capacity i.seen;
+        ids_before = vec_capacity i.ids_before;
+        seen_before = vec_capacity i.seen_before;
+        seats = vec_capacity i.seats;
+        refs = vec_capacity i.refs;
+        shapes = i.plan.room + length i.plan.shapes;
+        links = i.plan.links_room + length i.plan.links;
+      };
     } };
 
     ghost invariant = { λ i. IsWhole (record {
@@ -57,6 +77,16 @@ impl Model for HealthIndex {
       seen = i.seen.items;
       seats = i.seats.items;
       gates = i.gates;
+      space = record {
+        ids = vec_capacity i.ids;
+        seen = vec_capacity i.seen;
+        ids_before = vec_capacity i.ids_before;
+        seen_before = vec_capacity i.seen_before;
+        seats = vec_capacity i.seats;
+        refs = vec_capacity i.refs;
+        shapes = i.plan.room + length i.plan.shapes;
+        links = i.plan.links_room + length i.plan.links;
+      };
     }) };
 }
 
@@ -71,30 +101,100 @@ impl HealthIndex {
         ensures stands { IfOk result (λ index.
             StandsFor zones.now.zones checks.now.checks [] index) }
     {
-        let Ok(index) = laid(alloc, zones, checks, &[], &[]) else {
+        let mut index = HealthIndex::empty(alloc);
+        let Ok(()) = index.reserve(zones) else {
             return Err(OutOfMemory);
         };
+        index.lay(zones, checks);
         Ok(index)
     }
 
-    /// The index of a configuration that some commands made of this one's, with what its checkers
-    /// saw.
-    pub fn after(
-        &self,
-        alloc: Global,
-        zones: &Zones,
-        checks: &CheckTable,
-    ) -> Result<HealthIndex, OutOfMemory>
-        requires sound { IsSound (watched_of zones.now.zones checks.now.checks) }
-        ensures stands { IfOk result (λ index.
-            (before : List Zone) (old : Checks) (reports : List Report)
-            → StandsFor before old reports self.now → Follows old checks.now.checks
-            → StandsFor zones.now.zones checks.now.checks reports index) }
+    /// The index of nothing.
+    fn empty(alloc: Global) -> HealthIndex
+        ensures { result.ids ≡ [] }
     {
-        let Ok(index) = laid(alloc, zones, checks, &self.ids, &self.seen) else {
-            return Err(OutOfMemory);
-        };
-        Ok(index)
+        HealthIndex {
+            ids: Vec::new(alloc),
+            seen: Vec::new(alloc),
+            seats: Vec::new(alloc),
+            gates: Gates::new(alloc),
+            ids_before: Vec::new(alloc),
+            seen_before: Vec::new(alloc),
+            refs: Vec::new(alloc),
+            plan: Plan::new(alloc),
+        }
+    }
+
+    /// Makes room for a command that leaves no more slots than there are; zones are made ready for
+    /// a command first. The index stays as it is.
+    pub fn reserve(&mut self, zones: &Zones) -> Result<(), OutOfMemory>
+        ensures room { OnOk result (HasRoom self.new zones.now.slots) }
+
+        // Nothing else changes, and no room is lost, also where there is no memory.
+        ensures keeps { Keeps self.old self.new }
+        ensures kept { (slots : ℕ) → HasRoom self.old slots → HasRoom self.new slots }
+        ensures stands { (before : List Zone) (checks : Checks) (reports : List Report)
+            → StandsFor before checks reports self.old → StandsFor before checks reports self.new }
+    {
+        let now = room_for_checks(&mut self.ids, &mut self.seen);
+        let before = room_for_checks(&mut self.ids_before, &mut self.seen_before);
+        let slots = room_for_slots(
+            &mut self.seats,
+            &mut self.refs,
+            &mut self.plan,
+            &mut self.gates,
+            zones.slots(),
+        );
+        each_ok(now, before, slots)
+    }
+
+    /// Takes a command: the zones and the checks are those that it left. It takes no memory.
+    ///
+    /// All gates are laid out anew: it costs what the configuration has, whatever the command
+    /// changed.
+    pub fn on_command(&mut self, zones: &Zones, checks: &CheckTable)
+        requires room { HasRoom self.old zones.now.slots }
+        requires sound { IsSound (watched_of zones.now.zones checks.now.checks) }
+        ensures { (before : List Zone) (old : Checks) (reports : List Report)
+            → StandsFor before old reports self.old → Follows old checks.now.checks
+            → StandsFor zones.now.zones checks.now.checks reports self.new }
+    {
+        self.lay(zones, checks);
+    }
+
+    /// Lays everything out anew, with what the checkers saw. It takes no memory.
+    fn lay(&mut self, zones: &Zones, checks: &CheckTable)
+        requires room { HasRoom self.old zones.now.slots }
+        requires sound { IsSound (watched_of zones.now.zones checks.now.checks) }
+        ensures first { self.old.ids ≡ []
+            → StandsFor zones.now.zones checks.now.checks [] self.new }
+        ensures stands { (before : List Zone) (old : Checks) (reports : List Report)
+            → StandsFor before old reports self.old → Follows old checks.now.checks
+            → StandsFor zones.now.zones checks.now.checks reports self.new }
+    {
+        zones.well_formed();
+        zones.slots_apart();
+        let list = checks.as_slice();
+        mem::swap(&mut self.ids, &mut self.ids_before);
+        mem::swap(&mut self.seen, &mut self.seen_before);
+        self.ids.clear();
+        list_ids(&mut self.ids, list);
+        self.seen.clear();
+        list_seen(&mut self.seen, list, &self.ids_before, &self.seen_before);
+        self.seats.clear();
+        lay_seats(&mut self.seats, zones.slots());
+        self.refs.clear();
+        self.plan.clear();
+        plan_gates(
+            zones,
+            checks,
+            &self.ids,
+            &self.seen,
+            &mut self.refs,
+            &mut self.seats,
+            &mut self.plan,
+        );
+        self.gates.lay_out(&mut self.plan);
     }
 
     /// Takes a report of an endpoint check. The answer is whether its status changed. A report of
@@ -170,56 +270,6 @@ impl HealthView for HealthIndex {
             None => true,
         }
     }
-}
-
-/// The index of a configuration, from what the checkers of the checks before saw.
-fn laid(
-    alloc: Global,
-    zones: &Zones,
-    checks: &CheckTable,
-    ids: &[u32],
-    seen: &[Option<Checkers>],
-) -> Result<HealthIndex, OutOfMemory>
-    requires sound { IsSound (watched_of zones.now.zones checks.now.checks) }
-    requires as_many { length seen.now ≡ length ids.now }
-    ensures first { IfOk result (λ index. ids.now ≡ []
-        → StandsFor zones.now.zones checks.now.checks [] index) }
-    ensures stands { IfOk result (λ index. (old : Checks) (reports : List Report)
-        → Knows old reports ids.now seen.now → Follows old checks.now.checks
-        → StandsFor zones.now.zones checks.now.checks reports index) }
-{
-    zones.well_formed();
-    zones.slots_apart();
-    let list = checks.as_slice();
-    let mut ids_now = Vec::new(alloc);
-    let Ok(()) = list_ids(&mut ids_now, list) else {
-        return Err(OutOfMemory);
-    };
-    let mut seen_now = Vec::new(alloc);
-    let Ok(()) = list_seen(&mut seen_now, list, ids, seen) else {
-        return Err(OutOfMemory);
-    };
-    let mut seats = Vec::new(alloc);
-    let Ok(()) = lay_seats(&mut seats, zones.slots()) else {
-        return Err(OutOfMemory);
-    };
-    let mut refs = Vec::new(alloc);
-    let mut plan = Plan::new(alloc);
-    let Ok(()) = plan_gates(
-        zones, checks, &ids_now, &seen_now, &mut refs, &mut seats, &mut plan,
-    ) else {
-        return Err(OutOfMemory);
-    };
-    let mut gates = Gates::new(alloc);
-    let Ok(()) = lay_plan(&mut gates, &mut plan) else {
-        return Err(OutOfMemory);
-    };
-    Ok(HealthIndex {
-        ids: ids_now,
-        seen: seen_now,
-        seats,
-        gates,
-    })
 }
 
 /// A count that is small enough.

@@ -1,9 +1,9 @@
 //! What feeds the gates of sets: those of their checks, and of their target groups.
 
-ghost use Rattle.std.specs.Prelude.{◌≡◌, ◌≤◌, ◌<◌, ◌+◌, ◌++◌, ◌^◌, ◌⊎◌, [], ℕ, OnOk, Some, length};
-ghost use Rattle.std.specs.Prelude.{map, slice_get, suc};
+ghost use Rattle.std.specs.Prelude.{◌≡◌, ◌≤◌, ◌<◌, ◌+◌, ◌*◌, ◌++◌, ◌^◌, ◌⊎◌, [], ℕ, Some};
+ghost use Rattle.std.specs.Prelude.{length, map, slice_get, suc};
 ghost use Rattle.std.specs.Option.{option_to_list};
-ghost use Rattle.health_gates.specs.Plan.{feeders_in};
+ghost use Rattle.health_gates.specs.Plan.{KeepsRoom, feeders_in};
 ghost use Rattle.health_index.specs.Building.{AreWithin, FeedsSet, HasTargetGate, JoinsSet};
 ghost use Rattle.health_index.specs.Building.{links_to};
 ghost use Rattle.health_index.specs.Wired.{group_seat, place_of, with_gate};
@@ -18,7 +18,6 @@ use crate::finding::place_in;
 use crate::grouping::{join_seat, seat_at};
 use crate::seats::Seat;
 use health_gates::{Link, Plan};
-use octets::OutOfMemory;
 use policy_select::find_group;
 use zone_table::{SetRef, Zones};
 
@@ -61,40 +60,31 @@ fn check_of(zones: &Zones, set: SetRef) -> Option<u32>
 }
 
 /// The gate of a check feeds another, where there is a check.
-fn join_check(
-    plan: &mut Plan,
-    ids: &[u32],
-    check: Option<u32>,
-    gate: u32,
-) -> Result<(), OutOfMemory>
+fn join_check(plan: &mut Plan, ids: &[u32], check: Option<u32>, gate: u32)
     requires there { (id : ℕ) → check ≡ Some id
         → (place : ℕ) × (slice_get ids.now place ≡ Some id) }
     requires few { length ids.now ≤ 200 }
+    requires room { 1 ≤ plan.old.links_room }
     ensures shapes { plan.new.shapes ≡ plan.old.shapes }
-    ensures links { OnOk result (plan.new.links
-        ≡ plan.old.links ++ links_to gate (map (place_of ids.now) (option_to_list check))) }
+    ensures links { plan.new.links
+        ≡ plan.old.links ++ links_to gate (map (place_of ids.now) (option_to_list check)) }
+    ensures kept { KeepsRoom plan.old plan.new }
+    ensures few { plan.old.links_room ≤ plan.new.links_room + 1 }
 {
     let Some(id) = check else {
-        return Ok(());
+        return;
     };
     let Some(place) = place_in(ids, id) else {
         unreachable!();
     };
-    plan.join(Link {
+    plan.feed(Link {
         feeder: place as u32,
         fed: gate,
-    })
+    });
 }
 
 /// What feeds the gate of a set.
-fn join_set(
-    zones: &Zones,
-    set: SetRef,
-    ids: &[u32],
-    seats: &[Seat],
-    gate: u32,
-    plan: &mut Plan,
-) -> Result<(), OutOfMemory>
+fn join_set(zones: &Zones, set: SetRef, ids: &[u32], seats: &[Seat], gate: u32, plan: &mut Plan)
     requires slots { length seats.now ≡ zones.now.slots }
     requires targets { (named : RecordSet) → Names zones.now.zones set named
         → HasNoTarget (sets_of (placed_in zones.now.zones set.zone)) named → ⊥ }
@@ -102,30 +92,22 @@ fn join_set(
     requires there { (named : RecordSet) (id : ℕ) → Names zones.now.zones set named
         → named.check ≡ Some id → (place : ℕ) × (slice_get ids.now place ≡ Some id) }
     requires few { length ids.now ≤ 200 }
+    requires room { 2 ≤ plan.old.links_room }
     ensures shapes { plan.new.shapes ≡ plan.old.shapes }
-    ensures links { OnOk result ((named : RecordSet) → Names zones.now.zones set named
+    ensures links { (named : RecordSet) → Names zones.now.zones set named
         → JoinsSet zones.now.zones ids.now seats.now set.zone named gate
-        plan.old.links plan.new.links) }
+        plan.old.links plan.new.links }
+    ensures kept { KeepsRoom plan.old plan.new }
+    ensures few { plan.old.links_room ≤ plan.new.links_room + 2 }
 {
     zones.well_formed();
     let target = target_seat(zones, set, seats);
-    let Ok(()) = join_check(plan, ids, check_of(zones, set), gate) else {
-        return Err(OutOfMemory);
-    };
-    let Ok(()) = join_seat(target, gate, plan) else {
-        return Err(OutOfMemory);
-    };
-    Ok(())
+    join_check(plan, ids, check_of(zones, set), gate);
+    join_seat(target, gate, plan);
 }
 
 /// What feeds the gates of sets, which stand behind those of checks.
-pub fn join_sets(
-    zones: &Zones,
-    refs: &[SetRef],
-    ids: &[u32],
-    seats: &[Seat],
-    plan: &mut Plan,
-) -> Result<(), OutOfMemory>
+pub fn join_sets(zones: &Zones, refs: &[SetRef], ids: &[u32], seats: &[Seat], plan: &mut Plan)
     requires slots { length seats.now ≡ zones.now.slots }
     requires targets { (set : SetRef) (named : RecordSet) → Names zones.now.zones set named
         → HasNoTarget (sets_of (placed_in zones.now.zones set.zone)) named → ⊥ }
@@ -135,23 +117,23 @@ pub fn join_sets(
         → named.check ≡ Some id → (place : ℕ) × (slice_get ids.now place ≡ Some id) }
     requires few { length ids.now ≤ 200 }
     requires few_sets { length ids.now + length refs.now ≤ 2 ^ 32 }
+    requires room { 2 * length refs.now ≤ plan.old.links_room }
     ensures shapes { plan.new.shapes ≡ plan.old.shapes }
-    ensures joined { OnOk result ((k : ℕ) (set : SetRef) (named : RecordSet)
+    ensures kept { KeepsRoom plan.old plan.new }
+    ensures few { plan.old.links_room ≤ plan.new.links_room + 2 * length refs.now }
+    ensures joined { (k : ℕ) (set : SetRef) (named : RecordSet)
         → slice_get refs.now k ≡ Some set → Names zones.now.zones set named
         → feeders_in plan.old.links (length ids.now + k) ≡ []
         → FeedsSet zones.now.zones ids.now seats.now set.zone named
-        (feeders_in plan.new.links (length ids.now + k))) }
-    ensures others { OnOk result ((gate : ℕ)
+        (feeders_in plan.new.links (length ids.now + k)) }
+    ensures others { (gate : ℕ)
         → (gate < length ids.now) ⊎ (length ids.now + length refs.now ≤ gate)
-        → feeders_in plan.new.links gate ≡ feeders_in plan.old.links gate) }
-    ensures within { OnOk result ((n : ℕ) → length ids.now + length refs.now ≤ n
+        → feeders_in plan.new.links gate ≡ feeders_in plan.old.links gate }
+    ensures within { (n : ℕ) → length ids.now + length refs.now ≤ n
         → ((slot gate : ℕ) → group_seat seats.now slot ≡ suc gate → gate < n)
-        → AreWithin plan.old.links n → AreWithin plan.new.links n) }
+        → AreWithin plan.old.links n → AreWithin plan.new.links n }
 {
     for (k, set) in refs.iter().enumerate() {
-        let Ok(()) = join_set(zones, *set, ids, seats, (ids.len() + k) as u32, plan) else {
-            return Err(OutOfMemory);
-        };
+        join_set(zones, *set, ids, seats, (ids.len() + k) as u32, plan);
     }
-    Ok(())
 }

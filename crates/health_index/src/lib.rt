@@ -2,10 +2,9 @@
 //!
 //! A set that nothing decides has no gate: it is healthy, and takes no more than its seat.
 //!
-//! `rebuild` plans the gates of checks and what feeds them (`building`), of sets (`listing`), of
-//! target groups (`grouping`), and what feeds the gates of sets (`joining`), and lays them out.
-//! What follows commands is not here yet: `reserve`, `on_command`, `eval_node` and `has_node` are
-//! to come.
+//! The gates of checks and what feeds them are planned (`building`), of sets (`listing`), of target
+//! groups (`grouping`), and what feeds the gates of sets (`joining`), and then laid out. After each
+//! command this is done anew, in room that was made before (`reserving`).
 #![tactic(auto)]
 
 mod building;
@@ -16,6 +15,7 @@ mod joining;
 mod laws;
 mod listing;
 mod planning;
+mod reserving;
 mod seats;
 
 pub use health_gates::Steps;

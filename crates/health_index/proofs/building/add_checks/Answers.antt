@@ -13,7 +13,7 @@ loop-place-preserved c =
     let held = c.index-list-place.result in
     let at = slice_get_read c.args.list.now _ c.loop-place.place held refl c.loop-place-test.true c.index-list-place.is in
     let shape = c.shape_of-shape.result in
-    let more = c.in-Ok.ensures.shapes in
+    let more = c.push.ensures.shapes in
     let longer = ap length more ∙ length-append c.loop-place.plan.shapes (shape ∷ []) in
     let size = i.size in
     record {
@@ -28,5 +28,21 @@ loop-place-preserved c =
         | inl old ↦ i.small n s old
         | inr last ↦ (let e = ap (λ (x : Shape). x.own) last.1 in let b = c.shape_of-shape.ensures.small in omega arith)
       ];
-      links = c.in-Ok.ensures.links ∙ i.links;
+      links = c.push.ensures.links ∙ i.links;
+      kept =
+          let room = c.push.ensures.room in
+          let links_room = c.push.ensures.links_room in
+          let gates = i.kept.gates in
+          let links = i.kept.links in
+          let same = ap length c.push.ensures.links in
+          record { gates = omega arith; links = omega arith };
     }
+
+pub push-requires : goal.push-requires
+push-requires c =
+    let size = c.loop-place.invariant.size in
+    let kept = c.loop-place.invariant.kept.gates in
+    let none = ap length c.requires.empty in
+    let room = c.requires.room in
+    let early = c.loop-place-test.true in
+    omega arith

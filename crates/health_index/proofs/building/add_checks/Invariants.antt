@@ -1,5 +1,6 @@
 use Rattle.std.proofs.Common.{◌≡◌, ◌≤◌, ℕ, List, Some, length}
 use Rattle.std.specs.Prelude.{slice_get, take}
+use Rattle.health_gates.specs.Plan.{KeepsRoom}
 use Rattle.health_gates.specs.declared.plan.Shape.{Shape}
 use Rattle.health_index.specs.Building.{AreSeen, check_shapes}
 use Rattle.health_model.specs.Statuses.{Report}
@@ -13,4 +14,5 @@ invariant-loop-place l = record {
   size : length l.plan.shapes ≡ l.place;
   small : (n : ℕ) (shape : Shape) → slice_get l.plan.shapes n ≡ Some shape → shape.own ≤ 255;
   links : l.plan.links ≡ l.fn.plan.links;
+  kept : KeepsRoom l.fn.plan l.plan;
 }

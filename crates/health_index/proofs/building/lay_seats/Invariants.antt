@@ -1,5 +1,5 @@
 use Rattle.std.proofs.Common.{◌≡◌, ◌≤◌}
-use Rattle.std.specs.Prelude.{replicate}
+use Rattle.std.specs.Prelude.{replicate, vec_capacity, vec_len}
 use Rattle.health_index.specs.Building.{no_seat}
 use Rattle.health_index.proofs.building.lay_seats.Given as goal
 
@@ -7,4 +7,6 @@ abbrev pub invariant-loop-i : goal.invariant-loop-i
 invariant-loop-i l = record {
   within : l._i ≤ l.slots;
   seats : l.seats.items ≡ replicate l._i no_seat;
+  len : vec_len l.seats ≡ l._i;
+  room : vec_capacity l.seats ≡ vec_capacity l.fn.seats;
 }

@@ -21,12 +21,14 @@ loop-place-preserved c =
     let held = c.index-list-place.result in
     let at = slice_get_read c.args.list.now _ place held refl c.loop-place-test.true c.index-list-place.is in
     let saw = c.seen_of-saw.result in
-    let more = c.in-Ok.ensures in
+    let more = c.push_reserved.ensures.items in
     let longer = ap length more ∙ length-append c.loop-place.into.items (saw ∷ []) in
     let size = i.size in
     record {
       within = omega (arith, c.loop-place-test.true);
       size = omega arith;
+      len = let len = i.len in let one = c.push_reserved.ensures.len in omega arith;
+      room = c.push_reserved.ensures.capacity ∙ i.room;
       seen = λ old reports knows each k id check its here is. elim (in_more c.loop-place.into.items saw its k (rw more at is)) [
         | inl before ↦ i.seen old reports knows each k id check its here before
         | inr last ↦

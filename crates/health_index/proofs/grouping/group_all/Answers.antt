@@ -5,7 +5,8 @@ use mathlib.Core.Path.{subst}
 use Rattle.zone_list.specs.declared.refs.SetRef.{SetRef}
 use Rattle.zone_table.specs.Looking.{Names}
 use Rattle.health_index.specs.Building.{HasTarget}
-use Rattle.health_index.proofs.Grouped.{none_grouped, target_on}
+use Rattle.health_index.proofs.Grouped.{target_on}
+use Rattle.health_index.proofs.Roomy.{can_start}
 use Rattle.health_index.proofs.grouping.group_all.Goals as goal
 
 pub loop-set-init : goal.loop-set-init
@@ -13,7 +14,8 @@ loop-set-init c = record {
   slots = c.requires.slots;
   below = c.requires.below;
   within = c.requires.within;
-  grouped = none_grouped c.args.zones.now.zones c.args.seats.now.items c.args.plan.now.shapes c.args.plan.now.links c.requires.none;
+  grouped = can_start c.args.zones.now.zones c.args.seats.now.items c.args.plan.now c.requires.below c.requires.apart c.requires.none c.requires.room c.requires.links_room c.requires.few;
+  kept = record { gates = refl; links = refl };
   all = λ k set named name before at names is. absurd (omega arith);
   sets = λ slot. refl;
   shapes = λ n shape at. at;
@@ -25,14 +27,20 @@ pub loop-set-preserved : goal.loop-set-preserved
 loop-set-preserved c =
     let zones = c.args.zones.now.zones in
     let i = c.loop-set.invariant in
-    let o = c.in-Ok.ensures in
+    let o = c.group_one.ensures in
     let grown = i.more in
     let more = o.more in
     record {
       slots = o.size ∙ i.slots;
       below = λ slot gate is. let b = i.below slot gate (sym (o.sets slot) ∙ is) in omega arith;
       within = o.within;
-      grouped = o.grouped (length c.args.plan.now.shapes) grown i.grouped;
+      grouped = o.grouped (length c.args.plan.now.shapes) (length c.args.plan.now.links) i.grouped;
+      kept =
+          let gates = i.kept.gates in
+          let more_gates = o.kept.gates in
+          let links = i.kept.links in
+          let more_links = o.kept.links in
+          record { gates = omega arith; links = omega arith };
       all = λ k set named name before at names is. elim (cases_lt k c.loop-set.set-index) [
         | inl early ↦ target_on zones _ _ set.zone name named.rtype o.goes_on (i.all k set named name early at names is)
         | inr late ↦
@@ -52,3 +60,7 @@ returns-clause-all c k set named name at names is =
     let b = slice_get_within c.args.refs.now k set at in
     let end = c.loop-set-test.false in
     c.loop-set.invariant.all k set named name (omega arith) at names is
+
+pub group_one-requires-clause-room : goal.group_one-requires-clause-room
+group_one-requires-clause-room c =
+    (length c.args.plan.now.shapes, (length c.args.plan.now.links, c.loop-set.invariant.grouped))

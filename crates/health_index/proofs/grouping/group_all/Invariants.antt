@@ -1,12 +1,13 @@
 use Rattle.std.proofs.Common.{◌≡◌, ◌≤◌, ◌<◌, ℕ, List, true, length, Some}
 use Rattle.std.specs.Prelude.{slice_get}
-use Rattle.health_gates.specs.Plan.{feeders_in}
+use Rattle.health_gates.specs.Plan.{KeepsRoom, feeders_in}
 use Rattle.health_gates.specs.declared.plan.Shape.{Shape}
 use Rattle.record_set.specs.declared.sets.Body.TheVariants.{Alias}
 use Rattle.record_set.specs.declared.sets.RecordSet.{RecordSet}
 use Rattle.zone_list.specs.declared.refs.SetRef.{SetRef}
 use Rattle.zone_table.specs.Looking.{Names}
-use Rattle.health_index.specs.Building.{AreBelow, AreGrouped, AreWithin, HasTarget, SameSets}
+use Rattle.health_index.specs.Building.{AreBelow, AreWithin, HasTarget, SameSets}
+use Rattle.health_index.specs.Room.{CanGroup}
 use Rattle.health_index.proofs.grouping.group_all.Given as goal
 
 abbrev pub invariant-loop-set : goal.invariant-loop-set
@@ -14,7 +15,8 @@ invariant-loop-set l = record {
   slots : length l.seats.items ≡ l.zones.slots;
   below : AreBelow l.seats.items (length l.plan.shapes);
   within : AreWithin l.plan.links (length l.plan.shapes);
-  grouped : AreGrouped l.zones.zones (length l.fn.plan.shapes) l.seats.items l.plan.shapes l.plan.links;
+  grouped : CanGroup l.zones.zones (length l.fn.plan.shapes) (length l.fn.plan.links) l.seats.items l.plan;
+  kept : KeepsRoom l.fn.plan l.plan;
   all : (k : ℕ) (set : SetRef) (named : RecordSet) (name : List (List ℕ)) → k < l.set-index
       → slice_get l.refs k ≡ Some set → Names l.zones.zones set named
       → named.body ≡ Alias name true

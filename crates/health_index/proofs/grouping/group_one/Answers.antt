@@ -1,4 +1,4 @@
-use Rattle.std.proofs.Common.{◌≡◌, ◌<◌, ◌≤◌, ◌^◌, ◌∷◌, ◌++◌, [], add-one, true, List, arith, ap, sym, ◌∙◌, length}
+use Rattle.std.proofs.Common.{◌≡◌, ◌<◌, ◌≤◌, ◌^◌, ◌∷◌, ◌++◌, [], add-one, true, List, arith, ap, refl, sym, ◌∙◌, length, length-append}
 use Rattle.std.specs.Prelude.{not}
 use mathlib.Core.Path.{subst}
 use Rattle.std.proofs.lemmas.Bool.{false≢true}
@@ -11,9 +11,11 @@ use Rattle.zone_table.specs.Looking.{Targets, Watches}
 use Rattle.health_index.specs.Building.{group_shape, links_to}
 use Rattle.health_index.specs.Wired.{gates_of, group_seat, plain_among, seat_of}
 use Rattle.health_index.specs.declared.seats.Seat.{Seat}
-use Rattle.health_index.proofs.Grouped.{feeders_now, grouped_more, seat_now, within_now}
+use Rattle.health_index.proofs.Few.{few_plain}
+use Rattle.health_index.proofs.Grouped.{feeders_now, seat_now, within_now}
 use Rattle.health_index.proofs.Groups.{member_at, members_are, some_gate, told_target}
 use Rattle.health_index.proofs.ListedOnce.{slot_below, still_at}
+use Rattle.health_index.proofs.Roomy.{can_more, gate_early, links_fit, members_few, members_own}
 use Rattle.health_index.proofs.grouping.group_one.Goals as goal
 
 pub returns-then-not-watch-clause-here : goal.returns-then-not-watch-clause-here
@@ -66,7 +68,7 @@ index_mut-requires c =
     omega arith
 
 pub returns-clause-grouped : goal.returns-clause-grouped
-returns-clause-grouped c from least grouped =
+returns-clause-grouped c from base can =
     let zones = c.args.zones.now.zones in
     let first = member_at zones c.find_group-group.result 0 c.member-first.result (omega (arith, c.if-group-eq0.false)) c.member-first.ensures in
     let members = members_of zones c.find_group-group.result in
@@ -78,11 +80,22 @@ returns-clause-grouped c from least grouped =
     let empty = sym (c.seat_at-seat.ensures.group ∙ ap (λ (l : List Seat). group_seat l c.member-first.result.slot) read) ∙ c.if-seat-ne0.false in
     let are = members_are zones c.find_group-group.result c.args.set.zone c.in-Some-target.target.0 c.in-Some-target.target.1 c.find_group-group.ensures.zone c.find_group-group.ensures.sets in
     let plains = c.count_plain-plains.ensures ∙ ap (λ (l : List Seat). plain_among l members) c.deref-2.ensures.value in
-    let few : plain_among c.args.seats.now.items members ≤ 2 ^ 31 = omega (arith, c.if-plains.false) in
-    let links = c.in-Ok-join_members.ensures.links ∙ ap (λ (l : List Link). l ++ links_to c.in-Ok.gate (gates_of c.deref-3.result.now members)) c.add.ensures.links ∙ ap (λ (l : List Seat). c.args.plan.now.links ++ links_to c.in-Ok.gate (gates_of l members)) c.deref-3.ensures.value in
-    let shapes = c.in-Ok-join_members.ensures.shapes ∙ c.in-Ok.ensures.shapes ∙ ap (λ n. c.args.plan.now.shapes ++ group_shape n ∷ []) plains in
-    let gate_is = c.in-Ok.ensures.number in
-    rw (set_is, shapes, links) (grouped_more zones c.args.seats.now.items c.args.plan.now.shapes c.args.plan.now.links c.member-first.result.slot c.in-Ok.gate c.args.set.zone c.in-Some-target.target.0 c.in-Some-target.target.1 members within c.requires.below c.requires.within empty gate_is are (first.p, first.at, first.slot) few from least grouped)
+    let placed = members_few zones c.find_group-group.result c.args.zones.now.slots c.well_formed-2.ensures c.slots_within.ensures.within in
+    let most = c.requires.room.1.1.few in
+    let some = few_plain c.args.seats.now.items members in
+    let few : plain_among c.args.seats.now.items members ≤ 2 ^ 31 = omega arith in
+    let links = c.join_members.ensures.links ∙ ap (λ (l : List Link). l ++ links_to c.len-gate.result (gates_of c.deref-3.result.now members)) c.push.ensures.links ∙ ap (λ (l : List Seat). c.args.plan.now.links ++ links_to c.len-gate.result (gates_of l members)) c.deref-3.ensures.value in
+    let shapes = c.join_members.ensures.shapes ∙ c.push.ensures.shapes ∙ ap (λ n. c.args.plan.now.shapes ++ group_shape n ∷ []) plains in
+    let gate_is = c.len-gate.ensures in
+    let own = members_own zones c.find_group-group.result c.well_formed-2.ensures in
+    let kept = c.join_members.ensures.kept in
+    let gates_kept = kept.gates in
+    let links_kept = kept.links in
+    let pushed = ap length c.push.ensures.shapes ∙ length-append c.args.plan.now.shapes _ in
+    let same_links = ap length c.push.ensures.links in
+    let one = c.push.ensures.room in
+    let same_room = c.push.ensures.links_room in
+    rw set_is (can_more zones c.well_formed-2.ensures c.slots_apart.ensures from base c.args.seats.now.items c.args.plan.now can c.member-first.result.slot c.len-gate.result c.args.set.zone c.in-Some-target.target.0 c.in-Some-target.target.1 members within c.requires.below c.requires.within empty gate_is are (first.p, first.at, first.slot) own few c.join_members.new.plan shapes links (record { gates = omega arith; links = omega arith }))
 
 pub returns-clause-here : goal.returns-clause-here
 returns-clause-here c named name names is =
@@ -97,10 +110,13 @@ returns-clause-here c named name names is =
     let empty = sym (c.seat_at-seat.ensures.group ∙ ap (λ (l : List Seat). group_seat l c.member-first.result.slot) read) ∙ c.if-seat-ne0.false in
     let are = members_are zones c.find_group-group.result c.args.set.zone c.in-Some-target.target.0 c.in-Some-target.target.1 c.find_group-group.ensures.zone c.find_group-group.ensures.sets in
     let plains = c.count_plain-plains.ensures ∙ ap (λ (l : List Seat). plain_among l members) c.deref-2.ensures.value in
-    let few : plain_among c.args.seats.now.items members ≤ 2 ^ 31 = omega (arith, c.if-plains.false) in
-    let links = c.in-Ok-join_members.ensures.links ∙ ap (λ (l : List Link). l ++ links_to c.in-Ok.gate (gates_of c.deref-3.result.now members)) c.add.ensures.links ∙ ap (λ (l : List Seat). c.args.plan.now.links ++ links_to c.in-Ok.gate (gates_of l members)) c.deref-3.ensures.value in
-    let shapes = c.in-Ok-join_members.ensures.shapes ∙ c.in-Ok.ensures.shapes ∙ ap (λ n. c.args.plan.now.shapes ++ group_shape n ∷ []) plains in
-    let gate_is = c.in-Ok.ensures.number in
+    let placed = members_few zones c.find_group-group.result c.args.zones.now.slots c.well_formed-2.ensures c.slots_within.ensures.within in
+    let most = c.requires.room.1.1.few in
+    let some = few_plain c.args.seats.now.items members in
+    let few : plain_among c.args.seats.now.items members ≤ 2 ^ 31 = omega arith in
+    let links = c.join_members.ensures.links ∙ ap (λ (l : List Link). l ++ links_to c.len-gate.result (gates_of c.deref-3.result.now members)) c.push.ensures.links ∙ ap (λ (l : List Seat). c.args.plan.now.links ++ links_to c.len-gate.result (gates_of l members)) c.deref-3.ensures.value in
+    let shapes = c.join_members.ensures.shapes ∙ c.push.ensures.shapes ∙ ap (λ n. c.args.plan.now.shapes ++ group_shape n ∷ []) plains in
+    let gate_is = c.len-gate.ensures in
     let t = subst (Targets zones c.args.set) c.in-Some-target.is c.target.ensures in
     let same = one_named zones c.args.set t.0 named c.well_formed-2.ensures t.1 names in
     let target = told_target named name _ is (ap target_of (sym same) ∙ t.2) in
@@ -109,12 +125,12 @@ returns-clause-here c named name names is =
       are = are;
       slot = c.member-first.result.slot;
       first = (first.p, first.at, first.slot);
-      gate = c.in-Ok.gate;
-      seat = rw set_is (seat_now c.args.seats.now.items c.member-first.result.slot c.in-Ok.gate within ∙ add-one c.in-Ok.gate);
+      gate = c.len-gate.result;
+      seat = rw set_is (seat_now c.args.seats.now.items c.member-first.result.slot c.len-gate.result within ∙ add-one c.len-gate.result);
     })
 
 pub returns-clause-shapes : goal.returns-clause-shapes
-returns-clause-shapes c n shape at = rw (c.in-Ok-join_members.ensures.shapes, c.in-Ok.ensures.shapes) (still_at c.args.plan.now.shapes _ shape n at)
+returns-clause-shapes c n shape at = rw (c.join_members.ensures.shapes, c.push.ensures.shapes) (still_at c.args.plan.now.shapes _ shape n at)
 
 pub returns-clause-feeders : goal.returns-clause-feeders
 returns-clause-feeders c gate early =
@@ -129,11 +145,14 @@ returns-clause-feeders c gate early =
     let empty = sym (c.seat_at-seat.ensures.group ∙ ap (λ (l : List Seat). group_seat l c.member-first.result.slot) read) ∙ c.if-seat-ne0.false in
     let are = members_are zones c.find_group-group.result c.args.set.zone c.in-Some-target.target.0 c.in-Some-target.target.1 c.find_group-group.ensures.zone c.find_group-group.ensures.sets in
     let plains = c.count_plain-plains.ensures ∙ ap (λ (l : List Seat). plain_among l members) c.deref-2.ensures.value in
-    let few : plain_among c.args.seats.now.items members ≤ 2 ^ 31 = omega (arith, c.if-plains.false) in
-    let links = c.in-Ok-join_members.ensures.links ∙ ap (λ (l : List Link). l ++ links_to c.in-Ok.gate (gates_of c.deref-3.result.now members)) c.add.ensures.links ∙ ap (λ (l : List Seat). c.args.plan.now.links ++ links_to c.in-Ok.gate (gates_of l members)) c.deref-3.ensures.value in
-    let shapes = c.in-Ok-join_members.ensures.shapes ∙ c.in-Ok.ensures.shapes ∙ ap (λ n. c.args.plan.now.shapes ++ group_shape n ∷ []) plains in
-    let gate_is = c.in-Ok.ensures.number in
-    rw links (feeders_now zones c.args.seats.now.items c.args.plan.now.shapes c.args.plan.now.links c.member-first.result.slot c.in-Ok.gate c.args.set.zone c.in-Some-target.target.0 c.in-Some-target.target.1 members within c.requires.below c.requires.within empty gate_is are (first.p, first.at, first.slot) few gate early)
+    let placed = members_few zones c.find_group-group.result c.args.zones.now.slots c.well_formed-2.ensures c.slots_within.ensures.within in
+    let most = c.requires.room.1.1.few in
+    let some = few_plain c.args.seats.now.items members in
+    let few : plain_among c.args.seats.now.items members ≤ 2 ^ 31 = omega arith in
+    let links = c.join_members.ensures.links ∙ ap (λ (l : List Link). l ++ links_to c.len-gate.result (gates_of c.deref-3.result.now members)) c.push.ensures.links ∙ ap (λ (l : List Seat). c.args.plan.now.links ++ links_to c.len-gate.result (gates_of l members)) c.deref-3.ensures.value in
+    let shapes = c.join_members.ensures.shapes ∙ c.push.ensures.shapes ∙ ap (λ n. c.args.plan.now.shapes ++ group_shape n ∷ []) plains in
+    let gate_is = c.len-gate.ensures in
+    rw links (feeders_now zones c.args.seats.now.items c.args.plan.now.shapes c.args.plan.now.links c.member-first.result.slot c.len-gate.result c.args.set.zone c.in-Some-target.target.0 c.in-Some-target.target.1 members within c.requires.below c.requires.within empty gate_is are (first.p, first.at, first.slot) few gate early)
 
 pub returns-clause-within : goal.returns-clause-within
 returns-clause-within c =
@@ -148,8 +167,119 @@ returns-clause-within c =
     let empty = sym (c.seat_at-seat.ensures.group ∙ ap (λ (l : List Seat). group_seat l c.member-first.result.slot) read) ∙ c.if-seat-ne0.false in
     let are = members_are zones c.find_group-group.result c.args.set.zone c.in-Some-target.target.0 c.in-Some-target.target.1 c.find_group-group.ensures.zone c.find_group-group.ensures.sets in
     let plains = c.count_plain-plains.ensures ∙ ap (λ (l : List Seat). plain_among l members) c.deref-2.ensures.value in
-    let few : plain_among c.args.seats.now.items members ≤ 2 ^ 31 = omega (arith, c.if-plains.false) in
-    let links = c.in-Ok-join_members.ensures.links ∙ ap (λ (l : List Link). l ++ links_to c.in-Ok.gate (gates_of c.deref-3.result.now members)) c.add.ensures.links ∙ ap (λ (l : List Seat). c.args.plan.now.links ++ links_to c.in-Ok.gate (gates_of l members)) c.deref-3.ensures.value in
-    let shapes = c.in-Ok-join_members.ensures.shapes ∙ c.in-Ok.ensures.shapes ∙ ap (λ n. c.args.plan.now.shapes ++ group_shape n ∷ []) plains in
-    let gate_is = c.in-Ok.ensures.number in
-    rw (shapes, links) (within_now zones c.args.seats.now.items c.args.plan.now.shapes c.args.plan.now.links c.member-first.result.slot c.in-Ok.gate c.args.set.zone c.in-Some-target.target.0 c.in-Some-target.target.1 members within c.requires.below c.requires.within empty gate_is are (first.p, first.at, first.slot) few)
+    let placed = members_few zones c.find_group-group.result c.args.zones.now.slots c.well_formed-2.ensures c.slots_within.ensures.within in
+    let most = c.requires.room.1.1.few in
+    let some = few_plain c.args.seats.now.items members in
+    let few : plain_among c.args.seats.now.items members ≤ 2 ^ 31 = omega arith in
+    let links = c.join_members.ensures.links ∙ ap (λ (l : List Link). l ++ links_to c.len-gate.result (gates_of c.deref-3.result.now members)) c.push.ensures.links ∙ ap (λ (l : List Seat). c.args.plan.now.links ++ links_to c.len-gate.result (gates_of l members)) c.deref-3.ensures.value in
+    let shapes = c.join_members.ensures.shapes ∙ c.push.ensures.shapes ∙ ap (λ n. c.args.plan.now.shapes ++ group_shape n ∷ []) plains in
+    let gate_is = c.len-gate.ensures in
+    rw (shapes, links) (within_now zones c.args.seats.now.items c.args.plan.now.shapes c.args.plan.now.links c.member-first.result.slot c.len-gate.result c.args.set.zone c.in-Some-target.target.0 c.in-Some-target.target.1 members within c.requires.below c.requires.within empty gate_is are (first.p, first.at, first.slot) few)
+
+pub overflow_cast-shape : goal.overflow_cast-shape
+overflow_cast-shape c =
+    let zones = c.args.zones.now.zones in
+    let first = member_at zones c.find_group-group.result 0 c.member-first.result (omega (arith, c.if-group-eq0.false)) c.member-first.ensures in
+    let members = members_of zones c.find_group-group.result in
+    let b = slot_below zones c.args.zones.now.slots c.member-first.result first.p.set c.slots_within.ensures.within first.names in
+    let slots = c.requires.slots in
+    let within : c.member-first.result.slot < length c.args.seats.now.items = omega arith in
+    let read = c.deref.ensures.value in
+    let set_is = c.seat_at-seat.ensures.set ∙ ap (λ (l : List Seat). seat_of l c.member-first.result.slot) read in
+    let empty = sym (c.seat_at-seat.ensures.group ∙ ap (λ (l : List Seat). group_seat l c.member-first.result.slot) read) ∙ c.if-seat-ne0.false in
+    let are = members_are zones c.find_group-group.result c.args.set.zone c.in-Some-target.target.0 c.in-Some-target.target.1 c.find_group-group.ensures.zone c.find_group-group.ensures.sets in
+    let plains = c.count_plain-plains.ensures ∙ ap (λ (l : List Seat). plain_among l members) c.deref-2.ensures.value in
+    let placed = members_few zones c.find_group-group.result c.args.zones.now.slots c.well_formed-2.ensures c.slots_within.ensures.within in
+    let most = c.requires.room.1.1.few in
+    let some = few_plain c.args.seats.now.items members in
+    let few : plain_among c.args.seats.now.items members ≤ 2 ^ 31 = omega arith in
+    omega arith
+
+pub overflow_cast-gate : goal.overflow_cast-gate
+overflow_cast-gate c =
+    let zones = c.args.zones.now.zones in
+    let first = member_at zones c.find_group-group.result 0 c.member-first.result (omega (arith, c.if-group-eq0.false)) c.member-first.ensures in
+    let members = members_of zones c.find_group-group.result in
+    let b = slot_below zones c.args.zones.now.slots c.member-first.result first.p.set c.slots_within.ensures.within first.names in
+    let slots = c.requires.slots in
+    let within : c.member-first.result.slot < length c.args.seats.now.items = omega arith in
+    let read = c.deref.ensures.value in
+    let set_is = c.seat_at-seat.ensures.set ∙ ap (λ (l : List Seat). seat_of l c.member-first.result.slot) read in
+    let empty = sym (c.seat_at-seat.ensures.group ∙ ap (λ (l : List Seat). group_seat l c.member-first.result.slot) read) ∙ c.if-seat-ne0.false in
+    let are = members_are zones c.find_group-group.result c.args.set.zone c.in-Some-target.target.0 c.in-Some-target.target.1 c.find_group-group.ensures.zone c.find_group-group.ensures.sets in
+    let plains = c.count_plain-plains.ensures ∙ ap (λ (l : List Seat). plain_among l members) c.deref-2.ensures.value in
+    let placed = members_few zones c.find_group-group.result c.args.zones.now.slots c.well_formed-2.ensures c.slots_within.ensures.within in
+    let most = c.requires.room.1.1.few in
+    let some = few_plain c.args.seats.now.items members in
+    let few : plain_among c.args.seats.now.items members ≤ 2 ^ 31 = omega arith in
+    let own = members_own zones c.find_group-group.result c.well_formed-2.ensures in
+    let early = gate_early zones c.well_formed-2.ensures c.slots_apart.ensures c.requires.room.0 c.requires.room.1.0 c.args.seats.now.items c.args.plan.now c.requires.room.1.1 c.member-first.result.slot (length c.args.plan.now.shapes) c.args.set.zone c.in-Some-target.target.0 c.in-Some-target.target.1 members within c.requires.below c.requires.within empty refl are (first.p, first.at, first.slot) own few in
+    let gate = c.len-gate.ensures in
+    omega arith
+
+pub push-requires : goal.push-requires
+push-requires c =
+    let zones = c.args.zones.now.zones in
+    let first = member_at zones c.find_group-group.result 0 c.member-first.result (omega (arith, c.if-group-eq0.false)) c.member-first.ensures in
+    let members = members_of zones c.find_group-group.result in
+    let b = slot_below zones c.args.zones.now.slots c.member-first.result first.p.set c.slots_within.ensures.within first.names in
+    let slots = c.requires.slots in
+    let within : c.member-first.result.slot < length c.args.seats.now.items = omega arith in
+    let read = c.deref.ensures.value in
+    let set_is = c.seat_at-seat.ensures.set ∙ ap (λ (l : List Seat). seat_of l c.member-first.result.slot) read in
+    let empty = sym (c.seat_at-seat.ensures.group ∙ ap (λ (l : List Seat). group_seat l c.member-first.result.slot) read) ∙ c.if-seat-ne0.false in
+    let are = members_are zones c.find_group-group.result c.args.set.zone c.in-Some-target.target.0 c.in-Some-target.target.1 c.find_group-group.ensures.zone c.find_group-group.ensures.sets in
+    let plains = c.count_plain-plains.ensures ∙ ap (λ (l : List Seat). plain_among l members) c.deref-2.ensures.value in
+    let placed = members_few zones c.find_group-group.result c.args.zones.now.slots c.well_formed-2.ensures c.slots_within.ensures.within in
+    let most = c.requires.room.1.1.few in
+    let some = few_plain c.args.seats.now.items members in
+    let few : plain_among c.args.seats.now.items members ≤ 2 ^ 31 = omega arith in
+    let own = members_own zones c.find_group-group.result c.well_formed-2.ensures in
+    let early = gate_early zones c.well_formed-2.ensures c.slots_apart.ensures c.requires.room.0 c.requires.room.1.0 c.args.seats.now.items c.args.plan.now c.requires.room.1.1 c.member-first.result.slot (length c.args.plan.now.shapes) c.args.set.zone c.in-Some-target.target.0 c.in-Some-target.target.1 members within c.requires.below c.requires.within empty refl are (first.p, first.at, first.slot) own few in
+    let room = c.requires.room.1.1.gates_room in
+    omega arith
+
+pub join_members-requires-clause-room : goal.join_members-requires-clause-room
+join_members-requires-clause-room c =
+    let zones = c.args.zones.now.zones in
+    let first = member_at zones c.find_group-group.result 0 c.member-first.result (omega (arith, c.if-group-eq0.false)) c.member-first.ensures in
+    let members = members_of zones c.find_group-group.result in
+    let b = slot_below zones c.args.zones.now.slots c.member-first.result first.p.set c.slots_within.ensures.within first.names in
+    let slots = c.requires.slots in
+    let within : c.member-first.result.slot < length c.args.seats.now.items = omega arith in
+    let read = c.deref.ensures.value in
+    let set_is = c.seat_at-seat.ensures.set ∙ ap (λ (l : List Seat). seat_of l c.member-first.result.slot) read in
+    let empty = sym (c.seat_at-seat.ensures.group ∙ ap (λ (l : List Seat). group_seat l c.member-first.result.slot) read) ∙ c.if-seat-ne0.false in
+    let are = members_are zones c.find_group-group.result c.args.set.zone c.in-Some-target.target.0 c.in-Some-target.target.1 c.find_group-group.ensures.zone c.find_group-group.ensures.sets in
+    let plains = c.count_plain-plains.ensures ∙ ap (λ (l : List Seat). plain_among l members) c.deref-2.ensures.value in
+    let placed = members_few zones c.find_group-group.result c.args.zones.now.slots c.well_formed-2.ensures c.slots_within.ensures.within in
+    let most = c.requires.room.1.1.few in
+    let some = few_plain c.args.seats.now.items members in
+    let few : plain_among c.args.seats.now.items members ≤ 2 ^ 31 = omega arith in
+    let own = members_own zones c.find_group-group.result c.well_formed-2.ensures in
+    let fit = links_fit zones c.well_formed-2.ensures c.slots_apart.ensures c.requires.room.0 c.requires.room.1.0 c.args.seats.now.items c.args.plan.now c.requires.room.1.1 c.member-first.result.slot (length c.args.plan.now.shapes) c.args.set.zone c.in-Some-target.target.0 c.in-Some-target.target.1 members within c.requires.below c.requires.within empty refl are (first.p, first.at, first.slot) own few in
+    let same = ap (λ (l : List Seat). length (gates_of l members)) c.deref-3.ensures.value in
+    let room = c.push.ensures.links_room in
+    omega arith
+
+pub overflow_add-gate : goal.overflow_add-gate
+overflow_add-gate c =
+    let zones = c.args.zones.now.zones in
+    let first = member_at zones c.find_group-group.result 0 c.member-first.result (omega (arith, c.if-group-eq0.false)) c.member-first.ensures in
+    let members = members_of zones c.find_group-group.result in
+    let b = slot_below zones c.args.zones.now.slots c.member-first.result first.p.set c.slots_within.ensures.within first.names in
+    let slots = c.requires.slots in
+    let within : c.member-first.result.slot < length c.args.seats.now.items = omega arith in
+    let read = c.deref.ensures.value in
+    let set_is = c.seat_at-seat.ensures.set ∙ ap (λ (l : List Seat). seat_of l c.member-first.result.slot) read in
+    let empty = sym (c.seat_at-seat.ensures.group ∙ ap (λ (l : List Seat). group_seat l c.member-first.result.slot) read) ∙ c.if-seat-ne0.false in
+    let are = members_are zones c.find_group-group.result c.args.set.zone c.in-Some-target.target.0 c.in-Some-target.target.1 c.find_group-group.ensures.zone c.find_group-group.ensures.sets in
+    let plains = c.count_plain-plains.ensures ∙ ap (λ (l : List Seat). plain_among l members) c.deref-2.ensures.value in
+    let placed = members_few zones c.find_group-group.result c.args.zones.now.slots c.well_formed-2.ensures c.slots_within.ensures.within in
+    let most = c.requires.room.1.1.few in
+    let some = few_plain c.args.seats.now.items members in
+    let few : plain_among c.args.seats.now.items members ≤ 2 ^ 31 = omega arith in
+    let own = members_own zones c.find_group-group.result c.well_formed-2.ensures in
+    let early = gate_early zones c.well_formed-2.ensures c.slots_apart.ensures c.requires.room.0 c.requires.room.1.0 c.args.seats.now.items c.args.plan.now c.requires.room.1.1 c.member-first.result.slot (length c.args.plan.now.shapes) c.args.set.zone c.in-Some-target.target.0 c.in-Some-target.target.1 members within c.requires.below c.requires.within empty refl are (first.p, first.at, first.slot) own few in
+    let gate = c.len-gate.ensures in
+    omega arith

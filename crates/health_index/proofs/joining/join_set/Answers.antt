@@ -16,11 +16,11 @@ returns-clause-links c named names =
     let target = with_gate c.target_seat-target.result [] in
     let checks = map (place_of c.args.ids.now) (option_to_list named.check) in
     let check = c.check_of.ensures named names in
-    let first = c.in-Ok.ensures.links ∙ ap (λ (o : Option ℕ). c.args.plan.now.links ++ links_to c.args.gate (map (place_of c.args.ids.now) (option_to_list o))) check in (
+    let first = c.join_check.ensures.links ∙ ap (λ (o : Option ℕ). c.args.plan.now.links ++ links_to c.args.gate (map (place_of c.args.ids.now) (option_to_list o))) check in (
       checks ++ target,
       (
         (target, (c.target_seat-target.ensures named names, refl)),
-        c.in-Ok-join_seat.ensures.links
+        c.join_seat.ensures.links
             ∙ ap (λ (l : List Link). l ++ links_to c.args.gate target) first
             ∙ append_assoc c.args.plan.now.links (links_to c.args.gate checks) (links_to c.args.gate target)
             ∙ ap (λ (l : List Link). c.args.plan.now.links ++ l) (sym (links_more c.args.gate checks target)),

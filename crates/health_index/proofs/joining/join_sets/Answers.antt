@@ -30,12 +30,22 @@ loop-k-preserved c =
     let i = c.loop-k.invariant in
     let here = slice_get-get_or c.args.refs.now c.loop-k.k (record { zone = 0; slot = 0 }) c.loop-k-test.true in
     let one = c.requires.named c.loop-k.k _ here in
-    let joins = c.in-Ok.ensures.links one.0 one.1 in
+    let joins = c.join_set.ensures.links one.0 one.1 in
     let gate = length ids + c.loop-k.k in
     let before = c.loop-k.plan.links in
     record {
       within_refs = omega (arith, c.loop-k-test.true);
-      shapes = c.in-Ok.ensures.shapes ∙ i.shapes;
+      shapes = c.join_set.ensures.shapes ∙ i.shapes;
+      kept =
+          let gates = i.kept.gates in
+          let more_gates = c.join_set.ensures.kept.gates in
+          let links = i.kept.links in
+          let more_links = c.join_set.ensures.kept.links in
+          record { gates = omega arith; links = omega arith };
+      few =
+          let few = i.few in
+          let more = c.join_set.ensures.few in
+          omega arith;
       joined = λ k set named early at names none. elim (cases_lt k c.loop-k.k) [
         | inl past ↦
             subst (FeedsSet zones ids seats set.zone named)
@@ -45,7 +55,7 @@ loop-k-preserved c =
             let k_is : k ≡ c.loop-k.k = omega arith in
             let set_is = some_same (sym here ∙ ap (slice_get c.args.refs.now) (sym k_is) ∙ at) in
             let names_here = subst (λ (s : SetRef). Names zones s named) (sym set_is) names in
-            let its = c.in-Ok.ensures.links named names_here in
+            let its = c.join_set.ensures.links named names_here in
             let none_yet = i.others gate (inr (omega arith)) ∙ ap (λ (n : ℕ). feeders_in c.args.plan.now.links (length ids + n)) (sym k_is) ∙ none in
             subst (λ (s : SetRef). FeedsSet zones ids seats s.zone named (feeders_in c.join_set.new.plan.links (length ids + k))) set_is
             (subst (FeedsSet zones ids seats _ named)
@@ -69,3 +79,10 @@ returns-clause-joined c k set named at names none =
     let b = slice_get_within c.args.refs.now k set at in
     let end = c.loop-k-test.false in
     c.loop-k.invariant.joined k set named (omega arith) at names none
+
+pub join_set-requires-clause-room : goal.join_set-requires-clause-room
+join_set-requires-clause-room c =
+    let few = c.loop-k.invariant.few in
+    let room = c.requires.room in
+    let early = c.loop-k-test.true in
+    omega arith

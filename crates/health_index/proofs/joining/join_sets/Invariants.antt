@@ -1,6 +1,6 @@
-use Rattle.std.proofs.Common.{◌≡◌, ◌≤◌, ◌<◌, ◌+◌, ◌⊎◌, ℕ, suc, [], length, Some}
+use Rattle.std.proofs.Common.{◌≡◌, ◌≤◌, ◌<◌, ◌+◌, ◌*◌, ◌⊎◌, ℕ, suc, [], length, Some}
 use Rattle.std.specs.Prelude.{slice_get}
-use Rattle.health_gates.specs.Plan.{feeders_in}
+use Rattle.health_gates.specs.Plan.{KeepsRoom, feeders_in}
 use Rattle.record_set.specs.declared.sets.RecordSet.{RecordSet}
 use Rattle.zone_list.specs.declared.refs.SetRef.{SetRef}
 use Rattle.zone_table.specs.Looking.{Names}
@@ -12,6 +12,8 @@ abbrev pub invariant-loop-k : goal.invariant-loop-k
 invariant-loop-k l = record {
   within_refs : l.k ≤ length l.refs;
   shapes : l.plan.shapes ≡ l.fn.plan.shapes;
+  kept : KeepsRoom l.fn.plan l.plan;
+  few : l.fn.plan.links_room ≤ l.plan.links_room + 2 * l.k;
   joined : (k : ℕ) (set : SetRef) (named : RecordSet) → k < l.k → slice_get l.refs k ≡ Some set
       → Names l.zones.zones set named → feeders_in l.fn.plan.links (length l.ids + k) ≡ []
       → FeedsSet l.zones.zones l.ids l.seats set.zone named

@@ -16,6 +16,8 @@ loop-next-init c = record {
   goes_on = λ ref listed. listed;
   shapes = λ n shape at. at;
   links = refl;
+  room = c.requires.room;
+  kept = record { gates = refl; links = refl };
   all = λ id p to here watched.
       let z = its_zone c.args.zones.now.zones id p here in
       let n = (in_all StandsAlone c.args.zones.now.zones z.0 c.well_formed-2.ensures.each z.1.0).numbered in
@@ -32,7 +34,7 @@ pub loop-next-preserved : goal.loop-next-preserved
 loop-next-preserved c =
     let zones = c.args.zones.now.zones in
     let i = c.loop-next.invariant in
-    let o = c.in-Ok.ensures in
+    let o = c.list_zone.ensures in
     let next = subst (NextZoneOrNone zones c.loop-next.zone) c.in-Some.is c.zone_after.ensures in
     record {
       slots = o.size ∙ i.slots;
@@ -41,6 +43,13 @@ loop-next-preserved c =
       goes_on = λ ref listed. o.goes_on ref (i.goes_on ref listed);
       shapes = λ n shape at. o.shapes n shape (i.shapes n shape at);
       links = o.links ∙ i.links;
+      room = o.room;
+      kept =
+          let gates = i.kept.gates in
+          let more = o.kept.gates in
+          let links = i.kept.links in
+          let more_links = o.kept.links in
+          record { gates = omega arith; links = omega arith };
       all = λ id p to here watched. elim (cases_lt c.loop-next.zone id) [
         | inl past ↦
             let z = its_zone zones id p here in

@@ -22,7 +22,7 @@ pub loop-i-preserved : goal.loop-i-preserved
 loop-i-preserved c =
     let zones = c.args.zones.now.zones in
     let i = c.loop-i.invariant in
-    let o = c.in-Ok.ensures in
+    let o = c.list_one.ensures in
     let t = told_at zones c.args.zone c.loop-i.i c.in-Some.set (subst (IsSetAt zones c.args.zone c.loop-i.i) c.in-Some.is c.at.ensures) in
     record {
       within = omega (arith, c.loop-i-test.true, c.count-i-end.ensures);
@@ -32,6 +32,13 @@ loop-i-preserved c =
       goes_on = λ ref listed. o.goes_on ref (i.goes_on ref listed);
       shapes = λ n shape at. o.shapes n shape (i.shapes n shape at);
       links = o.links ∙ i.links;
+      room = o.room;
+      kept =
+          let gates = i.kept.gates in
+          let more = o.kept.gates in
+          let links = i.kept.links in
+          let more_links = o.kept.links in
+          record { gates = omega arith; links = omega arith };
       all = λ k p before at watched. elim (cases_lt k c.loop-i.i) [
         | inl early ↦ o.goes_on (ref_in c.args.zone p) (i.all k p early at watched)
         | inr late ↦

@@ -1,7 +1,9 @@
 use Rattle.std.proofs.Common.{◌≡◌, ◌≤◌, ◌<◌, ℕ, true, length, Some}
 use Rattle.std.specs.Prelude.{slice_get}
+use Rattle.health_gates.specs.Plan.{KeepsRoom}
 use Rattle.health_gates.specs.declared.plan.Shape.{Shape}
 use Rattle.health_index.specs.Building.{AreListed, IsListed}
+use Rattle.health_index.specs.Room.{HasListRoom}
 use Rattle.health_index.specs.Wired.{is_watched}
 use Rattle.zone_list.specs.Changes.{ref_in}
 use Rattle.zone_list.specs.Zones.{placed_in}
@@ -21,6 +23,8 @@ invariant-loop-i l = record {
   shapes : (n : ℕ) (shape : Shape) → slice_get l.fn.plan.shapes n ≡ Some shape
       → slice_get l.plan.shapes n ≡ Some shape;
   links : l.plan.links ≡ l.fn.plan.links;
+  room : HasListRoom l.plan l.refs l.seats.items;
+  kept : KeepsRoom l.fn.plan l.plan;
   all : (k : ℕ) (p : Placed) → k < l.i → slice_get (placed_in l.zones.zones l.zone) k ≡ Some p
       → is_watched p.set ≡ true → IsListed l.refs.items (ref_in l.zone p);
 }

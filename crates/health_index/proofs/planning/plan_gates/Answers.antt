@@ -5,12 +5,13 @@ use Rattle.health_index.proofs.planning.plan_gates.Goals as goal
 
 pub returns-clause-planned : goal.returns-clause-planned
 returns-clause-planned c =
-    let links = c.links_len.ensures in
-    let gates = c.len.ensures in
+    let few = c.requires.room.few in
+    let gates = c.plan_all.ensures.few_gates in
+    let links = c.plan_all.ensures.few_links in
     is_planned c.args.zones.now.zones c.args.checks.now.checks.list c.plan_all.new.refs.items c.plan_all.new.seats.items c.plan_all.new.plan
-    c.in-Ok.ensures.built c.in-Ok.ensures.small (omega (arith, c.if-links_len-ge-MOST.false)) (omega (arith, c.if-len-gt-MOST.false))
+    c.plan_all.ensures.built c.plan_all.ensures.small (omega arith) (omega arith)
 
 pub returns-clause-ends : goal.returns-clause-ends
 returns-clause-ends c =
     plan_ends c.paths_end.ensures c.args.zones.now.zones c.args.checks.now.checks c.plan_all.new.refs.items c.plan_all.new.seats.items c.plan_all.new.plan
-    c.well_formed-2.ensures c.slots_apart.ensures c.as_slice-list.ensures.sound c.requires.sound c.in-Ok.ensures.built
+    c.well_formed-2.ensures c.slots_apart.ensures c.as_slice-list.ensures.sound c.requires.sound c.plan_all.ensures.built

@@ -32,10 +32,8 @@ pub returns-clause-meet : goal.returns-clause-meet
 returns-clause-meet c =
     c.settle_uncounted.ensures.meet _ _ (c.set_up.ensures.fits c.args.plan.now (sym c.sort.ensures.shapes) c.sort.ensures.permutation c.requires.ends)
 
-pub returns-clause-room : goal.returns-clause-room
-returns-clause-room c =
-    let long = length_permutation _ _ c.sort.ensures.permutation in
-    c.settle_uncounted.ensures.room _ _ (rw (c.sort.ensures.shapes, long) at c.set_up.ensures.room)
+pub returns-clause-kept : goal.returns-clause-kept
+returns-clause-kept c n m room = c.settle_uncounted.ensures.room n m (c.set_up.ensures.kept n m room)
 
 pub returns-clause-links : goal.returns-clause-links
 returns-clause-links c = length_permutation _ _ c.sort.ensures.permutation

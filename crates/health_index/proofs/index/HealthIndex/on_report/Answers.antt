@@ -89,7 +89,7 @@ pub invariant_of-self : goal.invariant_of-self
 invariant_of-self g c =
     let w = c.self.invariant in
     let is : slice_get c.self.inside.seen.items c.in-Some.place ≡ Some (Some c.in-Some-seen_at.checkers) = rw c.deref-2.ensures.value at (c.seen_at.ensures ∙ ap Some c.in-Some-seen_at.is) in
-    whole_after _ w c.in-Some.place c.from.result c.in-Some-seen_at.checkers c.report.new.self c.take_count.new.self is
+    whole_after _ w c.in-Some.place c.from.result c.in-Some-seen_at.checkers c.report.new.self c.take_count.new.self _ is
     (c.take_count.ensures.fits w.net w.own w.fits) c.take_count.ensures.idle
 
 pub returns-clause-stands : goal.returns-clause-stands
@@ -100,11 +100,10 @@ returns-clause-stands g c zones checks reports stands endpoint =
     let old = subst (StandsFor zones checks reports) (sym c.self.view_is) stands in
     let inner = sym c.deref.ensures.value in
     let is : slice_get c.self.inside.seen.items place ≡ Some (Some c.in-Some-seen_at.checkers) = rw c.deref-2.ensures.value at (c.seen_at.ensures ∙ ap Some c.in-Some-seen_at.is) in
-    let after = stands_after c.fifty_alone.ensures c.one_more_report.ensures zones checks reports _ old c.args.id c.args.checker c.args.pass place c.in-Some-seen_at.checkers c.report.new.self c.from.result c.take_count.new.self c.requires.checker
+    stands_after c.fifty_alone.ensures c.one_more_report.ensures zones checks reports _ old c.args.id c.args.checker c.args.pass place c.in-Some-seen_at.checkers c.report.new.self c.from.result c.take_count.new.self c.requires.checker
     (rw inner here.0) (rw inner here.1) endpoint is c.report.ensures.stands
     (λ n results h. c.from.ensures ∙ c.passing-passing.ensures.exact n results h)
-    (c.take_count.ensures.fits old.net old.own old.fits) (c.take_count.ensures.meet old.net old.own old.fits old.meet) c.take_count.ensures.idle in
-    after
+    (c.take_count.ensures.fits old.net old.own old.fits) (c.take_count.ensures.meet old.net old.own old.fits old.meet) c.take_count.ensures.idle _
 
 pub returns-clause-changed : goal.returns-clause-changed
 returns-clause-changed g c zones checks reports stands endpoint =
@@ -117,7 +116,7 @@ returns-clause-changed g c zones checks reports stands endpoint =
     let after = stands_after c.fifty_alone.ensures c.one_more_report.ensures zones checks reports _ old c.args.id c.args.checker c.args.pass place c.in-Some-seen_at.checkers c.report.new.self c.from.result c.take_count.new.self c.requires.checker
     (rw inner here.0) (rw inner here.1) endpoint is c.report.ensures.stands
     (λ n results h. c.from.ensures ∙ c.passing-passing.ensures.exact n results h)
-    (c.take_count.ensures.fits old.net old.own old.fits) (c.take_count.ensures.meet old.net old.own old.fits old.meet) c.take_count.ensures.idle in
+    (c.take_count.ensures.fits old.net old.own old.fits) (c.take_count.ensures.meet old.net old.own old.fits old.meet) c.take_count.ensures.idle c.args.self.now.space in
     let check = at_place zones checks reports _ old c.args.id place (rw inner here.0) (rw inner here.1) in
     let was = (c.index_tells_health.ensures zones checks reports _ old).statuses c.args.id check.0 check.2 in
     let now = (c.index_tells_health.ensures zones checks _ _ after).statuses c.args.id check.0 check.2 in

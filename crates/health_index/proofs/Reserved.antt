@@ -1,0 +1,50 @@
+-- An index in which room was made stays as it was.
+use Rattle.std.proofs.Common.{◌≡◌, ℕ, List, length, ap, sym, ◌∙◌}
+use mathlib.Core.Path.{subst}
+use Rattle.check_model.specs.Checks.{Checks}
+use Rattle.health_gates.specs.Gates.{Fits, Net}
+use Rattle.health_gates.specs.Pass.{IsIdle, MeetAll}
+use Rattle.health_model.specs.Statuses.{Report}
+use Rattle.zone_list.specs.Zones.{Zone}
+use Rattle.health_index.specs.Index.{Index, IsWhole, StandsFor}
+use Rattle.health_index.specs.Room.{Keeps}
+use Rattle.health_index.specs.Wired.{IsWired}
+use Rattle.health_index.specs.declared.seats.Seat.{Seat}
+
+module _ (before after : Index) (keeps : Keeps before after)
+    (stays : (net : Net) (own : ℕ → ℕ) → Fits net own before.gates → Fits net own after.gates)
+    (meet : (net : Net) (own : ℕ → ℕ) → MeetAll net own before.gates → MeetAll net own after.gates)
+    (idle : IsIdle before.gates → IsIdle after.gates) where
+  as_many : length before.seen ≡ length before.ids → length after.seen ≡ length after.ids
+  as_many many = ap length keeps.seen ∙ many ∙ sym (ap length keeps.ids)
+
+  pub still_stands : (zones : List Zone) (checks : Checks) (reports : List Report)
+      → StandsFor zones checks reports before → StandsFor zones checks reports after
+  still_stands zones checks reports is = record {
+    are_zones = is.are_zones;
+    are_checks = is.are_checks;
+    sound = is.sound;
+    are_reports = is.are_reports;
+    ids = keeps.ids ∙ is.ids;
+    seen = rw keeps.seen is.seen;
+    as_many = as_many is.as_many;
+    net = is.net;
+    own = is.own;
+    wired = subst (λ (seats : List Seat). IsWired zones checks.list seats is.net is.own reports) (sym keeps.seats) is.wired;
+    fits = stays is.net is.own is.fits;
+    meet = meet is.net is.own is.meet;
+    idle = idle is.idle;
+  }
+
+  pub still_whole : IsWhole before → IsWhole after
+  still_whole is = record {
+    net = is.net;
+    own = is.own;
+    fits = stays is.net is.own is.fits;
+    idle = idle is.idle;
+    as_many = as_many is.as_many;
+    few = rw keeps.ids is.few;
+    within = rw keeps.ids is.within;
+    seated = rw keeps.seats is.seated;
+    alone = rw keeps.seen is.alone;
+  }

@@ -1,0 +1,16 @@
+use Rattle.std.proofs.Common.{arith, ap, length, ◌∙◌, sym}
+use Rattle.health_gates.specs.Plan.{net_in, no_plan, own_in}
+use Rattle.health_index.proofs.index.HealthIndex.empty.Goals as goal
+
+pub invariant_of-result : goal.invariant_of-result
+invariant_of-result c = record {
+  net = net_in no_plan;
+  own = own_in no_plan;
+  fits = c.new-4.ensures.fits;
+  idle = c.new-4.ensures.idle;
+  as_many = ap length c.new-2.ensures.items ∙ sym (ap length c.new.ensures.items);
+  few = let none = ap length c.new.ensures.items in omega arith;
+  within = let none = ap length c.new.ensures.items in omega arith;
+  seated = λ slot gate is. absurd (grind (arith, is, c.new-3.ensures.items));
+  alone = λ place its is. absurd (grind (arith, is, c.new-2.ensures.items));
+}

@@ -1,0 +1,48 @@
+use Rattle.std.proofs.Common.{arith, ap, sym}
+use mathlib.Core.Path.{subst}
+use Rattle.health_gates.specs.Gates.{value_in}
+use Rattle.health_index.specs.Index.{Index, StandsFor}
+use Rattle.health_index.specs.Room.{HasRoom}
+use Rattle.health_index.proofs.Reserved.{still_stands, still_whole}
+use Rattle.health_index.proofs.index.HealthIndex.reserve.Goals as goal
+
+pub invariant_of-self : goal.invariant_of-self
+invariant_of-self c =
+    let now = c.room_for_checks-now.ensures in
+    let slots = c.room_for_slots-slots.ensures in
+    still_whole _ _ (record {
+      ids = now.ids;
+      seen = now.seen;
+      seats = slots.seats;
+      values = λ gate. ap (λ v. value_in v gate) slots.values;
+    }) slots.stays slots.meet slots.idle c.self.invariant
+
+pub returns-clause-kept : goal.returns-clause-kept
+returns-clause-kept c n room =
+    let old = subst (λ (i : Index). HasRoom i n) (sym c.self.view_is) room in
+    let now = c.room_for_checks-now.ensures in
+    let before = c.room_for_checks-before.ensures in
+    let slots = c.room_for_slots-slots.ensures in
+    record {
+      few = old.few;
+      ids = omega (arith, old.ids, now.ids_kept);
+      seen = omega (arith, old.seen, now.seen_kept);
+      ids_before = omega (arith, old.ids_before, before.ids_kept);
+      seen_before = omega (arith, old.seen_before, before.seen_kept);
+      seats = omega (arith, old.seats, slots.seats_kept);
+      refs = omega (arith, old.refs, slots.refs_kept);
+      shapes = omega (arith, old.shapes, slots.plan_kept);
+      links = omega (arith, old.links, slots.links_kept);
+      gates = slots.gates_kept _ _ old.gates;
+    }
+
+pub returns-clause-stands : goal.returns-clause-stands
+returns-clause-stands c zones checks reports is =
+    let now = c.room_for_checks-now.ensures in
+    let slots = c.room_for_slots-slots.ensures in
+    still_stands _ _ (record {
+      ids = now.ids;
+      seen = now.seen;
+      seats = slots.seats;
+      values = λ gate. ap (λ v. value_in v gate) slots.values;
+    }) slots.stays slots.meet slots.idle zones checks reports (subst (StandsFor zones checks reports) (sym c.self.view_is) is)

@@ -1,0 +1,112 @@
+//! Room in which all gates can be laid out anew.
+
+ghost use Rattle.std.specs.Prelude.{◌≡◌, ◌≤◌, ◌<◌, ◌+◌, ◌*◌, ◌^◌, ℕ, IsOk, OnOk, length, vec_capacity};
+ghost use Rattle.health_gates.specs.Gates.{Fits, Net};
+ghost use Rattle.health_gates.specs.Laying.{HasRoomFor};
+ghost use Rattle.health_gates.specs.Pass.{IsIdle, MeetAll};
+
+use crate::seats::Seat;
+use checker_state::Checkers;
+use health_gates::{Gates, Plan, make_room};
+use octets::OutOfMemory;
+use zone_table::SetRef;
+
+/// The most slots, so that gates and links have numbers.
+const MOST_SLOTS: usize = 1 << 29;
+
+/// The most checks.
+const CHECKS: usize = 200;
+
+/// The most links between checks, which have at most 255 children, and one more for each of them.
+const CHECK_LINKS: usize = 51200;
+
+/// Makes room for all checks that there can be. The lists stay as they are.
+pub fn room_for_checks(
+    ids: &mut Vec<u32>,
+    seen: &mut Vec<Option<Checkers>>,
+) -> Result<(), OutOfMemory>
+    ensures ids { ids.new.items ≡ ids.old.items }
+    ensures seen { seen.new.items ≡ seen.old.items }
+    ensures ids_kept { vec_capacity ids.old ≤ vec_capacity ids.new }
+    ensures seen_kept { vec_capacity seen.old ≤ vec_capacity seen.new }
+    ensures ids_room { OnOk result (200 ≤ vec_capacity ids.new) }
+    ensures seen_room { OnOk result (200 ≤ vec_capacity seen.new) }
+{
+    let Ok(()) = make_room(ids, CHECKS) else {
+        return Err(OutOfMemory);
+    };
+    let Ok(()) = make_room(seen, CHECKS) else {
+        return Err(OutOfMemory);
+    };
+    Ok(())
+}
+
+/// Makes room for all gates and links over so many slots. The seats and the gates stay as they are;
+/// nothing is planned any more.
+pub fn room_for_slots(
+    seats: &mut Vec<Seat>,
+    refs: &mut Vec<SetRef>,
+    plan: &mut Plan,
+    gates: &mut Gates,
+    slots: usize,
+) -> Result<(), OutOfMemory>
+    ensures seats { seats.new.items ≡ seats.old.items }
+    ensures values { gates.new.values.items ≡ gates.old.values.items }
+    ensures stays { (net : Net) (own : ℕ → ℕ) → Fits net own gates.old → Fits net own gates.new }
+    ensures meet { (net : Net) (own : ℕ → ℕ) → MeetAll net own gates.old
+        → MeetAll net own gates.new }
+    ensures idle { IsIdle gates.old → IsIdle gates.new }
+
+    // No room is lost.
+    ensures seats_kept { vec_capacity seats.old ≤ vec_capacity seats.new }
+    ensures refs_kept { vec_capacity refs.old ≤ vec_capacity refs.new }
+    ensures plan_kept { plan.old.room + length plan.old.shapes
+        ≤ plan.new.room + length plan.new.shapes }
+    ensures links_kept { plan.old.links_room + length plan.old.links
+        ≤ plan.new.links_room + length plan.new.links }
+    ensures gates_kept { (n m : ℕ) → HasRoomFor gates.old n m → HasRoomFor gates.new n m }
+
+    ensures few { OnOk result (slots ≤ 2 ^ 29) }
+    ensures seats_room { OnOk result (slots ≤ vec_capacity seats.new) }
+    ensures refs_room { OnOk result (slots ≤ vec_capacity refs.new) }
+    ensures plan_room { OnOk result (slots * 2 + 200 ≤ plan.new.room + length plan.new.shapes) }
+    ensures links_room { OnOk result
+        (slots * 3 + 51200 ≤ plan.new.links_room + length plan.new.links) }
+    ensures gates_room { OnOk result (HasRoomFor gates.new (slots * 2 + 200) (slots * 3 + 51200)) }
+{
+    plan.clear();
+    if slots > MOST_SLOTS {
+        return Err(OutOfMemory);
+    }
+    let Ok(()) = make_room(seats, slots) else {
+        return Err(OutOfMemory);
+    };
+    let Ok(()) = make_room(refs, slots) else {
+        return Err(OutOfMemory);
+    };
+    let all = slots * 2 + CHECKS;
+    let links = slots * 3 + CHECK_LINKS;
+    let Ok(()) = plan.reserve(all, links) else {
+        return Err(OutOfMemory);
+    };
+    let Ok(()) = gates.reserve(all, links) else {
+        return Err(OutOfMemory);
+    };
+    Ok(())
+}
+
+/// Whether there was room each time.
+pub fn each_ok(
+    first: Result<(), OutOfMemory>,
+    second: Result<(), OutOfMemory>,
+    third: Result<(), OutOfMemory>,
+) -> Result<(), OutOfMemory>
+    ensures first { OnOk result (IsOk first) }
+    ensures second { OnOk result (IsOk second) }
+    ensures third { OnOk result (IsOk third) }
+{
+    match (first, second, third) {
+        (Ok(()), Ok(()), Ok(())) => Ok(()),
+        _ => Err(OutOfMemory),
+    }
+}
