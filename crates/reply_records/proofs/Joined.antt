@@ -69,6 +69,33 @@ pub all_new : (rdatas : List (List ℕ)) → filter (λ rdata. not (is_among [] 
 all_new [] = refl
 all_new (rdata ∷ rdatas) = ap (λ (ds : List (List ℕ)). rdata ∷ ds) (all_new rdatas)
 
+-- beside no earlier set all are
+pub new_of_none : (all : List RecordSet) (earlier : List ℕ) (rdatas : List (List ℕ))
+    → length earlier ≡ 0 → new_data (sets_at all earlier) rdatas ≡ rdatas
+new_of_none all [] rdatas e = all_new rdatas
+new_of_none all (place ∷ earlier) rdatas e = absurd (omega (arith, e))
+
+-- the data of the first sets stand first
+joint_front : (before : List (List ℕ)) (sets others : List RecordSet) → (rest : List (List ℕ))
+    × (joint_data before (sets ++ others) ≡ joint_data before sets ++ rest)
+joint_front before [] others = (joint_data before others, refl)
+joint_front before (set ∷ sets) others =
+    let here = filter (λ rdata. not (is_among before rdata)) (data_of set.body) in
+    let more = joint_front (before ++ data_of set.body) sets others in (
+      more.0,
+      ap (λ (ds : List (List ℕ)). here ++ ds) more.1
+          ∙ sym (append_assoc here (joint_data (before ++ data_of set.body) sets) more.0),
+    )
+
+pub joint_behind : (all : List RecordSet) (places : List ℕ) (n : ℕ) → (rest : List (List ℕ))
+    × (joint_data [] (sets_at all places) ≡ joint_data [] (sets_at all (take n places)) ++ rest)
+joint_behind all places n =
+    let front = joint_front [] (sets_at all (take n places)) (sets_at all (drop n places)) in (
+      front.0,
+      ap (joint_data []) (ap (sets_at all) (split n places)
+          ∙ filter_map-append (slice_get all) (take n places) (drop n places)) ∙ front.1,
+    )
+
 -- ---- sets whose routing is simple
 
 pub simple_parts : (sets : List RecordSet)

@@ -1,3 +1,4 @@
+pub mod Gluing
 pub mod Joined
 pub mod Named
 pub mod Shown

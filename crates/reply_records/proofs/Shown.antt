@@ -41,3 +41,12 @@ is_holding o set e = subst IsHolding (sym e) tt
 -- a value that stands in a list of data
 pub in_range : (b : Body) (i : ℕ) → i < length (data_of b) → i < length (held.values_of b)
 in_range b i lt = (let e = as_many_data b in omega (arith, e, lt))
+
+-- where a value is held a set is
+pub set_of_value : (o : Option RecordSet) (i : ℕ) → HasValue o i → (set : RecordSet) × (o ≡ Some set)
+set_of_value None i has = absurd has
+set_of_value (Some set) i has = (set, refl)
+
+pub set_of_held : (o : Option RecordSet) → IsHolding o → (set : RecordSet) × (o ≡ Some set)
+set_of_held None holding = absurd holding
+set_of_held (Some set) holding = (set, refl)

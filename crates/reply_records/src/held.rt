@@ -1,6 +1,6 @@
 //! Records of the set that a scratch holds.
 
-ghost use Rattle.std.specs.Prelude.{◌≡◌, ◌<◌, ◌∷◌, [], ℕ, length, slice_get, Some};
+ghost use Rattle.std.specs.Prelude.{◌≡◌, ◌<◌, ◌∷◌, [], ℕ, IsTrue, length, slice_get, Some, true};
 ghost use Rattle.answer_model.specs.Records.{data_of, records, ttl_of};
 ghost use Rattle.dns_wire.specs.Message.{Record};
 ghost use Rattle.rdata_layout.specs.Layout.{IsLayout};
@@ -35,6 +35,32 @@ pub fn write_one(
     reply.record(section, owner, rtype, ttl, rdata);
 }
 
+/// Writes one record, and tells whether that shows the reply to be cut: with a record more it has no
+/// more octets then.
+pub(crate) fn write_or_cut(
+    reply: &mut Reply,
+    section: Section,
+    owner: &Name,
+    rtype: RType,
+    ttl: u32,
+    rdata: &[u8],
+) -> bool
+    requires open { IsOpen section reply.old }
+    requires layout { IsLayout rtype rdata.now }
+    ensures written { Writes section (record {
+      owner = owner.now;
+      rtype = rtype;
+      ttl = ttl;
+      rdata = rdata.now;
+    } ∷ []) reply.old reply.new }
+    ensures cut { IsTrue result → reply.new.is_cut ≡ true }
+{
+    records_add_up();
+    let before = reply.bytes().len();
+    write_one(reply, section, owner, rtype, ttl, rdata);
+    reply.bytes().len() <= before
+}
+
 /// Writes the values of the set that is held, as records of this name with this TTL.
 pub fn write_values(reply: &mut Reply, section: Section, owner: &Name, ttl: u32, scratch: &Scratch)
     requires open { IsOpen section reply.old }
@@ -43,18 +69,34 @@ pub fn write_values(reply: &mut Reply, section: Section, owner: &Name, ttl: u32,
         → Writes section (records owner.now set.rtype ttl (data_of set.body))
         reply.old reply.new }
 {
+    write_until_cut(reply, section, owner, ttl, scratch);
+}
+
+/// Writes them, and tells whether the reply is known to be cut. It ends with the first record that
+/// shows this: none behind it is seen.
+pub(crate) fn write_until_cut(
+    reply: &mut Reply,
+    section: Section,
+    owner: &Name,
+    ttl: u32,
+    scratch: &Scratch,
+) -> bool
+    requires open { IsOpen section reply.old }
+    requires held { IsHolding scratch.now }
+    ensures written { (set : RecordSet) → scratch.now ≡ Some set
+        → Writes section (records owner.now set.rtype ttl (data_of set.body))
+        reply.old reply.new }
+    ensures cut { IsTrue result → reply.new.is_cut ≡ true }
+{
     records_add_up();
     let rtype = rtype_of(scratch);
     for i in 0..count_of(scratch) {
-        write_one(
-            reply,
-            section,
-            owner,
-            rtype,
-            ttl,
-            rdata_at(scratch, rtype, i),
-        );
+        let rdata = rdata_at(scratch, rtype, i);
+        if write_or_cut(reply, section, owner, rtype, ttl, rdata) {
+            return true;
+        }
     }
+    false
 }
 
 /// The data of a value of the set that is held, which has this type.

@@ -1,6 +1,7 @@
 //! Records of several sets of a group: the least TTL, and each value of an earlier set left out.
 
-ghost use Rattle.std.specs.Prelude.{◌≡◌, ◌<◌, ◌≤◌, ◌∷◌, [], ℕ, List, length, slice_get, take, Some};
+ghost use Rattle.std.specs.Prelude.{◌≡◌, ◌<◌, ◌≤◌, ◌∷◌, [], ℕ, IsTrue, List, length, slice_get};
+ghost use Rattle.std.specs.Prelude.{Some, take, true};
 ghost use Rattle.std.specs.Str.{bytes_eq};
 ghost use Rattle.answer_model.specs.Records.{data_of, is_among, joint_data, least_ttl, records};
 ghost use Rattle.dns_wire.specs.declared.reply.Section.TheVariants.{Answer};
@@ -12,7 +13,7 @@ ghost use Rattle.zone_table.specs.Looking.{IsGroupNow};
 ghost use Rattle.reply_records.specs.Chosen.{ArePlaces, all_data, new_data, sets_of_places};
 ghost use Rattle.reply_records.specs.Writing.{IsOpen, Writes};
 
-use crate::held::{count_of, rdata_at, ttl_of, write_one};
+use crate::held::{count_of, rdata_at, ttl_of, write_or_cut, write_until_cut};
 use dns_name::Name;
 use dns_wire::{Reply, Section, records_add_up};
 use octets::{fill_front, front};
@@ -22,6 +23,9 @@ use zone_table::{Group, Scratch, Zones};
 
 /// The most octets of a value (own).
 const MOST_OCTETS: usize = 4000;
+
+/// Values of no more octets are copied to a small room, which is filled sooner.
+const FEW_OCTETS: usize = 64;
 
 /// The least TTL of the sets at some places of a group.
 pub(crate) fn least_ttl(zones: &Zones, group: Group, places: &[usize], scratch: &mut Scratch) -> u32
@@ -63,9 +67,11 @@ pub(crate) fn write_joint(
     records_add_up();
     for i in 0..places.len() {
         let earlier = places_before(places, i);
-        write_new(
+        if write_new(
             zones, group, earlier, places[i], rtype, owner, ttl, reply, scratch,
-        );
+        ) {
+            return;
+        }
     }
 }
 
@@ -77,7 +83,8 @@ fn places_before(places: &[usize], i: usize) -> &[usize]
     &places[..i]
 }
 
-/// Writes the values of the set at a place that no earlier set has.
+/// Writes the values of the set at a place that no earlier set has, and tells whether the reply is
+/// known to be cut.
 fn write_new(
     zones: &Zones,
     group: Group,
@@ -88,7 +95,7 @@ fn write_new(
     ttl: u32,
     reply: &mut Reply,
     scratch: &mut Scratch,
-)
+) -> bool
     requires group { IsGroupNow zones.now.zones group }
     requires earlier { ArePlaces group earlier.now }
     requires place { place < group.length }
@@ -101,17 +108,56 @@ fn write_new(
         → Writes Answer (records owner.now rtype ttl
         (new_data (sets_of_places zones.now.zones group earlier.now) (data_of set.body)))
         reply.old reply.new }
+    ensures cut { IsTrue result → reply.new.is_cut ≡ true }
 {
-    records_add_up();
     load_member(zones, group, place, scratch);
-    for i in 0..count_of(scratch) {
-        write_if_new(
-            zones, group, earlier, place, i, rtype, owner, ttl, reply, scratch,
-        );
+    if earlier.len() == 0 {
+        return write_until_cut(reply, Section::Answer, owner, ttl, scratch);
     }
+    write_those_new(
+        zones, group, earlier, place, rtype, owner, ttl, reply, scratch,
+    )
 }
 
-/// Writes a value of the set at a place, which is held, where no earlier set has it.
+/// The same where the set at the place is held.
+fn write_those_new(
+    zones: &Zones,
+    group: Group,
+    earlier: &[usize],
+    place: usize,
+    rtype: RType,
+    owner: &Name,
+    ttl: u32,
+    reply: &mut Reply,
+    scratch: &mut Scratch,
+) -> bool
+    requires group { IsGroupNow zones.now.zones group }
+    requires earlier { ArePlaces group earlier.now }
+    requires place { place < group.length }
+    requires holding { IsHolding scratch.old }
+    requires held { scratch.old ≡ slice_get (sets_in zones.now.zones group) place }
+    requires rtype { (set : RecordSet) → scratch.old ≡ Some set → set.rtype ≡ rtype }
+    requires open { IsOpen Answer reply.old }
+    ensures written { (set : RecordSet)
+        → slice_get (sets_in zones.now.zones group) place ≡ Some set
+        → Writes Answer (records owner.now rtype ttl
+        (new_data (sets_of_places zones.now.zones group earlier.now) (data_of set.body)))
+        reply.old reply.new }
+    ensures cut { IsTrue result → reply.new.is_cut ≡ true }
+{
+    records_add_up();
+    for i in 0..count_of(scratch) {
+        if write_if_new(
+            zones, group, earlier, place, i, rtype, owner, ttl, reply, scratch,
+        ) {
+            return true;
+        }
+    }
+    false
+}
+
+/// Writes a value of the set at a place, which is held, where no earlier set has it, and tells
+/// whether that shows the reply to be cut.
 fn write_if_new(
     zones: &Zones,
     group: Group,
@@ -123,7 +169,7 @@ fn write_if_new(
     ttl: u32,
     reply: &mut Reply,
     scratch: &mut Scratch,
-)
+) -> bool
     requires group { IsGroupNow zones.now.zones group }
     requires earlier { ArePlaces group earlier.now }
     requires place { place < group.length }
@@ -137,24 +183,88 @@ fn write_if_new(
         → Writes Answer (records owner.now rtype ttl
         (new_data (sets_of_places zones.now.zones group earlier.now) (rdata ∷ [])))
         reply.old reply.new }
+    ensures cut { IsTrue result → reply.new.is_cut ≡ true }
+{
+    if rdata_at(scratch, rtype, i).len() <= FEW_OCTETS {
+        let mut octets = [0; FEW_OCTETS];
+        return write_copied(
+            zones,
+            group,
+            earlier,
+            place,
+            i,
+            rtype,
+            owner,
+            ttl,
+            &mut octets,
+            reply,
+            scratch,
+        );
+    }
+    let mut octets = [0; MOST_OCTETS];
+    write_copied(
+        zones,
+        group,
+        earlier,
+        place,
+        i,
+        rtype,
+        owner,
+        ttl,
+        &mut octets,
+        reply,
+        scratch,
+    )
+}
+
+/// The same with room to which the value is copied.
+fn write_copied(
+    zones: &Zones,
+    group: Group,
+    earlier: &[usize],
+    place: usize,
+    i: usize,
+    rtype: RType,
+    owner: &Name,
+    ttl: u32,
+    octets: &mut [u8],
+    reply: &mut Reply,
+    scratch: &mut Scratch,
+) -> bool
+    requires group { IsGroupNow zones.now.zones group }
+    requires earlier { ArePlaces group earlier.now }
+    requires place { place < group.length }
+    requires held { scratch.old ≡ slice_get (sets_in zones.now.zones group) place }
+    requires value { HasValue scratch.old i }
+    requires rtype { (set : RecordSet) → scratch.old ≡ Some set → set.rtype ≡ rtype }
+    requires room { (set : RecordSet) (rdata : List ℕ) → scratch.old ≡ Some set
+        → slice_get (data_of set.body) i ≡ Some rdata → length rdata ≤ length octets.old }
+    requires open { IsOpen Answer reply.old }
+    ensures held { scratch.new ≡ scratch.old }
+    ensures written { (set : RecordSet) (rdata : List ℕ) → scratch.old ≡ Some set
+        → slice_get (data_of set.body) i ≡ Some rdata
+        → Writes Answer (records owner.now rtype ttl
+        (new_data (sets_of_places zones.now.zones group earlier.now) (rdata ∷ [])))
+        reply.old reply.new }
+    ensures cut { IsTrue result → reply.new.is_cut ≡ true }
 {
     records_add_up();
-    let mut octets = [0; MOST_OCTETS];
-    let length = copy_rdata(scratch, rtype, i, &mut octets);
-    let rdata = front(&octets, length);
+    let length = copy_rdata(scratch, rtype, i, octets);
+    let rdata = front(octets, length);
     let is_old = is_in_sets(zones, group, earlier, rdata, scratch);
     load_member(zones, group, place, scratch);
     if is_old {
-        return;
+        return false;
     }
-    write_one(reply, Section::Answer, owner, rtype, ttl, rdata);
+    write_or_cut(reply, Section::Answer, owner, rtype, ttl, rdata)
 }
 
 /// Copies the data of a value to the front, and says how many octets they have.
 fn copy_rdata(scratch: &Scratch, rtype: RType, i: usize, into: &mut [u8]) -> usize
     requires value { HasValue scratch.now i }
     requires rtype { (set : RecordSet) → scratch.now ≡ Some set → set.rtype ≡ rtype }
-    requires room { 4000 ≤ length into.old }
+    requires room { (set : RecordSet) (rdata : List ℕ) → scratch.now ≡ Some set
+        → slice_get (data_of set.body) i ≡ Some rdata → length rdata ≤ length into.old }
     ensures copied { (set : RecordSet) → scratch.now ≡ Some set
         → slice_get (data_of set.body) i ≡ Some (take result into.new) }
     ensures layout { IsLayout rtype (take result into.new) }

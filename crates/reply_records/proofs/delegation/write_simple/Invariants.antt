@@ -10,5 +10,5 @@ abbrev pub invariant-loop-i : goal.invariant-loop-i
 invariant-loop-i l = record {
   still_open : IsOpen Additional l.reply;
   written : Writes Additional
-      (flat_map simple_part (take l.i (sets_in l.zones.zones l.found))) l.fn.reply l.reply;
+      (flat_map simple_part (take l.i (sets_in l.zones.zones l.group))) l.fn.reply l.reply;
 }

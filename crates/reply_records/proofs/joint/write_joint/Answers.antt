@@ -1,4 +1,4 @@
-use Rattle.std.proofs.Common.{get_or, subst, List, ℕ}
+use Rattle.std.proofs.Common.{◌+◌, get_or, subst, List, ℕ}
 use Rattle.answer_model.specs.Records.{data_of, records}
 use Rattle.dns_wire.specs.declared.reply.Section.TheVariants.{Answer}
 use Rattle.policy_select.specs.Groups.{sets_in}
@@ -6,7 +6,7 @@ use Rattle.zone_table.proofs.Looked.{number_at}
 use Rattle.reply_records.specs.Chosen.{new_data, sets_of_places}
 use Rattle.reply_records.specs.Writing.{Writes}
 use Rattle.reply_records.proofs.Joined.{joint_step}
-use Rattle.reply_records.proofs.Written.{more, same, still_open}
+use Rattle.reply_records.proofs.Written.{joint_cut, more, same, still_open}
 use Rattle.reply_records.proofs.joint.write_joint.Goals as goal
 
 pub loop-i-preserved : goal.loop-i-preserved
@@ -30,3 +30,24 @@ loop-i-preserved c =
           (more adds Answer _ _ c.args.reply.now c.loop-i.reply c.write_new.new.reply
           inv.written wrote);
     }
+
+pub returns-then-write_new : goal.returns-then-write_new
+returns-then-write_new c =
+    let adds = c.records_add_up.ensures in
+    let zones = c.args.zones.now.zones in
+    let all = sets_in zones c.args.group in
+    let places = c.args.places.now in
+    let inv = c.loop-i.invariant in
+    let there = c.write_new.ensures.there in
+    let wrote = subst (λ (ps : List ℕ). Writes Answer (records c.args.owner.now c.args.rtype
+    c.args.ttl (new_data (sets_of_places zones c.args.group ps) (data_of there.0.body)))
+    c.loop-i.reply c.write_new.new.reply) c.places_before-earlier.ensures
+    (c.write_new.ensures.written there.0 there.1) in
+    joint_cut adds c.args.owner.now c.args.rtype c.args.ttl c.args.reply.now c.write_new.new.reply
+    (c.write_new.ensures.cut c.if-write_new.true) all places (c.loop-i.i + 1)
+    (same Answer _ _ c.args.reply.now c.write_new.new.reply
+    (joint_step all places c.loop-i.i (get_or places c.loop-i.i 0) there.0
+    c.args.owner.now c.args.rtype c.args.ttl
+    (number_at places c.loop-i.i c.loop-i-test.true) there.1)
+    (more adds Answer _ _ c.args.reply.now c.loop-i.reply c.write_new.new.reply
+    inv.written wrote))

@@ -2,7 +2,7 @@ use Rattle.std.proofs.Common.{◌≡◌, Some, take}
 use Rattle.answer_model.specs.Records.{data_of, records}
 use Rattle.record_set.specs.declared.sets.RecordSet.{RecordSet}
 use Rattle.reply_records.specs.Writing.{IsOpen, Writes}
-use Rattle.reply_records.proofs.held.write_values.Given as goal
+use Rattle.reply_records.proofs.held.write_until_cut.Given as goal
 
 abbrev pub invariant-loop-i : goal.invariant-loop-i
 invariant-loop-i l = record {
