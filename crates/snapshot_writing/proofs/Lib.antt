@@ -1,0 +1,3 @@
+mod Assembled
+mod Gathered
+mod Held
