@@ -9,6 +9,7 @@ pub mod Groups
 pub mod Joined
 pub mod Knowing
 pub mod ListedOnce
+pub mod Numbering
 pub mod Places
 pub mod Planned
 pub mod Reporting

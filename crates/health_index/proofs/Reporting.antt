@@ -231,6 +231,7 @@ module _ (fifty : FiftyAlone) (more : OneMoreReport) (zones : List Zone) (checks
       its_nodes = λ gate within.
           let n = stands.wired.its_nodes gate within in
           (n.0, node_still zones checks.list index stands.net stands.own place given early gate n.0 n.1);
+      its_groups = stands.wired.its_groups;
     };
     fits = fits;
     meet = meet;

@@ -326,4 +326,7 @@ module _ (zones : List Zone) (list : List (ℕ × Check)) (refs : List SetRef) (
         };
     its_sets = seated;
     its_nodes = nodes;
+    its_groups = λ slot gate is.
+        let g = built.groups.gates slot gate is in
+        slice_get_within plan.shapes gate (group_shape (plain_among seats g.1.members)) g.1.shape;
   }

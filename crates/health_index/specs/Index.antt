@@ -6,17 +6,19 @@ use Rattle.check_model.specs.declared.checks.Check.{Check}
 use Rattle.check_model.specs.declared.checks.Check.TheVariants.{Endpoint, Calculated}
 use Rattle.checker_state.specs.Standing.{Seen}
 use Rattle.checker_state.specs.Standing.{StandsFor as HasSeen}
-use Rattle.health_gates.specs.Gates.{Fits, Net, value_of}
+use Rattle.health_gates.specs.Gates.{Fits, Net, size_of, value_of}
 use Rattle.health_gates.specs.Pass.{IsIdle, MeetAll}
 use Rattle.health_gates.specs.declared.gates.Gates.{Gates}
 use Rattle.health_model.specs.Healthy.{healthy}
+use Rattle.health_model.specs.Nodes.{CheckNode, GroupNode, Node, SetNode}
 use Rattle.health_model.specs.Sound.{IsSound}
 use Rattle.health_model.specs.Statuses.{AreReports, Report, results_of, status}
 use Rattle.record_set.specs.declared.sets.RecordSet.{RecordSet}
-use Rattle.zone_list.specs.Zones.{AreZones, Zone}
+use Rattle.zone_list.specs.Zones.{AreZones, Zone, placed_in}
 use Rattle.zone_list.specs.declared.refs.SetRef.{SetRef}
+use Rattle.zone_model.specs.Placed.{IsHere, Placed}
 use Rattle.zone_table.specs.Looking.{Names}
-use Rattle.health_index.specs.Wired.{IsWired, ids_of, open_in, place_of, seat_of, watched_of}
+use Rattle.health_index.specs.Wired.{AreMembers, IsGroupSeat, IsWired, ids_of, open_in, place_of, seat_of, watched_of}
 use Rattle.health_index.specs.declared.seats.Seat.{Seat}
 
 -- For how many there is room: numbers of checks and what their checkers saw, now and before a
@@ -78,6 +80,32 @@ pub record Tells (zones : List Zone) (checks : Checks) (reports : List Report) (
       → value_of index.gates (place_of index.ids id) ≡ status checks.list reports id
   pub sets : (set : SetRef) (named : RecordSet) → Names zones set named
       → healthy_in index set ≡ healthy (watched_of zones checks) reports set.zone named
+
+-- ---- numbers of nodes
+
+-- The number of a node is that of its gate. A set that nothing decides, and a group that is no
+-- evaluated alias's target, have none: their health never waits to be worked out.
+abbrev pub IsNumberOf : List Zone → Index → (number : ℕ) → Node → Type 0
+IsNumberOf zones index number (CheckNode id) = slice_get index.ids number ≡ Some id
+IsNumberOf zones index number (SetNode zone set) =
+    (slot : ℕ) × (IsHere (placed_in zones zone) (record { slot = slot; set = set })
+    × (seat_of index.seats slot ≡ suc number))
+IsNumberOf zones index number (GroupNode zone name rtype) =
+    (members : List Placed) × (AreMembers zones zone name rtype members
+    × IsGroupSeat index.seats members number)
+
+-- The index has a node of the number.
+abbrev pub HasNode : Index → (number : ℕ) → Type 0
+HasNode index number = number < size_of index.gates
+
+-- Each number that the index has is that of one node, and each node has one number at most.
+pub record AreNumbered (zones : List Zone) (index : Index) : Type 0 where
+  pub each : (number : ℕ) → HasNode index number
+      → (node : Node) × IsNumberOf zones index number node
+  pub only : (number : ℕ) (node : Node) → IsNumberOf zones index number node
+      → HasNode index number
+  pub one : (number other : ℕ) (node : Node) → IsNumberOf zones index number node
+      → IsNumberOf zones index other node → number ≡ other
 
 -- ---- what holds of every index
 

@@ -6,12 +6,17 @@ use Rattle.check_model.specs.declared.checks.CheckCommand.{CheckCommand}
 use Rattle.health_model.specs.Statuses.{Report}
 use Rattle.zone_list.specs.Zones.{Zone}
 use Rattle.health_index.specs.Following.{Follows}
-use Rattle.health_index.specs.Index.{Index, StandsFor, Tells}
+use Rattle.health_index.specs.Index.{AreNumbered, Index, StandsFor, Tells}
 
 -- An index tells the health of that for which it stands.
 abbrev pub IndexTells : Type 0
 IndexTells = (zones : List Zone) (checks : Checks) (reports : List Report) (index : Index)
     → StandsFor zones checks reports index → Tells zones checks reports index
+
+-- In an index that stands for something each node has a number of its own.
+abbrev pub NodesAreNumbered : Type 0
+NodesAreNumbered = (zones : List Zone) (checks : Checks) (reports : List Report) (index : Index)
+    → StandsFor zones checks reports index → AreNumbered zones index
 
 -- A command on checks leaves what follows of them.
 abbrev pub CommandsFollow : Type 0

@@ -180,3 +180,4 @@ pub record IsWired (zones : List Zone) (checks : List (ℕ × Check)) (seats : L
       → IsSeated zones (ids_of checks) seats net own zone p
   pub its_nodes : (gate : ℕ) → gate < net.size
       → (node : Node) × IsGateFor zones checks seats net own gate node
+  pub its_groups : (slot gate : ℕ) → group_seat seats slot ≡ suc gate → gate < net.size

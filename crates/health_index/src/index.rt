@@ -4,7 +4,10 @@ ghost use Rattle.std.specs.Prelude.{◌≡◌, ◌≢◌, ◌≤◌, ◌<◌, �
 ghost use Rattle.std.specs.Prelude.{Contains, IfOk, OnOk, Some, if◌then◌else◌, length, slice_get};
 ghost use Rattle.check_model.specs.Checks.{Checks};
 ghost use Rattle.health_index.specs.Following.{Follows};
-ghost use Rattle.health_index.specs.Index.{IsEndpointOf, IsGateOf, IsPlace, StandsFor, healthy_in};
+ghost use Rattle.health_gates.specs.Gates.{Feeds, Fits, MeetsEquation, Net, value_of};
+ghost use Rattle.health_gates.specs.Pass.{IsIdle};
+ghost use Rattle.health_index.specs.Index.{HasNode, IsEndpointOf, IsGateOf, IsPlace, StandsFor};
+ghost use Rattle.health_index.specs.Index.{healthy_in};
 ghost use Rattle.health_index.specs.Index.{reported};
 ghost use Rattle.health_index.specs.Room.{HasRoom, Keeps};
 ghost use Rattle.health_index.specs.Wired.{watched_of};
@@ -240,6 +243,40 @@ impl HealthIndex {
         let passing = checkers.passing();
         self.gates
             .take_count(place as u32, u32::from(passing), steps)
+    }
+
+    /// Whether there is a node of the number. Those with numbers are the checks, the sets that
+    /// something decides, and the target groups of evaluated aliases.
+    pub fn has_node(&self, node: u32) -> bool
+        ensures { IsTrue result ↔ HasNode self.now node }
+    {
+        (node as usize) < self.gates.len()
+    }
+
+    /// Works a node out anew, which is one step. The answer is whether its value changed.
+    pub fn eval_node<L: Ledger>(&mut self, node: u32, steps: &mut Steps<L>) -> bool
+        requires node { HasNode self.old node }
+        ensures tick { steps.new ≡ steps.old + 1 }
+
+        // It meets its equation then, and so does each other one that did, unless this one feeds it.
+        ensures meets { (net : Net) (own : ℕ → ℕ) → Fits net own self.old.gates
+            → MeetsEquation net own (value_of self.new.gates) node }
+        ensures spares { (net : Net) (own : ℕ → ℕ) (n : ℕ) → Fits net own self.old.gates
+            → n ≢ node → (Feeds net node n → ⊥)
+            → MeetsEquation net own (value_of self.old.gates) n
+            → MeetsEquation net own (value_of self.new.gates) n }
+        ensures others { (n : ℕ) → n ≢ node
+            → value_of self.new.gates n ≡ value_of self.old.gates n }
+        ensures changed { IsTrue result
+            ↔ (value_of self.new.gates node ≢ value_of self.old.gates node) }
+
+        // All nodes keep their numbers.
+        ensures rest { self.new ≡ record self.old { gates = self.new.gates } }
+        ensures fits { (net : Net) (own : ℕ → ℕ) → Fits net own self.old.gates
+            → Fits net own self.new.gates }
+        ensures idle { IsIdle self.new.gates }
+    {
+        self.gates.eval_node(node, steps)
     }
 
     /// The status of a check, and how many of its checkers see a pass, or how many of its children

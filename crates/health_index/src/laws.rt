@@ -1,6 +1,6 @@
 //! Laws over the definitions. Each stands as the contract of a function that does nothing.
 
-ghost use Rattle.health_index.specs.Laws.{CommandsFollow, IndexTells};
+ghost use Rattle.health_index.specs.Laws.{CommandsFollow, IndexTells, NodesAreNumbered};
 
 use health_model::one_health;
 use policy_select::views_agree;
@@ -16,4 +16,9 @@ pub fn index_tells_health()
 /// A command on checks keeps the thresholds of endpoints, and gives no number twice.
 pub fn commands_follow()
     ensures { CommandsFollow }
+{}
+
+/// Each node with a number has one of its own.
+pub fn nodes_are_numbered()
+    ensures { NodesAreNumbered }
 {}

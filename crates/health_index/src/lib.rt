@@ -20,4 +20,4 @@ mod seats;
 
 pub use health_gates::Steps;
 pub use index::HealthIndex;
-pub use laws::{commands_follow, index_tells_health};
+pub use laws::{commands_follow, index_tells_health, nodes_are_numbered};
