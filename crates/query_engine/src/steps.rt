@@ -3,11 +3,10 @@
 ghost use Rattle.std.specs.Prelude.{◌≡◌, ◌≢◌, ◌<◌, ◌≤◌, ◌+◌, ◌*◌, ◌∷◌, [], ℕ, Bool, List, Some};
 ghost use Rattle.std.specs.Prelude.{slice_get};
 ghost use Rattle.answer_model.specs.Descent.{descend as descended};
-ghost use Rattle.answer_model.specs.Names.{source};
 ghost use Rattle.answer_model.specs.Records.{answer_records, data_of};
 ghost use Rattle.answer_model.specs.Sections.{asked as answered, asked_group, canonical, ends};
 ghost use Rattle.answer_model.specs.Sections.{look_up as found, step as step_at};
-ghost use Rattle.answer_model.specs.Sections.{step_from, step_of};
+ghost use Rattle.answer_model.specs.Sections.{step_of};
 ghost use Rattle.answer_model.specs.declared.used.Used.{Used};
 ghost use Rattle.dns_name.specs.Suffix.{EndsWith};
 ghost use Rattle.dns_wire.specs.declared.reply.Section.TheVariants.{Answer};
@@ -17,7 +16,9 @@ ghost use Rattle.rdata_layout.specs.declared.types.RType.TheVariants as rtype;
 ghost use Rattle.record_set.specs.declared.sets.RecordSet.{RecordSet};
 ghost use Rattle.record_set.specs.declared.sets.SetKey.{SetKey};
 ghost use Rattle.reply_records.specs.Writing.{IsOpen, Writes};
+ghost use Rattle.set_search.specs.Found.{IsFirstNamed};
 ghost use Rattle.zone_list.specs.Zones.{placed_in};
+ghost use Rattle.zone_lookup.specs.Cuts.{HasSets};
 ghost use Rattle.zone_lookup.specs.Served.{AreServed};
 ghost use Rattle.zone_model.specs.Zones.{IsAmong, group};
 ghost use Rattle.zone_table.specs.Looking.{IsApex, IsGroupNow};
@@ -34,7 +35,9 @@ use policy_select::{HealthView, Selected, descend, find_group, views_agree};
 use rdata::RType;
 use rdata_layout::types_have_their_own_number;
 use reply_records::{first_record, name_in, write_chosen, write_one};
-use zone_lookup::{asked_group, cut_above, is_held_by, known_few, source_of};
+use zone_lookup::{
+    Found, Standing, asked_group, cut_above, find_asked, is_held_by, known_few, standing_of,
+};
 use zone_table::{Group, Scratch, Zones};
 
 /// The records of a group of the asked type answer a name. Where nothing is chosen it is no data.
@@ -156,6 +159,42 @@ fn step_cname<V: HealthView>(
     }
 }
 
+/// The same where none of its sets is of the asked type: its CNAME sets.
+fn step_untyped<V: HealthView>(
+    zones: &Zones,
+    view: &V,
+    tables: &Tables,
+    asked: &Asked,
+    name: &Name,
+    from: &Name,
+    progress: &mut Progress,
+    reply: &mut Reply,
+    scratch: &mut Scratch,
+) -> Next
+    requires few { FewInGroups (sets_in_zone zones.now.zones asked.now.zone) }
+    requires none { asked_group (sets_in_zone zones.now.zones asked.now.zone) from.now
+        asked.now.qtype ≡ [] }
+    requires room { progress.old.count ≤ 238 }
+    requires open { IsOpen Answer reply.old }
+    ensures comes { (healthy : ℕ → SetKey → Bool)
+        → Agrees zones.now.zones (V.test view.now) healthy
+        → Comes (step_of (asked_of zones.now.zones zones.now.collections.list healthy tables.now
+        asked.now) name.now
+        (asked_group (sets_in_zone zones.now.zones asked.now.zone) from.now asked.now.qtype)
+        (group (sets_in_zone zones.now.zones asked.now.zone) from.now rtype.Cname)
+        (choices_of progress.old)) name.now
+        reply.old reply.new scratch.new progress.new result }
+    ensures held { HoldsNext scratch.new result }
+    ensures rcode { EndsWell result }
+    ensures most { progress.new.count ≤ progress.old.count + 17 }
+{
+    types_have_their_own_number();
+    let cnames = find_group(zones, asked.zone, from, RType::Cname);
+    step_cname(
+        zones, view, tables, asked, name, cnames, progress, reply, scratch,
+    )
+}
+
 /// What a name comes to by the sets of the name that are taken for it: those of the asked type, or
 /// where there are none of these its CNAME sets.
 fn step_from<V: HealthView>(
@@ -184,7 +223,6 @@ fn step_from<V: HealthView>(
     ensures rcode { EndsWell result }
     ensures most { progress.new.count ≤ progress.old.count + 17 }
 {
-    types_have_their_own_number();
     match asked_group(zones, asked.zone, from, asked.qtype) {
         Some(group) => {
             let end = answer_group(
@@ -192,59 +230,60 @@ fn step_from<V: HealthView>(
             );
             Next::Ends(end)
         }
-        None => {
-            let cnames = find_group(zones, asked.zone, from, RType::Cname);
-            step_cname(
-                zones, view, tables, asked, name, cnames, progress, reply, scratch,
-            )
-        }
-    }
-}
-
-/// What a name comes to by its source.
-fn step_by_source<V: HealthView>(
-    zones: &Zones,
-    view: &V,
-    tables: &Tables,
-    asked: &Asked,
-    name: &Name,
-    progress: &mut Progress,
-    reply: &mut Reply,
-    scratch: &mut Scratch,
-) -> Next
-    requires there { IsApex zones.now.zones asked.now.zone asked.now.apex }
-    requires inside { EndsWith name.now asked.now.apex }
-    requires some { placed_in zones.now.zones asked.now.zone ≢ [] }
-    requires few { FewInGroups (sets_in_zone zones.now.zones asked.now.zone) }
-    requires room { progress.old.count ≤ 238 }
-    requires open { IsOpen Answer reply.old }
-    ensures comes { (healthy : ℕ → SetKey → Bool)
-        → Agrees zones.now.zones (V.test view.now) healthy
-        → Comes (step_from (asked_of zones.now.zones zones.now.collections.list healthy tables.now
-        asked.now) name.now
-        (source (sets_in_zone zones.now.zones asked.now.zone) name.now)
-        (choices_of progress.old)) name.now
-        reply.old reply.new scratch.new progress.new result }
-    ensures held { HoldsNext scratch.new result }
-    ensures rcode { EndsWell result }
-    ensures most { progress.new.count ≤ progress.old.count + 17 }
-{
-    match source_of(zones, asked.zone, &asked.apex, name) {
-        None => Next::Ends(answer_nxdomain(zones, asked, reply, scratch)),
-        Some(from) => step_from(
-            zones, view, tables, asked, name, &from, progress, reply, scratch,
+        None => step_untyped(
+            zones, view, tables, asked, name, from, progress, reply, scratch,
         ),
     }
 }
 
-/// What a name comes to that has no zone cut above it. Its sets of the asked type are looked for
-/// first: where there are some the name exists.
-fn step_in_zone<V: HealthView>(
+/// What a name comes to that has no set of the asked type, by the name whose sets are taken for it.
+fn step_taken<V: HealthView>(
     zones: &Zones,
     view: &V,
     tables: &Tables,
     asked: &Asked,
     name: &Name,
+    from: &Name,
+    progress: &mut Progress,
+    reply: &mut Reply,
+    scratch: &mut Scratch,
+) -> Next
+    requires few { FewInGroups (sets_in_zone zones.now.zones asked.now.zone) }
+    requires none { asked_group (sets_in_zone zones.now.zones asked.now.zone) name.now
+        asked.now.qtype ≡ [] }
+    requires room { progress.old.count ≤ 238 }
+    requires open { IsOpen Answer reply.old }
+    ensures comes { (healthy : ℕ → SetKey → Bool)
+        → Agrees zones.now.zones (V.test view.now) healthy
+        → Comes (step_of (asked_of zones.now.zones zones.now.collections.list healthy tables.now
+        asked.now) name.now
+        (asked_group (sets_in_zone zones.now.zones asked.now.zone) from.now asked.now.qtype)
+        (group (sets_in_zone zones.now.zones asked.now.zone) from.now rtype.Cname)
+        (choices_of progress.old)) name.now
+        reply.old reply.new scratch.new progress.new result }
+    ensures held { HoldsNext scratch.new result }
+    ensures rcode { EndsWell result }
+    ensures most { progress.new.count ≤ progress.old.count + 17 }
+{
+    if from.is_same(name) {
+        return step_untyped(
+            zones, view, tables, asked, name, from, progress, reply, scratch,
+        );
+    }
+    step_from(
+        zones, view, tables, asked, name, from, progress, reply, scratch,
+    )
+}
+
+/// What a name comes to that has no set of the asked type: a referral where it is below a zone cut,
+/// else by what stands for it.
+fn step_standing<V: HealthView>(
+    zones: &Zones,
+    view: &V,
+    tables: &Tables,
+    asked: &Asked,
+    name: &Name,
+    place: usize,
     progress: &mut Progress,
     reply: &mut Reply,
     scratch: &mut Scratch,
@@ -253,32 +292,73 @@ fn step_in_zone<V: HealthView>(
     requires inside { EndsWith name.now asked.now.apex }
     requires some { placed_in zones.now.zones asked.now.zone ≢ [] }
     requires few { FewInGroups (sets_in_zone zones.now.zones asked.now.zone) }
+    requires none { asked_group (sets_in_zone zones.now.zones asked.now.zone) name.now
+        asked.now.qtype ≡ [] }
+    requires place { IsFirstNamed (sets_in_zone zones.now.zones asked.now.zone) name.now place }
     requires room { progress.old.count ≤ 238 }
     requires open { IsOpen Answer reply.old }
     ensures comes { (healthy : ℕ → SetKey → Bool)
         → Agrees zones.now.zones (V.test view.now) healthy
-        → Comes (step_from (asked_of zones.now.zones zones.now.collections.list healthy tables.now
-        asked.now) name.now
-        (source (sets_in_zone zones.now.zones asked.now.zone) name.now)
-        (choices_of progress.old)) name.now
+        → Comes (step_at (asked_of zones.now.zones zones.now.collections.list healthy tables.now
+        asked.now) name.now (choices_of progress.old)) name.now
         reply.old reply.new scratch.new progress.new result }
     ensures held { HoldsNext scratch.new result }
     ensures rcode { EndsWell result }
     ensures most { progress.new.count ≤ progress.old.count + 17 }
 {
+    cuts_are_nearest();
+    match standing_of(zones, asked.zone, &asked.apex, name, place, scratch) {
+        Standing::Below(cut) => Next::Ends(answer_referral(zones, cut, reply, scratch)),
+        Standing::Taken(from) => step_taken(
+            zones, view, tables, asked, name, &from, progress, reply, scratch,
+        ),
+        Standing::Absent => Next::Ends(answer_nxdomain(zones, asked, reply, scratch)),
+    }
+}
+
+/// What a name comes to that has sets of the asked type: a referral where it is below a zone cut,
+/// else these answer.
+fn step_typed<V: HealthView>(
+    zones: &Zones,
+    view: &V,
+    tables: &Tables,
+    asked: &Asked,
+    name: &Name,
+    group: Group,
+    progress: &mut Progress,
+    reply: &mut Reply,
+    scratch: &mut Scratch,
+) -> Next
+    requires inside { EndsWith name.now asked.now.apex }
+    requires few { FewInGroups (sets_in_zone zones.now.zones asked.now.zone) }
+    requires has { HasSets zones.now.zones asked.now.zone
+        (asked_group (sets_in_zone zones.now.zones asked.now.zone) name.now asked.now.qtype) group }
+    requires room { progress.old.count ≤ 238 }
+    requires open { IsOpen Answer reply.old }
+    ensures comes { (healthy : ℕ → SetKey → Bool)
+        → Agrees zones.now.zones (V.test view.now) healthy
+        → Comes (step_at (asked_of zones.now.zones zones.now.collections.list healthy tables.now
+        asked.now) name.now (choices_of progress.old)) name.now
+        reply.old reply.new scratch.new progress.new result }
+    ensures held { HoldsNext scratch.new result }
+    ensures rcode { EndsWell result }
+    ensures most { progress.new.count ≤ progress.old.count + 17 }
+{
+    cuts_are_nearest();
     names_exist();
-    match asked_group(zones, asked.zone, name, asked.qtype) {
-        Some(group) => {
+    match cut_above(zones, asked.zone, &asked.apex, name) {
+        Some(cut) => Next::Ends(answer_referral(zones, cut, reply, scratch)),
+        None => {
             let end = answer_group(
                 zones, view, tables, asked, name, group, progress, reply, scratch,
             );
             Next::Ends(end)
         }
-        None => step_by_source(zones, view, tables, asked, name, progress, reply, scratch),
     }
 }
 
-/// What a name comes to: a referral where it is below a zone cut, else by its sets.
+/// What a name comes to. Its sets of the asked type are looked for first: where there are some the
+/// name exists.
 fn step<V: HealthView>(
     zones: &Zones,
     view: &V,
@@ -303,11 +383,14 @@ fn step<V: HealthView>(
     ensures rcode { EndsWell result }
     ensures most { progress.new.count ≤ progress.old.count + 17 }
 {
-    cuts_are_nearest();
     known_few(zones, asked.zone, &asked.apex);
-    match cut_above(zones, asked.zone, &asked.apex, name) {
-        Some(cut) => Next::Ends(answer_referral(zones, cut, reply, scratch)),
-        None => step_in_zone(zones, view, tables, asked, name, progress, reply, scratch),
+    match find_asked(zones, asked.zone, name, asked.qtype) {
+        Found::Sets(group) => step_typed(
+            zones, view, tables, asked, name, group, progress, reply, scratch,
+        ),
+        Found::Place(place) => step_standing(
+            zones, view, tables, asked, name, place, progress, reply, scratch,
+        ),
     }
 }
 

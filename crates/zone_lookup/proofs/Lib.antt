@@ -1,4 +1,6 @@
+pub mod Beside
 pub mod Cutting
 pub mod Finding
+pub mod Nearest
 pub mod Serving
 pub mod Sourcing

@@ -1,5 +1,6 @@
 pub mod Cuts
 pub mod Served
+pub mod Standing
 pub use Rattle.answer_model.specs.Names
 pub use Rattle.answer_model.specs.Sections
 pub use Rattle.answer_model.specs.Zones

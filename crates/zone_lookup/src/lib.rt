@@ -9,9 +9,11 @@ mod groups;
 mod hosting;
 mod served;
 mod source;
+mod standing;
 
 pub use cut::cut_above;
 pub use groups::{asked_group, group_of};
 pub use hosting::{find_zone, is_held_by, known_few};
 pub use served::are_served;
 pub use source::source_of;
+pub use standing::{Found, Standing, find_asked, standing_of};

@@ -62,7 +62,7 @@ fn count_at(zones: &Zones, zone: u32, i: usize, scratch: &mut Scratch) -> usize
 }
 
 /// Holds the set at a place of a zone.
-fn hold_at(zones: &Zones, zone: u32, i: usize, scratch: &mut Scratch)
+pub(crate) fn hold_at(zones: &Zones, zone: u32, i: usize, scratch: &mut Scratch)
     requires { i < length (placed_in zones.now.zones zone) }
     ensures { (set : RecordSet) × (scratch.new ≡ Some set)
         × (slice_get (sets_in_zone zones.now.zones zone) i ≡ Some set) }

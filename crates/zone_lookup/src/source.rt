@@ -6,6 +6,7 @@ ghost use Rattle.dns_name.specs.Suffix.{EndsWith};
 ghost use Rattle.policy_select.specs.Groups.{sets_in_zone};
 ghost use Rattle.zone_list.specs.Zones.{placed_in};
 ghost use Rattle.zone_table.specs.Looking.{IsApex};
+ghost use Rattle.zone_lookup.specs.Standing.{IsNearest};
 
 use answer_model::{enclosers_are_closest, names_exist};
 use dns_name::Name;
@@ -21,12 +22,24 @@ pub fn source_of(zones: &Zones, zone: u32, apex: &Name, name: &Name) -> Option<N
 {
     zones.well_formed();
     names_exist();
-    enclosers_are_closest();
     if zones.exists(zone, name) {
         return Some(*name);
     }
     let closest = zones.closest(zone, name);
-    let Some(wildcard) = closest.wildcard() else {
+    source_from(zones, zone, name, &closest)
+}
+
+/// The same by the longest name at or above it that exists.
+pub(crate) fn source_from(zones: &Zones, zone: u32, name: &Name, nearest: &Name) -> Option<Name>
+    requires { IsNearest (sets_in_zone zones.now.zones zone) name.now nearest.now }
+    ensures { result ≡ source (sets_in_zone zones.now.zones zone) name.now }
+{
+    names_exist();
+    enclosers_are_closest();
+    if nearest.is_same(name) {
+        return Some(*name);
+    }
+    let Some(wildcard) = nearest.wildcard() else {
         return None;
     };
     if zones.exists(zone, &wildcard) {

@@ -1,11 +1,10 @@
 use Rattle.std.proofs.Common.{◌<◌, ◌∙◌, ap, arith, length, subst, sym, List}
 use Rattle.answer_model.specs.Descent.{descend}
 use Rattle.answer_model.specs.Sections.{asked as answered, asked_group}
-use Rattle.policy_select.proofs.Targets.{as_many, of_its_type}
-use Rattle.policy_select.specs.Groups.{sets_in_zone}
+use Rattle.policy_select.proofs.Targets.{as_many}
 use Rattle.rdata_layout.specs.declared.types.RType.TheVariants as rtype
 use Rattle.record_set.specs.declared.sets.RecordSet.{RecordSet}
-use Rattle.zone_model.specs.Zones.{IsAmong, group}
+use Rattle.zone_model.specs.Zones.{group}
 use Rattle.query_engine.specs.Asking.{asked_of, choices_of}
 use Rattle.query_engine.proofs.Stepping.{typed_step}
 use Rattle.query_engine.proofs.steps.step_from.Goals as goal
@@ -30,10 +29,3 @@ returns-in-Some-clause-comes g c = λ healthy agrees.
           (descend lookup.means lookup.zone.sets sets choices)) (sym has.sets) ∙ is.ends);
       leaves = is.leaves;
     }
-
-pub step_cname-requires-clause-typed : goal.step_cname-requires-clause-typed
-step_cname-requires-clause-typed g c = λ set there.
-    let zones = c.args.zones.now.zones in
-    sym (of_its_type c.types_have_their_own_number.ensures
-    (sets_in_zone zones c.args.asked.now.zone) c.args.from.now rtype.Cname set
-    (subst (λ (sets : List RecordSet). IsAmong sets set) c.find_group-cnames.ensures.sets there))

@@ -1,9 +1,7 @@
-use Rattle.std.proofs.Common.{◌∙◌, ap, sym}
-use Rattle.answer_model.specs.Names.{if_exists}
-use Rattle.dns_name.specs.Wildcard.{wildcard}
-use Rattle.std.specs.Prelude.{◌∷◌, List, ℕ}
+use Rattle.std.proofs.Common.{arith, sym}
 use Rattle.policy_select.specs.Groups.{sets_in_zone}
-use Rattle.zone_lookup.proofs.Sourcing.{from_wildcard, missing, no_room, not_apex, one_closest, taken}
+use Rattle.zone_lookup.proofs.Nearest.{by_name}
+use Rattle.zone_lookup.proofs.Sourcing.{itself, not_apex}
 use Rattle.zone_lookup.proofs.source.source_of.Goals as goal
 
 pub closest-closest-requires-clause-below : goal.closest-closest-requires-clause-below
@@ -18,30 +16,14 @@ closest-closest-requires-clause-below c = (
   ),
 )
 
-pub returns-in_default : goal.returns-in_default
-returns-in_default c =
-    let sets = sets_in_zone c.args.zones.now.zones c.args.zone in
-    let names = c.names_exist.ensures.exist in
-    let encloser = c.closest-closest.result in
-    let one = one_closest names sets c.enclosers_are_closest.ensures c.args.name.now encloser
-    c.closest-closest.ensures in
-    sym (from_wildcard names sets c.args.name.now c.exists.result c.exists.ensures
-    c.if-exists.false
-    ∙ (ap (λ (n : List (List ℕ)). if_exists sets (wildcard ∷ n)) one
-    ∙ no_room names sets (wildcard ∷ encloser) c.in_default.ensures.none))
+pub source_from-requires : goal.source_from-requires
+source_from-requires c =
+    by_name (sets_in_zone c.args.zones.now.zones c.args.zone) c.args.name.now
+    c.closest-closest.result
+    (λ there. (let told = c.exists.ensures.1 there in let not_so = c.if-exists.false in
+    absurd (grind (arith, told, not_so)))) c.closest-closest.ensures
 
-pub returns-then-exists-2 : goal.returns-then-exists-2
-returns-then-exists-2 c =
-    taken c.names_exist.ensures.exist c.enclosers_are_closest.ensures
-    (sets_in_zone c.args.zones.now.zones c.args.zone) c.args.name.now c.closest-closest.result
-    c.in-Some.wildcard c.exists.result c.exists-2.result c.exists.ensures c.if-exists.false
-    c.closest-closest.ensures c.in-Some.ensures.some c.in-Some.ensures.fits c.exists-2.ensures
-    c.if-exists-2.true
-
-pub returns : goal.returns
-returns c =
-    missing c.names_exist.ensures.exist c.enclosers_are_closest.ensures
-    (sets_in_zone c.args.zones.now.zones c.args.zone) c.args.name.now c.closest-closest.result
-    c.in-Some.wildcard c.exists.result c.exists-2.result c.exists.ensures c.if-exists.false
-    c.closest-closest.ensures c.in-Some.ensures.some c.in-Some.ensures.fits c.exists-2.ensures
-    c.if-exists-2.false
+pub returns-then-exists : goal.returns-then-exists
+returns-then-exists c =
+    sym (itself c.names_exist.ensures.exist (sets_in_zone c.args.zones.now.zones c.args.zone)
+    c.args.name.now c.exists.result c.exists.ensures c.if-exists.true)
