@@ -1,7 +1,9 @@
-//! Rows of control lines and of replies: what a line that is not read is told, byte by byte, and
-//! what other outcomes are.
+//! Rows of control lines, of replies and of a dump: what a line that is not read is told, byte by
+//! byte, what other outcomes are, and the lines of a dump.
 #![tactic(auto)]
 
+#[cfg(test)]
+mod dumps;
 #[cfg(test)]
 mod faults;
 #[cfg(test)]
