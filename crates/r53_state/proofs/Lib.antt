@@ -1,0 +1,4 @@
+mod Decided
+mod Installed
+mod Staying
+mod Working

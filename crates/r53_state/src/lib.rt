@@ -1,0 +1,17 @@
+//! The configuration of a server: its hosted zones with their sets, its health checks and its
+//! collections, changed by commands.
+//!
+//! A command is prepared first, which judges it and takes all its memory, and then installed, which
+//! can't fail. In between nothing has changed, so that it can be written down.
+#![tactic(auto)]
+
+mod config;
+mod editing;
+mod installing;
+mod prepared;
+
+pub use command_octets::Command;
+pub use config::Config;
+pub use config_model::{InputReason, Made, Refusal};
+pub use octets::OutOfMemory;
+pub use prepared::Prepared;
