@@ -5,6 +5,7 @@ use Rattle.std.proofs.Common.{append_assoc, arith, inl, inr}
 use Rattle.std.specs.Prelude.{cond, map, min, not, ◌||◌, slice_get}
 use Rattle.std.specs.List.{cons_option, filter, flat_map, list_any}
 use Rattle.std.specs.Str.{bytes_eq}
+use Rattle.std.proofs.lemmas.Grind.{flat_map-append}
 use Rattle.std.proofs.lemmas.List.{append-nil, map-append}
 use Rattle.std.proofs.lemmas.List.Elements.{filter-append, filter_map-append}
 use Rattle.dns_wire.specs.Message.{Record}
@@ -35,6 +36,17 @@ sets_more all places i place set at there =
     ap (sets_at all) (take_more places i place at)
     ∙ (filter_map-append (slice_get all) (take i places) (place ∷ [])
     ∙ ap (λ (o : Option RecordSet). sets_at all (take i places) ++ cons_option o []) there)
+
+-- all their data
+pub data_more : (all : List RecordSet) (places : List ℕ) (i place : ℕ) (set : RecordSet)
+    → slice_get places i ≡ Some place → slice_get all place ≡ Some set
+    → all_data (sets_at all (take (i + 1) places))
+    ≡ all_data (sets_at all (take i places)) ++ data_of set.body
+data_more all places i place set at there =
+    ap all_data (sets_more all places i place set at there)
+    ∙ (flat_map-append (λ (s : RecordSet). data_of s.body) (sets_at all (take i places)) (set ∷ [])
+    ∙ ap (λ (ds : List (List ℕ)). all_data (sets_at all (take i places)) ++ ds)
+    (append-nil (data_of set.body)))
 
 -- ---- the least TTL
 

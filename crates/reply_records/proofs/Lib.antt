@@ -1,5 +1,6 @@
 pub mod Gluing
 pub mod Joined
 pub mod Named
+pub mod Seeing
 pub mod Shown
 pub mod Written

@@ -1,5 +1,6 @@
 pub mod Chosen
 pub mod Delegating
+pub mod Seeing
 pub mod Writing
 pub use Rattle.answer_model.specs.Records
 pub use Rattle.answer_model.specs.Sections

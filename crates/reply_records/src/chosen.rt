@@ -12,11 +12,15 @@ ghost use Rattle.reply_records.specs.Writing.{IsOpen, Writes};
 
 use crate::held::{count_of, rtype_of, ttl_of, write_values};
 use crate::joint::{least_ttl, write_joint};
+use crate::seen::NONE;
 use dns_name::Name;
 use dns_wire::{Reply, Section, records_add_up};
 use policy_select::{Selected, load_member, places_of};
 use rdata_layout::types_have_their_own_number;
 use zone_table::{Group, Scratch, Zones};
+
+/// Where the first of several sets has no more values, room for few is made, which is filled sooner.
+const FEW_VALUES: usize = 8;
 
 /// Writes the records with which chosen sets answer a name. The first of the sets is held.
 pub fn write_chosen(
@@ -64,7 +68,33 @@ fn write_several(
     let ttl = least_ttl(zones, group, places, scratch);
     load_member(zones, group, places[0], scratch);
     let rtype = rtype_of(scratch);
-    write_joint(zones, group, places, rtype, owner, ttl, reply, scratch);
+    if count_of(scratch) <= FEW_VALUES {
+        let mut values = [NONE; 64];
+        write_joint(
+            zones,
+            group,
+            places,
+            rtype,
+            owner,
+            ttl,
+            &mut values,
+            reply,
+            scratch,
+        );
+        return;
+    }
+    let mut values = [NONE; 256];
+    write_joint(
+        zones,
+        group,
+        places,
+        rtype,
+        owner,
+        ttl,
+        &mut values,
+        reply,
+        scratch,
+    );
 }
 
 /// The TTL of the first record with which chosen sets answer, or none where they have no record.

@@ -1,7 +1,7 @@
 //! Records of several sets of a group: the least TTL, and each value of an earlier set left out.
 
-ghost use Rattle.std.specs.Prelude.{◌≡◌, ◌<◌, ◌≤◌, ◌∷◌, [], ℕ, IsTrue, List, length, slice_get};
-ghost use Rattle.std.specs.Prelude.{Some, take, true};
+ghost use Rattle.std.specs.Prelude.{◌≡◌, ◌<◌, ◌≤◌, ◌∷◌, ◌++◌, [], ℕ, IsTrue, List, length};
+ghost use Rattle.std.specs.Prelude.{Some, false, slice_get, take, true};
 ghost use Rattle.std.specs.Str.{bytes_eq};
 ghost use Rattle.answer_model.specs.Records.{data_of, is_among, joint_data, least_ttl, records};
 ghost use Rattle.dns_wire.specs.declared.reply.Section.TheVariants.{Answer};
@@ -11,9 +11,11 @@ ghost use Rattle.record_set.specs.declared.sets.RecordSet.{RecordSet};
 ghost use Rattle.set_scratch.specs.Holding.{HasValue, IsHolding};
 ghost use Rattle.zone_table.specs.Looking.{IsGroupNow};
 ghost use Rattle.reply_records.specs.Chosen.{ArePlaces, all_data, new_data, sets_of_places};
+ghost use Rattle.reply_records.specs.Seeing.{Sees};
 ghost use Rattle.reply_records.specs.Writing.{IsOpen, Writes};
 
 use crate::held::{count_of, rdata_at, ttl_of, write_or_cut, write_until_cut};
+use crate::seen::{Seen, Short, is_seen, note_held};
 use dns_name::Name;
 use dns_wire::{Reply, Section, records_add_up};
 use octets::{fill_front, front};
@@ -45,7 +47,8 @@ pub(crate) fn least_ttl(zones: &Zones, group: Group, places: &[usize], scratch: 
     least
 }
 
-/// Writes the records of the sets at some places of a group, which have this type.
+/// Writes the records of the sets at some places of a group, which have this type. Values are kept
+/// in some room as far as it goes.
 pub(crate) fn write_joint(
     zones: &Zones,
     group: Group,
@@ -53,6 +56,7 @@ pub(crate) fn write_joint(
     rtype: RType,
     owner: &Name,
     ttl: u32,
+    values: &mut [Short],
     reply: &mut Reply,
     scratch: &mut Scratch,
 )
@@ -65,10 +69,14 @@ pub(crate) fn write_joint(
         (joint_data [] (sets_of_places zones.now.zones group places.now))) reply.old reply.new }
 {
     records_add_up();
+    let mut seen = Seen {
+        count: 0,
+        is_whole: true,
+    };
     for i in 0..places.len() {
         let earlier = places_before(places, i);
         if write_new(
-            zones, group, earlier, places[i], rtype, owner, ttl, reply, scratch,
+            zones, group, earlier, places[i], rtype, owner, ttl, values, &mut seen, reply, scratch,
         ) {
             return;
         }
@@ -84,7 +92,7 @@ fn places_before(places: &[usize], i: usize) -> &[usize]
 }
 
 /// Writes the values of the set at a place that no earlier set has, and tells whether the reply is
-/// known to be cut.
+/// known to be cut. Where it isn't they are seen then.
 fn write_new(
     zones: &Zones,
     group: Group,
@@ -93,6 +101,8 @@ fn write_new(
     rtype: RType,
     owner: &Name,
     ttl: u32,
+    values: &mut [Short],
+    seen: &mut Seen,
     reply: &mut Reply,
     scratch: &mut Scratch,
 ) -> bool
@@ -101,6 +111,9 @@ fn write_new(
     requires place { place < group.length }
     requires rtype { (i : ℕ) (set : RecordSet)
         → slice_get (sets_in zones.now.zones group) i ≡ Some set → set.rtype ≡ rtype }
+    requires sees { Sees (all_data (sets_of_places zones.now.zones group earlier.now)) values.old
+        seen.old }
+    requires within { seen.old.count ≤ length values.old }
     requires open { IsOpen Answer reply.old }
     ensures there { (set : RecordSet) × (slice_get (sets_in zones.now.zones group) place ≡ Some set) }
     ensures written { (set : RecordSet)
@@ -109,18 +122,24 @@ fn write_new(
         (new_data (sets_of_places zones.now.zones group earlier.now) (data_of set.body)))
         reply.old reply.new }
     ensures cut { IsTrue result → reply.new.is_cut ≡ true }
+    ensures sees { (set : RecordSet)
+        → slice_get (sets_in zones.now.zones group) place ≡ Some set → result ≡ false
+        → Sees (all_data (sets_of_places zones.now.zones group earlier.now) ++ data_of set.body)
+        values.new seen.new }
+    ensures within { seen.new.count ≤ length values.new }
 {
     load_member(zones, group, place, scratch);
-    if earlier.len() == 0 {
-        return write_until_cut(reply, Section::Answer, owner, ttl, scratch);
+    if write_held(
+        zones, group, earlier, place, rtype, owner, ttl, values, seen, reply, scratch,
+    ) {
+        return true;
     }
-    write_those_new(
-        zones, group, earlier, place, rtype, owner, ttl, reply, scratch,
-    )
+    note_held(values, seen, scratch);
+    false
 }
 
-/// The same where the set at the place is held.
-fn write_those_new(
+/// Writes those of the set at the place, which is held. Of the first set all are new.
+fn write_held(
     zones: &Zones,
     group: Group,
     earlier: &[usize],
@@ -128,6 +147,8 @@ fn write_those_new(
     rtype: RType,
     owner: &Name,
     ttl: u32,
+    values: &[Short],
+    seen: &Seen,
     reply: &mut Reply,
     scratch: &mut Scratch,
 ) -> bool
@@ -137,7 +158,51 @@ fn write_those_new(
     requires holding { IsHolding scratch.old }
     requires held { scratch.old ≡ slice_get (sets_in zones.now.zones group) place }
     requires rtype { (set : RecordSet) → scratch.old ≡ Some set → set.rtype ≡ rtype }
+    requires sees { Sees (all_data (sets_of_places zones.now.zones group earlier.now)) values.now
+        seen.now }
+    requires within { seen.now.count ≤ length values.now }
     requires open { IsOpen Answer reply.old }
+    ensures held { scratch.new ≡ scratch.old }
+    ensures written { (set : RecordSet)
+        → slice_get (sets_in zones.now.zones group) place ≡ Some set
+        → Writes Answer (records owner.now rtype ttl
+        (new_data (sets_of_places zones.now.zones group earlier.now) (data_of set.body)))
+        reply.old reply.new }
+    ensures cut { IsTrue result → reply.new.is_cut ≡ true }
+{
+    if earlier.len() == 0 {
+        return write_until_cut(reply, Section::Answer, owner, ttl, scratch);
+    }
+    write_those_new(
+        zones, group, earlier, place, rtype, owner, ttl, values, seen, reply, scratch,
+    )
+}
+
+/// The same of a later set.
+fn write_those_new(
+    zones: &Zones,
+    group: Group,
+    earlier: &[usize],
+    place: usize,
+    rtype: RType,
+    owner: &Name,
+    ttl: u32,
+    values: &[Short],
+    seen: &Seen,
+    reply: &mut Reply,
+    scratch: &mut Scratch,
+) -> bool
+    requires group { IsGroupNow zones.now.zones group }
+    requires earlier { ArePlaces group earlier.now }
+    requires place { place < group.length }
+    requires holding { IsHolding scratch.old }
+    requires held { scratch.old ≡ slice_get (sets_in zones.now.zones group) place }
+    requires rtype { (set : RecordSet) → scratch.old ≡ Some set → set.rtype ≡ rtype }
+    requires sees { Sees (all_data (sets_of_places zones.now.zones group earlier.now)) values.now
+        seen.now }
+    requires within { seen.now.count ≤ length values.now }
+    requires open { IsOpen Answer reply.old }
+    ensures held { scratch.new ≡ scratch.old }
     ensures written { (set : RecordSet)
         → slice_get (sets_in zones.now.zones group) place ≡ Some set
         → Writes Answer (records owner.now rtype ttl
@@ -148,7 +213,7 @@ fn write_those_new(
     records_add_up();
     for i in 0..count_of(scratch) {
         if write_if_new(
-            zones, group, earlier, place, i, rtype, owner, ttl, reply, scratch,
+            zones, group, earlier, place, i, rtype, owner, ttl, values, seen, reply, scratch,
         ) {
             return true;
         }
@@ -159,6 +224,53 @@ fn write_those_new(
 /// Writes a value of the set at a place, which is held, where no earlier set has it, and tells
 /// whether that shows the reply to be cut.
 fn write_if_new(
+    zones: &Zones,
+    group: Group,
+    earlier: &[usize],
+    place: usize,
+    i: usize,
+    rtype: RType,
+    owner: &Name,
+    ttl: u32,
+    values: &[Short],
+    seen: &Seen,
+    reply: &mut Reply,
+    scratch: &mut Scratch,
+) -> bool
+    requires group { IsGroupNow zones.now.zones group }
+    requires earlier { ArePlaces group earlier.now }
+    requires place { place < group.length }
+    requires held { scratch.old ≡ slice_get (sets_in zones.now.zones group) place }
+    requires value { HasValue scratch.old i }
+    requires rtype { (set : RecordSet) → scratch.old ≡ Some set → set.rtype ≡ rtype }
+    requires sees { Sees (all_data (sets_of_places zones.now.zones group earlier.now)) values.now
+        seen.now }
+    requires within { seen.now.count ≤ length values.now }
+    requires open { IsOpen Answer reply.old }
+    ensures held { scratch.new ≡ scratch.old }
+    ensures written { (set : RecordSet) (rdata : List ℕ) → scratch.old ≡ Some set
+        → slice_get (data_of set.body) i ≡ Some rdata
+        → Writes Answer (records owner.now rtype ttl
+        (new_data (sets_of_places zones.now.zones group earlier.now) (rdata ∷ [])))
+        reply.old reply.new }
+    ensures cut { IsTrue result → reply.new.is_cut ≡ true }
+{
+    match is_seen(values, seen, rdata_at(scratch, rtype, i)) {
+        Some(is_old) => {
+            if is_old {
+                return false;
+            }
+            let rdata = rdata_at(scratch, rtype, i);
+            write_or_cut(reply, Section::Answer, owner, rtype, ttl, rdata)
+        }
+        None => write_compared(
+            zones, group, earlier, place, i, rtype, owner, ttl, reply, scratch,
+        ),
+    }
+}
+
+/// The same by a comparison with all values of the earlier sets.
+fn write_compared(
     zones: &Zones,
     group: Group,
     earlier: &[usize],

@@ -9,6 +9,7 @@ mod delegation;
 mod held;
 mod joint;
 mod negative;
+mod seen;
 
 pub use chosen::{first_record, write_chosen};
 pub use delegation::{name_in, write_delegation};

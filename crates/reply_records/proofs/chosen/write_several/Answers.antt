@@ -13,3 +13,13 @@ write_joint-requires-clause-rtype c = λ i set there.
     read.some.0 (among_at all i set there)
     (among_at all _ read.some.0 (sym read.loaded ∙ read.some.1))
     ∙ c.rtype_of-rtype.ensures read.some.0 read.some.1
+
+pub write_joint-requires-2-clause-rtype : goal.write_joint-requires-2-clause-rtype
+write_joint-requires-2-clause-rtype c = λ i set there.
+    let zones = c.args.zones.now.zones in
+    let all = sets_in zones c.args.group in
+    let read = c.load_member.ensures in
+    of_one_type c.types_have_their_own_number.ensures zones c.args.group c.requires.group set
+    read.some.0 (among_at all i set there)
+    (among_at all _ read.some.0 (sym read.loaded ∙ read.some.1))
+    ∙ c.rtype_of-rtype.ensures read.some.0 read.some.1

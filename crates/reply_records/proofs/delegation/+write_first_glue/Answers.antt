@@ -1,10 +1,9 @@
-use Rattle.std.proofs.Common.{◌≡◌, ◌+◌, ◌-◌, ◌∙◌, ap, arith, subst, take, List, ℕ}
+use Rattle.std.proofs.Common.{◌≡◌, ◌+◌, ◌-◌, ap, arith, take, List, ℕ}
 use Rattle.answer_model.specs.Records.{data_of, glue_of}
 use Rattle.dns_name.specs.Stored.{labels_of}
 use Rattle.dns_wire.specs.declared.reply.Section.TheVariants.{Additional}
 use Rattle.policy_select.specs.Groups.{sets_in_zone}
 use Rattle.reply_records.specs.Delegating.{servers_glue}
-use Rattle.reply_records.specs.Writing.{Writes}
 use Rattle.reply_records.proofs.Gluing.{glue_is}
 use Rattle.reply_records.proofs.Written.{behind_cut, flat_more, same}
 use Rattle.reply_records.proofs.delegation.+write_first_glue.Goals as goal

@@ -1,11 +1,12 @@
-use Rattle.std.proofs.Common.{◌+◌, get_or, subst, List, ℕ}
+use Rattle.std.proofs.Common.{◌+◌, ◌++◌, ◌∙◌, ap, get_or, subst, sym, List, ℕ}
 use Rattle.answer_model.specs.Records.{data_of, records}
 use Rattle.dns_wire.specs.declared.reply.Section.TheVariants.{Answer}
 use Rattle.policy_select.specs.Groups.{sets_in}
 use Rattle.zone_table.proofs.Looked.{number_at}
-use Rattle.reply_records.specs.Chosen.{new_data, sets_of_places}
+use Rattle.reply_records.specs.Chosen.{all_data, new_data, sets_of_places}
+use Rattle.reply_records.specs.Seeing.{Sees}
 use Rattle.reply_records.specs.Writing.{Writes}
-use Rattle.reply_records.proofs.Joined.{joint_step}
+use Rattle.reply_records.proofs.Joined.{data_more, joint_step}
 use Rattle.reply_records.proofs.Written.{joint_cut, more, same, still_open}
 use Rattle.reply_records.proofs.joint.write_joint.Goals as goal
 
@@ -29,7 +30,20 @@ loop-i-preserved c =
           (number_at places c.loop-i.i c.loop-i-test.true) there.1)
           (more adds Answer _ _ c.args.reply.now c.loop-i.reply c.write_new.new.reply
           inv.written wrote);
+      sees = subst (λ (ds : List (List ℕ)). Sees ds c.write_new.new.values c.write_new.new.seen)
+          (ap (λ (ps : List ℕ). all_data (sets_of_places zones c.args.group ps)
+          ++ data_of there.0.body) c.places_before-earlier.ensures
+          ∙ sym (data_more all places c.loop-i.i (get_or places c.loop-i.i 0) there.0
+          (number_at places c.loop-i.i c.loop-i-test.true) there.1))
+          (c.write_new.ensures.sees there.0 there.1 c.if-write_new.false);
+      within = c.write_new.ensures.within;
     }
+
+pub write_new-requires-clause-sees : goal.write_new-requires-clause-sees
+write_new-requires-clause-sees c =
+    let zones = c.args.zones.now.zones in
+    subst (λ (ps : List ℕ). Sees (all_data (sets_of_places zones c.args.group ps))
+    c.loop-i.values c.loop-i.seen) (sym c.places_before-earlier.ensures) c.loop-i.invariant.sees
 
 pub returns-then-write_new : goal.returns-then-write_new
 returns-then-write_new c =

@@ -1,7 +1,8 @@
-use Rattle.std.proofs.Common.{[], take}
+use Rattle.std.proofs.Common.{◌≤◌, [], length, take}
 use Rattle.answer_model.specs.Records.{joint_data, records}
 use Rattle.dns_wire.specs.declared.reply.Section.TheVariants.{Answer}
-use Rattle.reply_records.specs.Chosen.{sets_of_places}
+use Rattle.reply_records.specs.Chosen.{all_data, sets_of_places}
+use Rattle.reply_records.specs.Seeing.{Sees}
 use Rattle.reply_records.specs.Writing.{IsOpen, Writes}
 use Rattle.reply_records.proofs.joint.write_joint.Given as goal
 
@@ -11,4 +12,6 @@ invariant-loop-i l = record {
   written : Writes Answer (records l.owner l.rtype l.ttl
       (joint_data [] (sets_of_places l.zones.zones l.group (take l.i l.places))))
       l.fn.reply l.reply;
+  sees : Sees (all_data (sets_of_places l.zones.zones l.group (take l.i l.places))) l.values l.seen;
+  within : l.seen.count ≤ length l.values;
 }

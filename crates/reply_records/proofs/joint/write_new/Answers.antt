@@ -1,23 +1,13 @@
-use Rattle.std.proofs.Common.{◌∙◌, ap, sym}
-use Rattle.answer_model.specs.Records.{data_of, records}
-use Rattle.dns_wire.specs.declared.reply.Section.TheVariants.{Answer}
-use Rattle.policy_select.specs.Groups.{sets_in}
-use Rattle.rdata_layout.specs.declared.types.RType.{RType}
-use Rattle.reply_records.proofs.Joined.{new_of_none}
-use Rattle.reply_records.proofs.Written.{same}
+use Rattle.std.proofs.Common.{◌∙◌, sym}
+use Rattle.reply_records.specs.Chosen.{all_data, sets_of_places}
 use Rattle.reply_records.proofs.joint.write_new.Goals as goal
 
-pub write_those_new-requires-clause-rtype : goal.write_those_new-requires-clause-rtype
-write_those_new-requires-clause-rtype c = λ set held.
+pub write_held-requires-clause-rtype : goal.write_held-requires-clause-rtype
+write_held-requires-clause-rtype c = λ set held.
     c.requires.rtype c.args.place set (sym c.load_member.ensures.loaded ∙ held)
 
-pub returns-then-earlier-eq0-clause-written : goal.returns-then-earlier-eq0-clause-written
-returns-then-earlier-eq0-clause-written c = λ set there.
-    let all = sets_in c.args.zones.now.zones c.args.group in
-    let owner = c.args.owner.now in
-    same Answer _ _ c.args.reply.now c.write_until_cut.new.reply
-    (ap (λ (t : RType). records owner t c.args.ttl (data_of set.body))
-    (c.requires.rtype c.args.place set there)
-    ∙ ap (records owner c.args.rtype c.args.ttl)
-    (sym (new_of_none all c.args.earlier.now (data_of set.body) c.if-earlier-eq0.true)))
-    (c.write_until_cut.ensures.written set (c.load_member.ensures.loaded ∙ there))
+pub returns-clause-sees : goal.returns-clause-sees
+returns-clause-sees c = λ set there so.
+    c.note_held.ensures.sees set
+    (all_data (sets_of_places c.args.zones.now.zones c.args.group c.args.earlier.now))
+    (c.write_held.ensures.held ∙ (c.load_member.ensures.loaded ∙ there)) c.requires.sees

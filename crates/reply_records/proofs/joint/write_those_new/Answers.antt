@@ -1,4 +1,4 @@
-use Rattle.std.proofs.Common.{◌+◌, ◌∙◌, arith, subst, sym, ℕ, Option}
+use Rattle.std.proofs.Common.{◌+◌, ◌∙◌, arith, subst, sym, Option}
 use Rattle.answer_model.specs.Records.{data_of}
 use Rattle.dns_wire.specs.declared.reply.Section.TheVariants.{Answer}
 use Rattle.record_set.specs.declared.sets.RecordSet.{RecordSet}
