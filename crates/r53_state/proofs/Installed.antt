@@ -78,7 +78,7 @@ module _ (table now : Table) (checks : Checks) (next : ℕ) (given : Command) wh
       → now.collections ≡ collections_after made table.collections
       → Decides config given
       (Ok (config_of now checks (next_after next given), made_of config given))
-  edited made told other (after, what, decides, leads) are are_now edits collections =
+  edited made told other (after, what, decides, leads, about) are are_now edits collections =
       let is = decided config after what given decides in
       let same : config_of now checks (next_after next given) ≡ after =
       by_parts after (hosted_in now.zones) (next_after next given) checks now.collections
@@ -158,7 +158,7 @@ module _ (before : State) (table now : Table) (checks : Kept) (next next_now : �
   pub numbered : Sound (config_in before) → (made : ZoneEdit)
       → IsEditFor (config_in before) given before.table made → OpensZone given
       → next < 4294967295
-  numbered sound made (after, what, decides, leads) opens =
+  numbered sound made (after, what, decides, leads, about) opens =
       let less = counts before.table before.table before.checks.checks before.next_zone given sound
       (after, what, decides) opens in
       subst (λ (s : State). s.next_zone < 4294967295 → next < 4294967295) is (λ lt. lt) less

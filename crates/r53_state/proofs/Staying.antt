@@ -9,13 +9,13 @@ use Rattle.config_edits.specs.Laws.{hosted_in}
 use Rattle.config_model.specs.Applying.{Decides}
 use Rattle.config_model.specs.Configs.{Config}
 use Rattle.config_model.specs.Laws.{IsBounded}
-use Rattle.config_zones.specs.Configured.{IsEditFor, IsLeast}
+use Rattle.config_zones.specs.Configured.{IsEditFor, IsLeast, zone_asked}
 use Rattle.health_check.specs.Stored.{Kept}
 use Rattle.r53_state.specs.States.{IsAccepted, IsReady, IsWorkReady, State, StayReady}
 use Rattle.r53_state.specs.States.{IsOnChecks, config_in}
 use Rattle.zone_list.specs.Zones.{AreZones, Zone}
 use Rattle.zone_table.specs.Edits.{Edits, IsAllowed, IsReady as IsEditReady, Prepared as ReadyEdit}
-use Rattle.zone_table.specs.Edits.{collections_after}
+use Rattle.zone_table.specs.Edits.{collections_after, zone_of}
 use Rattle.zone_table.specs.Tables.{Table}
 use Rattle.zone_table.specs.declared.edits.ZoneEdit.{ZoneEdit}
 use Rattle.zone_table.specs.declared.refs.Delta.{Delta}
@@ -54,7 +54,7 @@ module _ (before after : State) (zones : after.table.zones ≡ before.table.zone
   pub edit_stays : (given : Command) (made : ZoneEdit)
       → IsEditFor (config_in before) given before.table made
       → IsEditFor (config_in after) given after.table made
-  edit_stays given made (now, what, decides, leads) = (
+  edit_stays given made (now, what, decides, leads, about) = (
     now,
     what,
     subst (λ (c : Config). Decides c given (Ok (now, what))) (sym same_config) decides,
@@ -66,6 +66,7 @@ module _ (before after : State) (zones : after.table.zones ≡ before.table.zone
       collections = ap (collections_after made) collections ∙ leads.collections;
       least = subst (λ (zs : List Zone). IsLeast zs made) (sym zones) leads.least;
     },
+    subst (λ (c : Config). zone_of made ≡ zone_asked c given) (sym same_config) about,
   )
 
   pub accepted_stays : (given : Command) → IsAccepted (config_in before) given

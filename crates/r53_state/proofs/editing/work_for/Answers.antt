@@ -2,8 +2,8 @@ use Rattle.config_zones.specs.Configured.{config_of}
 use Rattle.r53_state.proofs.Working.{accepted_for, only_for, some_for}
 use Rattle.r53_state.proofs.editing.work_for.Goals as goal
 
-pub create_zone-requires-clause-sound : goal.create_zone-requires-clause-sound
-create_zone-requires-clause-sound c = (c.args.checks.now.checks, c.requires.sound)
+pub create_zone-requires : goal.create_zone-requires
+create_zone-requires c = record { sound = (c.args.checks.now.checks, c.requires.sound) }
 
 pub change_zone-requires-clause-sound : goal.change_zone-requires-clause-sound
 change_zone-requires-clause-sound c = (c.args.next, c.requires.sound)
