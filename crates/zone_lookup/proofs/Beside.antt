@@ -1,8 +1,8 @@
 -- The place of a name, and the sets beside it.
-use Rattle.std.proofs.Common.{◌≡◌, ◌≢◌, ◌<◌, ◌≤◌, ◌-◌, ◌+◌, ℕ, Bool, true, false, List, [], ◌∷◌}
+use Rattle.std.proofs.Common.{◌≡◌, ◌≢◌, ◌<◌, ◌-◌, ℕ, Bool, true, false, List, [], ◌∷◌}
 use Rattle.std.proofs.Common.{Option, Some, None, length, refl, sym, ap, ◌∙◌, subst, arith, inl, inr}
 use Rattle.std.proofs.Common.{Less, Equal, Greater, ◌++◌, append_assoc}
-use Rattle.std.specs.Prelude.{cond, slice_get, ◌==◌, ◌⊎◌}
+use Rattle.std.specs.Prelude.{cond, ◌==◌, ◌⊎◌}
 use Rattle.std.specs.List.{AllByRecursion}
 use Rattle.std.specs.Ordering.{is_lt, nat_cmp, ordering_then}
 use Rattle.std.specs.declared.cmp.Ordering.{Ordering}
@@ -17,7 +17,7 @@ use Rattle.record_set.specs.declared.sets.RecordSet.{RecordSet}
 use Rattle.set_search.proofs.Below.{beside, ends_itself, exists_at, no_longer}
 use Rattle.set_search.specs.Found.{IsBelowAt, IsCount, IsFirstNamed}
 use Rattle.set_search.specs.declared.bounds.Bound.TheVariants as bound
-use Rattle.zone_list.specs.Zones.{AreZones, StandsAlone, Zone, placed_in}
+use Rattle.zone_list.specs.Zones.{StandsAlone, Zone, placed_in}
 use Rattle.zone_model.proofs.Lists.{some_one}
 use Rattle.zone_model.specs.Existing.{Exists}
 use Rattle.zone_model.specs.Keys.{ident_cmp}

@@ -24,7 +24,7 @@ use Rattle.answer_model.specs.Sections.{cut_above, cut_at}
 use Rattle.answer_model.specs.Zones.{or_else}
 use Rattle.zone_lookup.proofs.Cutting.{counts}
 use Rattle.zone_lookup.proofs.Sourcing.{from_wildcard, itself, no_room, one_closest, there}
-use Rattle.zone_lookup.specs.Cuts.{CutOrNone, IsCut}
+use Rattle.zone_lookup.specs.Cuts.{IsCut}
 use Rattle.zone_lookup.specs.Standing.{IsNearest}
 
 -- a child is longer than what its parent is at or below

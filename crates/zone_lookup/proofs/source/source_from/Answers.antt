@@ -1,4 +1,4 @@
-use Rattle.std.proofs.Common.{◌≡◌, ◌≢◌, arith}
+use Rattle.std.proofs.Common.{◌≢◌, arith}
 use Rattle.policy_select.specs.Groups.{sets_in_zone}
 use Rattle.zone_lookup.proofs.Nearest.{source_itself, source_missing, source_too_long}
 use Rattle.zone_lookup.proofs.Nearest.{source_wildcard}

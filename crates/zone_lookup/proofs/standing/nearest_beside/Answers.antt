@@ -1,4 +1,4 @@
-use Rattle.std.proofs.Common.{◌≡◌, ap, arith, length, List, ℕ, ◌∷◌}
+use Rattle.std.proofs.Common.{ap, arith, length, List, ℕ}
 use Rattle.zone_lookup.proofs.Beside.{at_root, found_nearest, further, walk_begins}
 use Rattle.zone_lookup.proofs.standing.nearest_beside.Goals as goal
 

@@ -1,10 +1,7 @@
-use Rattle.std.proofs.Common.{List, ℕ}
 use Rattle.policy_select.specs.Groups.{sets_in_zone}
-use Rattle.zone_model.specs.Existing.{Exists}
 use Rattle.zone_table.proofs.Looked.{apex_there}
 use Rattle.zone_lookup.proofs.Beside.{are_beside, exists_under, sets_rise}
 use Rattle.zone_lookup.proofs.Nearest.{nearest_inside, nearest_itself}
-use Rattle.zone_lookup.specs.Standing.{IsNearest}
 use Rattle.zone_lookup.proofs.standing.nearest_of.Goals as goal
 
 pub returns-then-is_under-clause-nearest : goal.returns-then-is_under-clause-nearest
