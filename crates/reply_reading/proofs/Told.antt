@@ -82,7 +82,7 @@ fault_told line.OutOfMemory counts = (search (rules, arith), search (rules, arit
 
 pub reply_told : (o : Outcome) → HasCounts o → IsReply (reply_of o)
 unfolding reply_of
-reply_told (outcome.Done line) counts = (search (rules, arith), search (rules, arith))
+reply_told (outcome.Done what) counts = (search (rules, arith), search (rules, arith))
 reply_told (outcome.ZoneMade id name) counts = (search (rules, arith), search (rules, arith))
 reply_told (outcome.CheckMade id) counts = (search (rules, arith), search (rules, arith))
 reply_told (outcome.CollectionMade id) counts = (search (rules, arith), search (rules, arith))

@@ -55,7 +55,7 @@ FaultCounts (line.Unsupported member change) = IfCount change
 FaultCounts line.OutOfMemory = ⊤
 
 abbrev pub HasCounts : Outcome → Type 0
-HasCounts (outcome.Done line) = ⊤
+HasCounts (outcome.Done what) = ⊤
 HasCounts (outcome.ZoneMade id name) = ⊤
 HasCounts (outcome.CheckMade id) = ⊤
 HasCounts (outcome.CollectionMade id) = ⊤
