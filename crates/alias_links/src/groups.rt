@@ -13,7 +13,7 @@ ghost use Rattle.alias_links.specs.Laws.{EmptiesGroup, IsChange};
 use crate::keys::adds_to;
 use crate::places::stays_at;
 use dns_name::Name;
-use rdata::RType;
+use rdata_layout::RType;
 use record_set::{RecordSet, SetKey};
 use zone_table::{Scratch, Zones};
 

@@ -11,7 +11,7 @@ ghost use Rattle.alias_links.specs.Laws.{HasAlias};
 ghost use Rattle.alias_links.specs.Leasts.{IsLesser};
 
 use dns_name::Name;
-use rdata::RType;
+use rdata_layout::RType;
 use record_set::{Body, Ident, RecordSet, Routing, SetKey};
 use zone_model::{key_cmp, keys_are_ordered};
 use zone_table::Scratch;

@@ -11,7 +11,7 @@ ghost use Rattle.alias_links.specs.After.{sets_in};
 
 use crate::keys::{is_key_of, key_in};
 use dns_name::Name;
-use rdata::RType;
+use rdata_layout::RType;
 use record_set::SetKey;
 use zone_table::{Group, Scratch, Zones};
 

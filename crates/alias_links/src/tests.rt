@@ -6,7 +6,7 @@ ghost use Rattle.zone_table.specs.declared.edits.ZoneEdit.TheVariants.{Change};
 
 use crate::{empties_group, links_of, missing_after, walk_after};
 use dns_name::Name;
-use rdata::RType;
+use rdata_layout::RType;
 use record_set::{Body, RecordSet, Routing, SetKey, Values};
 use std::alloc::Global;
 use std::process::Abort;

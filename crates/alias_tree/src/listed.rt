@@ -4,7 +4,7 @@ ghost use Rattle.std.specs.Prelude.{IsTrue, ◌↔◌};
 ghost use Rattle.set_search.specs.Found.{IsOf};
 
 use dns_name::Name;
-use rdata::RType;
+use rdata_layout::RType;
 use record_set::RecordSet;
 use set_search::{SetList, Stop, set_is_before};
 

@@ -5,7 +5,7 @@ ghost use Rattle.zone_model.specs.Zones.{IsRising};
 ghost use Rattle.alias_tree.specs.Targets.{IsTargetOf, AreTargets};
 
 use crate::listed::Listed;
-use rdata::OutOfMemory;
+use octets::OutOfMemory;
 use record_set::{Body, RecordSet};
 use set_search::group_in;
 use std::alloc::Global;

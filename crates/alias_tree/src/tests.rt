@@ -5,7 +5,7 @@ ghost use Rattle.zone_model.specs.Zones.{IsRising};
 
 use crate::{missing_target, walk_of_17};
 use dns_name::Name;
-use rdata::RType;
+use rdata_layout::RType;
 use record_set::{Body, RecordSet, Routing, Values};
 use set_search::find;
 use std::alloc::Global;

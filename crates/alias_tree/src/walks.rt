@@ -15,7 +15,7 @@ use crate::first::first_marked;
 use crate::missing::is_alias;
 use crate::rounds::lead_on;
 use crate::targets::{Target, targets_of};
-use rdata::OutOfMemory;
+use octets::OutOfMemory;
 use record_set::RecordSet;
 use std::alloc::Global;
 

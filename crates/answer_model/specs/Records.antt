@@ -4,7 +4,7 @@ use Rattle.std.specs.List.{filter, flat_map, list_any}
 use Rattle.std.specs.Str.{bytes_eq}
 use Rattle.dns_wire.specs.Message.{Record}
 use Rattle.octets.specs.Numbers.{long_at}
-use Rattle.rdata.specs.Datum.{Datum}
+use Rattle.record_set.specs.Datum.{Datum}
 use Rattle.rdata_layout.specs.declared.types.RType.{RType}
 use Rattle.rdata_layout.specs.declared.types.RType.TheVariants as rtype
 use Rattle.record_set.specs.declared.sets.Body.{Body}

@@ -3,7 +3,7 @@ use Rattle.std.proofs.Common.{◌≡◌, ◌≢◌, ℕ, ◌≤◌, List, [], �
 use Rattle.std.proofs.Common.{inl, inr, Option, None, Some}
 use Rattle.std.specs.Prelude.{◌⊎◌, Result, Ok, Err}
 use Rattle.alias_links.specs.After.{changed_in, sets_in}
-use Rattle.batch_edits.specs.Differences.{AreMissing, IsDifference}
+use Rattle.zone_model.specs.Differences.{AreMissing, IsDifference}
 use Rattle.batch_edits.specs.Edits.{EditsOrNot}
 use Rattle.batch_edits.specs.declared.editing.Edit.{Edit}
 use Rattle.batch_model.specs.Batches.{Prepares}
@@ -15,7 +15,7 @@ use Rattle.batch_model.specs.declared.refusals.BatchRefusal.TheVariants as batch
 use Rattle.check_model.specs.Checks.{Checks}
 use Rattle.cidr_commands.specs.Stored.{Stored}
 use Rattle.command_octets.specs.declared.commands.Command.TheVariants as command
-use Rattle.config_edits.specs.Laws.{EditsAreTold, hosted_in}
+use Rattle.config_zones.specs.Edited.{EditsAreTold, hosted_in}
 use Rattle.config_model.proofs.Ended.{not_full}
 use Rattle.config_model.proofs.Members.{all_at}
 use Rattle.config_model.proofs.Told.{none_among, parts}

@@ -10,8 +10,8 @@ use Rattle.std.proofs.lemmas.List.{length-map}
 use Rattle.std.proofs.lemmas.Option.{slice_get_within}
 use Rattle.alias_links.proofs.Held.{sets_rise}
 use Rattle.alias_links.specs.After.{changed_in, sets_in}
-use Rattle.batch_names.proofs.Holding.{held_there, named}
-use Rattle.config_edits.specs.Laws.{hosted_in}
+use Rattle.zone_table.proofs.Holding.{held_there, named}
+use Rattle.config_zones.specs.Edited.{hosted_in}
 use Rattle.config_model.specs.Batches.{is_over, is_store_full}
 use Rattle.config_model.specs.Configs.{count_of, octets_of, with_sets}
 use Rattle.config_zones.specs.Laws.{CountsAgree}

@@ -2,7 +2,7 @@
 use Rattle.std.proofs.Common.{◌≡◌, ℕ, zero, suc, ◌+◌, ◌<◌, ◌≤◌, List, [], ◌∷◌, length, drop, map, ap, ◌∙◌}
 use Rattle.std.proofs.Common.{sym, refl, arith, inl, inr, Option, None, Some}
 use Rattle.std.specs.Prelude.{slice_get}
-use Rattle.batch_edits.specs.Differences.{AreMissing}
+use Rattle.zone_model.specs.Differences.{AreMissing}
 use Rattle.config_model.specs.Batches.{first_among}
 use Rattle.config_model.specs.Telling.{first_of}
 use Rattle.config_model.specs.declared.refusals.Refusal.{Refusal}

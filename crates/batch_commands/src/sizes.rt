@@ -2,7 +2,7 @@
 
 ghost use Rattle.std.specs.Prelude.{◌≡◌, ◌≤◌, ◌<◌, ◌+◌, ◌^◌, ◌∷◌, [], length};
 ghost use Rattle.alias_links.specs.After.{changed_in, sets_in};
-ghost use Rattle.config_edits.specs.Laws.{hosted_in};
+ghost use Rattle.config_zones.specs.Edited.{hosted_in};
 ghost use Rattle.config_model.specs.Batches.{is_store_full, is_zone_full, store_refusal};
 ghost use Rattle.config_model.specs.Configs.{with_sets};
 ghost use Rattle.config_model.specs.Telling.{first_of, rule};

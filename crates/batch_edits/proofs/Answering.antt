@@ -12,7 +12,7 @@ use Rattle.batch_model.specs.declared.refusals.BatchRefusal.{BatchRefusal}
 use Rattle.batch_model.specs.declared.refusals.BatchRefusal.TheVariants as batch
 use Rattle.batch_model.specs.Batches.{Prepares}
 use Rattle.batch_model.proofs.Answering.{one_answer}
-use Rattle.batch_edits.specs.Differences.{AreMissing, IsDifference}
+use Rattle.zone_model.specs.Differences.{AreMissing, IsDifference}
 use Rattle.batch_edits.specs.Edits.{EditsOrNot, after_edit}
 use Rattle.batch_edits.specs.Laws.{OneBatchEdit}
 use Rattle.batch_edits.specs.declared.editing.Edit.{Edit}

@@ -15,7 +15,8 @@ use Rattle.zone_model.specs.Zones.{IsAmong, IsRising}
 use Rattle.zone_model.proofs.Among.{among_at, place_of}
 use Rattle.zone_model.proofs.Ordered.{keys_total}
 use Rattle.zone_model.proofs.Places.{rising_at}
-use Rattle.batch_edits.specs.Differences.{AreMissing, IsNextPlace}
+use Rattle.batch_edits.specs.Places.{IsNextPlace}
+use Rattle.zone_model.specs.Differences.{AreMissing}
 use Rattle.std.proofs.lemmas.Option.{slice_get_within}
 use Rattle.std.proofs.lemmas.List.{take_all}
 use Rattle.zone_model.proofs.Lists.{take_more}

@@ -28,7 +28,7 @@ use Rattle.batch_model.specs.Rules.{MeetsAll, rules}
 use Rattle.config_model.specs.Laws.{HasBoundedSet, IsBoundedSet}
 use Rattle.batch_names.specs.Laws.{NamesDecide}
 use Rattle.batch_names.specs.Named.{named_in, names, unnamed_in}
-use Rattle.batch_edits.specs.Differences.{AreMissing, IsDifference}
+use Rattle.zone_model.specs.Differences.{AreMissing, IsDifference}
 use Rattle.batch_edits.specs.Edits.{AreOfChanges, after_edit}
 use Rattle.batch_edits.specs.declared.editing.Edit.{Edit}
 use Rattle.batch_edits.proofs.Missing.{key_among, missing_either, missing_is, missing_of_all}

@@ -14,7 +14,7 @@ use Rattle.zone_model.specs.Zones.{IsAmong}
 use Rattle.zone_table.specs.declared.edits.ZoneEdit.TheVariants.{Change as ChangeZone}
 use Rattle.zone_table.specs.Edits.{IsAllowed}
 use Rattle.zone_table.specs.Looking.{IsApex}
-use Rattle.batch_edits.specs.Differences.{IsDifference}
+use Rattle.zone_model.specs.Differences.{IsDifference}
 use Rattle.batch_edits.specs.declared.editing.Edit.{Edit}
 
 -- the sets of a zone once the edit is made

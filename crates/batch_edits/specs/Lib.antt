@@ -1,4 +1,4 @@
-pub mod Differences
+pub mod Places
 pub mod Edits
 pub mod Laws
 pub use Rattle.batch_model.specs.Batches

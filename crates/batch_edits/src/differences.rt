@@ -2,7 +2,8 @@
 
 ghost use Rattle.std.specs.Prelude.{◌≡◌, ◌≤◌, slice_get, length, IfOk, IsTrue, ◌↔◌, Some};
 ghost use Rattle.zone_model.specs.Zones.{IsRising};
-ghost use Rattle.batch_edits.specs.Differences.{AreMissing, AreMissingKeys, IsNextPlace};
+ghost use Rattle.batch_edits.specs.Places.{IsNextPlace};
+ghost use Rattle.zone_model.specs.Differences.{AreMissing, AreMissingKeys};
 
 use crate::order::comes_before;
 use crate::sameness::is_equal;

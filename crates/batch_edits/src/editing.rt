@@ -6,7 +6,7 @@ ghost use Rattle.config_model.specs.Laws.{HasBoundedSet};
 ghost use Rattle.zone_list.specs.Zones.{IsZoneId};
 ghost use Rattle.zone_model.specs.Zones.{IsRising};
 ghost use Rattle.zone_table.specs.Looking.{IsApex};
-ghost use Rattle.batch_edits.specs.Differences.{IsDifference};
+ghost use Rattle.zone_model.specs.Differences.{IsDifference};
 ghost use Rattle.batch_edits.specs.Edits.{EditsOrNot, MeetsRules};
 
 use crate::differences::{missing_keys, missing_sets};

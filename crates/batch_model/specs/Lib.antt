@@ -5,7 +5,7 @@ pub mod Limits
 pub mod Rules
 pub mod Telling
 pub use Rattle.dns_name.specs.Suffix
-pub use Rattle.rdata.specs.Datum
+pub use Rattle.record_set.specs.Datum
 pub use Rattle.record_set.specs.Reasons
 pub use Rattle.record_set.specs.Sameness
 pub use Rattle.record_set.specs.Sets

@@ -4,7 +4,7 @@ ghost use Rattle.std.specs.Prelude.{◌≡◌};
 ghost use Rattle.batch_model.specs.Telling.{refusal_at};
 
 use dns_name::Name;
-use rdata::RType;
+use rdata_layout::RType;
 use record_set::{Reason, SetKey};
 
 /// Why a batch is refused. Of several refusals the first in this order is told; those with the

@@ -1,7 +1,6 @@
 pub mod Applied
 pub mod Deciding
 pub mod Filtered
-pub mod Holding
 pub mod Rising
 pub mod Ruled
 pub mod Runs

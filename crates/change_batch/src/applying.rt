@@ -12,7 +12,8 @@ ghost use Rattle.set_search.specs.Found.{Finds, FindsAt};
 
 use batch_model::{Action, Change, ChangeRefusal};
 use dns_name::Name;
-use rdata::{OutOfMemory, RType};
+use octets::OutOfMemory;
+use rdata_layout::RType;
 use record_set::{RecordSet, same};
 use set_search::find;
 use std::alloc::Global;

@@ -7,7 +7,7 @@ ghost use Rattle.zone_model.specs.Zones.{IsZone};
 use crate::applying::apply;
 use batch_model::{BatchRefusal, Change};
 use dns_name::Name;
-use rdata::OutOfMemory;
+use octets::OutOfMemory;
 use record_set::RecordSet;
 use std::alloc::Global;
 

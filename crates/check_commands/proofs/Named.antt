@@ -5,7 +5,7 @@ use Rattle.std.specs.Prelude.{slice_get, ◌||◌}
 use Rattle.std.specs.List.{list_any}
 use Rattle.std.proofs.lemmas.List.{length-map}
 use Rattle.std.proofs.lemmas.List.Folds.{list_any-append}
-use Rattle.config_edits.specs.Laws.{hosted_in}
+use Rattle.config_zones.specs.Edited.{hosted_in}
 use Rattle.config_model.specs.Configs.{all_sets}
 use Rattle.config_model.specs.Others.{is_check_named, is_number}
 use Rattle.config_zones.specs.Laws.{ZonesFollow}

@@ -1,2 +1,2 @@
-pub use Rattle.config_edits.specs.Laws
+pub use Rattle.config_zones.specs.Edited
 pub use Rattle.config_model.specs.Others

@@ -3,7 +3,7 @@
 
 ghost use Rattle.std.specs.Prelude.{◌≡◌, ◌∷◌, [], option_map};
 ghost use Rattle.check_model.specs.Commands.{refusal_of};
-ghost use Rattle.config_edits.specs.Laws.{hosted_in};
+ghost use Rattle.config_zones.specs.Edited.{hosted_in};
 ghost use Rattle.config_model.specs.Others.{in_use};
 ghost use Rattle.config_model.specs.Telling.{first_of, of_check, unless};
 

@@ -1,7 +1,7 @@
 //! The sets that name a health check.
 
 ghost use Rattle.std.specs.Prelude.{◌≡◌};
-ghost use Rattle.config_edits.specs.Laws.{hosted_in};
+ghost use Rattle.config_zones.specs.Edited.{hosted_in};
 ghost use Rattle.config_model.specs.Configs.{all_sets};
 ghost use Rattle.config_model.specs.Others.{is_check_named, is_number};
 ghost use Rattle.zone_list.specs.Zones.{placed_in};

@@ -7,7 +7,7 @@ use Rattle.cidr_commands.specs.Commands.{GivesWhere, MayWant, answer}
 use Rattle.cidr_commands.specs.Stored.{Stored}
 use Rattle.cidr_commands.specs.declared.command.CidrCommand.{CidrCommand}
 use Rattle.command_octets.specs.declared.commands.Command.TheVariants as command
-use Rattle.config_edits.specs.Laws.{hosted_in}
+use Rattle.config_zones.specs.Edited.{hosted_in}
 use Rattle.config_model.specs.Configs.{Config}
 use Rattle.config_model.specs.Others.{made_collection, used_by, with_collections}
 use Rattle.config_zones.specs.Configured.{IsEditFor, config_of}

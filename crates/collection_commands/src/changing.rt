@@ -5,7 +5,7 @@ ghost use Rattle.std.specs.Prelude.{◌≡◌, ℕ, IfOk};
 ghost use Rattle.check_model.specs.Checks.{Checks};
 ghost use Rattle.cidr_commands.specs.Commands.{HasNames, answer};
 ghost use Rattle.command_octets.specs.declared.commands.Command.TheVariants.{Cidr};
-ghost use Rattle.config_edits.specs.Laws.{hosted_in};
+ghost use Rattle.config_zones.specs.Edited.{hosted_in};
 ghost use Rattle.config_model.specs.Others.{used_by};
 ghost use Rattle.config_zones.specs.Configured.{TellsEdit, config_of};
 

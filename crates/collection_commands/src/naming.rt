@@ -1,7 +1,7 @@
 //! The collections and locations that sets name.
 
 ghost use Rattle.std.specs.Prelude.{◌≡◌, ◌++◌, ◌∷◌, [], IfOk, IfSome, OnOk, Some};
-ghost use Rattle.config_edits.specs.Laws.{hosted_in};
+ghost use Rattle.config_zones.specs.Edited.{hosted_in};
 ghost use Rattle.config_model.specs.Others.{named_by, used_by};
 ghost use Rattle.record_set.specs.declared.sets.RecordSet.{RecordSet};
 ghost use Rattle.routing.specs.Texts.{IsLocation};

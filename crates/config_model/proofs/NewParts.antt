@@ -7,7 +7,7 @@ use Rattle.std.proofs.lemmas.List.{append-nil, length-append}
 use Rattle.dns_name.specs.Labels.{wire}
 use Rattle.dns_name.specs.Names.{IsName, AreOctets}
 use Rattle.octets.specs.Numbers.{four_octets}
-use Rattle.rdata.specs.Datum.{Datum}
+use Rattle.record_set.specs.Datum.{Datum}
 use Rattle.rdata_layout.specs.Layout.{IsLayout}
 use Rattle.rdata_layout.specs.declared.types.RType.TheVariants.{Ns, Soa}
 use Rattle.record_set.specs.Values.{IsInLayout}

@@ -20,7 +20,7 @@ use Rattle.dns_name.specs.Names.{IsName}
 use Rattle.dns_name.specs.Order.{same_labels}
 use Rattle.dns_name.specs.OrderLaws.{same_labels-Decides, zone_cmp_total}
 use Rattle.dns_name.specs.Wildcard.{wildcard}
-use Rattle.rdata.specs.Datum.{Datum}
+use Rattle.record_set.specs.Datum.{Datum}
 use Rattle.rdata_layout.specs.Types.{number_of}
 use Rattle.rdata_layout.specs.declared.types.RType.{RType}
 use Rattle.rdata_layout.specs.declared.types.RType.TheVariants.{Ns, Soa, Cname}

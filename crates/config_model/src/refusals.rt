@@ -8,7 +8,7 @@ use check_model::CheckRefusal;
 use cidr_blocks::Ident;
 use cidr_changes::CidrFault;
 use dns_name::Name;
-use rdata::RType;
+use rdata_layout::RType;
 use record_set::{Reason, SetKey};
 
 /// What is wrong with a command by itself, or beside what is there.

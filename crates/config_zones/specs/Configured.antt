@@ -1,7 +1,7 @@
 -- The configuration that a table of zones and its health checks stand for, and the edit of the zones
 -- by which it comes to be another.
 use Rattle.std.specs.Prelude.{◌≡◌, ℕ, List, Result, Ok, Err, ⊤}
-use Rattle.batch_edits.specs.Differences.{IsDifference}
+use Rattle.zone_model.specs.Differences.{IsDifference}
 use Rattle.check_model.specs.Checks.{Checks}
 use Rattle.command_octets.specs.declared.commands.Command.{Command}
 use Rattle.command_octets.specs.declared.commands.Command.TheVariants as command

@@ -9,6 +9,7 @@ mod counting;
 mod laws;
 mod looking;
 
+pub use config_edits::{edits_are_told, new_sets};
 pub use counting::{is_over, octets_in};
 pub use laws::{counts_agree, zones_are_found, zones_follow};
 pub use looking::{check_at, hold_at};

@@ -5,7 +5,7 @@ ghost use Rattle.zone_model.specs.Zones.{group, is_of_group};
 ghost use Rattle.policy_select.specs.Groups.{FewByEachSet, FewInGroups};
 
 use dns_name::Name;
-use rdata::RType;
+use rdata_layout::RType;
 use record_set::RecordSet;
 
 /// The most sets of a group (Route 53 quotas).

@@ -9,7 +9,7 @@ ghost use Rattle.zone_model.specs.Zones.{group};
 
 use crate::view::HealthView;
 use dns_name::Name;
-use rdata::RType;
+use rdata_layout::RType;
 use routing::Routing;
 use zone_table::{Group, Scratch, Zones};
 

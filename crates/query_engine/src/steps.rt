@@ -32,8 +32,7 @@ use dns_name::Name;
 use dns_wire::{Reply, Section, records_add_up};
 use geo_latency::Tables;
 use policy_select::{HealthView, Selected, descend, find_group, views_agree};
-use rdata::RType;
-use rdata_layout::types_have_their_own_number;
+use rdata_layout::{RType, types_have_their_own_number};
 use reply_records::{first_record, name_in, write_chosen, write_one};
 use zone_lookup::{
     Found, Standing, asked_group, cut_above, find_asked, is_held_by, known_few, standing_of,

@@ -19,7 +19,7 @@ use crate::held::{count_of, rdata_at, ttl_of, write_until_cut};
 use dns_name::Name;
 use dns_wire::{Reply, Section, records_add_up};
 use policy_select::{find_group, load_member};
-use rdata::RType;
+use rdata_layout::RType;
 use routing::Routing;
 use zone_table::{Group, Scratch, Zones};
 

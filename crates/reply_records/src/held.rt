@@ -10,7 +10,7 @@ ghost use Rattle.reply_records.specs.Writing.{IsOpen, Writes};
 
 use dns_name::Name;
 use dns_wire::{Reply, Section, records_add_up};
-use rdata::RType;
+use rdata_layout::RType;
 use zone_table::Scratch;
 
 /// Writes one record.

@@ -20,7 +20,7 @@ use dns_name::Name;
 use dns_wire::{Reply, Section, records_add_up};
 use octets::{fill_front, front};
 use policy_select::load_member;
-use rdata::RType;
+use rdata_layout::RType;
 use zone_table::{Group, Scratch, Zones};
 
 /// The most octets of a value (own).

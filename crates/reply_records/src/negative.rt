@@ -15,8 +15,7 @@ use dns_name::Name;
 use dns_wire::{Reply, Section, records_add_up};
 use octets::long_at;
 use policy_select::{find_group, load_member};
-use rdata::RType;
-use rdata_layout::types_have_their_own_number;
+use rdata_layout::{RType, types_have_their_own_number};
 use zone_table::{Scratch, Zones};
 
 /// Writes the SOA of a zone into the authority section, with the lesser of its TTL and MINIMUM.

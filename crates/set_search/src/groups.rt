@@ -9,7 +9,7 @@ use crate::bounds::Stop;
 use crate::lists::SetList;
 use crate::searching::count_before;
 use dns_name::Name;
-use rdata::RType;
+use rdata_layout::RType;
 
 /// Where the sets of a name and type stand, which is side by side: the place of the first one, and
 /// how many they are.

@@ -10,7 +10,7 @@ ghost use Rattle.set_search.specs.Stops.{bound_of};
 use crate::bounds::Stop;
 use crate::order::set_is_before;
 use dns_name::Name;
-use rdata::RType;
+use rdata_layout::RType;
 use record_set::RecordSet;
 
 /// Sets that are looked at by their places.

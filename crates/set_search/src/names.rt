@@ -10,7 +10,7 @@ use crate::bounds::Stop;
 use crate::lists::SetList;
 use crate::searching::count_before;
 use dns_name::Name;
-use rdata::RType;
+use rdata_layout::RType;
 
 /// Whether a set has the name, or a name below it.
 pub fn exists_in<S: SetList>(sets: &S, name: &Name, hint: Option<usize>) -> bool

@@ -7,7 +7,7 @@ ghost use Rattle.set_search.specs.Stops.{bound_of};
 
 use crate::bounds::Stop;
 use dns_name::Name;
-use rdata::RType;
+use rdata_layout::RType;
 use record_set::{Ident, RecordSet, SetKey};
 use std::cmp::Ordering;
 use zone_model::key_cmp;

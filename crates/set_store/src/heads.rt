@@ -18,7 +18,7 @@ ghost use Rattle.set_store.specs.Heads.{IsHead, IsPartedBy};
 
 use dns_name::{Name, octets_cmp, one_name_of_a_wire};
 use octet_reading::{base_fields_are_read, name_at};
-use rdata::RType;
+use rdata_layout::RType;
 use record_set::Ident;
 use set_parts::{ident_in_front, name_and_rest, type_and_rest};
 use set_search::Stop;

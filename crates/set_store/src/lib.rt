@@ -16,5 +16,5 @@ mod tests;
 
 pub use hashes::hash_of;
 pub use octets::OutOfMemory;
-pub use set_scratch::Watch;
+pub use set_scratch::{Scratch, Watch};
 pub use store::SetStore;

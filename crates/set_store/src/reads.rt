@@ -21,7 +21,7 @@ use crate::store::SetStore;
 use dns_name::Name;
 use octet_region::{Handle, Region};
 use octets::{OutOfMemory, front, two_octets, zeros};
-use rdata::RType;
+use rdata_layout::RType;
 use record_set::RecordSet;
 use set_parts::{keys_are_in_front, name_and_rest};
 use set_reading::{ReadFault, read_set, written_reads_back};

@@ -20,7 +20,7 @@ use crate::slots::Slot;
 use dns_name::Name;
 use octet_region::Region;
 use octets::{behind, number_at};
-use rdata::RType;
+use rdata_layout::RType;
 use set_search::Stop;
 use std::cmp::Ordering;
 

@@ -5,7 +5,7 @@ ghost use Rattle.set_store.specs.Stored.{Spells};
 use crate::SetStore;
 use dns_name::Name;
 use octet_region::cells_for;
-use rdata::RType;
+use rdata_layout::RType;
 use record_set::{Body, RecordSet, Routing};
 use set_octets::{has_spelling, write_set};
 use set_reading::well_formed;

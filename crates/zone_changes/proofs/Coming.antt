@@ -8,7 +8,7 @@ use Rattle.record_set.specs.declared.sets.SetKey.{SetKey}
 use Rattle.record_set.specs.Sets.{key_of}
 use Rattle.set_reading.specs.Laws.{OneSpelling}
 use Rattle.set_search.specs.Found.{FindsAt}
-use Rattle.set_store.specs.Stored.{Spells}
+use Rattle.zone_order.specs.Stored.{Spells}
 use Rattle.zone_model.specs.Placed.{IsTaken, IsTakenAt, Placed, sets_of}
 use Rattle.zone_order.specs.Orders.{HasSet, placed_by}
 use Rattle.zone_order.proofs.Orders.{at_place}

@@ -2,7 +2,7 @@
 use Rattle.std.specs.Prelude.{ℕ, ◌+◌, ◌%◌, ◌^◌, List, Bool, true, false, length}
 use Rattle.std.specs.List.{sum_by}
 use Rattle.set_octets.specs.Octets.{set_octets}
-use Rattle.set_scratch.specs.Telling.{is_alias}
+use Rattle.zone_order.specs.Telling.{is_alias}
 use Rattle.zone_changes.specs.declared.sums.Sums.{Sums}
 use Rattle.zone_model.specs.Placed.{Placed}
 

@@ -5,7 +5,7 @@ ghost use Rattle.octet_region.specs.Cells.{cells_for};
 ghost use Rattle.record_set.specs.declared.sets.RecordSet.{RecordSet};
 ghost use Rattle.set_octets.specs.Octets.{HasSpelling, set_octets};
 ghost use Rattle.set_search.specs.Found.{Finds};
-ghost use Rattle.set_store.specs.Stored.{Spells};
+ghost use Rattle.zone_order.specs.Stored.{Spells};
 ghost use Rattle.zone_changes.specs.Coming.{Comes, cells_of};
 ghost use Rattle.zone_changes.specs.Sums.{sums_of};
 ghost use Rattle.zone_model.specs.Placing.{IsThere};
@@ -18,8 +18,7 @@ use record_set::{RecordSet, SetKey};
 use set_octets::fill_set;
 use set_reading::{one_spelling, well_formed};
 use set_search::find;
-use set_store::SetStore;
-use zone_order::{put_at, replace_at, take_at, view_of};
+use zone_order::{SetStore, put_at, replace_at, take_at, view_of};
 
 /// A set comes into a zone, and its slot is told. The buffer has room for its octets.
 pub fn come(

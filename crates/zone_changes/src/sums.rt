@@ -8,7 +8,7 @@ ghost use Rattle.zone_model.specs.Placed.{Placed};
 ghost use Rattle.zone_order.specs.Orders.{IsOrder, placed_of};
 
 use record_set::{Body, RecordSet};
-use set_store::SetStore;
+use zone_order::SetStore;
 
 /// How many octets sets have, and how many of them are aliases, each modulo 2^64.
 #[derive(Clone, Copy)]

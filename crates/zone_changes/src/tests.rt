@@ -4,13 +4,12 @@ use crate::{come, no_sums};
 use dns_name::Name;
 use octet_region::cells_for;
 use octets::zeros;
-use rdata::RType;
+use rdata_layout::RType;
 use record_set::{Body, RecordSet, Routing};
 use set_octets::{has_spelling, set_len};
-use set_store::SetStore;
 use std::process::Abort;
 use std::test::Fail;
-use zone_order::make_room;
+use zone_order::{SetStore, make_room};
 
 /// An alias of type A of `a.` to this name.
 fn alias(rt: &impl Abort, target: &[u8]) -> RecordSet {

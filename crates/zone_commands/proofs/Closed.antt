@@ -5,7 +5,7 @@ use Rattle.std.specs.Prelude.{Ok, Err}
 use Rattle.std.specs.List.{list_any}
 use Rattle.check_model.specs.Checks.{Checks}
 use Rattle.command_octets.specs.declared.commands.Command.TheVariants.{DeleteZone}
-use Rattle.config_edits.specs.Laws.{EditsAreTold, hosted_in}
+use Rattle.config_zones.specs.Edited.{EditsAreTold, hosted_in}
 use Rattle.config_model.specs.Configs.{Config, without_zone, zone_with}
 use Rattle.config_model.specs.NewZones.{end_of, is_another}
 use Rattle.config_model.specs.Telling.{first_of, rule, unless}

@@ -4,7 +4,7 @@ use Rattle.std.proofs.Common.{◌∙◌, sym, refl, subst, arith}
 use Rattle.std.specs.Prelude.{Bool, IsTrue, ◌↔◌}
 use Rattle.std.proofs.lemmas.Bool.{false≢true}
 use Rattle.std.proofs.lemmas.List.{length-append}
-use Rattle.config_edits.specs.Laws.{hosted_in}
+use Rattle.config_zones.specs.Edited.{hosted_in}
 use Rattle.config_model.specs.NewZones.{has_zone}
 use Rattle.config_zones.specs.Laws.{ZonesAreFound}
 use Rattle.dns_name.specs.Suffix.{EndsWith}

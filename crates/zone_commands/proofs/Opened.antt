@@ -6,7 +6,7 @@ use Rattle.std.specs.List.{AllByRecursion, sum_by}
 use Rattle.std.proofs.lemmas.List.Sums.{sum_by-cons, sum_by_push}
 use Rattle.check_model.specs.Checks.{Checks}
 use Rattle.command_octets.specs.declared.commands.Command.TheVariants.{CreateZone}
-use Rattle.config_edits.specs.Laws.{EditsAreTold, hosted_in}
+use Rattle.config_zones.specs.Edited.{EditsAreTold, hosted_in}
 use Rattle.config_model.proofs.Ended.{not_full}
 use Rattle.config_model.proofs.Members.{all_at}
 use Rattle.config_model.proofs.NewSets.{sound_zone}

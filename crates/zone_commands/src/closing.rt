@@ -10,11 +10,10 @@ ghost use Rattle.set_scratch.specs.Holding.{IsHolding};
 ghost use Rattle.zone_list.specs.Zones.{placed_in};
 ghost use Rattle.zone_model.specs.Placed.{sets_of};
 
-use config_edits::edits_are_told;
 use config_model::Refusal;
-use config_zones::{hold_at, zones_are_found};
+use config_zones::{edits_are_told, hold_at, zones_are_found};
 use dns_name::Name;
-use rdata::RType;
+use rdata_layout::RType;
 use zone_table::{Scratch, ZoneEdit, Zones};
 
 /// The edit by which a zone goes, or why it is refused: no zone has the number, or it has a set

@@ -4,7 +4,7 @@ ghost use Rattle.std.specs.Prelude.{◌≡◌, ◌≤◌, ◌+◌, ◌==◌, ◌
 ghost use Rattle.std.specs.List.{AllByRecursion, list_any, sum_by};
 ghost use Rattle.check_model.specs.Checks.{Checks};
 ghost use Rattle.command_octets.specs.declared.commands.Command.TheVariants.{CreateZone};
-ghost use Rattle.config_edits.specs.Laws.{hosted_in};
+ghost use Rattle.config_zones.specs.Edited.{hosted_in};
 ghost use Rattle.config_model.specs.Batches.{is_over};
 ghost use Rattle.config_model.specs.Laws.{IsBounded};
 ghost use Rattle.config_model.specs.NewZones.{are_most, has_zone, is_repeated, is_zone_name};
@@ -18,9 +18,8 @@ ghost use Rattle.dns_name.specs.Order.{same_labels};
 ghost use Rattle.set_octets.specs.Octets.{HasSpelling, set_octets};
 ghost use Rattle.zone_table.specs.Counted.{octets_in_all, sets_in_all};
 
-use config_edits::{edits_are_told, new_sets};
 use config_model::{InputReason, Refusal, refusals_are_told};
-use config_zones::{counts_agree, is_over, octets_in, zones_are_found};
+use config_zones::{counts_agree, edits_are_told, is_over, new_sets, octets_in, zones_are_found};
 use dns_name::{Name, one_name_of_a_wire};
 use octets::OutOfMemory;
 use record_set::RecordSet;

@@ -2,7 +2,7 @@
 use Rattle.std.specs.Prelude.{◌≡◌, ◌<◌, ℕ, List, [], map, Option, Some}
 use Rattle.std.specs.List.{AllByRecursion}
 use Rattle.record_set.specs.declared.sets.RecordSet.{RecordSet}
-use Rattle.set_store.specs.Stored.{Kept}
+use Rattle.zone_order.specs.Stored.{Kept}
 use Rattle.zone_changes.specs.declared.sums.Sums.{Sums}
 use Rattle.zone_changes.specs.Sums.{sums_of}
 use Rattle.zone_model.specs.Zones.{IsAmong}

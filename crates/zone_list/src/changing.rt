@@ -15,10 +15,9 @@ ghost use Rattle.zone_order.specs.Orders.{IsOrder, OthersStay, placed_of};
 
 use crate::refs::SetRef;
 use record_set::{RecordSet, SetKey};
-use set_store::SetStore;
 use zone_changes::{Sums, come, go};
 use zone_model::{key_cmp, keys_are_ordered};
-use zone_order::{of_zone, take_at};
+use zone_order::{SetStore, of_zone, take_at};
 
 /// These sets come into a zone, and their references are told.
 pub fn come_all(

@@ -6,7 +6,7 @@
 ghost use Rattle.zone_order.specs.Orders.{IsOrder};
 
 use crate::apexes::Apex;
-use set_store::{SetStore, hash_of};
+use zone_order::{SetStore, hash_of};
 
 /// An entry that tells nothing.
 const NOTHING: u32 = 0xffff_ffff;

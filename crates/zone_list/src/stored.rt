@@ -15,9 +15,9 @@ use crate::refs::SetRef;
 use dns_name::Name;
 use octets::OutOfMemory;
 use record_set::{RecordSet, SetKey};
-use set_store::SetStore;
 use std::marker::Model;
 use zone_changes::{Sums, no_sums};
+use zone_order::SetStore;
 
 /// A zone. Contracts see its number, its name, the slots of its sets in zone order, how many more
 /// of them it can take without memory, and what is counted of them.

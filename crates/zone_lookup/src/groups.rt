@@ -8,7 +8,7 @@ ghost use Rattle.zone_lookup.specs.Cuts.{GroupOrNone};
 use answer_model::asked_groups;
 use dns_name::Name;
 use policy_select::find_group;
-use rdata::RType;
+use rdata_layout::RType;
 use zone_table::{Group, Zones};
 
 /// The sets of a name and type of a zone, or none where there are none.

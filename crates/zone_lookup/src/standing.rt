@@ -19,7 +19,7 @@ use crate::served::hold_at;
 use crate::source::source_from;
 use answer_model::{asked_groups, cuts_are_nearest, names_exist};
 use dns_name::Name;
-use rdata::RType;
+use rdata_layout::RType;
 use zone_table::{Group, Scratch, Zones};
 
 /// What is found of a name and a type.

@@ -1,3 +1,4 @@
+pub mod Differences
 pub mod Existing
 pub mod Hosted
 pub mod KeyLaws
@@ -8,6 +9,6 @@ pub mod Placing
 pub mod Walks
 pub mod Zones
 pub use Rattle.dns_name.specs.Suffix
-pub use Rattle.rdata.specs.Datum
+pub use Rattle.record_set.specs.Datum
 pub use Rattle.record_set.specs.Reasons
 pub use Rattle.record_set.specs.Sets

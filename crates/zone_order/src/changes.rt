@@ -8,7 +8,7 @@ ghost use Rattle.std.specs.List.{insert, remove};
 ghost use Rattle.octet_region.specs.Cells.{cells_for};
 ghost use Rattle.record_set.specs.Sets.{key_of};
 ghost use Rattle.record_set.specs.declared.sets.RecordSet.{RecordSet};
-ghost use Rattle.set_octets.specs.Octets.{set_octets};
+ghost use Rattle.set_store.specs.Octets.{set_octets};
 ghost use Rattle.set_search.specs.Found.{FindsAt, FindsNone};
 ghost use Rattle.set_store.specs.Stored.{IsSpelling, Spells};
 ghost use Rattle.zone_order.specs.Orders.{IsOrder, OthersStay, placed_of, set_in};

@@ -6,10 +6,9 @@ ghost use Rattle.zone_order.specs.Orders.{IsOrder, placed_of};
 ghost use Rattle.zone_model.specs.Placed.{AreOfZone, IsSlotAt, sets_of};
 
 use dns_name::Name;
-use rdata::RType;
-use set_scratch::Scratch;
+use rdata_layout::RType;
 use set_search::{SetList, Stop};
-use set_store::SetStore;
+use set_store::{Scratch, SetStore};
 use std::marker::Model;
 
 /// The sets of a zone, in its order.

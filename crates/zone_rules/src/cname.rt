@@ -8,7 +8,7 @@ ghost use Rattle.zone_rules.specs.Breaks.{IsFirstName};
 ghost use Rattle.zone_rules.specs.Groups.{IsConflicted, IsOther};
 
 use dns_name::Name;
-use rdata::RType;
+use rdata_layout::RType;
 use record_set::RecordSet;
 
 /// The name of the first set whose name has a CNAME set beside a set of another type, or a CNAME

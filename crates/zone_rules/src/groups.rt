@@ -5,7 +5,7 @@ ghost use Rattle.zone_model.specs.Zones.{AreOneGroup};
 ghost use Rattle.zone_model.specs.Zones.{IsRising};
 ghost use Rattle.zone_rules.specs.Groups.{IsStart, IsStartBefore};
 
-use rdata::RType;
+use rdata_layout::RType;
 use record_set::RecordSet;
 
 /// Whether the two are of one group.

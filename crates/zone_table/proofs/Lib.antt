@@ -1,6 +1,7 @@
 pub mod Apexes
 pub mod Apart
 pub mod Edited
+pub mod Holding
 pub mod Kept
 pub mod Looked
 pub mod Naming

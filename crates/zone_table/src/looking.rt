@@ -12,7 +12,7 @@ ghost use Rattle.zone_table.specs.Stored.{GetsOrder, IsNamed, ViewsZone};
 
 use dns_name::Name;
 use octets::OutOfMemory;
-use rdata::RType;
+use rdata_layout::RType;
 use record_set::RecordSet;
 use set_scratch::Scratch;
 use set_search::{SetList, Stop, count_before};

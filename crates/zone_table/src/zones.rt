@@ -26,7 +26,7 @@ use crate::refs::{Delta, Group};
 use cidr_routing::Collections;
 use dns_name::Name;
 use octets::OutOfMemory;
-use rdata::RType;
+use rdata_layout::RType;
 use record_set::{RecordSet, SetKey};
 use set_scratch::Scratch;
 use set_search::{Stop, before_key, behind_key, closest_in, exists_in, group_in};

@@ -4,7 +4,7 @@ use Rattle.batch_names.specs.Named.{named_in}
 use Rattle.record_set.specs.declared.sets.RecordSet.{RecordSet}
 use Rattle.zone_list.specs.Zones.{placed_in}
 use Rattle.zone_model.specs.Placed.{sets_of}
-use Rattle.batch_edits.specs.Differences.{IsDifference}
+use Rattle.zone_model.specs.Differences.{IsDifference}
 use Rattle.batch_edits.proofs.Whole.{edited_whole, few_of_zone, refused_whole}
 use Rattle.batch_edits.proofs.editing.edit_of.Goals as goal
 

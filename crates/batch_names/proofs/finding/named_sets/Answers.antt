@@ -1,6 +1,6 @@
 use Rattle.std.proofs.Common.{◌+◌, List, ℕ, drop, sym, subst, get_or}
 use Rattle.std.proofs.lemmas.Option.{slice_get-get_or}
-use Rattle.batch_names.proofs.Holding.{kept_in}
+use Rattle.zone_table.proofs.Holding.{kept_in}
 use Rattle.batch_names.proofs.Runs.{HasRead, all_read, none_read, run_more}
 use Rattle.batch_names.specs.Starts.{AreRisingStarts}
 use Rattle.record_set.specs.declared.sets.RecordSet.{RecordSet}

@@ -1,4 +1,4 @@
-use Rattle.batch_names.proofs.Holding.{held_there, named}
+use Rattle.zone_table.proofs.Holding.{held_there, named}
 use Rattle.batch_names.proofs.held.hold_at.Goals as goal
 
 pub unreachable-requires : goal.unreachable-requires

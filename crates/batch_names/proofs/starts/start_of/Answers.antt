@@ -1,4 +1,4 @@
-use Rattle.batch_names.proofs.Holding.{kept_in}
+use Rattle.zone_table.proofs.Holding.{kept_in}
 use Rattle.batch_names.proofs.Starting.{none_has, starts_here}
 use Rattle.zone_list.specs.Zones.{placed_in}
 use Rattle.zone_model.specs.Placed.{sets_of}

@@ -1,5 +1,5 @@
 use Rattle.std.proofs.Common.{◌≡◌, ◌∙◌, ap, arith, refl, Some}
-use Rattle.batch_names.proofs.Holding.{held_there, named}
+use Rattle.zone_table.proofs.Holding.{held_there, named}
 use Rattle.record_set.specs.declared.sets.RecordSet.{RecordSet}
 use Rattle.set_scratch.specs.declared.telling.Watch.{Watch}
 use Rattle.config_zones.proofs.looking.check_at.Goals as goal

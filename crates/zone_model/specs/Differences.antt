@@ -1,10 +1,8 @@
 -- What goes and what comes between two lists of sets.
-use Rattle.std.specs.Prelude.{◌≡◌, ◌⊎◌, ◌<◌, ◌≤◌, ◌≢◌, ℕ, List, [], ◌∷◌, map, slice_get, Some}
-use Rattle.std.specs.declared.cmp.Ordering.TheVariants.{Less}
+use Rattle.std.specs.Prelude.{◌≡◌, ◌⊎◌, List, [], ◌∷◌, map}
 use Rattle.record_set.specs.declared.sets.RecordSet.{RecordSet}
 use Rattle.record_set.specs.declared.sets.SetKey.{SetKey}
 use Rattle.record_set.specs.Sets.{key_of}
-use Rattle.zone_model.specs.Keys.{key_cmp}
 use Rattle.zone_model.specs.Zones.{IsAmong}
 
 -- Those of the sets that aren't among others, in their order.
@@ -26,14 +24,3 @@ pub record IsDifference (before after : List RecordSet) (remove : List SetKey)
     (add : List RecordSet) : Type 0 where
   pub goes : AreMissingKeys before after remove
   pub comes : AreMissing after before add
-
--- ---- sets in zone order, one after another
-
--- The first place from one on at which a set's key isn't below that of another set.
-pub record IsNextPlace (others : List RecordSet) (from : ℕ) (set : RecordSet)
-    (place : ℕ) : Type 0 where
-  pub order : from ≤ place
-  pub below : (k : ℕ) (other : RecordSet) → from ≤ k → k < place → slice_get others k ≡ Some other
-      → key_cmp (key_of other) (key_of set) ≡ Less
-  pub here : (other : RecordSet) → slice_get others place ≡ Some other
-      → key_cmp (key_of other) (key_of set) ≢ Less
