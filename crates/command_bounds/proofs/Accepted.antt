@@ -1,12 +1,12 @@
 -- A command that a sound configuration accepts has a spelling.
-use Rattle.std.proofs.Common.{◌≡◌, ◌≢◌, ℕ, zero, suc, ◌+◌, ◌*◌, ◌<◌, ◌≤◌, ◌^◌, inl, inr, Bool, true, false, List, [], ◌∷◌, length, ap, ◌∙◌, sym, refl}
-use Rattle.std.proofs.Common.{subst, arith, cond, eqb, Option, None, Some, Result, Ok, Err}
-use Rattle.std.specs.Prelude.{◌⊎◌, ⊤, map, option_map, slice_get, nat_eq}
+use Rattle.std.proofs.Common.{◌≡◌, ℕ, suc, ◌≤◌, inl, inr, Bool, true, false, List, [], ◌∷◌, length, ap, ◌∙◌, sym, refl}
+use Rattle.std.proofs.Common.{subst, arith, cond, Option, None, Some, Ok}
+use Rattle.std.specs.Prelude.{map, option_map, slice_get, nat_eq}
 use Rattle.std.proofs.lemmas.Bool.{eq-eqb, eqb-true}
 use Rattle.std.proofs.lemmas.List.Sums.{sum_by-cons}
 use Rattle.octet_reading.specs.Rules.{WhereSome}
 use Rattle.std.specs.List.{AllByRecursion, sum_by}
-use Rattle.batch_model.specs.Batches.{Prepares}
+use Rattle.batch_model.specs.Batches.{IsWithinLimits}
 use Rattle.batch_model.specs.Limits.{counted, elements_in, elements_of}
 use Rattle.batch_model.specs.declared.batches.Action.{Action}
 use Rattle.batch_model.specs.declared.batches.Action.TheVariants as action
@@ -21,8 +21,13 @@ use Rattle.check_model.specs.declared.checks.Check.TheVariants.{Calculated, Endp
 use Rattle.check_model.specs.declared.checks.CheckCommand.{CheckCommand}
 use Rattle.check_model.specs.declared.checks.CheckCommand.TheVariants as check
 use Rattle.check_model.specs.declared.refusals.CheckRefusal.{CheckRefusal}
+use Rattle.block_octets.specs.Octets.{HasFewBlocks, IsListed}
 use Rattle.check_octets.specs.Octets as checks
-use Rattle.command_bounds.specs.Laws.{AcceptedHaveSpelling, IsCountable}
+use Rattle.cidr_changes.specs.declared.changes.CidrChange.{CidrChange}
+use Rattle.cidr_commands.specs.declared.command.CidrCommand.{CidrCommand}
+use Rattle.cidr_commands.specs.declared.command.CidrCommand.TheVariants as cidr
+use Rattle.command_bounds.specs.Laws.{AcceptedHaveSpelling, AreShortLists, HasShortLists}
+use Rattle.command_bounds.specs.Laws.{IsShortChange}
 use Rattle.command_octets.specs.Octets.{HasSpelledSet, HasSpelling, IsSpelledBatch}
 use Rattle.command_octets.specs.declared.commands.Command.{Command}
 use Rattle.command_octets.specs.declared.commands.Command.TheVariants as command
@@ -32,14 +37,12 @@ use Rattle.config_model.specs.Applying.{Decides}
 use Rattle.config_model.specs.Batches.{ChangesIn}
 use Rattle.config_model.specs.Configs.{Config, zone_with}
 use Rattle.config_model.specs.Laws.{HasBoundedSet, IsBounded, KeepsSound}
-use Rattle.config_model.specs.Others.{change_checks, in_use, made_check}
+use Rattle.config_model.specs.Others.{in_use, made_check}
 use Rattle.config_model.specs.Sound.{Sound}
 use Rattle.config_model.specs.Telling.{first_of, of_check}
 use Rattle.config_model.specs.declared.refusals.Made.{Made}
-use Rattle.config_model.specs.declared.refusals.Refusal.{Refusal}
 use Rattle.record_set.specs.Reasons.{WithValues}
 use Rattle.record_set.specs.declared.sets.Body.{Body}
-use Rattle.record_set.specs.declared.sets.RecordSet.{RecordSet}
 use Rattle.record_set.specs.declared.sets.Body.TheVariants as body
 use Rattle.set_octets.specs.Octets.{most_octets, set_octets}
 use Rattle.zone_model.specs.Hosted.{HostedZone}
@@ -91,30 +94,55 @@ few_changes (change ∷ changes) each =
       sum_by-cons elements_of change changes,
     )
 
-batch_has : (batch : Batch) (sets after : List RecordSet) (apex : List (List ℕ))
-    → AllByRecursion HasBoundedSet batch.changes → Prepares sets apex batch.changes (Ok after)
-    → IsSpelledBatch batch
-batch_has batch sets after apex bounded prepared =
-    let some : AtEach (λ change. 1 ≤ elements_of change) batch.changes =
+few_within : (changes : List Change) (apex : List (List ℕ)) → IsWithinLimits changes apex
+    → length changes ≤ 1000
+few_within changes apex within =
+    let some : AtEach (λ change. 1 ≤ elements_of change) changes =
     λ i change at. counted_once change.action (elements_in change.set.body)
-    (has_element change.set.body (prepared.0.valid.each i change at).0) in
-    let few = few_changes batch.changes some in
-    let most = not_above (sum_by elements_of batch.changes) 1000 prepared.0.values in
+    (has_element change.set.body (within.valid.each i change at).0) in
+    let few = few_changes changes some in
+    let most = not_above (sum_by elements_of changes) 1000 within.values in
+    omega (arith, few, most)
+
+-- a batch that has a spelling, and at most 1,000 changes
+pub record IsShortBatch (batch : Batch) : Type 0 where
+  pub spelled : IsSpelledBatch batch
+  pub few : length batch.changes ≤ 1000
+
+batch_has : (batch : Batch) (apex : List (List ℕ)) → AllByRecursion HasBoundedSet batch.changes
+    → IsWithinLimits batch.changes apex → IsShortBatch batch
+batch_has batch apex bounded within =
+    let few = few_within batch.changes apex within in
     record {
-      count = omega (arith, few, most);
-      each = spelled_each batch.changes bounded
-          (λ i change at. not_above (length (set_octets change.set)) most_octets
-          (λ long. prepared.0.octets (i, change, at, long)));
+      spelled = record {
+        count = omega (arith, few);
+        each = spelled_each batch.changes bounded
+            (λ i change at. not_above (length (set_octets change.set)) most_octets
+            (λ long. within.octets (i, change, at, long)));
+      };
+      few = few;
     }
 
 module _ (config after : Config) (what : Made) where
-  batch_by : (batch : Batch) → AllByRecursion HasBoundedSet batch.changes
+  pub batch_by : (batch : Batch) → AllByRecursion HasBoundedSet batch.changes
       → (found : Option HostedZone) → ChangesIn config found batch (Ok (after, what))
-      → IsSpelledBatch batch
+      → IsShortBatch batch
   batch_by batch bounded None e = absurd (grind (arith, e))
   batch_by batch bounded (Some zone) (inl (why, known, refused, e)) = absurd (grind (arith, e))
   batch_by batch bounded (Some zone) (inr (sets, prepared, e)) =
-      batch_has batch zone.sets sets zone.apex bounded prepared
+      batch_has batch zone.apex bounded prepared.0
+
+-- ---- commands on collections
+
+few_blocks : (changes : List CidrChange) → AllByRecursion IsShortChange changes
+    → AllByRecursion HasFewBlocks changes
+few_blocks [] short = tt
+few_blocks (change ∷ changes) short = (omega (arith, short.0), few_blocks changes short.1)
+
+listed_by : (given : CidrCommand) → AreShortLists given → IsListed given
+listed_by (cidr.Create name) short = tt
+listed_by (cidr.Change id changes) short = (omega (arith, short.0), few_blocks changes short.1)
+listed_by (cidr.Delete id) short = tt
 
 -- ---- commands on checks
 
@@ -230,15 +258,15 @@ module _ (keeps : KeepsSound) (config after : Config) (what : Made) (sound : Sou
   }
   health_has (check.Delete id) bounded e = tt
 
-  has_by : (given : Command) → IsBounded given → IsCountable given
+  has_by : (given : Command) → IsBounded given → HasShortLists given
       → Decides config given (Ok (after, what)) → HasSpelling 2 given
-  has_by (command.CreateZone name servers) bounded countable e = tt
-  has_by (command.DeleteZone id) bounded countable e = tt
-  has_by (command.Change batch) bounded countable e =
-      batch_by config after what batch bounded (zone_with config.zones batch.zone) e
-  has_by (command.Health health) bounded countable e = health_has health bounded e
-  has_by (command.Cidr cidr) bounded countable e = (refl, (bounded, countable))
+  has_by (command.CreateZone name servers) bounded short e = tt
+  has_by (command.DeleteZone id) bounded short e = tt
+  has_by (command.Change batch) bounded short e =
+      (batch_by config after what batch bounded (zone_with config.zones batch.zone) e).spelled
+  has_by (command.Health health) bounded short e = health_has health bounded e
+  has_by (command.Cidr given) bounded short e = (refl, (bounded, listed_by given short))
 
 pub accepted_have_spelling : KeepsSound → AcceptedHaveSpelling
-accepted_have_spelling keeps config after given what sound bounded countable e =
-    has_by keeps config after what sound given bounded countable e
+accepted_have_spelling keeps config after given what sound bounded short e =
+    has_by keeps config after what sound given bounded short e

@@ -1,2 +1,4 @@
 mod Accepted
+mod Numbers
+mod Short
 mod Spelled

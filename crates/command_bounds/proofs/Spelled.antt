@@ -1,10 +1,8 @@
 -- The command that octets are is within its bounds.
-use Rattle.std.proofs.Common.{◌≡◌, ℕ, List, [], ◌∷◌, Bool, Option}
+use Rattle.std.proofs.Common.{ℕ, List, [], ◌∷◌}
 use Rattle.std.specs.List.{AllByRecursion}
 use Rattle.batch_model.specs.declared.batches.Change.{Change}
-use Rattle.block_octets.specs.Octets as collections
 use Rattle.check_model.specs.Commands.{IsBoundedCommand}
-use Rattle.check_model.specs.declared.checks.Check.{Check}
 use Rattle.check_model.specs.declared.checks.CheckCommand.{CheckCommand}
 use Rattle.check_model.specs.declared.checks.CheckCommand.TheVariants as check
 use Rattle.check_octets.specs.Octets as checks

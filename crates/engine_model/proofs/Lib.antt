@@ -1,2 +1,3 @@
+mod Bounds
 mod Steps
 mod Vectors

@@ -1,19 +1,18 @@
 -- Each step leaves one store.
-use Rattle.std.proofs.Common.{◌≡◌, ◌≢◌, ℕ, ◌+◌, ◌≤◌, ◌<◌, inl, inr, Bool, ap, ◌∙◌, sym, refl, subst, arith}
-use Rattle.std.proofs.Common.{Option, Some, Result, Ok, Err}
+use Rattle.std.proofs.Common.{◌≡◌, ℕ, inl, inr, ap, ◌∙◌, sym, refl, subst, arith}
+use Rattle.std.proofs.Common.{Some, Result, Ok, Err}
 use Rattle.std.specs.Prelude.{◌⊎◌}
 use Rattle.command_octets.specs.declared.commands.Command.{Command}
-use Rattle.config_model.specs.Applying.{Decides, Outcome}
+use Rattle.config_model.specs.Applying.{Outcome}
 use Rattle.config_model.specs.Configs.{Config}
 use Rattle.config_model.specs.Laws.{OneOutcome}
 use Rattle.config_model.specs.declared.refusals.Made.{Made}
 use Rattle.config_model.specs.declared.refusals.Refusal.{Refusal}
 use Rattle.config_model.specs.declared.refusals.Refusal.TheVariants.{JournalFull, OutOfMemory}
-use Rattle.engine_model.specs.Compacting.{CompactionSteps, told_of}
+use Rattle.engine_model.specs.Compacting.{told_of}
 use Rattle.engine_model.specs.Engine.{CommandSteps, Engine, Fits, IsFull, Journal, Plan}
-use Rattle.engine_model.specs.Engine.{ReportSteps, grown, size_of}
+use Rattle.engine_model.specs.Engine.{grown, size_of}
 use Rattle.engine_model.specs.Laws.{OneCommandStep, OneCompactionStep, OneReportStep}
-use Rattle.engine_model.specs.declared.answers.Reported.{Reported}
 use Rattle.engine_model.specs.declared.answers.Reported.TheVariants as reported
 
 -- ---- commands

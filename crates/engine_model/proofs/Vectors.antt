@@ -1,8 +1,8 @@
 -- A compaction of a store that has nothing, piece by piece, with a command between two pieces.
-use Rattle.std.proofs.Common.{◌≡◌, Option, None, Some, refl}
+use Rattle.std.proofs.Common.{◌≡◌, None, refl}
 use Rattle.config_model.specs.Configs.{empty}
-use Rattle.engine_model.specs.Compacting.{begun, compacted, told_of}
-use Rattle.engine_model.specs.Engine.{Journal, Plan, grown}
+use Rattle.engine_model.specs.Compacting.{compacted, told_of}
+use Rattle.engine_model.specs.Engine.{Journal, grown}
 use Rattle.engine_model.specs.declared.answers.Compacted.TheVariants.{Done, Left}
 use Rattle.zone_journal.specs.declared.answers.Side.TheVariants.{A, B}
 

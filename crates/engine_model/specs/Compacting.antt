@@ -58,7 +58,7 @@ compacted config pieces journal (Some plan) = after_pieces pieces journal (Some 
 abbrev pub IsLastGeneration : Journal → Type 0
 IsLastGeneration journal = (journal.plan ≡ None) × (journal.generation + 1 ≡ 2 ^ 64)
 
--- Pieces of a compaction change the journal alone.
+-- Pieces of a compaction change the journal alone. Want of memory and a fault of a disk are no steps.
 abbrev pub CompactionSteps : (old : Engine) → (pieces : ℕ) → Compacted → (new : Engine) → Type 0
 CompactionSteps old pieces outcome new =
     (IsLastGeneration old.journal × (outcome ≡ GenerationsEnded) × (new ≡ old))

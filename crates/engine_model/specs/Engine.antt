@@ -1,11 +1,10 @@
 -- The store of a server, and what a command, a report and a query make of it.
 use Rattle.std.specs.Prelude.{◌≡◌, ◌≢◌, ◌⊎◌, ◌&&◌, ℕ, ◌+◌, ◌<◌, ◌≤◌, Bool, List, ◌∷◌, length, option_map}
-use Rattle.std.specs.Prelude.{Option, None, Some, Result, Ok, Err}
+use Rattle.std.specs.Prelude.{Option, Some, Result, Ok, Err}
 use Rattle.std.specs.List.{list_any}
 use Rattle.std.specs.Ordering.{is_eq}
 use Rattle.answer_model.specs.Reply.{Answers, Asker, Served}
 use Rattle.check_model.specs.Checks.{check_at}
-use Rattle.check_model.specs.declared.checks.Check.{Check}
 use Rattle.check_model.specs.declared.checks.Check.TheVariants.{Endpoint}
 use Rattle.command_octets.specs.Octets.{command_octets}
 use Rattle.command_octets.specs.declared.commands.Command.{Command}
@@ -42,7 +41,8 @@ pub record Journal : Type 0 where
   pub length : ℕ
   pub plan : Option Plan
 
--- A configuration, all reports since the opening, the newest first, and the journal.
+-- A configuration, all reports since the opening, the newest first, and the journal. Reports of a
+-- check that was deleted stay, and tell nothing: its number isn't given again.
 pub record Engine : Type 0 where
   pub config : Config
   pub reports : List Report

@@ -20,4 +20,8 @@ pub enum Compacted {
     Done(u64),
     /// There is no next generation.
     GenerationsEnded,
+    /// Memory was wanted for a compaction that would begin: none has begun.
+    OutOfMemory,
+    /// A disk failed. The configuration and the reports are as they were; the compaction is dropped.
+    DiskFault,
 }

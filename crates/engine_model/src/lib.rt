@@ -2,7 +2,8 @@
 //!
 //! These are definitions over plain values: a configuration, all reports since the opening, and the
 //! lengths of files. Nothing here knows how they are kept. That memory is wanted or a disk fails is
-//! no step: then all is as it was.
+//! no step: the configuration and the reports are then as they were, and what the disks hold is told
+//! by `zone_journal`.
 #![tactic(auto)]
 
 mod answers;

@@ -6,23 +6,13 @@ use Rattle.std.proofs.lemmas.Bool.{ne_eqb, false≢true}
 use Rattle.check_model.proofs.Found.{alone, at_more, at_updated, at_without, or_else}
 use Rattle.check_model.proofs.Told.{named_of}
 use Rattle.check_model.proofs.Walks.{Held}
-use Rattle.check_model.specs.Checks.{IsCalculated, IsCalculatedAt, IsChildOf, IsWalk, check_at}
+use Rattle.check_model.specs.Checks.{IsCalculated, IsCalculatedAt, IsWalk, check_at}
 use Rattle.check_model.specs.Checks.{children_of}
 use Rattle.check_model.specs.Commands.{Given, is_named, is_too_deep, updated_at, updated_check, without}
 use Rattle.check_model.specs.Told.{WalksAreTold}
 use Rattle.check_model.specs.declared.checks.Check.{Check}
 use Rattle.check_model.specs.declared.checks.Check.TheVariants.{Endpoint, Calculated}
-use Rattle.first_version.specs.Laws.{NoneIsDisabled}
-use Rattle.first_version.specs.Rules.{is_disabled}
-
--- the number is that of a check of an endpoint
-abbrev pub IsEndpointAt : List Held → ℕ → Type 0
-IsEndpointAt list id =
-    (check : Check) × (check_at list id ≡ Some check) × (IsCalculated check → ⊥)
-
--- each child is a check of an endpoint
-abbrev pub IsFlat : List Held → Type 0
-IsFlat list = (id child : ℕ) → IsChildOf list id child → IsEndpointAt list child
+use Rattle.first_version.specs.Rules.{IsEndpointAt, IsFlat, NoneIsDisabled, is_disabled}
 
 -- ---- walks
 

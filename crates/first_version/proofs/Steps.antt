@@ -33,7 +33,7 @@ use Rattle.config_model.specs.Batches.{ChangesIn, check_refusal, collection_refu
 use Rattle.config_model.specs.Batches.{depth_refusal, first_among, is_zone_full}
 use Rattle.config_model.specs.Batches.{location_refusal, named_collection, named_location}
 use Rattle.config_model.specs.Batches.{sets_refusal, store_refusal, target_refusal}
-use Rattle.config_model.specs.Configs.{Config, empty, with_sets, without_zone, zone_with}
+use Rattle.config_model.specs.Configs.{Config, with_sets, without_zone, zone_with}
 use Rattle.config_model.specs.NewZones.{create_refusal, end_of, end_refusal, new_zone, with_zone}
 use Rattle.config_model.specs.Others.{in_use, made_check}
 use Rattle.config_model.specs.Telling as told
@@ -41,9 +41,10 @@ use Rattle.config_model.specs.declared.refusals.Made.{Made}
 use Rattle.config_model.specs.declared.refusals.Made.TheVariants as made
 use Rattle.config_model.specs.declared.refusals.Refusal.{Refusal}
 use Rattle.config_model.specs.declared.refusals.Refusal.TheVariants as refusal
-use Rattle.first_version.proofs.Flat.{IsEndpointAt, IsFlat, flat_more, flat_updated, flat_without}
+use Rattle.first_version.proofs.Flat.{flat_more, flat_updated, flat_without}
 use Rattle.first_version.proofs.Flat.{none_more, none_updated, none_without, not_deep}
-use Rattle.first_version.specs.Laws.{FirstVersionStays, NoneIsDisabled}
+use Rattle.first_version.specs.Laws.{EmptyIsFirst, FirstVersionStays}
+use Rattle.first_version.specs.Rules.{AreFirstChecks, IsEndpointAt, IsFirstConfig, IsFirstZone}
 use Rattle.first_version.specs.Rules.{FirstAppliesAll, FirstChangesIn, FirstDecides, IsFirst}
 use Rattle.first_version.specs.Rules.{IsFirstHealth, IsFirstRouting, IsFirstSet}
 use Rattle.first_version.specs.Rules.{first_changed_zones, first_sets_refusal}
@@ -111,11 +112,6 @@ module _ (list : List Held) (children : List ℕ) (rules : List (Option CheckRef
       }
 
 -- ---- commands on checks
-
--- what is known of checks that the first version has
-pub record AreFirstChecks (list : List Held) : Type 0 where
-  pub flat : IsFlat list
-  pub enabled : NoneIsDisabled list
 
 -- a command is accepted, and leaves such checks
 pub record IsStep (checks : Checks) (health : CheckCommand) : Type 0 where
@@ -215,10 +211,6 @@ module _ (told : WalksAreTold) (checks : Checks) (are : AreFirstChecks checks.li
 abbrev Answer : Type 0
 Answer = Config × Made
 
--- no set of a zone names a collection
-abbrev IsFirstZone : HostedZone → Type 0
-IsFirstZone zone = AllByRecursion IsFirstSet zone.sets
-
 answers : (why : Option Refusal) (answer given : Answer) → why ≡ None → answer ≡ given
     → Ok answer ≡ told.unless why given
 answers None answer given e same = ap Ok same
@@ -307,11 +299,6 @@ module _ (config after : Config) (what : Made) (batch : Batch)
 
 -- ---- commands
 
--- what is known of a configuration that the first version has
-pub record IsFirstConfig (config : Config) : Type 0 where
-  pub checks : AreFirstChecks config.checks.list
-  pub zones : AllByRecursion IsFirstZone config.zones
-
 -- a command is accepted, and leaves such a configuration
 abbrev GoesOn : Config → Command → Config → Made → Type 0
 GoesOn config given after what =
@@ -399,16 +386,15 @@ module _ (walks : WalksAreTold) (config after : Config) (what : Made)
 
 all_steps : WalksAreTold → (config : Config) (commands : List Command) (after : Config)
     → IsFirstConfig config → FirstAppliesAll config commands after
-    → AppliesAll config commands after × NoneIsDisabled after.checks.list
-all_steps walks config [] after are e =
-    (e, subst (λ (c : Config). NoneIsDisabled c.checks.list) (sym e) are.checks.enabled)
+    → AppliesAll config commands after × IsFirstConfig after
+all_steps walks config [] after are e = (e, subst IsFirstConfig (sym e) are)
 all_steps walks config (given ∷ commands) after are (is, middle, what, decides, rest) =
     let one = step walks config middle what are given is decides in
     let more = all_steps walks middle commands after one.1 rest in
     ((middle, what, one.0, more.0), more.1)
 
-empty_is_first : IsFirstConfig empty
-empty_is_first = record {
+pub empty_first : EmptyIsFirst
+empty_first = record {
   checks = record {
     flat = λ id child is. absurd (grind (arith, is.1));
     enabled = λ id check at. absurd (grind (arith, at));
@@ -417,4 +403,5 @@ empty_is_first = record {
 }
 
 pub first_version_stays : WalksAreTold → FirstVersionStays
-first_version_stays walks commands after e = all_steps walks empty commands after empty_is_first e
+first_version_stays walks before after commands are e =
+    all_steps walks before commands after are e

@@ -1,20 +1,17 @@
 -- What the first version's rules accept is accepted.
-use Rattle.std.specs.Prelude.{◌≡◌, ℕ, false, List, Some}
-use Rattle.check_model.specs.Checks.{check_at}
-use Rattle.check_model.specs.declared.checks.Check.{Check}
+use Rattle.std.specs.Prelude.{List}
 use Rattle.command_octets.specs.declared.commands.Command.{Command}
 use Rattle.config_model.specs.Applying.{AppliesAll}
 use Rattle.config_model.specs.Configs.{Config, empty}
-use Rattle.first_version.specs.Rules.{FirstAppliesAll, is_disabled}
+use Rattle.first_version.specs.Rules.{FirstAppliesAll, IsFirstConfig}
 
--- no check is disabled
-abbrev pub NoneIsDisabled : List (ℕ × Check) → Type 0
-NoneIsDisabled list =
-    (id : ℕ) (check : Check) → check_at list id ≡ Some check → is_disabled check ≡ false
-
--- Commands of the first version that its rules accept in their order are accepted and lead to the
--- same configuration, in which no check is disabled.
+-- Commands of the first version that its rules accept in their order, from any configuration of it
+-- on, are accepted and lead to the same configuration, which is one of it: no check is disabled.
 abbrev pub FirstVersionStays : Type 0
-FirstVersionStays = (commands : List Command) (after : Config)
-    → FirstAppliesAll empty commands after
-    → AppliesAll empty commands after × NoneIsDisabled after.checks.list
+FirstVersionStays = (before after : Config) (commands : List Command)
+    → IsFirstConfig before → FirstAppliesAll before commands after
+    → AppliesAll before commands after × IsFirstConfig after
+
+-- The empty configuration is one of the first version.
+abbrev pub EmptyIsFirst : Type 0
+EmptyIsFirst = IsFirstConfig empty

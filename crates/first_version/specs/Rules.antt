@@ -8,7 +8,7 @@ use Rattle.batch_model.specs.declared.batches.Batch.{Batch}
 use Rattle.batch_model.specs.declared.batches.Change.{Change}
 use Rattle.batch_model.specs.declared.refusals.BatchRefusal.{BatchRefusal}
 use Rattle.batch_model.specs.declared.refusals.BatchRefusal.TheVariants as refused
-use Rattle.check_model.specs.Checks.{Checks, check_at, children_of}
+use Rattle.check_model.specs.Checks.{Checks, IsCalculated, IsChildOf, check_at, children_of}
 use Rattle.check_model.specs.Commands.{Given, checks_after, delete_refusal, first_missing, first_of}
 use Rattle.check_model.specs.Commands.{given_by, has_repeated, is_calculated_there, is_wrong_member}
 use Rattle.check_model.specs.Commands.{missing, of_there, rule}
@@ -65,6 +65,37 @@ IsFirst (command.DeleteZone id) = ⊤
 IsFirst (command.Change batch) = AllByRecursion IsFirstChange batch.changes
 IsFirst (command.Health health) = IsFirstHealth health
 IsFirst (command.Cidr cidr) = ⊥
+
+-- ---- configurations of the first version
+
+-- the number is that of a check of an endpoint
+abbrev pub IsEndpointAt : List (ℕ × Check) → ℕ → Type 0
+IsEndpointAt list id =
+    (check : Check) × (check_at list id ≡ Some check) × (IsCalculated check → ⊥)
+
+-- each child is a check of an endpoint
+abbrev pub IsFlat : List (ℕ × Check) → Type 0
+IsFlat list = (id child : ℕ) → IsChildOf list id child → IsEndpointAt list child
+
+-- no check is disabled
+abbrev pub NoneIsDisabled : List (ℕ × Check) → Type 0
+NoneIsDisabled list =
+    (id : ℕ) (check : Check) → check_at list id ≡ Some check → is_disabled check ≡ false
+
+-- checks that the first version can have
+pub record AreFirstChecks (list : List (ℕ × Check)) : Type 0 where
+  pub flat : IsFlat list
+  pub enabled : NoneIsDisabled list
+
+-- no set of a zone names a collection
+abbrev pub IsFirstZone : HostedZone → Type 0
+IsFirstZone zone = AllByRecursion IsFirstSet zone.sets
+
+-- A configuration that the first version can have, as of its checks and of what sets name. Which
+-- collections there are isn't asked.
+pub record IsFirstConfig (config : Config) : Type 0 where
+  pub checks : AreFirstChecks config.checks.list
+  pub zones : AllByRecursion IsFirstZone config.zones
 
 -- ---- commands on checks by its rules
 

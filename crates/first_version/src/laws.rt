@@ -1,11 +1,16 @@
 //! Laws over the definitions, each the contract of a function that does nothing.
 
-ghost use Rattle.first_version.specs.Laws.{FirstVersionStays};
+ghost use Rattle.first_version.specs.Laws.{EmptyIsFirst, FirstVersionStays};
 
-/// Commands that the rules of the first version accept one after another are accepted, and lead to
-/// the same configuration, in which no check is disabled.
+/// Commands that the rules of the first version accept one after another, from any configuration of
+/// it on, are accepted, and lead to the same configuration, which is one of it.
 pub fn first_version_stays()
     ensures { FirstVersionStays }
 {
     check_model::walks_are_told();
 }
+
+/// The empty configuration is one of the first version.
+pub fn empty_is_first()
+    ensures { EmptyIsFirst }
+{}

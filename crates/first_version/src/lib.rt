@@ -3,4 +3,4 @@
 
 mod laws;
 
-pub use laws::first_version_stays;
+pub use laws::{empty_is_first, first_version_stays};

@@ -7,7 +7,7 @@ use Rattle.check_model.specs.Checks.{Checks}
 use Rattle.cidr_commands.specs.Stored.{Stored}
 use Rattle.command_octets.specs.declared.commands.Command.{Command}
 use Rattle.command_octets.specs.declared.commands.Command.TheVariants as command
-use Rattle.config_edits.specs.Laws.{hosted_in}
+use Rattle.config_zones.specs.Edited.{hosted_in}
 use Rattle.config_model.specs.Applying.{Decides}
 use Rattle.config_model.specs.Configs.{Config}
 use Rattle.config_model.specs.Laws.{IsBounded}

@@ -1,6 +1,6 @@
 //! The configuration of a server.
 
-ghost use Rattle.std.specs.Prelude.{◌≡◌, IfErr, IfOk, Err, Ok};
+ghost use Rattle.std.specs.Prelude.{◌≡◌, ◌≤◌, IfErr, IfOk, Err, Ok};
 ghost use Rattle.command_octets.specs.declared.commands.Command.{Command};
 ghost use Rattle.config_model.specs.Applying.{Applies, Decides};
 ghost use Rattle.config_model.specs.Configs.{Config, empty};
@@ -11,7 +11,7 @@ ghost use Rattle.config_zones.specs.Configured.{IsEditFor, config_of};
 ghost use Rattle.health_check.specs.Stored.{HasRoom};
 ghost use Rattle.r53_state.specs.States.{IsAccepted, IsOnChecks, IsReady, StayReady, config_in};
 ghost use Rattle.r53_state.specs.States.{nothing_told};
-ghost use Rattle.r53_state.specs.Steps.{TellsSets};
+ghost use Rattle.r53_state.specs.Steps.{TellsSets, checks_of};
 ghost use Rattle.zone_table.specs.Edits.{Edits, IsReady as IsEditReady};
 
 use crate::editing::work_for;
@@ -140,6 +140,7 @@ impl Config {
     pub fn prepare(&mut self, alloc: Global, command: Command) -> Result<Prepared, Refusal>
         requires { IsBounded command }
         ensures zones { self.new.table.zones ≡ self.old.table.zones }
+        ensures slots { self.old.table.slots ≤ self.new.table.slots }
         ensures config { config_in self.new ≡ config_in self.old }
         ensures told { self.new.told ≡ self.old.told }
         ensures refused { IfErr result (λ why. Applies (config_in self.old) command (Err why)) }
@@ -162,7 +163,8 @@ impl Config {
         }
     }
 
-    /// Makes a command that is ready. It can't fail, and takes no memory.
+    /// Makes a command that is ready. It can't fail, and takes no memory; the slots of the zones stay
+    /// as many.
     ///
     /// The command was prepared by this configuration, with nothing installed since.
     pub fn install(&mut self, prepared: Prepared) -> Made
@@ -170,6 +172,9 @@ impl Config {
         ensures installed { Decides (config_in self.old) prepared.command
             (Ok (config_in self.new, result)) }
         ensures told { TellsSets self.old prepared.edit self.new }
+        ensures slots { self.new.table.slots ≡ self.old.table.slots }
+        ensures checks { self.new.checks.checks
+            ≡ checks_of self.old.checks.checks prepared.command }
     {
         let Prepared {
             command,
@@ -191,6 +196,8 @@ impl Config {
         ensures installed { Decides (config_in self.old) command.now
             (Ok (config_in self.new, result)) }
         ensures told { Edits self.old.table.zones ready.made self.new.table.zones self.new.told }
+        ensures slots { self.new.table.slots ≡ self.old.table.slots }
+        ensures checks { self.new.checks.checks ≡ self.old.checks.checks }
     {
         commands_keep_sound();
         self.zones.well_formed();
@@ -212,6 +219,7 @@ impl Config {
             (Ok (config_in self.new, result)) }
         ensures told { self.new.told ≡ nothing_told }
         ensures zones { self.new.table ≡ self.old.table }
+        ensures checks { self.new.checks.checks ≡ checks_of self.old.checks.checks command }
     {
         commands_keep_sound();
         let made = made_by(&self.zones, &self.checks, self.next_zone, &command);
@@ -231,6 +239,7 @@ impl Config {
         requires kind { IsOnChecks command → ⊥ }
         requires edit { IsEditFor (config_in self.old) command self.old.table edit }
         ensures zones { self.new.table.zones ≡ self.old.table.zones }
+        ensures slots { self.old.table.slots ≤ self.new.table.slots }
         ensures config { config_in self.new ≡ config_in self.old }
         ensures told { self.new.told ≡ self.old.told }
         ensures refused { IfErr result (λ why. why ≡ refusal.OutOfMemory) }
@@ -254,6 +263,7 @@ impl Config {
         requires kind { IsOnChecks command }
         requires accepted { IsAccepted (config_in self.old) command }
         ensures zones { self.new.table.zones ≡ self.old.table.zones }
+        ensures slots { self.old.table.slots ≤ self.new.table.slots }
         ensures config { config_in self.new ≡ config_in self.old }
         ensures told { self.new.told ≡ self.old.told }
         ensures refused { IfErr result (λ why. why ≡ refusal.OutOfMemory) }

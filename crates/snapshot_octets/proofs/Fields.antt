@@ -1,11 +1,9 @@
 -- The readers of a snapshot's fields, each by the rules for readers that are built from readers.
-use Rattle.std.proofs.Common.{◌≡◌, ℕ, ◌<◌, ◌≤◌, ◌^◌, inl, inr, Bool, true, false, List, [], ◌∷◌, ◌++◌, length, arith, ap, ◌∙◌, sym, refl, subst, eqb}
+use Rattle.std.proofs.Common.{◌≡◌, ℕ, ◌<◌, ◌≤◌, ◌^◌, inl, inr, Bool, true, false, List, [], ◌∷◌, ◌++◌, length, arith, sym, refl, subst, eqb}
 use Rattle.std.proofs.lemmas.Bool.{leb-true, le-leb}
-use Rattle.std.specs.Prelude.{⊤}
 use Rattle.std.specs.List.{AllByRecursion}
 use Rattle.octets.specs.Numbers.{four_octets}
-use Rattle.dns_name.specs.Labels.{wire}
-use Rattle.octet_reading.specs.Readers.{Reader, list_at}
+use Rattle.octet_reading.specs.Readers.{Reader}
 use Rattle.octet_reading.specs.Reading.{four_at}
 use Rattle.octet_reading.specs.Rules.{AreListed, IsReadAs, list_octets}
 use Rattle.octet_reading.proofs.Base.{name_read, octet_read}
@@ -14,18 +12,15 @@ use Rattle.octet_reading.proofs.Optional.{list_read}
 use Rattle.octet_reading.proofs.Rules.{alike, nothing_read, seen_read, then_read}
 use Rattle.block_reading.proofs.Prefixes.{block_read}
 use Rattle.block_reading.proofs.Texts as texts
-use Rattle.check_model.specs.declared.checks.Check.{Check}
-use Rattle.check_octets.specs.Octets.{where_told, IsSpelledCheck}
+use Rattle.check_octets.specs.Octets.{where_told}
 use Rattle.check_reading.proofs.Commands.{check_read}
 use Rattle.check_reading.proofs.Parts.{number_read}
 use Rattle.check_reading.specs.Fields.{counted_at, told_at}
-use Rattle.cidr_blocks.specs.declared.places.Collection.{Collection}
 use Rattle.command_codec.proofs.Fields.{set_read}
 use Rattle.config_model.specs.Configs.{Config}
-use Rattle.set_octets.specs.Octets.{set_octets}
 use Rattle.set_reading.specs.Laws as set_laws
 use Rattle.snapshot_octets.specs.Octets.{HasSnapshot, IsHeldCheck, IsHeldCollection}
-use Rattle.snapshot_octets.specs.Octets.{IsSpelledCollection, IsSpelledLocation, IsSpelledSet}
+use Rattle.snapshot_octets.specs.Octets.{IsSpelledCollection, IsSpelledLocation}
 use Rattle.snapshot_octets.specs.Octets.{IsSpelledZone, IsVersion, IsWhereTold, collection_octets}
 use Rattle.snapshot_octets.specs.Octets.{counted_octets, held_check_octets, held_collection_octets}
 use Rattle.snapshot_octets.specs.Octets.{location_octets, snapshot_octets, tells_collections}

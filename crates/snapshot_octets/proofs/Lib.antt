@@ -1,4 +1,5 @@
 pub mod Fields
+mod Short
 pub mod Sound
 pub mod Told
 pub mod Vectors

@@ -1,5 +1,5 @@
 -- A sound configuration has a snapshot in the version that is written.
-use Rattle.std.proofs.Common.{◌≡◌, ℕ, ◌<◌, ◌≤◌, ◌^◌, inl, inr, Bool, true, false, List, [], ◌∷◌, ◌++◌, ◌+◌, length, arith, ap, ◌∙◌, sym, refl, subst}
+use Rattle.std.proofs.Common.{◌≡◌, ℕ, ◌<◌, ◌≤◌, ◌^◌, inl, inr, Bool, true, false, List, [], ◌∷◌, ◌+◌, length, arith, ap, ◌∙◌, refl, subst}
 use Rattle.std.proofs.lemmas.Bool.{ltb-false, ltb-true}
 use Rattle.std.proofs.lemmas.List.{length-append, length-map}
 use Rattle.std.specs.Prelude.{nat_lt, if◌then◌else◌}
@@ -9,24 +9,21 @@ use Rattle.octet_reading.specs.Rules.{AreListed}
 use Rattle.check_model.specs.Checks.{Checks}
 use Rattle.check_model.specs.Checks as checks
 use Rattle.check_model.specs.declared.checks.Check.{Check}
-use Rattle.check_octets.specs.Octets.{IsSpelledCheck, disabled_of, tells_disabled}
+use Rattle.check_octets.specs.Octets.{disabled_of, tells_disabled}
 use Rattle.cidr_blocks.specs.Places.{IsBlock, IsCidrLocation, IsCollection, rows_at, rows_of}
 use Rattle.cidr_blocks.specs.declared.places.CidrLocation.{CidrLocation}
 use Rattle.cidr_blocks.specs.declared.places.Collection.{Collection}
-use Rattle.cidr_commands.specs.Stored.{Stored}
-use Rattle.cidr_commands.specs.Stored as stored
 use Rattle.config_model.specs.Configs.{Config}
 use Rattle.config_model.specs.Sound.{IsSoundZone, Sound}
-use Rattle.ip_table.specs.Prefixes.{Prefix}
 use Rattle.record_set.specs.declared.sets.RecordSet.{RecordSet}
 use Rattle.record_set.specs.declared.sets.SetKey.{SetKey}
 use Rattle.set_octets.specs.Octets as sets
 use Rattle.set_reading.specs.Sets.{IsSet}
 use Rattle.snapshot_octets.specs.Laws.{SoundHaveSnapshots}
 use Rattle.snapshot_octets.specs.Octets.{HasSnapshot, IsHeldCheck, IsHeldCollection, IsPrefixed}
-use Rattle.snapshot_octets.specs.Octets.{IsSnapshot, IsSpelledCollection, IsSpelledLocation}
-use Rattle.snapshot_octets.specs.Octets.{IsSpelledSet, IsSpelledZone, IsWhereTold, snapshot}
-use Rattle.snapshot_octets.specs.Octets.{snapshot_octets, tells_collections, version_of}
+use Rattle.snapshot_octets.specs.Octets.{IsSpelledCollection, IsSpelledLocation}
+use Rattle.snapshot_octets.specs.Octets.{IsSpelledSet, IsSpelledZone}
+use Rattle.snapshot_octets.specs.Octets.{version_of}
 use Rattle.zone_model.specs.Hosted.{HostedZone}
 use Rattle.zone_model.specs.Zones.{IsAmong}
 
@@ -56,7 +53,7 @@ held_checks version later list =
 
 -- ---- collections
 
-rows_are : (location : CidrLocation) (locations : List CidrLocation)
+pub rows_are : (location : CidrLocation) (locations : List CidrLocation)
     → length (rows_of (location ∷ locations)) ≡ length location.blocks + length (rows_of locations)
 rows_are location locations =
     length-append (rows_at location.name location.blocks) (rows_of locations)

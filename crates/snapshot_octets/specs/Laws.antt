@@ -29,3 +29,7 @@ TellsConfig octets (Err place) =
 
 abbrev pub SnapshotsAreTold : Type 0
 SnapshotsAreTold = (octets : List ℕ) → AreOctets octets → TellsConfig octets (read octets)
+
+-- What is written of a sound configuration has at most 268,435,435 octets: a compaction takes it.
+abbrev pub SoundAreShort : Type 0
+SoundAreShort = (config : Config) → Sound config → length (snapshot config) ≤ 268435435

@@ -1,7 +1,8 @@
 //! Laws over the definitions, each the contract of a function that does nothing.
 
 ghost use Rattle.snapshot_octets.specs.Laws.{OneConfiguration, SnapshotsAreTold};
-ghost use Rattle.snapshot_octets.specs.Laws.{SnapshotsReadBack, SoundHaveSnapshots};
+ghost use Rattle.snapshot_octets.specs.Laws.{SnapshotsReadBack, SoundAreShort};
+ghost use Rattle.snapshot_octets.specs.Laws.{SoundHaveSnapshots};
 
 /// Octets are a snapshot of one configuration at most.
 pub fn one_configuration()
@@ -31,3 +32,10 @@ pub fn snapshots_are_told()
 pub fn sound_have_snapshots()
     ensures { SoundHaveSnapshots }
 {}
+
+/// What is written of a sound configuration is no longer than a compaction takes.
+pub fn sound_are_short()
+    ensures { SoundAreShort }
+{
+    config_model::refusals_are_told();
+}

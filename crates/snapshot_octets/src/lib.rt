@@ -6,4 +6,7 @@
 
 mod laws;
 
-pub use laws::{one_configuration, snapshots_are_told, snapshots_read_back, sound_have_snapshots};
+pub use laws::{
+    one_configuration, snapshots_are_told, snapshots_read_back, sound_are_short,
+    sound_have_snapshots,
+};

@@ -11,10 +11,10 @@ use Rattle.check_octets.specs.Octets.{where_told}
 use Rattle.cidr_blocks.specs.declared.places.Collection.{Collection}
 use Rattle.config_model.specs.Configs.{Config}
 use Rattle.config_model.specs.Sound.{Sound}
-use Rattle.snapshot_octets.specs.Laws.{SoundHaveSnapshots}
+use Rattle.snapshot_octets.specs.Laws.{SoundAreShort, SoundHaveSnapshots}
 use Rattle.snapshot_octets.specs.Octets.{IsHeldCheck, IsHeldCollection, IsWhereTold}
 use Rattle.snapshot_octets.specs.Octets.{held_check_octets, held_collection_octets, snapshot}
-use Rattle.snapshot_octets.specs.Octets.{snapshot_octets, tells_collections, version_of, zone_octets}
+use Rattle.snapshot_octets.specs.Octets.{snapshot_octets, tells_collections, zone_octets}
 use Rattle.snapshot_writing.proofs.Held.{same_checks}
 use Rattle.snapshot_writing.specs.Versions.{version_told}
 
@@ -60,6 +60,11 @@ assembled config told is e0 e1 e2 e3 e4 e5 e6 e7 =
     ∙ ap (λ b. snapshot_octets (if b then 3 else 2) config) (sym is))
 
 -- ---- what a sound configuration gives
+
+pub is_short : SoundAreShort → (config : Config) → Sound config → {octets : List ℕ}
+    → octets ≡ snapshot config → length octets ≤ 268435435
+is_short law config sound is =
+    subst (λ (o : List ℕ). length o ≤ 268435435) (sym is) (law config sound)
 
 bounded_each : (version : ℕ) (list : List (ℕ × Check)) → AllByRecursion (IsHeldCheck version) list
     → AllByRecursion (λ (held : ℕ × Check). IsBounded held.1) list

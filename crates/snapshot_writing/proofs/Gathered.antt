@@ -1,18 +1,18 @@
 -- Sets and zones appended one after another.
-use Rattle.std.proofs.Common.{◌≡◌, ℕ, ◌+◌, ◌<◌, ◌≤◌, Bool, true, false, List, [], ◌∷◌, ◌++◌, length, drop, ap, ◌∙◌, sym}
-use Rattle.std.proofs.Common.{refl, subst, arith, cond, None, Some}
-use Rattle.std.specs.Prelude.{◌==◌, slice_get, if◌then◌else◌}
+use Rattle.std.proofs.Common.{◌≡◌, ℕ, ◌+◌, ◌≤◌, Bool, true, false, List, [], ◌∷◌, ◌++◌, length, drop, ap, ◌∙◌, sym}
+use Rattle.std.proofs.Common.{arith, cond, None, Some}
+use Rattle.std.specs.Prelude.{◌==◌, slice_get}
 use Rattle.std.specs.List.{flat_map}
 use Rattle.std.proofs.lemmas.List.{append_assoc, append-nil}
 use Rattle.std.proofs.lemmas.List.Sums.{sum_by-cons}
-use Rattle.config_edits.specs.Laws.{hosted_in}
+use Rattle.config_zones.specs.Edited.{hosted_in}
 use Rattle.config_zones.specs.Laws.{ZonesFollow}
 use Rattle.config_zones.specs.Walks.{above}
 use Rattle.record_set.specs.declared.sets.RecordSet.{RecordSet}
 use Rattle.set_octets.specs.Octets.{set_octets}
 use Rattle.snapshot_octets.specs.Octets.{zone_octets}
 use Rattle.zone_list.proofs.Listing.{its_placed, one_zone}
-use Rattle.zone_list.proofs.Members.{in_all, left_at, nothing_left}
+use Rattle.zone_list.proofs.Members.{left_at, nothing_left}
 use Rattle.zone_list.specs.Found.{IsNextZone, NextZoneOrNone}
 use Rattle.zone_list.specs.Zones.{AreListed, AreZones, IsOne, Zone, hosted, placed_in}
 use Rattle.zone_model.specs.Hosted.{HostedZone}

@@ -1,6 +1,6 @@
 //! The snapshot of a configuration.
 
-ghost use Rattle.std.specs.Prelude.{◌≡◌, IfOk};
+ghost use Rattle.std.specs.Prelude.{◌≡◌, ◌≤◌, IfOk, length};
 ghost use Rattle.config_model.specs.Sound.{Sound};
 ghost use Rattle.config_zones.specs.Configured.{config_of};
 ghost use Rattle.snapshot_octets.specs.Octets.{snapshot};
@@ -12,12 +12,12 @@ use crate::zones::append_zones;
 use config_zones::counts_agree;
 use health_check::CheckTable;
 use octets::{OutOfMemory, append, four_octets};
-use snapshot_octets::sound_have_snapshots;
+use snapshot_octets::{sound_are_short, sound_have_snapshots};
 use std::alloc::Global;
 use zone_table::{Scratch, Zones};
 
 /// The snapshot of the configuration that zones, with their collections, and checks stand for, with
-/// the number that the next zone gets.
+/// the number that the next zone gets. A compaction takes it.
 pub fn write_snapshot(
     alloc: Global,
     zones: &Zones,
@@ -25,10 +25,12 @@ pub fn write_snapshot(
     next: u32,
 ) -> Result<Vec<u8>, OutOfMemory>
     requires { Sound (config_of zones.now checks.now.checks next) }
-    ensures { IfOk result (λ octets. octets.items
+    ensures spelled { IfOk result (λ octets. octets.items
         ≡ snapshot (config_of zones.now checks.now.checks next)) }
+    ensures short { IfOk result (λ octets. length octets.items ≤ 268435435) }
 {
     counts_agree();
+    sound_are_short();
     sound_have_snapshots();
     zones.well_formed();
     let collections = zones.collections();

@@ -3,7 +3,7 @@
 ghost use Rattle.std.specs.Prelude.{◌≡◌, ◌<◌, ◌^◌, ◌++◌, ℕ, IfSome, List, length, OnOk};
 ghost use Rattle.std.specs.List.{flat_map};
 ghost use Rattle.octet_reading.specs.Rules.{list_octets};
-ghost use Rattle.config_edits.specs.Laws.{hosted_in};
+ghost use Rattle.config_zones.specs.Edited.{hosted_in};
 ghost use Rattle.set_octets.specs.Octets.{set_octets};
 ghost use Rattle.set_scratch.specs.Holding.{IsHolding};
 ghost use Rattle.snapshot_octets.specs.Octets.{counted_octets, zone_octets};

@@ -1,7 +1,7 @@
 //! What a sound configuration gives to those that answer from it: zones from which queries can be
-//! answered, and checks and sets that have health.
+//! answered, and checks and sets that have health, as an index tells it.
 #![tactic(auto)]
 
 mod laws;
 
-pub use laws::{sound_is_served, sound_is_watched};
+pub use laws::{index_serves, same_follow, sound_is_served, sound_is_watched};

@@ -1,66 +1,36 @@
 -- A pair of files opens to one configuration.
-use Rattle.std.proofs.Common.{◌≡◌, ◌≢◌, ℕ, List, [], ◌∷◌, ap, ◌∙◌, sym, refl, subst, inr, Result, Ok, Err}
+use Rattle.std.proofs.Common.{ℕ, List, subst}
 use Rattle.command_codec.specs.Laws as codec
-use Rattle.command_codec.specs.Reading.{read}
-use Rattle.command_codec.specs.Commands.{Spells}
-use Rattle.command_octets.specs.declared.commands.Command.{Command}
-use Rattle.config_model.specs.Applying.{Decides, Outcome}
-use Rattle.config_model.specs.Configs.{Config}
 use Rattle.config_model.specs.Laws.{OneOutcome}
-use Rattle.config_model.specs.declared.refusals.Made.{Made}
-use Rattle.config_model.specs.declared.refusals.Refusal.{Refusal}
-use Rattle.config_model.specs.declared.refusals.Refusal.TheVariants.{OutOfMemory}
 use Rattle.snapshot_octets.specs.Laws.{OneConfiguration}
-use Rattle.store_model.specs.Opening.{IsBase, OpensConfig, PairOpensToOneConfig, TakesAll}
-use Rattle.store_model.specs.Opening.{TakesEntry}
+use Rattle.store_model.proofs.Sides.{active_opens}
+use Rattle.store_model.proofs.Taken.{makes_more, one_config}
+use Rattle.store_model.specs.Laws.{DecidingOpens, OneMoreOpens, OpenedAreSound}
+use Rattle.store_model.specs.Laws.{PairOpensToOneConfig, TakenAreSound}
+use Rattle.store_model.specs.Opening.{MakesConfig}
 use Rattle.zone_journal.specs.Pairs.{PairOpensToOne}
 
-same_given : (given other : Command) → ◌≡◌ {A = Result Command ℕ} (Ok given) (Ok other)
-    → given ≡ other
-same_given given other e = cc
+pub pair_opens_to_one_config : codec.ReadAsNothingElse → OneOutcome → OneConfiguration
+    → PairOpensToOne → PairOpensToOneConfig
+pair_opens_to_one_config one_command one_outcome one_base one_pair x y config other o p =
+    let pair = one_pair x y o.generation p.generation o.snapshot p.snapshot o.entries p.entries
+    o.opens.opens p.opens.opens in
+    one_config one_command one_outcome one_base p.snapshot p.entries config other
+    (subst (λ (k : List ℕ × List (List ℕ)). MakesConfig k.0 k.1 config)
+    (λ i. (pair.1 i, pair.2 i)) o.opens.makes) p.opens.makes
 
-same_pair : (p q : Config × Made) → ◌≡◌ {A = Outcome} (Ok p) (Ok q) → p ≡ q
-same_pair p q e = cc
+pub deciding_opens : DecidingOpens
+deciding_opens x y side generation octets entries config active opens makes = record {
+  opens = active_opens x y side generation octets entries active opens;
+  makes = makes;
+}
 
-same_after : (after other : Config) (what made : Made)
-    → ◌≡◌ {A = Outcome} (Ok (after, what)) (Ok (other, made)) → after ≡ other
-same_after after other what made e =
-    ap (λ (p : Config × Made). p.0) (same_pair (after, what) (other, made) e)
+pub one_more_opens : OneMoreOpens
+one_more_opens x y u v generation octets entries before after entry o taken opens = record {
+  opens = opens;
+  makes = makes_more octets entries before after entry o.makes taken;
+}
 
-no_want : (after : Config) (what : Made) → ◌≢◌ {A = Outcome} (Ok (after, what)) (Err OutOfMemory)
-no_want after what e = cc
-
-module _ (one_command : codec.ReadAsNothingElse) (one_outcome : OneOutcome)
-    (one_base : OneConfiguration) (one_pair : PairOpensToOne) where
-  one_given : (entry : List ℕ) (given other : Command) → Spells entry given → Spells entry other
-      → given ≡ other
-  one_given entry given other s t =
-      same_given given other
-      (sym (one_command entry given (read entry) s refl) ∙ one_command entry other (read entry) t refl)
-
-  one_after : (config : Config) (entry : List ℕ) (after other : Config)
-      → TakesEntry config entry after → TakesEntry config entry other → after ≡ other
-  one_after config entry after other t u =
-      let same = one_given entry t.given u.given t.spelled u.spelled in
-      same_after after other t.what u.what
-      (one_outcome config u.given (Ok (after, t.what)) (Ok (other, u.what))
-      (inr (subst (λ (g : Command). Decides config g (Ok (after, t.what))) same t.decides))
-      (inr u.decides) (no_want after t.what) (no_want other u.what))
-
-  one_end : (entries : List (List ℕ)) (config after other : Config)
-      → TakesAll config entries after → TakesAll config entries other → after ≡ other
-  one_end [] config after other t u = t ∙ sym u
-  one_end (entry ∷ entries) config after other t u =
-      let same = one_after config entry t.0 u.0 t.1 u.1 in
-      one_end entries u.0 after other
-      (subst (λ (c : Config). TakesAll c entries after) same t.2) u.2
-
-  pub one_config : PairOpensToOneConfig
-  one_config x y config other o p =
-      let pair = one_pair x y o.generation p.generation o.snapshot p.snapshot o.entries p.entries
-      o.opens p.opens in
-      let base = one_base p.snapshot o.base p.base
-      (subst (λ (s : List ℕ). IsBase s o.base) pair.1 o.is_base).is p.is_base.is in
-      one_end p.entries p.base config other
-      (subst (λ (es : List (List ℕ)). TakesAll p.base es config) pair.2
-      (subst (λ (c : Config). TakesAll c o.entries config) base o.taken)) p.taken
+pub opened_are_sound : TakenAreSound → OpenedAreSound
+opened_are_sound sound x y config o =
+    sound o.opens.makes.base config o.entries o.opens.makes.is_base.sound o.opens.makes.taken

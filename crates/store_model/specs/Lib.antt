@@ -1,1 +1,4 @@
+pub mod Kept
+pub mod Laws
+pub mod Leaving
 pub mod Opening

@@ -28,13 +28,31 @@ pub record TakesEntry (config : Config) (entry : List ℕ) (after : Config) : Ty
   pub what : Made
   pub decides : Decides config given (Ok (after, what))
 
+-- The configuration takes no such entry.
+abbrev pub IsRefused : Config → (entry : List ℕ) → Type 0
+IsRefused config entry = (after : Config) → TakesEntry config entry after → ⊥
+
 -- The commands of entries are made one after another.
 abbrev pub TakesAll : Config → (entries : List (List ℕ)) → (after : Config) → Type 0
 TakesAll config [] after = after ≡ config
 TakesAll config (entry ∷ entries) after =
     (middle : Config) × TakesEntry config entry middle × TakesAll middle entries after
 
+-- A snapshot, with the commands of entries made one after another, makes a configuration.
+pub record MakesConfig (snapshot : List ℕ) (entries : List (List ℕ)) (config : Config)
+    : Type 0 where
+  pub base : Config
+  pub is_base : IsBase snapshot base
+  pub taken : TakesAll base entries config
+
 -- ---- a pair of files
+
+-- The files of `a` and `b` open to this generation, snapshot and entries, which make a
+-- configuration.
+pub record OpensAs (x y : List ℕ) (generation : ℕ) (snapshot : List ℕ) (entries : List (List ℕ))
+    (config : Config) : Type 0 where
+  pub opens : OpensPair x y generation snapshot entries
+  pub makes : MakesConfig snapshot entries config
 
 -- The files of `a` and `b` open to a configuration: the snapshot of the one that decides, and the
 -- commands of its entries up to the first closed gate.
@@ -42,15 +60,7 @@ pub record OpensConfig (x y : List ℕ) (config : Config) : Type 0 where
   pub generation : ℕ
   pub snapshot : List ℕ
   pub entries : List (List ℕ)
-  pub opens : OpensPair x y generation snapshot entries
-  pub base : Config
-  pub is_base : IsBase snapshot base
-  pub taken : TakesAll base entries config
-
--- A pair of files opens to one configuration at most.
-abbrev pub PairOpensToOneConfig : Type 0
-PairOpensToOneConfig = (x y : List ℕ) (config other : Config)
-    → OpensConfig x y config → OpensConfig x y other → config ≡ other
+  pub opens : OpensAs x y generation snapshot entries config
 
 -- ---- no store
 
@@ -64,27 +74,38 @@ IsNoBase file =
     (length file < 20 + big_number 4 (drop 16 file))
     ⊎ ((config : Config) → IsBase (snapshot_of file) config → ⊥)
 
+-- Behind this snapshot and these entries the gate is missing, or is open with no whole entry, or
+-- with one that the configuration so far doesn't take.
+abbrev pub IsFaulty : (place : ℕ) → (file : List ℕ) → ℕ → List ℕ → (entries : List (List ℕ))
+    → Config → Type 0
+IsFaulty place file generation snapshot entries before =
+    IsBroken (drop place file)
+    ⊎ ((entry : List ℕ)
+    × IsRead (place + (5 + length entry)) file generation snapshot (entries ++ entry ∷ [])
+    × IsRefused before entry)
+
 -- At a gate, behind entries that are taken, the file is broken, or has an entry that isn't taken.
 pub record IsNoEntry (place : ℕ) (file : List ℕ) : Type 0 where
   pub generation : ℕ
   pub snapshot : List ℕ
   pub entries : List (List ℕ)
   pub read : IsRead place file generation snapshot entries
-  pub base : Config
-  pub is_base : IsBase snapshot base
   pub before : Config
-  pub taken : TakesAll base entries before
-  pub faulty : IsBroken (drop place file)
-      ⊎ ((entry : List ℕ) × IsRead (place + (5 + length entry)) file generation snapshot
-      (entries ++ entry ∷ []) × ((after : Config) → TakesEntry before entry after → ⊥))
+  pub makes : MakesConfig snapshot entries before
+  pub faulty : IsFaulty place file generation snapshot entries before
 
--- The files are no store: no file is open; or the one that decides has no snapshot of a sound
--- configuration, told at its place, or at a gate no entry that can be taken.
+-- The file that decides has no snapshot of a sound configuration, told at its place, or at a gate
+-- no entry that can be taken.
+abbrev pub IsUnreadable : (place : ℕ) → (file : List ℕ) → Type 0
+IsUnreadable place file = ((place ≡ 20) × IsNoBase file) ⊎ IsNoEntry place file
+
+-- The files are no store: no file is open, or the one that decides can't be read as a
+-- configuration.
 abbrev pub IsNoStore : (x y : List ℕ) → Side → (place : ℕ) → Type 0
 IsNoStore x y side place =
     ((side ≡ A) × (place ≡ 0) × (IsOpen x → ⊥) × (IsOpen y → ⊥))
     ⊎ (IsActive side (active_of side x y) (other_of side x y)
-    × (((place ≡ 20) × IsNoBase (active_of side x y)) ⊎ IsNoEntry place (active_of side x y)))
+    × IsUnreadable place (active_of side x y))
 
 -- ---- a store
 

@@ -1,9 +1,8 @@
-use Rattle.std.proofs.Common.{◌≡◌, ◌∙◌, ◌∷◌, ◌++◌, ℕ, List, [], ap, refl, subst, sym}
+use Rattle.std.proofs.Common.{◌∙◌, ◌∷◌, ◌++◌, ℕ, List, [], ap, subst, sym}
 use Rattle.std.specs.List.{AllByRecursion}
 use Rattle.std.specs.Prelude.{nat_lt}
 use Rattle.octets.specs.Numbers.{four_octets}
 use Rattle.octet_reading.specs.Rules.{list_octets}
-use Rattle.check_model.specs.Checks.{Checks}
 use Rattle.check_model.specs.declared.checks.Check.{Check}
 use Rattle.check_octets.specs.Octets.{where_told}
 use Rattle.cidr_blocks.specs.declared.places.Collection.{Collection}
@@ -11,7 +10,7 @@ use Rattle.cidr_commands.specs.Stored.{Stored}
 use Rattle.config_zones.specs.Configured.{config_of}
 use Rattle.snapshot_octets.specs.Octets.{IsHeldCollection, held_check_octets}
 use Rattle.snapshot_octets.specs.Octets.{held_collection_octets}
-use Rattle.snapshot_writing.proofs.Assembled.{assembled, collections_are}
+use Rattle.snapshot_writing.proofs.Assembled.{assembled, collections_are, is_short}
 use Rattle.snapshot_writing.proofs.writing.write_snapshot.Goals as goal
 
 pub append_told_collections-requires-clause-spelled :
@@ -25,11 +24,12 @@ append_told_collections-requires-clause-spelled c =
 
 pub returns : goal.returns
 returns c =
+    let config = config_of c.args.zones.now c.args.checks.now.checks c.args.next in
     let told = nat_lt 1 c.next_number-told.result in
     let same = c.collections-collections.ensures in
     let next = c.next_number-2.ensures.number ∙ ap (λ (s : Stored). s.next) same in
     let list = c.as_slice-2.ensures.collections ∙ ap (λ (s : Stored). s.list) same in
-    assembled (config_of c.args.zones.now c.args.checks.now.checks c.args.next) told
+    let is = assembled config told
     (ap (nat_lt 1) (sym (c.next_number-told.ensures.number ∙ ap (λ (s : Stored). s.next) same)))
     c.new-octets.ensures.items
     (c.in_ok-append.ensures.ok
@@ -47,4 +47,5 @@ returns c =
     (c.in_ok-append_told_collections.ensures
     ∙ ap (λ (l : List (ℕ × Collection)). c.append_checks.new.into.items
     ++ where_told told (list_octets held_collection_octets l)) list)
-    c.in_ok-append_zones.ensures
+    c.in_ok-append_zones.ensures in
+    record { spelled = is; short = is_short c.sound_are_short.ensures config c.requires is }

@@ -1,4 +1,4 @@
-use Rattle.std.proofs.Common.{◌≤◌, length, arith}
+use Rattle.std.proofs.Common.{arith}
 use Rattle.snapshot_writing.proofs.Gathered.{few_placed}
 use Rattle.snapshot_writing.proofs.zones.append_zone.Goals as goal
 

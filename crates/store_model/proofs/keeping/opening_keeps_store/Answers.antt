@@ -1,0 +1,7 @@
+use Rattle.store_model.proofs.Kept as kept
+use Rattle.store_model.proofs.keeping.opening_keeps_store.Goals as goal
+
+pub returns : goal.returns
+returns g c =
+    let D = g.D.Disk in
+    kept.opening_keeps_store D.reading D.images D.moment D.images_since

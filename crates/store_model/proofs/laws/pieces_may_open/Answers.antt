@@ -1,0 +1,5 @@
+use Rattle.store_model.proofs.Weakening as weakening
+use Rattle.store_model.proofs.laws.pieces_may_open.Goals as goal
+
+pub returns : goal.returns
+returns g c = weakening.pieces_may_open g.D.Disk.moment g.D.Disk.images_since
