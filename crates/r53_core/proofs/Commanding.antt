@@ -1,0 +1,222 @@
+-- What a command makes of a store.
+use Rattle.std.proofs.Common.{◌≡◌, ℕ, ◌+◌, ◌≤◌, List, Option, None, Some, Result, Ok, Err, length, ap, ◌∙◌, inl, inr, refl, sym, subst, arith}
+use Rattle.std.specs.Prelude.{option_map}
+use Rattle.check_model.specs.Checks.{Checks}
+use Rattle.command_octets.specs.Octets.{command_octets}
+use Rattle.command_octets.specs.declared.commands.Command.{Command}
+use Rattle.command_octets.specs.declared.commands.Command.TheVariants as command
+use Rattle.config_journal.proofs.Accepted.{accepted}
+use Rattle.config_journal.specs.States.{IsReady, Ready, State as Kept, config_of}
+use Rattle.config_journal.specs.Steps.{CommitGives, IsCommitted, StaysSo}
+use Rattle.config_model.specs.Applying.{Decides}
+use Rattle.config_model.specs.Configs.{Config}
+use Rattle.config_model.specs.declared.refusals.Made.{Made}
+use Rattle.config_model.specs.declared.refusals.Refusal.{Refusal}
+use Rattle.config_model.specs.declared.refusals.Refusal.TheVariants as refusal
+use Rattle.engine_model.specs.Engine.{Engine, Fits, IsFull, Journal, Plan as ToldPlan, grown, longer, size_of}
+use Rattle.file_building.specs.Building.{Plan}
+use Rattle.zone_journal.specs.Layout.{most}
+use Rattle.health_index.specs.Following.{Follows}
+use Rattle.health_index.specs.Index.{Index, StandsFor as HasHealth}
+use Rattle.health_index.specs.Laws.{CommandsFollow}
+use Rattle.health_model.specs.Statuses.{Report}
+use Rattle.r53_core.specs.Journals.{journal_of, plan_of}
+use Rattle.r53_core.specs.Stores.{CommandGives, StandsFor, State}
+use Rattle.r53_state.specs.Steps.{checks_of}
+use Rattle.sound_configs.specs.Laws.{SameFollow}
+use Rattle.zone_journal.specs.Appending.{Fits as JournalFits, RefusesBy}
+use Rattle.zone_journal.specs.Standing.{PlanFits, State as Kept_journal, planned_length}
+use Rattle.zone_table.specs.Zones.{Zone}
+
+-- ---- journals
+
+same_some : (p q : ToldPlan) → Some p ≡ Some q → p ≡ q
+same_some p q e = cc
+
+module _ (v : Kept_journal) (n : ℕ) where
+  planned_fits : (its : Option Plan) → v.plan ≡ its → JournalFits v n → (plan : ToldPlan)
+      → option_map (plan_of v) its ≡ Some plan → plan.length + (5 + n) ≤ most
+  planned_fits None e fits plan is = absurd (grind (arith, is))
+  planned_fits (Some p) e fits plan is =
+      let room = fits.new p e in
+      let same = ap (λ (q : ToldPlan). q.length) (same_some (plan_of v p) plan is) in
+      omega (arith, room, same)
+
+  pub fits_of : JournalFits v n → Fits n (journal_of v)
+  fits_of fits = record {
+    active = (let room = fits.active in omega (arith, room));
+    planned = λ plan is. planned_fits v.plan refl fits plan is;
+  }
+
+  pub full_of : (full : ℕ) → RefusesBy full v n → IsFull n (journal_of v) full
+  full_of full (inl (is, over)) = inl (is, (let o = over in omega (arith, o)))
+  full_of full (inr (room, (p, is, told, over))) = inr (
+    (let r = room in omega (arith, r)),
+    (
+      plan_of v p,
+      ap (option_map (plan_of v)) is,
+      told,
+      (let o = over in omega (arith, o)),
+    ),
+  )
+
+  longer_plan : (p : Plan) → p.from ≤ v.at
+      → longer n (plan_of v p) ≡ plan_of (record v { at = v.at + (5 + n) }) p
+  longer_plan p within =
+      let more : planned_length v p + (5 + n) ≡ planned_length (record v { at = v.at + (5 + n) }) p =
+      omega (arith, within) in
+      ap (λ (l : ℕ). record { length = l; next = p.next }) more
+
+  grown_plan : (its : Option Plan) → ((p : Plan) → its ≡ Some p → PlanFits v p)
+      → option_map (longer n) (option_map (plan_of v) its)
+      ≡ option_map (plan_of (record v { at = v.at + (5 + n) })) its
+  grown_plan None fits = refl
+  grown_plan (Some p) fits = ap Some (longer_plan p (fits p refl).from)
+
+  pub grown_of : ((p : Plan) → v.plan ≡ Some p → PlanFits v p)
+      → grown n (journal_of v) ≡ journal_of (record v { at = v.at + (5 + n) })
+  grown_of fits =
+      let more : v.at + 1 + (5 + n) ≡ v.at + (5 + n) + 1 = omega arith in
+      ap (λ (l : ℕ). record {
+        side = v.side;
+        generation = v.generation;
+        length = l;
+        plan = option_map (longer n) (option_map (plan_of v) v.plan);
+      }) more
+      ∙ ap (λ (o : Option ToldPlan). record {
+        side = v.side;
+        generation = v.generation;
+        length = v.at + (5 + n) + 1;
+        plan = o;
+      }) (grown_plan v.plan fits)
+
+-- ---- checks
+
+pub follows_all : CommandsFollow → SameFollow → (checks : Checks) (given : Command)
+    → Follows checks (checks_of checks given)
+follows_all commands same checks (command.CreateZone name servers) = same checks
+follows_all commands same checks (command.DeleteZone id) = same checks
+follows_all commands same checks (command.Change batch) = same checks
+follows_all commands same checks (command.Health health) = commands checks health
+follows_all commands same checks (command.Cidr cidr) = same checks
+
+-- ---- stores
+
+-- what an index stands for it stands for with more room
+abbrev GoesOn : (before after : Index) → Type 0
+GoesOn before after = (zones : List Zone) (checks : Checks) (reports : List Report)
+    → HasHealth zones checks reports before → HasHealth zones checks reports after
+
+module _ (engine : Engine) (k0 k1 : Kept) (i0 i1 : Index)
+    (stands : StandsFor engine (record { kept = k0; index = i0 })) (stays : StaysSo k0 k1)
+    (goes_on : GoesOn i0 i1) where
+  same_checks : k1.config.checks.checks ≡ k0.config.checks.checks
+  same_checks = ap (λ (c : Config). c.checks) stays.config
+
+  health : HasHealth k1.config.table.zones k1.config.checks.checks engine.reports i1
+  health = subst (λ (zs : List Zone). HasHealth zs k1.config.checks.checks engine.reports i1)
+      (sym stays.zones)
+      (subst (λ (cs : Checks). HasHealth k0.config.table.zones cs engine.reports i1)
+      (sym same_checks)
+      (goes_on k0.config.table.zones k0.config.checks.checks engine.reports stands.health))
+
+  pub stands_on : StandsFor engine (record { kept = k1; index = i1 })
+  stands_on = record {
+    config = stands.config ∙ sym stays.config;
+    health = health;
+    journal = stands.journal ∙ ap journal_of (sym stays.journal);
+  }
+
+  module _ (given : Command) (ready : Ready) (is : IsReady k1 ready)
+      (same : ready.prepared.command ≡ given) where
+    size : length ready.entry ≡ size_of given
+    size = ap length (is.entry ∙ ap command_octets same)
+
+    journal : engine.journal ≡ journal_of k1.journal
+    journal = stands_on.journal
+
+    decided : (after : Config) (what : Made)
+        → Decides (config_of k1) ready.prepared.command (Ok (after, what))
+        → Decides engine.config given (Ok (after, what))
+    decided after what decides =
+        subst (λ (c : Config). Decides c given (Ok (after, what))) (sym stands_on.config)
+        (subst (λ (g : Command). Decides (config_of k1) g (Ok (after, what))) same decides)
+
+    room : JournalFits k1.journal (length ready.entry) → Fits (size_of given) engine.journal
+    room fits = subst (λ (j : Journal). Fits (size_of given) j) (sym journal)
+        (fits_of k1.journal (size_of given)
+        (subst (λ (n : ℕ). JournalFits k1.journal n) size fits))
+
+    -- where a file is full, or a disk failed
+    pub not_made : (why : Refusal) (k2 : Kept) → CommitGives (Err why) k1 ready k2
+        → CommandGives engine given (Err why) (record { kept = k2; index = i1 })
+    not_made (refusal.JournalFull full) k2 (refuses, e) =
+        let its = accepted k1.config ready.prepared is.prepared in
+        let full_now = subst (λ (j : Journal). IsFull (size_of given) j full) (sym journal)
+        (full_of k1.journal (size_of given) full
+        (subst (λ (n : ℕ). RefusesBy full k1.journal n) size refuses)) in
+        inr (inr (
+          engine,
+          inr (
+            its.0,
+            (its.1, decided its.0 its.1 its.2, inl (full, full_now, refl, refl)),
+          ),
+          subst (λ (k : Kept). StandsFor engine (record { kept = k; index = i1 })) (sym e)
+              stands_on,
+        ))
+    not_made refusal.DiskFault k2 (fits, e) =
+        let its = accepted k1.config ready.prepared is.prepared in
+        inr (inl (
+          refl,
+          (its.0, its.1, decided its.0 its.1 its.2),
+          room fits,
+          subst (λ (k : Kept). StandsFor engine (record { kept = k; index = i1 })) (sym e)
+              stands_on,
+        ))
+    not_made other k2 gives = absurd gives
+
+    -- where it is committed, and the index follows
+    pub made : (what : Made) (k2 : Kept) (now : State) → IsCommitted what k1 ready k2
+        → now.kept ≡ k2
+        → ((p : Plan) → k1.journal.plan ≡ Some p → PlanFits k1.journal p)
+        → CommandsFollow → SameFollow
+        → ((zones : List Zone) (checks : Checks) (reports : List Report)
+        → HasHealth zones checks reports i1 → Follows checks k2.config.checks.checks
+        → HasHealth k2.config.table.zones k2.config.checks.checks reports now.index)
+        → CommandGives engine given (Ok what) now
+    made what k2 now is_made kept fits commands same_ones follows = inr (inr (
+      record engine {
+        config = config_of k2;
+        journal = grown (size_of given) engine.journal;
+      },
+      inr (
+        config_of k2,
+        (
+          what,
+          decided (config_of k2) what is_made.decides,
+          inr (
+            room is_made.fits,
+            refl,
+            refl,
+          ),
+        ),
+      ),
+      record {
+        config = ap config_of (sym kept);
+        health = subst (λ (k : Kept). HasHealth k.config.table.zones k.config.checks.checks
+            engine.reports now.index) (sym kept)
+            (follows k1.config.table.zones k1.config.checks.checks engine.reports health
+            (subst (λ (cs : Checks). Follows k1.config.checks.checks cs) (sym is_made.checks)
+            (follows_all commands same_ones k1.config.checks.checks ready.prepared.command)));
+        journal = ap (grown (size_of given)) journal
+            ∙ (grown_of k1.journal (size_of given) fits
+            ∙ (ap (λ (n : ℕ). journal_of (record k1.journal { at = k1.journal.at + (5 + n) }))
+            (sym size)
+            ∙ (ap journal_of (sym is_made.journal)
+            ∙ ap (λ (k : Kept). journal_of k.journal) (sym kept))));
+      },
+    ))
+
+pub same_refusal : (why other : Refusal)
+    → ◌≡◌ {A = Result Made Refusal} (Err why) (Err other) → why ≡ other
+same_refusal why other e = cc

@@ -1,0 +1,4 @@
+pub mod Commanding
+pub mod Refused
+pub mod Reporting
+pub mod Staying

@@ -1,0 +1,41 @@
+use Rattle.std.proofs.Common.{◌≡◌, ◌∙◌, ◌∷◌, ap, inl, inr, length, refl, subst, sym}
+use Rattle.check_model.specs.Checks.{check_at}
+use Rattle.config_journal.specs.States.{config_of}
+use Rattle.config_model.specs.Configs.{Config}
+use Rattle.engine_model.specs.Engine.{watched_in}
+use Rattle.health_index.specs.Index.{reported}
+use Rattle.health_model.specs.Healthy.{Watched}
+use Rattle.health_model.specs.Nodes.{CheckNode, InCone}
+use Rattle.health_model.specs.Statuses.{status}
+use Rattle.r53_core.proofs.Reporting.{cost_of, decided, quiet_of}
+use Rattle.r53_core.specs.Stores.{StandsFor, State}
+use Rattle.sound_configs.proofs.Serving.{seen}
+use Rattle.r53_core.proofs.store.Store.report.Goals as goal
+
+pub returns-clause-quiet : goal.returns-clause-quiet
+returns-clause-quiet g c = λ engine stands same.
+    let its = subst (λ (s : State). StandsFor engine s) (sym c.self.view_is) stands in
+    let zones = c.self.inside.kept.config.table.zones in
+    let checks = c.self.inside.kept.config.checks.checks in
+    let now = subst (λ (config : Config). status config.checks.list
+    (reported c.args.id c.args.checker c.args.pass ∷ engine.reports) c.args.id
+    ≡ status config.checks.list engine.reports c.args.id) its.config same in
+    elim (decided (check_at checks.list c.args.id)) [
+      | inl endpoint ↦ quiet_of c.on_report.result
+          (status checks.list (reported c.args.id c.args.checker c.args.pass ∷ engine.reports)
+          c.args.id)
+          (status checks.list engine.reports c.args.id) c.on_report.ensures.quiet
+          (c.on_report.ensures.changed zones checks engine.reports its.health endpoint) now
+      | inr other ↦ (c.on_report.ensures.other zones checks engine.reports its.health other).2
+    ]
+
+pub returns-clause-cost : goal.returns-clause-cost
+returns-clause-cost g c = λ engine cone stands within.
+    let its = subst (λ (s : State). StandsFor engine s) (sym c.self.view_is) stands in
+    let zones = c.self.inside.kept.config.table.zones in
+    let config = config_of c.self.inside.kept in
+    cost_of c.on_report.result c.on_report.new.steps c.args.steps.now (length cone)
+    (c.on_report.ensures.cost zones config.checks engine.reports its.health cone
+    (λ node there. within node
+    (subst (λ (watched : Watched). InCone watched (CheckNode c.args.id) node)
+    (sym (ap watched_in its.config ∙ seen zones config engine.reports refl)) there)))

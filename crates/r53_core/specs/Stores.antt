@@ -1,0 +1,45 @@
+-- When a store stands for what the definitions have, and what a command makes of it.
+use Rattle.std.specs.Prelude.{◌≡◌, ◌≢◌, ◌⊎◌, [], Result, Err}
+use Rattle.command_octets.specs.declared.commands.Command.{Command}
+use Rattle.r53_core.specs.Journals.{journal_of}
+use Rattle.config_journal.specs.States.{State as Kept, config_of}
+use Rattle.config_model.specs.declared.refusals.Made.{Made}
+use Rattle.config_model.specs.declared.refusals.Refusal.{Refusal}
+use Rattle.config_model.specs.declared.refusals.Refusal.TheVariants as refusal
+use Rattle.engine_model.specs.Engine.{CommandSteps, Engine, Fits, size_of}
+use Rattle.health_index.specs.Index.{Index, StandsFor as HasHealth}
+use Rattle.r53_state.specs.States.{IsAccepted}
+
+-- What is kept of the configuration with its journal, and the index of health.
+pub record State : Type 0 where
+  pub kept : Kept
+  pub index : Index
+
+-- The store stands for a configuration, all reports since the opening, and a journal.
+pub record StandsFor (engine : Engine) (state : State) : Type 0 where
+  pub config : engine.config ≡ config_of state.kept
+  pub health : HasHealth state.kept.config.table.zones state.kept.config.checks.checks
+      engine.reports state.index
+  pub journal : engine.journal ≡ journal_of state.kept.journal
+
+-- what a store stands for that was just opened
+abbrev pub opened : Kept → Engine
+opened kept = record {
+  config = config_of kept;
+  reports = [];
+  journal = journal_of kept.journal;
+}
+
+-- What a command makes of a store. Where memory is wanted it stands for what it stood for, and where
+-- a disk failed too: that comes of a command that is accepted and fits alone. Else it stands for what
+-- the definitions make of that, with their outcome.
+abbrev pub CommandGives : Engine → Command → Result Made Refusal → (new : State) → Type 0
+CommandGives engine given outcome new =
+    ((outcome ≡ Err refusal.OutOfMemory) × StandsFor engine new)
+    ⊎ ((outcome ≡ Err refusal.DiskFault) × IsAccepted engine.config given
+    × Fits (size_of given) engine.journal × StandsFor engine new)
+    ⊎ ((after : Engine) × CommandSteps engine given outcome after × StandsFor after new)
+
+-- P, where a command is refused other than by a fault of a disk
+abbrev pub Untouched : Result Made Refusal → Type 0 → Type 0
+Untouched outcome P = (why : Refusal) → outcome ≡ Err why → why ≢ refusal.DiskFault → P

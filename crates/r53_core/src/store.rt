@@ -1,0 +1,264 @@
+//! The store.
+
+ghost use Rattle.std.specs.Prelude.{◌≡◌, ◌≢◌, ◌≤◌, ◌+◌, ◌⊎◌, List, ◌∷◌, length, Contains, IfOk, IfSome, Ok, Err, None};
+ghost use Rattle.command_bounds.specs.Laws.{HasShortLists};
+ghost use Rattle.config_journal.specs.Holding.{Holds};
+ghost use Rattle.config_journal.specs.States.{config_of};
+ghost use Rattle.config_journal.specs.Steps.{UnlessFault};
+ghost use Rattle.store_model.specs.Leaving.{OpensEither};
+ghost use Rattle.config_model.specs.Applying.{Decides};
+ghost use Rattle.config_model.specs.Configs.{Config};
+ghost use Rattle.config_model.specs.Laws.{IsBounded};
+ghost use Rattle.config_model.specs.declared.refusals.Made.{Made};
+ghost use Rattle.config_model.specs.declared.refusals.Refusal.TheVariants as refusal;
+ghost use Rattle.engine_model.specs.Engine.{Engine, QueryGives, ReportSteps, is_healthy, watched_in};
+ghost use Rattle.engine_model.specs.declared.answers.Reported.TheVariants as Reported;
+ghost use Rattle.check_model.specs.Checks.{Checks};
+ghost use Rattle.health_index.specs.Following.{Follows};
+ghost use Rattle.health_index.specs.Index.{StandsFor as HasHealth, reported};
+ghost use Rattle.health_index.specs.Room.{HasRoom};
+ghost use Rattle.health_model.specs.Nodes.{CheckNode, InCone, Node};
+ghost use Rattle.health_model.specs.Statuses.{Report, status};
+ghost use Rattle.octets.specs.Counts.{Rose};
+ghost use Rattle.zone_table.specs.Zones.{Zone};
+ghost use Rattle.query_engine.specs.Asking.{answer_of, asker_of};
+ghost use Rattle.health_model.specs.Statuses.{status_told};
+ghost use Rattle.r53_core.specs.Stores.{CommandGives, StandsFor, Untouched, opened};
+ghost use Rattle.r53_state.specs.States.{IsAccepted};
+ghost use Rattle.record_set.specs.Sets.{key_of};
+ghost use Rattle.record_set.specs.declared.sets.RecordSet.{RecordSet};
+ghost use Rattle.zone_table.specs.Looking.{Names};
+ghost use Rattle.zone_journal.specs.Pairs.{EachPair, Leaves};
+ghost use Rattle.zone_journal.specs.Standing.{StandsOn};
+
+use address_text::IpAddress;
+use check_model::Check;
+use command_octets::Command;
+use config_journal::ConfigJournal;
+use config_model::{Made, Refusal};
+use dns_wire::Reply;
+use engine_model::Reported;
+use geo_latency::Tables;
+use health_check::CheckTable;
+use health_index::{HealthIndex, Steps, commands_follow};
+use octets::OutOfMemory;
+use policy_select::HealthView;
+use query_engine::answer;
+use r53_disk::Disk;
+use sound_configs::{index_serves, same_follow, sound_is_served, sound_is_watched};
+use std::alloc::Global;
+use std::marker::Model;
+use std::sync::ledger::Ledger;
+use zone_table::{Scratch, SetRef, Zones};
+
+/// The store of a server: its configuration with the journal that keeps it, and the health of each
+/// check and set by all reports since it was opened.
+#[derive(Drop)]
+pub struct Store {
+    kept: ConfigJournal,
+    index: HealthIndex,
+    scratch: Scratch,
+}
+
+impl Model for Store {
+    ghost use Rattle.r53_core.specs.Stores.{State};
+
+    ghost Value = { State };
+
+    ghost view = { λ s. record { kept = s.kept; index = s.index } };
+}
+
+impl Store {
+    /// The store over a configuration that its journal keeps, with no reports yet.
+    pub fn new(alloc: Global, kept: ConfigJournal) -> Result<Store, OutOfMemory>
+        ensures kept { IfOk result (λ store. store.kept ≡ kept) }
+        ensures stands { IfOk result (λ store. StandsFor (opened kept) store) }
+    {
+        let config = kept.config();
+        config.well_formed();
+        sound_is_watched();
+        let index = HealthIndex::rebuild(alloc, config.zones(), config.checks())?;
+        let scratch = Scratch::new(alloc)?;
+        Ok(Store {
+            kept,
+            index,
+            scratch,
+        })
+    }
+
+    /// The zones, with the collections.
+    pub fn zones(&self) -> &Zones
+        ensures { result.now ≡ self.now.kept.config.table }
+    {
+        self.kept.config().zones()
+    }
+
+    /// The health checks.
+    pub fn checks(&self) -> &CheckTable
+        ensures { result.now ≡ self.now.kept.config.checks }
+    {
+        self.kept.config().checks()
+    }
+
+    /// Judges a command, writes it down and makes it.
+    ///
+    /// After a fault of a disk the store is opened again for commands; reports and queries go on
+    /// over the configuration before.
+    pub fn command<D: Disk>(
+        &mut self,
+        alloc: Global,
+        a: &mut D,
+        b: &mut D,
+        command: Command,
+    ) -> Result<Made, Refusal>
+        requires bounded { IsBounded command }
+        requires short { HasShortLists command }
+        requires stands { StandsOn D.reading D.images self.old.kept.journal a.old b.old }
+
+        // The outcome is that of the definitions, and so is the store after it.
+        ensures gives { (engine : Engine) → StandsFor engine self.old
+            → CommandGives engine command result self.new }
+        ensures stands { UnlessFault result
+            (StandsOn D.reading D.images self.new.kept.journal a.new b.new) }
+        ensures holds { Leaves D.reading a.old b.old (Holds self.old.kept)
+            → UnlessFault result (Leaves D.reading a.new b.new (Holds self.new.kept)) }
+
+        // Of a command that is accepted nothing is asked of the disks, or at each moment every image
+        // pair opens to the configuration before or to the one after. At a refusal no disk is asked.
+        ensures any_moment { (after : Config) (what : Made)
+            → Decides (config_of self.old.kept) command (Ok (after, what))
+            → Leaves D.reading a.old b.old (Holds self.old.kept)
+            → ((a.new ≡ a.old) × (b.new ≡ b.old))
+            ⊎ EachPair D.moment D.images_since a.old a.new b.old b.new
+            (OpensEither (config_of self.old.kept) after) }
+        ensures refused { Untouched result ((a.new ≡ a.old) × (b.new ≡ b.old)) }
+        ensures faulted { result ≡ Err refusal.DiskFault
+            → IsAccepted (config_of self.old.kept) command }
+
+        // A fault comes only where the count of a disk rose.
+        ensures a_counts { D.faults a.old ≤ D.faults a.new }
+        ensures b_counts { D.faults b.old ≤ D.faults b.new }
+        ensures failed { result ≡ Err refusal.DiskFault
+            → Rose (D.faults a.old) (D.faults a.new) ⊎ Rose (D.faults b.old) (D.faults b.new) }
+    {
+        commands_follow();
+        same_follow();
+        let ready = match self.kept.prepare(alloc, command) {
+            Ok(ready) => ready,
+            Err(why) => return Err(why),
+        };
+        let Ok(()) = self.index.reserve(self.kept.config().zones()) else {
+            return Err(Refusal::OutOfMemory);
+        };
+        match self.kept.commit(a, b, ready) {
+            Ok(made) => {
+                self.follow();
+                Ok(made)
+            }
+            Err(why) => Err(why),
+        }
+    }
+
+    /// Has the index follow a command that was made.
+    fn follow(&mut self)
+        requires room { HasRoom self.old.index self.old.kept.config.table.slots }
+        ensures kept { self.new.kept ≡ self.old.kept }
+        ensures follows { (before : List Zone) (checks : Checks) (reports : List Report)
+            → HasHealth before checks reports self.old.index
+            → Follows checks self.old.kept.config.checks.checks
+            → HasHealth self.old.kept.config.table.zones self.old.kept.config.checks.checks
+            reports self.new.index }
+    {
+        let config = self.kept.config();
+        config.well_formed();
+        sound_is_watched();
+        self.index.on_command(config.zones(), config.checks());
+    }
+
+    /// Takes a report of a checker on a check of an endpoint. It takes no memory.
+    pub fn report<L: Ledger>(
+        &mut self,
+        id: u32,
+        checker: u8,
+        pass: bool,
+        steps: &mut Steps<L>,
+    ) -> Reported
+        ensures reports { (engine : Engine) → StandsFor engine self.old
+            → (after : Engine) × ReportSteps engine id checker pass result after
+            × StandsFor after self.new }
+        ensures kept { self.new.kept ≡ self.old.kept }
+
+        // No gate is worked out where the status stays, or the report isn't taken; else as many are
+        // as there are nodes above the check at most, itself too.
+        ensures quiet { (engine : Engine) → StandsFor engine self.old
+            → status engine.config.checks.list (reported id checker pass ∷ engine.reports) id
+            ≡ status engine.config.checks.list engine.reports id → steps.new ≡ steps.old }
+        ensures untaken { result ≢ Reported.Taken → steps.new ≡ steps.old }
+        ensures cost { (engine : Engine) (cone : List Node) → StandsFor engine self.old
+            → ((node : Node) → InCone (watched_in engine.config) (CheckNode id) node
+            → Contains cone node) → steps.new ≤ steps.old + length cone }
+    {
+        let Some(Check::Endpoint { .. }) = self.kept.config().checks().get(id) else {
+            return Reported::NoSuchHealthCheck;
+        };
+        if checker >= 50 {
+            return Reported::BadChecker;
+        }
+        self.index.on_report(id, checker, pass, steps);
+        Reported::Taken
+    }
+
+    /// Makes the reply to a packet that came from `peer`, with eight words that were drawn for it.
+    /// It takes no memory, and asks no disk.
+    pub fn query(
+        &mut self,
+        tables: &Tables,
+        packet: &[u8],
+        peer: IpAddress,
+        words: &[u64; 8],
+        reply: &mut Reply,
+    ) -> Option<usize>
+        requires room { 4096 ≤ reply.old.room }
+        ensures gives { (engine : Engine) → StandsFor engine self.old
+            → QueryGives engine tables.now (asker_of peer words.now) packet.now
+            (answer_of result reply.new) }
+        ensures same { self.new ≡ self.old }
+        ensures length { IfSome result (λ n. n ≡ length reply.new.bytes) }
+        ensures room { reply.new.room ≡ reply.old.room }
+        ensures silent { result ≡ None → reply.new ≡ reply.old }
+    {
+        let config = self.kept.config();
+        config.well_formed();
+        sound_is_served();
+        index_serves();
+        answer(
+            config.zones(),
+            &self.index,
+            tables,
+            packet,
+            peer,
+            words,
+            &mut self.scratch,
+            reply,
+        )
+    }
+
+    /// The status of a check, with the number of its checkers that see a pass, or of its healthy
+    /// children.
+    pub fn check_status(&self, id: u32) -> Option<(bool, u16)>
+        ensures { (engine : Engine) → StandsFor engine self.now
+            → result ≡ status_told engine.config.checks.list engine.reports id }
+    {
+        self.index.check_status(id)
+    }
+
+    /// Whether the set that a reference names is healthy, by all reports.
+    pub fn is_healthy(&self, set: SetRef) -> bool
+        ensures { (engine : Engine) (named : RecordSet) → StandsFor engine self.now
+            → Names self.now.kept.config.table.zones set named
+            → result ≡ is_healthy engine.config engine.reports set.zone (key_of named) }
+    {
+        index_serves();
+        self.index.is_healthy(set)
+    }
+}

@@ -1,0 +1,94 @@
+//! The zones of a snapshot, one by one.
+
+ghost use Rattle.octet_reading.specs.Reading.{GivesOrStops};
+ghost use Rattle.command_codec.specs.Reading.{set_at};
+ghost use Rattle.snapshot_octets.specs.Reading.{zone_at};
+ghost use Rattle.snapshot_reading.specs.Parts.{hosted_of, sets_at};
+ghost use Rattle.snapshot_reading.specs.Places.{Finds, found_at};
+
+use crate::faults::SnapshotFault;
+use crate::places::{from_place, place_of};
+use dns_name::Name;
+use octet_reading::{Fault, Field, Stop, four_at, name_at, so_many};
+use octets::behind;
+use record_set::RecordSet;
+use set_reading::{ReadFault, read_set};
+use std::alloc::Global;
+
+/// A zone as it is read: its number, its name, and its sets.
+#[derive(Drop)]
+pub struct FoundZone {
+    pub id: u32,
+    pub apex: Name,
+    pub sets: Vec<RecordSet>,
+}
+
+/// The zone that stands at a place of a snapshot, and the place behind it.
+pub fn read_zone(
+    alloc: Global,
+    octets: &[u8],
+    at: usize,
+) -> Result<(FoundZone, usize), SnapshotFault>
+    ensures { Finds hosted_of result (found_at zone_at octets.now at) }
+{
+    set_reading::written_reads_back();
+    set_reading::sets_are_told();
+    match zone_at(alloc, from_place(octets, at)) {
+        Ok((zone, rest)) => Ok((zone, place_of(octets, rest))),
+        Err(Stop::Bad(_)) => Err(SnapshotFault::Bad),
+        Err(Stop::OutOfMemory) => Err(SnapshotFault::OutOfMemory),
+    }
+}
+
+/// A zone: its number, its name, and its sets.
+#[tactic(auto, unfolding(snapshot_octets::specs::Reading::zone_at, crate::specs::Parts::sets_at))]
+fn zone_at(alloc: Global, bytes: &[u8]) -> Result<(FoundZone, &[u8]), Stop>
+    ensures { GivesOrStops (λ x. hosted_of (x.0, x.1.now)) result (zone_at bytes.now) }
+{
+    let (id, rest) = four_at(bytes)?;
+    let (apex, rest) = match name_at(rest) {
+        Ok(read) => read,
+        Err(Fault(left)) => return Err(Stop::Bad(left)),
+    };
+    let (sets, rest) = match sets_at(alloc, rest) {
+        Ok(read) => read,
+        Err(stop) => return Err(stop),
+    };
+    Ok((FoundZone { id, apex, sets }, rest))
+}
+
+/// The sets of a zone, behind how many there are.
+#[tactic(auto, unfolding(crate::specs::Parts::sets_at))]
+fn sets_at(alloc: Global, bytes: &[u8]) -> Result<(Vec<RecordSet>, &[u8]), Stop>
+    ensures { GivesOrStops (λ x. (x.0.items, x.1.now)) result (sets_at bytes.now) }
+{
+    let (count, rest) = four_at(bytes)?;
+    so_many(alloc, &OneSet, count, rest)
+}
+
+/// A set, as an item of a list.
+struct OneSet;
+
+impl Field for OneSet {
+    type Value = RecordSet;
+
+    ghost use Rattle.command_codec.specs.Reading.{set_at};
+
+    ghost reading = { λ _. set_at };
+
+    fn read<'a>(&self, alloc: Global, bytes: &'a [u8]) -> Result<(RecordSet, &'a [u8]), Stop> {
+        set_at(alloc, bytes)
+    }
+}
+
+/// A set.
+#[tactic(auto, unfolding(command_codec::specs::Reading::set_at))]
+fn set_at(alloc: Global, bytes: &[u8]) -> Result<(RecordSet, &[u8]), Stop>
+    ensures { GivesOrStops (λ x. (x.0, x.1.now)) result (set_at bytes.now) }
+{
+    match read_set(alloc, bytes) {
+        Ok((set, len)) => Ok((set, behind(bytes, len))),
+        Err(ReadFault::Bad(place)) => Err(Stop::Bad(bytes.len() - place)),
+        Err(ReadFault::OutOfMemory) => Err(Stop::OutOfMemory),
+    }
+}
