@@ -11,8 +11,6 @@ mod laws;
 mod links;
 mod missing;
 mod places;
-#[cfg(test)]
-mod tests;
 mod walks;
 
 pub use groups::empties_group;

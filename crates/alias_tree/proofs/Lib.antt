@@ -1,5 +1,4 @@
 pub mod LinkByLink
 pub mod Lists
 pub mod OnePlace
-pub mod Placed
 pub mod Walking

@@ -11,8 +11,6 @@ mod listed;
 mod missing;
 mod rounds;
 mod targets;
-#[cfg(test)]
-mod tests;
 mod walks;
 
 pub use laws::{first_places_are_one, walks_begin, walks_go_on};

@@ -4,8 +4,6 @@
 
 mod laws;
 mod opening;
-#[cfg(test)]
-mod tests;
 
 pub use laws::edits_are_told;
 pub use octets::OutOfMemory;

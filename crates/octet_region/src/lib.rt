@@ -11,8 +11,6 @@ mod growth;
 mod handle;
 mod reads;
 mod region;
-#[cfg(test)]
-mod tests;
 
 pub use cells::cells_for;
 pub use handle::Handle;

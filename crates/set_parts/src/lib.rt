@@ -8,8 +8,6 @@
 mod heads;
 mod laws;
 mod passing;
-#[cfg(test)]
-mod tests;
 
 pub use heads::{Head, body_of, head_of, ident_in_front, name_and_rest, policy_of, type_and_rest};
 pub use laws::keys_are_in_front;

@@ -8,8 +8,6 @@ mod parts;
 mod places;
 mod scratch;
 mod telling;
-#[cfg(test)]
-mod tests;
 
 pub use octet_region::{Handle, Region};
 pub use octets::OutOfMemory;

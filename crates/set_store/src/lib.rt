@@ -11,8 +11,6 @@ mod reads;
 mod siblings;
 mod slots;
 mod store;
-#[cfg(test)]
-mod tests;
 
 pub use hashes::hash_of;
 pub use octets::OutOfMemory;

@@ -12,8 +12,6 @@ mod fronts;
 mod laws;
 mod names;
 mod places;
-#[cfg(test)]
-mod tests;
 mod zones;
 
 pub use faults::SnapshotFault;

@@ -5,8 +5,6 @@
 
 mod single;
 mod sums;
-#[cfg(test)]
-mod tests;
 
 pub use single::{come, go};
 pub use sums::{Sums, no_sums};

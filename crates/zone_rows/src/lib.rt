@@ -1,6 +1,10 @@
-//! Rows by hand over zones: what is found in them, and what edits make of them.
+//! Rows by hand over zones: what is found in them, what edits make of them, and where aliases lead.
 #![tactic(auto)]
 
+#[cfg(test)]
+mod chains;
+#[cfg(test)]
+mod changes;
 #[cfg(test)]
 mod edits;
 #[cfg(test)]

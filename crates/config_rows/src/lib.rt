@@ -1,0 +1,8 @@
+//! Rows by hand over configurations: the sets of a new zone, and snapshots that are read part by
+//! part.
+#![tactic(auto)]
+
+#[cfg(test)]
+mod new_zone;
+#[cfg(test)]
+mod snapshots;
