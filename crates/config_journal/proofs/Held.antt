@@ -1,6 +1,5 @@
 -- The files that hold a configuration, behind the append of a command.
 use Rattle.std.proofs.Common.{◌≡◌, ℕ, List, [], ◌∷◌, ◌++◌, Option, Some, Ok, inl, inr, ◌∙◌, sym, subst}
-use Rattle.std.specs.Prelude.{◌⊎◌}
 use Rattle.config_journal.specs.Holding.{Holds}
 use Rattle.config_journal.specs.States.{IsReady, Ready, State, config_of}
 use Rattle.config_model.specs.Applying.{Decides, Outcome}
@@ -8,6 +7,7 @@ use Rattle.config_model.specs.declared.refusals.Made.{Made}
 use Rattle.config_model.specs.Configs.{Config}
 use Rattle.gate_journal.specs.declared.answers.Appended.{Appended}
 use Rattle.gate_journal.specs.declared.answers.Appended.TheVariants as appended
+use Rattle.store_model.proofs.Weakening.{each_pair_weakens}
 use Rattle.store_model.specs.Leaving.{IsPlanFor, MayOpen, OpensEither}
 use Rattle.store_model.specs.Laws.{AcceptedAreTaken, AppendsMayOpen, AppendsOpen, PlanGoesOn}
 use Rattle.store_model.specs.Opening.{OpensAs, TakesEntry}
@@ -55,24 +55,6 @@ module _ {D : Type 0} (moment : D → ℕ) (images_since : D → ℕ → List �
   either (appended.Full n) before after x y opens = inl opens
   either appended.DiskFault before after x y opens = opens
 
-  -- either way, or what it was before
-  or_else : {P Q R : Type 0} → (Q → R) → P ⊎ Q → P ⊎ R
-  or_else f (inl p) = inl p
-  or_else f (inr q) = inr (f q)
-
-  pub each_either : (a_old a_new b_old b_new : D) (result : Appended) (before after : Config)
-      → EachPair moment images_since a_old a_new b_old b_new (MayOpen result before after)
-      → EachPair moment images_since a_old a_new b_old b_new (OpensEither before after)
-  each_either a_old a_new b_old b_new result before after pair = record {
-    a_later = pair.a_later;
-    b_later = pair.b_later;
-    each = λ x y of_a of_b. either result before after x y (pair.each x y of_a of_b);
-    from_a = λ t x y le of_a of_b.
-        or_else (either result before after x y) (pair.from_a t x y le of_a of_b);
-    from_b = λ t x y le of_a of_b.
-        or_else (either result before after x y) (pair.from_b t x y le of_a of_b);
-  }
-
   pub at_each_moment : {reading : D → Option (List ℕ)} → AppendsMayOpen moment images_since
       → (old : State) (entry : List ℕ) (after : Config)
       → TakesEntry (config_of old) entry after → (a_old a_new b_old b_new : D)
@@ -85,7 +67,8 @@ module _ {D : Type 0} (moment : D → ℕ) (images_since : D → ℕ → List �
       (OpensEither (config_of old) after)
   at_each_moment may old entry after taken a_old a_new b_old b_new result leaves held =
       let h = held.has in
-      each_either a_old a_new b_old b_new result (config_of old) after
+      each_pair_weakens (MayOpen result (config_of old) after) (OpensEither (config_of old) after)
+      (either result (config_of old) after) moment images_since a_old a_new b_old b_new
       (may a_old a_new b_old b_new result old.journal.generation h.snapshot h.entries entry
       (config_of old) after h.opens.makes taken
       (leaves old.journal.generation h.snapshot h.entries held.x held.y held.a_reads held.b_reads

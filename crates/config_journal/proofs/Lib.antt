@@ -1,3 +1,8 @@
 pub mod Accepted
+mod Beginning
+mod Pieced
+mod Going
 pub mod Held
+mod Pieces
 pub mod Staying
+pub mod Told

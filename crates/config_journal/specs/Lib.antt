@@ -1,4 +1,6 @@
+pub mod Compacting
 pub mod Holding
+pub mod Journals
 pub mod States
 pub mod Steps
 pub use Rattle.r53_state.specs.States as Kept

@@ -44,3 +44,7 @@ UnlessFault outcome P = outcome ≢ Err refusal.DiskFault → P
 -- P, where there is no room in a file
 abbrev pub OnFull : Result Made Refusal → Type 0 → Type 0
 OnFull outcome P = (full : ℕ) → outcome ≡ Err (refusal.JournalFull full) → P
+
+-- P of what was made, where a command was
+abbrev pub OnMade : Result Made Refusal → (P : Type 0) → Type 0
+OnMade outcome P = (what : Made) → outcome ≡ Ok what → P

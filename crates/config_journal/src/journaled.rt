@@ -1,11 +1,11 @@
 //! The configuration with its journal.
 
-ghost use Rattle.std.specs.Prelude.{◌≡◌, ◌≤◌, ◌⊎◌, IfErr, IfOk, Ok, Err};
+ghost use Rattle.std.specs.Prelude.{◌≡◌, ◌≤◌, ◌⊎◌, ℕ, List, [], ◌∷◌, ◌++◌, Some, IfErr, IfOk, Ok, Err};
 ghost use Rattle.command_bounds.specs.Laws.{HasShortLists};
 ghost use Rattle.command_octets.specs.declared.commands.Command.{Command};
 ghost use Rattle.config_journal.specs.Holding.{Holds};
 ghost use Rattle.config_journal.specs.States.{IsReady, Ready, State, config_of};
-ghost use Rattle.config_journal.specs.Steps.{CommitGives, OnFull, StaysSo, UnlessFault};
+ghost use Rattle.config_journal.specs.Steps.{CommitGives, OnFull, OnMade, StaysSo, UnlessFault};
 ghost use Rattle.config_model.specs.Applying.{Applies, Decides};
 ghost use Rattle.config_model.specs.Configs.{Config as Configuration};
 ghost use Rattle.config_model.specs.Laws.{IsBounded};
@@ -15,7 +15,7 @@ ghost use Rattle.octets.specs.Counts.{Rose};
 ghost use Rattle.r53_disk.specs.Disk.{Rests};
 ghost use Rattle.r53_state.specs.States.{IsReady as IsPrepared};
 ghost use Rattle.store_model.specs.Leaving.{OpensEither};
-ghost use Rattle.zone_journal.specs.Pairs.{EachPair, Leaves, other_of};
+ghost use Rattle.zone_journal.specs.Pairs.{EachPair, Leaves, OpensPair, other_of};
 ghost use Rattle.zone_journal.specs.Standing.{StandsOn};
 
 use crate::ready::ReadyCommand;
@@ -33,8 +33,8 @@ use zone_journal::ZoneJournal;
 /// A configuration, and the journal over two files that keeps it.
 #[derive(Drop)]
 pub struct ConfigJournal {
-    config: Config,
-    journal: ZoneJournal,
+    pub(crate) config: Config,
+    pub(crate) journal: ZoneJournal,
 }
 
 impl Model for ConfigJournal {
@@ -125,6 +125,12 @@ impl ConfigJournal {
         // The files that hold the configuration before hold the one after.
         ensures holds { Leaves D.reading a.old b.old (Holds self.old)
             → UnlessFault result (Leaves D.reading a.new b.new (Holds self.new)) }
+
+        // The entry stands behind those before it.
+        ensures written { (g : ℕ) (s : List ℕ) (es : List (List ℕ)) (x y : List ℕ)
+            → D.reading a.old ≡ Some x → D.reading b.old ≡ Some y → OpensPair x y g s es
+            → OnMade result (Leaves D.reading a.new b.new
+            (λ u v. OpensPair u v g s (es ++ ready.entry ∷ []))) }
 
         // At each moment every image pair opens to the configuration before, or to the one after.
         ensures any_moment { (after : Configuration) (what : Made)

@@ -6,10 +6,12 @@
 //! changed, so that an index above can make room.
 #![tactic(auto)]
 
+mod compacting;
 mod journaled;
 mod ready;
 
 pub use command_octets::Command;
 pub use config_model::{Made, Refusal};
+pub use engine_model::Compacted;
 pub use journaled::ConfigJournal;
 pub use ready::ReadyCommand;

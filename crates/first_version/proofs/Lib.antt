@@ -1,3 +1,4 @@
 mod Flat
 mod Steps
+mod Stores
 mod Vectors

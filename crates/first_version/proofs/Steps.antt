@@ -1,5 +1,5 @@
 -- A command that the rules of the first version accept is accepted, and commands one after another.
-use Rattle.std.proofs.Common.{◌≡◌, ℕ, Bool, true, false, List, [], ◌∷◌, Option, None, Some, ap, sym, refl, subst, arith, inl, inr}
+use Rattle.std.proofs.Common.{◌≡◌, ℕ, Bool, true, false, List, [], ◌∷◌, Option, None, Some, ap, sym, refl, ◌∙◌, subst, arith, inl, inr}
 use Rattle.std.specs.Prelude.{◌==◌, not, Contains, nat_eq, nat_le, length, option_map, Ok}
 use Rattle.std.specs.List.{AllByRecursion, list_any}
 use Rattle.std.proofs.lemmas.Bool.{false≢true}
@@ -256,6 +256,7 @@ pub record IsBatchStep (config : Config) (batch : Batch) (found : Option HostedZ
     (after : Config) (what : Made) : Type 0 where
   pub accepted : ChangesIn config found batch (Ok (after, what))
   pub checks : after.checks ≡ config.checks
+  pub collections : after.collections ≡ config.collections
   pub zones : AllByRecursion IsFirstZone after.zones
 
 module _ (config after : Config) (what : Made) (batch : Batch)
@@ -284,6 +285,7 @@ module _ (config after : Config) (what : Made) (batch : Batch)
               both.1,
         );
         checks = ap (λ (a : Answer). a.0.checks) both.1;
+        collections = ap (λ (a : Answer). a.0.collections) both.1;
         zones = subst (λ (a : Answer). AllByRecursion IsFirstZone a.0.zones) (sym both.1)
             (all_with zone.id sets IsFirstZone IsFirstZone config.zones
             (λ z there h. with_at zone.id sets IsFirstZone z (λ same. own) (λ differs. h)) are);
@@ -323,6 +325,7 @@ module _ (walks : WalksAreTold) (config after : Config) (what : Made)
         e,
         record {
           checks = unchanged (ap (λ (a : Answer). a.0.checks) both.1);
+          collections = ap (λ (a : Answer). a.0.collections) both.1 ∙ are.collections;
           zones = subst (λ (a : Answer). AllByRecursion IsFirstZone a.0.zones) (sym both.1)
               (all_appended IsFirstZone config.zones
               (new_zone config.next_zone name servers ∷ []) are.zones ((tt, (tt, tt)), tt));
@@ -337,6 +340,7 @@ module _ (walks : WalksAreTold) (config after : Config) (what : Made)
       (record config { zones = without_zone config.zones zone.id }, made.Nothing) e in
       record {
         checks = unchanged (ap (λ (a : Answer). a.0.checks) both.1);
+        collections = ap (λ (a : Answer). a.0.collections) both.1 ∙ are.collections;
         zones = subst (λ (a : Answer). AllByRecursion IsFirstZone a.0.zones) (sym both.1)
             (all_filtered IsFirstZone (λ (other : HostedZone). not (other.id == zone.id))
             config.zones are.zones);
@@ -361,6 +365,7 @@ module _ (walks : WalksAreTold) (config after : Config) (what : Made)
             (two_none today named (ap (option_map told.of_check) step.accepted) none.1) both.1,
         record {
           checks = subst (λ (a : Answer). AreFirstChecks a.0.checks.list) (sym both.1) step.after;
+          collections = ap (λ (a : Answer). a.0.collections) both.1 ∙ are.collections;
           zones = subst (λ (a : Answer). AllByRecursion IsFirstZone a.0.zones) (sym both.1)
               are.zones;
         },
@@ -376,6 +381,7 @@ module _ (walks : WalksAreTold) (config after : Config) (what : Made)
         one.accepted,
         record {
           checks = unchanged one.checks;
+          collections = one.collections ∙ are.collections;
           zones = one.zones;
         },
       )
@@ -399,6 +405,7 @@ empty_first = record {
     flat = λ id child is. absurd (grind (arith, is.1));
     enabled = λ id check at. absurd (grind (arith, at));
   };
+  collections = refl;
   zones = tt;
 }
 

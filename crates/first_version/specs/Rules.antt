@@ -23,7 +23,7 @@ use Rattle.command_octets.specs.declared.commands.Command.TheVariants as command
 use Rattle.config_model.specs.Applying.{Decides, Outcome}
 use Rattle.config_model.specs.Batches.{check_refusal, depth_refusal, first_among, is_zone_full}
 use Rattle.config_model.specs.Batches.{store_refusal, target_refusal}
-use Rattle.config_model.specs.Configs.{Config, with_sets, zone_with}
+use Rattle.config_model.specs.Configs.{Config, empty, with_sets, zone_with}
 use Rattle.config_model.specs.Others.{in_use, made_check}
 use Rattle.config_model.specs.Telling as told
 use Rattle.config_model.specs.declared.refusals.Refusal.{Refusal}
@@ -91,10 +91,11 @@ pub record AreFirstChecks (list : List (ℕ × Check)) : Type 0 where
 abbrev pub IsFirstZone : HostedZone → Type 0
 IsFirstZone zone = AllByRecursion IsFirstSet zone.sets
 
--- A configuration that the first version can have, as of its checks and of what sets name. Which
--- collections there are isn't asked.
+-- A configuration that the first version can have, as of its checks and of what sets name. There
+-- are no collections, and there never were.
 pub record IsFirstConfig (config : Config) : Type 0 where
   pub checks : AreFirstChecks config.checks.list
+  pub collections : config.collections ≡ empty.collections
   pub zones : AllByRecursion IsFirstZone config.zones
 
 -- ---- commands on checks by its rules

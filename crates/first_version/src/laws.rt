@@ -1,6 +1,6 @@
 //! Laws over the definitions, each the contract of a function that does nothing.
 
-ghost use Rattle.first_version.specs.Laws.{EmptyIsFirst, FirstVersionStays};
+ghost use Rattle.first_version.specs.Laws.{EmptyIsFirst, FirstStoresOpen, FirstVersionStays};
 
 /// Commands that the rules of the first version accept one after another, from any configuration of
 /// it on, are accepted, and lead to the same configuration, which is one of it.
@@ -14,3 +14,15 @@ pub fn first_version_stays()
 pub fn empty_is_first()
     ensures { EmptyIsFirst }
 {}
+
+/// A configuration to which commands of the first version lead is sound, and has a snapshot in that
+/// version.
+pub fn first_stores_open()
+    ensures { FirstStoresOpen }
+{
+    first_version_stays();
+    empty_is_first();
+    config_model::commands_keep_sound();
+    config_model::empty_is_sound();
+    snapshot_octets::sound_have_snapshots();
+}

@@ -1,6 +1,7 @@
-//! The rules of the first version, as definitions, and that what they accept is accepted as before.
+//! The rules of the first version, as definitions, and that what they accept is accepted as before:
+//! a configuration that they led to is the base of a store still.
 #![tactic(auto)]
 
 mod laws;
 
-pub use laws::{empty_is_first, first_version_stays};
+pub use laws::{empty_is_first, first_stores_open, first_version_stays};

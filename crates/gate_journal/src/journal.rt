@@ -1,6 +1,6 @@
 //! Reading entries up to the closed gate, and putting one behind it before the gate is opened.
 
-ghost use Rattle.std.specs.Prelude.{◌≡◌, ◌≤◌, ◌+◌, ◌-◌, ◌++◌, [], ◌∷◌, List, ℕ, length, Some, None, IfOk, IsErrOf};
+ghost use Rattle.std.specs.Prelude.{◌≡◌, ◌≤◌, ◌<◌, ◌+◌, ◌-◌, ◌++◌, [], ◌∷◌, List, ℕ, length, Some, None, IfOk, IsErrOf, IsSome};
 ghost use Rattle.octets.specs.Counts.{Rose};
 ghost use Rattle.r53_disk.specs.Disk.{LeavesOnly, Only, Rests};
 ghost use Rattle.gate_journal.specs.Layout.{OpensTo, most};
@@ -106,6 +106,7 @@ impl Journal {
 
         // It moves on behind an entry alone, and at the closed gate there is none.
         ensures stays { UnlessSome result (self.new ≡ self.old) }
+        ensures forward { IfOk result (λ entry. IsSome entry → self.old < self.new) }
         ensures ended { (bytes : List ℕ) → D.reading disk.old ≡ Some bytes → EndsAt self.old bytes
             → IsNoMore result }
         ensures rests { Rests D.reading D.images D.moment D.images_since disk.old disk.new }

@@ -20,7 +20,7 @@ use Rattle.health_index.specs.Following.{Follows}
 use Rattle.health_index.specs.Index.{Index, StandsFor as HasHealth}
 use Rattle.health_index.specs.Laws.{CommandsFollow}
 use Rattle.health_model.specs.Statuses.{Report}
-use Rattle.r53_core.specs.Journals.{journal_of, plan_of}
+use Rattle.config_journal.specs.Journals.{journal_of, plan_of}
 use Rattle.r53_core.specs.Stores.{CommandGives, StandsFor, State}
 use Rattle.r53_state.specs.Steps.{checks_of}
 use Rattle.sound_configs.specs.Laws.{SameFollow}

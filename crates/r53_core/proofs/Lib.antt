@@ -1,4 +1,5 @@
 pub mod Commanding
+mod Compacting
 pub mod Refused
 pub mod Reporting
 pub mod Staying

@@ -1,12 +1,15 @@
--- When a store stands for what the definitions have, and what a command makes of it.
-use Rattle.std.specs.Prelude.{◌≡◌, ◌≢◌, ◌⊎◌, [], Result, Err}
+-- When a store stands for what the definitions have, and what a command and a compaction make of it.
+use Rattle.std.specs.Prelude.{◌≡◌, ◌≢◌, ◌⊎◌, ℕ, [], None, Result, Err}
 use Rattle.command_octets.specs.declared.commands.Command.{Command}
-use Rattle.r53_core.specs.Journals.{journal_of}
+use Rattle.config_journal.specs.Journals.{journal_of}
 use Rattle.config_journal.specs.States.{State as Kept, config_of}
 use Rattle.config_model.specs.declared.refusals.Made.{Made}
 use Rattle.config_model.specs.declared.refusals.Refusal.{Refusal}
 use Rattle.config_model.specs.declared.refusals.Refusal.TheVariants as refusal
-use Rattle.engine_model.specs.Engine.{CommandSteps, Engine, Fits, size_of}
+use Rattle.engine_model.specs.Compacting.{CompactionSteps}
+use Rattle.engine_model.specs.Engine.{CommandSteps, Engine, Fits, Journal, size_of}
+use Rattle.engine_model.specs.declared.answers.Compacted.{Compacted}
+use Rattle.engine_model.specs.declared.answers.Compacted.TheVariants as compacted
 use Rattle.health_index.specs.Index.{Index, StandsFor as HasHealth}
 use Rattle.r53_state.specs.States.{IsAccepted}
 
@@ -39,6 +42,17 @@ CommandGives engine given outcome new =
     ⊎ ((outcome ≡ Err refusal.DiskFault) × IsAccepted engine.config given
     × Fits (size_of given) engine.journal × StandsFor engine new)
     ⊎ ((after : Engine) × CommandSteps engine given outcome after × StandsFor after new)
+
+-- What so many pieces of a compaction make of a store. Where memory is wanted none was in progress,
+-- and it stands for what it stood for. Where a disk failed it stands for the configuration and the
+-- reports, with another journal. Else it stands for what the definitions make of that, with their
+-- outcome.
+abbrev pub CompactionGives : Engine → (pieces : ℕ) → Compacted → (new : State) → Type 0
+CompactionGives engine pieces outcome new =
+    ((outcome ≡ compacted.OutOfMemory) × (engine.journal.plan ≡ None) × StandsFor engine new)
+    ⊎ ((outcome ≡ compacted.DiskFault) × ((journal : Journal)
+    × StandsFor (record engine { journal = journal }) new))
+    ⊎ ((after : Engine) × CompactionSteps engine pieces outcome after × StandsFor after new)
 
 -- P, where a command is refused other than by a fault of a disk
 abbrev pub Untouched : Result Made Refusal → Type 0 → Type 0

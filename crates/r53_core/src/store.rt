@@ -1,17 +1,23 @@
 //! The store.
 
-ghost use Rattle.std.specs.Prelude.{◌≡◌, ◌≢◌, ◌≤◌, ◌+◌, ◌⊎◌, List, ◌∷◌, length, Contains, IfOk, IfSome, Ok, Err, None};
+ghost use Rattle.std.specs.Prelude.{◌≡◌, ◌≢◌, ◌≤◌, ◌+◌, ◌⊎◌, ℕ, List, [], ◌∷◌, ◌++◌, length, Contains};
+ghost use Rattle.std.specs.Prelude.{IfOk, IfSome, IsErrOf, Ok, Err, None, Some};
 ghost use Rattle.command_bounds.specs.Laws.{HasShortLists};
+ghost use Rattle.command_octets.specs.Octets.{command_octets};
+ghost use Rattle.config_journal.specs.Compacting.{UnlessFaulty, WhereNone};
 ghost use Rattle.config_journal.specs.Holding.{Holds};
 ghost use Rattle.config_journal.specs.States.{config_of};
-ghost use Rattle.config_journal.specs.Steps.{UnlessFault};
+ghost use Rattle.config_journal.specs.Steps.{OnMade, UnlessFault};
 ghost use Rattle.store_model.specs.Leaving.{OpensEither};
+ghost use Rattle.store_model.specs.Opening.{IsNoStore, OpensConfig};
 ghost use Rattle.config_model.specs.Applying.{Decides};
 ghost use Rattle.config_model.specs.Configs.{Config};
 ghost use Rattle.config_model.specs.Laws.{IsBounded};
 ghost use Rattle.config_model.specs.declared.refusals.Made.{Made};
 ghost use Rattle.config_model.specs.declared.refusals.Refusal.TheVariants as refusal;
+ghost use Rattle.config_opening.specs.Opening.{IsFault, Syncs};
 ghost use Rattle.engine_model.specs.Engine.{Engine, QueryGives, ReportSteps, is_healthy, watched_in};
+ghost use Rattle.engine_model.specs.declared.answers.Compacted.TheVariants as Compacted;
 ghost use Rattle.engine_model.specs.declared.answers.Reported.TheVariants as Reported;
 ghost use Rattle.check_model.specs.Checks.{Checks};
 ghost use Rattle.health_index.specs.Following.{Follows};
@@ -23,21 +29,24 @@ ghost use Rattle.octets.specs.Counts.{Rose};
 ghost use Rattle.zone_table.specs.Zones.{Zone};
 ghost use Rattle.query_engine.specs.Asking.{answer_of, asker_of};
 ghost use Rattle.health_model.specs.Statuses.{status_told};
-ghost use Rattle.r53_core.specs.Stores.{CommandGives, StandsFor, Untouched, opened};
+ghost use Rattle.r53_core.specs.Stores.{CommandGives, CompactionGives, StandsFor, Untouched};
+ghost use Rattle.r53_core.specs.Stores.{opened};
 ghost use Rattle.r53_state.specs.States.{IsAccepted};
 ghost use Rattle.record_set.specs.Sets.{key_of};
 ghost use Rattle.record_set.specs.declared.sets.RecordSet.{RecordSet};
 ghost use Rattle.zone_table.specs.Looking.{Names};
-ghost use Rattle.zone_journal.specs.Pairs.{EachPair, Leaves};
+ghost use Rattle.zone_journal.specs.Pairs.{EachPair, Leaves, OpensPair, Unwritten};
 ghost use Rattle.zone_journal.specs.Standing.{StandsOn};
+ghost use Rattle.zone_journal.specs.declared.answers.OpenFault.TheVariants as OpenFault;
 
 use address_text::IpAddress;
 use check_model::Check;
 use command_octets::Command;
 use config_journal::ConfigJournal;
 use config_model::{Made, Refusal};
+use config_opening::open;
 use dns_wire::Reply;
-use engine_model::Reported;
+use engine_model::{Compacted, Reported};
 use geo_latency::Tables;
 use health_check::CheckTable;
 use health_index::{HealthIndex, Steps, commands_follow};
@@ -49,6 +58,7 @@ use sound_configs::{index_serves, same_follow, sound_is_served, sound_is_watched
 use std::alloc::Global;
 use std::marker::Model;
 use std::sync::ledger::Ledger;
+use zone_journal::OpenFault;
 use zone_table::{Scratch, SetRef, Zones};
 
 /// The store of a server: its configuration with the journal that keeps it, and the health of each
@@ -69,6 +79,42 @@ impl Model for Store {
 }
 
 impl Store {
+    /// Opens the store over two disks: what its files hold, with no reports yet. It writes nothing.
+    ///
+    /// NotAStore tells A and 0 where no file is open; else the side of the file that decides, and 20
+    /// where its snapshot isn't whole or is that of no sound configuration, or the gate at which no
+    /// entry can be taken.
+    pub fn open<D: Disk>(alloc: Global, a: &mut D, b: &mut D) -> Result<Store, OpenFault>
+        ensures opened { IfOk result (λ store. StandsFor (opened store.kept) store) }
+        ensures stands { IfOk result (λ store.
+            StandsOn D.reading D.images store.kept.journal a.new b.new) }
+        ensures holds { (x y : List ℕ) → D.reading a.old ≡ Some x → D.reading b.old ≡ Some y
+            → IfOk result (λ store. Leaves D.reading a.new b.new (Holds store.kept)) }
+        ensures faulty { (x y : List ℕ) → D.reading a.old ≡ Some x → D.reading b.old ≡ Some y
+            → IsFault result (IsNoStore x y) }
+
+        // Both files are synced before either is looked at, and from then on a crash leaves what is
+        // read. It writes nothing.
+        ensures syncs { (x y : List ℕ) → D.reading a.old ≡ Some x → D.reading b.old ≡ Some y
+            → Syncs D.images result x y a.old a.new b.old b.new }
+        ensures a_unwritten { (x : List ℕ) → D.reading a.old ≡ Some x
+            → Unwritten D.reading D.images D.moment D.images_since a.old a.new }
+        ensures b_unwritten { (y : List ℕ) → D.reading b.old ≡ Some y
+            → Unwritten D.reading D.images D.moment D.images_since b.old b.new }
+
+        // A fault comes only where the count of a disk rose.
+        ensures a_counts { D.faults a.old ≤ D.faults a.new }
+        ensures b_counts { D.faults b.old ≤ D.faults b.new }
+        ensures failed { IsErrOf result OpenFault.DiskFault
+            → Rose (D.faults a.old) (D.faults a.new) ⊎ Rose (D.faults b.old) (D.faults b.new) }
+    {
+        let kept = open(alloc, a, b)?;
+        match Store::new(alloc, kept) {
+            Ok(store) => Ok(store),
+            Err(_) => Err(OpenFault::OutOfMemory),
+        }
+    }
+
     /// The store over a configuration that its journal keeps, with no reports yet.
     pub fn new(alloc: Global, kept: ConfigJournal) -> Result<Store, OutOfMemory>
         ensures kept { IfOk result (λ store. store.kept ≡ kept) }
@@ -123,6 +169,12 @@ impl Store {
         ensures holds { Leaves D.reading a.old b.old (Holds self.old.kept)
             → UnlessFault result (Leaves D.reading a.new b.new (Holds self.new.kept)) }
 
+        // The octets of a command that was made stand behind the entries before them.
+        ensures written { (g : ℕ) (s : List ℕ) (es : List (List ℕ)) (x y : List ℕ)
+            → D.reading a.old ≡ Some x → D.reading b.old ≡ Some y → OpensPair x y g s es
+            → OnMade result (Leaves D.reading a.new b.new
+            (λ u v. OpensPair u v g s (es ++ command_octets command ∷ []))) }
+
         // Of a command that is accepted nothing is asked of the disks, or at each moment every image
         // pair opens to the configuration before or to the one after. At a refusal no disk is asked.
         ensures any_moment { (after : Config) (what : Made)
@@ -173,6 +225,46 @@ impl Store {
         config.well_formed();
         sound_is_watched();
         self.index.on_command(config.zones(), config.checks());
+    }
+
+    /// Makes so many pieces of the compaction that is in progress, or of one that begins with them;
+    /// fewer where the new file decides before. The configuration and the reports stay.
+    ///
+    /// Memory is wanted where a compaction begins alone. After a fault of a disk the compaction is
+    /// dropped, and the store is opened again for commands and compactions; reports and queries go
+    /// on.
+    pub fn compact<D: Disk>(
+        &mut self,
+        alloc: Global,
+        a: &mut D,
+        b: &mut D,
+        pieces: u32,
+    ) -> Compacted
+        requires some { 1 ≤ pieces }
+        requires stands { StandsOn D.reading D.images self.old.kept.journal a.old b.old }
+
+        // The outcome is that of the definitions, and so is the store after it.
+        ensures gives { (engine : Engine) → StandsFor engine self.old
+            → CompactionGives engine pieces result self.new }
+        ensures stands { UnlessFaulty result
+            (StandsOn D.reading D.images self.new.kept.journal a.new b.new) }
+        ensures holds { Leaves D.reading a.old b.old (Holds self.old.kept)
+            → UnlessFaulty result (Leaves D.reading a.new b.new (Holds self.new.kept)) }
+
+        // At each moment every image pair opens to the configuration. Where no piece is made no disk
+        // is asked.
+        ensures any_moment { Leaves D.reading a.old b.old (Holds self.old.kept)
+            → EachPair D.moment D.images_since a.old a.new b.old b.new
+            (λ x y. OpensConfig x y (config_of self.old.kept)) }
+        ensures none { WhereNone result ((a.new ≡ a.old) × (b.new ≡ b.old)) }
+
+        // A fault comes only where the count of a disk rose.
+        ensures a_counts { D.faults a.old ≤ D.faults a.new }
+        ensures b_counts { D.faults b.old ≤ D.faults b.new }
+        ensures failed { result ≡ Compacted.DiskFault
+            → Rose (D.faults a.old) (D.faults a.new) ⊎ Rose (D.faults b.old) (D.faults b.new) }
+    {
+        self.kept.compact(alloc, a, b, pieces)
     }
 
     /// Takes a report of a checker on a check of an endpoint. It takes no memory.

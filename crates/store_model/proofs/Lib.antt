@@ -1,8 +1,10 @@
 mod Faults
+mod Following
 mod Kept
 mod Made
 mod Opened
 mod Readings
+mod Shapes
 mod Sides
 mod Standing
 mod Taken

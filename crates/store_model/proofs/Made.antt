@@ -10,10 +10,11 @@ use Rattle.config_model.specs.Laws.{HasBoundedSet, IsBounded}
 use Rattle.config_model.specs.Sound.{Sound}
 use Rattle.snapshot_octets.specs.Laws.{OneConfiguration, SnapshotsReadBack, SoundHaveSnapshots}
 use Rattle.snapshot_octets.specs.Reading.{read}
-use Rattle.store_model.proofs.Taken.{makes_more}
+use Rattle.store_model.proofs.Taken.{last_is_taken}
 use Rattle.store_model.specs.Laws.{AcceptedAreTaken, CompactedOpens, EmptyOpens, PlanBegins}
-use Rattle.store_model.specs.Laws.{PlanGoesOn, SoundAreBases, UnreadAreBaseless}
+use Rattle.store_model.specs.Laws.{PlanGoesOn, PlanMakes, SoundAreBases, UnreadAreBaseless}
 use Rattle.store_model.specs.Laws.{UnsoundAreBaseless}
+use Rattle.store_model.specs.Opening.{IsBase}
 
 -- ---- commands
 
@@ -66,13 +67,12 @@ module _ (bases : SoundAreBases) where
     makes = record { base = begun; is_base = bases begun sound; taken = taken };
   }
 
-  pub plan_begins : PlanBegins
-  plan_begins config from generation octets entries sound place = record {
-    until = entries;
-    since = [];
-    parts = sym (append-nil entries);
-    place = place;
-    makes = record { base = config; is_base = bases config sound; taken = refl };
+  pub plan_makes : PlanMakes
+  plan_makes planned from generation octets entries config plan = record {
+    base = plan.begun;
+    is_base = subst (λ (l : List ℕ). IsBase l plan.begun) (sym plan.spelled)
+        (bases plan.begun plan.sound);
+    taken = plan.taken;
   }
 
   pub empty_opens : Sound empty → EmptyOpens
@@ -81,6 +81,18 @@ module _ (bases : SoundAreBases) where
     makes = record { base = empty; is_base = bases empty sound; taken = refl };
   }
 
+pub plan_begins : PlanBegins
+plan_begins config from generation octets entries sound place = record {
+  until = entries;
+  since = [];
+  parts = sym (append-nil entries);
+  place = place;
+  begun = config;
+  sound = sound;
+  spelled = refl;
+  taken = refl;
+}
+
 pub plan_goes_on : PlanGoesOn
 plan_goes_on planned from generation octets entries before after entry plan taken = record {
   until = plan.until;
@@ -88,5 +100,8 @@ plan_goes_on planned from generation octets entries before after entry plan take
   parts = ap (λ (l : List (List ℕ)). l ++ entry ∷ []) plan.parts
       ∙ append_assoc plan.until plan.since (entry ∷ []);
   place = plan.place;
-  makes = makes_more planned plan.since before after entry plan.makes taken;
+  begun = plan.begun;
+  sound = plan.sound;
+  spelled = plan.spelled;
+  taken = last_is_taken plan.since plan.begun before after entry plan.taken taken;
 }

@@ -5,6 +5,7 @@ use Rattle.config_model.specs.Configs.{empty}
 use Rattle.gate_journal.proofs.Opening.{opens_to_one}
 use Rattle.gate_journal.specs.Layout.{IsOpen, OpensTo, front}
 use Rattle.store_model.proofs.Readings.{opens_read, read_open}
+use Rattle.store_model.proofs.Shapes.{shape_at}
 use Rattle.store_model.proofs.Sides.{active_opens, generation_is, opens_by_active}
 use Rattle.store_model.specs.Laws.{EmptyOpens, InitOpens, NoStoreOrConfig, NoneOrEmptyOpens}
 use Rattle.store_model.specs.Laws.{StandingOpens, StandingPlace, StoreIsTold}
@@ -71,18 +72,25 @@ module _ {D : Type 0} (reading : D → Option (List ℕ)) (images : D → List �
       → Stands reading images state (active_of side a b) (other_of side a b)
       → (x y : List ℕ) → reading a ≡ Some x → reading b ≡ Some y
       → (g : ℕ) (s : List ℕ) (es : List (List ℕ)) → OpensPair x y g s es
-      → (state.generation ≡ g) × (state.at ≡ length (front g s es))
-      × OpensTo (active_of side x y) g s es
+      → IsActive side (active_of side x y) (other_of side x y) × (state.generation ≡ g)
+      × (state.at ≡ length (front g s es)) × OpensTo (active_of side x y) g s es
   place_by A state a b is stands x y tx ty g s es opens =
       let now = decides state a b stands x y tx ty A is y (is_image b y ty) in
-      placed state a b stands x tx g s es (opens_by_active x y A g s es now opens)
+      let p = placed state a b stands x tx g s es (opens_by_active x y A g s es now opens) in
+      (now, p.0, p.1, p.2)
   place_by B state a b is stands x y tx ty g s es opens =
       let now = decides state b a stands y x ty tx B is x (is_image a x tx) in
-      placed state b a stands y ty g s es (opens_by_active x y B g s es now opens)
+      let p = placed state b a stands y ty g s es (opens_by_active x y B g s es now opens) in
+      (now, p.0, p.1, p.2)
 
   pub standing_place : StandingPlace reading images
   standing_place state a b x y generation octets entries stands tx ty opens =
-      place_by state.side state a b refl stands x y tx ty generation octets entries opens
+      let p = place_by state.side state a b refl stands x y tx ty generation octets entries opens in (
+        p.1,
+        p.2,
+        p.3,
+        shape_at x y state.side state.generation state.at generation octets entries p.0 p.1 p.2 p.3,
+      )
 
   pub store_is_told : NoStoreOrConfig → StoreIsTold reading images
   store_is_told not_both a b x y side place store tx ty none =

@@ -15,10 +15,12 @@ use Rattle.config_model.specs.declared.refusals.Refusal.TheVariants.{OutOfMemory
 use Rattle.gate_journal.specs.Layout.{IsOpen, OpensTo, front}
 use Rattle.gate_journal.specs.Read.{IsRead}
 use Rattle.gate_journal.specs.declared.answers.Appended.{Appended}
+use Rattle.r53_disk.specs.Disk.{Rests}
 use Rattle.snapshot_octets.specs.Octets.{IsSnapshot, snapshot}
 use Rattle.snapshot_octets.specs.Reading as snapshots
 use Rattle.store_model.specs.Leaving.{AppendOpens, IsPlanFor, MayOpen, PieceOpens}
 use Rattle.store_model.specs.Opening.{IsBase, IsConfigStore, IsFaulty, IsNoStore, IsRefused}
+use Rattle.store_model.specs.Opening.{IsShape}
 use Rattle.store_model.specs.Opening.{MakesConfig, OpensAs, OpensConfig, TakesAll, TakesEntry}
 use Rattle.store_model.specs.Opening.{snapshot_of}
 use Rattle.zone_journal.specs.Appending.{AppendLeaves, MayLeave}
@@ -185,6 +187,14 @@ PlanGoesOn = (planned : List ℕ) (from generation : ℕ) (octets : List ℕ)
     → IsPlanFor planned from generation octets entries before → TakesEntry before entry after
     → IsPlanFor planned from generation octets (entries ++ entry ∷ []) after
 
+-- The snapshot of a compaction that is in progress makes, with the entries since it began, the
+-- configuration.
+abbrev pub PlanMakes : Type 0
+PlanMakes = (planned : List ℕ) (from generation : ℕ) (octets : List ℕ)
+    (entries : List (List ℕ)) (config : Config)
+    (plan : IsPlanFor planned from generation octets entries config)
+    → MakesConfig planned plan.since config
+
 -- The snapshot of a new store is that of the configuration with nothing in it.
 abbrev pub EmptyIsWritten : Type 0
 EmptyIsWritten = empty_snapshot ≡ snapshot empty
@@ -198,6 +208,11 @@ EmptyOpens = (x y : List ℕ) (generation : ℕ)
 abbrev pub NoneOrEmptyOpens : Type 0
 NoneOrEmptyOpens = (x y : List ℕ) → IsNoneOrEmpty x → (IsOpen y → ⊥)
     → IsNoStore x y A 0 ⊎ OpensConfig x y empty
+
+-- Two files have one shape at most.
+abbrev pub OneShape : Type 0
+OneShape = (x y : List ℕ) (side other : Side) (g h n m : ℕ) → IsShape x y side g n
+    → IsShape x y other h m → (side ≡ other) × (g ≡ h) × (n ≡ m)
 
 -- ---- what calls leave
 
@@ -218,7 +233,7 @@ StandingOpens {D = D} reading images = (state : State) (a b : D) (x y : List ℕ
     → (u v : List ℕ) → images a u → images b v → OpensAs u v generation octets entries config
 
 -- A journal stands at the closed gate of the file that decides, behind all entries to which the two
--- files open, and is of their generation.
+-- files open, and is of their generation: with its gate it is their shape.
 abbrev pub StandingPlace : {D : Type 0} → (reading : D → Option (List ℕ))
     → (images : D → List ℕ → Type 0) → Type 0
 StandingPlace {D = D} reading images = (state : State) (a b : D) (x y : List ℕ) (generation : ℕ)
@@ -227,6 +242,7 @@ StandingPlace {D = D} reading images = (state : State) (a b : D) (x y : List ℕ
     → OpensPair x y generation octets entries
     → (state.generation ≡ generation) × (state.at ≡ length (front generation octets entries))
     × OpensTo (active_of state.side x y) generation octets entries
+    × IsShape x y state.side state.generation (state.at + 1)
 
 -- The files of a store are not told to be none.
 abbrev pub StoreIsTold : {D : Type 0} → (reading : D → Option (List ℕ))
@@ -273,3 +289,18 @@ PiecesOpen {D = D} reading = (a b : D) (result : Piece) (state : State) (plan : 
     → Leaves reading a b (PieceLeaves result state plan generation octets entries since)
     → Leaves reading a b
     (PieceOpens result plan.snapshot generation octets entries since config)
+
+-- Where each pair of images opens to the configuration during some pieces of a compaction and during
+-- more of them, it does during all: the file that decides is only read.
+abbrev pub PiecesFollow : {D : Type 0} → (reading : D → Option (List ℕ))
+    → (images : D → List ℕ → Type 0) → (moment : D → ℕ)
+    → (images_since : D → ℕ → List ℕ → Type 0) → Type 0
+PiecesFollow {D = D} reading images moment images_since = (side : Side) (config : Config)
+    (a_old a_mid a_new b_old b_mid b_new : D)
+    → Rests reading images moment images_since (active_of side a_old b_old)
+    (active_of side a_mid b_mid)
+    → Rests reading images moment images_since (active_of side a_mid b_mid)
+    (active_of side a_new b_new)
+    → EachPair moment images_since a_old a_mid b_old b_mid (λ x y. OpensConfig x y config)
+    → EachPair moment images_since a_mid a_new b_mid b_new (λ x y. OpensConfig x y config)
+    → EachPair moment images_since a_old a_new b_old b_new (λ x y. OpensConfig x y config)

@@ -2,10 +2,12 @@
 -- call by device call).
 use Rattle.std.specs.Prelude.{◌≡◌, ◌⊎◌, ℕ, ◌+◌, List, [], ◌∷◌, ◌++◌, length}
 use Rattle.config_model.specs.Configs.{Config}
+use Rattle.config_model.specs.Sound.{Sound}
 use Rattle.gate_journal.specs.Layout.{front}
 use Rattle.gate_journal.specs.declared.answers.Appended.{Appended}
 use Rattle.gate_journal.specs.declared.answers.Appended.TheVariants as appended
-use Rattle.store_model.specs.Opening.{MakesConfig, OpensAs, OpensConfig}
+use Rattle.snapshot_octets.specs.Octets.{snapshot}
+use Rattle.store_model.specs.Opening.{OpensAs, OpensConfig, TakesAll}
 use Rattle.zone_journal.specs.declared.answers.Piece.{Piece}
 use Rattle.zone_journal.specs.declared.answers.Piece.TheVariants as piece
 
@@ -35,15 +37,19 @@ AppendOpens appended.DiskFault generation snapshot entries entry before after x 
 
 -- ---- a compaction
 
--- What is kept while a compaction is in progress that was begun at this place with this snapshot:
--- with the entries since then it makes the configuration too.
-pub record IsPlanFor (planned : List ℕ) (from generation : ℕ) (snapshot : List ℕ)
+-- What is kept while a compaction is in progress that was begun at this place with this snapshot: it
+-- is that of the sound configuration with which it was begun, and the entries since then, taken one
+-- after another, make the configuration.
+pub record IsPlanFor (planned : List ℕ) (from generation : ℕ) (octets : List ℕ)
     (entries : List (List ℕ)) (config : Config) : Type 0 where
   pub until : List (List ℕ)
   pub since : List (List ℕ)
   pub parts : entries ≡ until ++ since
-  pub place : from ≡ length (front generation snapshot until)
-  pub makes : MakesConfig planned since config
+  pub place : from ≡ length (front generation octets until)
+  pub begun : Config
+  pub sound : Sound begun
+  pub spelled : planned ≡ snapshot begun
+  pub taken : TakesAll begun since config
 
 -- What the files open to after a piece: the old file, and at Done the new one, make the
 -- configuration.

@@ -7,7 +7,7 @@ use Rattle.config_model.specs.Applying.{Decides}
 use Rattle.config_model.specs.Configs.{Config}
 use Rattle.config_model.specs.Sound.{Sound}
 use Rattle.config_model.specs.declared.refusals.Made.{Made}
-use Rattle.gate_journal.specs.Layout.{IsOpen}
+use Rattle.gate_journal.specs.Layout.{IsOpen, OpensTo, front}
 use Rattle.gate_journal.specs.Read.{IsBroken, IsRead}
 use Rattle.snapshot_octets.specs.Octets.{IsSnapshot}
 use Rattle.zone_journal.specs.Pairs.{IsActive, OpensPair, active_of, other_of}
@@ -61,6 +61,15 @@ pub record OpensConfig (x y : List ℕ) (config : Config) : Type 0 where
   pub snapshot : List ℕ
   pub entries : List (List ℕ)
   pub opens : OpensAs x y generation snapshot entries config
+
+-- The shape of two files: the side that decides, its generation, and its length up to the closed
+-- gate behind all its entries, with that gate.
+pub record IsShape (x y : List ℕ) (side : Side) (generation size : ℕ) : Type 0 where
+  pub snapshot : List ℕ
+  pub entries : List (List ℕ)
+  pub decides : IsActive side (active_of side x y) (other_of side x y)
+  pub opens : OpensTo (active_of side x y) generation snapshot entries
+  pub long : size ≡ length (front generation snapshot entries) + 1
 
 -- ---- no store
 

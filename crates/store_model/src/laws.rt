@@ -5,8 +5,10 @@ ghost use Rattle.store_model.specs.Laws.{BaselessIsNoStore, BrokenIsNoStore, Com
 ghost use Rattle.store_model.specs.Laws.{DecidingOpens, EmptyIsWritten, EmptyOpens};
 ghost use Rattle.store_model.specs.Laws.{FaultyIsNoStore, InitOpens, LastIsTaken, LastWasTaken};
 ghost use Rattle.store_model.specs.Laws.{NoStoreOrConfig, NoneOrEmptyOpens, OneFault, OneMoreMakes};
-ghost use Rattle.store_model.specs.Laws.{OneMoreOpens, OpenedAreSound, PairOpensToOneConfig};
-ghost use Rattle.store_model.specs.Laws.{PiecesMayOpen, PiecesOpen, PlanBegins, PlanGoesOn};
+ghost use Rattle.store_model.specs.Laws.{OneMoreOpens, OneShape, OpenedAreSound};
+ghost use Rattle.store_model.specs.Laws.{PairOpensToOneConfig};
+ghost use Rattle.store_model.specs.Laws.{PiecesFollow, PiecesMayOpen, PiecesOpen, PlanBegins};
+ghost use Rattle.store_model.specs.Laws.{PlanGoesOn, PlanMakes};
 ghost use Rattle.store_model.specs.Laws.{RefusedAreRefused, SnapshotIsRead, SoundAreBases};
 ghost use Rattle.store_model.specs.Laws.{StandingOpens, StandingPlace, StoreIsTold, TakenAreSound};
 ghost use Rattle.store_model.specs.Laws.{UnreadAreBaseless, UnreadAreRefused, UnsoundAreBaseless};
@@ -160,14 +162,19 @@ pub fn compacted_opens()
 /// A compaction begins at the closed gate with the snapshot of the configuration.
 pub fn plan_begins()
     ensures { PlanBegins }
-{
-    sound_are_bases();
-}
+{}
 
 /// An entry that is appended during a compaction is one since its beginning.
 pub fn plan_goes_on()
     ensures { PlanGoesOn }
 {}
+
+/// The snapshot of a compaction in progress makes, with the entries since, the configuration.
+pub fn plan_makes()
+    ensures { PlanMakes }
+{
+    sound_are_bases();
+}
 
 /// The snapshot of a new store is that of the configuration with nothing in it.
 pub fn empty_is_written()
@@ -188,6 +195,11 @@ pub fn none_or_empty_opens()
 {
     empty_opens();
 }
+
+/// Two files have one shape at most.
+pub fn one_shape()
+    ensures { OneShape }
+{}
 
 // ---- what calls leave
 
@@ -233,4 +245,9 @@ pub fn pieces_may_open<D: Disk>()
 /// After a piece of a compaction the files are read as the configuration.
 pub fn pieces_open<D: Disk>()
     ensures { PiecesOpen D.reading }
+{}
+
+/// What holds of each pair of images during some pieces and during more of them, holds during all.
+pub fn pieces_follow<D: Disk>()
+    ensures { PiecesFollow D.reading D.images D.moment D.images_since }
 {}

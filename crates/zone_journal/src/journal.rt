@@ -183,6 +183,7 @@ impl ZoneJournal {
             → D.reading a.old ≡ Some x → D.reading b.old ≡ Some y
             → IsRead self.old.at (active_of self.old.side x y) self.old.generation s es
             → NextGives result self.old self.new (active_of self.old.side x y) s es }
+        ensures forward { IfOk result (λ entry. IsSome entry → self.old.at < self.new.at) }
         ensures reads_on { ReadsOn D.reading D.images self.old a.old b.old
             → ReadsOn D.reading D.images self.new a.new b.new }
         ensures at_end { OnNone result (StandsOn D.reading D.images self.new a.new b.new) }
@@ -225,6 +226,7 @@ impl ZoneJournal {
             → UnlessSome result (Stands D.reading D.images self.new active.new other.now) }
         ensures ended { (x : List ℕ) → D.reading active.old ≡ Some x
             → Stands D.reading D.images self.old active.old other.now → IsNoMore result }
+        ensures forward { IfOk result (λ entry. IsSome entry → self.old.at < self.new.at) }
         ensures side { self.new.side ≡ self.old.side }
         ensures rests { Rests D.reading D.images D.moment D.images_since active.old active.new }
         ensures counts { D.faults active.old ≤ D.faults active.new }

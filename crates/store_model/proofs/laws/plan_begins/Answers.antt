@@ -2,4 +2,4 @@ use Rattle.store_model.proofs.Made as made
 use Rattle.store_model.proofs.laws.plan_begins.Goals as goal
 
 pub returns : goal.returns
-returns c = made.plan_begins c.sound_are_bases.ensures
+returns c = made.plan_begins

@@ -1,4 +1,5 @@
-use Rattle.std.proofs.Common.{◌≡◌, ◌∙◌, Err, Ok, Some, ap, inr, subst, sym}
+use Rattle.std.proofs.Common.{◌≡◌, ◌∙◌, ℕ, List, [], ◌∷◌, ◌++◌, Err, Ok, Some, ap, inr, refl, subst, sym}
+use Rattle.command_octets.specs.Octets.{command_octets}
 use Rattle.command_octets.specs.declared.commands.Command.{Command}
 use Rattle.config_journal.proofs.Accepted.{accepted}
 use Rattle.config_journal.specs.Holding.{Holds}
@@ -14,7 +15,7 @@ use Rattle.r53_core.proofs.Staying.{read_on}
 use Rattle.r53_core.specs.Stores.{StandsFor, State}
 use Rattle.r53_state.specs.States.{IsAccepted}
 use Rattle.store_model.specs.Leaving.{OpensEither}
-use Rattle.zone_journal.specs.Pairs.{EachPair, Leaves}
+use Rattle.zone_journal.specs.Pairs.{EachPair, Leaves, OpensPair}
 use Rattle.zone_journal.specs.Standing.{PlanFits, State as Journal}
 use Rattle.r53_core.proofs.store.Store.command.Goals as goal
 
@@ -108,3 +109,11 @@ returns-in-Err-commit-clause-faulted g c = λ e.
     (subst (λ (given : Command). IsAccepted (config_of c.prepare.new.self) given)
     c.in-Ok.ensures.command
     (accepted c.prepare.new.self.config c.in-Ok.ready.prepared c.in-Ok.ensures.ready.prepared))
+
+pub returns-in-Ok-commit-clause-written : goal.returns-in-Ok-commit-clause-written
+returns-in-Ok-commit-clause-written g c = λ generation s es x y a_reads b_reads opens what is.
+    subst (λ (entry : List ℕ). Leaves g.D.Disk.reading c.commit.new.a c.commit.new.b
+    (λ u v. OpensPair u v generation s (es ++ entry ∷ [])))
+    (c.in-Ok.ensures.ready.entry ∙ ap command_octets c.in-Ok.ensures.command)
+    (c.in-Ok-commit.ensures.written generation s es x y a_reads b_reads opens
+    c.in-Ok-commit.made refl)

@@ -1,0 +1,32 @@
+use Rattle.std.proofs.Common.{Err, ap, subst, sym}
+use Rattle.std.specs.Prelude.{⊤}
+use Rattle.config_journal.specs.Holding.{Holds}
+use Rattle.config_journal.specs.States.{State}
+use Rattle.config_opening.proofs.Opened.{at_first_gate, baseless_faulty}
+use Rattle.config_opening.proofs.Replayed.{same_fault}
+use Rattle.r53_state.specs.States.{config_in}
+use Rattle.snapshot_reading.specs.declared.faults.SnapshotFault.{SnapshotFault}
+use Rattle.store_model.specs.Opening.{IsNoStore}
+use Rattle.zone_journal.specs.Pairs.{Leaves}
+use Rattle.config_opening.proofs.opening.read_on.Goals as goal
+
+pub returns-in-Err-Bad-clause-faulty : goal.returns-in-Err-Bad-clause-faulty
+returns-in-Err-Bad-clause-faulty g c = λ x y a_reads b_reads begins.
+    subst (λ s. IsNoStore x y s 20) (sym c.side.ensures)
+    (baseless_faulty c.baseless_is_no_store.ensures c.args.journal c.args.octets.now x y begins
+    (c.in-Err-Bad.ensures.bad (ap (λ (f : SnapshotFault). Err f) c.in-Err-Bad.field-0-is)))
+
+pub returns-in-Ok-replay-clause-holds : goal.returns-in-Ok-replay-clause-holds
+returns-in-Ok-replay-clause-holds g c = λ x y a_reads b_reads begins.
+    subst (λ (kept : State). Leaves g.D.Disk.reading c.replay.new.a c.replay.new.b (Holds kept))
+    (sym c.new.ensures)
+    (c.in-Ok-replay.ensures.holds x y a_reads b_reads
+    (at_first_gate c.args.journal c.args.octets.now x y begins (config_in c.in-Ok.config)
+    c.in-Ok.ensures.found))
+
+pub returns-in-Err-clause-faulty : goal.returns-in-Err-clause-faulty
+returns-in-Err-clause-faulty g c = λ x y a_reads b_reads begins.
+    same_fault ⊤ State (IsNoStore x y) c.in-Err.fault
+    (c.in-Err.ensures.faulty x y a_reads b_reads
+    (at_first_gate c.args.journal c.args.octets.now x y begins (config_in c.in-Ok.config)
+    c.in-Ok.ensures.found))

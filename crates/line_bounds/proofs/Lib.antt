@@ -1,0 +1,12 @@
+mod Batches
+mod Checks
+mod Collections
+mod Lines
+mod Names
+mod Policies
+mod Prefixes
+mod Sets
+mod Steps
+mod Values
+mod Words
+mod Zones

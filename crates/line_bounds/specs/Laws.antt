@@ -1,0 +1,44 @@
+-- What is known of the commands that lines are.
+use Rattle.std.specs.Prelude.{◌≡◌, ℕ, List, Some, Result, Ok}
+use Rattle.batch_json.specs.Lines.{IsJson, line_of}
+use Rattle.batch_json.specs.declared.asking.Line.{Line}
+use Rattle.batch_json.specs.declared.asking.Line.TheVariants as line
+use Rattle.command_bounds.specs.Laws.{HasShortLists}
+use Rattle.command_octets.specs.declared.commands.Command.{Command}
+use Rattle.config_model.specs.Laws.{IsBounded}
+use Rattle.ip_table.specs.Prefixes.{IsPrefix, Prefix}
+use Rattle.line_faults.specs.declared.fault.LineFault.{LineFault}
+use Rattle.line_faults.specs.declared.fault.LineReason.TheVariants.{NotJson}
+use Rattle.line_faults.specs.declared.member.Member.TheVariants as m
+use Rattle.line_reading.specs.Reading.{Reads, bad}
+use Rattle.prefix_text.specs.Prefixes.{prefix_of}
+use Rattle.rdata.specs.ValueOfText.{value_of_text}
+use Rattle.rdata_layout.specs.Layout.{IsLayout}
+use Rattle.rdata_layout.specs.declared.types.RType.{RType}
+use Rattle.serde_json.specs.Data.{Data}
+
+-- ---- parts of lines
+
+-- The octets that a text gives as a value of a type are in the type's layout.
+abbrev pub TextsAreValues : Type 0
+TextsAreValues = (rtype : RType) (text octets : List ℕ) → value_of_text rtype text ≡ Ok octets
+    → IsLayout rtype octets
+
+-- The prefix that a text gives is one of an address, whose bits behind it are zeros.
+abbrev pub TextsArePrefixes : Type 0
+TextsArePrefixes = (text : List ℕ) (prefix : Prefix) → prefix_of text ≡ Some prefix
+    → IsPrefix prefix.address prefix.length
+
+-- ---- lines
+
+-- The command that a JSON value gives is within its bounds, and its lists are short.
+abbrev pub LinesAreBounded : Type 0
+LinesAreBounded = (value : Data) (given : Command) → line_of value ≡ Ok (line.Control given)
+    → IsBounded given × HasShortLists given
+
+-- So is the command that was read of octets: what is told of them is what `read_line` promises.
+abbrev pub ReadLinesAreBounded : Type 0
+ReadLinesAreBounded = (octets : List ℕ) (told : Result Line LineFault) (given : Command)
+    → ((value : Data) → IsJson octets value → Reads told (line_of value))
+    → (((value : Data) → IsJson octets value → ⊥) → Reads told (bad NotJson m.Line))
+    → told ≡ Ok (line.Control given) → IsBounded given × HasShortLists given

@@ -1,0 +1,37 @@
+//! Laws over the definitions, each the contract of a function that does nothing.
+
+ghost use Rattle.line_bounds.specs.Laws.{LinesAreBounded, ReadLinesAreBounded};
+ghost use Rattle.line_bounds.specs.Laws.{TextsArePrefixes, TextsAreValues};
+
+/// The octets that a text gives are in the layout of the type.
+pub fn texts_are_values()
+    ensures { TextsAreValues }
+{
+    field_text::spelled_is_field();
+    value_text::fields_go_on();
+    rdata::value_of_text();
+}
+
+/// The prefix that a text gives is one of an address.
+pub fn texts_are_prefixes()
+    ensures { TextsArePrefixes }
+{
+    address_text::ipv4_of_text();
+    address_text::ipv6_of_text();
+}
+
+/// The command that a JSON value gives is within its bounds.
+pub fn lines_are_bounded()
+    ensures { LinesAreBounded }
+{
+    dns_name::texts_read_as_names();
+    texts_are_values();
+    texts_are_prefixes();
+}
+
+/// The command that was read of octets is within its bounds.
+pub fn read_lines_are_bounded()
+    ensures { ReadLinesAreBounded }
+{
+    lines_are_bounded();
+}
