@@ -35,28 +35,6 @@ fill_step left buffer into before after at n room k f h m gives =
       rest = t.after_it ∙ ap Some (drop-drop n at left ∙ ap (λ j. drop j left) (omega arith));
     }
 
--- one more piece written
-pub write_step : (held piece rest : List ℕ) (before after : Option (List ℕ)) (at n : ℕ)
-    → rest ≡ drop at piece → before ≡ Some (held ++ take at piece)
-    → ((bytes : List ℕ) → before ≡ Some bytes → after ≡ Some (bytes ++ take n rest))
-    → after ≡ Some (held ++ take (at + n) piece)
-write_step held piece rest before after at n r b gives = gives _ b
-    ∙ ap (λ t. Some ((held ++ take at piece) ++ take n t)) r
-    ∙ ap Some (append_assoc held (take at piece) (take n (drop at piece))
-    ∙ ap (λ t. held ++ t) (sym (take-add at n piece)))
-
--- nothing more was written
-pub stuck : (held piece rest : List ℕ) (before after : Option (List ℕ)) (at n : ℕ)
-    → at < length piece → n ≡ 0 → before ≡ Some (held ++ take at piece)
-    → ((bytes : List ℕ) → before ≡ Some bytes → after ≡ Some (bytes ++ take n rest))
-    → (m : ℕ) × (m < length piece) × (after ≡ Some (held ++ take m piece))
-stuck held piece rest before after at n h z b gives = (
-  at,
-  h,
-  gives _ b ∙ ap (λ m. Some ((held ++ take at piece) ++ take m rest)) z
-      ∙ ap Some (append-nil (held ++ take at piece)),
-)
-
 -- the source ended
 pub at_end : (left buffer into : List ℕ) (before after : Option (List ℕ)) (at n room k : ℕ) → n ≡ 0
     → Fills left before at buffer → at ≤ length buffer → 0 < room

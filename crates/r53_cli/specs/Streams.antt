@@ -6,8 +6,6 @@ use Rattle.r53_cli.specs.declared.intake.Drained.{Drained}
 use Rattle.r53_cli.specs.declared.intake.Drained.TheVariants as drained
 use Rattle.r53_cli.specs.declared.intake.Incoming.{Incoming}
 use Rattle.r53_cli.specs.declared.intake.Incoming.TheVariants as incoming
-use Rattle.r53_cli.specs.declared.output.Output.{Output}
-use Rattle.r53_cli.specs.declared.output.Output.TheVariants as output
 
 -- the first n bytes of the buffer are the first that the source had left, and the source has the others left
 pub record Fills (left : List ℕ) (after : Option (List ℕ)) (n : ℕ) (buffer : List ℕ) : Type 0 where
@@ -61,8 +59,3 @@ abbrev pub PacketWithin : Incoming → Type 0
 PacketWithin (incoming.Packet n) = n ≤ packet_limit
 PacketWithin incoming.TooLong = ⊤
 PacketWithin incoming.Failed = ⊤
-
--- what writing a piece leaves in a sink: the whole of it, or a first part that isn't the whole
-abbrev pub OutputOf : (held : List ℕ) (after : Option (List ℕ)) → Output → (piece : List ℕ) → Type 0
-OutputOf held after output.Whole piece = after ≡ Some (held ++ piece)
-OutputOf held after output.Failed piece = (n : ℕ) × (n < length piece) × (after ≡ Some (held ++ take n piece))

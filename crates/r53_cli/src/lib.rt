@@ -7,7 +7,6 @@ mod adapters;
 mod intake;
 mod laws;
 mod once;
-mod output;
 mod program;
 mod status;
 mod words;

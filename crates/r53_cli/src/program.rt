@@ -9,13 +9,13 @@ ghost use Rattle.r53_cli.specs.Streams.{input_limit};
 
 use crate::intake::{Incoming, PACKET_LEN, take_packet};
 use crate::once::Once;
-use crate::output::{Output, write_whole};
 use crate::status::Status;
 use crate::words::once_of;
 use dns_wire::Reply;
 use octets::{OutOfMemory, front, zeros};
 use r53_io::{Sink, Source};
 use std::alloc::Global;
+use whole_writing::{Output, write_whole};
 
 /// The most octets of a reply.
 const REPLY_ROOM: usize = 4096;

@@ -1,7 +1,7 @@
 use Rattle.std.proofs.Common.{arith}
 use Rattle.std.proofs.lemmas.Grind.{common_steps}
-use Rattle.r53_cli.proofs.Streams.{write_step, stuck}
-use Rattle.r53_cli.proofs.output.write_whole.Goals as goal
+use Rattle.whole_writing.proofs.Pieces.{write_step, stuck}
+use Rattle.whole_writing.proofs.output.write_whole.Goals as goal
 
 pub returns-then-n-eq0-clause-writes : goal.returns-then-n-eq0-clause-writes
 returns-then-n-eq0-clause-writes g c = λ held h.

@@ -1,5 +1,5 @@
 use Rattle.std.proofs.Common.{◌≡◌, ℕ, ◌-◌, ◌≤◌, List, Some, length, take, ◌++◌}
-use Rattle.r53_cli.proofs.output.write_whole.Given as goal
+use Rattle.whole_writing.proofs.output.write_whole.Given as goal
 
 abbrev pub invariant-loop-at : goal.invariant-loop-at
 invariant-loop-at g l = record {

@@ -1,15 +1,15 @@
-//! Writing to the end, whatever part of it a sink takes at a time.
+//! The loop over a piece.
 
 ghost use Rattle.std.specs.Prelude.{◌≡◌, ℕ, ◌≤◌, List, Some, length};
 ghost use Rattle.octets.specs.Counts.{Rose};
-ghost use Rattle.r53_cli.specs.Streams.{OutputOf};
+ghost use Rattle.whole_writing.specs.Output.{OutputOf};
 
 use octets::behind;
 use r53_io::{Got, Sink};
 
 /// What writing a piece came to.
 #[derive(Clone, Copy, Debug, PartialEq, Eq)]
-pub(crate) enum Output {
+pub enum Output {
     /// All of it was written.
     Whole,
     /// The sink failed, or took nothing.
@@ -17,7 +17,7 @@ pub(crate) enum Output {
 }
 
 /// Writes a piece whole.
-pub(crate) fn write_whole<K: Sink>(out: &mut K, piece: &[u8]) -> Output
+pub fn write_whole<K: Sink>(out: &mut K, piece: &[u8]) -> Output
     ensures writes { (held : List ℕ) → K.held out.old ≡ Some held
         → OutputOf held (K.held out.new) result piece.now }
     ensures counts { K.faults out.old ≤ K.faults out.new }

@@ -1,0 +1,2 @@
+mod Arrivals
+mod Scripts

@@ -1,0 +1,3 @@
+pub mod Link
+pub mod Peers
+pub use Rattle.octets.specs.Counts

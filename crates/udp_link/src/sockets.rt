@@ -1,0 +1,159 @@
+//! Two sockets of this host, one for queries and one for reports, and the wait for a datagram.
+
+ghost use Rattle.std.specs.Prelude.{◌≡◌, ◌≤◌, length, IfOk, IfSome};
+ghost use Rattle.r53_io.specs.Network.{octets_given};
+ghost use Rattle.udp_link.specs.Link.{IsOpen};
+
+use crate::peers::{peer_at, place_of};
+use mio::net::UdpSocket;
+use mio::{Events, Interest, Poll, Token};
+use r53_io::{Arrival, Peer};
+use std::alloc::Global;
+use std::io::{self, ErrorKind};
+use std::net::{IpAddr, Ipv4Addr, Net, SocketAddr};
+use std::time::Duration;
+
+/// After so many queries in a row the report socket is looked at.
+const MAX_QUERIES: u32 = 64;
+
+/// How many milliseconds are waited for a datagram.
+const WAIT: u64 = 100;
+
+/// How often it waits at most, where the system tells of a datagram that was taken already.
+const MAX_WAITS: u32 = 4;
+
+const QUERY: Token = Token(0);
+
+const REPORT: Token = Token(1);
+
+/// Two open sockets.
+#[derive(Drop)]
+pub(crate) struct Sockets {
+    query: UdpSocket,
+    report: UdpSocket,
+    poll: Poll,
+    events: Events,
+    queries: u32,
+}
+
+impl Sockets {
+    /// Opens both on the loopback address. Port 0 leaves the choice to the system.
+    pub(crate) fn open(
+        alloc: Global,
+        net: &impl Net,
+        query_port: u16,
+        report_port: u16,
+    ) -> io::Result<Sockets> {
+        let mut query = UdpSocket::bind(net, local(query_port))?;
+        let mut report = UdpSocket::bind(net, local(report_port))?;
+        let poll = Poll::new(net)?;
+        poll.registry()
+            .register(&mut query, QUERY, Interest::READABLE)?;
+        poll.registry()
+            .register(&mut report, REPORT, Interest::READABLE)?;
+        let events = Events::with_capacity(alloc, 2)?;
+        Ok(Sockets {
+            query,
+            report,
+            poll,
+            events,
+            queries: 0,
+        })
+    }
+
+    /// The two ports.
+    pub(crate) fn ports(&self) -> io::Result<(u16, u16)> {
+        let query = self.query.local_addr()?.port();
+        let report = self.report.local_addr()?.port();
+        Ok((query, report))
+    }
+
+    /// Sends a datagram from the query port.
+    pub(crate) fn send(&self, peer: Peer, bytes: &[u8]) -> io::Result<usize> {
+        self.query.send_to(bytes, place_of(peer))
+    }
+
+    /// The next datagram of either socket, or Quiet.
+    ///
+    /// A query goes first, but after 64 of them a report does, so that neither socket waits for ever.
+    pub(crate) fn next(&mut self, into: &mut [u8]) -> io::Result<Arrival>
+        ensures within { IfOk result (λ a. octets_given a ≤ length into.old) }
+        ensures open { IfOk result IsOpen }
+    {
+        if self.queries < MAX_QUERIES
+            && let Some(arrival) = self.query(into)?
+        {
+            self.queries += 1;
+            return Ok(arrival);
+        }
+        self.queries = 0;
+        match self.either(into)? {
+            Some(arrival) => Ok(arrival),
+            None => self.wait(into),
+        }
+    }
+
+    /// Waits for a datagram.
+    fn wait(&mut self, into: &mut [u8]) -> io::Result<Arrival>
+        ensures within { IfOk result (λ a. octets_given a ≤ length into.old) }
+        ensures open { IfOk result IsOpen }
+    {
+        for _ in 0..MAX_WAITS {
+            self.poll
+                .poll(&mut self.events, Some(Duration::from_millis(WAIT)))?;
+            if let Some(arrival) = self.either(into)? {
+                return Ok(arrival);
+            }
+            if self.events.is_empty() {
+                break;
+            }
+        }
+        Ok(Arrival::Quiet)
+    }
+
+    /// A datagram that is there, a report before a query.
+    fn either(&self, into: &mut [u8]) -> io::Result<Option<Arrival>>
+        ensures within { IfOk result (λ found.
+            IfSome found (λ a. octets_given a ≤ length into.old)) }
+        ensures open { IfOk result (λ found. IfSome found IsOpen) }
+        ensures room { length into.new ≡ length into.old }
+    {
+        match self.report(into)? {
+            Some(arrival) => Ok(Some(arrival)),
+            None => self.query(into),
+        }
+    }
+
+    /// A query that is there.
+    fn query(&self, into: &mut [u8]) -> io::Result<Option<Arrival>>
+        ensures within { IfOk result (λ found.
+            IfSome found (λ a. octets_given a ≤ length into.old)) }
+        ensures open { IfOk result (λ found. IfSome found IsOpen) }
+        ensures room { length into.new ≡ length into.old }
+    {
+        match self.query.recv_from(into) {
+            Ok((n, from)) => Ok(Some(Arrival::Dns(peer_at(from), n))),
+            Err(error) if error.kind() == ErrorKind::WouldBlock => Ok(None),
+            Err(error) => Err(error),
+        }
+    }
+
+    /// A report that is there.
+    fn report(&self, into: &mut [u8]) -> io::Result<Option<Arrival>>
+        ensures within { IfOk result (λ found.
+            IfSome found (λ a. octets_given a ≤ length into.old)) }
+        ensures open { IfOk result (λ found. IfSome found IsOpen) }
+        ensures room { length into.new ≡ length into.old }
+    {
+        match self.report.recv_from(into) {
+            Ok((n, _)) => Ok(Some(Arrival::Report(n))),
+            Err(error) if error.kind() == ErrorKind::WouldBlock => Ok(None),
+            Err(error) => Err(error),
+        }
+    }
+}
+
+/// A port of this host alone.
+fn local(port: u16) -> SocketAddr {
+    SocketAddr::new(IpAddr::V4(Ipv4Addr::LOCALHOST), port)
+}
