@@ -8,7 +8,7 @@ use Rattle.check_model.specs.Commands.{Given, given_by, updated_at, updated_chec
 use Rattle.check_model.specs.declared.checks.Check.{Check}
 use Rattle.check_model.specs.declared.checks.Check.TheVariants.{Endpoint, Calculated}
 use Rattle.check_model.specs.declared.checks.CheckCommand.TheVariants.{Create, Update, Delete}
-use Rattle.health_index.specs.Following.{FollowsAt, HasThreshold}
+use Rattle.health_planning.specs.Following.{FollowsAt, HasThreshold}
 use Rattle.health_index.specs.Laws.{CommandsFollow}
 
 some_same : {X : Type 0} {x y : X} → Some x ≡ Some y → x ≡ y

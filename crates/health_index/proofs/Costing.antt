@@ -8,8 +8,8 @@ use Rattle.health_model.specs.Nodes.{CheckNode, InCone, Node}
 use Rattle.health_model.specs.Statuses.{Report}
 use Rattle.zone_list.specs.Zones.{Zone}
 use Rattle.health_index.specs.Index.{Index, StandsFor}
-use Rattle.health_index.specs.Wired.{ids_of, place_of, watched_of}
-use Rattle.health_index.proofs.Ending.{cone_long}
+use Rattle.health_planning.specs.Wired.{ids_of, place_of, watched_of}
+use Rattle.health_planning.proofs.Ending.{cone_long}
 use Rattle.health_index.proofs.Reporting.{at_place}
 
 -- Where a status turns, as many gates are worked out as the cone of its check has nodes at most.

@@ -8,11 +8,11 @@ use Rattle.check_model.specs.declared.checks.Check.TheVariants.{Endpoint, Calcul
 use Rattle.checker_state.specs.Standing.{Seen}
 use Rattle.health_model.specs.Statuses.{AreReports, Report}
 use Rattle.zone_list.specs.Zones.{Zone}
-use Rattle.health_index.specs.Following.{EachFollows, Follows, FollowsAt, Knows}
+use Rattle.health_planning.specs.Following.{EachFollows, Follows, FollowsAt, Knows}
 use Rattle.health_index.specs.Index.{Index, StandsFor}
-use Rattle.health_index.specs.Wired.{ids_of, place_of}
-use Rattle.health_index.proofs.Places.{id_at, of_all}
-use Rattle.health_index.proofs.Truth.{found}
+use Rattle.health_planning.specs.Wired.{ids_of, place_of}
+use Rattle.health_planning.proofs.Places.{id_at, of_all}
+use Rattle.health_planning.proofs.Places.{found}
 
 pub each_follows : (old new : Checks) → AreSoundChecks new → Follows old new
     → EachFollows old new.list
@@ -44,7 +44,8 @@ pub follows_nothing : (checks : Checks) → AreSoundChecks checks → Follows no
 follows_nothing checks sound = record {
   next = sound.from;
   each = λ id check at.
-      let low = of_all (λ (held : ℕ × Check). (1 ≤ held.0) × (held.0 < checks.next)) checks.list (place_of (ids_of checks.list) id) (id, check) sound.ids (found checks.list id check at) in
+      let low = of_all (λ (held : ℕ × Check). (1 ≤ held.0) × (held.0 < checks.next)) checks.list (place_of (ids_of checks.list) id) (id, check) sound.ids
+      (found checks.list id check at) in
       new id check low.0;
 }
   where

@@ -1,22 +1,19 @@
 -- Numbers of nodes.
-use Rattle.std.proofs.Common.{◌≡◌, ◌<◌, ◌≤◌, ℕ, suc, Bool, true, false, List, length, arith, refl, ap, sym, ◌∙◌, Some}
+use Rattle.std.proofs.Common.{◌≡◌, ◌<◌, ℕ, suc, Bool, true, false, List, length, arith, refl, ap, ◌∙◌, Some}
 use Rattle.std.specs.Prelude.{slice_get}
-use Rattle.std.proofs.lemmas.Option.{slice_get_within}
 use mathlib.Core.Path.{subst}
 use Rattle.check_model.specs.Checks.{Checks}
-use Rattle.check_model.specs.declared.checks.Check.{Check}
 use Rattle.health_model.specs.Nodes.{CheckNode, GroupNode, Node, SetNode}
 use Rattle.health_model.specs.Statuses.{Report}
-use Rattle.record_set.specs.Sets.{key_of}
 use Rattle.zone_list.proofs.Members.{one_of_key}
 use Rattle.zone_list.specs.Zones.{Zone, placed_in}
 use Rattle.zone_model.specs.Placed.{IsHere, Placed}
-use Rattle.health_index.specs.Index.{HasNode, Index, IsNumberOf, StandsFor}
+use Rattle.health_index.specs.Index.{Index, IsNumberOf, StandsFor}
 use Rattle.health_index.specs.Laws.{NodesAreNumbered}
-use Rattle.health_index.specs.Wired.{IsGateFor, group_seat, ids_of, is_watched, seat_of}
-use Rattle.health_index.proofs.Places.{id_there, one_place}
-use Rattle.health_index.proofs.Seeing.{held_there}
-use Rattle.health_index.proofs.Wiring.{first_same, rising_in}
+use Rattle.health_planning.specs.Wired.{IsGateFor, group_seat, is_watched, seat_of}
+use Rattle.health_planning.proofs.Places.{id_there, one_place}
+use Rattle.health_planning.proofs.Seeing.{held_there}
+use Rattle.health_planning.proofs.Wiring.{first_same, rising_in}
 
 module _ (zones : List Zone) (checks : Checks) (reports : List Report) (index : Index)
     (stands : StandsFor zones checks reports index) where
@@ -60,7 +57,8 @@ module _ (zones : List Zone) (checks : Checks) (reports : List Report) (index : 
       let two = held_there checks.list b id (subst (λ (l : List ℕ). slice_get l b ≡ Some id) stands.ids second) in
       one_place checks.list a b id one.0 two.0 stands.are_checks.rising one.1 two.1
   one_number a b (SetNode zone set) (s, (here, seat)) (t, (there_too, seat_two)) =
-      let p = one_of_key (placed_in zones zone) (rising_in zones stands.are_zones.each zone) (record { slot = s; set = set }) (record { slot = t; set = set }) here there_too refl in
+      let p = one_of_key (placed_in zones zone) (rising_in zones stands.are_zones.each zone) (record { slot = s; set = set })
+      (record { slot = t; set = set }) here there_too refl in
       let seats_same = ap (λ (q : Placed). seat_of index.seats q.slot) p in
       omega arith
   one_number a b (GroupNode zone name rtype) (xs, (are_xs, first)) (ys, (are_ys, second)) =

@@ -25,9 +25,10 @@ use Rattle.record_set.specs.declared.sets.Body.{Body}
 use Rattle.record_set.specs.declared.sets.Body.TheVariants as body
 use Rattle.zone_list.specs.Zones.{Zone}
 use Rattle.zone_model.specs.Placed.{Placed}
-use Rattle.health_index.specs.Index.{Index, IsEndpoint, IsEndpointOf, IsSeen, IsWhole, Space, StandsFor, reported}
-use Rattle.health_index.specs.Wired.{IsCheckGate, IsGateFor, IsGroupGate, IsSeated, IsTarget, check_own, ids_of, place_of}
-use Rattle.health_index.proofs.Places.{check_there, no_check, of_all, one_place}
+use Rattle.health_index.specs.Index.{Index, IsEndpoint, IsEndpointOf, IsWhole, Space, StandsFor, reported}
+use Rattle.health_planning.specs.Building.{IsSeen}
+use Rattle.health_planning.specs.Wired.{IsCheckGate, IsGateFor, IsGroupGate, IsSeated, IsTarget, check_own, ids_of, place_of}
+use Rattle.health_planning.proofs.Places.{check_there, no_check, of_all, one_place}
 
 -- ---- results that are the same, one by one
 
@@ -69,6 +70,7 @@ module _ (zones : List Zone) (list : List (ℕ × Check)) (index : Index) (net :
       → IsGroupGate (length (ids_of list)) index.seats net now members gate
   group_still members gate w = record {
     seat = w.seat;
+    each = w.each;
     behind = w.behind;
     within = w.within;
     rule = w.rule;
@@ -96,6 +98,7 @@ module _ (zones : List Zone) (list : List (ℕ × Check)) (index : Index) (net :
       → IsSeated zones (ids_of list) index.seats net now zone p
   seated_still zone p w = record {
     plain = w.plain;
+    told = w.told;
     gated = λ e. let g = w.gated e in (
       g.0,
       g.1,
@@ -158,7 +161,8 @@ module _ (fifty : FiftyAlone) (more : OneMoreReport) (zones : List Zone) (checks
       → IsSeen (report ∷ reports) id check (Some now)
       × (given ≡ check_own check (passing (report ∷ reports) id))
   its_check (Endpoint threshold inverted disabled) at is =
-      let seen = fifty threshold (with_result checker pass (results_of reports id)) (results_of (report ∷ reports) id) now (λ k b. sym (more.its report reports k)) (takes threshold (results_of reports id) is) in
+      let seen = fifty threshold (with_result checker pass (results_of reports id)) (results_of (report ∷ reports) id) now
+      (λ k b. sym (more.its report reports k)) (takes threshold (results_of reports id) is) in
       (seen, counts threshold (results_of (report ∷ reports) id) seen)
   its_check (Calculated threshold inverted disabled children) at is =
       absurd (subst IsEndpoint at endpoint)
@@ -219,7 +223,14 @@ module _ (fifty : FiftyAlone) (more : OneMoreReport) (zones : List Zone) (checks
     are_zones = stands.are_zones;
     are_checks = stands.are_checks;
     sound = stands.sound;
-    are_reports = (((of_all (λ (held : ℕ × Check). (1 ≤ held.0) × (held.0 < checks.next)) checks.list place (id, there.0) stands.are_checks.ids there.1).1, checker_within), stands.are_reports);
+    are_reports = (
+      (
+        (of_all (λ (held : ℕ × Check). (1 ≤ held.0) × (held.0 < checks.next)) checks.list place (id, there.0) stands.are_checks.ids
+            there.1).1,
+        checker_within,
+      ),
+      stands.are_reports,
+    );
     ids = stands.ids;
     seen = seen_now;
     as_many = length-set index.seen place (Some now) ∙ stands.as_many;

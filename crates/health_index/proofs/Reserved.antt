@@ -8,8 +8,8 @@ use Rattle.health_model.specs.Statuses.{Report}
 use Rattle.zone_list.specs.Zones.{Zone}
 use Rattle.health_index.specs.Index.{Index, IsWhole, StandsFor}
 use Rattle.health_index.specs.Room.{Keeps}
-use Rattle.health_index.specs.Wired.{IsWired}
-use Rattle.health_index.specs.declared.seats.Seat.{Seat}
+use Rattle.health_planning.specs.Wired.{IsWired}
+use Rattle.health_planning.specs.declared.seats.Seat.{Seat}
 
 module _ (before after : Index) (keeps : Keeps before after)
     (stays : (net : Net) (own : ℕ → ℕ) → Fits net own before.gates → Fits net own after.gates)

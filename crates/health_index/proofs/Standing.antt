@@ -14,12 +14,12 @@ use Rattle.health_model.specs.Statuses.{AreReports, Report}
 use Rattle.zone_list.specs.Zones.{AreZones, Zone}
 use Rattle.zone_list.specs.declared.refs.SetRef.{SetRef}
 use Rattle.zone_table.specs.Tables.{HaveSlotsApart}
-use Rattle.health_index.specs.Building.{AreOfEndpoints, AreSeen, AreShaped, IsBuilt, set_shape}
+use Rattle.health_planning.specs.Building.{AreOfEndpoints, AreSeen, AreShaped, IsBuilt, set_shape}
 use Rattle.health_index.specs.Index.{Index, IsWhole, Space, StandsFor}
-use Rattle.health_index.specs.Wired.{ids_of, place_of, watched_of}
-use Rattle.health_index.specs.declared.seats.Seat.{Seat}
-use Rattle.health_index.proofs.Planned.{fed_by_rule}
-use Rattle.health_index.proofs.Wiring.{ids_long, wired}
+use Rattle.health_planning.specs.Wired.{ids_of, place_of, watched_of}
+use Rattle.health_planning.specs.declared.seats.Seat.{Seat}
+use Rattle.health_planning.proofs.Planned.{fed_by_rule}
+use Rattle.health_planning.proofs.Wiring.{ids_long, wired}
 
 module _ (zones : List Zone) (checks : Checks) (refs : List SetRef) (seats : List Seat)
     (plan : Planned) (gates : Gates) (ids : List ℕ) (seen : List (Option Seen)) (space : Space)

@@ -15,8 +15,8 @@ use Rattle.health_model.specs.Statuses.{Report, number_told, passing, results_of
 use Rattle.zone_list.specs.Zones.{Zone}
 use Rattle.zone_model.specs.Zones.{IsAmong}
 use Rattle.health_index.specs.Index.{Index, StandsFor, Tells}
-use Rattle.health_index.specs.Wired.{check_own, ids_of, place_of}
-use Rattle.health_index.proofs.Places.{check_there, no_check, of_all}
+use Rattle.health_planning.specs.Wired.{check_own, ids_of, place_of}
+use Rattle.health_planning.proofs.Places.{check_there, no_check, of_all}
 use Rattle.health_index.proofs.Truth.{children_counted}
 
 few_passing : (n : ℕ) (results : ℕ → List Bool) → passing_of n results ≤ 50
@@ -58,7 +58,8 @@ module _ (zones : List Zone) (checks : Checks) (reports : List Report) (index : 
     number (Endpoint threshold inverted disabled) are = omega arith
     number (Calculated threshold inverted disabled children) are =
         let c = children_counted (value_of index.gates) (ids_of checks.list) children in
-        let f = ap length (filter_same (λ (child : ℕ). value_of index.gates (place_of (ids_of checks.list) child)) (status checks.list reports) children (λ child m. child_told child (all_there (IsId checks.list) children child are.there m))) in
+        let f = ap length (filter_same (λ (child : ℕ). value_of index.gates (place_of (ids_of checks.list) child)) (status checks.list reports) children
+        (λ child m. child_told child (all_there (IsId checks.list) children child are.there m))) in
         omega arith
 
     filtered : (p : ℕ → Bool) (xs : List ℕ) → length (filter p xs) ≤ length xs

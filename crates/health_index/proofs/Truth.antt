@@ -1,17 +1,16 @@
 -- An index that stands for a configuration tells its health.
 use Rattle.std.proofs.Common.{◌≡◌, ◌<◌, ◌+◌, ◌*◌, ℕ, zero, suc, Bool, true, false, List, [], ◌∷◌, ◌++◌, length, map, add-one, arith, refl, ap, sym, ◌∙◌, inl, inr, Some, None, Option}
-use Rattle.std.specs.Prelude.{◌&&◌, ◌||◌, nat_eq, nat_le, nat_lt, is_some, slice_get}
+use Rattle.std.specs.Prelude.{◌&&◌, ◌||◌, nat_le, nat_lt, is_some}
 use Rattle.std.specs.List.{filter, list_any}
-use Rattle.std.specs.Map.{lookup}
 use Rattle.std.specs.Option.{option_to_list}
-use Rattle.std.proofs.lemmas.Bool.{cases_eq, cases_lt, eq-eqb, false≢true, le-leb, le-ltb, lt-leb, lt-ltb, ne_eqb}
+use Rattle.std.proofs.lemmas.Bool.{cases_lt, false≢true, le-leb, le-ltb, lt-leb, lt-ltb}
 use mathlib.Core.Path.{subst}
 use Rattle.calculated_health.specs.Status.{swapped_if}
 use Rattle.check_model.specs.Checks.{Checks, check_at, children_of}
 use Rattle.check_model.specs.declared.checks.Check.{Check}
 use Rattle.check_model.specs.declared.checks.Check.TheVariants.{Endpoint, Calculated}
 use Rattle.health_gates.specs.Gates.{Rule, count, value_of}
-use Rattle.health_model.specs.Healthy.{Watched, by_check, by_target, group_value, set_value, sets_of as sets_at, sets_there}
+use Rattle.health_model.specs.Healthy.{Watched, by_check, by_target, group_value, set_value, sets_of as sets_at}
 use Rattle.health_model.specs.Laws.{OneHealth}
 use Rattle.health_model.specs.Nodes.{CheckNode, GroupNode, IsNode, Meets, Node, SetNode}
 use Rattle.health_model.specs.Statuses.{Report, check_value, passing, value_there}
@@ -29,23 +28,17 @@ use Rattle.zone_model.specs.Zones.{IsAmong, is_of_group}
 use Rattle.zone_table.specs.Looking.{Names}
 use Rattle.health_index.specs.Index.{Index, StandsFor, healthy_in}
 use Rattle.health_index.specs.Laws.{IndexTells}
-use Rattle.health_index.specs.Wired.{AreMembers, IsGroupGate, IsSeated, IsTarget, check_need, check_own, check_rule, gates_of, ids_of, is_inverted, is_watched, open_in, place_of, plain_among, seat_of, watched_of, watched_zone, with_gate, plain}
-use Rattle.health_index.specs.declared.seats.Seat.{Seat}
+use Rattle.health_planning.proofs.Places.{found}
+use Rattle.health_planning.proofs.Watching.{zone_sets as sets_seen}
+use Rattle.health_planning.specs.Wired.{AreMembers, IsGroupGate, IsSeated, IsTarget, check_need, check_own, check_rule, gates_of, ids_of, is_inverted, is_watched, open_in, place_of, plain_among, seat_of, watched_of, with_gate, plain}
+use Rattle.health_planning.specs.declared.seats.Seat.{Seat}
 
 -- ---- lists
 
 -- the sets of a zone, as health sees them
 pub zone_sets : (zones : List Zone) (checks : Checks) (zone : ℕ)
     → sets_at (watched_of zones checks) zone ≡ sets_of (placed_in zones zone)
-zone_sets zones checks zone = go zones
-  where
-    go : (zones : List Zone)
-        → sets_there (lookup (nat_eq zone) (map watched_zone zones)) ≡ sets_of (placed_in zones zone)
-    go [] = refl
-    go (first ∷ zones) = elim (cases_eq first.id zone) [
-      | inl same ↦ rw (eq-eqb zone first.id (sym same), eq-eqb first.id zone same) refl
-      | inr apart ↦ rw (ne_eqb zone first.id (λ e. apart (sym e)), ne_eqb first.id zone apart) (go zones)
-    ]
+zone_sets zones checks zone = sets_seen zones checks zone
 
 among_mapped : {X Y : Type 0} (f : X → Y) (xs : List X) (y : Y) → IsAmong (map f xs) y
     → (x : X) × IsAmong xs x × (f x ≡ y)
@@ -121,23 +114,9 @@ check_equation v ids (Endpoint threshold inverted false) passing =
 check_equation v ids (Calculated threshold inverted true children) passing =
     ap (swapped_if inverted) (le-leb 0 (0 + count v (map (place_of ids) children)) (omega arith))
 check_equation v ids (Calculated threshold inverted false children) passing =
-    let same : 0 + count v (map (place_of ids) children) ≡ length (filter (λ (child : ℕ). v (place_of ids child)) children) = let c = children_counted v ids children in omega arith in
+    let same : 0 + count v (map (place_of ids) children) ≡ length (filter (λ (child : ℕ). v (place_of ids child)) children) = let c = children_counted v
+    ids children in omega arith in
     ap (λ (n : ℕ). swapped_if inverted (nat_le threshold n)) same
-
--- where the check of a number stands
-pub found : (list : List (ℕ × Check)) (id : ℕ) (check : Check) → check_at list id ≡ Some check
-    → slice_get list (place_of (ids_of list) id) ≡ Some (id, check)
-found [] id check e = let no : ⊥ = cc in absurd no
-found (held ∷ list) id check e = elim (cases_eq id held.0) [
-  | inl same ↦ rw (eq-eqb id held.0 same) (let its : held.1 ≡ check = some_same (rw (eq-eqb id held.0 same) at e) in ap Some (pair_is held.0 id held.1 check (sym same) its))
-  | inr apart ↦ rw (ne_eqb id held.0 apart) (found list id check (rw (ne_eqb id held.0 apart) at e))
-]
-  where
-    some_same : {X : Type 0} {x y : X} → Some x ≡ Some y → x ≡ y
-    some_same e = cc
-
-    pair_is : (i j : ℕ) (c d : Check) → i ≡ j → c ≡ d → ◌≡◌ {A = ℕ × Check} (i, c) (j, d)
-    pair_is i j c d a b = cc
 
 -- ---- the gate of a set
 
@@ -277,7 +256,8 @@ module _ (zones : List Zone) (checks : Checks) (reports : List Report) (index : 
   pub all_meet : (n : Node) → IsNode watched n → Meets watched reports of_node n
   all_meet (CheckNode id) (check, at) = check_meets id check at ∙ ap (λ (o : Option Check). value_there o (passing reports id) of_check) (sym at)
   all_meet (SetNode zone set) is =
-      let p = among_mapped (λ (p : Placed). p.set) (placed_in zones zone) set (subst (λ (sets : List RecordSet). IsAmong sets set) (zone_sets zones checks zone) is) in
+      let p = among_mapped (λ (p : Placed). p.set) (placed_in zones zone) set
+      (subst (λ (sets : List RecordSet). IsAmong sets set) (zone_sets zones checks zone) is) in
       subst (λ (s : RecordSet). of_set zone s ≡ set_value of_check (of_group zone) s) p.2 (set_meets zone p.0 p.1)
   all_meet (GroupNode zone name rtype) is = refl
 

@@ -5,21 +5,21 @@ use Rattle.check_model.specs.Checks.{IsSound as AreSoundChecks}
 use Rattle.check_model.specs.declared.checks.Check.{Check}
 use Rattle.check_model.specs.declared.checks.Check.TheVariants.{Endpoint, Calculated}
 use Rattle.checker_state.specs.Standing.{Seen}
-use Rattle.checker_state.specs.Standing.{StandsFor as HasSeen}
 use Rattle.health_gates.specs.Gates.{Fits, Net, size_of, value_of}
 use Rattle.health_gates.specs.Pass.{IsIdle, MeetAll}
 use Rattle.health_gates.specs.declared.gates.Gates.{Gates}
 use Rattle.health_model.specs.Healthy.{healthy}
 use Rattle.health_model.specs.Nodes.{CheckNode, GroupNode, Node, SetNode}
 use Rattle.health_model.specs.Sound.{IsSound}
-use Rattle.health_model.specs.Statuses.{AreReports, Report, results_of, status}
+use Rattle.health_model.specs.Statuses.{AreReports, Report, status}
 use Rattle.record_set.specs.declared.sets.RecordSet.{RecordSet}
 use Rattle.zone_list.specs.Zones.{AreZones, Zone, placed_in}
 use Rattle.zone_list.specs.declared.refs.SetRef.{SetRef}
 use Rattle.zone_model.specs.Placed.{IsHere, Placed}
 use Rattle.zone_table.specs.Looking.{Names}
-use Rattle.health_index.specs.Wired.{AreMembers, IsGroupSeat, IsWired, ids_of, open_in, place_of, seat_of, watched_of}
-use Rattle.health_index.specs.declared.seats.Seat.{Seat}
+use Rattle.health_planning.specs.Building.{IsSeen}
+use Rattle.health_planning.specs.Wired.{AreMembers, IsGroupSeat, IsWired, ids_of, open_in, place_of, seat_of, watched_of}
+use Rattle.health_planning.specs.declared.seats.Seat.{Seat}
 
 -- For how many there is room: numbers of checks and what their checkers saw, now and before a
 -- command; slots; and what is planned: sets with gates, gates, and links between them.
@@ -41,13 +41,6 @@ pub record Index : Type 0 where
   pub seats : List Seat
   pub gates : Gates
   pub space : Space
-
--- what the fifty checkers of a check saw; a calculated one has none
-abbrev pub IsSeen : List Report → (id : ℕ) → Check → Option Seen → Type 0
-IsSeen reports id (Endpoint threshold inverted disabled) None = ⊥
-IsSeen reports id (Endpoint threshold inverted disabled) (Some seen) =
-    HasSeen threshold (results_of reports id) seen
-IsSeen reports id (Calculated threshold inverted disabled children) seen = seen ≡ None
 
 -- The index stands for a sound configuration and reports.
 pub record StandsFor (zones : List Zone) (checks : Checks) (reports : List Report) (index : Index)
@@ -135,11 +128,6 @@ IsEndpointOf checks id = IsEndpoint (check_at checks.list id)
 
 abbrev pub reported : (id checker : ℕ) → Bool → Report
 reported id checker pass = record { check = id; checker = checker; pass = pass }
-
--- the place of a number, where it stands
-abbrev pub IsPlace : List ℕ → (id : ℕ) → Option ℕ → Type 0
-IsPlace ids id None = (place : ℕ) → slice_get ids place ≡ Some id → ⊥
-IsPlace ids id (Some place) = (slice_get ids place ≡ Some id) × (place_of ids id ≡ place)
 
 -- the gate of the set in a slot, where it has one
 abbrev pub IsGateOf : List Seat → (slot : ℕ) → Option ℕ → Type 0

@@ -1,9 +1,7 @@
-pub mod Building
-pub mod Following
 pub mod Index
 pub mod Laws
+pub mod Leaving
 pub mod Room
-pub mod Wired
 pub use Rattle.check_model.specs.Checks
 pub use Rattle.checker_state.specs.Standing
 pub use Rattle.health_gates.specs.Gates
@@ -12,4 +10,8 @@ pub use Rattle.health_model.specs.Healthy
 pub use Rattle.health_model.specs.Nodes
 pub use Rattle.health_model.specs.Sound
 pub use Rattle.health_model.specs.Statuses
+pub use Rattle.health_planning.specs.Following
+pub use Rattle.health_planning.specs.Wired
 pub use Rattle.policy_select.specs.Groups
+pub use Rattle.zone_table.specs.Edits
+pub use Rattle.zone_table.specs.Looking

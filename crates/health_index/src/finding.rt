@@ -1,26 +1,33 @@
-//! Where checks stand by their numbers, and what their checkers saw.
+//! The seat in a slot, and the gate of the set there.
 
-ghost use Rattle.std.specs.Prelude.{◌≡◌, ◌<◌, Some, length, slice_get};
-ghost use Rattle.health_index.specs.Index.{IsPlace};
+ghost use Rattle.std.specs.Prelude.{◌≡◌};
+ghost use Rattle.health_index.specs.Index.{IsGateOf};
+ghost use Rattle.health_planning.specs.Building.{IsSeatAt};
 
-use checker_state::Checkers;
+use health_planning::Seat;
 
-/// The place of a number.
-pub fn place_in(ids: &[u32], id: u32) -> Option<usize>
-    ensures { IsPlace ids.now id result }
+/// The seat in a slot; one without gates, where there is none.
+pub fn find_seat(seats: &[Seat], slot: u32) -> Seat
+    ensures { IsSeatAt seats.now slot result }
 {
-    for (place, other) in ids.iter().enumerate() {
-        if *other == id {
-            return Some(place);
-        }
+    let at = slot as usize;
+    if at >= seats.len() {
+        return Seat {
+            set: 0,
+            group: 0,
+            check: 0,
+        };
     }
-    None
+    seats[at]
 }
 
-/// What the checkers of the check at a place saw.
-pub fn seen_at(seen: &[Option<Checkers>], place: usize) -> Option<Checkers>
-    requires { place < length seen.now }
-    ensures { slice_get seen.now place ≡ Some result }
+/// The gate of the set in a slot.
+pub fn gate_of(seats: &[Seat], slot: u32) -> Option<usize>
+    ensures { IsGateOf seats.now slot result }
 {
-    seen[place]
+    let seat = find_seat(seats, slot).set;
+    if seat == 0 {
+        return None;
+    }
+    Some((seat - 1) as usize)
 }

@@ -3,36 +3,36 @@
 ghost use Rattle.std.specs.Prelude.{◌≡◌, ◌≢◌, ◌≤◌, ◌<◌, ◌+◌, ◌∷◌, ◌↔◌, [], ℕ, IsTrue, List, false};
 ghost use Rattle.std.specs.Prelude.{Contains, IfOk, OnOk, Some, if◌then◌else◌, length, slice_get};
 ghost use Rattle.check_model.specs.Checks.{Checks};
-ghost use Rattle.health_index.specs.Following.{Follows};
+ghost use Rattle.health_planning.specs.Following.{Follows};
 ghost use Rattle.health_gates.specs.Gates.{Feeds, Fits, MeetsEquation, Net, value_of};
 ghost use Rattle.health_gates.specs.Pass.{IsIdle};
-ghost use Rattle.health_index.specs.Index.{HasNode, IsEndpointOf, IsGateOf, IsPlace, StandsFor};
+ghost use Rattle.health_index.specs.Index.{HasNode, IsEndpointOf, StandsFor};
 ghost use Rattle.health_index.specs.Index.{healthy_in};
 ghost use Rattle.health_index.specs.Index.{reported};
+ghost use Rattle.health_index.specs.Leaving.{LeavesGates, AreLeft};
 ghost use Rattle.health_index.specs.Room.{HasRoom, Keeps};
-ghost use Rattle.health_index.specs.Wired.{watched_of};
+ghost use Rattle.health_planning.specs.Wired.{watched_of};
 ghost use Rattle.health_model.specs.Nodes.{CheckNode, InCone, Node};
 ghost use Rattle.health_model.specs.Sound.{IsSound};
 ghost use Rattle.health_model.specs.Statuses.{Report, status, status_told};
 ghost use Rattle.zone_list.specs.Zones.{Zone};
 
-use crate::building::{lay_seats, list_ids, list_seen};
-use crate::finding::{place_in, seen_at};
+use crate::finding::gate_of;
+use crate::gate_leaving::leaves_gates;
 use crate::laws::index_tells_health;
-use crate::planning::plan_gates;
 use crate::reserving::{each_ok, room_for_checks, room_for_slots};
-use crate::seats::Seat;
 use checker_state::{CHECKERS, Checkers, fifty_alone};
 use health_check::CheckTable;
 use health_gates::{Gates, Plan, Steps};
 use health_model::{one_health, one_more_report};
+use health_planning::{Seat, lay_seats, list_ids, list_seen, place_in, plan_gates, seen_at};
 use octets::OutOfMemory;
 use policy_select::{HealthView, views_agree};
 use std::alloc::Global;
 use std::marker::Model;
 use std::mem;
 use std::sync::ledger::Ledger;
-use zone_table::{SetRef, Zones};
+use zone_table::{Delta, Scratch, SetRef, Zones};
 
 /// The health of a configuration's checks, sets and groups.
 #[derive(Drop)]
@@ -50,6 +50,8 @@ pub struct HealthIndex {
     /// The sets with gates, and what was planned: of use while all is laid out.
     refs: Vec<SetRef>,
     plan: Plan,
+    /// Where a set that came is read.
+    scratch: Scratch,
 }
 
 impl Model for HealthIndex {
@@ -104,7 +106,10 @@ impl HealthIndex {
         ensures stands { IfOk result (λ index.
             StandsFor zones.now.zones checks.now.checks [] index) }
     {
-        let mut index = HealthIndex::empty(alloc);
+        let Ok(scratch) = Scratch::new(alloc) else {
+            return Err(OutOfMemory);
+        };
+        let mut index = HealthIndex::empty(alloc, scratch);
         let Ok(()) = index.reserve(zones) else {
             return Err(OutOfMemory);
         };
@@ -113,7 +118,7 @@ impl HealthIndex {
     }
 
     /// The index of nothing.
-    fn empty(alloc: Global) -> HealthIndex
+    fn empty(alloc: Global, scratch: Scratch) -> HealthIndex
         ensures { result.ids ≡ [] }
     {
         HealthIndex {
@@ -125,6 +130,7 @@ impl HealthIndex {
             seen_before: Vec::new(alloc),
             refs: Vec::new(alloc),
             plan: Plan::new(alloc),
+            scratch,
         }
     }
 
@@ -151,17 +157,29 @@ impl HealthIndex {
         each_ok(now, before, slots)
     }
 
-    /// Takes a command: the zones and the checks are those that it left. It takes no memory.
+    /// Takes a command: the zones and the checks are those that it left, and the references are
+    /// those that it told. It takes no memory.
     ///
-    /// All gates are laid out anew: it costs what the configuration has, whatever the command
-    /// changed.
-    pub fn on_command(&mut self, zones: &Zones, checks: &CheckTable)
+    /// Where sets gave way to others that the same check alone decides, or nothing, and else sets
+    /// that nothing decides went and came, but in no group to which an evaluated alias leads, it
+    /// costs a look at these and at their groups, and a comparison of those that came with those that
+    /// went. Otherwise all gates are laid out anew: it costs what the configuration has.
+    pub fn on_command(&mut self, zones: &Zones, checks: &CheckTable, delta: &Delta)
         requires room { HasRoom self.old zones.now.slots }
         requires sound { IsSound (watched_of zones.now.zones checks.now.checks) }
-        ensures { (before : List Zone) (old : Checks) (reports : List Report)
-            → StandsFor before old reports self.old → Follows old checks.now.checks
+        ensures stands { (before : List Zone) (old : Checks) (reports : List Report)
+            → StandsFor before old reports self.old
+            → AreLeft before old zones.now.zones checks.now.checks delta.now
             → StandsFor zones.now.zones checks.now.checks reports self.new }
+
+        // Where the sets that went and came are of this kind, the index stays as it is.
+        ensures same { LeavesGates zones.now.zones self.old.seats delta.now
+            → self.new ≡ self.old }
     {
+        zones.well_formed();
+        if leaves_gates(zones, &self.seats, delta, &mut self.scratch) {
+            return;
+        }
         self.lay(zones, checks);
     }
 
@@ -318,19 +336,4 @@ fn short(count: u32) -> u16
     } else {
         u16::MAX
     }
-}
-
-/// The gate of the set in a slot.
-fn gate_of(seats: &[Seat], slot: u32) -> Option<usize>
-    ensures { IsGateOf seats.now slot result }
-{
-    let at = slot as usize;
-    if at >= seats.len() {
-        return None;
-    }
-    let seat = seats[at].set;
-    if seat == 0 {
-        return None;
-    }
-    Some((seat - 1) as usize)
 }

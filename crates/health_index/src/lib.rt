@@ -2,21 +2,16 @@
 //!
 //! A set that nothing decides has no gate: it is healthy, and takes no more than its seat.
 //!
-//! The gates of checks and what feeds them are planned (`building`), of sets (`listing`), of target
-//! groups (`grouping`), and what feeds the gates of sets (`joining`), and then laid out. After each
-//! command this is done anew, in room that was made before (`reserving`).
+//! The gates are planned (`health_planning`), and then laid out. After a command this is done anew,
+//! in room that was made before (`reserving`), but where no gate changes by the sets that went and
+//! came (`gate_leaving`): then all stays as it is.
 #![tactic(auto)]
 
-mod building;
 mod finding;
-mod grouping;
+mod gate_leaving;
 mod index;
-mod joining;
 mod laws;
-mod listing;
-mod planning;
 mod reserving;
-mod seats;
 
 pub use health_gates::Steps;
 pub use index::HealthIndex;

@@ -5,9 +5,9 @@ ghost use Rattle.health_gates.specs.Gates.{Fits, Net};
 ghost use Rattle.health_gates.specs.Laying.{HasRoomFor};
 ghost use Rattle.health_gates.specs.Pass.{IsIdle, MeetAll};
 
-use crate::seats::Seat;
 use checker_state::Checkers;
 use health_gates::{Gates, Plan, make_room};
+use health_planning::Seat;
 use octets::OutOfMemory;
 use zone_table::SetRef;
 

@@ -8,7 +8,7 @@ use std::alloc::Global;
 use std::marker::Brand;
 use std::process::Abort;
 use std::sync::ledger::{Blank, Ledger};
-use zone_table::Zones;
+use zone_table::{Delta, SetRefs, Zones};
 
 /// A check of an endpoint whose views turn after three equal results.
 pub fn endpoint() -> Check {
@@ -72,7 +72,12 @@ pub fn take(rt: &impl Abort, alloc: Global, index: &mut HealthIndex, checks: &Ch
     // The clause of this call says that they are sound.
     let list = checks.as_slice();
     assert!(rt; index.reserve(&zones).is_ok(), "memory");
-    index.on_command(&zones, checks);
+    let nothing = Delta {
+        zone: 0,
+        removed: SetRefs::from_vec(Vec::new(alloc)),
+        added: SetRefs::from_vec(Vec::new(alloc)),
+    };
+    index.on_command(&zones, checks, &nothing);
 }
 
 /// So many equal reports from each of some checkers.

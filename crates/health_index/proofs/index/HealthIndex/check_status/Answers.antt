@@ -1,7 +1,8 @@
 use Rattle.std.proofs.Common.{length, arith, ap, sym, ◌∙◌}
 use mathlib.Core.Path.{subst}
 use Rattle.std.proofs.lemmas.Option.{slice_get_within}
-use Rattle.health_index.specs.Index.{Index, IsPlace, StandsFor}
+use Rattle.health_index.specs.Index.{Index, StandsFor}
+use Rattle.health_planning.specs.Wired.{IsPlace}
 use Rattle.health_index.proofs.Telling.{nothing_told, told}
 use Rattle.health_index.proofs.index.HealthIndex.check_status.Goals as goal
 

@@ -3,16 +3,16 @@ use mathlib.Core.Path.{subst}
 use Rattle.std.specs.Prelude.{vec_capacity}
 use Rattle.check_model.specs.Checks.{IsBounded}
 use Rattle.check_model.specs.declared.checks.Check.{Check}
-use Rattle.health_index.specs.Building.{AreSeen}
-use Rattle.health_index.specs.Following.{EachFollows, Knows}
+use Rattle.health_planning.specs.Building.{AreSeen}
+use Rattle.health_planning.specs.Following.{EachFollows, Knows}
 use Rattle.health_index.specs.Index.{Index}
 use Rattle.health_index.specs.Room.{HasRoom}
-use Rattle.health_index.specs.Wired.{ids_of}
+use Rattle.health_planning.specs.Wired.{ids_of}
 use Rattle.health_index.proofs.Knowing.{each_follows, follows_nothing, knows_its, knows_nothing, no_checks, still_reports}
-use Rattle.health_index.proofs.Places.{of_all}
-use Rattle.health_index.proofs.Roomy.{room_for_fewer}
+use Rattle.health_planning.proofs.Places.{of_all}
+use Rattle.health_planning.proofs.Roomy.{room_for_fewer}
 use Rattle.health_index.proofs.Standing.{stands, whole}
-use Rattle.health_index.proofs.Wiring.{ids_long}
+use Rattle.health_planning.proofs.Wiring.{ids_long}
 use Rattle.health_index.proofs.index.HealthIndex.lay.Goals as goal
 
 pub list_ids-requires-clause-room : goal.list_ids-requires-clause-room
@@ -51,7 +51,8 @@ list_seen-requires-clause-as_many c =
 
 pub list_seen-requires-clause-bounded : goal.list_seen-requires-clause-bounded
 list_seen-requires-clause-bounded c place id check at =
-    of_all (λ (held : ℕ × Check). IsBounded held.1) c.args.checks.now.checks.list place (id, check) c.as_slice-list.ensures.sound.bounded (rw c.as_slice-list.ensures.checks at at)
+    of_all (λ (held : ℕ × Check). IsBounded held.1) c.args.checks.now.checks.list place (id, check) c.as_slice-list.ensures.sound.bounded
+    (rw c.as_slice-list.ensures.checks at at)
 
 pub lay_seats-requires-clause-room : goal.lay_seats-requires-clause-room
 lay_seats-requires-clause-room c =
@@ -117,7 +118,8 @@ returns-clause-stands c before old reports is follows =
     let seen_before = ap (λ (i : Index). i.seen) (sym c.self.view_is) ∙ sym (c.deref-2.ensures.value ∙ ap (λ v. v.items) c.swap-2.ensures.y_after) in
     let knows = subst (λ l. Knows old reports l c.deref-2.result.now) ids_before (subst (Knows old reports c.args.self.now.ids) seen_before its) in
     let each = each_follows old checks sound follows in
-    let are = subst (λ l. AreSeen reports l c.list_seen.new.into.items) list (c.list_seen.ensures.seen old reports knows (subst (EachFollows old) (sym list) each)) in
+    let are = subst (λ l. AreSeen reports l c.list_seen.new.into.items) list
+    (c.list_seen.ensures.seen old reports knows (subst (EachFollows old) (sym list) each)) in
     stands zones checks c.plan_gates.new.refs.items c.plan_gates.new.seats.items c.plan_gates.new.plan c.lay_out.new.self
     c.list_ids.new.ids.items c.list_seen.new.into.items _ sound ids many
     c.plan_gates.ensures.built c.lay_out.ensures.fits c.lay_out.ensures.idle
@@ -138,7 +140,8 @@ returns-clause-first c none =
     let ids_before = c.deref.ensures.value ∙ ap (λ v. v.items) c.swap.ensures.y_after ∙ ap (λ (i : Index). i.ids) c.self.view_is ∙ none in
     let each = each_follows no_checks checks sound (follows_nothing checks sound) in
     let knows = knows_nothing c.deref.result.now c.deref-2.result.now ids_before in
-    let are = subst (λ l. AreSeen [] l c.list_seen.new.into.items) list (c.list_seen.ensures.seen no_checks [] knows (subst (EachFollows no_checks) (sym list) each)) in
+    let are = subst (λ l. AreSeen [] l c.list_seen.new.into.items) list
+    (c.list_seen.ensures.seen no_checks [] knows (subst (EachFollows no_checks) (sym list) each)) in
     stands zones checks c.plan_gates.new.refs.items c.plan_gates.new.seats.items c.plan_gates.new.plan c.lay_out.new.self
     c.list_ids.new.ids.items c.list_seen.new.into.items _ sound ids many
     c.plan_gates.ensures.built c.lay_out.ensures.fits c.lay_out.ensures.idle

@@ -3,8 +3,9 @@ use Rattle.std.specs.Prelude.{slice_get}
 use mathlib.Core.Path.{subst}
 use Rattle.std.proofs.lemmas.Option.{slice_get_within}
 use Rattle.health_gates.specs.Gates.{value_of}
-use Rattle.health_index.specs.Index.{Index, IsPlace, StandsFor}
-use Rattle.health_index.specs.Wired.{place_of}
+use Rattle.health_index.specs.Index.{Index, StandsFor}
+use Rattle.health_planning.specs.Wired.{IsPlace}
+use Rattle.health_planning.specs.Wired.{place_of}
 use Rattle.health_index.proofs.Costing.{few_steps}
 use Rattle.health_index.proofs.Reporting.{alone_in_all, at_place, none_seen, not_there, some_seen, stands_after, whole_after}
 use Rattle.health_index.proofs.index.HealthIndex.on_report.Goals as goal
@@ -81,14 +82,16 @@ take_count-requires-clause-alone g c net own fits =
     let within = slice_get_within c.deref.result.now c.in-Some.place c.args.id here in
     let ids = ap length c.deref.ensures.value in
     let most = w.within in
-    let is : slice_get c.self.inside.seen.items c.in-Some.place ≡ Some (Some c.in-Some-seen_at.checkers) = rw c.deref-2.ensures.value at (c.seen_at.ensures ∙ ap Some c.in-Some-seen_at.is) in
+    let is : slice_get c.self.inside.seen.items c.in-Some.place ≡ Some (Some c.in-Some-seen_at.checkers) = rw c.deref-2.ensures.value at
+    (c.seen_at.ensures ∙ ap Some c.in-Some-seen_at.is) in
     alone_in_all w.net net w.own own c.self.inside.gates c.in-Some.place (omega arith) w.fits fits
     (w.alone c.in-Some.place c.in-Some-seen_at.checkers is)
 
 pub invariant_of-self : goal.invariant_of-self
 invariant_of-self g c =
     let w = c.self.invariant in
-    let is : slice_get c.self.inside.seen.items c.in-Some.place ≡ Some (Some c.in-Some-seen_at.checkers) = rw c.deref-2.ensures.value at (c.seen_at.ensures ∙ ap Some c.in-Some-seen_at.is) in
+    let is : slice_get c.self.inside.seen.items c.in-Some.place ≡ Some (Some c.in-Some-seen_at.checkers) = rw c.deref-2.ensures.value at
+    (c.seen_at.ensures ∙ ap Some c.in-Some-seen_at.is) in
     whole_after _ w c.in-Some.place c.from.result c.in-Some-seen_at.checkers c.report.new.self c.take_count.new.self _ is
     (c.take_count.ensures.fits w.net w.own w.fits) c.take_count.ensures.idle
 
@@ -99,8 +102,10 @@ returns-clause-stands g c zones checks reports stands endpoint =
     let here = subst (IsPlace c.deref.result.now c.args.id) c.in-Some.is c.place_in.ensures in
     let old = subst (StandsFor zones checks reports) (sym c.self.view_is) stands in
     let inner = sym c.deref.ensures.value in
-    let is : slice_get c.self.inside.seen.items place ≡ Some (Some c.in-Some-seen_at.checkers) = rw c.deref-2.ensures.value at (c.seen_at.ensures ∙ ap Some c.in-Some-seen_at.is) in
-    stands_after c.fifty_alone.ensures c.one_more_report.ensures zones checks reports _ old c.args.id c.args.checker c.args.pass place c.in-Some-seen_at.checkers c.report.new.self c.from.result c.take_count.new.self c.requires.checker
+    let is : slice_get c.self.inside.seen.items place ≡ Some (Some c.in-Some-seen_at.checkers) = rw c.deref-2.ensures.value at
+    (c.seen_at.ensures ∙ ap Some c.in-Some-seen_at.is) in
+    stands_after c.fifty_alone.ensures c.one_more_report.ensures zones checks reports _ old c.args.id c.args.checker c.args.pass place
+    c.in-Some-seen_at.checkers c.report.new.self c.from.result c.take_count.new.self c.requires.checker
     (rw inner here.0) (rw inner here.1) endpoint is c.report.ensures.stands
     (λ n results h. c.from.ensures ∙ c.passing-passing.ensures.exact n results h)
     (c.take_count.ensures.fits old.net old.own old.fits) (c.take_count.ensures.meet old.net old.own old.fits old.meet) c.take_count.ensures.idle _
@@ -112,11 +117,14 @@ returns-clause-changed g c zones checks reports stands endpoint =
     let here = subst (IsPlace c.deref.result.now c.args.id) c.in-Some.is c.place_in.ensures in
     let old = subst (StandsFor zones checks reports) (sym c.self.view_is) stands in
     let inner = sym c.deref.ensures.value in
-    let is : slice_get c.self.inside.seen.items place ≡ Some (Some c.in-Some-seen_at.checkers) = rw c.deref-2.ensures.value at (c.seen_at.ensures ∙ ap Some c.in-Some-seen_at.is) in
-    let after = stands_after c.fifty_alone.ensures c.one_more_report.ensures zones checks reports _ old c.args.id c.args.checker c.args.pass place c.in-Some-seen_at.checkers c.report.new.self c.from.result c.take_count.new.self c.requires.checker
+    let is : slice_get c.self.inside.seen.items place ≡ Some (Some c.in-Some-seen_at.checkers) = rw c.deref-2.ensures.value at
+    (c.seen_at.ensures ∙ ap Some c.in-Some-seen_at.is) in
+    let after = stands_after c.fifty_alone.ensures c.one_more_report.ensures zones checks reports _ old c.args.id c.args.checker c.args.pass place
+    c.in-Some-seen_at.checkers c.report.new.self c.from.result c.take_count.new.self c.requires.checker
     (rw inner here.0) (rw inner here.1) endpoint is c.report.ensures.stands
     (λ n results h. c.from.ensures ∙ c.passing-passing.ensures.exact n results h)
-    (c.take_count.ensures.fits old.net old.own old.fits) (c.take_count.ensures.meet old.net old.own old.fits old.meet) c.take_count.ensures.idle c.args.self.now.space in
+    (c.take_count.ensures.fits old.net old.own old.fits) (c.take_count.ensures.meet old.net old.own old.fits old.meet) c.take_count.ensures.idle
+    c.args.self.now.space in
     let check = at_place zones checks reports _ old c.args.id place (rw inner here.0) (rw inner here.1) in
     let was = (c.index_tells_health.ensures zones checks reports _ old).statuses c.args.id check.0 check.2 in
     let now = (c.index_tells_health.ensures zones checks _ _ after).statuses c.args.id check.0 check.2 in

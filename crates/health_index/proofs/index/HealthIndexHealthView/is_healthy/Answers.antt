@@ -1,7 +1,7 @@
 use Rattle.std.proofs.Common.{◌≡◌, suc, arith}
 use mathlib.Core.Path.{subst}
 use Rattle.health_index.specs.Index.{IsGateOf}
-use Rattle.health_index.specs.Wired.{seat_of}
+use Rattle.health_planning.specs.Wired.{seat_of}
 use Rattle.health_index.proofs.index.HealthIndexHealthView.is_healthy.Goals as goal
 
 pub value-requires-clause-gate : goal.value-requires-clause-gate

@@ -1,0 +1,434 @@
+-- Where no gate changes by the sets that went and came, all gates stand as they stood.
+use Rattle.std.proofs.Common.{◌≡◌, ◌≢◌, ◌++◌, ℕ, suc, Bool, true, false, cond, List, [], ◌∷◌, length, map, arith, refl, ap, sym, ◌∙◌, inl, inr, Less, Option, None, Some}
+use Rattle.std.specs.List.{filter}
+use Rattle.std.specs.Option.{option_to_list}
+use Rattle.std.specs.Prelude.{◌||◌, is_some}
+use Rattle.std.proofs.lemmas.Bool.{false≢true}
+use mathlib.Core.Path.{subst}
+use Rattle.check_model.specs.Checks.{Checks, check_at}
+use Rattle.check_model.specs.declared.checks.Check.{Check}
+use Rattle.check_model.specs.declared.checks.Check.TheVariants.{Endpoint, Calculated}
+use Rattle.health_gates.specs.Gates.{Net}
+use Rattle.health_model.proofs.Members.{of_filter}
+use Rattle.health_model.specs.Nodes.{CheckNode, GroupNode, Node, SetNode}
+use Rattle.health_model.specs.Sound.{IsSound}
+use Rattle.health_model.specs.Statuses.{Report}
+use Rattle.policy_select.proofs.Members.{one_named}
+use Rattle.rdata_layout.specs.declared.types.RType.{RType}
+use Rattle.record_set.specs.Sets.{key_of}
+use Rattle.record_set.specs.declared.sets.Body.{Body}
+use Rattle.record_set.specs.declared.sets.Body.TheVariants as body
+use Rattle.record_set.specs.declared.sets.RecordSet.{RecordSet}
+use Rattle.record_set.specs.declared.sets.SetKey.{SetKey}
+use Rattle.set_scratch.specs.Telling.{evaluates}
+use Rattle.zone_list.proofs.Members.{all_in, in_all, one_of_key, placed_with, set_in}
+use Rattle.zone_list.specs.Changes.{ref_in}
+use Rattle.zone_list.specs.Zones.{AreZones, Zone, placed_in}
+use Rattle.zone_list.specs.declared.refs.SetRef.{SetRef}
+use Rattle.zone_model.specs.Keys.{key_cmp}
+use Rattle.zone_model.specs.Placed.{IsHere, Placed, sets_of}
+use Rattle.zone_model.specs.Zones.{IsAmong, IsRising, is_of_group}
+use Rattle.zone_table.specs.declared.refs.Delta.{Delta}
+use Rattle.health_planning.specs.Following.{Follows, FollowsAt, HasThreshold}
+use Rattle.health_planning.specs.Wired.{AreMembers, IsGateFor, IsGroupGate, IsSeated, IsTarget, TellGroup, check_or_none, check_seat, group_seat, ids_of, is_watched, only_check, place_of, seat_of, set_rule, watched_of}
+use Rattle.health_planning.specs.declared.seats.Seat.{Seat}
+use Rattle.health_planning.proofs.Wiring.{first_here, of_group, passes_it, rising_in}
+use Rattle.health_index.specs.Index.{Index, StandsFor}
+use Rattle.health_index.specs.Leaving.{AllCameLeaveGates, AllWentLeaveGates, LeavesGates, AreLeft}
+use Rattle.health_index.proofs.Keyed.{HasIts, first_by_slots, gates_by_slots, grouped, grouped_sets, its, its_same, keyed, keyed_same, plain_by_slots}
+use Rattle.health_index.proofs.Moving.{Moves, moved}
+
+-- ---- sets that pass a test
+
+rising_filtered : (f : RecordSet → Bool) (sets : List RecordSet) → IsRising sets
+    → IsRising (filter f sets)
+rising_filtered f [] rising = rising
+rising_filtered f (set ∷ sets) rising = by (rising_filtered f sets rising.1) (f set)
+  where
+    by : IsRising (filter f sets) → (b : Bool)
+        → IsRising (cond b (set ∷ filter f sets) (filter f sets))
+    by rest true = (
+      all_in (λ later. key_cmp (key_of set) (key_of later) ≡ Less) (filter f sets)
+          (λ later there. in_all (λ later. key_cmp (key_of set) (key_of later)
+          ≡ Less) sets later rising.0
+          (of_filter f sets later there)),
+      rest,
+    )
+    by rest false = rest
+
+pub in_filter : {X : Type 0} (f : X → Bool) (xs : List X) (x : X) → IsAmong xs x
+    → f x ≡ true → IsAmong (filter f xs) x
+in_filter f [] x there passes = absurd there
+in_filter f (other ∷ xs) x there passes =
+    by (f other) refl there (λ rest. in_filter f xs x rest passes)
+  where
+    by : (b : Bool) → f other ≡ b → IsAmong (other ∷ xs) x
+        → (IsAmong xs x → IsAmong (filter f xs) x)
+        → IsAmong (cond b (other ∷ filter f xs) (filter f xs)) x
+    by true e (inl same) later = inl same
+    by true e (inr rest) later = inr (later rest)
+    by false e (inl same) later = absurd (false≢true (sym e ∙ ap f same ∙ passes))
+    by false e (inr rest) later = later rest
+
+-- ---- sets that one check alone decides
+
+-- The two sets have one check, and neither is an alias whose target's health counts.
+record AreAlike (a b : RecordSet) : Type 0 where
+  check : a.check ≡ b.check
+  off : evaluates a.body ≡ false
+  off_too : evaluates b.body ≡ false
+  watched : is_watched b ≡ true
+
+same_check : (a b : RecordSet) → only_check a ≡ only_check b → only_check b ≢ 0 → AreAlike a b
+same_check a b same some =
+    by (evaluates a.body) (evaluates b.body) a.check b.check refl refl refl refl same some
+  where
+    by : (x y : Bool) (m n : Option ℕ) → evaluates a.body ≡ x → evaluates b.body ≡ y
+        → a.check ≡ m → b.check ≡ n → only_check a ≡ only_check b → only_check b ≢ 0
+        → AreAlike a b
+    by x true m n a_is b_is m_is n_is e some =
+        absurd (some (ap (λ (t : Bool). cond t 0 (check_or_none b.check)) b_is))
+    by x false m None a_is b_is m_is n_is e some = absurd (some (
+        ap (λ (t : Bool). cond t 0 (check_or_none b.check)) b_is ∙ ap check_or_none n_is))
+    by true false m (Some id) a_is b_is m_is n_is e some = absurd (some (
+        sym e ∙ ap (λ (t : Bool). cond t 0 (check_or_none a.check)) a_is))
+    by false false None (Some id) a_is b_is m_is n_is e some = absurd (some (
+        sym e ∙ ap (λ (t : Bool). cond t 0 (check_or_none a.check)) a_is ∙ ap check_or_none m_is))
+    by false false (Some one) (Some id) a_is b_is m_is n_is e some =
+        let first = ap (λ (t : Bool). cond t 0 (check_or_none a.check)) a_is ∙ ap check_or_none m_is in
+        let second = ap (λ (t : Bool). cond t 0 (check_or_none b.check)) b_is ∙ ap check_or_none n_is in
+        let ids : one ≡ id = sym first ∙ e ∙ second in
+        record {
+          check = m_is ∙ ap Some ids ∙ sym n_is;
+          off = a_is;
+          off_too = b_is;
+          watched = ap (λ (c : Option ℕ). is_some c || evaluates b.body) n_is;
+        }
+
+module _ (zones : List Zone) (count : ℕ) (seats : List Seat) (net : Net) (own : ℕ → ℕ) (zone : ℕ)
+    (rtype : RType) where
+  no_target_of : (its_body : Body) (target : List ℕ) → evaluates its_body ≡ false
+      → IsTarget zones count seats net own zone rtype its_body target → target ≡ []
+  no_target_of (body.Values ttl values) target off is = is
+  no_target_of (body.Alias name evaluate) target off (inl (e, is)) = is
+  no_target_of (body.Alias name evaluate) target off (inr (on, more)) =
+      absurd (false≢true (sym off ∙ on))
+
+  to_no_target : (its_body : Body) (target : List ℕ) → evaluates its_body ≡ false
+      → target ≡ [] → IsTarget zones count seats net own zone rtype its_body target
+  to_no_target (body.Values ttl values) target off is = is
+  to_no_target (body.Alias name evaluate) target off is = inl (off, is)
+
+-- ---- gates
+
+module _ (before after : List Zone) (are_before : AreZones before) (are_after : AreZones after)
+    (removed added : List SetRef) (moves : Moves before after removed added) (seats : List Seat)
+    (went : AllWentLeaveGates seats added removed) (came : AllCameLeaveGates after seats removed added) where
+  -- where a set or its group has a gate, a set with its key is in its slot
+  stays_seated : (zone : ℕ) (p : Placed) → IsHere (placed_in before zone) p
+      → ((seat_of seats p.slot ≡ 0) × (group_seat seats p.slot ≡ 0) → ⊥)
+      → HasIts (placed_in after zone) p
+  stays_seated zone p here some = elim (moves.stays zone p here) [
+    | inl told ↦ elim (went told.0 (ref_in zone p) told.1) [
+      | inl none ↦ absurd (some none)
+      | inr other ↦
+          let c = came other.0 (ref_in zone p) other.1 in
+          let q : Placed = record { slot = p.slot; set = c.set } in
+          (q, c.names, its_same q p (sym (moves.keys zone p q here c.names refl)) refl)
+    ]
+    | inr there ↦ (p, there, refl)
+  ]
+
+  gate_stays : (zone : ℕ) (p : Placed) (gate : ℕ) → IsHere (placed_in before zone) p
+      → seat_of seats p.slot ≡ suc gate → HasIts (placed_in after zone) p
+  gate_stays zone p gate here seat =
+      stays_seated zone p here (λ none. let no = none.0 in omega arith)
+
+  member_stays : (zone : ℕ) (p : Placed) (gate : ℕ) → IsHere (placed_in before zone) p
+      → group_seat seats p.slot ≡ suc gate → HasIts (placed_in after zone) p
+  member_stays zone p gate here seat =
+      stays_seated zone p here (λ none. let no = none.1 in omega arith)
+
+  module _ (zone : ℕ) (name : List (List ℕ)) (rtype : RType) (members : List Placed) (gate : ℕ)
+      (are : AreMembers before zone name rtype members) (tell : TellGroup seats members gate)
+      (one : Placed) (in_one : IsHere members one) where
+    abbrev of_it : RecordSet → Bool
+    of_it = is_of_group name rtype
+
+    abbrev was : List Placed
+    was = placed_in before zone
+
+    abbrev now : List Placed
+    now = placed_in after zone
+
+    abbrev members_now : List Placed
+    members_now = grouped name rtype now
+
+    its_name : (p : Placed) → IsHere members p → (name ≡ p.set.name) × (rtype ≡ p.set.rtype)
+    its_name p m = of_group (sets_of was) name rtype p.set
+        (subst (λ (l : List RecordSet). IsAmong l p.set) are.sets (set_in members p m))
+
+    -- a set with the key of one of the group is of the group
+    by_key : (p q : Placed) → (name ≡ p.set.name) × (rtype ≡ p.set.rtype) → its q ≡ its p
+        → (name ≡ q.set.name) × (rtype ≡ q.set.rtype)
+    by_key p q is same =
+        let keys = ap (λ (k : SetKey × ℕ). k.0) (sym same) in
+        (is.0 ∙ ap (λ (k : SetKey). k.name) keys, is.1 ∙ ap (λ (k : SetKey). k.rtype) keys)
+
+    in_group : (placed : List Placed) (p : Placed) → IsHere placed p
+        → (name ≡ p.set.name) × (rtype ≡ p.set.rtype) → IsHere (grouped name rtype placed) p
+    in_group placed p here is =
+        in_filter (λ (q : Placed). of_it q.set) placed p here (passes_it name rtype p.set is.0 is.1)
+
+    to : (p : Placed) → IsHere members p → HasIts members_now p
+    to p m =
+        let q = member_stays zone p gate (are.here p m) (tell p m) in
+        (q.0, in_group now q.0 q.1 (by_key p q.0 (its_name p m) q.2), q.2)
+
+    -- a set of the group has one with its key in its slot before
+    came_for : (q : Placed) → IsHere now q → (name ≡ q.set.name) × (rtype ≡ q.set.rtype)
+        → HasIts was q
+    came_for q here is = elim (moves.only zone q here) [
+      | inl old ↦ (q, old, refl)
+      | inr new ↦
+          let c = came new.0 (ref_in zone q) new.1 in
+          elim c.place [
+            | inl told ↦
+                let p = moves.gone zone q told in
+                (p.0, p.1, its_same p.0 q (moves.keys zone p.0 q p.1 here p.2) p.2)
+            | inr alone ↦
+                let none = alone.1 in
+                let set_is = one_named after (ref_in zone q) c.set q.set are_after c.names here in
+                let other = member_stays zone one gate (are.here one in_one) (tell one in_one) in
+                let other_is = by_key one other.0 (its_name one in_one) other.2 in
+                let bare = none other.0 other.1
+                (ap (λ (s : RecordSet). s.name) set_is ∙ sym is.0 ∙ other_is.0)
+                (ap (λ (s : RecordSet). s.rtype) set_is ∙ sym is.1 ∙ other_is.1) in
+                let slots = ap (λ (k : SetKey × ℕ). group_seat seats k.1) other.2 in
+                let told = tell one in_one in
+                absurd (omega arith)
+          ]
+    ]
+
+    from : (q : Placed) → IsHere members_now q → HasIts members q
+    from q m =
+        let here = of_filter (λ (x : Placed). of_it x.set) now q m in
+        let is = of_group (sets_of now) name rtype q.set
+        (subst (λ (l : List RecordSet). IsAmong l q.set) (grouped_sets name rtype now) (set_in members_now q m)) in
+        let p = came_for q here is in
+        let p_is = by_key q p.0 is p.2 in
+        let among = in_filter of_it (sets_of was) p.0.set (set_in was p.0 p.1) (passes_it name rtype p.0.set p_is.0 p_is.1) in
+        let x = placed_with members p.0.set (subst (λ (l : List RecordSet). IsAmong l p.0.set) (sym are.sets) among) in
+        let one_is = one_of_key was (rising_in before are_before.each zone) x.0 p.0 (are.here x.0 x.1) p.1 (ap key_of x.2) in
+        (x.0, x.1, ap its one_is ∙ p.2)
+
+    rising : IsRising (sets_of members)
+    rising = subst IsRising (sym are.sets)
+        (rising_filtered of_it (sets_of was) (rising_in before are_before.each zone))
+
+    rising_now : IsRising (sets_of members_now)
+    rising_now = subst IsRising (sym (grouped_sets name rtype now))
+        (rising_filtered of_it (sets_of now) (rising_in after are_after.each zone))
+
+    same : keyed members ≡ keyed members_now
+    same = keyed_same members members_now rising rising_now to from
+
+    are_now : AreMembers after zone name rtype members_now
+    are_now = record {
+      sets = grouped_sets name rtype now;
+      here = λ p m. of_filter (λ (x : Placed). of_it x.set) now p m;
+    }
+
+    tell_now : TellGroup seats members_now gate
+    tell_now q m =
+        let p = from q m in
+        ap (λ (k : SetKey × ℕ). group_seat seats k.1) (sym p.2) ∙ tell p.0 p.1
+
+    gate_now : (count : ℕ) (net : Net) (own : ℕ → ℕ) → IsGroupGate count seats net own members gate
+        → IsGroupGate count seats net own members_now gate
+    gate_now count net own w = record {
+      seat = (w.seat.0, (first_by_slots members members_now w.seat.0 same w.seat.1.0, w.seat.1.1));
+      each = tell_now;
+      behind = w.behind;
+      within = w.within;
+      rule = w.rule
+          ∙ ap (λ (l : List ℕ). record { need = 1; inverted = false; feeders = l }) (gates_by_slots seats members members_now same);
+      its_own = w.its_own ∙ plain_by_slots seats members members_now same;
+    }
+
+  module _ (checks : List (ℕ × Check)) (net : Net) (own : ℕ → ℕ) where
+    -- a group with a gate has it still
+    record HasStill (count zone : ℕ) (name : List (List ℕ)) (rtype : RType) (gate : ℕ)
+        : Type 0 where
+      members : List Placed
+      are : AreMembers after zone name rtype members
+      is : IsGroupGate count seats net own members gate
+
+    group_now : (count zone : ℕ) (name : List (List ℕ)) (rtype : RType) (members : List Placed)
+        (gate : ℕ) → AreMembers before zone name rtype members
+        → IsGroupGate count seats net own members gate → HasStill count zone name rtype gate
+    group_now count zone name rtype members gate are w =
+        let f = first_here members w.seat.0 w.seat.1.0 in
+        record {
+          members = members_now zone name rtype members gate are w.each f.0 f.1;
+          are = are_now zone name rtype members gate are w.each f.0 f.1;
+          is = gate_now zone name rtype members gate are w.each f.0 f.1 count net own w;
+        }
+
+    target_now : (count zone : ℕ) (rtype : RType) (its_body : Body) (target : List ℕ)
+        → IsTarget before count seats net own zone rtype its_body target
+        → IsTarget after count seats net own zone rtype its_body target
+    target_now count zone rtype (body.Values ttl values) target is = is
+    target_now count zone rtype (body.Alias name evaluate) target (inl off) = inl off
+    target_now count zone rtype (body.Alias name evaluate) target (inr (on, (gate, is, (members, are, w)))) =
+        let g = group_now count zone name rtype members gate are w in
+        inr (on, (gate, is, (g.members, g.are, g.is)))
+
+    seated_now : (zone : ℕ) (p : Placed) → IsSeated before (ids_of checks) seats net own zone p
+        → IsSeated after (ids_of checks) seats net own zone p
+    seated_now zone p s = record {
+      plain = s.plain;
+      told = s.told;
+      gated = λ on. let g = s.gated on in (
+        g.0,
+        g.1,
+        record {
+          behind = g.2.behind;
+          within = g.2.within;
+          target = g.2.target;
+          its_target = target_now _ zone p.set.rtype p.set.body g.2.target g.2.its_target;
+          rule = g.2.rule;
+          its_own = g.2.its_own;
+        },
+      );
+    }
+
+    -- a set that nothing decides, in a slot without a gate
+    seated_plain : (zone : ℕ) (q : Placed) → seat_of seats q.slot ≡ 0 → is_watched q.set ≡ false
+        → IsSeated after (ids_of checks) seats net own zone q
+    seated_plain zone q none off = record {
+      plain = λ e. none;
+      told = λ on. absurd (false≢true (sym off ∙ on));
+      gated = λ on. absurd (false≢true (sym off ∙ on));
+    }
+
+    -- a set in the place of another that the same check alone decides
+    seated_alike : (zone : ℕ) (p q : Placed) → p.slot ≡ q.slot
+        → IsSeated before (ids_of checks) seats net own zone p → seat_of seats q.slot ≢ 0
+        → only_check q.set ≢ 0 → check_seat seats q.slot ≡ only_check q.set
+        → IsSeated after (ids_of checks) seats net own zone q
+    seated_alike zone p q slots s some only told = by (is_watched p.set) refl
+      where
+        by : (b : Bool) → is_watched p.set ≡ b
+            → IsSeated after (ids_of checks) seats net own zone q
+        by false off = absurd (some (ap (seat_of seats) (sym slots) ∙ s.plain off))
+        by true on =
+            let g = s.gated on in
+            let one = ap (check_seat seats) slots ∙ told in
+            let alike = same_check p.set q.set (sym (s.told on) ∙ one) only in
+            let target = no_target_of before (length (ids_of checks)) seats net own zone p.set.rtype p.set.body g.2.target alike.off g.2.its_target in
+            record {
+              plain = λ off. absurd (false≢true (sym off ∙ alike.watched));
+              told = λ e. told;
+              gated = λ e. (
+                g.0,
+                ap (seat_of seats) (sym slots) ∙ g.1,
+                record {
+                  behind = g.2.behind;
+                  within = g.2.within;
+                  target = g.2.target;
+                  its_target = to_no_target after (length (ids_of checks)) seats net own zone q.set.rtype q.set.body g.2.target alike.off_too target;
+                  rule = g.2.rule ∙ ap (λ (c : Option ℕ). set_rule (map (place_of (ids_of checks)) (option_to_list c) ++ g.2.target)) alike.check;
+                  its_own = g.2.its_own;
+                },
+              );
+            }
+
+    pub seated_all : ((zone : ℕ) (p : Placed) → IsHere (placed_in before zone) p
+        → IsSeated before (ids_of checks) seats net own zone p)
+        → (zone : ℕ) (p : Placed) → IsHere (placed_in after zone) p
+        → IsSeated after (ids_of checks) seats net own zone p
+    seated_all seated zone q here = elim (moves.only zone q here) [
+      | inl old ↦ seated_now zone q (seated zone q old)
+      | inr new ↦
+          let c = came new.0 (ref_in zone q) new.1 in
+          let set_is = one_named after (ref_in zone q) c.set q.set are_after c.names here in
+          elim c.as_seated [
+            | inl plain ↦ seated_plain zone q plain.0 (sym (ap is_watched set_is) ∙ plain.1)
+            | inr same ↦ elim c.place [
+              | inl told ↦
+                  let p = moves.gone zone q told in
+                  seated_alike zone p.0 q p.2 (seated zone p.0 p.1) same.0
+                  (λ e. same.1 (ap only_check set_is ∙ e)) (same.2 ∙ ap only_check set_is)
+              | inr alone ↦ absurd (same.0 alone.0)
+            ]
+          ]
+    ]
+
+    pub node_now : (gate : ℕ) (node : Node) → IsGateFor before checks seats net own gate node
+        → (now : Node) × IsGateFor after checks seats net own gate now
+    node_now gate (CheckNode id) is = (CheckNode id, is)
+    node_now gate (SetNode zone set) (slot, (here, seat)) =
+        let q = gate_stays zone (record { slot = slot; set = set }) gate here seat in
+        let slots = ap (λ (k : SetKey × ℕ). seat_of seats k.1) q.2 in
+        (SetNode zone q.0.set, (q.0.slot, (q.1, slots ∙ seat)))
+    node_now gate (GroupNode zone name rtype) (members, (are, w)) =
+        let g = group_now _ zone name rtype members gate are w in
+        (GroupNode zone name rtype, (g.members, (g.are, g.is)))
+
+-- ---- commands
+
+-- checks follow of themselves
+follows_itself : (checks : Checks) → Follows checks checks
+follows_itself checks = record { next = omega arith; each = each }
+  where
+    each : (id : ℕ) (check : Check) → check_at checks.list id ≡ Some check
+        → FollowsAt checks id check
+    each id (Endpoint threshold inverted disabled) at =
+        inr (subst (λ o. HasThreshold o threshold) (sym at) refl)
+    each id (Calculated threshold inverted disabled children) at = tt
+
+pub leaves_follow : (before : List Zone) (old : Checks) (after : List Zone) (new : Checks)
+    (delta : Delta) → AreLeft before old after new delta → Follows old new
+leaves_follow before old after new delta (inl (made, (allowed, edits, kept))) =
+    subst (Follows old) (sym kept) (follows_itself old)
+leaves_follow before old after new delta (inr (stayed, follows, none)) = follows
+
+module _ (before after : List Zone) (reports : List Report) (index : Index) (delta : Delta)
+    (are_after : AreZones after) (gate_leaving : LeavesGates after index.seats delta) where
+  edited : (checks : Checks) → IsSound (watched_of after checks)
+      → StandsFor before checks reports index
+      → Moves before after delta.removed delta.added → StandsFor after checks reports index
+  edited checks sound stands moves = record {
+    are_zones = are_after;
+    are_checks = stands.are_checks;
+    sound = sound;
+    are_reports = stands.are_reports;
+    ids = stands.ids;
+    seen = stands.seen;
+    as_many = stands.as_many;
+    net = stands.net;
+    own = stands.own;
+    wired = record {
+      its_checks = stands.wired.its_checks;
+      its_sets = seated_all before after stands.are_zones are_after delta.removed delta.added moves index.seats gate_leaving.went gate_leaving.came checks.list
+          stands.net stands.own stands.wired.its_sets;
+      its_nodes = λ gate within.
+          let n = stands.wired.its_nodes gate within in
+          node_now before after stands.are_zones are_after delta.removed delta.added moves index.seats gate_leaving.went gate_leaving.came checks.list stands.net
+          stands.own gate n.0 n.1;
+      its_groups = stands.wired.its_groups;
+    };
+    fits = stands.fits;
+    meet = stands.meet;
+    idle = stands.idle;
+  }
+
+  pub stands_with_gates : (old new : Checks) → IsSound (watched_of after new)
+      → StandsFor before old reports index → AreLeft before old after new delta
+      → StandsFor after new reports index
+  stands_with_gates old new sound stands (inl (made, (allowed, edits, kept))) =
+      subst (λ (c : Checks). StandsFor after c reports index) (sym kept)
+      (edited old (subst (λ (c : Checks). IsSound (watched_of after c)) kept sound) stands
+      (moved before after stands.are_zones are_after made delta allowed edits gate_leaving.zone))
+  stands_with_gates old new sound stands (inr (stayed, follows, none)) = absurd (gate_leaving.zone none)

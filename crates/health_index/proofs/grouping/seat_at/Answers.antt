@@ -1,5 +1,0 @@
-use Rattle.std.proofs.Common.{refl}
-use Rattle.health_index.proofs.grouping.seat_at.Goals as goal
-
-pub returns : goal.returns
-returns c = record { set = refl; group = refl }

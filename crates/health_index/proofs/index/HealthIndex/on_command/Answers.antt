@@ -1,0 +1,21 @@
+use Rattle.std.proofs.Common.{List, ap, refl, sym, ◌∙◌}
+use mathlib.Core.Path.{subst}
+use Rattle.health_planning.specs.declared.seats.Seat.{Seat}
+use Rattle.health_index.proofs.Staying.{leaves_follow, stands_with_gates}
+use Rattle.health_index.specs.Index.{Index, StandsFor}
+use Rattle.health_index.specs.Leaving.{LeavesGates}
+use Rattle.health_index.proofs.index.HealthIndex.on_command.Goals as goal
+
+pub returns-then-leaves_gates-clause-stands : goal.returns-then-leaves_gates-clause-stands
+returns-then-leaves_gates-clause-stands c before old reports stands leaves =
+    let zones = c.args.zones.now.zones in
+    let checks = c.args.checks.now.checks in
+    let seats_is = c.deref.ensures.value ∙ ap (λ (i : Index). i.seats) c.self.view_is in
+    let gate_leaving = subst (λ (seats : List Seat). LeavesGates zones seats c.args.delta.now) seats_is (c.if-leaves_gates.ensures.0 refl) in
+    subst (StandsFor zones checks reports) (sym c.self.view_is)
+    (stands_with_gates before zones reports c.args.self.now c.args.delta.now c.well_formed-2.ensures gate_leaving old checks c.requires.sound stands leaves)
+
+pub returns-clause-stands : goal.returns-clause-stands
+returns-clause-stands c before old reports stands leaves =
+    c.lay.ensures.stands before old reports (subst (StandsFor before old reports) (sym c.self.view_is) stands)
+    (leaves_follow before old c.args.zones.now.zones c.args.checks.now.checks c.args.delta.now leaves)

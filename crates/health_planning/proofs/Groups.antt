@@ -1,0 +1,116 @@
+-- The sets of a group, one more at a time.
+use Rattle.std.proofs.Common.{◌≡◌, ◌<◌, ◌≤◌, ◌+◌, ℕ, zero, suc, true, List, [], ◌∷◌, ◌++◌, take, drop, arith, refl, ap, sym, ◌∙◌, ◌≢◌, inl, inr, Some}
+use Rattle.std.specs.Prelude.{slice_get}
+use mathlib.Core.Path.{subst}
+use Rattle.health_gates.specs.declared.plan.Link.{Link}
+use Rattle.policy_select.specs.Groups.{members_of, sets_in, sets_in_zone}
+use Rattle.rdata_layout.specs.declared.types.RType.{RType}
+use Rattle.record_set.specs.declared.sets.Body.TheVariants.{Alias}
+use Rattle.record_set.specs.declared.sets.RecordSet.{RecordSet}
+use Rattle.set_scratch.specs.Telling.{target_in, target_of}
+use Rattle.zone_list.specs.Zones.{Zone, placed_in}
+use Rattle.zone_list.specs.declared.refs.SetRef.{SetRef}
+use Rattle.zone_model.proofs.Among.{among_at}
+use Rattle.zone_model.specs.Placed.{IsHere, Placed}
+use Rattle.zone_model.specs.Zones.{IsAmong, group}
+use Rattle.zone_table.specs.Looking.{IsMember, Names}
+use Rattle.zone_table.specs.declared.refs.Group.{Group}
+use Rattle.health_planning.specs.Building.{links_to}
+use Rattle.health_planning.specs.Wired.{AreMembers, gates_of, plain, plain_among, seat_of, with_gate}
+use Rattle.health_planning.specs.declared.seats.Seat.{Seat}
+
+got_of_take : {X : Type 0} (xs : List X) (n i : ℕ) → i < n → slice_get (take n xs) i ≡ slice_get xs i
+got_of_take xs zero i within = absurd (omega (arith, within))
+got_of_take [] (suc n) i within = refl
+got_of_take (x ∷ xs) (suc n) zero within = refl
+got_of_take (x ∷ xs) (suc n) (suc i) within = got_of_take xs n i (omega (arith, within))
+
+got_of_drop : {X : Type 0} (xs : List X) (s i : ℕ) → slice_get (drop s xs) i ≡ slice_get xs (s + i)
+got_of_drop xs zero i =
+    let none : i ≡ zero + i = omega arith in
+    ap (λ (k : ℕ). slice_get xs k) none
+got_of_drop [] (suc s) i = refl
+got_of_drop (x ∷ xs) (suc s) i =
+    let one : suc (s + i) ≡ suc s + i = omega arith in
+    got_of_drop xs s i ∙ ap (λ (k : ℕ). slice_get (x ∷ xs) k) one
+
+-- the set that stands at a place of a group
+pub record IsPlacedAt (zones : List Zone) (g : Group) (i : ℕ) (ref : SetRef) : Type 0 where
+  pub p : Placed
+  pub at : slice_get (members_of zones g) i ≡ Some p
+  pub slot : p.slot ≡ ref.slot
+  pub names : Names zones ref p.set
+
+pub member_at : (zones : List Zone) (g : Group) (i : ℕ) (ref : SetRef) → i < g.length
+    → IsMember zones g i ref → IsPlacedAt zones g i ref
+member_at zones g i ref within m = record {
+  p = record { slot = ref.slot; set = m.slot.0 };
+  at = got_of_take (drop g.start (placed_in zones g.zone)) g.length i within
+      ∙ got_of_drop (placed_in zones g.zone) g.start i ∙ m.slot.1;
+  slot = refl;
+  names = subst (λ (z : ℕ). IsHere (placed_in zones z) (record { slot = ref.slot; set = m.slot.0 })) (sym m.zone)
+      (among_at (placed_in zones g.zone) (g.start + i) (record { slot = ref.slot; set = m.slot.0 }) m.slot.1);
+}
+
+pub plain_more : (seats : List Seat) (xs : List Placed) (p : Placed)
+    → plain_among seats (xs ++ p ∷ []) ≡ plain_among seats xs + plain (seat_of seats p.slot)
+plain_more seats [] p = omega arith
+plain_more seats (x ∷ xs) p = let r = plain_more seats xs p in omega arith
+
+pub gates_more : (seats : List Seat) (xs : List Placed) (p : Placed)
+    → gates_of seats (xs ++ p ∷ []) ≡ gates_of seats xs ++ with_gate (seat_of seats p.slot) []
+gates_more seats [] p = refl
+gates_more seats (x ∷ xs) p =
+    step (seat_of seats x.slot) (gates_of seats (xs ++ p ∷ [])) (gates_of seats xs) (with_gate (seat_of seats p.slot) []) (gates_more seats xs p)
+  where
+    step : (seat : ℕ) (all front back : List ℕ) → all ≡ front ++ back
+        → with_gate seat all ≡ with_gate seat front ++ back
+    step zero all front back e = e
+    step (suc gate) all front back e = ap (λ (l : List ℕ). gate ∷ l) e
+
+pub links_more : (gate : ℕ) (xs ys : List ℕ)
+    → links_to gate (xs ++ ys) ≡ links_to gate xs ++ links_to gate ys
+links_more gate [] ys = refl
+links_more gate (x ∷ xs) ys = ap (λ (l : List Link). record { feeder = x; fed = gate } ∷ l) (links_more gate xs ys)
+
+pub plain_few : (seat : ℕ) → plain seat ≤ 1
+plain_few zero = omega arith
+plain_few (suc gate) = omega arith
+
+-- ---- the sets of a group that was found
+
+pub in_take : {X : Type 0} (n : ℕ) (xs : List X) (x : X) → IsAmong (take n xs) x → IsAmong xs x
+in_take zero xs x m = absurd m
+in_take (suc n) [] x m = absurd m
+in_take (suc n) (y ∷ xs) x (inl is) = inl is
+in_take (suc n) (y ∷ xs) x (inr m) = inr (in_take n xs x m)
+
+pub in_drop : {X : Type 0} (n : ℕ) (xs : List X) (x : X) → IsAmong (drop n xs) x → IsAmong xs x
+in_drop zero xs x m = m
+in_drop (suc n) [] x m = absurd m
+in_drop (suc n) (y ∷ xs) x m = inr (in_drop n xs x m)
+
+pub members_are : (zones : List Zone) (g : Group) (zone : ℕ) (name : List (List ℕ)) (rtype : RType)
+    → g.zone ≡ zone → sets_in zones g ≡ group (sets_in_zone zones zone) name rtype
+    → AreMembers zones zone name rtype (members_of zones g)
+members_are zones g zone name rtype its are = record {
+  sets = are;
+  here = λ p m. subst (λ (z : ℕ). IsHere (placed_in zones z) p) its
+      (in_drop g.start (placed_in zones g.zone) p (in_take g.length (drop g.start (placed_in zones g.zone)) p m));
+}
+
+pub some_gate : (n : ℕ) → n ≢ 0 → (gate : ℕ) × (n ≡ suc gate)
+some_gate zero some = absurd (some refl)
+some_gate (suc gate) some = (gate, refl)
+
+-- the target that was told is the alias's
+pub told_target : (set : RecordSet) (name : List (List ℕ)) (target : List (List ℕ) × RType)
+    → set.body ≡ Alias name true → target_of set ≡ Some target
+    → (name ≡ target.0) × (set.rtype ≡ target.1)
+told_target set name target is told =
+    let e : Some (name, set.rtype) ≡ Some target = sym (ap (target_in set.rtype) is) ∙ told in
+    let same : ◌≡◌ {A = List (List ℕ) × RType} (name, set.rtype) target = some_same e in
+    (ap (λ (t : List (List ℕ) × RType). t.0) same, ap (λ (t : List (List ℕ) × RType). t.1) same)
+  where
+    some_same : {X : Type 0} {x y : X} → Some x ≡ Some y → x ≡ y
+    some_same e = cc

@@ -1,0 +1,14 @@
+pub mod Built
+pub mod Ending
+pub mod Feeding
+pub mod Few
+pub mod Grouped
+pub mod Groups
+pub mod Joined
+pub mod ListedOnce
+pub mod Places
+pub mod Planned
+pub mod Roomy
+pub mod Seeing
+pub mod Watching
+pub mod Wiring

@@ -1,0 +1,216 @@
+-- Sets that are listed one after another, each with a gate of its own.
+use Rattle.std.proofs.Common.{◌≡◌, ◌≢◌, ◌<◌, ◌≤◌, ◌+◌, ℕ, zero, suc, Bool, true, false, cond, List, [], ◌∷◌, ◌++◌, length, length-append, set, get_or, get_or-set_same, get_or-set_other, arith, refl, ap, sym, ◌∙◌, inl, inr, Some}
+use Rattle.std.specs.Prelude.{◌==◌, slice_get}
+use Rattle.std.proofs.lemmas.Bool.{cases_eq, false≢true, ne_eqb}
+use Rattle.std.proofs.lemmas.Option.{get_or_from_slice_get, slice_get_read}
+use mathlib.Core.Path.{subst}
+use Rattle.health_gates.proofs.Runs.{in_more}
+use Rattle.health_gates.specs.declared.plan.Shape.{Shape}
+use Rattle.record_set.specs.declared.sets.RecordSet.{RecordSet}
+use Rattle.zone_list.specs.Changes.{ref_in}
+use Rattle.zone_list.specs.Zones.{Zone, IsOne, placed_in}
+use Rattle.zone_list.specs.declared.refs.SetRef.{SetRef}
+use Rattle.zone_model.proofs.Among.{among_at}
+use Rattle.zone_model.specs.Placed.{IsHere, Placed}
+use Rattle.zone_table.specs.Looking.{IsSetAt, Names}
+use Rattle.zone_table.specs.Tables.{HaveSlotsApart, HaveSlotsBelow}
+use Rattle.health_planning.specs.Building.{AreListed, HasSetGate, IsListed, set_shape}
+use Rattle.health_planning.specs.Wired.{check_seat, group_seat, is_watched, only_check, seat_of}
+use Rattle.health_planning.specs.declared.seats.Seat.{Seat}
+
+-- an element stays where one more comes
+pub still_at : {X : Type 0} (xs : List X) (x y : X) (n : ℕ) → slice_get xs n ≡ Some y
+    → slice_get (xs ++ x ∷ []) n ≡ Some y
+still_at [] x y n e = let no : ⊥ = cc in absurd no
+still_at (z ∷ xs) x y zero e = e
+still_at (z ∷ xs) x y (suc n) e = still_at xs x y n e
+
+pub last_at : {X : Type 0} (xs : List X) (x : X) (n : ℕ) → n ≡ length xs
+    → slice_get (xs ++ x ∷ []) n ≡ Some x
+last_at [] x zero e = refl
+last_at [] x (suc n) e = absurd (omega arith)
+last_at (z ∷ xs) x zero e = absurd (omega arith)
+last_at (z ∷ xs) x (suc n) e = last_at xs x n (omega arith)
+
+-- the zone of a set that stands in the zone of a number
+pub its_zone : (zones : List Zone) (id : ℕ) (p : Placed) → IsHere (placed_in zones id) p
+    → (zone : Zone) × (IsOne zones zone × (zone.id ≡ id) × IsHere zone.placed p)
+its_zone [] id p here = absurd here
+its_zone (zone ∷ zones) id p here = by (zone.id == id) refl here (its_zone zones id p)
+  where
+    by : (b : Bool) → (zone.id == id) ≡ b
+        → IsHere (cond b zone.placed (placed_in zones id)) p
+        → (IsHere (placed_in zones id) p
+        → (other : Zone) × (IsOne zones other × (other.id ≡ id) × IsHere other.placed p))
+        → (other : Zone) × (IsOne (zone ∷ zones) other × (other.id ≡ id) × IsHere other.placed p)
+    by true e is rest = (zone, (inl refl, same e, is))
+      where
+        same : (zone.id == id) ≡ true → zone.id ≡ id
+        same t = elim (cases_eq zone.id id) [
+          | inl is ↦ is
+          | inr apart ↦ absurd (false≢true (sym (ne_eqb zone.id id apart) ∙ t))
+        ]
+    by false e is rest = let r = rest is in (r.0, (inr r.1.0, r.1.1, r.1.2))
+
+-- references with one slot are one
+pub one_ref : (zones : List Zone) (one other : SetRef) (a b : RecordSet) → HaveSlotsApart zones
+    → Names zones one a → Names zones other b → one.slot ≡ other.slot → one ≡ other
+one_ref zones one other a b apart first second same =
+    let z = its_zone zones one.zone (record { slot = one.slot; set = a }) first in
+    let y = its_zone zones other.zone (record { slot = other.slot; set = b }) second in
+    let ids = apart z.0 y.0 (record { slot = one.slot; set = a }) (record { slot = other.slot; set = b }) z.1.0 y.1.0 z.1.2 y.1.2 same in
+    of_parts one other (sym z.1.1 ∙ ids ∙ y.1.1) same
+  where
+    of_parts : (one other : SetRef) → one.zone ≡ other.zone → one.slot ≡ other.slot → one ≡ other
+    of_parts one other a b = ap (λ (p : ℕ × ℕ). record { zone = p.0; slot = p.1 }) (pair a b)
+      where
+        pair : {i j m n : ℕ} → i ≡ j → m ≡ n → ◌≡◌ {A = ℕ × ℕ} (i, m) (j, n)
+        pair e f = cc
+
+seat_here : (seats : List Seat) (slot : ℕ) (s : Seat) → slot < length seats
+    → seat_of (set seats slot s) slot ≡ s.set
+seat_here seats slot s within = ap (λ (x : Seat). x.set) (get_or-set_same seats slot s _ within)
+
+check_here : (seats : List Seat) (slot : ℕ) (s : Seat) → slot < length seats
+    → check_seat (set seats slot s) slot ≡ s.check
+check_here seats slot s within = ap (λ (x : Seat). x.check) (get_or-set_same seats slot s _ within)
+
+check_beside : (seats : List Seat) (slot other : ℕ) (s : Seat) → other ≢ slot
+    → check_seat (set seats slot s) other ≡ check_seat seats other
+check_beside seats slot other s apart = ap (λ (x : Seat). x.check) (get_or-set_other seats slot other s _ apart)
+
+seat_beside : (seats : List Seat) (slot other : ℕ) (s : Seat) → other ≢ slot
+    → seat_of (set seats slot s) other ≡ seat_of seats other
+seat_beside seats slot other s apart = ap (λ (x : Seat). x.set) (get_or-set_other seats slot other s _ apart)
+
+module _ (zones : List Zone) (first : ℕ) (refs : List SetRef) (seats : List Seat)
+    (shapes : List Shape) (ref : SetRef) (named : RecordSet) (gate : ℕ)
+    (are : AreListed zones first refs seats shapes) (names : Names zones ref named)
+    (watched : is_watched named ≡ true) (within : ref.slot < length seats)
+    (empty : seat_of seats ref.slot ≡ 0) (is_gate : gate ≡ length shapes) where
+  abbrev now : List Seat
+  now = set seats ref.slot (record { set = gate + 1; group = 0; check = only_check named })
+
+  -- a set that was listed has another slot
+  old_gate : (k : ℕ) (other : SetRef) → slice_get refs k ≡ Some other
+      → HasSetGate zones now (shapes ++ set_shape named ∷ []) other (first + k)
+  old_gate k other at =
+      let g = are.gates k other at in
+      let apart : other.slot ≢ ref.slot = λ same. let e : seat_of seats ref.slot ≡ suc (first + k) = ap (seat_of seats) (sym same) ∙ g.seat in let none =
+      empty in omega arith in
+      record {
+        named = g.named;
+        names = g.names;
+        watched = g.watched;
+        seat = seat_beside seats ref.slot other.slot _ apart ∙ g.seat;
+        told = check_beside seats ref.slot other.slot _ apart ∙ g.told;
+        shape = still_at shapes (set_shape named) (set_shape g.named) (first + k) g.shape;
+      }
+
+  new_gate : (other : SetRef) (k : ℕ) → k ≡ length refs → other ≡ ref
+      → HasSetGate zones now (shapes ++ set_shape named ∷ []) other (first + k)
+  new_gate other k at is =
+      let size = are.size in
+      rw is (record {
+        named = named;
+        names = names;
+        watched = watched;
+        seat = seat_here seats ref.slot _ within ∙ omega arith;
+        told = check_here seats ref.slot _ within;
+        shape = last_at shapes (set_shape named) (first + k) (omega arith);
+      })
+
+  pub listed_more : AreListed zones first (refs ++ ref ∷ []) now (shapes ++ set_shape named ∷ [])
+  listed_more =
+      let size = are.size in
+      let longer = length-append shapes (set_shape named ∷ []) in
+      let more = length-append refs (ref ∷ []) in
+      record {
+        size = omega arith;
+        gates = λ k other at. elim (in_more refs ref other k at) [
+          | inl old ↦ old_gate k other old
+          | inr new ↦ new_gate other k new.0 new.1
+        ];
+        only = λ slot g is. elim (cases_eq slot ref.slot) [
+          | inl same ↦
+              let here = seat_here seats ref.slot (record { set = gate + 1; group = 0; check = only_check named }) within in
+              let now_is : seat_of now ref.slot ≡ suc g = ap (seat_of now) (sym same) ∙ is in
+              let n : g ≡ first + length refs = omega arith in
+              (length refs, (ref, n, last_at refs ref (length refs) refl, sym same))
+          | inr apart ↦
+              let old = are.only slot g (sym (seat_beside seats ref.slot slot _ apart) ∙ is) in
+              (old.0, (old.1.0, old.1.1, still_at refs ref old.1.0 old.0 old.1.2, old.1.3))
+        ];
+        no_group = λ slot. elim (cases_eq slot ref.slot) [
+          | inl same ↦ ap (group_seat now) same ∙ ap (λ (x : Seat). x.group)
+              (get_or-set_same seats ref.slot (record { set = gate + 1; group = 0; check = only_check named }) (record { set = 0; group = 0; check = 0 })
+              within)
+          | inr apart ↦ ap (λ (x : Seat). x.group) (get_or-set_other seats ref.slot slot (record { set = gate + 1; group = 0; check = only_check named })
+              (record { set = 0; group = 0; check = 0 }) apart) ∙ are.no_group slot
+        ];
+      }
+
+-- a set whose slot has a gate is listed
+pub listed_already : (zones : List Zone) (first : ℕ) (refs : List SetRef) (seats : List Seat)
+    (shapes : List Shape) (ref : SetRef) (named : RecordSet)
+    → AreListed zones first refs seats shapes → HaveSlotsApart zones → Names zones ref named
+    → (seat_of seats ref.slot ≢ 0) → IsListed refs ref
+listed_already zones first refs seats shapes ref named are apart names some =
+    by (seat_of seats ref.slot) refl
+  where
+    by : (n : ℕ) → seat_of seats ref.slot ≡ n → IsListed refs ref
+    by zero e = absurd (some e)
+    by (suc gate) e =
+        let o = are.only ref.slot gate e in
+        let g = are.gates o.0 o.1.0 o.1.2 in
+        let same = one_ref zones o.1.0 ref g.named named apart g.names names o.1.3 in
+        (o.0, o.1.2 ∙ ap Some same)
+
+-- the seat that was read
+pub seat_is : (seats : List Seat) (slot : ℕ) (s : Seat) → slot < length seats
+    → s ≡ get_or seats slot s → s.set ≡ seat_of seats slot
+seat_is seats slot s within is =
+    ap (λ (x : Seat). x.set) (sym (get_or_from_slice_get seats slot s _
+    (slice_get_read seats (length seats) slot s refl within is)))
+
+-- what is told of the set at a place
+pub record IsTold (zones : List Zone) (zone i : ℕ) (ref : SetRef) : Type 0 where
+  pub set : RecordSet
+  pub names : Names zones ref set
+  pub its : (p : Placed) → slice_get (placed_in zones zone) i ≡ Some p
+      → (p.set ≡ set) × (ref_in zone p ≡ ref)
+
+some_same : {X : Type 0} {x y : X} → Some x ≡ Some y → x ≡ y
+some_same e = cc
+
+pub told_at : (zones : List Zone) (zone i : ℕ) (ref : SetRef) → IsSetAt zones zone i (Some ref)
+    → IsTold zones zone i ref
+told_at zones zone i ref (its_zone, (set, at)) = record {
+  set = set;
+  names = subst (λ (z : ℕ). IsHere (placed_in zones z) (record { slot = ref.slot; set = set })) (sym its_zone)
+      (among_at (placed_in zones zone) i (record { slot = ref.slot; set = set }) at);
+  its = λ p is.
+      let same : p ≡ record { slot = ref.slot; set = set } = some_same (sym is ∙ at) in
+      (ap (λ (q : Placed). q.set) same, ap (ref_in zone) same ∙ ap (λ (z : ℕ). record { zone = z; slot = ref.slot }) (sym its_zone));
+}
+
+pub slot_below : (zones : List Zone) (slots : ℕ) (ref : SetRef) (set : RecordSet)
+    → HaveSlotsBelow zones slots → Names zones ref set → ref.slot < slots
+slot_below zones slots ref set below names =
+    let z = its_zone zones ref.zone (record { slot = ref.slot; set = set }) names in
+    below z.0 (record { slot = ref.slot; set = set }) z.1.0 z.1.2
+
+-- a zone that has a set is one of those up to the last
+pub up_to : (zones : List Zone) (id zone : ℕ) (p : Placed)
+    → ((z : Zone) → IsOne zones z → z.id ≤ zone) → IsHere (placed_in zones id) p → id ≤ zone
+up_to zones id zone p all here =
+    let z = its_zone zones id p here in
+    let b = all z.0 z.1.0 in
+    let e = z.1.1 in
+    omega arith
+
+pub group_is : (seats : List Seat) (slot : ℕ) (s : Seat) → slot < length seats
+    → s ≡ get_or seats slot s → s.group ≡ group_seat seats slot
+group_is seats slot s within is =
+    ap (λ (x : Seat). x.group) (sym (get_or_from_slice_get seats slot s _
+    (slice_get_read seats (length seats) slot s refl within is)))

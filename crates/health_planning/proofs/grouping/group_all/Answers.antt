@@ -1,0 +1,70 @@
+use Rattle.std.proofs.Common.{◌≡◌, length, arith, sym, refl, ◌∙◌, inl, inr}
+use Rattle.std.proofs.lemmas.Bool.{cases_lt}
+use Rattle.std.proofs.lemmas.Option.{get_or_from_slice_get, slice_get_within}
+use mathlib.Core.Path.{subst}
+use Rattle.zone_list.specs.declared.refs.SetRef.{SetRef}
+use Rattle.zone_table.specs.Looking.{Names}
+use Rattle.health_planning.specs.Building.{HasTarget}
+use Rattle.health_planning.proofs.Grouped.{target_on}
+use Rattle.health_planning.proofs.Roomy.{can_start}
+use Rattle.health_planning.proofs.grouping.group_all.Goals as goal
+
+pub loop-set-init : goal.loop-set-init
+loop-set-init c = record {
+  slots = c.requires.slots;
+  below = c.requires.below;
+  within = c.requires.within;
+  grouped = can_start c.args.zones.now.zones c.args.seats.now.items c.args.plan.now c.requires.below c.requires.apart c.requires.none c.requires.room
+      c.requires.links_room c.requires.few;
+  kept = record { gates = refl; links = refl };
+  all = λ k set named name before at names is. absurd (omega arith);
+  sets = record { gates = λ slot. refl; checks = λ slot. refl };
+  shapes = λ n shape at. at;
+  feeders = λ gate early. refl;
+  more = omega arith;
+}
+
+pub loop-set-preserved : goal.loop-set-preserved
+loop-set-preserved c =
+    let zones = c.args.zones.now.zones in
+    let i = c.loop-set.invariant in
+    let o = c.group_one.ensures in
+    let grown = i.more in
+    let more = o.more in
+    record {
+      slots = o.size ∙ i.slots;
+      below = λ slot gate is. let b = i.below slot gate (sym (o.sets.gates slot) ∙ is) in omega arith;
+      within = o.within;
+      grouped = o.grouped (length c.args.plan.now.shapes) (length c.args.plan.now.links) i.grouped;
+      kept =
+          let gates = i.kept.gates in
+          let more_gates = o.kept.gates in
+          let links = i.kept.links in
+          let more_links = o.kept.links in
+          record { gates = omega arith; links = omega arith };
+      all = λ k set named name before at names is. elim (cases_lt k c.loop-set.set-index) [
+        | inl early ↦ target_on zones _ _ set.zone name named.rtype o.goes_on (i.all k set named name early at names is)
+        | inr late ↦
+            let k_is : k ≡ c.loop-set.set-index = omega arith in
+            let e = get_or_from_slice_get c.args.refs.now c.loop-set.set-index set (record { zone = 0; slot = 0 }) (rw k_is at at) in
+            subst (λ (s : SetRef). HasTarget zones c.group_one.new.seats.items s.zone name named.rtype) e
+            (o.here named name (subst (λ (s : SetRef). Names zones s named) (sym e) names) is)
+      ];
+      sets = record {
+        gates = λ slot. o.sets.gates slot ∙ i.sets.gates slot;
+        checks = λ slot. o.sets.checks slot ∙ i.sets.checks slot;
+      };
+      shapes = λ n shape at. o.shapes n shape (i.shapes n shape at);
+      feeders = λ gate early. o.feeders gate (omega arith) ∙ i.feeders gate early;
+      more = omega arith;
+    }
+
+pub returns-clause-all : goal.returns-clause-all
+returns-clause-all c k set named name at names is =
+    let b = slice_get_within c.args.refs.now k set at in
+    let end = c.loop-set-test.false in
+    c.loop-set.invariant.all k set named name (omega arith) at names is
+
+pub group_one-requires-clause-room : goal.group_one-requires-clause-room
+group_one-requires-clause-room c =
+    (length c.args.plan.now.shapes, (length c.args.plan.now.links, c.loop-set.invariant.grouped))

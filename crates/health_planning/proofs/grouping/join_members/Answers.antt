@@ -1,0 +1,72 @@
+use Rattle.std.proofs.Common.{◌≡◌, ◌+◌, ◌++◌, [], List, length, length-append, arith, ap, sym, ◌∙◌, take, append_assoc}
+use Rattle.health_gates.specs.declared.plan.Link.{Link}
+use Rattle.policy_select.proofs.Noted.{few_members}
+use Rattle.policy_select.specs.Groups.{members_of}
+use Rattle.std.proofs.lemmas.List.{take_all}
+use Rattle.zone_model.proofs.Lists.{take_more}
+use Rattle.health_planning.specs.Building.{links_to}
+use Rattle.health_planning.specs.Wired.{gates_of, seat_of, with_gate}
+use Rattle.health_planning.proofs.Few.{gates_some, links_long}
+use Rattle.health_planning.proofs.Groups.{gates_more, links_more, member_at}
+use Rattle.health_planning.proofs.ListedOnce.{slot_below}
+use Rattle.health_planning.proofs.grouping.join_members.Goals as goal
+
+pub seat_at-seat-requires : goal.seat_at-seat-requires
+seat_at-seat-requires c =
+    let m = member_at c.args.zones.now.zones c.args.group c.loop-i.i c.member.result c.loop-i-test.true c.member.ensures in
+    let b = slot_below c.args.zones.now.zones c.args.zones.now.slots c.member.result m.p.set c.slots_within.ensures.within m.names in
+    let slots = c.requires.slots in
+    omega arith
+
+pub loop-i-preserved : goal.loop-i-preserved
+loop-i-preserved c =
+    let i = c.loop-i.invariant in
+    let o = c.join_seat.ensures in
+    let seats = c.args.seats.now in
+    let members = members_of c.args.zones.now.zones c.args.group in
+    let m = member_at c.args.zones.now.zones c.args.group c.loop-i.i c.member.result c.loop-i-test.true c.member.ensures in
+    let more = take_more members c.loop-i.i m.p m.at in
+    let seat = c.seat_at-seat.ensures.set ∙ ap (seat_of seats) (sym m.slot) in
+    let gates = ap (gates_of seats) more ∙ gates_more seats (take c.loop-i.i members) m.p in
+    let all = ap (links_to c.args.gate) gates ∙ links_more c.args.gate (gates_of seats (take c.loop-i.i members)) (with_gate (seat_of seats m.p.slot) []) in
+    record {
+      within = omega (arith, c.loop-i-test.true);
+      shapes = o.shapes ∙ i.shapes;
+      kept =
+          let gates_kept = i.kept.gates in
+          let more = o.kept.gates in
+          let links_kept = i.kept.links in
+          let more_links = o.kept.links in
+          record { gates = omega arith; links = omega arith };
+      links = o.links ∙ ap (λ (l : List Link). l ++ links_to c.args.gate (with_gate c.seat_at-seat.result.set [])) i.links
+          ∙ append_assoc c.args.plan.now.links (links_to c.args.gate (gates_of seats (take c.loop-i.i members)))
+          (links_to c.args.gate (with_gate c.seat_at-seat.result.set []))
+          ∙ ap (λ n. c.args.plan.now.links ++ (links_to c.args.gate (gates_of seats (take c.loop-i.i members)) ++ links_to c.args.gate (with_gate n []))) seat
+          ∙ ap (λ (l : List Link). c.args.plan.now.links ++ l) (sym all);
+    }
+
+pub returns-clause-links : goal.returns-clause-links
+returns-clause-links c =
+    let members = members_of c.args.zones.now.zones c.args.group in
+    let long = few_members c.args.zones.now.zones c.args.group in
+    let end = c.loop-i-test.false in
+    let all : take c.loop-i.i members ≡ members = take_all c.loop-i.i members (omega arith) in
+    c.loop-i.invariant.links ∙ ap (λ l. c.args.plan.now.links ++ links_to c.args.gate (gates_of c.args.seats.now l)) all
+
+pub join_seat-requires : goal.join_seat-requires
+join_seat-requires c =
+    let i = c.loop-i.invariant in
+    let seats = c.args.seats.now in
+    let members = members_of c.args.zones.now.zones c.args.group in
+    let m = member_at c.args.zones.now.zones c.args.group c.loop-i.i c.member.result c.loop-i-test.true c.member.ensures in
+    let more = take_more members c.loop-i.i m.p m.at in
+    let seat = c.seat_at-seat.ensures.set ∙ ap (seat_of seats) (sym m.slot) in
+    let its = ap (λ n. length (with_gate n [])) seat in
+    let gates = ap (λ l. length (gates_of seats l)) more ∙ ap length (gates_more seats (take c.loop-i.i members) m.p)
+    ∙ length-append (gates_of seats (take c.loop-i.i members)) (with_gate (seat_of seats m.p.slot) []) in
+    let links = ap length i.links ∙ length-append c.args.plan.now.links (links_to c.args.gate (gates_of seats (take c.loop-i.i members))) in
+    let long = links_long c.args.gate (gates_of seats (take c.loop-i.i members)) in
+    let some = gates_some seats (c.loop-i.i + 1) members in
+    let kept = i.kept.links in
+    let room = c.requires.room in
+    omega arith

@@ -1,0 +1,5 @@
+use Rattle.std.proofs.Common.{refl}
+use Rattle.health_planning.proofs.grouping.seat_at.Goals as goal
+
+pub returns : goal.returns
+returns c = record { set = refl; group = refl; check = refl }

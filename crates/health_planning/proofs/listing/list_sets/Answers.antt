@@ -1,0 +1,62 @@
+use Rattle.std.proofs.Common.{◌≡◌, arith, refl, ◌∙◌, inl, inr}
+use mathlib.Core.Path.{subst}
+use Rattle.std.proofs.lemmas.Bool.{cases_lt}
+use Rattle.zone_list.specs.Changes.{ref_in}
+use Rattle.zone_list.specs.Found.{NextZoneOrNone}
+use Rattle.health_planning.proofs.ListedOnce.{its_zone, up_to}
+use Rattle.zone_list.proofs.Members.{in_all}
+use Rattle.zone_list.specs.Zones.{StandsAlone}
+use Rattle.health_planning.proofs.listing.list_sets.Goals as goal
+
+pub loop-next-init : goal.loop-next-init
+loop-next-init c = record {
+  slots = c.requires.slots;
+  ready = c.requires.listed;
+  listed = λ first are. are;
+  goes_on = λ ref listed. listed;
+  shapes = λ n shape at. at;
+  links = refl;
+  room = c.requires.room;
+  kept = record { gates = refl; links = refl };
+  all = λ id p to here watched.
+      let z = its_zone c.args.zones.now.zones id p here in
+      let n = (in_all StandsAlone c.args.zones.now.zones z.0 c.well_formed-2.ensures.each z.1.0).numbered in
+      let e = z.1.1 in
+      absurd (omega arith);
+}
+
+pub returns-clause-all : goal.returns-clause-all
+returns-clause-all c id p here watched =
+    let none = subst (NextZoneOrNone c.args.zones.now.zones c.loop-next.zone) c.in_default.is c.zone_after.ensures in
+    c.loop-next.invariant.all id p (up_to c.args.zones.now.zones id c.loop-next.zone p none here) here watched
+
+pub loop-next-preserved : goal.loop-next-preserved
+loop-next-preserved c =
+    let zones = c.args.zones.now.zones in
+    let i = c.loop-next.invariant in
+    let o = c.list_zone.ensures in
+    let next = subst (NextZoneOrNone zones c.loop-next.zone) c.in-Some.is c.zone_after.ensures in
+    record {
+      slots = o.size ∙ i.slots;
+      ready = (i.ready.0, o.listed i.ready.0 i.ready.1);
+      listed = λ first are. o.listed first (i.listed first are);
+      goes_on = λ ref listed. o.goes_on ref (i.goes_on ref listed);
+      shapes = λ n shape at. o.shapes n shape (i.shapes n shape at);
+      links = o.links ∙ i.links;
+      room = o.room;
+      kept =
+          let gates = i.kept.gates in
+          let more = o.kept.gates in
+          let links = i.kept.links in
+          let more_links = o.kept.links in
+          record { gates = omega arith; links = omega arith };
+      all = λ id p to here watched. elim (cases_lt c.loop-next.zone id) [
+        | inl past ↦
+            let z = its_zone zones id p here in
+            let its = z.1.1 in
+            let least = next.least z.0 z.1.0 (omega arith) in
+            let same : id ≡ c.in-Some.next = omega arith in
+            rw same (o.all p (rw same at here) watched)
+        | inr before ↦ o.goes_on (ref_in id p) (i.all id p (omega arith) here watched)
+      ];
+    }

@@ -1,0 +1,59 @@
+use Rattle.std.proofs.Common.{◌≡◌, arith, ap, sym, ◌∙◌, inl, inr}
+use mathlib.Core.Path.{subst}
+use Rattle.std.proofs.lemmas.Bool.{cases_lt}
+use Rattle.zone_list.specs.Changes.{ref_in}
+use Rattle.zone_model.proofs.Among.{place_of}
+use Rattle.std.proofs.lemmas.Option.{slice_get_within}
+use Rattle.zone_list.specs.Zones.{placed_in}
+use Rattle.zone_table.specs.Looking.{IsSetAt}
+use Rattle.health_planning.specs.Building.{IsListed}
+use Rattle.health_planning.specs.Wired.{is_watched}
+use Rattle.health_planning.proofs.ListedOnce.{slot_below, told_at}
+use Rattle.health_planning.proofs.listing.list_zone.Goals as goal
+
+pub list_one-requires-clause-slot : goal.list_one-requires-clause-slot
+list_one-requires-clause-slot c =
+    let t = told_at c.args.zones.now.zones c.args.zone c.loop-i.i c.in-Some.set
+    (subst (IsSetAt c.args.zones.now.zones c.args.zone c.loop-i.i) c.in-Some.is c.at.ensures) in
+    let b = slot_below c.args.zones.now.zones c.args.zones.now.slots c.in-Some.set t.set c.slots_within.ensures.within t.names in
+    let slots = c.loop-i.invariant.slots in
+    omega arith
+
+pub loop-i-preserved : goal.loop-i-preserved
+loop-i-preserved c =
+    let zones = c.args.zones.now.zones in
+    let i = c.loop-i.invariant in
+    let o = c.list_one.ensures in
+    let t = told_at zones c.args.zone c.loop-i.i c.in-Some.set (subst (IsSetAt zones c.args.zone c.loop-i.i) c.in-Some.is c.at.ensures) in
+    record {
+      within = omega (arith, c.loop-i-test.true, c.count-i-end.ensures);
+      slots = o.size ∙ i.slots;
+      ready = (i.ready.0, o.listed i.ready.0 i.ready.1);
+      listed = λ first are. o.listed first (i.listed first are);
+      goes_on = λ ref listed. o.goes_on ref (i.goes_on ref listed);
+      shapes = λ n shape at. o.shapes n shape (i.shapes n shape at);
+      links = o.links ∙ i.links;
+      room = o.room;
+      kept =
+          let gates = i.kept.gates in
+          let more = o.kept.gates in
+          let links = i.kept.links in
+          let more_links = o.kept.links in
+          record { gates = omega arith; links = omega arith };
+      all = λ k p before at watched. elim (cases_lt k c.loop-i.i) [
+        | inl early ↦ o.goes_on (ref_in c.args.zone p) (i.all k p early at watched)
+        | inr late ↦
+            let k_is : k ≡ c.loop-i.i = omega arith in
+            let its = t.its p (rw k_is at at) in
+            subst (IsListed c.list_one.new.refs.items) (sym its.1) (o.here t.set t.names (sym (ap is_watched its.0) ∙ watched))
+      ];
+    }
+
+pub returns-clause-all : goal.returns-clause-all
+returns-clause-all c p here watched =
+    let zones = c.args.zones.now.zones in
+    let k = place_of (placed_in zones c.args.zone) p here in
+    let b = slice_get_within (placed_in zones c.args.zone) k.0 p k.1 in
+    let end = c.loop-i-test.false in
+    let count = c.count-i-end.ensures in
+    c.loop-i.invariant.all k.0 p (omega arith) k.1 watched

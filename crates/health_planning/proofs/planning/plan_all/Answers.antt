@@ -1,0 +1,540 @@
+use Rattle.std.proofs.Common.{◌≡◌, ◌++◌, ℕ, List, length, length-append, arith, ap, sym, ◌∙◌}
+use Rattle.std.proofs.lemmas.List.{length-replicate}
+use mathlib.Core.Path.{subst}
+use Rattle.health_gates.specs.declared.plan.Link.{Link}
+use Rattle.health_gates.specs.declared.plan.Shape.{Shape}
+use Rattle.health_planning.specs.Building.{AreListed, IsSmallAt, check_links, check_shapes, no_seat}
+use Rattle.health_planning.specs.Rooms.{children_among}
+use Rattle.health_planning.proofs.Built.{checks_there, children_placed, is_built, links_early, listed_below, none_listed, shaped_at, small_at, targets_there}
+use Rattle.health_planning.proofs.Few.{check_links_long, children_few, few_grouped, few_listed}
+use Rattle.health_planning.proofs.Grouped.{still_within}
+use Rattle.health_planning.proofs.Roomy.{joined_few, listed_apart}
+use Rattle.health_planning.proofs.Wiring.{ids_long}
+use Rattle.health_planning.proofs.planning.plan_all.Goals as goal
+
+pub join_checks-requires-clause-there : goal.join_checks-requires-clause-there
+join_checks-requires-clause-there c =
+    rw (c.as_slice-list.ensures.checks, c.requires.ids)
+    (children_placed c.args.checks.now.checks c.as_slice-list.ensures.sound)
+
+pub list_sets-requires-clause-listed : goal.list_sets-requires-clause-listed
+list_sets-requires-clause-listed c =
+    let size = c.add_checks.ensures.size in
+    rw (c.requires.no_refs, c.requires.no_seats, c.join_checks.ensures.shapes) (
+      length c.as_slice-list.result.now,
+      none_listed c.args.zones.now.zones c.args.zones.now.slots (length c.as_slice-list.result.now)
+          c.add_checks.new.plan.shapes size,
+    )
+
+pub group_all-requires-clause-below : goal.group_all-requires-clause-below
+group_all-requires-clause-below c =
+    let list = c.args.checks.now.checks.list in
+    let size = c.add_checks.ensures.size ∙ ap length c.as_slice-list.ensures.checks in
+    let start : AreListed c.args.zones.now.zones (length list) c.args.refs.now.items c.args.seats.now.items c.join_checks.new.plan.shapes =
+    rw (c.requires.no_refs, c.requires.no_seats, c.join_checks.ensures.shapes)
+    (none_listed c.args.zones.now.zones c.args.zones.now.slots (length list) c.add_checks.new.plan.shapes size) in
+    listed_below c.args.zones.now.zones (length list) c.list_sets.new.refs.items c.list_sets.new.seats.items c.list_sets.new.plan.shapes
+    (c.list_sets.ensures.listed (length list) start)
+
+pub group_all-requires-clause-none : goal.group_all-requires-clause-none
+group_all-requires-clause-none c =
+    let list = c.args.checks.now.checks.list in
+    let size = c.add_checks.ensures.size ∙ ap length c.as_slice-list.ensures.checks in
+    let start : AreListed c.args.zones.now.zones (length list) c.args.refs.now.items c.args.seats.now.items c.join_checks.new.plan.shapes =
+    rw (c.requires.no_refs, c.requires.no_seats, c.join_checks.ensures.shapes)
+    (none_listed c.args.zones.now.zones c.args.zones.now.slots (length list) c.add_checks.new.plan.shapes size) in
+    (c.list_sets.ensures.listed (length list) start).no_group
+
+pub group_all-requires-clause-within : goal.group_all-requires-clause-within
+group_all-requires-clause-within c =
+    let checks = c.args.checks.now.checks in
+    let list = checks.list in
+    let size = c.add_checks.ensures.size ∙ ap length c.as_slice-list.ensures.checks in
+    let start : AreListed c.args.zones.now.zones (length list) c.args.refs.now.items c.args.seats.now.items c.join_checks.new.plan.shapes =
+    rw (c.requires.no_refs, c.requires.no_seats, c.join_checks.ensures.shapes)
+    (none_listed c.args.zones.now.zones c.args.zones.now.slots (length list) c.add_checks.new.plan.shapes size) in
+    let listed = (c.list_sets.ensures.listed (length list) start).size in
+    let links : c.list_sets.new.plan.links ≡ check_links c.args.ids.now 0 c.as_slice-list.result.now =
+    c.list_sets.ensures.links ∙ c.join_checks.ensures.links
+    ∙ ap (λ (l : List Link). l ++ check_links c.args.ids.now 0 c.as_slice-list.result.now) (c.add_checks.ensures.links ∙ c.requires.no_links) in
+    rw (links, c.requires.ids, c.as_slice-list.ensures.checks)
+    (still_within (check_links _ 0 list) (length list) (length c.list_sets.new.plan.shapes) (omega arith)
+    (links_early list (children_placed checks c.as_slice-list.ensures.sound)))
+
+pub group_all-requires-clause-targets : goal.group_all-requires-clause-targets
+group_all-requires-clause-targets c = targets_there c.args.zones.now.zones c.args.checks.now.checks c.requires.sound
+
+pub join_sets-requires-clause-targets : goal.join_sets-requires-clause-targets
+join_sets-requires-clause-targets c = targets_there c.args.zones.now.zones c.args.checks.now.checks c.requires.sound
+
+pub join_sets-requires-clause-named : goal.join_sets-requires-clause-named
+join_sets-requires-clause-named c k set at =
+    let list = c.args.checks.now.checks.list in
+    let size = c.add_checks.ensures.size ∙ ap length c.as_slice-list.ensures.checks in
+    let start : AreListed c.args.zones.now.zones (length list) c.args.refs.now.items c.args.seats.now.items c.join_checks.new.plan.shapes =
+    rw (c.requires.no_refs, c.requires.no_seats, c.join_checks.ensures.shapes)
+    (none_listed c.args.zones.now.zones c.args.zones.now.slots (length list) c.add_checks.new.plan.shapes size) in
+    let g = (c.list_sets.ensures.listed (length list) start).gates k set (rw c.deref-2.ensures.value at at) in
+    (g.named, g.names)
+
+pub join_sets-requires-clause-there : goal.join_sets-requires-clause-there
+join_sets-requires-clause-there c = rw c.requires.ids (checks_there c.args.zones.now.zones c.args.checks.now.checks c.requires.sound)
+
+pub returns-clause-built : goal.returns-clause-built
+returns-clause-built c =
+    let zones = c.args.zones.now.zones in
+    let checks = c.args.checks.now.checks in
+    let list = checks.list in
+    let l = c.list_sets.ensures in
+    let g = c.group_all.ensures in
+    let j = c.join_sets.ensures in
+    let size = c.add_checks.ensures.size ∙ ap length c.as_slice-list.ensures.checks in
+    let start : AreListed zones (length list) c.args.refs.now.items c.args.seats.now.items c.join_checks.new.plan.shapes =
+    rw (c.requires.no_refs, c.requires.no_seats, c.join_checks.ensures.shapes)
+    (none_listed zones c.args.zones.now.slots (length list) c.add_checks.new.plan.shapes size) in
+    let links : c.list_sets.new.plan.links ≡ check_links c.args.ids.now 0 c.as_slice-list.result.now =
+    l.links ∙ c.join_checks.ensures.links
+    ∙ ap (λ (x : List Link). x ++ check_links c.args.ids.now 0 c.as_slice-list.result.now) (c.add_checks.ensures.links ∙ c.requires.no_links) in
+    rw j.shapes (is_built zones list c.list_sets.new.refs.items c.list_sets.new.seats.items c.group_all.new.seats.items
+    c.list_sets.new.plan.shapes c.group_all.new.plan.shapes c.list_sets.new.plan.links c.group_all.new.plan.links c.join_sets.new.plan.links
+    (children_placed checks c.as_slice-list.ensures.sound)
+    (links ∙ ap (λ (x : List ℕ). check_links x 0 c.as_slice-list.result.now) c.requires.ids ∙ ap (check_links _ 0) c.as_slice-list.ensures.checks)
+    (l.listed (length list) start) l.all g.grouped.grouped (rw c.deref.ensures.value at g.all) g.sets g.shapes g.feeders g.more g.within
+    (rw (c.requires.ids, c.deref-2.ensures.value, c.deref-3.ensures.value) at j.joined)
+    (rw (c.requires.ids, c.deref-2.ensures.value) at j.others)
+    (rw (c.requires.ids, c.deref-2.ensures.value, c.deref-3.ensures.value) at j.within))
+
+pub returns-clause-checks : goal.returns-clause-checks
+returns-clause-checks c reports are place id check at =
+    let list = c.as_slice-list.ensures.checks in
+    let shapes = c.join_checks.ensures.shapes ∙ c.add_checks.ensures.shapes reports (rw list are) ∙ ap (check_shapes reports) list in
+    rw c.join_sets.ensures.shapes
+    (c.group_all.ensures.shapes place _ (c.list_sets.ensures.shapes place _
+    (shaped_at reports c.args.checks.now.checks.list c.join_checks.new.plan.shapes shapes place id check at)))
+
+pub returns-clause-small : goal.returns-clause-small
+returns-clause-small c gate early =
+    let size = c.add_checks.ensures.size ∙ ap length c.as_slice-list.ensures.checks in
+    let same = ap length c.join_checks.ensures.shapes in
+    subst (λ (l : List Shape). IsSmallAt l gate) (sym c.join_sets.ensures.shapes)
+    (small_at c.join_checks.new.plan.shapes c.list_sets.new.plan.shapes c.group_all.new.plan.shapes gate (omega arith)
+    (rw c.join_checks.ensures.shapes c.add_checks.ensures.small) c.list_sets.ensures.shapes c.group_all.ensures.shapes)
+
+pub add_checks-requires-clause-room : goal.add_checks-requires-clause-room
+add_checks-requires-clause-room c =
+    let checks = c.args.checks.now.checks in
+    let list = checks.list in
+    let sound = c.as_slice-list.ensures.sound in
+    let few = sound.few in
+    let as_list = ap length c.as_slice-list.ensures.checks in
+    let room = c.requires.room in
+    let few_slots = room.few in
+    let gates_room = room.gates in
+    let links_room = room.links in
+    let no_shapes = ap length c.requires.no_gates in
+    let no_links = ap length c.requires.no_links in
+    omega arith
+
+pub join_checks-requires-clause-room : goal.join_checks-requires-clause-room
+join_checks-requires-clause-room c =
+    let checks = c.args.checks.now.checks in
+    let list = checks.list in
+    let sound = c.as_slice-list.ensures.sound in
+    let few = sound.few in
+    let as_list = ap length c.as_slice-list.ensures.checks in
+    let room = c.requires.room in
+    let few_slots = room.few in
+    let gates_room = room.gates in
+    let links_room = room.links in
+    let no_shapes = ap length c.requires.no_gates in
+    let no_links = ap length c.requires.no_links in
+    let children = children_few list sound.bounded in
+    let same_children = ap children_among c.as_slice-list.ensures.checks in
+    let long_seats = ap length c.requires.no_seats ∙ length-replicate c.args.zones.now.slots no_seat in
+    let no_refs = ap length c.requires.no_refs in
+    let added = c.add_checks.ensures.size in
+    let added_gates = c.add_checks.ensures.kept.gates in
+    let added_links = c.add_checks.ensures.kept.links in
+    let added_same = ap length c.add_checks.ensures.links in
+    omega arith
+
+pub list_sets-requires-clause-room : goal.list_sets-requires-clause-room
+list_sets-requires-clause-room c =
+    let checks = c.args.checks.now.checks in
+    let list = checks.list in
+    let sound = c.as_slice-list.ensures.sound in
+    let few = sound.few in
+    let as_list = ap length c.as_slice-list.ensures.checks in
+    let room = c.requires.room in
+    let few_slots = room.few in
+    let gates_room = room.gates in
+    let links_room = room.links in
+    let no_shapes = ap length c.requires.no_gates in
+    let no_links = ap length c.requires.no_links in
+    let children = children_few list sound.bounded in
+    let same_children = ap children_among c.as_slice-list.ensures.checks in
+    let long_seats = ap length c.requires.no_seats ∙ length-replicate c.args.zones.now.slots no_seat in
+    let no_refs = ap length c.requires.no_refs in
+    let added = c.add_checks.ensures.size in
+    let added_gates = c.add_checks.ensures.kept.gates in
+    let added_links = c.add_checks.ensures.kept.links in
+    let added_same = ap length c.add_checks.ensures.links in
+    let joined_gates = c.join_checks.ensures.kept.gates in
+    let joined_links = c.join_checks.ensures.kept.links in
+    let joined_same = ap length c.join_checks.ensures.shapes in
+    let joined_more = ap length c.join_checks.ensures.links ∙ length-append c.add_checks.new.plan.links
+    (check_links c.args.ids.now 0 c.as_slice-list.result.now) in
+    let joined_long = check_links_long c.args.ids.now 0 c.as_slice-list.result.now in
+    let refs_room = room.refs_room in
+    record { few = omega arith; refs_room = omega arith; gates = omega arith }
+
+pub group_all-requires-clause-apart : goal.group_all-requires-clause-apart
+group_all-requires-clause-apart c =
+    let checks = c.args.checks.now.checks in
+    let list = checks.list in
+    let sound = c.as_slice-list.ensures.sound in
+    let few = sound.few in
+    let as_list = ap length c.as_slice-list.ensures.checks in
+    let room = c.requires.room in
+    let few_slots = room.few in
+    let gates_room = room.gates in
+    let links_room = room.links in
+    let no_shapes = ap length c.requires.no_gates in
+    let no_links = ap length c.requires.no_links in
+    let children = children_few list sound.bounded in
+    let same_children = ap children_among c.as_slice-list.ensures.checks in
+    let long_seats = ap length c.requires.no_seats ∙ length-replicate c.args.zones.now.slots no_seat in
+    let no_refs = ap length c.requires.no_refs in
+    let added = c.add_checks.ensures.size in
+    let added_gates = c.add_checks.ensures.kept.gates in
+    let added_links = c.add_checks.ensures.kept.links in
+    let added_same = ap length c.add_checks.ensures.links in
+    let joined_gates = c.join_checks.ensures.kept.gates in
+    let joined_links = c.join_checks.ensures.kept.links in
+    let joined_same = ap length c.join_checks.ensures.shapes in
+    let joined_more = ap length c.join_checks.ensures.links ∙ length-append c.add_checks.new.plan.links
+    (check_links c.args.ids.now 0 c.as_slice-list.result.now) in
+    let joined_long = check_links_long c.args.ids.now 0 c.as_slice-list.result.now in
+    let start : AreListed c.args.zones.now.zones (length list) c.args.refs.now.items c.args.seats.now.items c.join_checks.new.plan.shapes =
+    rw (c.requires.no_refs, c.requires.no_seats, c.join_checks.ensures.shapes)
+    (none_listed c.args.zones.now.zones c.args.zones.now.slots (length list) c.add_checks.new.plan.shapes (added ∙ as_list)) in
+    let is_listed = c.list_sets.ensures.listed (length list) start in
+    let listed_size = is_listed.size in
+    let listed_few = few_listed c.args.zones.now.zones (length list) c.list_sets.new.refs.items c.list_sets.new.seats.items c.list_sets.new.plan.shapes
+    is_listed in
+    let listed_seats = c.list_sets.ensures.size in
+    let listed_gates = c.list_sets.ensures.kept.gates in
+    let listed_links = c.list_sets.ensures.kept.links in
+    let listed_same = ap length c.list_sets.ensures.links in
+    listed_apart c.args.zones.now.zones (length list) c.list_sets.new.refs.items c.list_sets.new.seats.items c.list_sets.new.plan.shapes is_listed
+
+pub group_all-requires-clause-few : goal.group_all-requires-clause-few
+group_all-requires-clause-few c =
+    let checks = c.args.checks.now.checks in
+    let list = checks.list in
+    let sound = c.as_slice-list.ensures.sound in
+    let few = sound.few in
+    let as_list = ap length c.as_slice-list.ensures.checks in
+    let room = c.requires.room in
+    let few_slots = room.few in
+    let gates_room = room.gates in
+    let links_room = room.links in
+    let no_shapes = ap length c.requires.no_gates in
+    let no_links = ap length c.requires.no_links in
+    let children = children_few list sound.bounded in
+    let same_children = ap children_among c.as_slice-list.ensures.checks in
+    let long_seats = ap length c.requires.no_seats ∙ length-replicate c.args.zones.now.slots no_seat in
+    let no_refs = ap length c.requires.no_refs in
+    let added = c.add_checks.ensures.size in
+    let added_gates = c.add_checks.ensures.kept.gates in
+    let added_links = c.add_checks.ensures.kept.links in
+    let added_same = ap length c.add_checks.ensures.links in
+    let joined_gates = c.join_checks.ensures.kept.gates in
+    let joined_links = c.join_checks.ensures.kept.links in
+    let joined_same = ap length c.join_checks.ensures.shapes in
+    let joined_more = ap length c.join_checks.ensures.links ∙ length-append c.add_checks.new.plan.links
+    (check_links c.args.ids.now 0 c.as_slice-list.result.now) in
+    let joined_long = check_links_long c.args.ids.now 0 c.as_slice-list.result.now in
+    let start : AreListed c.args.zones.now.zones (length list) c.args.refs.now.items c.args.seats.now.items c.join_checks.new.plan.shapes =
+    rw (c.requires.no_refs, c.requires.no_seats, c.join_checks.ensures.shapes)
+    (none_listed c.args.zones.now.zones c.args.zones.now.slots (length list) c.add_checks.new.plan.shapes (added ∙ as_list)) in
+    let is_listed = c.list_sets.ensures.listed (length list) start in
+    let listed_size = is_listed.size in
+    let listed_few = few_listed c.args.zones.now.zones (length list) c.list_sets.new.refs.items c.list_sets.new.seats.items c.list_sets.new.plan.shapes
+    is_listed in
+    let listed_seats = c.list_sets.ensures.size in
+    let listed_gates = c.list_sets.ensures.kept.gates in
+    let listed_links = c.list_sets.ensures.kept.links in
+    let listed_same = ap length c.list_sets.ensures.links in
+    omega arith
+
+pub group_all-requires-clause-room : goal.group_all-requires-clause-room
+group_all-requires-clause-room c =
+    let checks = c.args.checks.now.checks in
+    let list = checks.list in
+    let sound = c.as_slice-list.ensures.sound in
+    let few = sound.few in
+    let as_list = ap length c.as_slice-list.ensures.checks in
+    let room = c.requires.room in
+    let few_slots = room.few in
+    let gates_room = room.gates in
+    let links_room = room.links in
+    let no_shapes = ap length c.requires.no_gates in
+    let no_links = ap length c.requires.no_links in
+    let children = children_few list sound.bounded in
+    let same_children = ap children_among c.as_slice-list.ensures.checks in
+    let long_seats = ap length c.requires.no_seats ∙ length-replicate c.args.zones.now.slots no_seat in
+    let no_refs = ap length c.requires.no_refs in
+    let added = c.add_checks.ensures.size in
+    let added_gates = c.add_checks.ensures.kept.gates in
+    let added_links = c.add_checks.ensures.kept.links in
+    let added_same = ap length c.add_checks.ensures.links in
+    let joined_gates = c.join_checks.ensures.kept.gates in
+    let joined_links = c.join_checks.ensures.kept.links in
+    let joined_same = ap length c.join_checks.ensures.shapes in
+    let joined_more = ap length c.join_checks.ensures.links ∙ length-append c.add_checks.new.plan.links
+    (check_links c.args.ids.now 0 c.as_slice-list.result.now) in
+    let joined_long = check_links_long c.args.ids.now 0 c.as_slice-list.result.now in
+    let start : AreListed c.args.zones.now.zones (length list) c.args.refs.now.items c.args.seats.now.items c.join_checks.new.plan.shapes =
+    rw (c.requires.no_refs, c.requires.no_seats, c.join_checks.ensures.shapes)
+    (none_listed c.args.zones.now.zones c.args.zones.now.slots (length list) c.add_checks.new.plan.shapes (added ∙ as_list)) in
+    let is_listed = c.list_sets.ensures.listed (length list) start in
+    let listed_size = is_listed.size in
+    let listed_few = few_listed c.args.zones.now.zones (length list) c.list_sets.new.refs.items c.list_sets.new.seats.items c.list_sets.new.plan.shapes
+    is_listed in
+    let listed_seats = c.list_sets.ensures.size in
+    let listed_gates = c.list_sets.ensures.kept.gates in
+    let listed_links = c.list_sets.ensures.kept.links in
+    let listed_same = ap length c.list_sets.ensures.links in
+    omega arith
+
+pub group_all-requires-clause-links_room : goal.group_all-requires-clause-links_room
+group_all-requires-clause-links_room c =
+    let checks = c.args.checks.now.checks in
+    let list = checks.list in
+    let sound = c.as_slice-list.ensures.sound in
+    let few = sound.few in
+    let as_list = ap length c.as_slice-list.ensures.checks in
+    let room = c.requires.room in
+    let few_slots = room.few in
+    let gates_room = room.gates in
+    let links_room = room.links in
+    let no_shapes = ap length c.requires.no_gates in
+    let no_links = ap length c.requires.no_links in
+    let children = children_few list sound.bounded in
+    let same_children = ap children_among c.as_slice-list.ensures.checks in
+    let long_seats = ap length c.requires.no_seats ∙ length-replicate c.args.zones.now.slots no_seat in
+    let no_refs = ap length c.requires.no_refs in
+    let added = c.add_checks.ensures.size in
+    let added_gates = c.add_checks.ensures.kept.gates in
+    let added_links = c.add_checks.ensures.kept.links in
+    let added_same = ap length c.add_checks.ensures.links in
+    let joined_gates = c.join_checks.ensures.kept.gates in
+    let joined_links = c.join_checks.ensures.kept.links in
+    let joined_same = ap length c.join_checks.ensures.shapes in
+    let joined_more = ap length c.join_checks.ensures.links ∙ length-append c.add_checks.new.plan.links
+    (check_links c.args.ids.now 0 c.as_slice-list.result.now) in
+    let joined_long = check_links_long c.args.ids.now 0 c.as_slice-list.result.now in
+    let start : AreListed c.args.zones.now.zones (length list) c.args.refs.now.items c.args.seats.now.items c.join_checks.new.plan.shapes =
+    rw (c.requires.no_refs, c.requires.no_seats, c.join_checks.ensures.shapes)
+    (none_listed c.args.zones.now.zones c.args.zones.now.slots (length list) c.add_checks.new.plan.shapes (added ∙ as_list)) in
+    let is_listed = c.list_sets.ensures.listed (length list) start in
+    let listed_size = is_listed.size in
+    let listed_few = few_listed c.args.zones.now.zones (length list) c.list_sets.new.refs.items c.list_sets.new.seats.items c.list_sets.new.plan.shapes
+    is_listed in
+    let listed_seats = c.list_sets.ensures.size in
+    let listed_gates = c.list_sets.ensures.kept.gates in
+    let listed_links = c.list_sets.ensures.kept.links in
+    let listed_same = ap length c.list_sets.ensures.links in
+    omega arith
+
+pub join_sets-requires-clause-few_sets : goal.join_sets-requires-clause-few_sets
+join_sets-requires-clause-few_sets c =
+    let checks = c.args.checks.now.checks in
+    let list = checks.list in
+    let sound = c.as_slice-list.ensures.sound in
+    let few = sound.few in
+    let as_list = ap length c.as_slice-list.ensures.checks in
+    let room = c.requires.room in
+    let few_slots = room.few in
+    let gates_room = room.gates in
+    let links_room = room.links in
+    let no_shapes = ap length c.requires.no_gates in
+    let no_links = ap length c.requires.no_links in
+    let children = children_few list sound.bounded in
+    let same_children = ap children_among c.as_slice-list.ensures.checks in
+    let long_seats = ap length c.requires.no_seats ∙ length-replicate c.args.zones.now.slots no_seat in
+    let no_refs = ap length c.requires.no_refs in
+    let added = c.add_checks.ensures.size in
+    let added_gates = c.add_checks.ensures.kept.gates in
+    let added_links = c.add_checks.ensures.kept.links in
+    let added_same = ap length c.add_checks.ensures.links in
+    let joined_gates = c.join_checks.ensures.kept.gates in
+    let joined_links = c.join_checks.ensures.kept.links in
+    let joined_same = ap length c.join_checks.ensures.shapes in
+    let joined_more = ap length c.join_checks.ensures.links ∙ length-append c.add_checks.new.plan.links
+    (check_links c.args.ids.now 0 c.as_slice-list.result.now) in
+    let joined_long = check_links_long c.args.ids.now 0 c.as_slice-list.result.now in
+    let start : AreListed c.args.zones.now.zones (length list) c.args.refs.now.items c.args.seats.now.items c.join_checks.new.plan.shapes =
+    rw (c.requires.no_refs, c.requires.no_seats, c.join_checks.ensures.shapes)
+    (none_listed c.args.zones.now.zones c.args.zones.now.slots (length list) c.add_checks.new.plan.shapes (added ∙ as_list)) in
+    let is_listed = c.list_sets.ensures.listed (length list) start in
+    let listed_size = is_listed.size in
+    let listed_few = few_listed c.args.zones.now.zones (length list) c.list_sets.new.refs.items c.list_sets.new.seats.items c.list_sets.new.plan.shapes
+    is_listed in
+    let listed_seats = c.list_sets.ensures.size in
+    let listed_gates = c.list_sets.ensures.kept.gates in
+    let listed_links = c.list_sets.ensures.kept.links in
+    let listed_same = ap length c.list_sets.ensures.links in
+    let refs = ap length c.deref-2.ensures.value in
+    let ids = ap length c.requires.ids ∙ ids_long list in
+    omega arith
+
+pub join_sets-requires-clause-room : goal.join_sets-requires-clause-room
+join_sets-requires-clause-room c =
+    let checks = c.args.checks.now.checks in
+    let list = checks.list in
+    let sound = c.as_slice-list.ensures.sound in
+    let few = sound.few in
+    let as_list = ap length c.as_slice-list.ensures.checks in
+    let room = c.requires.room in
+    let few_slots = room.few in
+    let gates_room = room.gates in
+    let links_room = room.links in
+    let no_shapes = ap length c.requires.no_gates in
+    let no_links = ap length c.requires.no_links in
+    let children = children_few list sound.bounded in
+    let same_children = ap children_among c.as_slice-list.ensures.checks in
+    let long_seats = ap length c.requires.no_seats ∙ length-replicate c.args.zones.now.slots no_seat in
+    let no_refs = ap length c.requires.no_refs in
+    let added = c.add_checks.ensures.size in
+    let added_gates = c.add_checks.ensures.kept.gates in
+    let added_links = c.add_checks.ensures.kept.links in
+    let added_same = ap length c.add_checks.ensures.links in
+    let joined_gates = c.join_checks.ensures.kept.gates in
+    let joined_links = c.join_checks.ensures.kept.links in
+    let joined_same = ap length c.join_checks.ensures.shapes in
+    let joined_more = ap length c.join_checks.ensures.links ∙ length-append c.add_checks.new.plan.links
+    (check_links c.args.ids.now 0 c.as_slice-list.result.now) in
+    let joined_long = check_links_long c.args.ids.now 0 c.as_slice-list.result.now in
+    let start : AreListed c.args.zones.now.zones (length list) c.args.refs.now.items c.args.seats.now.items c.join_checks.new.plan.shapes =
+    rw (c.requires.no_refs, c.requires.no_seats, c.join_checks.ensures.shapes)
+    (none_listed c.args.zones.now.zones c.args.zones.now.slots (length list) c.add_checks.new.plan.shapes (added ∙ as_list)) in
+    let is_listed = c.list_sets.ensures.listed (length list) start in
+    let listed_size = is_listed.size in
+    let listed_few = few_listed c.args.zones.now.zones (length list) c.list_sets.new.refs.items c.list_sets.new.seats.items c.list_sets.new.plan.shapes
+    is_listed in
+    let listed_seats = c.list_sets.ensures.size in
+    let listed_gates = c.list_sets.ensures.kept.gates in
+    let listed_links = c.list_sets.ensures.kept.links in
+    let listed_same = ap length c.list_sets.ensures.links in
+    let can = c.group_all.ensures.grouped in
+    let grouped_few = few_grouped c.args.zones.now.zones (length c.list_sets.new.plan.shapes) c.group_all.new.seats.items c.group_all.new.plan.shapes
+    c.group_all.new.plan.links can.grouped in
+    let grouped_seats = c.group_all.ensures.size in
+    let grouped_long = joined_few (length c.list_sets.new.plan.shapes) (length c.list_sets.new.plan.links) c.group_all.new.seats.items
+    c.group_all.new.plan.links can.joined in
+    let grouped_gates = c.group_all.ensures.kept.gates in
+    let grouped_links = c.group_all.ensures.kept.links in
+    let refs = ap length c.deref-2.ensures.value in
+    omega arith
+
+pub returns-clause-few_gates : goal.returns-clause-few_gates
+returns-clause-few_gates c =
+    let checks = c.args.checks.now.checks in
+    let list = checks.list in
+    let sound = c.as_slice-list.ensures.sound in
+    let few = sound.few in
+    let as_list = ap length c.as_slice-list.ensures.checks in
+    let room = c.requires.room in
+    let few_slots = room.few in
+    let gates_room = room.gates in
+    let links_room = room.links in
+    let no_shapes = ap length c.requires.no_gates in
+    let no_links = ap length c.requires.no_links in
+    let children = children_few list sound.bounded in
+    let same_children = ap children_among c.as_slice-list.ensures.checks in
+    let long_seats = ap length c.requires.no_seats ∙ length-replicate c.args.zones.now.slots no_seat in
+    let no_refs = ap length c.requires.no_refs in
+    let added = c.add_checks.ensures.size in
+    let added_gates = c.add_checks.ensures.kept.gates in
+    let added_links = c.add_checks.ensures.kept.links in
+    let added_same = ap length c.add_checks.ensures.links in
+    let joined_gates = c.join_checks.ensures.kept.gates in
+    let joined_links = c.join_checks.ensures.kept.links in
+    let joined_same = ap length c.join_checks.ensures.shapes in
+    let joined_more = ap length c.join_checks.ensures.links ∙ length-append c.add_checks.new.plan.links
+    (check_links c.args.ids.now 0 c.as_slice-list.result.now) in
+    let joined_long = check_links_long c.args.ids.now 0 c.as_slice-list.result.now in
+    let start : AreListed c.args.zones.now.zones (length list) c.args.refs.now.items c.args.seats.now.items c.join_checks.new.plan.shapes =
+    rw (c.requires.no_refs, c.requires.no_seats, c.join_checks.ensures.shapes)
+    (none_listed c.args.zones.now.zones c.args.zones.now.slots (length list) c.add_checks.new.plan.shapes (added ∙ as_list)) in
+    let is_listed = c.list_sets.ensures.listed (length list) start in
+    let listed_size = is_listed.size in
+    let listed_few = few_listed c.args.zones.now.zones (length list) c.list_sets.new.refs.items c.list_sets.new.seats.items c.list_sets.new.plan.shapes
+    is_listed in
+    let listed_seats = c.list_sets.ensures.size in
+    let listed_gates = c.list_sets.ensures.kept.gates in
+    let listed_links = c.list_sets.ensures.kept.links in
+    let listed_same = ap length c.list_sets.ensures.links in
+    let can = c.group_all.ensures.grouped in
+    let grouped_few = few_grouped c.args.zones.now.zones (length c.list_sets.new.plan.shapes) c.group_all.new.seats.items c.group_all.new.plan.shapes
+    c.group_all.new.plan.links can.grouped in
+    let grouped_seats = c.group_all.ensures.size in
+    let grouped_long = joined_few (length c.list_sets.new.plan.shapes) (length c.list_sets.new.plan.links) c.group_all.new.seats.items
+    c.group_all.new.plan.links can.joined in
+    let grouped_gates = c.group_all.ensures.kept.gates in
+    let grouped_links = c.group_all.ensures.kept.links in
+    let same = ap length c.join_sets.ensures.shapes in
+    omega arith
+
+pub returns-clause-few_links : goal.returns-clause-few_links
+returns-clause-few_links c =
+    let checks = c.args.checks.now.checks in
+    let list = checks.list in
+    let sound = c.as_slice-list.ensures.sound in
+    let few = sound.few in
+    let as_list = ap length c.as_slice-list.ensures.checks in
+    let room = c.requires.room in
+    let few_slots = room.few in
+    let gates_room = room.gates in
+    let links_room = room.links in
+    let no_shapes = ap length c.requires.no_gates in
+    let no_links = ap length c.requires.no_links in
+    let children = children_few list sound.bounded in
+    let same_children = ap children_among c.as_slice-list.ensures.checks in
+    let long_seats = ap length c.requires.no_seats ∙ length-replicate c.args.zones.now.slots no_seat in
+    let no_refs = ap length c.requires.no_refs in
+    let added = c.add_checks.ensures.size in
+    let added_gates = c.add_checks.ensures.kept.gates in
+    let added_links = c.add_checks.ensures.kept.links in
+    let added_same = ap length c.add_checks.ensures.links in
+    let joined_gates = c.join_checks.ensures.kept.gates in
+    let joined_links = c.join_checks.ensures.kept.links in
+    let joined_same = ap length c.join_checks.ensures.shapes in
+    let joined_more = ap length c.join_checks.ensures.links ∙ length-append c.add_checks.new.plan.links
+    (check_links c.args.ids.now 0 c.as_slice-list.result.now) in
+    let joined_long = check_links_long c.args.ids.now 0 c.as_slice-list.result.now in
+    let start : AreListed c.args.zones.now.zones (length list) c.args.refs.now.items c.args.seats.now.items c.join_checks.new.plan.shapes =
+    rw (c.requires.no_refs, c.requires.no_seats, c.join_checks.ensures.shapes)
+    (none_listed c.args.zones.now.zones c.args.zones.now.slots (length list) c.add_checks.new.plan.shapes (added ∙ as_list)) in
+    let is_listed = c.list_sets.ensures.listed (length list) start in
+    let listed_size = is_listed.size in
+    let listed_few = few_listed c.args.zones.now.zones (length list) c.list_sets.new.refs.items c.list_sets.new.seats.items c.list_sets.new.plan.shapes
+    is_listed in
+    let listed_seats = c.list_sets.ensures.size in
+    let listed_gates = c.list_sets.ensures.kept.gates in
+    let listed_links = c.list_sets.ensures.kept.links in
+    let listed_same = ap length c.list_sets.ensures.links in
+    let can = c.group_all.ensures.grouped in
+    let grouped_few = few_grouped c.args.zones.now.zones (length c.list_sets.new.plan.shapes) c.group_all.new.seats.items c.group_all.new.plan.shapes
+    c.group_all.new.plan.links can.grouped in
+    let grouped_seats = c.group_all.ensures.size in
+    let grouped_long = joined_few (length c.list_sets.new.plan.shapes) (length c.list_sets.new.plan.links) c.group_all.new.seats.items
+    c.group_all.new.plan.links can.joined in
+    let grouped_gates = c.group_all.ensures.kept.gates in
+    let grouped_links = c.group_all.ensures.kept.links in
+    let refs = ap length c.deref-2.ensures.value in
+    let last = c.join_sets.ensures.few in
+    let last_links = c.join_sets.ensures.kept.links in
+    omega arith

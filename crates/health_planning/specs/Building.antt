@@ -1,0 +1,241 @@
+-- How the gates of a configuration are planned.
+use Rattle.std.specs.Prelude.{◌≡◌, ◌≤◌, ◌<◌, ◌+◌, ◌^◌, ℕ, suc, Bool, true, false, if◌then◌else◌, is_some, List, [], ◌∷◌, ◌++◌, length, map, Option, None, Some, slice_get, Contains, ◌⊎◌}
+use Rattle.std.specs.List.{AllByRecursion}
+use Rattle.std.specs.Option.{option_to_list}
+use Rattle.check_model.specs.Checks.{children_of}
+use Rattle.check_model.specs.declared.checks.Check.{Check}
+use Rattle.check_model.specs.declared.checks.Check.TheVariants.{Endpoint, Calculated}
+use Rattle.checker_state.specs.Standing.{Seen}
+use Rattle.checker_state.specs.Standing.{StandsFor as HasSeen}
+use Rattle.health_gates.specs.Plan.{feeders_in}
+use Rattle.health_gates.specs.declared.plan.Link.{Link}
+use Rattle.health_gates.specs.declared.plan.Shape.{Shape}
+use Rattle.health_model.specs.Statuses.{Report, passing, results_of}
+use Rattle.rdata_layout.specs.declared.types.RType.{RType}
+use Rattle.record_set.specs.declared.sets.Body.{Body}
+use Rattle.record_set.specs.declared.sets.Body.TheVariants as body
+use Rattle.record_set.specs.declared.sets.RecordSet.{RecordSet}
+use Rattle.set_scratch.specs.Telling.{evaluates}
+use Rattle.zone_list.specs.Changes.{ref_in}
+use Rattle.zone_list.specs.Zones.{Zone, placed_in}
+use Rattle.zone_list.specs.declared.refs.SetRef.{SetRef}
+use Rattle.zone_model.specs.Placed.{IsHere, Placed}
+use Rattle.zone_table.specs.Looking.{Names}
+use Rattle.health_planning.specs.Wired.{AreMembers, HasSlot, IsFirstIn, TellGroup, check_need, check_own, check_seat, gates_of, group_seat, ids_of, is_inverted, is_watched, only_check, place_of, plain_among, seat_of, with_gate}
+use Rattle.health_planning.specs.declared.seats.Seat.{Seat}
+
+-- some gates feed one
+abbrev pub links_to : (gate : ℕ) → (feeders : List ℕ) → List Link
+links_to gate feeders = map (λ (x : ℕ). record { feeder = x; fed = gate }) feeders
+
+-- each link is between gates below this number
+abbrev pub AreWithin : List Link → (n : ℕ) → Type 0
+AreWithin links n =
+    AllByRecursion (λ (link : Link). (link.feeder < n) × (link.fed < n)) links
+
+-- ---- checks
+
+-- what opens the gate of a check, and how many of its checkers pass
+abbrev pub check_shape : List Report → (id : ℕ) → Check → Shape
+check_shape reports id check = record {
+  need = check_need check;
+  inverted = is_inverted check;
+  own = check_own check (passing reports id);
+}
+
+abbrev pub check_shapes : List Report → List (ℕ × Check) → List Shape
+check_shapes reports list =
+    map (λ (held : ℕ × Check). check_shape reports held.0 held.1) list
+
+-- the gates of checks stand at their places
+abbrev pub AreShaped : List Report → List (ℕ × Check) → List Shape → Type 0
+AreShaped reports list shapes = (place id : ℕ) (check : Check)
+    → slice_get list place ≡ Some (id, check)
+    → slice_get shapes place ≡ Some (check_shape reports id check)
+
+-- few are counted at a gate from outside
+abbrev pub IsSmallAt : List Shape → (gate : ℕ) → Type 0
+IsSmallAt shapes gate =
+    (shape : Shape) × ((slice_get shapes gate ≡ Some shape) × (shape.own ≤ 255))
+
+-- what the fifty checkers of a check saw; a calculated one has none
+abbrev pub IsSeen : List Report → (id : ℕ) → Check → Option Seen → Type 0
+IsSeen reports id (Endpoint threshold inverted disabled) None = ⊥
+IsSeen reports id (Endpoint threshold inverted disabled) (Some seen) =
+    HasSeen threshold (results_of reports id) seen
+IsSeen reports id (Calculated threshold inverted disabled children) seen = seen ≡ None
+
+-- what the checkers of each check saw
+abbrev pub AreSeen : List Report → List (ℕ × Check) → List (Option Seen) → Type 0
+AreSeen reports list seen = (place id : ℕ) (check : Check) (its : Option Seen)
+    → slice_get list place ≡ Some (id, check) → slice_get seen place ≡ Some its
+    → IsSeen reports id check its
+
+-- those whose checkers are counted are of endpoints
+abbrev pub AreOfEndpoints : List (ℕ × Check) → List (Option Seen) → Type 0
+AreOfEndpoints list seen = (place : ℕ) (its : Seen) → slice_get seen place ≡ Some (Some its)
+    → (id : ℕ) × ((check : Check) × ((slice_get list place ≡ Some (id, check))
+    × (children_of check ≡ [])))
+
+-- the links into the gates of checks, from one place on
+abbrev pub check_links : List ℕ → (place : ℕ) → List (ℕ × Check) → List Link
+check_links ids place [] = []
+check_links ids place (held ∷ list) =
+    links_to place (map (place_of ids) (children_of held.1)) ++ check_links ids (suc place) list
+
+-- each child stands among the numbers
+abbrev pub AreThere : List ℕ → (children : List ℕ) → Type 0
+AreThere ids children = (child : ℕ) → Contains children child
+    → (place : ℕ) × (slice_get ids place ≡ Some child)
+
+-- ---- sets
+
+abbrev pub number : Bool → ℕ
+number b = if b then 1 else 0
+
+abbrev pub set_shape : RecordSet → Shape
+set_shape set = record {
+  need = number (is_some set.check) + number (evaluates set.body);
+  inverted = false;
+  own = 0;
+}
+
+-- the gate of a set that was listed
+pub record HasSetGate (zones : List Zone) (seats : List Seat) (shapes : List Shape) (ref : SetRef)
+    (gate : ℕ) : Type 0 where
+  pub named : RecordSet
+  pub names : Names zones ref named
+  pub watched : is_watched named ≡ true
+  pub seat : seat_of seats ref.slot ≡ suc gate
+  pub told : check_seat seats ref.slot ≡ only_check named
+  pub shape : slice_get shapes gate ≡ Some (set_shape named)
+
+-- The listed sets have gates of their own, from one number on, and no other slot has.
+pub record AreListed (zones : List Zone) (first : ℕ) (refs : List SetRef) (seats : List Seat)
+    (shapes : List Shape) : Type 0 where
+  pub size : length shapes ≡ first + length refs
+  pub gates : (k : ℕ) (ref : SetRef) → slice_get refs k ≡ Some ref
+      → HasSetGate zones seats shapes ref (first + k)
+  pub only : (slot gate : ℕ) → seat_of seats slot ≡ suc gate
+      → (k : ℕ) × ((ref : SetRef) × (gate ≡ first + k) × (slice_get refs k ≡ Some ref)
+      × (ref.slot ≡ slot))
+  pub no_group : (slot : ℕ) → group_seat seats slot ≡ 0
+
+-- one of them is this one
+abbrev pub IsListed : List SetRef → SetRef → Type 0
+IsListed refs ref = (k : ℕ) × (slice_get refs k ≡ Some ref)
+
+-- ---- groups
+
+abbrev pub group_shape : (plains : ℕ) → Shape
+group_shape plains = record { need = 1; inverted = false; own = plains }
+
+-- the gate of the group that has a set in a slot
+pub record HasGroupGate (zones : List Zone) (seats : List Seat) (shapes : List Shape)
+    (links : List Link) (slot gate : ℕ) : Type 0 where
+  pub zone : ℕ
+  pub name : List (List ℕ)
+  pub rtype : RType
+  pub members : List Placed
+  pub are : AreMembers zones zone name rtype members
+  pub here : HasSlot members slot
+  pub each : TellGroup seats members gate
+  pub shape : slice_get shapes gate ≡ Some (group_shape (plain_among seats members))
+  pub few : plain_among seats members ≤ 2 ^ 31
+  pub fed : feeders_in links gate ≡ gates_of seats members
+
+-- The groups with gates have gates of their own, from one number on, and these are all.
+pub record AreGrouped (zones : List Zone) (from : ℕ) (seats : List Seat) (shapes : List Shape)
+    (links : List Link) : Type 0 where
+  pub gates : (slot gate : ℕ) → group_seat seats slot ≡ suc gate
+      → (from ≤ gate) × HasGroupGate zones seats shapes links slot gate
+  pub all : (gate : ℕ) → from ≤ gate → gate < length shapes
+      → (slot : ℕ) × (group_seat seats slot ≡ suc gate)
+
+-- the gates of sets are below this number
+abbrev pub AreBelow : List Seat → ℕ → Type 0
+AreBelow seats n = (slot gate : ℕ) → seat_of seats slot ≡ suc gate → gate < n
+
+-- What seats tell of sets is as before.
+pub record SameSets (before after : List Seat) : Type 0 where
+  pub gates : (slot : ℕ) → seat_of after slot ≡ seat_of before slot
+  pub checks : (slot : ℕ) → check_seat after slot ≡ check_seat before slot
+
+-- Some sets come to be seated at the gate of their group, given as one more; no other set is.
+pub record AreSeated (members : List Placed) (gate : ℕ) (before after : List Seat)
+    : Type 0 where
+  pub sets : SameSets before after
+  pub size : length after ≡ length before
+  pub each : (p : Placed) → IsHere members p → group_seat after p.slot ≡ gate
+  pub others : (slot : ℕ) → (HasSlot members slot → ⊥)
+      → group_seat after slot ≡ group_seat before slot
+
+-- the group of a target has a gate
+pub record HasTarget (zones : List Zone) (seats : List Seat) (zone : ℕ) (name : List (List ℕ))
+    (rtype : RType) : Type 0 where
+  pub members : List Placed
+  pub are : AreMembers zones zone name rtype members
+  pub slot : ℕ
+  pub first : IsFirstIn members slot
+  pub gate : ℕ
+  pub seat : group_seat seats slot ≡ suc gate
+
+-- neither the set in the slot nor its group has a gate
+abbrev pub no_seat : Seat
+no_seat = record { set = 0; group = 0; check = 0 }
+
+-- the seat in a slot
+pub record IsSeatAt (seats : List Seat) (slot : ℕ) (seat : Seat) : Type 0 where
+  pub set : seat.set ≡ seat_of seats slot
+  pub group : seat.group ≡ group_seat seats slot
+  pub check : seat.check ≡ check_seat seats slot
+
+-- ---- what feeds the gates of sets
+
+-- the gate of the target group, where its health counts and it has one
+abbrev pub HasTargetGate : List Zone → List Seat → (zone : ℕ) → RType → Body → (target : List ℕ)
+    → Type 0
+HasTargetGate zones seats zone rtype (body.Values ttl values) target = target ≡ []
+HasTargetGate zones seats zone rtype (body.Alias name evaluate) target =
+    ((evaluate ≡ false) × (target ≡ []))
+    ⊎ ((evaluate ≡ true) × ((members : List Placed) × ((slot : ℕ)
+    × (AreMembers zones zone name rtype members × IsFirstIn members slot
+    × (target ≡ with_gate (group_seat seats slot) [])))))
+
+-- the gates of its check and of its target group feed that of a set
+abbrev pub FeedsSet : List Zone → (ids : List ℕ) → List Seat → (zone : ℕ) → RecordSet
+    → (feeders : List ℕ) → Type 0
+FeedsSet zones ids seats zone set feeders = (target : List ℕ)
+    × (HasTargetGate zones seats zone set.rtype set.body target
+    × (feeders ≡ map (place_of ids) (option_to_list set.check) ++ target))
+
+-- links for that came to others
+abbrev pub JoinsSet : List Zone → (ids : List ℕ) → List Seat → (zone : ℕ) → RecordSet
+    → (gate : ℕ) → (before after : List Link) → Type 0
+JoinsSet zones ids seats zone set gate before after = (feeders : List ℕ)
+    × (FeedsSet zones ids seats zone set feeders × (after ≡ before ++ links_to gate feeders))
+
+-- ---- a plan that is done
+
+-- The gates of all checks, then of the sets that something decides, then of target groups, each
+-- with what feeds it.
+pub record IsBuilt (zones : List Zone) (list : List (ℕ × Check)) (refs : List SetRef)
+    (seats : List Seat) (shapes : List Shape) (links : List Link) : Type 0 where
+  pub children : (place id : ℕ) (check : Check) → slice_get list place ≡ Some (id, check)
+      → feeders_in links place ≡ map (place_of (ids_of list)) (children_of check)
+  pub sets : (k : ℕ) (ref : SetRef) → slice_get refs k ≡ Some ref
+      → HasSetGate zones seats shapes ref (length list + k)
+  pub only : (slot gate : ℕ) → seat_of seats slot ≡ suc gate
+      → (k : ℕ) × ((ref : SetRef) × (gate ≡ length list + k) × (slice_get refs k ≡ Some ref)
+      × (ref.slot ≡ slot))
+  pub all : (zone : ℕ) (p : Placed) → IsHere (placed_in zones zone) p → is_watched p.set ≡ true
+      → IsListed refs (ref_in zone p)
+  pub fed : (k : ℕ) (ref : SetRef) (named : RecordSet) → slice_get refs k ≡ Some ref
+      → Names zones ref named
+      → FeedsSet zones (ids_of list) seats ref.zone named (feeders_in links (length list + k))
+  pub targets : (k : ℕ) (ref : SetRef) (named : RecordSet) (name : List (List ℕ))
+      → slice_get refs k ≡ Some ref → Names zones ref named → named.body ≡ body.Alias name true
+      → HasTarget zones seats ref.zone name named.rtype
+  pub groups : AreGrouped zones (length list + length refs) seats shapes links
+  pub within : AreWithin links (length shapes)
+  pub size : length list + length refs ≤ length shapes

@@ -1,0 +1,210 @@
+//! The gates of target groups: one for each, whatever aliases lead to it.
+
+ghost use Rattle.std.specs.Prelude.{◌≡◌, ◌≢◌, ◌≤◌, ◌<◌, ◌+◌, ◌++◌, ◌^◌, [], ℕ, List, Some, length, slice_get, suc, true};
+ghost use Rattle.health_gates.specs.Plan.{KeepsRoom, feeders_in};
+ghost use Rattle.health_gates.specs.declared.plan.Shape.{Shape};
+ghost use Rattle.record_set.specs.declared.sets.Body.TheVariants.{Alias};
+ghost use Rattle.record_set.specs.declared.sets.RecordSet.{RecordSet};
+ghost use Rattle.zone_list.specs.Zones.{placed_in};
+ghost use Rattle.zone_model.specs.Placed.{sets_of};
+ghost use Rattle.zone_model.specs.Walks.{HasNoTarget};
+ghost use Rattle.zone_table.specs.Looking.{Names};
+ghost use Rattle.health_planning.specs.Building.{IsSeatAt};
+ghost use Rattle.health_planning.specs.Building.{AreBelow, AreSeated, AreWithin, HasTarget};
+ghost use Rattle.health_planning.specs.Building.{SameSets, links_to};
+ghost use Rattle.health_planning.specs.Rooms.{CanGroup, HaveGatesApart};
+ghost use Rattle.health_planning.specs.Wired.{gates_of, group_seat, plain, plain_among, with_gate};
+ghost use Rattle.policy_select.specs.Groups.{members_of};
+ghost use Rattle.zone_table.specs.Looking.{IsGroupNow};
+
+use crate::seats::Seat;
+use health_gates::{Link, Plan, Shape};
+use policy_select::find_group;
+use zone_table::{Group, SetRef, Zones};
+
+/// The seat in a slot.
+pub fn seat_at(seats: &[Seat], slot: u32) -> Seat
+    requires { slot < length seats.now }
+    ensures { IsSeatAt seats.now slot result }
+{
+    seats[slot as usize]
+}
+
+/// Whether the set of a seat has no gate, as a number.
+fn plain_at(seat: Seat) -> usize
+    ensures { result ≡ plain seat.set }
+{
+    if seat.set == 0 { 1 } else { 0 }
+}
+
+/// How many sets of a group have no gate.
+fn count_plain(zones: &Zones, group: Group, seats: &[Seat]) -> usize
+    requires group { IsGroupNow zones.now.zones group }
+    requires slots { length seats.now ≡ zones.now.slots }
+    ensures { result ≡ plain_among seats.now (members_of zones.now.zones group) }
+{
+    zones.slots_within();
+    let mut plains = 0;
+    for i in 0..group.length {
+        let seat = seat_at(seats, zones.member(group, i).slot);
+        plains += plain_at(seat);
+    }
+    plains
+}
+
+/// A gate that is given as one more, or as 0 where there is none, feeds another.
+pub fn join_seat(seat: u32, gate: u32, plan: &mut Plan)
+    requires room { length (with_gate seat []) ≤ plan.old.links_room }
+    ensures shapes { plan.new.shapes ≡ plan.old.shapes }
+    ensures links { plan.new.links ≡ plan.old.links ++ links_to gate (with_gate seat []) }
+    ensures kept { KeepsRoom plan.old plan.new }
+    ensures few { plan.old.links_room ≤ plan.new.links_room + 1 }
+{
+    if seat == 0 {
+        return;
+    }
+    plan.feed(Link {
+        feeder: seat - 1,
+        fed: gate,
+    });
+}
+
+/// What feeds the gate of a group: those of its sets that have one.
+fn join_members(zones: &Zones, group: Group, seats: &[Seat], gate: u32, plan: &mut Plan)
+    requires group { IsGroupNow zones.now.zones group }
+    requires slots { length seats.now ≡ zones.now.slots }
+    requires room { length (gates_of seats.now (members_of zones.now.zones group))
+        ≤ plan.old.links_room }
+    ensures shapes { plan.new.shapes ≡ plan.old.shapes }
+    ensures links { plan.new.links ≡ plan.old.links
+        ++ links_to gate (gates_of seats.now (members_of zones.now.zones group)) }
+    ensures kept { KeepsRoom plan.old plan.new }
+{
+    zones.slots_within();
+    for i in 0..group.length {
+        let seat = seat_at(seats, zones.member(group, i).slot);
+        join_seat(seat.set, gate, plan);
+    }
+}
+
+/// Seats the set in a slot at the gate of its group, which is given as one more.
+fn seat_one(seats: &mut Vec<Seat>, slot: u32, gate: u32)
+    requires { slot < length seats.old.items }
+    ensures sets { SameSets seats.old.items seats.new.items }
+    ensures size { length seats.new.items ≡ length seats.old.items }
+    ensures here { group_seat seats.new.items slot ≡ gate }
+    ensures others { (other : ℕ) → other ≢ slot
+        → group_seat seats.new.items other ≡ group_seat seats.old.items other }
+{
+    let seat = seat_at(seats, slot);
+    seats[slot as usize] = Seat {
+        group: gate,
+        ..seat
+    };
+}
+
+/// Seats the sets of a group at its gate, which is given as one more.
+fn seat_members(zones: &Zones, group: Group, gate: u32, seats: &mut Vec<Seat>)
+    requires group { IsGroupNow zones.now.zones group }
+    requires slots { length seats.old.items ≡ zones.now.slots }
+    ensures { AreSeated (members_of zones.now.zones group) gate
+        seats.old.items seats.new.items }
+{
+    zones.slots_within();
+    for i in 0..group.length {
+        seat_one(seats, zones.member(group, i).slot, gate);
+    }
+}
+
+/// Gives the target group of a set a gate, where its health counts and it has none.
+pub fn group_one(zones: &Zones, set: SetRef, seats: &mut Vec<Seat>, plan: &mut Plan)
+    requires slots { length seats.old.items ≡ zones.now.slots }
+    requires below { AreBelow seats.old.items (length plan.old.shapes) }
+    requires within { AreWithin plan.old.links (length plan.old.shapes) }
+    requires targets { (named : RecordSet) → Names zones.now.zones set named
+        → HasNoTarget (sets_of (placed_in zones.now.zones set.zone)) named → ⊥ }
+    requires room { (from : ℕ) × ((base : ℕ)
+        × CanGroup zones.now.zones from base seats.old.items plan.old) }
+    ensures grouped { (from base : ℕ)
+        → CanGroup zones.now.zones from base seats.old.items plan.old
+        → CanGroup zones.now.zones from base seats.new.items plan.new }
+    ensures kept { KeepsRoom plan.old plan.new }
+    ensures here { (named : RecordSet) (name : List (List ℕ))
+        → Names zones.now.zones set named → named.body ≡ Alias name true
+        → HasTarget zones.now.zones seats.new.items set.zone name named.rtype }
+    ensures goes_on { (slot gate : ℕ) → group_seat seats.old.items slot ≡ suc gate
+        → group_seat seats.new.items slot ≡ suc gate }
+    ensures sets { SameSets seats.old.items seats.new.items }
+    ensures shapes { (n : ℕ) (shape : Shape) → slice_get plan.old.shapes n ≡ Some shape
+        → slice_get plan.new.shapes n ≡ Some shape }
+    ensures feeders { (gate : ℕ) → gate < length plan.old.shapes
+        → feeders_in plan.new.links gate ≡ feeders_in plan.old.links gate }
+    ensures more { length plan.old.shapes ≤ length plan.new.shapes }
+    ensures within { AreWithin plan.new.links (length plan.new.shapes) }
+    ensures size { length seats.new.items ≡ length seats.old.items }
+{
+    zones.well_formed();
+    zones.slots_apart();
+    zones.slots_within();
+    let Some(watch) = zones.watch(set) else {
+        return;
+    };
+    if !watch.evaluates {
+        return;
+    }
+    let Some(target) = zones.target(set) else {
+        return;
+    };
+    let group = find_group(zones, set.zone, &target.0, target.1);
+    if group.length == 0 {
+        return;
+    }
+    let first = zones.member(group, 0).slot;
+    let seat = seat_at(seats, first);
+    if seat.group != 0 {
+        return;
+    }
+    let plains = count_plain(zones, group, seats);
+    let shape = Shape {
+        need: 1,
+        inverted: false,
+        own: plains as u32,
+    };
+    let gate = plan.len() as u32;
+    plan.push(shape);
+    join_members(zones, group, seats, gate, plan);
+    seat_members(zones, group, gate + 1, seats);
+}
+
+/// Gives the target groups of sets gates.
+pub fn group_all(zones: &Zones, refs: &[SetRef], seats: &mut Vec<Seat>, plan: &mut Plan)
+    requires slots { length seats.old.items ≡ zones.now.slots }
+    requires below { AreBelow seats.old.items (length plan.old.shapes) }
+    requires within { AreWithin plan.old.links (length plan.old.shapes) }
+    requires none { (slot : ℕ) → group_seat seats.old.items slot ≡ 0 }
+    requires apart { HaveGatesApart seats.old.items }
+    requires few { length plan.old.shapes + length seats.old.items ≤ 2 ^ 31 }
+    requires room { length seats.old.items ≤ plan.old.room }
+    requires links_room { length plan.old.shapes ≤ plan.old.links_room }
+    requires targets { (set : SetRef) (named : RecordSet) → Names zones.now.zones set named
+        → HasNoTarget (sets_of (placed_in zones.now.zones set.zone)) named → ⊥ }
+    ensures grouped { CanGroup zones.now.zones (length plan.old.shapes) (length plan.old.links)
+        seats.new.items plan.new }
+    ensures kept { KeepsRoom plan.old plan.new }
+    ensures all { (k : ℕ) (set : SetRef) (named : RecordSet) (name : List (List ℕ))
+        → slice_get refs.now k ≡ Some set → Names zones.now.zones set named
+        → named.body ≡ Alias name true
+        → HasTarget zones.now.zones seats.new.items set.zone name named.rtype }
+    ensures sets { SameSets seats.old.items seats.new.items }
+    ensures shapes { (n : ℕ) (shape : Shape) → slice_get plan.old.shapes n ≡ Some shape
+        → slice_get plan.new.shapes n ≡ Some shape }
+    ensures feeders { (gate : ℕ) → gate < length plan.old.shapes
+        → feeders_in plan.new.links gate ≡ feeders_in plan.old.links gate }
+    ensures more { length plan.old.shapes ≤ length plan.new.shapes }
+    ensures within { AreWithin plan.new.links (length plan.new.shapes) }
+    ensures size { length seats.new.items ≡ length seats.old.items }
+{
+    for set in refs {
+        group_one(zones, *set, seats, plan);
+    }
+}

@@ -1,0 +1,139 @@
+//! What feeds the gates of sets: those of their checks, and of their target groups.
+
+ghost use Rattle.std.specs.Prelude.{◌≡◌, ◌≤◌, ◌<◌, ◌+◌, ◌*◌, ◌++◌, ◌^◌, ◌⊎◌, [], ℕ, Some};
+ghost use Rattle.std.specs.Prelude.{length, map, slice_get, suc};
+ghost use Rattle.std.specs.Option.{option_to_list};
+ghost use Rattle.health_gates.specs.Plan.{KeepsRoom, feeders_in};
+ghost use Rattle.health_planning.specs.Building.{AreWithin, FeedsSet, HasTargetGate, JoinsSet};
+ghost use Rattle.health_planning.specs.Building.{links_to};
+ghost use Rattle.health_planning.specs.Wired.{group_seat, place_of, with_gate};
+ghost use Rattle.record_set.specs.declared.sets.RecordSet.{RecordSet};
+ghost use Rattle.zone_list.specs.Zones.{placed_in};
+ghost use Rattle.zone_list.specs.declared.refs.SetRef.{SetRef};
+ghost use Rattle.zone_model.specs.Placed.{sets_of};
+ghost use Rattle.zone_model.specs.Walks.{HasNoTarget};
+ghost use Rattle.zone_table.specs.Looking.{Names};
+
+use crate::finding::place_in;
+use crate::grouping::{join_seat, seat_at};
+use crate::seats::Seat;
+use health_gates::{Link, Plan};
+use policy_select::find_group;
+use zone_table::{SetRef, Zones};
+
+/// The gate of the target group of a set, plus one, where its health counts, and else 0.
+fn target_seat(zones: &Zones, set: SetRef, seats: &[Seat]) -> u32
+    requires slots { length seats.now ≡ zones.now.slots }
+    requires targets { (named : RecordSet) → Names zones.now.zones set named
+        → HasNoTarget (sets_of (placed_in zones.now.zones set.zone)) named → ⊥ }
+    ensures { (named : RecordSet) → Names zones.now.zones set named
+        → HasTargetGate zones.now.zones seats.now set.zone named.rtype named.body
+        (with_gate result []) }
+{
+    zones.well_formed();
+    zones.slots_within();
+    let Some(watch) = zones.watch(set) else {
+        return 0;
+    };
+    if !watch.evaluates {
+        return 0;
+    }
+    let Some(target) = zones.target(set) else {
+        return 0;
+    };
+    let group = find_group(zones, set.zone, &target.0, target.1);
+    if group.length == 0 {
+        return 0;
+    }
+    seat_at(seats, zones.member(group, 0).slot).group
+}
+
+/// The check of a set.
+fn check_of(zones: &Zones, set: SetRef) -> Option<u32>
+    ensures { (named : RecordSet) → Names zones.now.zones set named → result ≡ named.check }
+{
+    zones.well_formed();
+    match zones.watch(set) {
+        Some(watch) => watch.check,
+        None => None,
+    }
+}
+
+/// The gate of a check feeds another, where there is a check.
+fn join_check(plan: &mut Plan, ids: &[u32], check: Option<u32>, gate: u32)
+    requires there { (id : ℕ) → check ≡ Some id
+        → (place : ℕ) × (slice_get ids.now place ≡ Some id) }
+    requires few { length ids.now ≤ 200 }
+    requires room { 1 ≤ plan.old.links_room }
+    ensures shapes { plan.new.shapes ≡ plan.old.shapes }
+    ensures links { plan.new.links
+        ≡ plan.old.links ++ links_to gate (map (place_of ids.now) (option_to_list check)) }
+    ensures kept { KeepsRoom plan.old plan.new }
+    ensures few { plan.old.links_room ≤ plan.new.links_room + 1 }
+{
+    let Some(id) = check else {
+        return;
+    };
+    let Some(place) = place_in(ids, id) else {
+        unreachable!();
+    };
+    plan.feed(Link {
+        feeder: place as u32,
+        fed: gate,
+    });
+}
+
+/// What feeds the gate of a set.
+fn join_set(zones: &Zones, set: SetRef, ids: &[u32], seats: &[Seat], gate: u32, plan: &mut Plan)
+    requires slots { length seats.now ≡ zones.now.slots }
+    requires targets { (named : RecordSet) → Names zones.now.zones set named
+        → HasNoTarget (sets_of (placed_in zones.now.zones set.zone)) named → ⊥ }
+    requires named { (named : RecordSet) × Names zones.now.zones set named }
+    requires there { (named : RecordSet) (id : ℕ) → Names zones.now.zones set named
+        → named.check ≡ Some id → (place : ℕ) × (slice_get ids.now place ≡ Some id) }
+    requires few { length ids.now ≤ 200 }
+    requires room { 2 ≤ plan.old.links_room }
+    ensures shapes { plan.new.shapes ≡ plan.old.shapes }
+    ensures links { (named : RecordSet) → Names zones.now.zones set named
+        → JoinsSet zones.now.zones ids.now seats.now set.zone named gate
+        plan.old.links plan.new.links }
+    ensures kept { KeepsRoom plan.old plan.new }
+    ensures few { plan.old.links_room ≤ plan.new.links_room + 2 }
+{
+    zones.well_formed();
+    let target = target_seat(zones, set, seats);
+    join_check(plan, ids, check_of(zones, set), gate);
+    join_seat(target, gate, plan);
+}
+
+/// What feeds the gates of sets, which stand behind those of checks.
+pub fn join_sets(zones: &Zones, refs: &[SetRef], ids: &[u32], seats: &[Seat], plan: &mut Plan)
+    requires slots { length seats.now ≡ zones.now.slots }
+    requires targets { (set : SetRef) (named : RecordSet) → Names zones.now.zones set named
+        → HasNoTarget (sets_of (placed_in zones.now.zones set.zone)) named → ⊥ }
+    requires named { (k : ℕ) (set : SetRef) → slice_get refs.now k ≡ Some set
+        → (named : RecordSet) × Names zones.now.zones set named }
+    requires there { (set : SetRef) (named : RecordSet) (id : ℕ) → Names zones.now.zones set named
+        → named.check ≡ Some id → (place : ℕ) × (slice_get ids.now place ≡ Some id) }
+    requires few { length ids.now ≤ 200 }
+    requires few_sets { length ids.now + length refs.now ≤ 2 ^ 32 }
+    requires room { 2 * length refs.now ≤ plan.old.links_room }
+    ensures shapes { plan.new.shapes ≡ plan.old.shapes }
+    ensures kept { KeepsRoom plan.old plan.new }
+    ensures few { plan.old.links_room ≤ plan.new.links_room + 2 * length refs.now }
+    ensures joined { (k : ℕ) (set : SetRef) (named : RecordSet)
+        → slice_get refs.now k ≡ Some set → Names zones.now.zones set named
+        → feeders_in plan.old.links (length ids.now + k) ≡ []
+        → FeedsSet zones.now.zones ids.now seats.now set.zone named
+        (feeders_in plan.new.links (length ids.now + k)) }
+    ensures others { (gate : ℕ)
+        → (gate < length ids.now) ⊎ (length ids.now + length refs.now ≤ gate)
+        → feeders_in plan.new.links gate ≡ feeders_in plan.old.links gate }
+    ensures within { (n : ℕ) → length ids.now + length refs.now ≤ n
+        → ((slot gate : ℕ) → group_seat seats.now slot ≡ suc gate → gate < n)
+        → AreWithin plan.old.links n → AreWithin plan.new.links n }
+{
+    for (k, set) in refs.iter().enumerate() {
+        join_set(zones, *set, ids, seats, (ids.len() + k) as u32, plan);
+    }
+}

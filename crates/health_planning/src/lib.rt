@@ -1,0 +1,22 @@
+//! How the gates of checks, sets and target groups are planned, and what feeds each of them.
+//!
+//! A set that nothing decides has no gate: it is healthy, and takes no more than its seat.
+//!
+//! The gates of checks and what feeds them come first (`building`), then those of sets (`listing`)
+//! and of target groups (`grouping`), and then what feeds the gates of sets (`joining`). All of it is
+//! made in room that was made before.
+#![tactic(auto)]
+
+mod building;
+mod finding;
+mod grouping;
+mod joining;
+mod listing;
+mod planning;
+mod seats;
+
+pub use building::{lay_seats, list_ids, list_seen};
+pub use finding::{place_in, seen_at};
+pub use listing::{is_watched, only_check};
+pub use planning::plan_gates;
+pub use seats::Seat;

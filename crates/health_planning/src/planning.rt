@@ -1,0 +1,97 @@
+//! All gates of a configuration, and what feeds each of them.
+
+ghost use Rattle.std.specs.Prelude.{◌≡◌, ◌≤◌, ◌<◌, ◌+◌, ◌*◌, [], ℕ, List, length, replicate};
+ghost use Rattle.health_gates.specs.Gates.{Feeds};
+ghost use Rattle.health_gates.specs.Plan.{IsPlanned, net_in};
+ghost use Rattle.health_gates.specs.Walk.{PathsEnd};
+ghost use Rattle.health_planning.specs.Building.{AreSeen, AreShaped, IsBuilt, IsSmallAt};
+ghost use Rattle.health_planning.specs.Building.{no_seat};
+ghost use Rattle.health_planning.specs.Rooms.{HasPlanRoom};
+ghost use Rattle.health_planning.specs.Wired.{ids_of, watched_of};
+ghost use Rattle.health_model.specs.Sound.{IsSound};
+ghost use Rattle.health_model.specs.Statuses.{Report};
+
+use crate::building::{add_checks, join_checks};
+use crate::grouping::group_all;
+use crate::joining::join_sets;
+use crate::listing::list_sets;
+use crate::seats::Seat;
+use checker_state::Checkers;
+use health_check::CheckTable;
+use health_gates::Plan;
+use health_model::paths_end;
+use zone_table::{SetRef, Zones};
+
+/// Plans all gates and what feeds them, one kind after another.
+fn plan_all(
+    zones: &Zones,
+    checks: &CheckTable,
+    ids: &[u32],
+    seen: &[Option<Checkers>],
+    refs: &mut Vec<SetRef>,
+    seats: &mut Vec<Seat>,
+    plan: &mut Plan,
+)
+    requires sound { IsSound (watched_of zones.now.zones checks.now.checks) }
+    requires ids { ids.now ≡ ids_of checks.now.checks.list }
+    requires as_many { length seen.now ≡ length checks.now.checks.list }
+    requires no_refs { refs.old.items ≡ [] }
+    requires no_seats { seats.old.items ≡ replicate zones.now.slots no_seat }
+    requires no_gates { plan.old.shapes ≡ [] }
+    requires no_links { plan.old.links ≡ [] }
+    requires room { HasPlanRoom plan.old refs.old zones.now.slots }
+    ensures built { IsBuilt zones.now.zones checks.now.checks.list refs.new.items
+        seats.new.items plan.new.shapes plan.new.links }
+    ensures checks { (reports : List Report)
+        → AreSeen reports checks.now.checks.list seen.now
+        → AreShaped reports checks.now.checks.list plan.new.shapes }
+    ensures small { (gate : ℕ) → gate < length checks.now.checks.list
+        → IsSmallAt plan.new.shapes gate }
+    ensures few_gates { length plan.new.shapes ≤ zones.now.slots * 2 + 200 }
+    ensures few_links { length plan.new.links ≤ zones.now.slots * 3 + 51200 }
+{
+    zones.well_formed();
+    zones.slots_apart();
+    let list = checks.as_slice();
+    add_checks(plan, list, seen);
+    join_checks(plan, ids, list);
+    list_sets(zones, refs, seats, plan);
+    group_all(zones, refs, seats, plan);
+    join_sets(zones, refs, ids, seats, plan);
+}
+
+/// Plans the gates of a configuration, where none are planned, by what the checkers of its checks
+/// saw. It takes no memory.
+pub fn plan_gates(
+    zones: &Zones,
+    checks: &CheckTable,
+    ids: &[u32],
+    seen: &[Option<Checkers>],
+    refs: &mut Vec<SetRef>,
+    seats: &mut Vec<Seat>,
+    plan: &mut Plan,
+)
+    requires sound { IsSound (watched_of zones.now.zones checks.now.checks) }
+    requires ids { ids.now ≡ ids_of checks.now.checks.list }
+    requires as_many { length seen.now ≡ length checks.now.checks.list }
+    requires no_refs { refs.old.items ≡ [] }
+    requires no_seats { seats.old.items ≡ replicate zones.now.slots no_seat }
+    requires no_gates { plan.old.shapes ≡ [] }
+    requires no_links { plan.old.links ≡ [] }
+    requires room { HasPlanRoom plan.old refs.old zones.now.slots }
+    ensures built { IsBuilt zones.now.zones checks.now.checks.list refs.new.items
+        seats.new.items plan.new.shapes plan.new.links }
+    ensures checks { (reports : List Report)
+        → AreSeen reports checks.now.checks.list seen.now
+        → AreShaped reports checks.now.checks.list plan.new.shapes }
+    ensures planned { IsPlanned plan.new }
+    ensures ends { PathsEnd (Feeds (net_in plan.new)) 64 }
+    ensures few_gates { length plan.new.shapes ≤ zones.now.slots * 2 + 200 }
+    ensures few_links { length plan.new.links ≤ zones.now.slots * 3 + 51200 }
+{
+    zones.well_formed();
+    zones.slots_apart();
+    paths_end();
+    let list = checks.as_slice();
+    plan_all(zones, checks, ids, seen, refs, seats, plan);
+}
