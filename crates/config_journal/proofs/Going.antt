@@ -62,7 +62,7 @@ module _ (start now next : Journal) (made : ℕ)
   gives_more side (compacted.Done generation) gone = one_more (compacted.Done generation) gone
   gives_more side compacted.GenerationsEnded never = never
   gives_more side compacted.OutOfMemory never = never
-  gives_more side compacted.DiskFault any = tt
+  gives_more side compacted.DiskFault dropped = dropped
 
 -- nothing is in progress where an end is told
 no_plan : (generation : ℕ) (journal : Told) (plan : Option ToldPlan)
@@ -88,7 +88,7 @@ gives_all start next made more (compacted.Done generation) other gone =
     }
 gives_all start next made more compacted.GenerationsEnded other never = never
 gives_all start next made more compacted.OutOfMemory other never = never
-gives_all start next made more compacted.DiskFault other any = tt
+gives_all start next made more compacted.DiskFault other dropped = dropped
 
 -- ---- what they leave
 

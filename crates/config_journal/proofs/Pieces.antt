@@ -119,4 +119,4 @@ module _ (old : Journal) (plan : Plan) where
       → PieceMoves result old plan new → PiecesGive (told_as result) old 1 new
   gives is new (piece.Running left) moves = runs is new left moves
   gives is new (piece.Done generation) moves = ends is new generation moves
-  gives is new piece.DiskFault moves = tt
+  gives is new piece.DiskFault moves = ap (λ (j : Journal). j.plan) moves

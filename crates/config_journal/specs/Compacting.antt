@@ -1,5 +1,5 @@
 -- What pieces of a compaction come to.
-use Rattle.std.specs.Prelude.{◌≡◌, ◌≢◌, ◌⊎◌, ℕ, IsSome, None, ⊤}
+use Rattle.std.specs.Prelude.{◌≡◌, ◌≢◌, ◌⊎◌, ℕ, IsSome, None}
 use Rattle.config_journal.specs.Journals.{journal_of}
 use Rattle.config_journal.specs.States.{State, config_of}
 use Rattle.engine_model.specs.Compacting.{IsLastGeneration, after_pieces, compacted, told_of}
@@ -19,7 +19,8 @@ pub record IsCompacted (outcome : Compacted) (old : State) (pieces : ℕ) (new :
       ≡ compacted (config_of old) pieces (journal_of old.journal) (journal_of old.journal).plan
   pub told : outcome ≡ told_of (journal_of new.journal) (journal_of new.journal).plan
 
--- What an answer says, a line for each. Memory is wanted for a compaction that would begin alone.
+-- What an answer says, a line for each. Memory is wanted for a compaction that would begin alone. A
+-- fault of a disk drops the compaction.
 abbrev pub CompactGives : Compacted → (old : State) → (pieces : ℕ) → (new : State) → Type 0
 CompactGives (compacted.Left left) old pieces new =
     IsCompacted (compacted.Left left) old pieces new
@@ -28,7 +29,8 @@ CompactGives (compacted.Done generation) old pieces new =
 CompactGives compacted.GenerationsEnded old pieces new =
     IsLastGeneration (journal_of old.journal) × (new ≡ old)
 CompactGives compacted.OutOfMemory old pieces new = (old.journal.plan ≡ None) × (new ≡ old)
-CompactGives compacted.DiskFault old pieces new = new.config ≡ old.config
+CompactGives compacted.DiskFault old pieces new =
+    (new.config ≡ old.config) × (new.journal.plan ≡ None)
 
 -- P, but where a disk failed
 abbrev pub UnlessFaulty : Compacted → Type 0 → Type 0
@@ -48,7 +50,7 @@ pub record HasGoneOn (outcome : Compacted) (old : Journal) (pieces : ℕ) (new :
   pub told : outcome ≡ told_of (journal_of new) (journal_of new).plan
 
 -- What an answer to a piece says, or to more of them: octets are left where the compaction is in
--- progress still.
+-- progress still, and none is after a fault of a disk.
 abbrev pub PiecesGive : Compacted → (old : Journal) → (pieces : ℕ) → (new : Journal) → Type 0
 PiecesGive (compacted.Left left) old pieces new =
     HasGoneOn (compacted.Left left) old pieces new × IsSome new.plan × (new.side ≡ old.side)
@@ -56,7 +58,7 @@ PiecesGive (compacted.Done generation) old pieces new =
     HasGoneOn (compacted.Done generation) old pieces new
 PiecesGive compacted.GenerationsEnded old pieces new = ⊥
 PiecesGive compacted.OutOfMemory old pieces new = ⊥
-PiecesGive compacted.DiskFault old pieces new = ⊤
+PiecesGive compacted.DiskFault old pieces new = new.plan ≡ None
 
 -- what is told of a piece
 abbrev pub told_as : Piece → Compacted

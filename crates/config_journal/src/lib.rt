@@ -14,4 +14,5 @@ pub use command_octets::Command;
 pub use config_model::{Made, Refusal};
 pub use engine_model::Compacted;
 pub use journaled::ConfigJournal;
+pub use r53_state::Config;
 pub use ready::ReadyCommand;

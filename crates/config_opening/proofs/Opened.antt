@@ -2,7 +2,7 @@
 use Rattle.std.proofs.Common.{◌∙◌, ℕ, List, [], Option, Result, Ok, Err, inl, inr, refl, arith}
 use Rattle.config_journal.specs.States.{State}
 use Rattle.config_model.specs.Configs.{Config}
-use Rattle.config_opening.specs.Opening.{Begins, IsFault, Replays, Syncs}
+use Rattle.config_opening.specs.Opening.{IsAtFirstGate, IsFault, Replays, Syncs}
 use Rattle.r53_disk.specs.Disk.{Rests}
 use Rattle.store_model.specs.Laws.{BaselessIsNoStore, BrokenIsNoStore}
 use Rattle.store_model.specs.Opening.{IsBase, IsNoStore}
@@ -51,14 +51,14 @@ broken_faulty law x y fault.DiskFault is = tt
 broken_faulty law x y fault.OutOfMemory is = tt
 
 pub baseless_faulty : BaselessIsNoStore → (journal : Journal) (octets x y : List ℕ)
-    → Begins journal octets x y → ((config : Config) → IsBase octets config → ⊥)
+    → IsAtFirstGate journal octets x y → ((config : Config) → IsBase octets config → ⊥)
     → IsNoStore x y journal.side 20
 baseless_faulty law journal octets x y begins none =
     law x y journal.side journal.at journal.generation octets [] begins.0 begins.1 none
 
 -- ---- the first gate
 
-pub at_first_gate : (journal : Journal) (octets x y : List ℕ) → Begins journal octets x y
+pub at_first_gate : (journal : Journal) (octets x y : List ℕ) → IsAtFirstGate journal octets x y
     → (config : Config) → IsBase octets config → Replays journal config x y
 at_first_gate journal octets x y begins config base = record {
   active = begins.0;

@@ -12,7 +12,7 @@ use Rattle.config_opening.specs.Opening.{IsFault, Replays}
 use Rattle.file_building.specs.Building.{Plan}
 use Rattle.gate_journal.specs.Layout.{OpensTo}
 use Rattle.gate_journal.specs.Read.{IsBroken, IsRead}
-use Rattle.r53_state.specs.States.{State as Kept, config_in}
+use Rattle.config_journal.specs.Kept.{State as Kept, config_in}
 use Rattle.octets.specs.declared.memory.OutOfMemory.{OutOfMemory}
 use Rattle.r53_disk.specs.Disk.{Rests}
 use Rattle.store_model.specs.Laws.{DecidingOpens, FaultyIsNoStore, OneMoreMakes}

@@ -10,8 +10,8 @@ use Rattle.zone_journal.specs.declared.answers.OpenFault.TheVariants as fault
 use Rattle.zone_journal.specs.declared.answers.Side.{Side}
 
 -- The file of the journal's side decides, and up to its first gate it has a snapshot of these octets.
-abbrev pub Begins : Journal → (octets : List ℕ) → (x y : List ℕ) → Type 0
-Begins journal octets x y =
+abbrev pub IsAtFirstGate : Journal → (octets : List ℕ) → (x y : List ℕ) → Type 0
+IsAtFirstGate journal octets x y =
     IsActive journal.side (active_of journal.side x y) (other_of journal.side x y)
     × IsRead journal.at (active_of journal.side x y) journal.generation octets []
     × (journal.plan ≡ None)

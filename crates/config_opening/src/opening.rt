@@ -1,12 +1,12 @@
 //! The whole of an opening.
 
-ghost use Rattle.std.specs.Prelude.{◌≡◌, ◌≤◌, ◌⊎◌, ℕ, List, IfOk, IsErrOf, Err, Some};
+ghost use Rattle.std.specs.Prelude.{◌≡◌, ◌≤◌, ◌⊎◌, ℕ, List, IfOk, IsErrOf, Err, None, Some};
 ghost use Rattle.config_journal.specs.Holding.{Holds};
 ghost use Rattle.config_model.specs.Configs.{Config as Configuration};
-ghost use Rattle.config_opening.specs.Opening.{Begins, IsFault, Syncs};
+ghost use Rattle.config_opening.specs.Opening.{IsAtFirstGate, IsFault, Syncs};
 ghost use Rattle.octets.specs.Counts.{Rose};
 ghost use Rattle.r53_disk.specs.Disk.{Rests};
-ghost use Rattle.r53_state.specs.States.{config_in};
+ghost use Rattle.config_journal.specs.Kept.{config_in};
 ghost use Rattle.snapshot_reading.specs.declared.faults.SnapshotFault.TheVariants.{Bad};
 ghost use Rattle.store_model.specs.Opening.{IsBase, IsNoStore};
 ghost use Rattle.zone_journal.specs.Pairs.{Leaves, Unwritten};
@@ -14,10 +14,9 @@ ghost use Rattle.zone_journal.specs.Standing.{ReadsOn, StandsOn};
 ghost use Rattle.zone_journal.specs.declared.answers.OpenFault.TheVariants as OpenFault;
 
 use crate::replaying::replay;
-use config_journal::ConfigJournal;
+use config_journal::{Config, ConfigJournal};
 use config_reading::{SnapshotFault, read_config};
 use r53_disk::Disk;
-use r53_state::Config;
 use std::alloc::Global;
 use store_model::{baseless_is_no_store, broken_is_no_store};
 use zone_journal::{OpenFault, ZoneJournal};
@@ -34,6 +33,7 @@ pub fn open<D: Disk>(alloc: Global, a: &mut D, b: &mut D) -> Result<ConfigJourna
         → IfOk result (λ kept. Leaves D.reading a.new b.new (Holds kept)) }
     ensures faulty { (x y : List ℕ) → D.reading a.old ≡ Some x → D.reading b.old ≡ Some y
         → IsFault result (IsNoStore x y) }
+    ensures idle { IfOk result (λ kept. kept.journal.plan ≡ None) }
 
     // Both files are synced before either is looked at, and from then on a crash leaves what is
     // read. It writes nothing.
@@ -68,10 +68,11 @@ fn read_on<D: Disk>(
     requires { ReadsOn D.reading D.images journal a.old b.old }
     ensures stands { IfOk result (λ kept. StandsOn D.reading D.images kept.journal a.new b.new) }
     ensures holds { (x y : List ℕ) → D.reading a.old ≡ Some x → D.reading b.old ≡ Some y
-        → Begins journal octets.now x y
+        → IsAtFirstGate journal octets.now x y
         → IfOk result (λ kept. Leaves D.reading a.new b.new (Holds kept)) }
     ensures faulty { (x y : List ℕ) → D.reading a.old ≡ Some x → D.reading b.old ≡ Some y
-        → Begins journal octets.now x y → IsFault result (IsNoStore x y) }
+        → IsAtFirstGate journal octets.now x y → IsFault result (IsNoStore x y) }
+    ensures idle { IfOk result (λ kept. kept.journal.plan ≡ None) }
     ensures a_rests { Rests D.reading D.images D.moment D.images_since a.old a.new }
     ensures b_rests { Rests D.reading D.images D.moment D.images_since b.old b.new }
     ensures a_counts { D.faults a.old ≤ D.faults a.new }

@@ -1,13 +1,13 @@
 //! The entries of the file that decides, whose commands are made one after another.
 
-ghost use Rattle.std.specs.Prelude.{◌≡◌, ◌≢◌, ◌≤◌, ◌<◌, ◌⊎◌, ◌^◌, ℕ, List, IfOk, IsErrOf, Ok, Err, Some};
+ghost use Rattle.std.specs.Prelude.{◌≡◌, ◌≢◌, ◌≤◌, ◌<◌, ◌⊎◌, ◌^◌, ℕ, List, IfOk, IsErrOf, Ok, Err, None, Some};
 ghost use Rattle.std.specs.Prelude.{true, false};
 ghost use Rattle.config_journal.specs.Holding.{Holds};
 ghost use Rattle.config_model.specs.declared.refusals.Refusal.TheVariants as refusal;
 ghost use Rattle.config_opening.specs.Opening.{IsFault, Replays};
 ghost use Rattle.octets.specs.Counts.{Rose};
 ghost use Rattle.r53_disk.specs.Disk.{Rests};
-ghost use Rattle.r53_state.specs.States.{config_in};
+ghost use Rattle.config_journal.specs.Kept.{config_in};
 ghost use Rattle.store_model.specs.Opening.{IsNoStore, IsRefused, TakesEntry};
 ghost use Rattle.zone_journal.specs.Pairs.{Leaves};
 ghost use Rattle.zone_journal.specs.Standing.{ReadsOn, StandsOn};
@@ -15,10 +15,10 @@ ghost use Rattle.zone_journal.specs.declared.answers.OpenFault.TheVariants as Op
 
 use command_bounds::spelled_are_bounded;
 use command_codec::{ReadFault, read};
+use config_journal::Config;
 use config_model::Refusal;
 use octets::OutOfMemory;
 use r53_disk::Disk;
-use r53_state::Config;
 use std::alloc::Global;
 use store_model::{
     deciding_opens, faulty_is_no_store, one_more_makes, refused_are_refused, unread_are_refused,
@@ -38,6 +38,7 @@ pub(crate) fn replay<D: Disk>(
 ) -> Result<(), OpenFault>
     requires { ReadsOn D.reading D.images journal.old a.old b.old }
     ensures stands { IfOk result (λ done. StandsOn D.reading D.images journal.new a.new b.new) }
+    ensures idle { IfOk result (λ done. journal.new.plan ≡ None) }
     ensures holds { (x y : List ℕ) → D.reading a.old ≡ Some x → D.reading b.old ≡ Some y
         → Replays journal.old (config_in config.old) x y → IfOk result (λ done.
         Leaves D.reading a.new b.new (Holds (record { config = config.new; journal = journal.new }))) }

@@ -1,6 +1,7 @@
 -- What a command makes of a store.
 use Rattle.std.proofs.Common.{◌≡◌, ℕ, ◌+◌, ◌≤◌, List, Option, None, Some, Result, Ok, Err, length, ap, ◌∙◌, inl, inr, refl, sym, subst, arith}
-use Rattle.std.specs.Prelude.{option_map}
+use Rattle.std.specs.Prelude.{[], ◌∷◌, Bool, IsTrue, option_map}
+use Rattle.std.specs.List.{AllByRecursion}
 use Rattle.check_model.specs.Checks.{Checks}
 use Rattle.command_octets.specs.Octets.{command_octets}
 use Rattle.command_octets.specs.declared.commands.Command.{Command}
@@ -19,14 +20,21 @@ use Rattle.zone_journal.specs.Layout.{most}
 use Rattle.health_index.specs.Following.{Follows}
 use Rattle.health_index.specs.Index.{Index, StandsFor as HasHealth}
 use Rattle.health_index.specs.Laws.{CommandsFollow}
+use Rattle.health_index.specs.Leaving.{AreLeft}
 use Rattle.health_model.specs.Statuses.{Report}
 use Rattle.config_journal.specs.Journals.{journal_of, plan_of}
+use Rattle.r53_core.specs.Kinds.{IsOnCollections}
 use Rattle.r53_core.specs.Stores.{CommandGives, StandsFor, State}
-use Rattle.r53_state.specs.Steps.{checks_of}
-use Rattle.sound_configs.specs.Laws.{SameFollow}
+use Rattle.config_journal.specs.Kept.{IsOnChecks, IsWorkReady, State as Held}
+use Rattle.config_journal.specs.Installing.{TellsSets, checks_of}
 use Rattle.zone_journal.specs.Appending.{Fits as JournalFits, RefusesBy}
 use Rattle.zone_journal.specs.Standing.{PlanFits, State as Kept_journal, planned_length}
-use Rattle.zone_table.specs.Zones.{Zone}
+use Rattle.zone_table.specs.Edits.{Edits, IsAllowed, Prepared as ReadyEdit, zone_of}
+use Rattle.zone_table.specs.Tables.{Table}
+use Rattle.zone_table.specs.Zones.{AreZones, IsZoneId, StandsAlone, Zone}
+use Rattle.zone_table.specs.declared.edits.ZoneEdit.{ZoneEdit}
+use Rattle.zone_table.specs.declared.edits.ZoneEdit.TheVariants as zone_edit
+use Rattle.zone_table.specs.declared.refs.Delta.{Delta}
 
 -- ---- journals
 
@@ -92,13 +100,76 @@ module _ (v : Kept_journal) (n : ℕ) where
 
 -- ---- checks
 
-pub follows_all : CommandsFollow → SameFollow → (checks : Checks) (given : Command)
-    → Follows checks (checks_of checks given)
-follows_all commands same checks (command.CreateZone name servers) = same checks
-follows_all commands same checks (command.DeleteZone id) = same checks
-follows_all commands same checks (command.Change batch) = same checks
-follows_all commands same checks (command.Health health) = commands checks health
-follows_all commands same checks (command.Cidr cidr) = same checks
+-- a command that is on no checks leaves them
+same_checks_of : (checks : Checks) (given : Command) → (IsOnChecks given → ⊥)
+    → checks_of checks given ≡ checks
+same_checks_of checks (command.CreateZone name servers) none = refl
+same_checks_of checks (command.DeleteZone id) none = refl
+same_checks_of checks (command.Change batch) none = refl
+same_checks_of checks (command.Health health) none = absurd (none tt)
+same_checks_of checks (command.Cidr cidr) none = refl
+
+-- the sets that a command tells are its own
+pub leaves_all : CommandsFollow → (before after : Held) (given : Command)
+    (edit : Option ReadyEdit) → IsWorkReady before given edit → TellsSets before edit after
+    → after.checks.checks ≡ checks_of before.checks.checks given
+    → AreLeft before.table.zones before.checks.checks after.table.zones after.checks.checks after.told
+leaves_all commands before after given (Some ready) (none, is_ready, edit_for) told checks =
+    inl (ready.made, (is_ready.allowed, told, checks ∙ same_checks_of before.checks.checks given none))
+leaves_all commands before after (command.Health health) None is (told, table) checks = inr (
+  ap (λ (t : Table). t.zones) table,
+  subst (λ (cs : Checks). Follows before.checks.checks cs) (sym checks)
+      (commands before.checks.checks health),
+  ap (λ (d : Delta). d.zone) told,
+)
+leaves_all commands before after (command.CreateZone name servers) None is told checks =
+    absurd is.0
+leaves_all commands before after (command.DeleteZone id) None is told checks = absurd is.0
+leaves_all commands before after (command.Change batch) None is told checks = absurd is.0
+leaves_all commands before after (command.Cidr cidr) None is told checks = absurd is.0
+
+-- no zone has number 0
+none_is_0 : (zones : List Zone) → AllByRecursion StandsAlone zones → IsZoneId zones 0 → ⊥
+none_is_0 [] each (zone, there, is) = there
+none_is_0 (first ∷ zones) each (zone, inl same, is) =
+    let some = each.0.numbered in
+    let id = ap (λ (z : Zone). z.id) same in
+    omega (arith, some, id, is)
+none_is_0 (first ∷ zones) each (zone, inr rest, is) = none_is_0 zones each.1 (zone, rest, is)
+
+-- a command on collections leaves zones and checks as they are
+module _ (before after : Held) (are : AreZones before.table.zones) (ready : ReadyEdit)
+    (allowed : IsAllowed before.table.zones ready.made)
+    (told : Edits before.table.zones ready.made after.table.zones after.told) where
+  no_zone : IsZoneId before.table.zones 0 → ⊥
+  no_zone = none_is_0 before.table.zones are.each
+
+  same_zones : (made : ZoneEdit) → ready.made ≡ made → zone_of made ≡ 0
+      → after.table.zones ≡ before.table.zones
+  same_zones (zone_edit.Open zone name sets) is none =
+      let its = subst (IsAllowed before.table.zones) is allowed in
+      let some = its.3 in
+      absurd (omega (arith, some, none))
+  same_zones (zone_edit.Close zone) is none =
+      absurd (no_zone (subst (IsZoneId before.table.zones) none (subst (IsAllowed before.table.zones) is allowed)))
+  same_zones (zone_edit.Change zone remove add) is none =
+      absurd (no_zone (subst (IsZoneId before.table.zones) none (subst (IsAllowed before.table.zones) is allowed).0))
+  same_zones (zone_edit.Collections now) is none =
+      (subst (λ (m : ZoneEdit). Edits before.table.zones m after.table.zones after.told) is told).its.0
+
+pub same_all : (before after : Held) → AreZones before.table.zones → (given : Command)
+    (edit : Option ReadyEdit) → IsOnCollections given → IsWorkReady before given edit
+    → TellsSets before edit after → after.checks.checks ≡ checks_of before.checks.checks given
+    → (after.table.zones ≡ before.table.zones) × (after.checks.checks ≡ before.checks.checks)
+same_all before after are (command.Cidr cidr) (Some ready) on (none, is_ready, edit_for) told checks = (
+  same_zones before after are ready is_ready.allowed told ready.made refl edit_for.4,
+  checks,
+)
+same_all before after are (command.Cidr cidr) None on is told checks = absurd is.0
+same_all before after are (command.CreateZone name servers) edit on is told checks = absurd on
+same_all before after are (command.DeleteZone id) edit on is told checks = absurd on
+same_all before after are (command.Change batch) edit on is told checks = absurd on
+same_all before after are (command.Health health) edit on is told checks = absurd on
 
 -- ---- stores
 
@@ -179,12 +250,14 @@ module _ (engine : Engine) (k0 k1 : Kept) (i0 i1 : Index)
     pub made : (what : Made) (k2 : Kept) (now : State) → IsCommitted what k1 ready k2
         → now.kept ≡ k2
         → ((p : Plan) → k1.journal.plan ≡ Some p → PlanFits k1.journal p)
-        → CommandsFollow → SameFollow
+        → CommandsFollow → (collections : Bool) → (IsTrue collections → IsOnCollections given)
         → ((zones : List Zone) (checks : Checks) (reports : List Report)
-        → HasHealth zones checks reports i1 → Follows checks k2.config.checks.checks
+        → HasHealth zones checks reports i1
+        → AreLeft zones checks k2.config.table.zones k2.config.checks.checks k2.config.told
+        → (IsTrue collections → (k2.config.table.zones ≡ zones) × (k2.config.checks.checks ≡ checks))
         → HasHealth k2.config.table.zones k2.config.checks.checks reports now.index)
         → CommandGives engine given (Ok what) now
-    made what k2 now is_made kept fits commands same_ones follows = inr (inr (
+    made what k2 now is_made kept fits commands collections only follows = inr (inr (
       record engine {
         config = config_of k2;
         journal = grown (size_of given) engine.journal;
@@ -206,8 +279,11 @@ module _ (engine : Engine) (k0 k1 : Kept) (i0 i1 : Index)
         health = subst (λ (k : Kept). HasHealth k.config.table.zones k.config.checks.checks
             engine.reports now.index) (sym kept)
             (follows k1.config.table.zones k1.config.checks.checks engine.reports health
-            (subst (λ (cs : Checks). Follows k1.config.checks.checks cs) (sym is_made.checks)
-            (follows_all commands same_ones k1.config.checks.checks ready.prepared.command)));
+            (leaves_all commands k1.config k2.config ready.prepared.command ready.prepared.edit
+            is.prepared.work is_made.told is_made.checks)
+            (λ so. same_all k1.config k2.config health.are_zones ready.prepared.command
+            ready.prepared.edit (subst IsOnCollections (sym same) (only so)) is.prepared.work
+            is_made.told is_made.checks));
         journal = ap (grown (size_of given)) journal
             ∙ (grown_of k1.journal (size_of given) fits
             ∙ (ap (λ (n : ℕ). journal_of (record k1.journal { at = k1.journal.at + (5 + n) }))

@@ -11,7 +11,7 @@ use Rattle.engine_model.specs.declared.answers.Compacted.{Compacted}
 use Rattle.engine_model.specs.declared.answers.Compacted.TheVariants as compacted
 use Rattle.health_index.specs.Index.{Index, StandsFor as HasHealth}
 use Rattle.r53_core.specs.Stores.{CompactionGives, StandsFor, State}
-use Rattle.r53_state.specs.States.{State as Config_kept, config_in}
+use Rattle.config_journal.specs.Kept.{State as Config_kept, config_in}
 
 module _ (engine : Engine) (old new : Kept) (index : Index)
     (stands : StandsFor engine (record { kept = old; index = index })) (pieces : ℕ) where
@@ -68,7 +68,11 @@ module _ (engine : Engine) (old new : Kept) (index : Index)
     ap (λ (j : Journal). j.plan) stands.journal ∙ ap (option_map (plan_of old.journal)) none,
     stands_still same,
   )
-  compaction compacted.DiskFault config = inr (inl (
+  compaction compacted.DiskFault (config, dropped) = inr (inl (
     refl,
-    (journal_of new.journal, stands_with config (journal_of new.journal) refl),
+    (
+      journal_of new.journal,
+      ap (option_map (plan_of new.journal)) dropped,
+      stands_with config (journal_of new.journal) refl,
+    ),
   ))

@@ -11,7 +11,7 @@ use Rattle.engine_model.specs.Engine.{CommandSteps, Engine, Fits, Journal, size_
 use Rattle.engine_model.specs.declared.answers.Compacted.{Compacted}
 use Rattle.engine_model.specs.declared.answers.Compacted.TheVariants as compacted
 use Rattle.health_index.specs.Index.{Index, StandsFor as HasHealth}
-use Rattle.r53_state.specs.States.{IsAccepted}
+use Rattle.config_journal.specs.Kept.{IsAccepted}
 
 -- What is kept of the configuration with its journal, and the index of health.
 pub record State : Type 0 where
@@ -45,12 +45,12 @@ CommandGives engine given outcome new =
 
 -- What so many pieces of a compaction make of a store. Where memory is wanted none was in progress,
 -- and it stands for what it stood for. Where a disk failed it stands for the configuration and the
--- reports, with another journal. Else it stands for what the definitions make of that, with their
--- outcome.
+-- reports, with a journal without a compaction. Else it stands for what the definitions make of that,
+-- with their outcome.
 abbrev pub CompactionGives : Engine → (pieces : ℕ) → Compacted → (new : State) → Type 0
 CompactionGives engine pieces outcome new =
     ((outcome ≡ compacted.OutOfMemory) × (engine.journal.plan ≡ None) × StandsFor engine new)
-    ⊎ ((outcome ≡ compacted.DiskFault) × ((journal : Journal)
+    ⊎ ((outcome ≡ compacted.DiskFault) × ((journal : Journal) × (journal.plan ≡ None)
     × StandsFor (record engine { journal = journal }) new))
     ⊎ ((after : Engine) × CompactionSteps engine pieces outcome after × StandsFor after new)
 

@@ -1,7 +1,7 @@
 //! The store.
 
 ghost use Rattle.std.specs.Prelude.{◌≡◌, ◌≢◌, ◌≤◌, ◌+◌, ◌⊎◌, ℕ, List, [], ◌∷◌, ◌++◌, length, Contains};
-ghost use Rattle.std.specs.Prelude.{IfOk, IfSome, IsErrOf, Ok, Err, None, Some};
+ghost use Rattle.std.specs.Prelude.{◌↔◌, IfOk, IfSome, IsErrOf, IsTrue, Ok, Err, None, Some};
 ghost use Rattle.command_bounds.specs.Laws.{HasShortLists};
 ghost use Rattle.command_octets.specs.Octets.{command_octets};
 ghost use Rattle.config_journal.specs.Compacting.{UnlessFaulty, WhereNone};
@@ -20,8 +20,8 @@ ghost use Rattle.engine_model.specs.Engine.{Engine, QueryGives, ReportSteps, is_
 ghost use Rattle.engine_model.specs.declared.answers.Compacted.TheVariants as Compacted;
 ghost use Rattle.engine_model.specs.declared.answers.Reported.TheVariants as Reported;
 ghost use Rattle.check_model.specs.Checks.{Checks};
-ghost use Rattle.health_index.specs.Following.{Follows};
 ghost use Rattle.health_index.specs.Index.{StandsFor as HasHealth, reported};
+ghost use Rattle.health_index.specs.Leaving.{AreLeft};
 ghost use Rattle.health_index.specs.Room.{HasRoom};
 ghost use Rattle.health_model.specs.Nodes.{CheckNode, InCone, Node};
 ghost use Rattle.health_model.specs.Statuses.{Report, status};
@@ -29,10 +29,12 @@ ghost use Rattle.octets.specs.Counts.{Rose};
 ghost use Rattle.zone_table.specs.Zones.{Zone};
 ghost use Rattle.query_engine.specs.Asking.{answer_of, asker_of};
 ghost use Rattle.health_model.specs.Statuses.{status_told};
+ghost use Rattle.r53_core.specs.Kinds.{IsOnCollections};
 ghost use Rattle.r53_core.specs.Stores.{CommandGives, CompactionGives, StandsFor, Untouched};
 ghost use Rattle.r53_core.specs.Stores.{opened};
-ghost use Rattle.r53_state.specs.States.{IsAccepted};
+ghost use Rattle.config_journal.specs.Kept.{IsAccepted};
 ghost use Rattle.record_set.specs.Sets.{key_of};
+ghost use Rattle.snapshot_octets.specs.Octets.{snapshot};
 ghost use Rattle.record_set.specs.declared.sets.RecordSet.{RecordSet};
 ghost use Rattle.zone_table.specs.Looking.{Names};
 ghost use Rattle.zone_journal.specs.Pairs.{EachPair, Leaves, OpensPair, Unwritten};
@@ -54,7 +56,7 @@ use octets::OutOfMemory;
 use policy_select::HealthView;
 use query_engine::answer;
 use r53_disk::Disk;
-use sound_configs::{index_serves, same_follow, sound_is_served, sound_is_watched};
+use sound_configs::{index_serves, sound_is_served, sound_is_watched};
 use std::alloc::Global;
 use std::marker::Model;
 use std::sync::ledger::Ledger;
@@ -92,6 +94,7 @@ impl Store {
             → IfOk result (λ store. Leaves D.reading a.new b.new (Holds store.kept)) }
         ensures faulty { (x y : List ℕ) → D.reading a.old ≡ Some x → D.reading b.old ≡ Some y
             → IsFault result (IsNoStore x y) }
+        ensures idle { IfOk result (λ store. store.kept.journal.plan ≡ None) }
 
         // Both files are synced before either is looked at, and from then on a crash leaves what is
         // read. It writes nothing.
@@ -146,6 +149,13 @@ impl Store {
         self.kept.config().checks()
     }
 
+    /// The snapshot of the configuration, in the version that is written.
+    pub fn snapshot(&self, alloc: Global) -> Result<Vec<u8>, OutOfMemory>
+        ensures { IfOk result (λ octets. octets.items ≡ snapshot (config_of self.now.kept)) }
+    {
+        self.kept.config().snapshot(alloc)
+    }
+
     /// Judges a command, writes it down and makes it.
     ///
     /// After a fault of a disk the store is opened again for commands; reports and queries go on
@@ -194,7 +204,7 @@ impl Store {
             → Rose (D.faults a.old) (D.faults a.new) ⊎ Rose (D.faults b.old) (D.faults b.new) }
     {
         commands_follow();
-        same_follow();
+        let collections = is_on_collections(&command);
         let ready = match self.kept.prepare(alloc, command) {
             Ok(ready) => ready,
             Err(why) => return Err(why),
@@ -204,27 +214,34 @@ impl Store {
         };
         match self.kept.commit(a, b, ready) {
             Ok(made) => {
-                self.follow();
+                self.follow(collections);
                 Ok(made)
             }
             Err(why) => Err(why),
         }
     }
 
-    /// Has the index follow a command that was made.
-    fn follow(&mut self)
+    /// Has the index follow a command that was made; one on collections changes no zone and no check.
+    fn follow(&mut self, collections: bool)
         requires room { HasRoom self.old.index self.old.kept.config.table.slots }
         ensures kept { self.new.kept ≡ self.old.kept }
         ensures follows { (before : List Zone) (checks : Checks) (reports : List Report)
             → HasHealth before checks reports self.old.index
-            → Follows checks self.old.kept.config.checks.checks
+            → AreLeft before checks self.old.kept.config.table.zones
+            self.old.kept.config.checks.checks self.old.kept.config.told
+            → (IsTrue collections → (self.old.kept.config.table.zones ≡ before)
+            × (self.old.kept.config.checks.checks ≡ checks))
             → HasHealth self.old.kept.config.table.zones self.old.kept.config.checks.checks
             reports self.new.index }
     {
+        if collections {
+            return;
+        }
         let config = self.kept.config();
         config.well_formed();
         sound_is_watched();
-        self.index.on_command(config.zones(), config.checks());
+        self.index
+            .on_command(config.zones(), config.checks(), config.last_delta());
     }
 
     /// Makes so many pieces of the compaction that is in progress, or of one that begins with them;
@@ -352,5 +369,18 @@ impl Store {
     {
         index_serves();
         self.index.is_healthy(set)
+    }
+}
+
+/// Whether a command is on collections of address blocks.
+fn is_on_collections(command: &Command) -> bool
+    ensures { IsTrue result ↔ IsOnCollections command.now }
+{
+    match command {
+        Command::CreateZone { .. } => false,
+        Command::DeleteZone(_) => false,
+        Command::Change(_) => false,
+        Command::Health(_) => false,
+        Command::Cidr(_) => true,
     }
 }

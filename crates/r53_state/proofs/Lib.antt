@@ -2,3 +2,4 @@ mod Decided
 mod Installed
 mod Staying
 mod Working
+mod Written

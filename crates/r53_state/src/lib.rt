@@ -2,16 +2,19 @@
 //! collections, changed by commands.
 //!
 //! A command is prepared first, which judges it and takes all its memory, and then installed, which
-//! can't fail. In between nothing has changed, so that it can be written down.
+//! can't fail. In between nothing has changed, so that it can be written down. A snapshot of the
+//! whole is read as the configuration that was written.
 #![tactic(auto)]
 
 mod config;
 mod editing;
 mod installing;
 mod prepared;
+mod snapshots;
 
 pub use command_octets::Command;
 pub use config::Config;
 pub use config_model::{InputReason, Made, Refusal};
+pub use config_reading::SnapshotFault;
 pub use octets::OutOfMemory;
 pub use prepared::Prepared;

@@ -1,6 +1,6 @@
 use Rattle.std.proofs.Common.{◌∙◌, List, ℕ, subst, sym}
 use Rattle.config_opening.proofs.Opened.{both_on, broken_faulty, syncs_on}
-use Rattle.config_opening.specs.Opening.{Begins}
+use Rattle.config_opening.specs.Opening.{IsAtFirstGate}
 use Rattle.config_opening.proofs.opening.open.Goals as goal
 
 pub returns-in-Err-clause-faulty : goal.returns-in-Err-clause-faulty
@@ -12,14 +12,14 @@ pub returns-in-Ok-clause-holds : goal.returns-in-Ok-clause-holds
 returns-in-Ok-clause-holds g c = λ x y a_reads b_reads.
     c.read_on.ensures.holds x y ((c.open.ensures.a_unwritten x a_reads).reads ∙ a_reads)
     ((c.open.ensures.b_unwritten y b_reads).reads ∙ b_reads)
-    (subst (λ (l : List ℕ). Begins c.in-Ok.journal l x y) (sym c.deref.ensures.value)
+    (subst (λ (l : List ℕ). IsAtFirstGate c.in-Ok.journal l x y) (sym c.deref.ensures.value)
     (c.in-Ok.ensures.gives x y a_reads b_reads))
 
 pub returns-in-Ok-clause-faulty : goal.returns-in-Ok-clause-faulty
 returns-in-Ok-clause-faulty g c = λ x y a_reads b_reads.
     c.read_on.ensures.faulty x y ((c.open.ensures.a_unwritten x a_reads).reads ∙ a_reads)
     ((c.open.ensures.b_unwritten y b_reads).reads ∙ b_reads)
-    (subst (λ (l : List ℕ). Begins c.in-Ok.journal l x y) (sym c.deref.ensures.value)
+    (subst (λ (l : List ℕ). IsAtFirstGate c.in-Ok.journal l x y) (sym c.deref.ensures.value)
     (c.in-Ok.ensures.gives x y a_reads b_reads))
 
 pub returns-in-Ok-clause-syncs : goal.returns-in-Ok-clause-syncs

@@ -2,7 +2,7 @@ use Rattle.std.proofs.Common.{Err, subst}
 use Rattle.command_codec.specs.Gives.{ReadsCommand}
 use Rattle.command_codec.specs.Reading.{read}
 use Rattle.config_opening.proofs.Replayed.{refused_so}
-use Rattle.r53_state.specs.States.{config_in}
+use Rattle.config_journal.specs.Kept.{config_in}
 use Rattle.config_opening.proofs.replaying.take.Goals as goal
 
 pub returns-in-Err-Bad-clause-refused : goal.returns-in-Err-Bad-clause-refused

@@ -1,6 +1,6 @@
 use Rattle.std.proofs.Common.{◌∙◌, Bool, List, ℕ, ◌+◌, Ok, ap, length, refl, sym, subst}
 use Rattle.config_opening.proofs.Replayed.{faulty_by, goes_on, holds_there, refused}
-use Rattle.r53_state.specs.States.{config_in}
+use Rattle.config_journal.specs.Kept.{config_in}
 use Rattle.store_model.specs.Opening.{IsNoStore, IsRefused, TakesEntry}
 use Rattle.zone_journal.specs.Opening.{NextGives}
 use Rattle.zone_journal.specs.Pairs.{active_of}

@@ -13,7 +13,7 @@ use Rattle.r53_core.proofs.Commanding.{made, not_made, same_refusal}
 use Rattle.r53_core.proofs.Refused.{no_fault}
 use Rattle.r53_core.proofs.Staying.{read_on}
 use Rattle.r53_core.specs.Stores.{StandsFor, State}
-use Rattle.r53_state.specs.States.{IsAccepted}
+use Rattle.config_journal.specs.Kept.{IsAccepted}
 use Rattle.store_model.specs.Leaving.{OpensEither}
 use Rattle.zone_journal.specs.Pairs.{EachPair, Leaves, OpensPair}
 use Rattle.zone_journal.specs.Standing.{PlanFits, State as Journal}
@@ -45,7 +45,8 @@ returns-in-Ok-commit-clause-gives g c = λ engine stands.
     (subst (λ (j : Journal). (p : Plan) → j.plan ≡ Some p → PlanFits j p)
     (sym (c.prepare.ensures.stays.journal ∙ ap (λ (s : State). s.kept.journal) c.self.view_is))
     c.requires.stands.plan)
-    c.commands_follow.ensures c.same_follow.ensures c.follow.ensures.follows
+    c.commands_follow.ensures c.is_on_collections-collections.result
+    c.is_on_collections-collections.ensures.0 c.follow.ensures.follows
 
 pub returns-in-Ok-commit-clause-holds : goal.returns-in-Ok-commit-clause-holds
 returns-in-Ok-commit-clause-holds g c = λ held whole.

@@ -8,7 +8,7 @@ use Rattle.policy_select.specs.Groups.{Agrees}
 use Rattle.query_engine.specs.Asking.{answer_of, asker_of, served_by}
 use Rattle.record_set.specs.declared.sets.SetKey.{SetKey}
 use Rattle.r53_core.specs.Stores.{StandsFor, State}
-use Rattle.r53_state.specs.States.{State as Kept, config_in}
+use Rattle.config_journal.specs.Kept.{State as Kept, config_in}
 use Rattle.sound_configs.specs.Served.{AreServed}
 use Rattle.zone_table.specs.Tables.{Table}
 use Rattle.r53_core.proofs.store.Store.query.Goals as goal

@@ -1,0 +1,21 @@
+-- What is read of a snapshot.
+use Rattle.std.specs.Prelude.{◌≡◌, ℕ, List, Result, Ok, Err, ⊤}
+use Rattle.config_model.specs.Configs.{Config}
+use Rattle.config_reading.specs.Reading.{IsOfNone, IsOfSound}
+use Rattle.r53_state.specs.States.{State, config_in, nothing_told}
+use Rattle.snapshot_reading.specs.declared.faults.SnapshotFault.{SnapshotFault}
+use Rattle.snapshot_reading.specs.declared.faults.SnapshotFault.TheVariants as fault
+
+-- Octets are a snapshot of a sound configuration, which is read, with nothing told of sets; or they
+-- are one of none; or memory is wanted.
+abbrev pub ReadsSnapshot : (octets : List ℕ) → Result State SnapshotFault → Type 0
+ReadsSnapshot octets (Ok state) =
+    IsOfSound octets (config_in state) × (state.told ≡ nothing_told)
+ReadsSnapshot octets (Err fault.Bad) = IsOfNone octets
+ReadsSnapshot octets (Err fault.OutOfMemory) = ⊤
+
+-- A configuration is read as it was, or memory is wanted.
+abbrev pub ComesBack : Config → Result State SnapshotFault → Type 0
+ComesBack config (Ok state) = config_in state ≡ config
+ComesBack config (Err fault.Bad) = ⊥
+ComesBack config (Err fault.OutOfMemory) = ⊤
