@@ -2,6 +2,7 @@ mod Batches
 mod Checks
 mod Collections
 mod Lines
+mod Lists
 mod Names
 mod Policies
 mod Prefixes

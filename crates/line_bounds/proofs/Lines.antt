@@ -1,5 +1,5 @@
--- The command that a line is is within its bounds, and its lists are short.
-use Rattle.std.proofs.Common.{◌≡◌, ℕ, List, Bool, true, false, Option, None, Some, Result, Ok, Err, refl, subst, sym, ◌∙◌}
+-- What a line asks for is within its bounds, and its lists are short.
+use Rattle.std.proofs.Common.{◌≡◌, ℕ, inl, inr, List, Bool, true, false, Option, None, Some, Result, Ok, Err, refl, subst, sym, ◌∙◌}
 use Rattle.std.specs.Prelude.{⊤}
 use Rattle.std.specs.Str.{is_utf8}
 use Rattle.std.proofs.lemmas.Option.{none-some}
@@ -12,7 +12,6 @@ use Rattle.check_lines.specs.Checks.{create_health_check, delete_health_check, g
 use Rattle.check_model.specs.declared.checks.CheckCommand.TheVariants.{Delete}
 use Rattle.cidr_lines.specs.Collections.{change_collection, create_collection, delete_collection}
 use Rattle.command_bounds.specs.Laws.{HasShortLists}
-use Rattle.command_octets.specs.declared.commands.Command.{Command}
 use Rattle.command_octets.specs.declared.commands.Command.TheVariants as command
 use Rattle.config_model.specs.Laws.{IsBounded}
 use Rattle.dns_name.specs.Laws.{TextsReadAsNames}
@@ -31,21 +30,23 @@ use Rattle.zone_lines.specs.Zones.{create_hosted_zone, delete_hosted_zone, list_
 use Rattle.line_bounds.proofs.Batches.{batch_is}
 use Rattle.line_bounds.proofs.Checks.{check_is, update_is}
 use Rattle.line_bounds.proofs.Collections.{creation_is, edit_is, end_is}
+use Rattle.line_bounds.proofs.Lists.{IsCount, IsList, list_is, pieces_are, turns_are}
 use Rattle.line_bounds.proofs.Steps.{same_ok, steps}
 use Rattle.line_bounds.proofs.Zones.{zone_is}
-use Rattle.line_bounds.specs.Laws.{LinesAreBounded, ReadLinesAreBounded, TextsArePrefixes, TextsAreValues}
+use Rattle.line_bounds.specs.Laws.{LinesAreBounded, ReadCountsAreSome, ReadLinesAreBounded, ReadListsAreAsked}
+use Rattle.line_bounds.specs.Laws.{TextsArePrefixes, TextsAreValues}
 
 -- ---- what lines ask for
 
 abbrev IsBoundedLine : Line → Type 0
 IsBoundedLine (line.Control given) = IsBounded given × HasShortLists given
-IsBoundedLine (line.List list) = ⊤
+IsBoundedLine (line.List list) = IsList list
 IsBoundedLine (line.Status id) = ⊤
 IsBoundedLine (line.Observe seen) = ⊤
 IsBoundedLine (line.Query asked) = ⊤
 IsBoundedLine (line.Bind ports) = ⊤
-IsBoundedLine (line.Serve turns) = ⊤
-IsBoundedLine (line.Compact pieces) = ⊤
+IsBoundedLine (line.Serve turns) = IsCount turns
+IsBoundedLine (line.Compact pieces) = IsCount pieces
 
 -- ---- a line by its name
 
@@ -87,7 +88,7 @@ module _ (names : TextsReadAsNames) (values : TextsAreValues) (prefixes : TextsA
       (λ d. told (change_sets d) (λ batch. line.Control (command.Change batch))
       (λ batch r. (batch_is names values d batch r, tt)))
       (named m.ListResourceRecordSets o _ _
-      (λ d. told (list_sets d) (λ list. line.List list) (λ list r. tt)) nothing)))
+      (λ d. told (list_sets d) (λ list. line.List list) (list_is d)) nothing)))
 
   checks_have : (o : Data) → HasBounds (check_line o)
   unfolding check_line
@@ -125,9 +126,9 @@ module _ (names : TextsReadAsNames) (values : TextsAreValues) (prefixes : TextsA
   serving_has o =
       named m.Query o _ _ (λ d. told (query d) (λ asked. line.Query asked) (λ asked r. tt))
       (named m.Bind o _ _ (λ d. told (bind d) (λ ports. line.Bind ports) (λ ports r. tt))
-      (named m.Serve o _ _ (λ d. told (serve d) (λ turns. line.Serve turns) (λ turns r. tt))
+      (named m.Serve o _ _ (λ d. told (serve d) (λ turns. line.Serve turns) (turns_are d))
       (named m.Compact o _ _
-      (λ d. told (compact d) (λ pieces. line.Compact pieces) (λ pieces r. tt)) nothing)))
+      (λ d. told (compact d) (λ pieces. line.Compact pieces) (pieces_are d)) nothing)))
 
   -- ---- a line
 
@@ -148,11 +149,14 @@ module _ (names : TextsReadAsNames) (values : TextsAreValues) (prefixes : TextsA
       (or_else (serving_line o) (bad UnknownLine m.Line) (serving_has o)
       (λ asked e. absurd cc))))
 
-  pub are_bounded : LinesAreBounded
+  pub has_bounds : (value : Data) (asked : Line) → line_of value ≡ Ok asked → IsBoundedLine asked
   unfolding line_of
-  are_bounded value given e =
-      let s = steps (one_member (as_object value)) _ (line.Control given) e in
-      line_has value (line.Control given) s.gives
+  has_bounds value asked e =
+      let s = steps (one_member (as_object value)) _ asked e in
+      line_has value asked s.gives
+
+  pub are_bounded : LinesAreBounded
+  are_bounded value given e = has_bounds value (line.Control given) e
 
 -- ---- what was read from octets
 
@@ -168,13 +172,37 @@ by_value octets P some none = go (is_utf8 octets) (read octets) refl refl
     go false found u f =
         none (λ value is. let both = sym (is_utf8-from_IsUtf8 octets is.utf8) ∙ u in absurd cc)
 
-not_there : (told : Result Line LineFault) (given : Command) → told ≡ Ok (line.Control given)
+not_there : (told : Result Line LineFault) (asked : Line) → told ≡ Ok asked
     → Reads told (bad NotJson m.Line) → ⊥
-not_there (Ok asked) given e h = absurd cc
-not_there (Err fault) given e h = absurd cc
+not_there (Ok other) asked e h = absurd cc
+not_there (Err fault) asked e h = absurd cc
+
+-- what every line has that a JSON value gives, has the line that was read
+of_a_value : (octets : List ℕ) (told : Result Line LineFault) (asked : Line) (P : Type 0)
+    → ((value : Data) → line_of value ≡ Ok asked → P)
+    → ((value : Data) → IsJson octets value → Reads told (line_of value))
+    → (((value : Data) → IsJson octets value → ⊥) → Reads told (bad NotJson m.Line))
+    → told ≡ Ok asked → P
+of_a_value octets told asked P has json not_json e =
+    by_value octets P
+    (λ value is. has value (subst (λ r. Reads r (line_of value)) e (json value is)))
+    (λ none. absurd (not_there told asked e (not_json none)))
 
 pub read_are_bounded : LinesAreBounded → ReadLinesAreBounded
 read_are_bounded law octets told given json not_json e =
-    by_value octets (IsBounded given × HasShortLists given)
-    (λ value is. law value given (subst (λ r. Reads r (line_of value)) e (json value is)))
-    (λ none. absurd (not_there told given e (not_json none)))
+    of_a_value octets told (line.Control given) (IsBounded given × HasShortLists given)
+    (λ value r. law value given r) json not_json e
+
+module _ (names : TextsReadAsNames) (values : TextsAreValues) (prefixes : TextsArePrefixes) where
+  pub lists_are_asked : ReadListsAreAsked
+  lists_are_asked octets told list json not_json e =
+      of_a_value octets told (line.List list) (IsList list)
+      (λ value r. has_bounds names values prefixes value (line.List list) r) json not_json e
+
+  pub counts_are_some : ReadCountsAreSome
+  counts_are_some octets told count json not_json (inl e) =
+      of_a_value octets told (line.Serve count) (IsCount count)
+      (λ value r. has_bounds names values prefixes value (line.Serve count) r) json not_json e
+  counts_are_some octets told count json not_json (inr e) =
+      of_a_value octets told (line.Compact count) (IsCount count)
+      (λ value r. has_bounds names values prefixes value (line.Compact count) r) json not_json e

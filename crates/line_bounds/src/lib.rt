@@ -1,5 +1,5 @@
-//! What is known of the commands that lines are: each is within the bounds of commands, and each
-//! list of a command on collections is as short as a line may have it.
+//! What is known of what lines ask for: each command is within the bounds of commands, each list of
+//! a command on collections is as short as a line may have it, and so are lists of sets and counts.
 //!
 //! A line bounds what stands in it alone. Which zones, checks and collections are there, it can't
 //! know.
@@ -7,4 +7,7 @@
 
 mod laws;
 
-pub use laws::{lines_are_bounded, read_lines_are_bounded, texts_are_prefixes, texts_are_values};
+pub use laws::{
+    lines_are_bounded, read_counts_are_some, read_lines_are_bounded, read_lists_are_asked,
+    texts_are_prefixes, texts_are_values,
+};

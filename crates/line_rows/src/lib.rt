@@ -1,4 +1,5 @@
-//! Rows of control lines: what the AWS command line writes, and each fault in its order.
+//! Rows of control lines: what the AWS command line writes, and each fault in its order. Tables come
+//! line by line too.
 #![tactic(auto)]
 
 #[cfg(test)]
@@ -11,5 +12,7 @@ mod inputs;
 mod queries;
 #[cfg(test)]
 mod sets;
+#[cfg(test)]
+mod table_inputs;
 #[cfg(test)]
 mod zones;

@@ -1,0 +1,4 @@
+pub mod Octets
+pub mod Outcomes
+pub mod Standing
+pub mod Vectors
