@@ -1,0 +1,4 @@
+pub mod Going
+pub mod Packets
+pub mod Reports
+pub mod Turns

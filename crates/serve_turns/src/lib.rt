@@ -1,0 +1,15 @@
+//! Turns of a server on its network: a datagram is taken, and answered or counted.
+//!
+//! A packet is answered from the store; eight random words are drawn before each, also where nothing
+//! is answered. A datagram of the report port is read as a health checker's
+//! report, or counted as unknown. Nothing here takes memory.
+#![tactic(auto)]
+
+mod counting;
+mod drawing;
+mod observing;
+mod serving;
+mod turning;
+
+pub use r53_core::{Reported, Steps, Store};
+pub use serving::{Served, serve};

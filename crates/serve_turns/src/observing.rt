@@ -1,0 +1,52 @@
+//! Reports of health checkers.
+
+ghost use Rattle.std.specs.Prelude.{◌≡◌, ◌<◌};
+ghost use Rattle.engine_model.specs.Engine.{Engine, ReportSteps};
+ghost use Rattle.r53_core.specs.Stores.{StandsFor};
+ghost use Rattle.serve_turns.specs.Turning.{GoesOn, IsTaken};
+
+use r53_core::{Reported, Steps, Store};
+use report_lines::{Observation, read_report};
+use std::marker::Brand;
+use std::sync::ledger::{Blank, Ledger};
+
+/// Takes a datagram of the report port, and tells whether it is a report that counts.
+pub(crate) fn observe(store: &mut Store, datagram: &[u8]) -> bool
+    ensures taken { (engine : Engine) → StandsFor engine store.old
+        → IsTaken result engine datagram.now (λ after. StandsFor after store.new) }
+    ensures reports { GoesOn store.old store.new }
+    ensures kept { store.new.kept ≡ store.old.kept }
+{
+    let Some(seen) = read_report(datagram) else {
+        return false;
+    };
+    match take_once(store, seen) {
+        Reported::Taken => true,
+        Reported::NoSuchHealthCheck => false,
+        Reported::BadChecker => false,
+    }
+}
+
+/// Takes a report.
+fn take_once(store: &mut Store, seen: Observation) -> Reported
+    ensures reports { (engine : Engine) → StandsFor engine store.old
+        → (after : Engine) × ReportSteps engine seen.id seen.checker seen.pass result after
+        × StandsFor after store.new }
+    ensures kept { store.new.kept ≡ store.old.kept }
+{
+    take::<Brand>(Blank::new(1), store, seen)
+}
+
+/// The same, counted in a ledger of its own.
+fn take<L: Ledger>(blank: Blank, store: &mut Store, seen: Observation) -> Reported
+    requires name { blank.name ≡ L.name }
+    requires parts { blank.parts ≡ L.parts }
+    requires some { 0 < blank.parts }
+    ensures reports { (engine : Engine) → StandsFor engine store.old
+        → (after : Engine) × ReportSteps engine seen.id seen.checker seen.pass result after
+        × StandsFor after store.new }
+    ensures kept { store.new.kept ≡ store.old.kept }
+{
+    let mut steps = Steps::<L>::new(blank);
+    store.report(seen.id, seen.checker, seen.pass, &mut steps)
+}

@@ -1,0 +1,148 @@
+//! One turn.
+
+ghost use Rattle.std.specs.Prelude.{◌≡◌, ◌≢◌, ◌≤◌, List, length};
+ghost use Rattle.octets.specs.Counts.{Rose};
+ghost use Rattle.r53_core.specs.Stores.{StandsFor};
+ghost use Rattle.r53_io.specs.Network.{Incoming};
+ghost use Rattle.serve_turns.specs.Turning.{AreWithin, Counts, GoesOn, PacketLeaves, Stands, TurnLeaves};
+ghost use Rattle.session_model.specs.Serving.{Datagram, Served};
+
+use crate::counting::{count_packet, count_quiet, count_report};
+use crate::drawing::draw;
+use crate::observing::observe;
+use dns_wire::Reply;
+use geo_latency::Tables;
+use octets::front;
+use r53_core::Store;
+use r53_io::{Arrival, Link, Peer, Sent};
+use rand_core::Rng;
+use reply_model::Turns;
+
+/// What a turn came to.
+#[derive(Clone, Copy, Debug, PartialEq, Eq)]
+pub(crate) enum Turn {
+    /// Something came, or nothing for a while.
+    Taken,
+    /// Nothing will come any more: it isn't a turn.
+    Closed,
+    /// The network failed.
+    Failed,
+}
+
+/// Takes a turn. The datagram that comes is put into `packet`.
+pub(crate) fn take_turn<L: Link, R: Rng>(
+    store: &mut Store,
+    tables: &Tables,
+    link: &mut L,
+    words: &mut R,
+    packet: &mut [u8],
+    reply: &mut Reply,
+    turns: &mut Turns,
+) -> Turn
+    requires packet { 65535 ≤ length packet.old }
+    requires room { 4096 ≤ reply.old.room }
+    requires few { AreWithin 4294967294 turns.old }
+    ensures leaves { (before : List Datagram) (old : Served) (arrivals : List Incoming)
+        → StandsFor old.engine store.old
+        → Stands before old arrivals (record {
+          words = R.stream words.old;
+          turns = turns.old;
+          coming = L.coming link.old;
+          sent = L.sent link.old;
+        })
+        → TurnLeaves result tables.now before old arrivals (λ engine. StandsFor engine store.new)
+        (record {
+          words = R.stream words.new;
+          turns = turns.new;
+          coming = L.coming link.new;
+          sent = L.sent link.new;
+        }) }
+    ensures counted { Counts result turns.old turns.new }
+    ensures reports { GoesOn store.old store.new }
+    ensures kept { store.new.kept ≡ store.old.kept }
+    ensures packet { length packet.new ≡ length packet.old }
+    ensures room { reply.new.room ≡ reply.old.room }
+    ensures ports { L.ports link.new ≡ L.ports link.old }
+    ensures counts { L.faults link.old ≤ L.faults link.new }
+    ensures failed { result ≡ Turn.Failed → Rose (L.faults link.old) (L.faults link.new) }
+{
+    match link.receive(packet) {
+        Arrival::Dns(peer, len) => {
+            answer(
+                store,
+                tables,
+                link,
+                words,
+                peer,
+                front(packet, len),
+                reply,
+                turns,
+            )
+        }
+        Arrival::Report(len) => {
+            let taken = observe(store, front(packet, len));
+            count_report(turns, taken);
+            Turn::Taken
+        }
+        Arrival::Quiet => {
+            count_quiet(turns);
+            Turn::Taken
+        }
+        Arrival::Closed => Turn::Closed,
+        Arrival::Failed => Turn::Failed,
+    }
+}
+
+/// Answers a packet, where something is answered.
+fn answer<L: Link, R: Rng>(
+    store: &mut Store,
+    tables: &Tables,
+    link: &mut L,
+    words: &mut R,
+    peer: Peer,
+    packet: &[u8],
+    reply: &mut Reply,
+    turns: &mut Turns,
+) -> Turn
+    requires room { 4096 ≤ reply.old.room }
+    requires few { AreWithin 4294967294 turns.old }
+    ensures leaves { (before : List Datagram) (old : Served) (arrivals : List Incoming)
+        → StandsFor old.engine store.old
+        → Stands before old arrivals (record {
+          words = R.stream words.old;
+          turns = turns.old;
+          coming = L.coming link.old;
+          sent = L.sent link.old;
+        })
+        → PacketLeaves result tables.now before peer packet.now old arrivals
+        (λ engine. StandsFor engine store.new)
+        (record {
+          words = R.stream words.new;
+          turns = turns.new;
+          coming = L.coming link.new;
+          sent = L.sent link.new;
+        }) }
+    ensures counted { Counts result turns.old turns.new }
+    ensures reports { GoesOn store.old store.new }
+    ensures kept { store.new.kept ≡ store.old.kept }
+    ensures room { reply.new.room ≡ reply.old.room }
+    ensures ports { L.ports link.new ≡ L.ports link.old }
+    ensures counts { L.faults link.old ≤ L.faults link.new }
+    ensures failed { result ≡ Turn.Failed → Rose (L.faults link.old) (L.faults link.new) }
+    ensures open { result ≢ Turn.Closed }
+{
+    let drawn = draw(words);
+    match store.query(tables, packet, peer.address, &drawn, reply) {
+        None => {
+            count_packet(turns, false);
+            Turn::Taken
+        }
+        Some(_) => match link.send(peer, reply.bytes()) {
+            Sent::Whole => {
+                count_packet(turns, true);
+                Turn::Taken
+            }
+            Sent::Failed => Turn::Failed,
+        },
+    }
+}
