@@ -1,0 +1,7 @@
+use Rattle.std.proofs.Common.{[], ◌++◌}
+use Rattle.list_writing.specs.Pieces.{list_rest}
+use Rattle.list_sending.proofs.pages.send_end.Goals as goal
+
+pub returns-in-Failed-clause-writes : goal.returns-in-Failed-clause-writes
+returns-in-Failed-clause-writes g c = λ held whole passed.
+    c.in-Failed.ensures.passes held (list_rest ++ []) whole passed
