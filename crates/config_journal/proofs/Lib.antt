@@ -1,4 +1,3 @@
-pub mod Accepted
 mod Beginning
 mod Pieced
 mod Going

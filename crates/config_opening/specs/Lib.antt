@@ -1,1 +1,8 @@
 pub mod Opening
+pub use Rattle.config_journal.specs.Compacting
+pub use Rattle.config_journal.specs.Holding
+pub use Rattle.config_journal.specs.Installing
+pub use Rattle.config_journal.specs.Journals
+pub use Rattle.config_journal.specs.Kept
+pub use Rattle.config_journal.specs.States
+pub use Rattle.config_journal.specs.Steps

@@ -18,3 +18,5 @@ pub use asking::{observe, query, status};
 pub use binding::{bind_ports, take_turns};
 pub use commanding::control;
 pub use compacting::compact;
+pub use sending::sent;
+pub use serve_turns::Store;

@@ -7,7 +7,7 @@ use crate::answers::Taken;
 use reply_sending::Output;
 
 /// How a reply that was written, or wasn't, is told.
-pub(crate) fn sent(output: Output) -> Taken
+pub fn sent(output: Output) -> Taken
     ensures { result ≡ taken_of output }
 {
     match output {

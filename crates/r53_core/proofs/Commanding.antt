@@ -6,9 +6,9 @@ use Rattle.check_model.specs.Checks.{Checks}
 use Rattle.command_octets.specs.Octets.{command_octets}
 use Rattle.command_octets.specs.declared.commands.Command.{Command}
 use Rattle.command_octets.specs.declared.commands.Command.TheVariants as command
-use Rattle.config_journal.proofs.Accepted.{accepted}
-use Rattle.config_journal.specs.States.{IsReady, Ready, State as Kept, config_of}
-use Rattle.config_journal.specs.Steps.{CommitGives, IsCommitted, StaysSo}
+use Rattle.r53_core.proofs.Accepted.{accepted}
+use Rattle.config_opening.specs.States.{IsReady, Ready, State as Kept, config_of}
+use Rattle.config_opening.specs.Steps.{CommitGives, IsCommitted, StaysSo}
 use Rattle.config_model.specs.Applying.{Decides}
 use Rattle.config_model.specs.Configs.{Config}
 use Rattle.config_model.specs.declared.refusals.Made.{Made}
@@ -22,11 +22,11 @@ use Rattle.health_index.specs.Index.{Index, StandsFor as HasHealth}
 use Rattle.health_index.specs.Laws.{CommandsFollow}
 use Rattle.health_index.specs.Leaving.{AreLeft}
 use Rattle.health_model.specs.Statuses.{Report}
-use Rattle.config_journal.specs.Journals.{journal_of, plan_of}
+use Rattle.config_opening.specs.Journals.{journal_of, plan_of}
 use Rattle.r53_core.specs.Kinds.{IsOnCollections}
 use Rattle.r53_core.specs.Stores.{CommandGives, StandsFor, State}
-use Rattle.config_journal.specs.Kept.{IsOnChecks, IsWorkReady, State as Held}
-use Rattle.config_journal.specs.Installing.{TellsSets, checks_of}
+use Rattle.config_opening.specs.Kept.{IsOnChecks, IsWorkReady, State as Held}
+use Rattle.config_opening.specs.Installing.{TellsSets, checks_of}
 use Rattle.zone_journal.specs.Appending.{Fits as JournalFits, RefusesBy}
 use Rattle.zone_journal.specs.Standing.{PlanFits, State as Kept_journal, planned_length}
 use Rattle.zone_table.specs.Edits.{Edits, IsAllowed, Prepared as ReadyEdit, zone_of}

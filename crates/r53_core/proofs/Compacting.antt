@@ -1,9 +1,9 @@
 -- What pieces of a compaction make of a store.
 use Rattle.std.proofs.Common.{◌≡◌, ℕ, Option, None, ap, ◌∙◌, inl, inr, refl, sym, subst}
 use Rattle.std.specs.Prelude.{option_map}
-use Rattle.config_journal.specs.Compacting.{CompactGives, IsCompacted}
-use Rattle.config_journal.specs.Journals.{journal_of, plan_of}
-use Rattle.config_journal.specs.States.{State as Kept, config_of}
+use Rattle.config_opening.specs.Compacting.{CompactGives, IsCompacted}
+use Rattle.config_opening.specs.Journals.{journal_of, plan_of}
+use Rattle.config_opening.specs.States.{State as Kept, config_of}
 use Rattle.config_model.specs.Configs.{Config}
 use Rattle.engine_model.specs.Compacting.{IsLastGeneration, compacted as pieces_of, told_of}
 use Rattle.engine_model.specs.Engine.{Engine, Journal}
@@ -11,7 +11,7 @@ use Rattle.engine_model.specs.declared.answers.Compacted.{Compacted}
 use Rattle.engine_model.specs.declared.answers.Compacted.TheVariants as compacted
 use Rattle.health_index.specs.Index.{Index, StandsFor as HasHealth}
 use Rattle.r53_core.specs.Stores.{CompactionGives, StandsFor, State}
-use Rattle.config_journal.specs.Kept.{State as Config_kept, config_in}
+use Rattle.config_opening.specs.Kept.{State as Config_kept, config_in}
 
 module _ (engine : Engine) (old new : Kept) (index : Index)
     (stands : StandsFor engine (record { kept = old; index = index })) (pieces : ℕ) where

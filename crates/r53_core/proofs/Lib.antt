@@ -1,5 +1,7 @@
+mod Accepted
 pub mod Commanding
 mod Compacting
 pub mod Refused
 pub mod Reporting
 pub mod Staying
+mod Told

@@ -1,9 +1,9 @@
 -- Files that hold a configuration hold it where nothing but room changed.
 use Rattle.std.proofs.Common.{◌≡◌, List, ℕ, Option, sym, subst}
-use Rattle.config_journal.proofs.Told.{holds_of, to_told}
-use Rattle.config_journal.specs.Holding.{Holds}
-use Rattle.config_journal.specs.States.{State, config_of}
-use Rattle.config_journal.specs.Steps.{StaysSo}
+use Rattle.r53_core.proofs.Told.{holds_of, to_told}
+use Rattle.config_opening.specs.Holding.{Holds}
+use Rattle.config_opening.specs.States.{State, config_of}
+use Rattle.config_opening.specs.Steps.{StaysSo}
 use Rattle.store_model.proofs.Weakening.{leaves_weaken}
 use Rattle.zone_journal.specs.Pairs.{Leaves}
 

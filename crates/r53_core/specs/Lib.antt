@@ -1,5 +1,5 @@
 pub mod Kinds
 pub mod Stores
-pub use Rattle.config_journal.specs.Holding
-pub use Rattle.config_journal.specs.Kept
-pub use Rattle.config_journal.specs.States as Journaled
+pub use Rattle.config_opening.specs.Holding
+pub use Rattle.config_opening.specs.Kept
+pub use Rattle.config_opening.specs.States as Journaled

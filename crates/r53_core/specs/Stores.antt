@@ -1,8 +1,8 @@
 -- When a store stands for what the definitions have, and what a command and a compaction make of it.
 use Rattle.std.specs.Prelude.{◌≡◌, ◌≢◌, ◌⊎◌, ℕ, [], None, Result, Err}
 use Rattle.command_octets.specs.declared.commands.Command.{Command}
-use Rattle.config_journal.specs.Journals.{journal_of}
-use Rattle.config_journal.specs.States.{State as Kept, config_of}
+use Rattle.config_opening.specs.Journals.{journal_of}
+use Rattle.config_opening.specs.States.{State as Kept, config_of}
 use Rattle.config_model.specs.declared.refusals.Made.{Made}
 use Rattle.config_model.specs.declared.refusals.Refusal.{Refusal}
 use Rattle.config_model.specs.declared.refusals.Refusal.TheVariants as refusal
@@ -11,7 +11,7 @@ use Rattle.engine_model.specs.Engine.{CommandSteps, Engine, Fits, Journal, size_
 use Rattle.engine_model.specs.declared.answers.Compacted.{Compacted}
 use Rattle.engine_model.specs.declared.answers.Compacted.TheVariants as compacted
 use Rattle.health_index.specs.Index.{Index, StandsFor as HasHealth}
-use Rattle.config_journal.specs.Kept.{IsAccepted}
+use Rattle.config_opening.specs.Kept.{IsAccepted}
 
 -- What is kept of the configuration with its journal, and the index of health.
 pub record State : Type 0 where

@@ -1,9 +1,9 @@
 use Rattle.std.proofs.Common.{◌≡◌, ◌∙◌, ℕ, List, [], ◌∷◌, ◌++◌, Err, Ok, Some, ap, inr, refl, subst, sym}
 use Rattle.command_octets.specs.Octets.{command_octets}
 use Rattle.command_octets.specs.declared.commands.Command.{Command}
-use Rattle.config_journal.proofs.Accepted.{accepted}
-use Rattle.config_journal.specs.Holding.{Holds}
-use Rattle.config_journal.specs.States.{State as Kept, config_of}
+use Rattle.r53_core.proofs.Accepted.{accepted}
+use Rattle.config_opening.specs.Holding.{Holds}
+use Rattle.config_opening.specs.States.{State as Kept, config_of}
 use Rattle.config_model.specs.Applying.{Applies, Decides}
 use Rattle.config_model.specs.Configs.{Config}
 use Rattle.config_model.specs.declared.refusals.Refusal.{Refusal}
@@ -13,7 +13,7 @@ use Rattle.r53_core.proofs.Commanding.{made, not_made, same_refusal}
 use Rattle.r53_core.proofs.Refused.{no_fault}
 use Rattle.r53_core.proofs.Staying.{read_on}
 use Rattle.r53_core.specs.Stores.{StandsFor, State}
-use Rattle.config_journal.specs.Kept.{IsAccepted}
+use Rattle.config_opening.specs.Kept.{IsAccepted}
 use Rattle.store_model.specs.Leaving.{OpensEither}
 use Rattle.zone_journal.specs.Pairs.{EachPair, Leaves, OpensPair}
 use Rattle.zone_journal.specs.Standing.{PlanFits, State as Journal}

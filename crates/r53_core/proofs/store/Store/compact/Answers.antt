@@ -1,5 +1,5 @@
 use Rattle.std.proofs.Common.{subst, sym}
-use Rattle.config_journal.specs.Holding.{Holds}
+use Rattle.config_opening.specs.Holding.{Holds}
 use Rattle.r53_core.proofs.Compacting.{compaction}
 use Rattle.r53_core.specs.Stores.{StandsFor, State}
 use Rattle.zone_journal.specs.Pairs.{Leaves}

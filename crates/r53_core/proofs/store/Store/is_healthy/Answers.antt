@@ -1,5 +1,5 @@
 use Rattle.std.proofs.Common.{◌≡◌, ◌∙◌, refl, subst, sym}
-use Rattle.config_journal.specs.States.{config_of}
+use Rattle.config_opening.specs.States.{config_of}
 use Rattle.config_model.specs.Configs.{Config}
 use Rattle.engine_model.specs.Engine.{is_healthy}
 use Rattle.record_set.specs.Sets.{key_of}

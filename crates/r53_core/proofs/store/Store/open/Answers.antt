@@ -1,6 +1,6 @@
 use Rattle.std.proofs.Common.{inr, subst, sym}
-use Rattle.config_journal.specs.Holding.{Holds}
-use Rattle.config_journal.specs.States.{State as Kept}
+use Rattle.config_opening.specs.Holding.{Holds}
+use Rattle.config_opening.specs.States.{State as Kept}
 use Rattle.zone_journal.specs.Pairs.{Leaves}
 use Rattle.r53_core.proofs.store.Store.open.Goals as goal
 

@@ -1,6 +1,6 @@
 use Rattle.std.proofs.Common.{◌≡◌, ◌∙◌, ◌∷◌, ap, inl, inr, length, refl, subst, sym}
 use Rattle.check_model.specs.Checks.{check_at}
-use Rattle.config_journal.specs.States.{config_of}
+use Rattle.config_opening.specs.States.{config_of}
 use Rattle.config_model.specs.Configs.{Config}
 use Rattle.engine_model.specs.Engine.{watched_in}
 use Rattle.health_index.specs.Index.{reported}

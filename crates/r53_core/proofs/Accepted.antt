@@ -1,7 +1,7 @@
 -- A command that is ready is accepted.
 use Rattle.std.proofs.Common.{Option, None, Some}
 use Rattle.command_octets.specs.declared.commands.Command.{Command}
-use Rattle.r53_state.specs.States.{IsAccepted, IsReady, IsWorkReady, Prepared, State, config_in}
+use Rattle.config_opening.specs.Kept.{IsAccepted, IsReady, IsWorkReady, Prepared, State, config_in}
 use Rattle.zone_table.specs.Edits.{Prepared as ReadyEdit}
 
 by_work : (state : State) (command : Command) (edit : Option ReadyEdit)
