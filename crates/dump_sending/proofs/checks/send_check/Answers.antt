@@ -1,0 +1,8 @@
+use Rattle.std.proofs.Common.{◌++◌}
+use Rattle.reply_model.specs.Dump.{check_line}
+use Rattle.dump_sending.proofs.checks.send_check.Goals as goal
+
+pub returns-in-Failed-clause-passes : goal.returns-in-Failed-clause-passes
+returns-in-Failed-clause-passes g c = λ held rest text passed.
+    let it = c.args.held.now in
+    c.in-Failed.ensures.passes held (check_line it.0 it.1 ++ rest) text passed

@@ -1,0 +1,7 @@
+use Rattle.std.proofs.Common.{◌++◌}
+use Rattle.list_writing.specs.Pieces.{set_line_rest}
+use Rattle.dump_sending.proofs.sets.end_line.Goals as goal
+
+pub returns-in-Failed-clause-passes : goal.returns-in-Failed-clause-passes
+returns-in-Failed-clause-passes g c = λ held rest text passed.
+    c.in-Failed.ensures.passes held (set_line_rest ++ rest) text passed
