@@ -1,0 +1,4 @@
+mod Files
+mod Joining
+mod Loop
+mod Turns

@@ -1,0 +1,254 @@
+-- What a turn of the loop leaves.
+use Rattle.std.proofs.Common.{◌≡◌, ◌≢◌, ◌∙◌, inl, inr, ℕ, List, [], ◌∷◌, ◌++◌, Bool, true, false, Option, None, Some, ap, append-nil, arith, refl, subst, sym}
+use Rattle.std.proofs.Math.Dec.{leb-zero}
+use Rattle.std.specs.Prelude.{◌&&◌, IfSome, nat_le, not, length}
+use Rattle.config_model.specs.Configs.{Config}
+use Rattle.line_splitting.specs.Lines.{Event, Line, TooLong}
+use Rattle.line_splitting.specs.Reading.{Gives, IsOver, Reader, Took, events, is_cut}
+use Rattle.r53_io.specs.Network.{Incoming}
+use Rattle.rand_core.specs.Stream.{Stream}
+use Rattle.octets.specs.Counts.{Rose}
+use Rattle.session_loop.specs.Ending.{AllTold, EventComes, FilesOpen, First, HasCause, IsTold}
+use Rattle.session_loop.specs.Turning.{GoesOn, TurnLeaves, ended_of}
+use Rattle.session_model.specs.Replies.{memory_text, too_long_text}
+use Rattle.session_model.specs.Serving.{Datagram}
+use Rattle.session_model.specs.Sessions.{Session, begun, joined, told_alone}
+use Rattle.session_model.specs.Steps.{OctetsStep, State, Step, Surroundings}
+use Rattle.session_server.specs.Leaving.{HasCause as LineCause, ImagesOpen, Written}
+use Rattle.session_server.specs.Standing.{Server, StandsFor}
+use Rattle.session_server.specs.Taken.{Taken}
+use Rattle.session_server.specs.Taken.TheVariants as taken
+use Rattle.session_server.specs.Taking.{LineLeaves, OrMemory, PartOfOctets}
+use Rattle.whole_writing.specs.Output.{OutputOf}
+use Rattle.whole_writing.specs.declared.output.Output.{Output}
+use Rattle.whole_writing.specs.declared.output.Output.TheVariants as output
+
+-- ---- nothing was told so far
+
+none_told : (old : State) (held : List ℕ) (before : List Datagram) (out : Option (List ℕ))
+    (sent : Option (List Datagram)) → out ≡ Some held → sent ≡ Some before
+    → AllTold (begun old) held before out sent
+none_told old held before out sent tells was = record {
+  replies = tells ∙ ap Some (sym (append-nil held));
+  datagrams = was ∙ ap Some (sym (append-nil before));
+}
+
+none_first : (around : Surroundings) (lines : List Event) (old : State)
+    → First around lines old lines (begun old)
+none_first around lines old = record { done = []; choices = []; parts = refl; comes = refl }
+
+some_first : (around : Surroundings) (lines more : List Event) (old : State) → lines ≡ more
+    → First around lines old more (begun old)
+some_first around lines more old is =
+    subst (λ (l : List Event). First around lines old l (begun old)) is
+    (none_first around lines old)
+
+-- ---- turns without a line
+
+-- the source was read
+pub read : (around : Surroundings) (old new : Reader) (left : List ℕ) (after : Option (List ℕ))
+    (start : State) (server : Server) (network : Option (List Incoming)) (random : Stream)
+    (held : List ℕ) (before : List Datagram) (out : Option (List ℕ))
+    (sent : Option (List Datagram)) → Took old left new after
+    → StandsFor start server network random → out ≡ Some held → sent ≡ Some before
+    → GoesOn around old new left after start server network random held before out sent
+read around old new left after start server network random held before out sent took stands tells
+    was = record {
+      rest = _;
+      session = begun start;
+      has = took.rest;
+      first = some_first around (events old left) (events new _) start (sym took.events);
+      cut = took.is_cut;
+      told = none_told start held before out sent tells was;
+      stands = stands;
+    }
+
+module _ {D : Type 0} (images : D → List ℕ → Type 0) (a b : D) (around : Surroundings)
+    (start : State) (held : List ℕ) (before : List Datagram) (out : Option (List ℕ))
+    (sent : Option (List Datagram)) where
+  -- no line more was taken
+  pub told_now : (lines more : List Event) → lines ≡ more → out ≡ Some held → sent ≡ Some before
+      → FilesOpen images a b start.engine.config
+      → IsTold images a b around lines start more held before out sent
+  told_now lines more is tells was files = record {
+    session = begun start;
+    first = some_first around lines more start is;
+    told = none_told start held before out sent tells was;
+    files = files;
+  }
+
+pub is_whole : (r : Reader) (left : List ℕ) → r.ended ≡ true → is_cut r left ≡ false
+is_whole r left is = ap (λ (e : Bool). not e && nat_le r.budget (length left)) is
+
+pub is_more : (r : Reader) (left : List ℕ) → r.ended ≡ false → r.budget ≡ 0 → is_cut r left ≡ true
+is_more r left is none =
+    ap (λ (e : Bool). not e && nat_le r.budget (length left)) is
+    ∙ ap (λ (n : ℕ). nat_le n (length left)) none ∙ leb-zero (length left)
+
+-- ---- a line
+
+-- what comes of a line, with its choice
+comes_of : (around : Surroundings) (octets : List ℕ) (old : State) (step : Step)
+    → OrMemory (OctetsStep around octets old) old step
+    → EventComes around (Line octets) old step
+comes_of around octets old step (inl is) = (true, is)
+comes_of around octets old step (inr steps) = (false, steps)
+
+same_cut : (old new : Reader) (event : Event) (left : List ℕ) → Gives old event new
+    → is_cut new left ≡ is_cut old left
+same_cut old new event left gives =
+    ap (λ (e : Bool). not e && nat_le new.budget (length left)) gives.ended
+    ∙ ap (λ (n : ℕ). not old.ended && nat_le n (length left)) gives.budget
+
+module _ {D : Type 0} (images : D → List ℕ → Type 0) (a b : D) (around : Surroundings)
+    (old new : Reader) (left : List ℕ) (after : Option (List ℕ)) (has : after ≡ Some left)
+    (start : State) (server : Server) (network : Option (List Incoming)) (random : Stream)
+    (held : List ℕ) (before : List Datagram) (out : Option (List ℕ))
+    (sent : Option (List Datagram)) where
+  -- one step more, told whole
+  went : (event : Event) → Gives old event new → (step : Step) (choices : List Bool)
+      → First around (event ∷ events new left) start (events new left) (joined step (begun step.new))
+      → StandsFor step.new server network random → out ≡ Some (held ++ step.reply)
+      → sent ≡ Some (before ++ step.sent)
+      → GoesOn around old new left after start server network random held before out sent
+  went event gives step choices first stands was so = record {
+    rest = left;
+    session = joined step (begun step.new);
+    has = has;
+    first = subst (λ (l : List Event). First around l start (events new left)
+        (joined step (begun step.new))) (sym (gives.events left)) first;
+    cut = same_cut old new event left gives;
+    told = record {
+      replies = was ∙ ap (λ (l : List ℕ). Some (held ++ l)) (sym (append-nil step.reply));
+      datagrams = so ∙ ap (λ (l : List Datagram). Some (before ++ l)) (sym (append-nil step.sent));
+    };
+    stands = stands;
+  }
+
+  -- a part of its reply was written
+  cut_off : (event : Event) → Gives old event new → (step : Step)
+      → EventComes around event start step → OutputOf held out output.Failed step.reply
+      → sent ≡ Some (before ++ step.sent) → FilesOpen images a b step.new.engine.config
+      → TurnLeaves (ended_of taken.WriteFault) images a b around old new left after start server
+      network random held before out sent
+  cut_off event gives step comes was so files = record {
+    session = begun start;
+    event = event;
+    more = events new left;
+    step = step;
+    first = some_first around (events old left) (event ∷ events new left) start (gives.events left);
+    comes = comes;
+    reply = subst (λ (l : List ℕ). OutputOf l out output.Failed step.reply) (sym (append-nil held))
+        was;
+    datagrams = so ∙ ap (λ (l : List Datagram). Some (l ++ step.sent)) (sym (append-nil before));
+    files = files;
+  }
+
+  pub line_turn : (octets : List ℕ) → Gives old (Line octets) new → (Given : Type 0) → Given
+      → (answer : Taken)
+      → ((now : State) → answer ≢ taken.DiskFault → StandsFor now server network random
+      → FilesOpen images a b now.engine.config)
+      → (answer ≡ taken.LinkFault → FilesOpen images a b start.engine.config)
+      → LineLeaves answer (OctetsStep around octets start)
+      (PartOfOctets around octets start before network sent) Given
+      (ImagesOpen images a b start.engine.config) start
+      (λ now. StandsFor now server network random) held before out sent
+      → TurnLeaves (ended_of answer) images a b around old new left after start server network random
+      held before out sent
+  line_turn octets gives Given given taken.Replied files still (step, came, here, was, so) =
+      let comes = comes_of around octets start step came in
+      went (Line octets) gives step (comes.0 ∷ []) (record {
+        done = Line octets ∷ [];
+        choices = comes.0 ∷ [];
+        parts = refl;
+        comes = (step, begun step.new, comes.1, refl, refl);
+      }) here was so
+  line_turn octets gives Given given taken.WriteFault files still (step, came, here, was, so) =
+      cut_off (Line octets) gives step (comes_of around octets start step came) was so
+      (files step.new (λ e. absurd (Prim.cc)) here)
+  line_turn octets gives Given given taken.DiskFault files still (was, so, torn) =
+      let t = torn given in
+      record {
+        session = begun start;
+        octets = octets;
+        more = events new left;
+        step = t.0;
+        first = some_first around (events old left) (Line octets ∷ events new left) start
+            (gives.events left);
+        told = none_told start held before out sent was so;
+        steps = t.1;
+        files = t.2;
+      }
+  line_turn octets gives Given given taken.LinkFault files still (was, part) = record {
+    session = begun start;
+    octets = octets;
+    more = events new left;
+    first = some_first around (events old left) (Line octets ∷ events new left) start
+        (gives.events left);
+    replies = was ∙ ap Some (sym (append-nil held));
+    part = subst (λ (l : List Datagram). PartOfOctets around octets start l network sent)
+        (sym (append-nil before)) part;
+    files = still refl;
+  }
+
+  -- a line that is too long
+  pub long_turn : Gives old TooLong new → (answer : Taken)
+      → StandsFor start server network random → sent ≡ Some before
+      → FilesOpen images a b start.engine.config → Written answer held out too_long_text
+      → TurnLeaves (ended_of answer) images a b around old new left after start server network random
+      held before out sent
+  long_turn gives taken.Replied stands was files told =
+      went TooLong gives (told_alone too_long_text start) [] (record {
+        done = TooLong ∷ [];
+        choices = [];
+        parts = refl;
+        comes = (begun start, refl, refl);
+      }) stands told (was ∙ ap Some (sym (append-nil before)))
+  long_turn gives taken.WriteFault stands was files told =
+      cut_off TooLong gives (told_alone too_long_text start) refl told
+      (was ∙ ap Some (sym (append-nil before))) files
+  long_turn gives taken.DiskFault stands was files told = absurd told
+  long_turn gives taken.LinkFault stands was files told = absurd told
+
+-- ---- faults
+
+pub went_whole : (answer : Taken) → ended_of answer ≡ None → answer ≢ taken.DiskFault
+went_whole taken.Replied is e = absurd (Prim.cc)
+went_whole taken.WriteFault is e = absurd (Prim.cc)
+went_whole taken.DiskFault is e = absurd (Prim.cc)
+went_whole taken.LinkFault is e = absurd (Prim.cc)
+
+pub link_whole : (answer : Taken) → answer ≡ taken.LinkFault → answer ≢ taken.DiskFault
+link_whole answer is e = absurd (Prim.cc)
+
+none_rose : Rose 0 0 → ⊥
+none_rose c = omega (arith, c)
+
+pub cause_of : (answer : Taken)
+    (in_old in_new a_old a_new b_old b_new link_old link_new out_old out_new : ℕ)
+    → LineCause answer a_old a_new b_old b_new link_old link_new out_old out_new
+    → IfSome (ended_of answer) (λ how. HasCause how in_old in_new a_old a_new b_old b_new link_old
+    link_new out_old out_new)
+cause_of taken.Replied in_old in_new a_old a_new b_old b_new link_old link_new out_old out_new c = tt
+cause_of taken.WriteFault in_old in_new a_old a_new b_old b_new link_old link_new out_old out_new c =
+    c
+cause_of taken.DiskFault in_old in_new a_old a_new b_old b_new link_old link_new out_old out_new c = c
+cause_of taken.LinkFault in_old in_new a_old a_new b_old b_new link_old link_new out_old out_new c = c
+
+-- of a line that asks the output alone
+pub long_cause : (answer : Taken)
+    (in_old in_new a_old a_new b_old b_new link_old link_new out_old out_new : ℕ)
+    → LineCause answer 0 0 0 0 0 0 out_old out_new
+    → IfSome (ended_of answer) (λ how. HasCause how in_old in_new a_old a_new b_old b_new link_old
+    link_new out_old out_new)
+long_cause taken.Replied in_old in_new a_old a_new b_old b_new link_old link_new out_old out_new c = tt
+long_cause taken.WriteFault in_old in_new a_old a_new b_old b_new link_old link_new out_old out_new c =
+    c
+long_cause taken.DiskFault in_old in_new a_old a_new b_old b_new link_old link_new out_old out_new
+    (inl c) =
+    absurd (none_rose c)
+long_cause taken.DiskFault in_old in_new a_old a_new b_old b_new link_old link_new out_old out_new
+    (inr c) =
+    absurd (none_rose c)
+long_cause taken.LinkFault in_old in_new a_old a_new b_old b_new link_old link_new out_old out_new c =
+    absurd (none_rose c)

@@ -1,0 +1,120 @@
+use Rattle.std.proofs.Common.{◌≡◌, ◌∙◌, ℕ, List, [], Option, None, Some, ap, inl, inr, refl, subst, sym}
+use Rattle.line_splitting.specs.Lines.{Line}
+use Rattle.line_splitting.specs.Reading.{Gives, events}
+use Rattle.session_loop.proofs.Files.{files_open}
+use Rattle.session_loop.proofs.Turns.{cause_of, is_more, is_whole, line_turn, link_whole, long_cause, long_turn, read, told_now, went_whole}
+use Rattle.session_loop.specs.Ending.{FilesOpen, HasCause}
+use Rattle.session_loop.specs.Turning.{TurnLeaves}
+use Rattle.session_loop.specs.declared.ended.Ended.{Ended}
+use Rattle.session_server.specs.Holding.{Holds}
+use Rattle.session_server.specs.Journaled.{State as Kept, config_of}
+use Rattle.session_server.specs.Standing.{Server, StandsFor}
+use Rattle.session_server.specs.Taken.{Taken}
+use Rattle.zone_journal.specs.Pairs.{Leaves}
+use Rattle.std.specs.Prelude.{IfSome}
+use Rattle.session_loop.proofs.turning.take_next.Goals as goal
+
+pub returns-in-Line-clause-leaves : goal.returns-in-Line-clause-leaves
+returns-in-Line-clause-leaves g c = λ around old left held before same stands files ports has tells was.
+    subst (λ (r : Option Ended). TurnLeaves r g.D.Disk.images c.take_line.new.a c.take_line.new.b around c.args.reader.now c.next.new.self left
+    (g.S.Source.left c.next.new.source) old c.take_line.new.self (g.L.Link.coming c.take_line.new.link) (g.R.Rng.stream c.take_line.new.words) held before
+    (g.K.Sink.held c.take_line.new.out) (g.L.Link.sent c.take_line.new.link))
+    (sym c.ended_of.ensures)
+    (line_turn g.D.Disk.images c.take_line.new.a c.take_line.new.b around c.args.reader.now c.next.new.self left
+    (g.S.Source.left c.next.new.source) (c.in-Line.ensures.leaves left has) old c.take_line.new.self
+    (g.L.Link.coming c.take_line.new.link) (g.R.Rng.stream c.take_line.new.words) held before (g.K.Sink.held c.take_line.new.out)
+    (g.L.Link.sent c.take_line.new.link) c.line.result.now
+    (subst (λ (l : List ℕ). Gives c.args.reader.now (Line l) c.next.new.self) (sym c.line.ensures)
+    c.in-Line.ensures.answers)
+    (Leaves g.D.Disk.reading c.args.a.now c.args.b.now (Holds c.args.server.now.store.kept)) files
+    c.take_line.result
+    (λ now whole here. files_open g.D.Disk.reading g.D.Disk.images c.standing_opens.ensures c.take_line.new.self.store.kept c.take_line.new.a c.take_line.new.b
+    (c.take_line.ensures.stands whole) (c.take_line.ensures.holds files whole) now.engine.config
+    here.store.config)
+    (λ is. files_open g.D.Disk.reading g.D.Disk.images c.standing_opens.ensures c.take_line.new.self.store.kept c.take_line.new.a c.take_line.new.b
+    (c.take_line.ensures.stands (link_whole c.take_line.result is))
+    (c.take_line.ensures.holds files (link_whole c.take_line.result is)) old.engine.config
+    (stands.store.config ∙ ap (λ (k : Kept). config_of k) (sym (c.take_line.ensures.kept is))))
+    (c.take_line.ensures.leaves around old held before same stands ports tells was))
+
+pub returns-in-Line-clause-stands : goal.returns-in-Line-clause-stands
+returns-in-Line-clause-stands g c = λ is. c.take_line.ensures.stands
+    (went_whole c.take_line.result (sym c.ended_of.ensures ∙ is))
+
+pub returns-in-Line-clause-holds : goal.returns-in-Line-clause-holds
+returns-in-Line-clause-holds g c = λ held is. c.take_line.ensures.holds held
+    (went_whole c.take_line.result (sym c.ended_of.ensures ∙ is))
+
+pub returns-in-Line-clause-cause : goal.returns-in-Line-clause-cause
+returns-in-Line-clause-cause g c =
+    subst (λ (r : Option Ended). IfSome r (λ how. HasCause how (g.S.Source.faults c.args.input.now)
+    (g.S.Source.faults c.next.new.source) (g.D.Disk.faults c.args.a.now) (g.D.Disk.faults c.take_line.new.a)
+    (g.D.Disk.faults c.args.b.now) (g.D.Disk.faults c.take_line.new.b) (g.L.Link.faults c.args.link.now)
+    (g.L.Link.faults c.take_line.new.link) (g.K.Sink.faults c.args.out.now) (g.K.Sink.faults c.take_line.new.out)))
+    (sym c.ended_of.ensures)
+    (cause_of c.take_line.result (g.S.Source.faults c.args.input.now)
+    (g.S.Source.faults c.next.new.source) (g.D.Disk.faults c.args.a.now) (g.D.Disk.faults c.take_line.new.a)
+    (g.D.Disk.faults c.args.b.now) (g.D.Disk.faults c.take_line.new.b) (g.L.Link.faults c.args.link.now)
+    (g.L.Link.faults c.take_line.new.link) (g.K.Sink.faults c.args.out.now) (g.K.Sink.faults c.take_line.new.out)
+    c.take_line.ensures.cause)
+
+pub returns-in-TooLong-clause-leaves : goal.returns-in-TooLong-clause-leaves
+returns-in-TooLong-clause-leaves g c = λ around old left held before same stands files ports has tells was.
+    subst (λ (r : Option Ended). TurnLeaves r g.D.Disk.images c.args.a.now c.args.b.now around c.args.reader.now c.next.new.self left
+    (g.S.Source.left c.next.new.source) old c.refuse_line.new.self (g.L.Link.coming c.args.link.now) (g.R.Rng.stream c.args.words.now) held before
+    (g.K.Sink.held c.refuse_line.new.out) (g.L.Link.sent c.args.link.now))
+    (sym c.ended_of-in-TooLong.ensures)
+    (long_turn g.D.Disk.images c.args.a.now c.args.b.now around c.args.reader.now c.next.new.self left
+    (g.S.Source.left c.next.new.source) (c.in-TooLong.ensures.leaves left has) old c.refuse_line.new.self
+    (g.L.Link.coming c.args.link.now) (g.R.Rng.stream c.args.words.now) held before
+    (g.K.Sink.held c.refuse_line.new.out) (g.L.Link.sent c.args.link.now) c.in-TooLong.ensures.answers
+    c.refuse_line.result
+    (subst (λ (s : Server). StandsFor old s (g.L.Link.coming c.args.link.now) (g.R.Rng.stream c.args.words.now)) (sym c.refuse_line.ensures.same) stands)
+    was
+    (files_open g.D.Disk.reading g.D.Disk.images c.standing_opens.ensures c.args.server.now.store.kept c.args.a.now c.args.b.now c.requires.stands files old.engine.config stands.store.config)
+    (c.refuse_line.ensures.writes held tells))
+
+pub returns-in-TooLong-clause-cause : goal.returns-in-TooLong-clause-cause
+returns-in-TooLong-clause-cause g c =
+    subst (λ (r : Option Ended). IfSome r (λ how. HasCause how (g.S.Source.faults c.args.input.now)
+    (g.S.Source.faults c.next.new.source) (g.D.Disk.faults c.args.a.now) (g.D.Disk.faults c.args.a.now)
+    (g.D.Disk.faults c.args.b.now) (g.D.Disk.faults c.args.b.now) (g.L.Link.faults c.args.link.now)
+    (g.L.Link.faults c.args.link.now) (g.K.Sink.faults c.args.out.now) (g.K.Sink.faults c.refuse_line.new.out)))
+    (sym c.ended_of-in-TooLong.ensures)
+    (long_cause c.refuse_line.result (g.S.Source.faults c.args.input.now)
+    (g.S.Source.faults c.next.new.source) (g.D.Disk.faults c.args.a.now)
+    (g.D.Disk.faults c.args.a.now) (g.D.Disk.faults c.args.b.now) (g.D.Disk.faults c.args.b.now)
+    (g.L.Link.faults c.args.link.now) (g.L.Link.faults c.args.link.now)
+    (g.K.Sink.faults c.args.out.now) (g.K.Sink.faults c.refuse_line.new.out) c.refuse_line.ensures.cause)
+
+pub returns-in-Read-clause-leaves : goal.returns-in-Read-clause-leaves
+returns-in-Read-clause-leaves g c = λ around old left held before same stands files ports has tells was.
+    read around c.args.reader.now c.next.new.self left (g.S.Source.left c.next.new.source) old
+    c.args.server.now (g.L.Link.coming c.args.link.now) (g.R.Rng.stream c.args.words.now) held before
+    (g.K.Sink.held c.args.out.now) (g.L.Link.sent c.args.link.now)
+    (c.in-Read.ensures.leaves left has) stands tells was
+
+pub returns-in-Failed-clause-leaves : goal.returns-in-Failed-clause-leaves
+returns-in-Failed-clause-leaves g c = λ around old left held before same stands files ports has tells was. (
+  events c.args.reader.now left,
+  (told_now g.D.Disk.images c.args.a.now c.args.b.now around old held before (g.K.Sink.held c.args.out.now)
+      (g.L.Link.sent c.args.link.now) (events c.args.reader.now left) (events c.args.reader.now left) refl tells was
+      (files_open g.D.Disk.reading g.D.Disk.images c.standing_opens.ensures c.args.server.now.store.kept c.args.a.now c.args.b.now c.requires.stands files old.engine.config stands.store.config)),
+)
+
+pub returns-in-Ended-clause-leaves : goal.returns-in-Ended-clause-leaves
+returns-in-Ended-clause-leaves g c = λ around old left held before same stands files ports has tells was. (
+  is_whole c.args.reader.now left c.in-Ended.ensures.answers.1,
+  (told_now g.D.Disk.images c.args.a.now c.args.b.now around old held before (g.K.Sink.held c.args.out.now)
+      (g.L.Link.sent c.args.link.now) (events c.args.reader.now left) [] (c.in-Ended.ensures.answers.0.none_left left) tells was
+      (files_open g.D.Disk.reading g.D.Disk.images c.standing_opens.ensures c.args.server.now.store.kept c.args.a.now c.args.b.now c.requires.stands files old.engine.config stands.store.config)),
+)
+
+pub returns-in-InputTooLong-clause-leaves : goal.returns-in-InputTooLong-clause-leaves
+returns-in-InputTooLong-clause-leaves g c = λ around old left held before same stands files ports has tells was. (
+  is_more c.args.reader.now left c.in-InputTooLong.ensures.answers.1
+      c.in-InputTooLong.ensures.answers.2,
+  (told_now g.D.Disk.images c.args.a.now c.args.b.now around old held before (g.K.Sink.held c.args.out.now)
+      (g.L.Link.sent c.args.link.now) (events c.args.reader.now left) [] (c.in-InputTooLong.ensures.answers.0.none_left left) tells was
+      (files_open g.D.Disk.reading g.D.Disk.images c.standing_opens.ensures c.args.server.now.store.kept c.args.a.now c.args.b.now c.requires.stands files old.engine.config stands.store.config)),
+)

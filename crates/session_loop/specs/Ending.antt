@@ -1,0 +1,136 @@
+-- How lines end, and what they leave then: what was written and sent, and what the files open to.
+--
+-- The lines that were taken are always the first of the input's, one after another, each whole; the
+-- commands among them were accepted or refused in that order. So where the files open to where a
+-- session over them stands, they hold each command that was acknowledged, and besides at most the one
+-- in hand.
+use Rattle.std.specs.Prelude.{◌≡◌, ◌⊎◌, ℕ, List, [], ◌∷◌, ◌++◌, Bool, true, false, Option, Some, ⊤}
+use Rattle.config_model.specs.Configs.{Config}
+use Rattle.line_splitting.specs.Lines.{Event, Line, TooLong}
+use Rattle.octets.specs.Counts.{Rose}
+use Rattle.r53_io.specs.Network.{Incoming}
+use Rattle.session_loop.specs.declared.ended.Ended.{Ended}
+use Rattle.session_loop.specs.declared.ended.Ended.TheVariants as ended
+use Rattle.session_model.specs.Replies.{too_long_text}
+use Rattle.session_model.specs.Serving.{Datagram}
+use Rattle.session_model.specs.Sessions.{Comes, LineComes, Session, told_alone}
+use Rattle.session_model.specs.Steps.{OctetsStep, State, Step, Surroundings}
+use Rattle.session_server.specs.Leaving.{ImagesOpen}
+use Rattle.session_server.specs.Taking.{PartOfOctets}
+use Rattle.store_model.specs.Opening.{OpensConfig}
+use Rattle.whole_writing.specs.Output.{OutputOf}
+use Rattle.whole_writing.specs.declared.output.Output.TheVariants as output
+
+-- A session over the first of some lines, with the others to come.
+pub record First (around : Surroundings) (lines : List Event) (start : State) (more : List Event)
+    (session : Session) : Type 0 where
+  pub done : List Event
+  pub choices : List Bool
+  pub parts : lines ≡ done ++ more
+  pub comes : Comes around done choices start session
+
+-- All replies of a session were written, and its datagrams sent, behind what was before.
+pub record AllTold (session : Session) (held : List ℕ) (before : List Datagram)
+    (out : Option (List ℕ)) (sent : Option (List Datagram)) : Type 0 where
+  pub replies : out ≡ Some (held ++ session.output)
+  pub datagrams : sent ≡ Some (before ++ session.sent)
+
+-- Each pair of images opens to a configuration.
+abbrev pub FilesOpen : {D : Type 0} → (images : D → List ℕ → Type 0) → (a b : D) → Config → Type 0
+FilesOpen images a b config =
+    (x y : List ℕ) → images a x → images b y → OpensConfig x y config
+
+-- what comes of a line that may be too long
+abbrev pub EventComes : Surroundings → Event → (old : State) → Step → Type 0
+EventComes around (Line octets) old step =
+    (wanted : Bool) × LineComes around octets wanted old step
+EventComes around TooLong old step = step ≡ told_alone too_long_text old
+
+-- ---- by the answer
+
+-- A session over the first lines, all told, to which the files open.
+pub record IsTold {D : Type 0} (images : D → List ℕ → Type 0) (a b : D) (around : Surroundings)
+    (lines : List Event) (start : State) (more : List Event) (held : List ℕ)
+    (before : List Datagram) (out : Option (List ℕ)) (sent : Option (List Datagram)) : Type 0 where
+  pub session : Session
+  pub first : First around lines start more session
+  pub told : AllTold session held before out sent
+  pub files : FilesOpen images a b session.new.engine.config
+
+-- Behind a session over the first lines one more was taken, of whose reply a part was written that
+-- isn't the whole; to where it stands then the files open.
+pub record IsCut {D : Type 0} (images : D → List ℕ → Type 0) (a b : D) (around : Surroundings)
+    (lines : List Event) (start : State) (held : List ℕ) (before : List Datagram)
+    (out : Option (List ℕ)) (sent : Option (List Datagram)) : Type 0 where
+  pub session : Session
+  pub event : Event
+  pub more : List Event
+  pub step : Step
+  pub first : First around lines start (event ∷ more) session
+  pub comes : EventComes around event session.new step
+  pub reply : OutputOf (held ++ session.output) out output.Failed step.reply
+  pub datagrams : sent ≡ Some (before ++ session.sent ++ step.sent)
+  pub files : FilesOpen images a b step.new.engine.config
+
+-- Behind a session over the first lines, all told, a disk failed with the next: the files open to
+-- where the session stands, or to where it would with that line.
+pub record IsTorn {D : Type 0} (images : D → List ℕ → Type 0) (a b : D) (around : Surroundings)
+    (lines : List Event) (start : State) (held : List ℕ) (before : List Datagram)
+    (out : Option (List ℕ)) (sent : Option (List Datagram)) : Type 0 where
+  pub session : Session
+  pub octets : List ℕ
+  pub more : List Event
+  pub step : Step
+  pub first : First around lines start (Line octets ∷ more) session
+  pub told : AllTold session held before out sent
+  pub steps : OctetsStep around octets session.new step
+  pub files : ImagesOpen images a b session.new.engine.config step.new.engine.config
+
+-- Behind a session over the first lines, all told, the network failed with the next, of which a part
+-- may have been sent; to where the session stands the files open.
+pub record IsUnsent {D : Type 0} (images : D → List ℕ → Type 0) (a b : D) (around : Surroundings)
+    (lines : List Event) (start : State) (held : List ℕ) (before : List Datagram)
+    (network : Option (List Incoming)) (out : Option (List ℕ)) (sent : Option (List Datagram))
+    : Type 0 where
+  pub session : Session
+  pub octets : List ℕ
+  pub more : List Event
+  pub first : First around lines start (Line octets ∷ more) session
+  pub replies : out ≡ Some (held ++ session.output)
+  pub part : PartOfOctets around octets session.new (before ++ session.sent) network sent
+  pub files : FilesOpen images a b session.new.engine.config
+
+-- What lines leave, by how they ended; is_cut tells whether there is more input than the limit.
+abbrev pub Ends : {D : Type 0} → Ended → (images : D → List ℕ → Type 0) → (a b : D)
+    → Surroundings → (lines : List Event) → (is_cut : Bool) → (start : State) → (held : List ℕ)
+    → (before : List Datagram) → (network : Option (List Incoming)) → (out : Option (List ℕ))
+    → (sent : Option (List Datagram)) → Type 0
+Ends ended.Done images a b around lines is_cut start held before network out sent =
+    (is_cut ≡ false) × IsTold images a b around lines start [] held before out sent
+Ends ended.InputTooLong images a b around lines is_cut start held before network out sent =
+    (is_cut ≡ true) × IsTold images a b around lines start [] held before out sent
+Ends ended.ReadFault images a b around lines is_cut start held before network out sent =
+    (more : List Event) × IsTold images a b around lines start more held before out sent
+Ends ended.WriteFault images a b around lines is_cut start held before network out sent =
+    IsCut images a b around lines start held before out sent
+Ends ended.DiskFault images a b around lines is_cut start held before network out sent =
+    IsTorn images a b around lines start held before out sent
+Ends ended.LinkFault images a b around lines is_cut start held before network out sent =
+    IsUnsent images a b around lines start held before network out sent
+
+-- ---- faults
+
+-- Each fault comes only where the count of what failed rose.
+abbrev pub HasCause : Ended → (in_old in_new a_old a_new b_old b_new link_old link_new out_old
+    out_new : ℕ) → Type 0
+HasCause ended.Done in_old in_new a_old a_new b_old b_new link_old link_new out_old out_new = ⊤
+HasCause ended.InputTooLong in_old in_new a_old a_new b_old b_new link_old link_new out_old out_new =
+    ⊤
+HasCause ended.ReadFault in_old in_new a_old a_new b_old b_new link_old link_new out_old out_new =
+    Rose in_old in_new
+HasCause ended.WriteFault in_old in_new a_old a_new b_old b_new link_old link_new out_old out_new =
+    Rose out_old out_new
+HasCause ended.DiskFault in_old in_new a_old a_new b_old b_new link_old link_new out_old out_new =
+    Rose a_old a_new ⊎ Rose b_old b_new
+HasCause ended.LinkFault in_old in_new a_old a_new b_old b_new link_old link_new out_old out_new =
+    Rose link_old link_new

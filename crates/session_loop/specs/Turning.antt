@@ -1,0 +1,48 @@
+-- What a turn of the loop leaves.
+use Rattle.std.specs.Prelude.{◌≡◌, ℕ, List, Option, None, Some}
+use Rattle.line_splitting.specs.Reading.{Reader, events, is_cut}
+use Rattle.r53_io.specs.Network.{Incoming}
+use Rattle.rand_core.specs.Stream.{Stream}
+use Rattle.session_loop.specs.Ending.{AllTold, Ends, First}
+use Rattle.session_loop.specs.declared.ended.Ended.{Ended}
+use Rattle.session_loop.specs.declared.ended.Ended.TheVariants as ended
+use Rattle.session_model.specs.Serving.{Datagram}
+use Rattle.session_model.specs.Sessions.{Session}
+use Rattle.session_model.specs.Steps.{State, Surroundings}
+use Rattle.session_server.specs.Standing.{Server, StandsFor}
+use Rattle.session_server.specs.Taken.{Taken}
+use Rattle.session_server.specs.Taken.TheVariants as taken
+
+-- how the lines ended with a line, if they did
+abbrev pub ended_of : Taken → Option Ended
+ended_of taken.Replied = None
+ended_of taken.WriteFault = Some ended.WriteFault
+ended_of taken.DiskFault = Some ended.DiskFault
+ended_of taken.LinkFault = Some ended.LinkFault
+
+-- A session over the first lines that a reader had to come, of which it has the others to come still,
+-- all told; and the server stands where it does.
+pub record GoesOn (around : Surroundings) (old new : Reader) (left : List ℕ)
+    (after : Option (List ℕ)) (start : State) (server : Server) (network : Option (List Incoming))
+    (random : Stream) (held : List ℕ) (before : List Datagram) (out : Option (List ℕ))
+    (sent : Option (List Datagram)) : Type 0 where
+  pub rest : List ℕ
+  pub session : Session
+  pub has : after ≡ Some rest
+  pub first : First around (events old left) start (events new rest) session
+  pub cut : is_cut new rest ≡ is_cut old left
+  pub told : AllTold session held before out sent
+  pub stands : StandsFor session.new server network random
+
+abbrev pub TurnLeaves : {D : Type 0} → Option Ended → (images : D → List ℕ → Type 0) → (a b : D)
+    → Surroundings → (old new : Reader) → (left : List ℕ) → (after : Option (List ℕ))
+    → (start : State) → Server → (network : Option (List Incoming)) → (random : Stream)
+    → (held : List ℕ) → (before : List Datagram) → (out : Option (List ℕ))
+    → (sent : Option (List Datagram)) → Type 0
+TurnLeaves None images a b around old new left after start server network random held before out
+    sent =
+    GoesOn around old new left after start server network random held before out sent
+TurnLeaves (Some ended) images a b around old new left after start server network random held
+    before out sent =
+    Ends ended images a b around (events old left) (is_cut old left) start held before network out
+    sent

@@ -1,0 +1,179 @@
+-- A session begins where its store was opened.
+use Rattle.std.proofs.Common.{◌≡◌, ◌∙◌, ℕ, List, Bool, Option, None, Some, Result, Ok, Err, ◌⊎◌, false, ap, refl, subst, sym}
+use Rattle.std.specs.Prelude.{⊤}
+use Rattle.line_splitting.specs.Lines.{Event, input_lines, is_too_long}
+use Rattle.line_splitting.specs.Reading.{FreshReader, Reader, events, fresh, is_cut}
+use Rattle.session_loop.specs.Holding.{Holds}
+use Rattle.session_loop.specs.Journaled.{State as Kept}
+use Rattle.session_loop.specs.Standing.{Server, StandsFor}
+use Rattle.session_loop.specs.Stores.{StandsFor as StoreStandsFor, opened}
+use Rattle.r53_io.specs.Network.{Incoming}
+use Rattle.rand_core.specs.Stream.{Stream}
+use Rattle.session_model.specs.Steps.{State}
+use Rattle.geo_latency.specs.declared.tables.Tables.{Tables}
+use Rattle.session_model.specs.Serving.{Datagram}
+use Rattle.octets.specs.Counts.{Rose}
+use Rattle.session_run.specs.Running.{Given, HasCauseOf, IsBeginning, RunLeaves, SessionLeaves, Still}
+use Rattle.session_run.specs.Running.{IfUntabled, UnlessEnded, unopened, unread}
+use Rattle.session_run.specs.declared.ran.Ran.{Ran}
+use Rattle.session_run.specs.declared.ran.Ran.TheVariants as ran
+use Rattle.table_lines.specs.Input.{Reads, tables_of}
+use Rattle.table_lines.specs.declared.reading.TablesFault.{TablesFault}
+use Rattle.table_lines.specs.declared.reading.TablesFault.TheVariants as tables
+use Rattle.store_model.specs.Laws.{StandingPlace}
+use Rattle.store_model.specs.Opening.{IsNoStore, OpensAs, OpensConfig}
+use Rattle.zone_journal.specs.Pairs.{Leaves}
+use Rattle.zone_journal.specs.declared.answers.OpenFault.{OpenFault}
+use Rattle.zone_journal.specs.declared.answers.OpenFault.TheVariants as fault
+use Rattle.zone_journal.specs.declared.answers.Side.{Side}
+use Rattle.zone_journal.specs.Standing.{StandsOn}
+
+some_same : {X : Type 0} {x y : X} → Some x ≡ Some y → x ≡ y
+some_same e = cc
+
+none_planned : (kept : Kept) → kept.journal.plan ≡ None → (opened kept).journal.plan ≡ None
+none_planned kept idle = cc
+
+abbrev pub beginning : Given → Kept → State
+beginning given kept = record {
+  engine = opened kept;
+  bound = false;
+  arrivals = given.arrivals;
+  words = given.words;
+}
+
+pub is_beginning : {D : Type 0} (reading : D → Option (List ℕ)) (images : D → List ℕ → Type 0)
+    → StandingPlace reading images → (given : Given) (kept : Kept) (a b : D)
+    → StandsOn reading images kept.journal a b → Leaves reading a b (Holds kept)
+    → reading a ≡ Some given.x → reading b ≡ Some given.y → kept.journal.plan ≡ None
+    → IsBeginning given (beginning given kept)
+is_beginning reading images law given kept a b stands leaves x_is y_is idle =
+    let opens = subst (λ (y : List ℕ). OpensAs given.x y kept.journal.generation leaves.has.snapshot
+    leaves.has.entries (opened kept).config) (some_same (sym leaves.b_reads ∙ y_is))
+    (subst (λ (x : List ℕ). OpensAs x leaves.y kept.journal.generation leaves.has.snapshot
+    leaves.has.entries (opened kept).config) (some_same (sym leaves.a_reads ∙ x_is))
+    leaves.has.opens) in
+    record {
+      config = record {
+        generation = kept.journal.generation;
+        snapshot = leaves.has.snapshot;
+        entries = leaves.has.entries;
+        opens = opens;
+      };
+      shape = (law kept.journal a b given.x given.y kept.journal.generation leaves.has.snapshot
+          leaves.has.entries stands x_is y_is opens.opens).3;
+      plan = none_planned kept idle;
+      reports = refl;
+      bound = refl;
+      coming = refl;
+      random = refl;
+    }
+
+pub stands_for : (given : Given) (kept : Kept) (server : Server)
+    (network : Option (List Incoming)) (random : Stream)
+    → StoreStandsFor (opened kept) server.store → server.bound ≡ false
+    → network ≡ Some given.arrivals → random ≡ given.words
+    → StandsFor (beginning given kept) server network random
+stands_for given kept server network random stands unbound coming words = record {
+  store = stands;
+  bound = sym unbound;
+  coming = coming;
+  words = sym words;
+}
+
+-- a reader that has read nothing has the lines of its whole input to come
+pub from_fresh : FreshReader → (reader : Reader) → reader ≡ fresh → (left : List ℕ)
+    (P : List Event → Bool → Type 0) → P (events reader left) (is_cut reader left)
+    → P (input_lines left) (is_too_long left)
+from_fresh law reader is left P has =
+    subst (λ (cut : Bool). P (input_lines left) cut) (ap (λ (r : Reader). is_cut r left) is ∙ (law left).1)
+    (subst (λ (l : List Event). P l (is_cut reader left))
+    (ap (λ (r : Reader). events r left) is ∙ (law left).0) has)
+
+-- once the tables are read
+module _ {D : Type 0} (images : D → List ℕ → Type 0) (a b : D) (given : Given) (tables : Tables)
+    (network : Option (List Incoming)) (out : Option (List ℕ)) (sent : Option (List Datagram))
+    (is : tables_of given.rows ≡ Ok tables) where
+  pub with_tables : (answer : Ran)
+      → SessionLeaves answer images a b given tables network out sent
+      → RunLeaves answer images a b given network out sent
+  with_tables (ran.BadTables number) leaves = absurd leaves
+  with_tables ran.TablesFault leaves = absurd leaves
+  with_tables ran.TablesTooLong leaves = absurd leaves
+  with_tables (ran.NotAStore side place) leaves = (tables, is, leaves)
+  with_tables ran.OpeningFault leaves = (tables, is, leaves)
+  with_tables ran.OutOfMemory leaves = leaves
+  with_tables (ran.Ended how) leaves = (tables, is, leaves)
+
+-- what is told of a place where the files are no store
+abbrev pub place_told : OpenFault → (P : Side → ℕ → Type 0) → Type 0
+place_told (fault.NotAStore side place) P = P side place
+place_told fault.DiskFault P = ⊤
+place_told fault.OutOfMemory P = ⊤
+
+-- ---- no lines were taken
+
+module _ {D : Type 0} (images : D → List ℕ → Type 0) (a b : D) (given : Given)
+    (network : Option (List Incoming)) (out : Option (List ℕ)) (sent : Option (List Datagram))
+    (still : Still given out sent) where
+  pub not_read : (after : Option (List ℕ)) (f : TablesFault) → Reads given.rows after (Err f)
+      → RunLeaves (unread f) images a b given network out sent
+  not_read after (tables.Bad number) reads = (reads, still)
+  not_read after tables.ReadFault reads = still
+  not_read after tables.TooLong reads = (reads.0, still)
+  not_read after tables.OutOfMemory reads = still
+
+  pub not_opened : (rows : Tables) (f : OpenFault) → place_told f (IsNoStore given.x given.y)
+      → SessionLeaves (unopened f) images a b given rows network out sent
+  not_opened rows (fault.NotAStore side place) told = (told, still)
+  not_opened rows fault.DiskFault told = still
+  not_opened rows fault.OutOfMemory told = still
+
+pub without_tables : (f : TablesFault) (P : Type 0) → P → UnlessEnded (unread f) P
+without_tables (tables.Bad number) P p = p
+without_tables tables.ReadFault P p = p
+without_tables tables.TooLong P p = p
+without_tables tables.OutOfMemory P p = p
+
+pub without_store : (f : OpenFault) (P : Type 0) → P → UnlessEnded (unopened f) P
+without_store (fault.NotAStore side place) P p = p
+without_store fault.DiskFault P p = p
+without_store fault.OutOfMemory P p = p
+
+module _ (in_old in_new tables_old tables_new a_old a_new b_old b_new link_old link_new out_old
+    out_new : ℕ) where
+  pub unread_cause : (f : TablesFault) → (f ≡ tables.ReadFault → Rose tables_old tables_new)
+      → HasCauseOf (unread f) in_old in_new tables_old tables_new a_old a_new b_old b_new link_old
+      link_new out_old out_new
+  unread_cause (tables.Bad number) rose = tt
+  unread_cause tables.ReadFault rose = rose refl
+  unread_cause tables.TooLong rose = tt
+  unread_cause tables.OutOfMemory rose = tt
+
+  pub unopened_cause : (f : OpenFault)
+      → (f ≡ fault.DiskFault → Rose a_old a_new ⊎ Rose b_old b_new)
+      → HasCauseOf (unopened f) in_old in_new tables_old tables_new a_old a_new b_old b_new link_old
+      link_new out_old out_new
+  unopened_cause (fault.NotAStore side place) rose = tt
+  unopened_cause fault.DiskFault rose = rose refl
+  unopened_cause fault.OutOfMemory rose = tt
+
+pub is_untabled : (f : TablesFault) (P : Type 0) → P → IfUntabled (unread f) P
+is_untabled (tables.Bad number) P p = p
+is_untabled tables.ReadFault P p = p
+is_untabled tables.TooLong P p = p
+is_untabled tables.OutOfMemory P p = tt
+
+pub is_tabled : (f : OpenFault) (P : Type 0) → IfUntabled (unopened f) P
+is_tabled (fault.NotAStore side place) P = tt
+is_tabled fault.DiskFault P = tt
+is_tabled fault.OutOfMemory P = tt
+
+pub tabled_any : (answer : Ran) (P : Type 0) → IfUntabled answer ⊥ → IfUntabled answer P
+tabled_any (ran.BadTables number) P none = absurd none
+tabled_any ran.TablesFault P none = absurd none
+tabled_any ran.TablesTooLong P none = absurd none
+tabled_any (ran.NotAStore side place) P none = tt
+tabled_any ran.OpeningFault P none = tt
+tabled_any ran.OutOfMemory P none = tt
+tabled_any (ran.Ended how) P none = tt

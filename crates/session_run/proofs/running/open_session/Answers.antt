@@ -1,0 +1,87 @@
+use Rattle.std.proofs.Common.{◌≡◌, ◌∙◌, ℕ, List, Err, Some, ap, refl, subst, sym}
+use Rattle.session_loop.specs.Holding.{Holds}
+use Rattle.session_loop.specs.Standing.{Server}
+use Rattle.session_loop.specs.Stores.{StandsFor as StoreStandsFor, State as Store, opened}
+use Rattle.session_run.proofs.Opened.{beginning, is_beginning, is_tabled, not_opened, stands_for, unopened_cause, without_store}
+use Rattle.session_run.specs.Running.{HasCauseOf, IfUntabled, SessionLeaves, UnlessEnded, surroundings}
+use Rattle.session_run.specs.declared.ran.Ran.{Ran}
+use Rattle.zone_journal.specs.Pairs.{Leaves, Unwritten}
+use Rattle.zone_journal.specs.declared.answers.OpenFault.{OpenFault}
+use Rattle.session_run.proofs.running.open_session.Goals as goal
+
+pub returns-in-Ok-begin-clause-leaves : goal.returns-in-Ok-begin-clause-leaves
+returns-in-Ok-begin-clause-leaves g c = λ given told.
+    let kept = c.in-Ok.store.kept in
+    let is = c.in-Ok-begin.ensures.server in
+    let holds = c.in-Ok.ensures.holds given.x given.y told.x_is told.y_is in (
+      beginning given kept,
+      is_beginning g.D.Disk.reading g.D.Disk.images c.standing_place.ensures given kept c.open.new.a
+          c.open.new.b c.in-Ok.ensures.stands holds
+          ((c.in-Ok.ensures.a_unwritten given.x told.x_is).reads ∙ told.x_is)
+          ((c.in-Ok.ensures.b_unwritten given.y told.y_is).reads ∙ told.y_is) c.in-Ok.ensures.idle,
+      c.go_on.ensures.leaves (surroundings given c.args.rows) (beginning given kept) given.input
+          given.held given.before (ap (λ (s : Server). s.tables) (sym is))
+          (stands_for given kept c.in-Ok-begin.begun.server (g.L.Link.coming c.args.link.now)
+          (g.R.Rng.stream c.args.words.now)
+          (subst (λ (s : Store). StoreStandsFor (opened kept) s)
+          (ap (λ (s : Server). s.store) (sym is)) c.in-Ok.ensures.opened)
+          (ap (λ (s : Server). s.bound) is) told.arrivals_are told.words_are)
+          (subst (λ (s : Server). Leaves g.D.Disk.reading c.open.new.a c.open.new.b
+          (Holds s.store.kept)) (sym is) holds) told.ports_are told.input_is told.held_is
+          told.before_is,
+    )
+
+pub returns-in-Err-clause-leaves : goal.returns-in-Err-clause-leaves
+returns-in-Err-clause-leaves g c = λ given told.
+    subst (λ (r : Ran). SessionLeaves r g.D.Disk.images c.open.new.a c.open.new.b given c.args.rows
+    (g.L.Link.coming c.args.link.now) (g.K.Sink.held c.args.out.now)
+    (g.L.Link.sent c.args.link.now)) (sym c.unopened.ensures)
+    (not_opened g.D.Disk.images c.open.new.a c.open.new.b given (g.L.Link.coming c.args.link.now)
+    (g.K.Sink.held c.args.out.now) (g.L.Link.sent c.args.link.now) (told.held_is, told.before_is)
+    c.args.rows c.in-Err.fault
+    (c.in-Err.ensures.faulty given.x given.y told.x_is told.y_is))
+
+pub returns-in-Err-clause-a_unwritten : goal.returns-in-Err-clause-a_unwritten
+returns-in-Err-clause-a_unwritten g c =
+    subst (λ (r : Ran). UnlessEnded r ((bytes : List ℕ) → g.D.Disk.reading c.args.a.now ≡ Some bytes
+    → Unwritten g.D.Disk.reading g.D.Disk.images g.D.Disk.moment g.D.Disk.images_since
+    c.args.a.now c.open.new.a)) (sym c.unopened.ensures)
+    (without_store c.in-Err.fault ((bytes : List ℕ) → g.D.Disk.reading c.args.a.now ≡ Some bytes
+    → Unwritten g.D.Disk.reading g.D.Disk.images g.D.Disk.moment g.D.Disk.images_since
+    c.args.a.now c.open.new.a) c.in-Err.ensures.a_unwritten)
+
+pub returns-in-Err-clause-b_unwritten : goal.returns-in-Err-clause-b_unwritten
+returns-in-Err-clause-b_unwritten g c =
+    subst (λ (r : Ran). UnlessEnded r ((bytes : List ℕ) → g.D.Disk.reading c.args.b.now ≡ Some bytes
+    → Unwritten g.D.Disk.reading g.D.Disk.images g.D.Disk.moment g.D.Disk.images_since
+    c.args.b.now c.open.new.b)) (sym c.unopened.ensures)
+    (without_store c.in-Err.fault ((bytes : List ℕ) → g.D.Disk.reading c.args.b.now ≡ Some bytes
+    → Unwritten g.D.Disk.reading g.D.Disk.images g.D.Disk.moment g.D.Disk.images_since
+    c.args.b.now c.open.new.b) c.in-Err.ensures.b_unwritten)
+
+pub returns-in-Err-clause-cause : goal.returns-in-Err-clause-cause
+returns-in-Err-clause-cause g c =
+    subst (λ (r : Ran). HasCauseOf r (g.S.Source.faults c.args.input.now)
+    (g.S.Source.faults c.args.input.now) 0 0 (g.D.Disk.faults c.args.a.now)
+    (g.D.Disk.faults c.open.new.a) (g.D.Disk.faults c.args.b.now) (g.D.Disk.faults c.open.new.b)
+    (g.L.Link.faults c.args.link.now) (g.L.Link.faults c.args.link.now)
+    (g.K.Sink.faults c.args.out.now) (g.K.Sink.faults c.args.out.now)) (sym c.unopened.ensures)
+    (unopened_cause (g.S.Source.faults c.args.input.now) (g.S.Source.faults c.args.input.now) 0 0
+    (g.D.Disk.faults c.args.a.now) (g.D.Disk.faults c.open.new.a) (g.D.Disk.faults c.args.b.now)
+    (g.D.Disk.faults c.open.new.b) (g.L.Link.faults c.args.link.now)
+    (g.L.Link.faults c.args.link.now) (g.K.Sink.faults c.args.out.now)
+    (g.K.Sink.faults c.args.out.now) c.in-Err.fault
+    (λ is. c.in-Err.ensures.failed (ap (λ (f : OpenFault). Err f) is)))
+
+pub returns-in-Err-clause-unasked : goal.returns-in-Err-clause-unasked
+returns-in-Err-clause-unasked g c =
+    subst (λ (r : Ran). UnlessEnded r ((c.args.input.now ≡ c.args.input.now)
+    × (c.args.out.now ≡ c.args.out.now) × (c.args.link.now ≡ c.args.link.now)
+    × (c.args.words.now ≡ c.args.words.now))) (sym c.unopened.ensures)
+    (without_store c.in-Err.fault ((c.args.input.now ≡ c.args.input.now)
+    × (c.args.out.now ≡ c.args.out.now) × (c.args.link.now ≡ c.args.link.now)
+    × (c.args.words.now ≡ c.args.words.now)) (refl, refl, refl, refl))
+
+pub returns-in-Err-clause-tabled : goal.returns-in-Err-clause-tabled
+returns-in-Err-clause-tabled g c =
+    subst (λ (r : Ran). IfUntabled r ⊥) (sym c.unopened.ensures) (is_tabled c.in-Err.fault ⊥)

@@ -1,0 +1,208 @@
+//! The tables, the store, and then the lines.
+
+ghost use Rattle.std.specs.Prelude.{◌≡◌, ◌≤◌, ℕ, List, IfOk, Some, false};
+ghost use Rattle.line_splitting.specs.Lines.{input_lines, is_too_long};
+ghost use Rattle.line_splitting.specs.Reading.{fresh};
+ghost use Rattle.session_loop.specs.Ending.{Ends, HasCause};
+ghost use Rattle.session_loop.specs.Holding.{Holds};
+ghost use Rattle.session_loop.specs.Standing.{StandsFor};
+ghost use Rattle.session_model.specs.Serving.{Datagram};
+ghost use Rattle.session_model.specs.Steps.{State, Surroundings};
+ghost use Rattle.session_run.specs.Running.{Given, HasCauseOf, IsTold, RunLeaves, SessionLeaves};
+ghost use Rattle.session_run.specs.Running.{IfUntabled, UnlessEnded, unopened, unread};
+ghost use Rattle.zone_journal.specs.Pairs.{Leaves, Unwritten};
+ghost use Rattle.zone_journal.specs.Standing.{StandsOn};
+
+use crate::ran::Ran;
+use geo_latency::Tables;
+use octets::OutOfMemory;
+use r53_disk::Disk;
+use r53_io::{Link, Sink, Source};
+use rand_core::Rng;
+use session_loop::{Ended, LineReader, Server, Store, fresh_reader, take_lines};
+use std::alloc::Global;
+use store_model::standing_place;
+use table_lines::{TablesFault, read_tables};
+use zone_journal::OpenFault;
+
+/// Runs a session: reads all tables, opens the store over two disks, and takes the lines of an input
+/// up to its end or to the first fault.
+///
+/// Packets and reports come from the link, and random words are drawn for each packet.
+pub fn run_session<S: Source, T: Source, D: Disk, L: Link, R: Rng, K: Sink>(
+    alloc: Global,
+    input: &mut S,
+    tables: &mut T,
+    out: &mut K,
+    a: &mut D,
+    b: &mut D,
+    link: &mut L,
+    words: &mut R,
+) -> Ran
+    // What was written and sent, and what the files open to, where all that is asked tells what it
+    // has.
+    ensures leaves { (given : Given) → IsTold given (S.left input.old) (T.left tables.old)
+        (D.reading a.old) (D.reading b.old) (K.held out.old) (L.ports link.old) (L.coming link.old)
+        (L.sent link.old) (R.stream words.old)
+        → RunLeaves result D.images a.new b.new given (L.coming link.new) (K.held out.new)
+        (L.sent link.new) }
+
+    // Where it ended before its lines it asked the tables and the disks alone, and where the tables
+    // ended it them alone. The files are as they were then.
+    ensures unasked { UnlessEnded result ((input.new ≡ input.old) × (out.new ≡ out.old)
+        × (link.new ≡ link.old) × (words.new ≡ words.old)) }
+    ensures unopened { IfUntabled result ((a.new ≡ a.old) × (b.new ≡ b.old)) }
+    ensures a_unwritten { UnlessEnded result ((x : List ℕ) → D.reading a.old ≡ Some x
+        → Unwritten D.reading D.images D.moment D.images_since a.old a.new) }
+    ensures b_unwritten { UnlessEnded result ((y : List ℕ) → D.reading b.old ≡ Some y
+        → Unwritten D.reading D.images D.moment D.images_since b.old b.new) }
+
+    // A fault comes only where the count of what failed rose.
+    ensures in_counts { S.faults input.old ≤ S.faults input.new }
+    ensures table_counts { T.faults tables.old ≤ T.faults tables.new }
+    ensures a_counts { D.faults a.old ≤ D.faults a.new }
+    ensures b_counts { D.faults b.old ≤ D.faults b.new }
+    ensures link_counts { L.faults link.old ≤ L.faults link.new }
+    ensures out_counts { K.faults out.old ≤ K.faults out.new }
+    ensures cause { HasCauseOf result (S.faults input.old) (S.faults input.new)
+        (T.faults tables.old) (T.faults tables.new) (D.faults a.old) (D.faults a.new)
+        (D.faults b.old) (D.faults b.new) (L.faults link.old) (L.faults link.new)
+        (K.faults out.old) (K.faults out.new) }
+{
+    match read_tables(alloc, tables) {
+        Ok(rows) => open_session(alloc, rows, input, out, a, b, link, words),
+        Err(fault) => unread(fault),
+    }
+}
+
+/// How a session ends whose tables aren't read.
+fn unread(fault: TablesFault) -> Ran
+    ensures { result ≡ unread fault }
+{
+    match fault {
+        TablesFault::Bad(number) => Ran::BadTables(number),
+        TablesFault::ReadFault => Ran::TablesFault,
+        TablesFault::TooLong => Ran::TablesTooLong,
+        TablesFault::OutOfMemory => Ran::OutOfMemory,
+    }
+}
+
+/// The same, once the tables are read.
+fn open_session<S: Source, D: Disk, L: Link, R: Rng, K: Sink>(
+    alloc: Global,
+    rows: Tables,
+    input: &mut S,
+    out: &mut K,
+    a: &mut D,
+    b: &mut D,
+    link: &mut L,
+    words: &mut R,
+) -> Ran
+    ensures leaves { (given : Given) → IsTold given (S.left input.old) (Some given.rows)
+        (D.reading a.old) (D.reading b.old) (K.held out.old) (L.ports link.old) (L.coming link.old)
+        (L.sent link.old) (R.stream words.old)
+        → SessionLeaves result D.images a.new b.new given rows (L.coming link.new) (K.held out.new)
+        (L.sent link.new) }
+    ensures unasked { UnlessEnded result ((input.new ≡ input.old) × (out.new ≡ out.old)
+        × (link.new ≡ link.old) × (words.new ≡ words.old)) }
+    ensures tabled { IfUntabled result ⊥ }
+    ensures a_unwritten { UnlessEnded result ((x : List ℕ) → D.reading a.old ≡ Some x
+        → Unwritten D.reading D.images D.moment D.images_since a.old a.new) }
+    ensures b_unwritten { UnlessEnded result ((y : List ℕ) → D.reading b.old ≡ Some y
+        → Unwritten D.reading D.images D.moment D.images_since b.old b.new) }
+    ensures in_counts { S.faults input.old ≤ S.faults input.new }
+    ensures a_counts { D.faults a.old ≤ D.faults a.new }
+    ensures b_counts { D.faults b.old ≤ D.faults b.new }
+    ensures link_counts { L.faults link.old ≤ L.faults link.new }
+    ensures out_counts { K.faults out.old ≤ K.faults out.new }
+    ensures cause { HasCauseOf result (S.faults input.old) (S.faults input.new) 0 0
+        (D.faults a.old) (D.faults a.new) (D.faults b.old) (D.faults b.new) (L.faults link.old)
+        (L.faults link.new) (K.faults out.old) (K.faults out.new) }
+{
+    standing_place::<D>();
+    match Store::open(alloc, a, b) {
+        Ok(store) => match begin(alloc, store, rows) {
+            Ok(begun) => Ran::Ended(go_on(alloc, begun, input, a, b, link, words, out)),
+            Err(_) => Ran::OutOfMemory,
+        },
+        Err(fault) => unopened(fault),
+    }
+}
+
+/// How a session ends whose store isn't opened.
+fn unopened(fault: OpenFault) -> Ran
+    ensures { result ≡ unopened fault }
+{
+    match fault {
+        OpenFault::NotAStore(side, place) => Ran::NotAStore(side, place),
+        OpenFault::DiskFault => Ran::OpeningFault,
+        OpenFault::OutOfMemory => Ran::OutOfMemory,
+    }
+}
+
+/// What a session works with.
+#[derive(Drop)]
+struct Begun {
+    server: Server,
+    reader: LineReader,
+}
+
+/// A server over a store, and a reader of lines. All memory of a session is taken here, but for what reading
+/// a line, a command and the beginning of a compaction take.
+fn begin(alloc: Global, store: Store, rows: Tables) -> Result<Begun, OutOfMemory>
+    ensures server { IfOk result (λ begun.
+        begun.server ≡ record { store = store; tables = rows; bound = false }) }
+    ensures reader { IfOk result (λ begun. begun.reader ≡ fresh) }
+{
+    let reader = LineReader::new(alloc)?;
+    let server = Server::new(alloc, store, rows)?;
+    Ok(Begun { server, reader })
+}
+
+/// Takes the lines of an input from its beginning.
+fn go_on<S: Source, D: Disk, L: Link, R: Rng, K: Sink>(
+    alloc: Global,
+    begun: Begun,
+    input: &mut S,
+    a: &mut D,
+    b: &mut D,
+    link: &mut L,
+    words: &mut R,
+    out: &mut K,
+) -> Ended
+    requires reader { begun.reader ≡ fresh }
+    requires stands { StandsOn D.reading D.images begun.server.store.kept.journal a.old b.old }
+    ensures leaves { (around : Surroundings) (start : State) (left : List ℕ) (held : List ℕ)
+        (before : List Datagram) → around.tables ≡ begun.server.tables
+        → StandsFor start begun.server (L.coming link.old) (R.stream words.old)
+        → Leaves D.reading a.old b.old (Holds begun.server.store.kept)
+        → L.ports link.old ≡ Some around.given → S.left input.old ≡ Some left
+        → K.held out.old ≡ Some held → L.sent link.old ≡ Some before
+        → Ends result D.images a.new b.new around (input_lines left) (is_too_long left) start held
+        before (L.coming link.new) (K.held out.new) (L.sent link.new) }
+    ensures in_counts { S.faults input.old ≤ S.faults input.new }
+    ensures a_counts { D.faults a.old ≤ D.faults a.new }
+    ensures b_counts { D.faults b.old ≤ D.faults b.new }
+    ensures link_counts { L.faults link.old ≤ L.faults link.new }
+    ensures out_counts { K.faults out.old ≤ K.faults out.new }
+    ensures cause { HasCause result (S.faults input.old) (S.faults input.new) (D.faults a.old)
+        (D.faults a.new) (D.faults b.old) (D.faults b.new) (L.faults link.old) (L.faults link.new)
+        (K.faults out.old) (K.faults out.new) }
+{
+    fresh_reader();
+    let Begun {
+        mut server,
+        mut reader,
+    } = begun;
+    take_lines(
+        alloc,
+        &mut reader,
+        &mut server,
+        input,
+        a,
+        b,
+        link,
+        words,
+        out,
+    )
+}

@@ -1,0 +1,36 @@
+use Rattle.std.proofs.Common.{◌≡◌, ◌∙◌, refl, subst, sym, ap, Some, Bool}
+use Rattle.std.specs.Prelude.{⊤}
+use Rattle.batch_json.specs.declared.asking.Line.TheVariants as line
+use Rattle.line_server.specs.Standing.{Server, StandsFor}
+use Rattle.line_server.specs.Leaving.{TurnsInPart}
+use Rattle.line_server.specs.Standing.{IsServed}
+use Rattle.session_model.specs.Steps.{LineSteps, State, Step}
+use Rattle.session_server.proofs.Lines.{of_network}
+use Rattle.session_server.specs.Taking.{PartOf}
+use Rattle.session_server.proofs.server.Server.take_turns.Goals as goal
+
+pub returns-clause-leaves : goal.returns-clause-leaves
+returns-clause-leaves g c = λ around old held before same stands tells was.
+    let its = subst (λ (s : Server). StandsFor old s (g.L.Link.coming c.args.link.now)
+    (g.R.Rng.stream c.args.words.now)) (sym c.self.view_is) stands in
+    of_network (LineSteps around (line.Serve c.args.turns) old)
+    (PartOf around (line.Serve c.args.turns) old before (g.L.Link.coming c.take_turns.new.link)
+    (g.L.Link.sent c.take_turns.new.link)) ⊤ (λ after. ⊥) old
+    (IsServed c.self.inside.bound c.take_turns.new.store (g.L.Link.coming c.take_turns.new.link)
+    (g.R.Rng.stream c.take_turns.new.words))
+    (λ new. StandsFor new (record {
+      store = c.take_turns.new.store;
+      tables = c.self.inside.tables;
+      bound = c.self.inside.bound;
+    }) (g.L.Link.coming c.take_turns.new.link) (g.R.Rng.stream c.take_turns.new.words))
+    (TurnsInPart around c.args.turns old before (g.L.Link.coming c.take_turns.new.link)) held before
+    (g.K.Sink.held c.take_turns.new.out) (g.L.Link.sent c.take_turns.new.link) c.take_turns.result
+    (λ step steps s. record {
+      store = s.stands;
+      bound = s.still;
+      coming = s.coming;
+      words = s.words;
+    }) (λ part. part)
+    (c.take_turns.ensures.leaves around old held before
+    (same ∙ ap (λ (s : Server). s.tables) (sym c.self.view_is)) its.bound its.store its.coming
+    its.words tells was)

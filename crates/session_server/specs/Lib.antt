@@ -1,0 +1,10 @@
+pub mod Buffers
+pub mod Laws
+pub mod Taking
+-- definitions of a server and of what lines leave, for crates that stand on this one alone
+pub use Rattle.line_server.specs.Holding
+pub use Rattle.line_server.specs.Journaled
+pub use Rattle.line_server.specs.Leaving
+pub use Rattle.line_server.specs.Standing
+pub use Rattle.line_server.specs.Stores
+pub use Rattle.line_server.specs.declared.answers.Taken as Taken

@@ -1,0 +1,74 @@
+-- What a line leaves in a session, by the answer of the call that takes it.
+use Rattle.std.specs.Prelude.{◌≡◌, ◌≤◌, ◌⊎◌, ℕ, List, Option, Some, Ok, ⊤}
+use Rattle.batch_json.specs.declared.asking.Line.{Line}
+use Rattle.batch_json.specs.declared.asking.Line.TheVariants as line
+use Rattle.command_bounds.specs.Laws.{HasShortLists}
+use Rattle.config_model.specs.Configs.{Config}
+use Rattle.config_model.specs.Laws.{IsBounded}
+use Rattle.line_bounds.specs.Laws.{start_of}
+use Rattle.line_server.specs.Leaving.{CameTo, TurnsInPart}
+use Rattle.line_server.specs.declared.answers.Taken.{Taken}
+use Rattle.line_server.specs.declared.answers.Taken.TheVariants as taken
+use Rattle.page_laws.specs.Laws.{IsAsked}
+use Rattle.r53_io.specs.Network.{Incoming}
+use Rattle.session_model.specs.Asking.{Asks}
+use Rattle.session_model.specs.Replies.{memory_text}
+use Rattle.session_model.specs.Serving.{Datagram}
+use Rattle.session_model.specs.Sessions.{told_alone}
+use Rattle.session_model.specs.Steps.{State, Step, Surroundings}
+use Rattle.whole_writing.specs.declared.output.Output.TheVariants as output
+
+-- What a line that was read asks for is within the bounds of lines.
+abbrev pub IsWithin : Line → Type 0
+IsWithin (line.Control given) = IsBounded given × HasShortLists given
+IsWithin (line.List list) = IsAsked (start_of list)
+IsWithin (line.Status id) = ⊤
+IsWithin (line.Observe seen) = ⊤
+IsWithin (line.Query asked) = ⊤
+IsWithin (line.Bind ports) = ⊤
+IsWithin (line.Serve turns) = ⊤
+IsWithin (line.Compact pieces) = 1 ≤ pieces
+
+-- A step that Steps says; or memory was wanted, which is told alone.
+abbrev pub OrMemory : (Steps : Step → Type 0) → (old : State) → Step → Type 0
+OrMemory Steps old step = (step ≡ told_alone memory_text old) ⊎ Steps step
+
+-- What a line left, by the answer. Steps says what comes of it where no memory is wanted, and P where
+-- the session stands behind it. Where a disk failed nothing was written and nothing sent; where the
+-- files were those of the store, which Given says, Opens tells what they open to, from the
+-- configuration that the line would have made. Where the network failed nothing was written; Part
+-- tells what was sent before.
+abbrev pub LineLeaves : Taken → (Steps : Step → Type 0) → (Part : Type 0) → (Given : Type 0)
+    → (Opens : (after : Config) → Type 0) → (old : State) → (P : State → Type 0)
+    → (held : List ℕ) → (before : List Datagram) → (out : Option (List ℕ))
+    → (sent : Option (List Datagram)) → Type 0
+LineLeaves taken.Replied Steps Part Given Opens old P held before out sent =
+    CameTo output.Whole (OrMemory Steps old) P held before out sent
+LineLeaves taken.WriteFault Steps Part Given Opens old P held before out sent =
+    CameTo output.Failed (OrMemory Steps old) P held before out sent
+LineLeaves taken.DiskFault Steps Part Given Opens old P held before out sent =
+    (out ≡ Some held) × (sent ≡ Some before)
+    × (Given → (step : Step) × Steps step × Opens step.new.engine.config)
+LineLeaves taken.LinkFault Steps Part Given Opens old P held before out sent =
+    (out ≡ Some held) × Part
+
+-- What was sent of a line on the network, where that failed: of a Bind nothing, and of a Serve what
+-- the turns sent that ended. No other line asks the network.
+abbrev pub PartOf : Surroundings → Line → (old : State) → (before : List Datagram)
+    → (network : Option (List Incoming)) → (sent : Option (List Datagram)) → Type 0
+PartOf around (line.Control given) old before network sent = ⊥
+PartOf around (line.List list) old before network sent = ⊥
+PartOf around (line.Status id) old before network sent = ⊥
+PartOf around (line.Observe seen) old before network sent = ⊥
+PartOf around (line.Query asked) old before network sent = ⊥
+PartOf around (line.Bind ports) old before network sent = sent ≡ Some before
+PartOf around (line.Serve turns) old before network sent =
+    TurnsInPart around turns old before network sent
+PartOf around (line.Compact pieces) old before network sent = ⊥
+
+-- the same of a line of octets
+abbrev pub PartOfOctets : Surroundings → (octets : List ℕ) → (old : State)
+    → (before : List Datagram) → (network : Option (List Incoming))
+    → (sent : Option (List Datagram)) → Type 0
+PartOfOctets around octets old before network sent =
+    (asked : Line) × Asks octets (Ok asked) × PartOf around asked old before network sent
