@@ -1,10 +1,25 @@
-//! The program: hands words, standard input and standard output to the top call, and ends with its status.
+//! The program: hands words, streams, files and sockets of the system to the top call, and ends with its status.
 #![tactic(auto)]
 
+use file_disk::{FileDisk, FileSource};
 use r53_cli::{Reading, Status, Writing, run, status_text};
+use rand_chacha::ChaCha8Rng;
+use rand_core::SeedableRng;
 use std::env;
-use std::io::{ErrorKind, Write};
+use std::fs::File;
+use std::io::{self, ErrorKind, Write};
 use std::process::ExitCode;
+use std::random::RandomSource;
+use udp_link::UdpLink;
+
+/// The first file of a store, in the current folder.
+const FIRST_DISK: &str = "r53-a.journal";
+
+/// The second one.
+const SECOND_DISK: &str = "r53-b.journal";
+
+/// The file of the tables.
+const TABLES: &str = "r53.tables";
 
 fn main(rt: HostRuntime) -> ExitCode {
     let status = started(&rt);
@@ -14,21 +29,52 @@ fn main(rt: HostRuntime) -> ExitCode {
     ExitCode::from(status.number())
 }
 
-/// Runs over the standard streams. A word that is not UTF-8 is a faulty command line.
+/// Runs over the words of the process. A word that is not UTF-8 is a faulty command line.
 fn started(rt: &HostRuntime) -> Status {
-    let alloc = rt.alloc();
     let words = match env::args(rt) {
         Ok(words) => words,
         Err(error) if error.kind() == ErrorKind::OutOfMemory => return Status::OutOfMemory,
         Err(_) => return Status::Usage,
     };
-    let mut args = Vec::new(alloc);
+    let mut args = Vec::new(rt.alloc());
     for word in words.skip(1) {
         if args.push(word).is_err() {
             return Status::OutOfMemory;
         }
     }
+    match key(rt) {
+        Ok(key) => run_over(rt, &args, key),
+        // It is the one status that no cause is tied to.
+        Err(_) => Status::OutOfMemory,
+    }
+}
+
+/// Runs over the standard streams, the files and the sockets, with a generator of this key.
+fn run_over(rt: &HostRuntime, args: &[String], key: [u8; 32]) -> Status {
+    let alloc = rt.alloc();
     let mut input = Reading::new(rt.stdin());
+    let mut tables = FileSource::new(File::open(rt, TABLES));
     let mut out = Writing::new(rt.stdout());
-    run(alloc, &args, &mut input, &mut out)
+    let mut a = FileDisk::new(rt, FIRST_DISK);
+    let mut b = FileDisk::new(rt, SECOND_DISK);
+    let mut link = UdpLink::new(alloc, rt);
+    let mut words = ChaCha8Rng::from_seed(key);
+    run(
+        alloc,
+        args,
+        &mut input,
+        &mut tables,
+        &mut out,
+        &mut a,
+        &mut b,
+        &mut link,
+        &mut words,
+    )
+}
+
+/// Octets of the random source of the runtime, the key of a generator.
+fn key(rt: &impl RandomSource) -> io::Result<[u8; 32]> {
+    let mut key = [0; 32];
+    rt.fill_bytes(&mut key)?;
+    Ok(key)
 }

@@ -1,114 +1,146 @@
--- The words of a run.
-use Rattle.std.proofs.Common.{◌≡◌, ℕ, ◌<◌, ◌≤◌, List, [], ◌∷◌, length, get_or, map, arith, ap, ◌∙◌, sym, refl, codes, Bool, true, false, not, eqb, subst, Option, Some, None}
-use Rattle.std.specs.Prelude.{IfSome, IfNone}
-use lib.Pointwise.{pointwise}
-use Rattle.dns_name.specs.Text.{name_of_text}
-use Rattle.r53_cli.specs.declared.once.Once.{Once}
-use Rattle.rdata.specs.Datum.{Datum}
+-- The forms of words.
+use Rattle.std.proofs.Common.{◌≡◌, ℕ, ◌+◌, ◌*◌, ◌≤◌, List, [], ◌∷◌, length, arith, ap, ◌∙◌, sym, refl, codes, slice_index}
+use Rattle.std.specs.Fmt.{decimal}
+use Rattle.std.proofs.lemmas.Fmt.{decimal_injective}
 use Rattle.rdata.specs.Laws.{OneReading}
-use Rattle.r53_cli.specs.Once.{IsAddress, IsOnce, IsPlain, Spells, HasNoForm}
-use Rattle.r53_cli.proofs.Addresses.{one_address}
-use Rattle.r53_cli.proofs.Numbers.{same_number}
-use Rattle.std.proofs.lemmas.Bool.{false≢true}
-use Rattle.std.proofs.lemmas.Slice.Eq.{bytes_eq-Decides}
-use Rattle.std.specs.List.{All, AllByRecursion}
-use Rattle.std.proofs.lemmas.List.Elements.{recursion_from_All, All-from_recursion}
+use Rattle.r53_cli.specs.declared.form.Form.{Form}
+use Rattle.r53_cli.specs.declared.form.Form.TheVariants as form
+use Rattle.r53_cli.specs.Forms.{IsForm, HasNoForm}
+use Rattle.r53_cli.specs.Once.{HasNoOnce}
+use Rattle.r53_cli.proofs.OnceWords.{one_once}
 
-by_not : (b : Bool) → false ≡ not b → b ≡ true
-by_not true h = refl
-by_not false h = absurd (false≢true h)
+-- the first letter of the first word
+abbrev first_of : List (List ℕ) → ℕ
+first_of [] = 0
+first_of (word ∷ words) = slice_index word 0
 
--- a list of four is its four items
-pub four : {X : Type 0} (xs : List X) (a b c d : X) → 4 ≤ length xs → length xs < 5
-    → a ≡ get_or xs 0 a → b ≡ get_or xs 1 b → c ≡ get_or xs 2 c → d ≡ get_or xs 3 d
-    → xs ≡ a ∷ b ∷ c ∷ d ∷ []
-four [] a b c d h k p q r s = absurd (omega arith)
-four (x ∷ []) a b c d h k p q r s = absurd (omega arith)
-four (x ∷ y ∷ []) a b c d h k p q r s = absurd (omega arith)
-four (x ∷ y ∷ z ∷ []) a b c d h k p q r s = absurd (omega arith)
-four (x ∷ y ∷ z ∷ w ∷ []) a b c d h k p q r s = cc
-four (x ∷ y ∷ z ∷ w ∷ v ∷ more) a b c d h k p q r s = absurd (omega arith)
+-- how many words there are, and the first letter
+abbrev key : List (List ℕ) → ℕ
+key words = length words * 256 + first_of words
 
-pub same_text : (a b : List ℕ) → false ≡ not (pointwise eqb a b) → a ≡ b
-same_text a b h = (bytes_eq-Decides a b).0 (by_not (pointwise eqb a b) h)
+-- each form has a key of its own
+abbrev pub key_of : Form → ℕ
+key_of (form.Once once) = 1135
+key_of form.Init = 361
+key_of form.Run = 370
+key_of form.Dump = 356
+key_of (form.Drill events) = 612
 
--- what holds of each item of a map, of each item before it
-under_map : {X Y : Type 0} (P : Y → Type 0) (f : X → Y) (xs : List X) → AllByRecursion P (map f xs)
-    → AllByRecursion (λ x. P (f x)) xs
-under_map P f [] h = tt
-under_map P f (x ∷ xs) h = (h.0, under_map P f xs h.1)
+pub keyed : (words : List (List ℕ)) (f : Form) → IsForm words f → key words ≡ key_of f
+keyed words (form.Once once) is = ap key is.form
+keyed words form.Init is = ap key is
+keyed words form.Run is = ap key is
+keyed words form.Dump is = ap key is
+keyed words (form.Drill events) is = ap key is.0
 
-pub All-under_map : {X Y : Type 0} (P : Y → Type 0) (f : X → Y) (xs : List X) → All P (map f xs)
-    → All (λ x. P (f x)) xs
-All-under_map P f xs h =
-    All-from_recursion (λ x. P (f x)) xs (under_map P f xs (recursion_from_All P (map f xs) h))
+-- words of two forms are of one key
+clash : (words : List (List ℕ)) (f g : Form) → IsForm words f → IsForm words g → key_of f ≡ key_of g
+clash words f g x y = sym (keyed words f x) ∙ keyed words g y
 
--- Four words, of which the first is `once`: the form is taken where the texts of the others spell a
--- record.
-pub form_of : {X : Type 0} (f : X → List ℕ) (xs : List X) (a b c d : X) → 4 ≤ length xs
-    → length xs < 5 → a ≡ get_or xs 0 a → b ≡ get_or xs 1 b → c ≡ get_or xs 2 c → d ≡ get_or xs 3 d
-    → f a ≡ codes "once" → map f xs ≡ codes "once" ∷ f b ∷ f c ∷ f d ∷ []
-form_of f xs a b c d h k p q r s e = ap (map f) (four xs a b c d h k p q r s)
-    ∙ ap (λ t. t ∷ f b ∷ f c ∷ f d ∷ []) e
+abbrev head_of : List (List ℕ) → List ℕ
+head_of [] = []
+head_of (word ∷ words) = word
 
-module _ (words : List (List ℕ)) (name ttl address : List ℕ) (form : words
-    ≡ codes "once" ∷ name ∷ ttl ∷ address ∷ []) where
-  pub form_taken : All IsPlain words → (result : Option Once)
-      → IfSome result (Spells name ttl address) → IfSome result (IsOnce words)
-  form_taken plain None spelled = tt
-  form_taken plain (Some once) spelled = record {
-    plain = plain;
-    name = name;
-    ttl = ttl;
-    address = address;
-    form = form;
-    spelled = spelled;
-  }
+abbrev second_of : List (List ℕ) → List ℕ
+second_of [] = []
+second_of (word ∷ words) = head_of words
 
-  spells : (once : Once) → IsOnce words once → Spells name ttl address once
-  spells once f =
-      let same : codes "once" ∷ name ∷ ttl ∷ address ∷ []
-      ≡ codes "once" ∷ f.name ∷ f.ttl ∷ f.address ∷ [] = sym form ∙ f.form in
-      let names : f.name ≡ name = cc in
-      let ttls : ttl ≡ f.ttl = cc in
-      let addresses : f.address ≡ address = cc in
-      record {
-        name_is = ap name_of_text (sym names) ∙ f.spelled.name_is;
-        ttl_is = ttls ∙ f.spelled.ttl_is;
-        ttl_fits = f.spelled.ttl_fits;
-        address_is = subst (λ t. IsAddress t once.address) addresses f.spelled.address_is;
-      }
+same_events : (words : List (List ℕ)) (m n : ℕ) → IsForm words (form.Drill m)
+    → IsForm words (form.Drill n) → m ≡ n
+same_events words m n x y =
+    let a = x.1 in
+    let b = y.1 in
+    let same : decimal m ≡ decimal n = sym (ap second_of x.0) ∙ ap second_of y.0 in
+    decimal_injective m n (omega arith) (omega arith) same
 
-  pub form_refused : (result : Option Once)
-      → IfNone result ((once : Once) → Spells name ttl address once → ⊥)
-      → IfNone result (HasNoForm words)
-  form_refused None never = λ once f. never once (spells once f)
-  form_refused (Some once) never = tt
+-- words have one form, and one reading of it
+pub one_form : OneReading → (words : List (List ℕ)) (f g : Form) → IsForm words f → IsForm words g
+    → f ≡ g
+one_form law words (form.Once once) (form.Once other) x y = ap form.Once (one_once law words once other x y)
+one_form law words (form.Once once) form.Init x y =
+    let same = clash words (form.Once once) form.Init x y in
+    absurd (omega arith)
+one_form law words (form.Once once) form.Run x y =
+    let same = clash words (form.Once once) form.Run x y in
+    absurd (omega arith)
+one_form law words (form.Once once) form.Dump x y =
+    let same = clash words (form.Once once) form.Dump x y in
+    absurd (omega arith)
+one_form law words (form.Once once) (form.Drill n) x y =
+    let same = clash words (form.Once once) (form.Drill n) x y in
+    absurd (omega arith)
+one_form law words form.Init (form.Once other) x y =
+    let same = clash words form.Init (form.Once other) x y in
+    absurd (omega arith)
+one_form law words form.Init form.Init x y = refl
+one_form law words form.Init form.Run x y =
+    let same = clash words form.Init form.Run x y in
+    absurd (omega arith)
+one_form law words form.Init form.Dump x y =
+    let same = clash words form.Init form.Dump x y in
+    absurd (omega arith)
+one_form law words form.Init (form.Drill n) x y =
+    let same = clash words form.Init (form.Drill n) x y in
+    absurd (omega arith)
+one_form law words form.Run (form.Once other) x y =
+    let same = clash words form.Run (form.Once other) x y in
+    absurd (omega arith)
+one_form law words form.Run form.Init x y =
+    let same = clash words form.Run form.Init x y in
+    absurd (omega arith)
+one_form law words form.Run form.Run x y = refl
+one_form law words form.Run form.Dump x y =
+    let same = clash words form.Run form.Dump x y in
+    absurd (omega arith)
+one_form law words form.Run (form.Drill n) x y =
+    let same = clash words form.Run (form.Drill n) x y in
+    absurd (omega arith)
+one_form law words form.Dump (form.Once other) x y =
+    let same = clash words form.Dump (form.Once other) x y in
+    absurd (omega arith)
+one_form law words form.Dump form.Init x y =
+    let same = clash words form.Dump form.Init x y in
+    absurd (omega arith)
+one_form law words form.Dump form.Run x y =
+    let same = clash words form.Dump form.Run x y in
+    absurd (omega arith)
+one_form law words form.Dump form.Dump x y = refl
+one_form law words form.Dump (form.Drill n) x y =
+    let same = clash words form.Dump (form.Drill n) x y in
+    absurd (omega arith)
+one_form law words (form.Drill m) (form.Once other) x y =
+    let same = clash words (form.Drill m) (form.Once other) x y in
+    absurd (omega arith)
+one_form law words (form.Drill m) form.Init x y =
+    let same = clash words (form.Drill m) form.Init x y in
+    absurd (omega arith)
+one_form law words (form.Drill m) form.Run x y =
+    let same = clash words (form.Drill m) form.Run x y in
+    absurd (omega arith)
+one_form law words (form.Drill m) form.Dump x y =
+    let same = clash words (form.Drill m) form.Dump x y in
+    absurd (omega arith)
+one_form law words (form.Drill m) (form.Drill n) x y = ap form.Drill (same_events words m n x y)
 
-same_once : (a b : Once) → a.name ≡ b.name → a.ttl ≡ b.ttl → a.address ≡ b.address → a ≡ b
-same_once a b names ttls addresses =
-    let make : List (List ℕ) × ℕ × Datum
-    → Once = λ p. record { name = p.0; ttl = p.1; address = p.2 } in
-    let same : (a.name, a.ttl, a.address) ≡ (b.name, b.ttl, b.address) = cc in
-    ap make same
+-- two words are those of a form where they are `drill` and a number of events
+pub two_have_none : (word events : List ℕ)
+    → ((n : ℕ) → word ≡ codes "drill" → events ≡ decimal n → n ≤ 100000 → ⊥)
+    → HasNoForm (word ∷ events ∷ [])
+two_have_none word events never (form.Once once) is =
+    let same = ap length is.form in
+    absurd (omega arith)
+two_have_none word events never form.Init is =
+    let same = ap length is in
+    absurd (omega arith)
+two_have_none word events never form.Run is =
+    let same = ap length is in
+    absurd (omega arith)
+two_have_none word events never form.Dump is =
+    let same = ap length is in
+    absurd (omega arith)
+two_have_none word events never (form.Drill n) is =
+    never n (ap head_of is.0) (ap second_of is.0) is.1
 
--- the words of a run have one reading
-pub one_form : OneReading → (words : List (List ℕ)) (once other : Once) → IsOnce words once
-    → IsOnce words other → once ≡ other
-one_form law words once other x y =
-    let forms : codes "once" ∷ x.name ∷ x.ttl ∷ x.address ∷ []
-    ≡ codes "once" ∷ y.name ∷ y.ttl ∷ y.address ∷ [] = sym x.form ∙ y.form in
-    let names : x.name ≡ y.name = cc in
-    let ttls : x.ttl ≡ y.ttl = cc in
-    let addresses : x.address ≡ y.address = cc in
-    let f = x.spelled.ttl_fits in
-    let g = y.spelled.ttl_fits in
-    let name : once.name ≡ other.name = let n = x.spelled.name_is in let m = ap name_of_text names
-    ∙ y.spelled.name_is in cc in
-    let ttl : once.ttl ≡ other.ttl =
-    same_number x.ttl once.ttl other.ttl (omega arith) (omega arith) x.spelled.ttl_is (ttls
-    ∙ y.spelled.ttl_is) in
-    let address =
-    one_address law x.address once.address other.address x.spelled.address_is
-    (subst (λ t. IsAddress t other.address) (sym addresses) y.spelled.address_is) in
-    same_once once other name ttl address
+-- words of no form are not those of `once`
+pub none_is_not_once : (words : List (List ℕ)) → HasNoForm words → HasNoOnce words
+none_is_not_once words never once asked = never (form.Once once) asked

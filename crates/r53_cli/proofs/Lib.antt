@@ -1,7 +1,11 @@
 pub mod Addresses
 pub mod Endings
 pub mod Forms
+pub mod Lines
 pub mod Numbers
+pub mod OnceWords
 pub mod Responses
+pub mod Statuses
 pub mod Streams
 pub mod Vectors
+mod Running

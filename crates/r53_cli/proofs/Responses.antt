@@ -26,6 +26,11 @@ ran status.ReadFault once packet before after responds read = absurd responds
 ran status.InputTooLong once packet before after responds read = absurd responds
 ran status.OutOfMemory once packet before after responds read = absurd responds
 ran status.Usage once packet before after responds read = absurd responds
+ran (status.NotAStore disk place) once packet before after responds read = absurd responds
+ran (status.AlreadyAStore disk) once packet before after responds read = absurd responds
+ran (status.BadTables line) once packet before after responds read = absurd responds
+ran status.DiskFault once packet before after responds read = absurd responds
+ran status.LinkFault once packet before after responds read = absurd responds
 
 pub caused : (result : Status) (once : Once) (packet : List ℕ) (held after : Option (List ℕ))
     (input_before input_now output_before output_now : ℕ) → Responds result once packet held after
@@ -38,3 +43,13 @@ caused status.ReadFault once packet held after a b c d responds failed = absurd 
 caused status.InputTooLong once packet held after a b c d responds failed = absurd responds
 caused status.OutOfMemory once packet held after a b c d responds failed = absurd responds
 caused status.Usage once packet held after a b c d responds failed = absurd responds
+caused (status.NotAStore disk place) once packet held after a b c d responds failed =
+    absurd responds
+caused (status.AlreadyAStore disk) once packet held after a b c d responds failed =
+    absurd responds
+caused (status.BadTables line) once packet held after a b c d responds failed =
+    absurd responds
+caused status.DiskFault once packet held after a b c d responds failed =
+    absurd responds
+caused status.LinkFault once packet held after a b c d responds failed =
+    absurd responds

@@ -1,4 +1,4 @@
-use Rattle.std.proofs.Common.{◌≡◌, ℕ, ◌+◌, ◌-◌, ◌<◌, ◌≤◌, List, [], ◌++◌, length, take, drop, Option, Some, arith, ap, ◌∙◌, sym, append_assoc, append-nil, length-drop, drop-drop, ◌^◌}
+use Rattle.std.proofs.Common.{◌≡◌, ℕ, ◌+◌, ◌-◌, ◌<◌, ◌≤◌, List, [], ◌++◌, length, take, drop, Option, Some, arith, ap, ◌∙◌, sym, length-drop, drop-drop, ◌^◌}
 use Rattle.std.proofs.lemmas.List.{take_all, drop_all, take-append-le, length-take-le}
 use Rattle.std.proofs.lemmas.Slice.{take-put_mid_below}
 use borrow.Rule.Slice.PartMut.{put_mid, post_of}

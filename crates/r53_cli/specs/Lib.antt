@@ -1,6 +1,8 @@
+pub mod Forms
 pub mod Laws
 pub mod Once
 pub mod Run
+pub mod Sessions
 pub mod Status
 pub mod Streams
 pub mod Words

@@ -43,13 +43,13 @@ pub record IsOnce (words : List (List ℕ)) (once : Once) : Type 0 where
   pub form : words ≡ codes "once" ∷ name ∷ ttl ∷ address ∷ []
   pub spelled : Spells name ttl address once
 
--- the words of a run with some record
-abbrev pub HasForm : List (List ℕ) → Type 0
-HasForm words = (once : Once) × IsOnce words once
+-- the words of `once` with some record
+abbrev pub HasOnce : List (List ℕ) → Type 0
+HasOnce words = (once : Once) × IsOnce words once
 
--- the words of no run
-abbrev pub HasNoForm : List (List ℕ) → Type 0
-HasNoForm words = (once : Once) → IsOnce words once → ⊥
+-- words that are not those of `once` with any record
+abbrev pub HasNoOnce : List (List ℕ) → Type 0
+HasNoOnce words = (once : Once) → IsOnce words once → ⊥
 
 -- The query asks for the record: its name, type A (1) and class IN (1).
 pub record IsAsked (once : Once) (query : Query) : Type 0 where

@@ -1,10 +1,10 @@
--- What a run leaves of its input and its sink, by its status, and why each status comes.
+-- What a run of `once` leaves of its input and its sink, by its status, and why each status comes.
 use Rattle.std.specs.Prelude.{◌≡◌, ℕ, ◌<◌, ◌⊎◌, List, [], ◌++◌, length, take, Option, Some, ⊤}
 use Rattle.octets.specs.Counts.{Rose}
 use Rattle.r53_cli.specs.declared.once.Once.{Once}
 use Rattle.r53_cli.specs.declared.status.Status.{Status}
 use Rattle.r53_cli.specs.declared.status.Status.TheVariants as status
-use Rattle.r53_cli.specs.Once.{Answers, IsOnce, HasNoForm}
+use Rattle.r53_cli.specs.Once.{Answers}
 use Rattle.r53_cli.specs.Streams.{input_limit, packet_limit, IsTooLong}
 
 -- What the input has left, and what the sink holds, where these tell it.
@@ -58,6 +58,11 @@ Responds status.ReadFault once packet before after = ⊥
 Responds status.InputTooLong once packet before after = ⊥
 Responds status.OutOfMemory once packet before after = ⊥
 Responds status.Usage once packet before after = ⊥
+Responds (status.NotAStore disk place) once packet before after = ⊥
+Responds (status.AlreadyAStore disk) once packet before after = ⊥
+Responds (status.BadTables line) once packet before after = ⊥
+Responds status.DiskFault once packet before after = ⊥
+Responds status.LinkFault once packet before after = ⊥
 
 -- what a run with this record leaves, by its status
 abbrev pub Ran : Status → Once → (before after : Outside) → Type 0
@@ -67,17 +72,14 @@ Ran status.ReadFault once before after = WritesNothing before after
 Ran status.InputTooLong once before after = ReadsTooMuch before after × WritesNothing before after
 Ran status.OutOfMemory once before after = after ≡ before
 Ran status.Usage once before after = ⊥
+Ran (status.NotAStore disk place) once before after = ⊥
+Ran (status.AlreadyAStore disk) once before after = ⊥
+Ran (status.BadTables line) once before after = ⊥
+Ran status.DiskFault once before after = ⊥
+Ran status.LinkFault once before after = ⊥
 
--- What a run leaves, by its status. At Usage and OutOfMemory it has done nothing.
-abbrev pub Leaves : Status → (words : List (List ℕ)) → (before after : Outside) → Type 0
-Leaves status.Usage words before after = HasNoForm words × (after ≡ before)
-Leaves status.Done words before after = (once : Once) × IsOnce words once × Ran status.Done once before after
-Leaves status.WriteFault words before after = (once : Once) × IsOnce words once × Ran status.WriteFault once before after
-Leaves status.ReadFault words before after = (once : Once) × IsOnce words once × Ran status.ReadFault once before after
-Leaves status.InputTooLong words before after = (once : Once) × IsOnce words once × Ran status.InputTooLong once before after
-Leaves status.OutOfMemory words before after = after ≡ before
-
--- A fault is told only where its count rose. The causes of the other statuses stand in what they leave.
+-- A fault is told only where its count rose. The causes of the other statuses stand in what they leave, and those of other forms don't
+-- come.
 abbrev pub HasCause : Status → (input_before input_now output_before output_now : ℕ) → Type 0
 HasCause status.ReadFault input_before input_now output_before output_now = Rose input_before input_now
 HasCause status.WriteFault input_before input_now output_before output_now = Rose output_before output_now
@@ -85,6 +87,11 @@ HasCause status.Done input_before input_now output_before output_now = ⊤
 HasCause status.Usage input_before input_now output_before output_now = ⊤
 HasCause status.OutOfMemory input_before input_now output_before output_now = ⊤
 HasCause status.InputTooLong input_before input_now output_before output_now = ⊤
+HasCause (status.NotAStore disk place) input_before input_now output_before output_now = ⊥
+HasCause (status.AlreadyAStore disk) input_before input_now output_before output_now = ⊥
+HasCause (status.BadTables line) input_before input_now output_before output_now = ⊥
+HasCause status.DiskFault input_before input_now output_before output_now = ⊥
+HasCause status.LinkFault input_before input_now output_before output_now = ⊥
 
 -- the run did what it was asked, or found no memory
 abbrev pub IsServed : Status → Type 0

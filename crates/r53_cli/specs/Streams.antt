@@ -1,5 +1,5 @@
 -- What the loops over a source and a sink leave, where these tell their bytes.
-use Rattle.std.specs.Prelude.{◌≡◌, ℕ, ◌^◌, ◌<◌, ◌≤◌, List, [], ◌++◌, length, take, drop, Option, Some, ⊤}
+use Rattle.std.specs.Prelude.{◌≡◌, ℕ, ◌^◌, ◌<◌, ◌≤◌, List, [], length, take, drop, Option, Some, ⊤}
 use Rattle.r53_cli.specs.declared.intake.Intake.{Intake}
 use Rattle.r53_cli.specs.declared.intake.Intake.TheVariants as intake
 use Rattle.r53_cli.specs.declared.intake.Drained.{Drained}

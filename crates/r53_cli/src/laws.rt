@@ -1,11 +1,11 @@
 //! Laws over the definitions, each the contract of a function that does nothing.
 
-ghost use Rattle.r53_cli.specs.Laws.{OneForm, OneReply};
+ghost use Rattle.r53_cli.specs.Laws.{OneForm, OneReply, OneStatus};
 
 use dns_message::one_judgement;
 use rdata::one_reading;
 
-/// The words of a run have one reading.
+/// Words have one form, and one reading of it.
 pub fn one_form()
     ensures { OneForm }
 {
@@ -18,3 +18,8 @@ pub fn one_reply()
 {
     one_judgement();
 }
+
+/// A line on standard error is that of one status.
+pub fn one_status()
+    ensures { OneStatus }
+{}

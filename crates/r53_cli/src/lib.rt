@@ -4,15 +4,20 @@
 #![tactic(auto)]
 
 mod adapters;
+mod form;
 mod intake;
 mod laws;
 mod once;
 mod program;
+mod sessions;
+mod splitting;
 mod status;
 mod words;
 
 pub use adapters::{Reading, Writing};
-pub use laws::{one_form, one_reply};
+pub use form::{Form, form_of};
+pub use laws::{one_form, one_reply, one_status};
 pub use once::Once;
 pub use program::run;
 pub use status::{Status, status_text};
+pub use zone_journal::Side;

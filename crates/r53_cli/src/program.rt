@@ -1,19 +1,26 @@
-//! The top call, step by step: words, then memory, then input, then the reply.
+//! The top call: what the words ask for, and `once` step by step: memory, then input, then the reply.
 
 ghost use Rattle.std.specs.Prelude.{◌≡◌, ℕ, ◌<◌, ◌≤◌, List, Some, length, IfOk, OnErr, map};
 ghost use Rattle.std.specs.String.{string_bytes};
 ghost use Rattle.octets.specs.Counts.{Rose};
-ghost use Rattle.r53_cli.specs.Once.{HasForm, HasNoForm};
-ghost use Rattle.r53_cli.specs.Run.{Leaves, Ran, Responds, HasCause, IsRefused, IsServed};
+ghost use Rattle.r53_cli.specs.Forms.{IsForm};
+ghost use Rattle.r53_cli.specs.Once.{HasOnce};
+ghost use Rattle.r53_cli.specs.Run.{Ran, Responds, HasCause, IsServed};
+ghost use Rattle.r53_cli.specs.Sessions.{FormLeaves, HasNoRun, IsOnceForm, IsUnbuilt, Refuses};
+ghost use Rattle.r53_cli.specs.declared.form.Form.{Form};
 ghost use Rattle.r53_cli.specs.Streams.{input_limit};
 
+use crate::form::{Form, form_of};
 use crate::intake::{Incoming, PACKET_LEN, take_packet};
+use crate::laws::one_form;
 use crate::once::Once;
+use crate::sessions::{run_dump, run_init, run_lines};
 use crate::status::Status;
-use crate::words::once_of;
 use dns_wire::Reply;
 use octets::{OutOfMemory, front, zeros};
-use r53_io::{Sink, Source};
+use r53_disk::Disk;
+use r53_io::{Link, Sink, Source};
+use rand_core::Rng;
 use std::alloc::Global;
 use whole_writing::{Output, write_whole};
 
@@ -22,42 +29,233 @@ const REPLY_ROOM: usize = 4096;
 
 /// Runs the program: `args` are the words behind its name.
 ///
-/// `once NAME TTL ADDRESS` reads one packet from `input`, and writes the reply to `out`.
-pub fn run<S: Source, K: Sink>(alloc: Global, args: &[String], input: &mut S, out: &mut K) -> Status
-    // Usage comes where the words are no form of the program, and there alone; only want of memory
-    // comes before it.
-    ensures usage { result ≡ Status.Usage → HasNoForm (map string_bytes args.now) }
-    ensures refused { HasNoForm (map string_bytes args.now) → IsRefused result }
+/// `once NAME TTL ADDRESS` reads one packet from `input`, and writes the reply to `out`. `init` makes a store with nothing in
+/// it on the two disks. `run` reads the tables, opens the store, and takes the control lines of `input`, whose replies it
+/// writes to `out`, over the network and the random source. `dump` opens the store, and writes what it holds to `out`. `drill N`
+/// isn't built yet.
+pub fn run<S: Source, T: Source, K: Sink, D: Disk, L: Link, R: Rng>(
+    alloc: Global,
+    args: &[String],
+    input: &mut S,
+    tables: &mut T,
+    out: &mut K,
+    a: &mut D,
+    b: &mut D,
+    link: &mut L,
+    words: &mut R,
+) -> Status
+    // Usage comes where the words are of no form that is built, and there alone; only want of memory
+    // comes before it, and nothing is asked.
+    ensures usage { result ≡ Status.Usage → HasNoRun (map string_bytes args.now) }
+    ensures refused { HasNoRun (map string_bytes args.now)
+        → Refuses result a.old a.new b.old b.new
+        (record {
+          left = S.left input.old;
+          rows = T.left tables.old;
+          held = K.held out.old;
+          ports = L.ports link.old;
+          coming = L.coming link.old;
+          sent = L.sent link.old;
+          words = R.stream words.old;
+        })
+        (record {
+          left = S.left input.new;
+          rows = T.left tables.new;
+          held = K.held out.new;
+          ports = L.ports link.new;
+          coming = L.coming link.new;
+          sent = L.sent link.new;
+          words = R.stream words.new;
+        })
+        (record {
+          input = S.faults input.old;
+          tables = T.faults tables.old;
+          out = K.faults out.old;
+          a = D.faults a.old;
+          b = D.faults b.old;
+          link = L.faults link.old;
+        })
+        (record {
+          input = S.faults input.new;
+          tables = T.faults tables.new;
+          out = K.faults out.new;
+          a = D.faults a.new;
+          b = D.faults b.new;
+          link = L.faults link.new;
+        }) }
 
-    // What is read and written, by the status.
-    ensures leaves { Leaves result (map string_bytes args.now)
-        (record { left = S.left input.old; held = K.held out.old })
-        (record { left = S.left input.new; held = K.held out.new }) }
+    // What is written, sent and kept, by the form and the status, with the cause of each fault.
+    ensures leaves { (form : Form) → IsForm (map string_bytes args.now) form
+        → FormLeaves D.reading D.images D.moment D.images_since form result a.old a.new b.old b.new
+        (record {
+          left = S.left input.old;
+          rows = T.left tables.old;
+          held = K.held out.old;
+          ports = L.ports link.old;
+          coming = L.coming link.old;
+          sent = L.sent link.old;
+          words = R.stream words.old;
+        })
+        (record {
+          left = S.left input.new;
+          rows = T.left tables.new;
+          held = K.held out.new;
+          ports = L.ports link.new;
+          coming = L.coming link.new;
+          sent = L.sent link.new;
+          words = R.stream words.new;
+        })
+        (record {
+          input = S.faults input.old;
+          tables = T.faults tables.old;
+          out = K.faults out.old;
+          a = D.faults a.old;
+          b = D.faults b.old;
+          link = L.faults link.old;
+        })
+        (record {
+          input = S.faults input.new;
+          tables = T.faults tables.new;
+          out = K.faults out.new;
+          a = D.faults a.new;
+          b = D.faults b.new;
+          link = L.faults link.new;
+        }) }
 
-    // A fault is told only where its count rose in this run.
-    ensures cause { HasCause result (S.faults input.old) (S.faults input.new)
-        (K.faults out.old) (K.faults out.new) }
-
-    // Words of a form, an input within the limit and no fault: the run is served, or finds no memory.
-    ensures complete { HasForm (map string_bytes args.now)
+    // Words of `once`, an input within the limit and no fault: the run is served, or finds no memory.
+    ensures complete { HasOnce (map string_bytes args.now)
         → (bytes : List ℕ) → S.left input.old ≡ Some bytes → length bytes < input_limit
         → (Rose (S.faults input.old) (S.faults input.new) → ⊥)
         → (Rose (K.faults out.old) (K.faults out.new) → ⊥)
         → IsServed result }
 {
-    let once = match once_of(alloc, args) {
-        Ok(Some(once)) => once,
-        Ok(None) => return Status::Usage,
-        Err(OutOfMemory) => return Status::OutOfMemory,
-    };
-    match run_once(alloc, &once, input, out) {
+    one_form();
+    match form_of(alloc, args) {
+        Ok(Some(form)) => run_form(alloc, &form, input, tables, out, a, b, link, words),
+        Ok(None) => Status::Usage,
+        Err(OutOfMemory) => Status::OutOfMemory,
+    }
+}
+
+/// Runs a form.
+fn run_form<S: Source, T: Source, K: Sink, D: Disk, L: Link, R: Rng>(
+    alloc: Global,
+    form: &Form,
+    input: &mut S,
+    tables: &mut T,
+    out: &mut K,
+    a: &mut D,
+    b: &mut D,
+    link: &mut L,
+    words: &mut R,
+) -> Status
+    ensures usage { result ≡ Status.Usage → IsUnbuilt form.now }
+    ensures refused { IsUnbuilt form.now → Refuses result a.old a.new b.old b.new
+        (record {
+          left = S.left input.old;
+          rows = T.left tables.old;
+          held = K.held out.old;
+          ports = L.ports link.old;
+          coming = L.coming link.old;
+          sent = L.sent link.old;
+          words = R.stream words.old;
+        })
+        (record {
+          left = S.left input.new;
+          rows = T.left tables.new;
+          held = K.held out.new;
+          ports = L.ports link.new;
+          coming = L.coming link.new;
+          sent = L.sent link.new;
+          words = R.stream words.new;
+        })
+        (record {
+          input = S.faults input.old;
+          tables = T.faults tables.old;
+          out = K.faults out.old;
+          a = D.faults a.old;
+          b = D.faults b.old;
+          link = L.faults link.old;
+        })
+        (record {
+          input = S.faults input.new;
+          tables = T.faults tables.new;
+          out = K.faults out.new;
+          a = D.faults a.new;
+          b = D.faults b.new;
+          link = L.faults link.new;
+        }) }
+    ensures leaves { FormLeaves D.reading D.images D.moment D.images_since form.now result
+        a.old a.new b.old b.new
+        (record {
+          left = S.left input.old;
+          rows = T.left tables.old;
+          held = K.held out.old;
+          ports = L.ports link.old;
+          coming = L.coming link.old;
+          sent = L.sent link.old;
+          words = R.stream words.old;
+        })
+        (record {
+          left = S.left input.new;
+          rows = T.left tables.new;
+          held = K.held out.new;
+          ports = L.ports link.new;
+          coming = L.coming link.new;
+          sent = L.sent link.new;
+          words = R.stream words.new;
+        })
+        (record {
+          input = S.faults input.old;
+          tables = T.faults tables.old;
+          out = K.faults out.old;
+          a = D.faults a.old;
+          b = D.faults b.old;
+          link = L.faults link.old;
+        })
+        (record {
+          input = S.faults input.new;
+          tables = T.faults tables.new;
+          out = K.faults out.new;
+          a = D.faults a.new;
+          b = D.faults b.new;
+          link = L.faults link.new;
+        }) }
+    ensures complete { IsOnceForm form.now
+        → (bytes : List ℕ) → S.left input.old ≡ Some bytes → length bytes < input_limit
+        → (Rose (S.faults input.old) (S.faults input.new) → ⊥)
+        → (Rose (K.faults out.old) (K.faults out.new) → ⊥)
+        → IsServed result }
+{
+    match form {
+        Form::Once(once) => run_once(alloc, once, input, out),
+        Form::Init => run_init(a, b),
+        Form::Run => run_lines(alloc, input, tables, out, a, b, link, words),
+        Form::Dump => run_dump(alloc, out, a, b),
+        Form::Drill(_) => Status::Usage,
+    }
+}
+
+/// Runs `once`, for words that are of that form.
+fn run_once<S: Source, K: Sink>(alloc: Global, once: &Once, input: &mut S, out: &mut K) -> Status
+    ensures ran { Ran result once.now
+        (record { left = S.left input.old; held = K.held out.old })
+        (record { left = S.left input.new; held = K.held out.new }) }
+    ensures cause { HasCause result (S.faults input.old) (S.faults input.new)
+        (K.faults out.old) (K.faults out.new) }
+    ensures complete { (bytes : List ℕ) → S.left input.old ≡ Some bytes → length bytes < input_limit
+        → (Rose (S.faults input.old) (S.faults input.new) → ⊥)
+        → (Rose (K.faults out.old) (K.faults out.new) → ⊥)
+        → IsServed result }
+{
+    match answer_once(alloc, once, input, out) {
         Ok(status) => status,
         Err(OutOfMemory) => Status::OutOfMemory,
     }
 }
 
-/// Runs `once`, for words that are of that form. It takes its memory before it reads.
-fn run_once<S: Source, K: Sink>(
+/// Answers one packet by one record. It takes its memory before it reads.
+fn answer_once<S: Source, K: Sink>(
     alloc: Global,
     once: &Once,
     input: &mut S,

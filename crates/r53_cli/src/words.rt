@@ -1,37 +1,40 @@
-//! The words behind the program's name: `once`, a name, seconds and an address, or no form.
+//! The words of `once`: a name, seconds and an address.
 
-ghost use Rattle.std.specs.Prelude.{◌≡◌, ◌≢◌, ℕ, ◌^◌, ◌<◌, List, map, false, IfOk, IfSome, IfNone, IsTrue, ◌↔◌, slice_index};
+ghost use Rattle.std.specs.Prelude.{◌≡◌, ◌≢◌, ℕ, ◌^◌, ◌<◌, List, map, false, IfOk, OnErr, IfSome, IfNone, IsTrue, ◌↔◌, slice_index};
 ghost use Rattle.std.specs.List.{All};
 ghost use Rattle.std.specs.String.{string_bytes};
 ghost use Rattle.std.specs.Fmt.{decimal};
 ghost use Rattle.dns_name.specs.Text.{name_of_text};
 ghost use Rattle.value_text.specs.Fields.{is_blank};
 ghost use Rattle.rdata.specs.Datum.{Datum};
-ghost use Rattle.r53_cli.specs.Once.{IsAddress, IsOnce, IsPlain, Spells, HasNoForm};
+ghost use Rattle.r53_cli.specs.Once.{IsAddress, IsOnce, IsPlain, Spells, HasNoOnce};
+ghost use Rattle.r53_cli.specs.Forms.{MayBeOnce};
 ghost use Rattle.r53_cli.specs.Words.{IsUnpadded};
 ghost use Rattle.r53_cli.specs.declared.once.Once.{Once};
 
 use crate::once::Once;
+use crate::splitting::{four, is_word};
 use dns_name::Name;
 use octets::OutOfMemory;
 use rdata::{RData, RType, ValueFault, one_reading};
 use std::alloc::Global;
 
-/// The record of the words `once NAME TTL ADDRESS`, or none where the words are of no form.
+/// The record of the words `once NAME TTL ADDRESS`, or none where the words are others.
 pub(crate) fn once_of(alloc: Global, words: &[String]) -> Result<Option<Once>, OutOfMemory>
     ensures some { IfOk result (λ found. IfSome found (IsOnce (map string_bytes words.now))) }
-    ensures none { IfOk result (λ found. IfNone found (HasNoForm (map string_bytes words.now))) }
+    ensures none { IfOk result (λ found. IfNone found (HasNoOnce (map string_bytes words.now))) }
+    ensures starved { OnErr result (MayBeOnce (map string_bytes words.now)) }
 {
     if !are_plain(words) {
         return Ok(None);
     }
-    let [form, name, ttl, address] = words else {
+    let Some((form, name, ttl, address)) = four(words) else {
         return Ok(None);
     };
-    if form.as_str() != "once" {
+    if !is_word(form, "once") {
         return Ok(None);
     }
-    record(alloc, name.as_str(), ttl.as_str(), address.as_str())
+    record(alloc, name, ttl, address)
 }
 
 /// Whether no word is an option.
@@ -124,7 +127,7 @@ fn seconds(text: &str) -> Option<u32>
 }
 
 /// The number that a text writes in decimal digits, without leading zeros.
-fn decimal_number(text: &str) -> Option<u32>
+pub(crate) fn decimal_number(text: &str) -> Option<u32>
     ensures some { IfSome result (λ n. text.now ≡ decimal n) }
     ensures none { IfNone result ((n : ℕ) → n < 2 ^ 32 → text.now ≢ decimal n) }
 {

@@ -4,6 +4,10 @@
 #[cfg(test)]
 mod edns;
 #[cfg(test)]
+mod forms;
+#[cfg(test)]
 mod once;
 #[cfg(test)]
 mod replies;
+#[cfg(test)]
+mod statuses;

@@ -2,8 +2,11 @@
 
 ghost use Rattle.std.specs.Prelude.{◌<◌};
 
-use r53_cli::{Status, run, status_text};
-use r53_io::{ListSource, VecSink};
+use r53_cli::{Status, run};
+use r53_disk::MemoryDisk;
+use r53_io::{ListSource, ScriptLink, VecSink};
+use rand_chacha::ChaCha8Rng;
+use rand_core::SeedableRng;
 use std::alloc::{AllocError, Global};
 use std::process::Abort;
 use std::test::Fail;
@@ -15,7 +18,8 @@ struct Outcome {
     sink: VecSink,
 }
 
-fn words(alloc: Global, texts: &[&str]) -> Result<Vec<String>, AllocError> {
+/// The words of a command line.
+pub(crate) fn words(alloc: Global, texts: &[&str]) -> Result<Vec<String>, AllocError> {
     let mut words = Vec::new(alloc);
     for text in texts {
         words.push(text.to_string(alloc)?)?;
@@ -37,7 +41,22 @@ fn run_over(
     let args = words(alloc, texts)?;
     let mut input = ListSource::new(alloc, input, piece, fail)?;
     let mut sink = VecSink::new(alloc, room, &[])?;
-    let status = run(alloc, &args, &mut input, &mut sink);
+    let mut tables = ListSource::new(alloc, &[], 1, &[])?;
+    let mut a = MemoryDisk::new(alloc, &[], 0, &[])?;
+    let mut b = MemoryDisk::new(alloc, &[], 0, &[])?;
+    let mut link = ScriptLink::new(alloc, Vec::new(alloc), &[])?;
+    let mut words = ChaCha8Rng::from_seed([0; 32]);
+    let status = run(
+        alloc,
+        &args,
+        &mut input,
+        &mut tables,
+        &mut sink,
+        &mut a,
+        &mut b,
+        &mut link,
+        &mut words,
+    );
     Ok(Outcome { status, sink })
 }
 
@@ -231,7 +250,7 @@ fn ends_with_a_status(rt: HostRuntime) -> Result<(), Fail> {
 
 #[test]
 fn refuses_words(rt: HostRuntime) -> Result<(), Fail> {
-    let rows: [&[&str]; 19] = [
+    let rows: [&[&str]; 23] = [
         &[],
         &["once"],
         &["once", "www.example.com"],
@@ -251,6 +270,10 @@ fn refuses_words(rt: HostRuntime) -> Result<(), Fail> {
         &["once", "www.example.com", "", "192.0.2.1"],
         &["once", "www.example.com", "300", "192.0.2.01"],
         &["once", "www.example.com", "300", "192.0.2.1 "],
+        &["init", ""],
+        &["drill"],
+        &["drill", "100001"],
+        &["drill", "007"],
     ];
     for texts in rows {
         let outcome = run_over(rt.alloc(), texts, &[0; 12], 12, &[], 600)?;
@@ -258,28 +281,4 @@ fn refuses_words(rt: HostRuntime) -> Result<(), Fail> {
         assert_eq!(rt; outcome.sink.bytes().len(), 0, "{texts:?}");
     }
     Ok(())
-}
-
-#[test]
-fn tells_its_status(rt: HostRuntime) -> Result<(), Fail> {
-    let rows = [
-        (Status::Done, 0, ""),
-        (Status::Usage, 1, "r53: usage\n"),
-        (Status::ReadFault, 3, "r53: read fault\n"),
-        (Status::WriteFault, 4, "r53: write fault\n"),
-        (Status::OutOfMemory, 7, "r53: out of memory\n"),
-        (Status::InputTooLong, 8, "r53: input too long\n"),
-    ];
-    for (status, number, text) in rows {
-        assert_eq!(rt; status.number(), number, "{status:?}");
-        assert!(rt; has_text(&status, text), "{status:?}");
-    }
-    Ok(())
-}
-
-/// Whether the program says this of a status.
-fn has_text(status: &Status, text: &str) -> bool {
-    let mut line = [0; 128];
-    let len = status_text(status, &mut line);
-    line.get(..len) == Some(text.as_bytes())
 }
