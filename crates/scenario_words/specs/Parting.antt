@@ -1,0 +1,21 @@
+-- Parts of a text, as marks part it.
+use Rattle.std.specs.Prelude.{ℕ, ◌+◌, List, [], take, drop, Option, None, Some}
+use Rattle.prefix_text.specs.Marks.{place_of}
+
+-- what stands before a place, where there is one, else all
+abbrev pub front_of : (place : Option ℕ) → List ℕ → List ℕ
+front_of None text = text
+front_of (Some at) text = take at text
+
+-- what stands behind it, else nothing
+abbrev pub rest_of : (place : Option ℕ) → List ℕ → List ℕ
+rest_of None text = []
+rest_of (Some at) text = drop (at + 1) text
+
+-- what stands before the first mark
+abbrev pub before : (mark : ℕ) → List ℕ → List ℕ
+before mark text = front_of (place_of mark text) text
+
+-- what stands behind the first mark
+abbrev pub behind : (mark : ℕ) → List ℕ → List ℕ
+behind mark text = rest_of (place_of mark text) text
