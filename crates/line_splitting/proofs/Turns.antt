@@ -3,7 +3,7 @@ use Rattle.std.proofs.Common.{◌≡◌, ℕ, zero, suc, ◌+◌, ◌*◌, ◌-�
 use Rattle.std.specs.Prelude.{if◌then◌else◌, not, ◌&&◌, nat_le, nat_lt, IsTrue, ◌↔◌}
 use Rattle.line_splitting.specs.Lines.{Event, Line, TooLong, is_blank_byte, is_blank, events_of_line, first_piece, more_pieces, pieces, events_of, but_last, ended_pieces, most_bytes}
 use Rattle.line_splitting.specs.Judging.{end_place, as_events, dropped_with}
-use Rattle.line_splitting.specs.Reading.{Reader, told, begun, to_come, is_cut, events, ready, is_begun, steps, IsOver, ReadsOn, Took, Leaves}
+use Rattle.line_splitting.specs.Reading.{Reader, told, begun, to_come, is_cut, events, ready, whole, is_begun, steps, IsOver, ReadsOn, Took, TookNothing, Leaves}
 use Rattle.line_splitting.specs.declared.reader.Next.{Next}
 use Rattle.line_splitting.specs.declared.reader.Next.TheVariants as next
 use Rattle.std.proofs.Math.Dec.{eqb-suc-zero}
@@ -17,6 +17,9 @@ use Rattle.line_splitting.specs.declared.judging.Dropped.TheVariants as dropped
 use Rattle.line_splitting.specs.declared.judging.Told.{Told}
 use Rattle.line_splitting.specs.declared.judging.Told.TheVariants as told
 use Rattle.line_splitting.proofs.Pieces.{pieces_open, pieces_at, end_within}
+
+true_not_false : true ≡ false → ⊥
+true_not_false e = absurd cc
 
 pub begun_nothing : (ps : List (List ℕ)) → events_of ps ≡ begun dropped.Nothing ps
 begun_nothing [] = refl
@@ -67,6 +70,9 @@ takes_line r k told.Nothing e h =
       events = λ left. sym (
           first_line r.dropped (is_cut r left) r.waiting (to_come r left) k (sym e)
           ∙ ap (λ es. es ++ events (past r k) left) h);
+      whole = λ going seen. sym (
+          first_line r.dropped (not r.ended) r.waiting seen k (sym e)
+          ∙ ap (λ es. es ++ whole (past r k) seen) h);
       ended = refl;
       budget = refl;
       nearer = omega (arith, n);
@@ -76,6 +82,8 @@ takes_line r k told.Line e h = record {
       ∙ ap (λ es. es ++ ready (past r k)) h;
   events = λ left. first_line r.dropped (is_cut r left) r.waiting (to_come r left) k (sym e)
       ∙ ap (λ es. es ++ events (past r k) left) h;
+  whole = λ going seen. first_line r.dropped (not r.ended) r.waiting seen k (sym e)
+      ∙ ap (λ es. es ++ whole (past r k) seen) h;
   ended = refl;
   budget = refl;
   nearer = nearer_past r k (end_within r.waiting k (sym e));
@@ -85,6 +93,8 @@ takes_line r k told.TooLong e h = record {
       ∙ ap (λ es. es ++ ready (past r k)) h;
   events = λ left. first_line r.dropped (is_cut r left) r.waiting (to_come r left) k (sym e)
       ∙ ap (λ es. es ++ events (past r k) left) h;
+  whole = λ going seen. first_line r.dropped (not r.ended) r.waiting seen k (sym e)
+      ∙ ap (λ es. es ++ whole (past r k) seen) h;
   ended = refl;
   budget = refl;
   nearer = nearer_past r k (end_within r.waiting k (sym e));
@@ -96,6 +106,7 @@ pub after_rest : (old mid : Reader) (t : Told) (new : Reader) → Rests old mid 
 after_rest old mid told.Nothing new r s = record {
   ready = s.ready ∙ r.ready;
   events = λ left. s.events left ∙ r.events left;
+  whole = λ going seen. s.whole (r.ended ∙ going) seen ∙ r.whole going seen;
   ended = s.ended ∙ r.ended;
   budget = s.budget ∙ r.budget;
   nearer = omega (arith, r.nearer, s.nearer);
@@ -103,6 +114,7 @@ after_rest old mid told.Nothing new r s = record {
 after_rest old mid told.Line new r s = record {
   ready = sym r.ready ∙ s.ready;
   events = λ left. sym (r.events left) ∙ s.events left;
+  whole = λ going seen. sym (r.whole going seen) ∙ s.whole (r.ended ∙ going) seen;
   ended = s.ended ∙ r.ended;
   budget = s.budget ∙ r.budget;
   nearer = omega (arith, r.nearer, s.nearer);
@@ -110,6 +122,7 @@ after_rest old mid told.Line new r s = record {
 after_rest old mid told.TooLong new r s = record {
   ready = sym r.ready ∙ s.ready;
   events = λ left. sym (r.events left) ∙ s.events left;
+  whole = λ going seen. sym (r.whole going seen) ∙ s.whole (r.ended ∙ going) seen;
   ended = s.ended ∙ r.ended;
   budget = s.budget ∙ r.budget;
   nearer = omega (arith, r.nearer, s.nearer);
@@ -119,6 +132,7 @@ pub rests_still : (r : Reader) → Rests r r
 rests_still r = record {
   ready = refl;
   events = λ left. refl;
+  whole = λ going seen. refl;
   ended = refl;
   budget = refl;
   nearer = omega arith;
@@ -197,6 +211,7 @@ pub takes_last : (r : Reader) (t : Told) → end_place r.waiting ≡ None → r.
 takes_last r told.Nothing h e is = record {
   ready = sym (last_ready r h e ∙ ap (λ es. es ++ ready (at_end r)) is);
   events = λ left. sym (last_events r left h e ∙ ap (λ es. es ++ events (at_end r) left) is);
+  whole = λ going seen. absurd (true_not_false (sym e ∙ going));
   ended = refl;
   budget = refl;
   nearer = omega arith;
@@ -204,6 +219,7 @@ takes_last r told.Nothing h e is = record {
 takes_last r told.Line h e is = record {
   ready = last_ready r h e ∙ ap (λ es. es ++ ready (at_end r)) is;
   events = λ left. last_events r left h e ∙ ap (λ es. es ++ events (at_end r) left) is;
+  whole = λ going seen. absurd (true_not_false (sym e ∙ going));
   ended = refl;
   budget = refl;
   nearer = omega (arith, told_none r.dropped r.waiting _ is);
@@ -211,6 +227,7 @@ takes_last r told.Line h e is = record {
 takes_last r told.TooLong h e is = record {
   ready = last_ready r h e ∙ ap (λ es. es ++ ready (at_end r)) is;
   events = λ left. last_events r left h e ∙ ap (λ es. es ++ events (at_end r) left) is;
+  whole = λ going seen. absurd (true_not_false (sym e ∙ going));
   ended = refl;
   budget = refl;
   nearer = omega (arith, told_none r.dropped r.waiting _ is);
@@ -352,6 +369,9 @@ room r w e none h =
           ap (λ v. begun (dropped_with r.dropped r.waiting)
           (ended_pieces (is_cut r left) (v ++ to_come r left))) e
           ∙ dropped_events r.dropped (is_cut r left) r.waiting (to_come r left) none h;
+      whole = λ seen.
+          ap (λ v. begun (dropped_with r.dropped r.waiting) (ended_pieces (not r.ended) (v ++ seen))) e
+          ∙ dropped_events r.dropped (not r.ended) r.waiting seen none h;
       ended = refl;
       budget = refl;
       nearer = omega (
@@ -437,9 +457,6 @@ cut_read left w new after (suc m) (suc b) p h a =
     ∙ ap (nat_le (suc b - suc m)) (length-drop (suc m) left)
     ∙ le_less (suc b) (length left) (suc m) h a.within
 
-true_not_false : true ≡ false → ⊥
-true_not_false e = absurd cc
-
 end_read : (left : List ℕ) (w new : List ℕ) (after : Option (List ℕ)) (n : ℕ)
     → Adds left after n w new → ((n == 0) ≡ true) ↔ (left ≡ [])
 end_read left w new after zero a = (λ e. a.at_end refl, λ e. refl)
@@ -478,6 +495,14 @@ took now mid v w left after n room e going_on some h a =
       is_cut = ap (λ i. is_cut new (drop i left)) j
           ∙ cut_read left v.waiting w.waiting after n v.budget (omega (arith, b, some)) h a
           ∙ ap (λ i. nat_le i (length left)) b ∙ sym (going_cut now left going_on);
+      whole = λ going more seen.
+          ap (λ t. begun v.dropped (ended_pieces (not t) (w.waiting ++ seen))) more
+          ∙ ap (λ x. begun v.dropped (ended_pieces true (x ++ seen))) a.bytes
+          ∙ ap (λ x. begun v.dropped (ended_pieces true x)) (append_assoc v.waiting (take n left) seen)
+          ∙ sym (ap (λ t. begun v.dropped (ended_pieces (not t) (v.waiting ++ (take n left ++ seen)))) ve)
+          ∙ ap (λ r. whole r (take n left ++ seen)) e
+          ∙ room.whole (take n left ++ seen)
+          ∙ ap (λ i. whole now (take i left ++ seen)) (sym j);
       end = end_read left v.waiting w.waiting after n a;
     }
 
@@ -524,6 +549,7 @@ leaves_after old mid left next.Failed new after r t = record {
   rest = t.rest;
   events = t.events ∙ r.events left;
   is_cut = t.is_cut ∙ same_cut old mid left r;
+  whole = λ going seen. t.whole (r.ended ∙ going) seen ∙ r.whole going seen;
 }
   where
     same_cut : (old mid : Reader) (left : List ℕ) → Rests old mid
@@ -543,5 +569,8 @@ leaves_after old mid left next.Read new after r t =
       is_cut = ap (λ i. is_cut new (drop i left)) (sym j) ∙ t.is_cut
           ∙ ap (λ e. not e && nat_le mid.budget (length left)) r.ended
           ∙ ap (λ b. not old.ended && nat_le b (length left)) r.budget;
+      whole = λ going more seen. t.whole (r.ended ∙ going) more seen
+          ∙ r.whole going (take (mid.budget - new.budget) left ++ seen)
+          ∙ ap (λ i. whole old (take i left ++ seen)) j;
       end = t.end;
     }

@@ -3,7 +3,7 @@ use Rattle.std.specs.Prelude.{◌≡◌, ℕ, ◌+◌, ◌*◌, ◌-◌, ◌<◌
 use Rattle.std.specs.Prelude.{Bool, true, false, ◌&&◌, ◌==◌, nat_le, if◌then◌else◌, Option, Some, ⊤}
 use Rattle.std.specs.Prelude.{IsTrue, ◌↔◌, not}
 use Rattle.line_splitting.specs.Lines.{Event, Line, TooLong, is_blank, events_of_line, events_of}
-use Rattle.line_splitting.specs.Lines.{ended_pieces, input_limit, input_lines, is_too_long}
+use Rattle.line_splitting.specs.Lines.{but_last, ended_pieces, input_limit, input_lines, is_too_long, pieces}
 use Rattle.line_splitting.specs.declared.judging.Dropped.{Dropped}
 use Rattle.line_splitting.specs.declared.judging.Dropped.TheVariants as dropped
 use Rattle.line_splitting.specs.declared.reader.Next.{Next}
@@ -56,6 +56,10 @@ events r left = begun r.dropped (ended_pieces (is_cut r left) (r.waiting ++ to_c
 abbrev pub ready : Reader → List Event
 ready r = begun r.dropped (ended_pieces (not r.ended) r.waiting)
 
+-- the lines that would wait whole, where these bytes stood behind those that wait
+abbrev pub whole : Reader → (seen : List ℕ) → List Event
+whole r seen = begun r.dropped (ended_pieces (not r.ended) (r.waiting ++ seen))
+
 -- How far the reader is from its end: this falls with each line, and with each read.
 abbrev pub is_begun : Dropped → ℕ
 is_begun dropped.Nothing = 0
@@ -69,6 +73,7 @@ steps r = 2 * r.budget + length r.waiting + is_begun r.dropped + (if r.ended the
 pub record Gives (old : Reader) (event : Event) (new : Reader) : Type 0 where
   pub ready : ready old ≡ event ∷ ready new
   pub events : (left : List ℕ) → events old left ≡ event ∷ events new left
+  pub whole : old.ended ≡ false → (seen : List ℕ) → whole old seen ≡ event ∷ whole new seen
   pub ended : new.ended ≡ old.ended
   pub budget : new.budget ≡ old.budget
   pub nearer : steps new < steps old
@@ -97,7 +102,7 @@ Answers old next.Read new = ReadsOn old × (steps new < steps old)
 Answers old next.Failed new = ReadsOn old × (steps new ≤ steps old)
 
 -- A read took the first of the bytes that were left, and none where none was left. What is to
--- come is what was to come.
+-- come is what was to come; and the bytes that it took stand behind those that waited.
 pub record Took (old : Reader) (left : List ℕ) (new : Reader) (after : Option (List ℕ))
     : Type 0 where
   pub counted : new.budget ≤ old.budget
@@ -105,6 +110,8 @@ pub record Took (old : Reader) (left : List ℕ) (new : Reader) (after : Option 
   pub rest : after ≡ Some (drop (old.budget - new.budget) left)
   pub events : events new (drop (old.budget - new.budget) left) ≡ events old left
   pub is_cut : is_cut new (drop (old.budget - new.budget) left) ≡ is_cut old left
+  pub whole : old.ended ≡ false → new.ended ≡ false → (seen : List ℕ)
+      → whole new seen ≡ whole old (take (old.budget - new.budget) left ++ seen)
   pub end : IsTrue new.ended ↔ (left ≡ [])
 
 -- A read that failed took nothing.
@@ -113,6 +120,7 @@ pub record TookNothing (old : Reader) (left : List ℕ) (new : Reader) (after : 
   pub rest : after ≡ Some left
   pub events : events new left ≡ events old left
   pub is_cut : is_cut new left ≡ is_cut old left
+  pub whole : old.ended ≡ false → (seen : List ℕ) → whole new seen ≡ whole old seen
 
 -- what an answer says of the bytes that the source had left, and has left after it
 abbrev pub Leaves : (old : Reader) → (left : List ℕ) → Next → (new : Reader)
@@ -133,10 +141,12 @@ IfStill next.TooLong P = P
 IfStill next.Ended P = P
 IfStill next.InputTooLong P = P
 
--- A fresh reader has all lines of its source to come.
+-- A fresh reader has all lines of its source to come; and of its first bytes those that end within
+-- them.
 abbrev pub FreshReader : Type 0
 FreshReader = (input : List ℕ) → (events fresh input ≡ input_lines input)
     × (is_cut fresh input ≡ is_too_long input)
+    × (whole fresh input ≡ events_of (but_last (pieces input)))
 
 -- The answer by what waits. Whether a read fails is the source's.
 abbrev pub first_of : List Event → Next → Next

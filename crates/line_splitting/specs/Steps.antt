@@ -1,8 +1,8 @@
 -- The steps of a turn: a line that is taken, a rest that is dropped.
-use Rattle.std.specs.Prelude.{◌≡◌, ℕ, ◌≤◌, List, [], length, true, None, ⊤}
+use Rattle.std.specs.Prelude.{◌≡◌, ℕ, ◌≤◌, List, [], length, true, false, None, ⊤}
 use Rattle.line_splitting.specs.Lines.{Line, TooLong, most_bytes}
 use Rattle.line_splitting.specs.Judging.{end_place}
-use Rattle.line_splitting.specs.Reading.{Reader, Gives, events, ready, steps}
+use Rattle.line_splitting.specs.Reading.{Reader, Gives, events, ready, steps, whole}
 use Rattle.line_splitting.specs.declared.judging.Dropped.TheVariants as dropped
 use Rattle.line_splitting.specs.declared.judging.Told.{Told}
 use Rattle.line_splitting.specs.declared.judging.Told.TheVariants as told
@@ -11,6 +11,7 @@ use Rattle.line_splitting.specs.declared.judging.Told.TheVariants as told
 pub record Rests (old new : Reader) : Type 0 where
   pub ready : ready new ≡ ready old
   pub events : (left : List ℕ) → events new left ≡ events old left
+  pub whole : old.ended ≡ false → (seen : List ℕ) → whole new seen ≡ whole old seen
   pub ended : new.ended ≡ old.ended
   pub budget : new.budget ≡ old.budget
   pub nearer : steps new ≤ steps old
@@ -34,6 +35,7 @@ pub record IsOpen (r : Reader) : Type 0 where
 -- There is room for a read, and all lines are to come.
 pub record HasRoom (old new : Reader) : Type 0 where
   pub events : (left : List ℕ) → events new left ≡ events old left
+  pub whole : (seen : List ℕ) → whole new seen ≡ whole old seen
   pub ended : new.ended ≡ old.ended
   pub budget : new.budget ≡ old.budget
   pub nearer : steps new ≤ steps old
