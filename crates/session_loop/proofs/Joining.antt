@@ -1,11 +1,11 @@
 -- A session over some lines, and one over the lines behind them, are one over all.
 use Rattle.std.proofs.Common.{◌≡◌, ◌∙◌, ℕ, List, [], ◌∷◌, ◌++◌, Bool, true, false, Option, Some, ap, append_assoc, refl, subst, sym}
 use Rattle.line_splitting.specs.Lines.{Event, Line, TooLong}
-use Rattle.line_splitting.specs.Reading.{Reader, events, is_cut}
+use Rattle.line_splitting.specs.Reading.{Reader, events, is_cut, whole}
 use Rattle.r53_io.specs.Network.{Incoming}
 use Rattle.rand_core.specs.Stream.{Stream}
-use Rattle.session_loop.specs.Ending.{AllTold, Ends, First, IsCut, IsTold, IsTorn, IsUnsent}
-use Rattle.session_loop.specs.Turning.{GoesOn}
+use Rattle.session_loop.specs.Ending.{AllTold, Ends, First, IsAll, IsCut, IsBroken, AreReplied, IsTorn, IsUnsent}
+use Rattle.session_loop.specs.Turning.{GoesOn, beyond, input_of}
 use Rattle.session_loop.specs.declared.ended.Ended.{Ended}
 use Rattle.session_loop.specs.declared.ended.Ended.TheVariants as ended
 use Rattle.session_model.specs.Replies.{too_long_text}
@@ -96,73 +96,109 @@ module _ (around : Surroundings) (first middle : Reader) (left : List ℕ) (had 
       → GoesOn around middle last g.rest after g.session.new server network random
       (held ++ g.session.output) (before ++ g.session.sent) out sent
       → GoesOn around first last left after start server network random held before out sent
+  unfolding first_join
   goes_join last after server network random out sent h = record {
+    seen = g.seen ++ h.seen;
     rest = h.rest;
     session = followed g.session h.session;
+    parts = g.parts ∙ ap (λ (l : List ℕ). g.seen ++ l) h.parts
+        ∙ sym (append_assoc g.seen h.seen h.rest);
     has = h.has;
     first = first_join around (events first left) (events middle g.rest) (events last h.rest) start
         g.session h.session g.first h.first;
     cut = h.cut ∙ g.cut;
+    beyond = h.beyond ∙ g.beyond;
+    going = λ is. g.going (h.going is);
+    whole = λ is more. append_assoc g.first.done h.first.done (whole last more)
+        ∙ ap (λ (l : List Event). g.first.done ++ l) (h.whole is more)
+        ∙ g.whole (h.going is) (h.seen ++ more)
+        ∙ ap (λ (l : List ℕ). whole first l) (sym (append_assoc g.seen h.seen more));
     told = told_join g.session h.session held before out sent h.told;
     stands = h.stands;
   }
 
   module _ {D : Type 0} (images : D → List ℕ → Type 0) (a b : D)
-      (network : Option (List Incoming)) (out : Option (List ℕ)) (sent : Option (List Datagram))
-    where
-      told_on : (more : List Event)
-          → IsTold images a b around (events middle g.rest) g.session.new more
-          (held ++ g.session.output) (before ++ g.session.sent) out sent
-          → IsTold images a b around (events first left) start more held before out sent
-      told_on more h = record {
-        session = followed g.session h.session;
-        first = first_join around (events first left) (events middle g.rest) more start g.session
-            h.session g.first h.first;
-        told = told_join g.session h.session held before out sent h.told;
-        files = h.files;
-      }
+      (after : Option (List ℕ)) (network : Option (List Incoming)) (random : Stream)
+      (out : Option (List ℕ)) (sent : Option (List Datagram)) where
+    told_on : (more : List Event)
+        → AreReplied images a b around (events middle g.rest) g.session.new more
+        (held ++ g.session.output) (before ++ g.session.sent) network random out sent
+        → AreReplied images a b around (events first left) start more held before network random out sent
+    told_on more h = record {
+      session = followed g.session h.session;
+      first = first_join around (events first left) (events middle g.rest) more start g.session
+          h.session g.first h.first;
+      told = told_join g.session h.session held before out sent h.told;
+      rest = h.rest;
+      files = h.files;
+    }
 
-      pub ends_join : (how : Ended)
-          → Ends how images a b around (events middle g.rest) (is_cut middle g.rest) g.session.new
-          (held ++ g.session.output) (before ++ g.session.sent) network out sent
-          → Ends how images a b around (events first left) (is_cut first left) start held before
-          network out sent
-      ends_join ended.Done (none, h) = (sym g.cut ∙ none, told_on [] h)
-      ends_join ended.InputTooLong (more, h) = (sym g.cut ∙ more, told_on [] h)
-      ends_join ended.ReadFault (more, h) = (more, told_on more h)
-      ends_join ended.WriteFault h = record {
-        session = followed g.session h.session;
-        event = h.event;
-        more = h.more;
-        step = h.step;
-        first = first_join around (events first left) (events middle g.rest) (h.event ∷ h.more) start
-            g.session h.session g.first h.first;
-        comes = h.comes;
-        reply = subst (λ (l : List ℕ). OutputOf l out output.Failed h.step.reply)
-            (append_assoc held g.session.output h.session.output) h.reply;
-        datagrams = h.datagrams ∙ ap (λ (l : List Datagram). Some (l ++ h.step.sent))
-            (append_assoc before g.session.sent h.session.sent);
-        files = h.files;
-      }
-      ends_join ended.DiskFault h = record {
-        session = followed g.session h.session;
-        octets = h.octets;
-        more = h.more;
-        step = h.step;
-        first = first_join around (events first left) (events middle g.rest)
-            (Line h.octets ∷ h.more) start g.session h.session g.first h.first;
-        told = told_join g.session h.session held before out sent h.told;
-        steps = h.steps;
-        files = h.files;
-      }
-      ends_join ended.LinkFault h = record {
-        session = followed g.session h.session;
-        octets = h.octets;
-        more = h.more;
-        first = first_join around (events first left) (events middle g.rest)
-            (Line h.octets ∷ h.more) start g.session h.session g.first h.first;
-        replies = h.replies ∙ ap Some (append_assoc held g.session.output h.session.output);
-        part = subst (λ (l : List Datagram). PartOfOctets around h.octets h.session.new l network sent)
-            (append_assoc before g.session.sent h.session.sent) h.part;
-        files = h.files;
-      }
+    all_on : IsAll images a b around (input_of middle g.rest) g.session.new
+        (held ++ g.session.output) (before ++ g.session.sent) after network random out sent
+        → IsAll images a b around (input_of first left) start held before after network random out
+        sent
+    all_on h = (h.0 ∙ ap Some g.beyond, told_on [] h.1)
+
+    broken_on : middle.ended ≡ false
+        → IsBroken images a b around (input_of middle g.rest) g.session.new
+        (held ++ g.session.output) (before ++ g.session.sent) after network random out sent
+        → IsBroken images a b around (input_of first left) start held before after network random out
+        sent
+    unfolding told_on first_join
+    broken_on going h = record {
+      seen = g.seen ++ h.seen;
+      unseen = h.unseen;
+      more = h.more;
+      parts = g.parts ∙ ap (λ (l : List ℕ). g.seen ++ l) h.parts
+          ∙ sym (append_assoc g.seen h.seen h.unseen);
+      has = h.has;
+      all = told_on h.more h.all;
+      ending = ap (λ (l : List Event). g.first.done ++ l) h.ending ∙ g.whole going h.seen;
+    }
+
+    pub ends_join : (how : Ended) → (how ≡ ended.ReadFault → middle.ended ≡ false)
+        → Ends how images a b around (input_of middle g.rest) g.session.new
+        (held ++ g.session.output) (before ++ g.session.sent) after network random out sent
+        → Ends how images a b around (input_of first left) start held before after network random
+        out sent
+    ends_join ended.Done going h = (sym g.cut ∙ h.0, all_on h.1)
+    ends_join ended.InputTooLong going h = (sym g.cut ∙ h.0, all_on h.1)
+    ends_join ended.ReadFault going h = broken_on (going refl) h
+    ends_join ended.WriteFault going h = record {
+      session = followed g.session h.session;
+      event = h.event;
+      more = h.more;
+      step = h.step;
+      first = first_join around (events first left) (events middle g.rest) (h.event ∷ h.more) start
+          g.session h.session g.first h.first;
+      comes = h.comes;
+      reply = subst (λ (l : List ℕ). OutputOf l out output.Failed h.step.reply)
+          (append_assoc held g.session.output h.session.output) h.reply;
+      datagrams = h.datagrams ∙ ap (λ (l : List Datagram). Some (l ++ h.step.sent))
+          (append_assoc before g.session.sent h.session.sent);
+      rest = h.rest;
+      files = h.files;
+    }
+    ends_join ended.DiskFault going h = record {
+      session = followed g.session h.session;
+      octets = h.octets;
+      more = h.more;
+      step = h.step;
+      first = first_join around (events first left) (events middle g.rest)
+          (Line h.octets ∷ h.more) start g.session h.session g.first h.first;
+      told = told_join g.session h.session held before out sent h.told;
+      rest = h.rest;
+      steps = h.steps;
+      files = h.files;
+    }
+    ends_join ended.LinkFault going h = record {
+      session = followed g.session h.session;
+      octets = h.octets;
+      more = h.more;
+      first = first_join around (events first left) (events middle g.rest)
+          (Line h.octets ∷ h.more) start g.session h.session g.first h.first;
+      replies = h.replies ∙ ap Some (append_assoc held g.session.output h.session.output);
+      part = subst (λ (l : List Datagram). PartOfOctets around h.octets h.session.new l network sent)
+          (append_assoc before g.session.sent h.session.sent) h.part;
+      files = h.files;
+    }

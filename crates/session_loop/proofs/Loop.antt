@@ -21,11 +21,16 @@ pub at_first : (around : Surroundings) (reader : Reader) (left : List ℕ) (afte
     → GoesOn around reader reader left after start server network random held before out sent
 at_first around reader left after start server network random held before out sent has stands tells
     was = record {
+      seen = [];
       rest = left;
       session = begun start;
+      parts = refl;
       has = has;
       first = record { done = []; choices = []; parts = refl; comes = refl };
       cut = refl;
+      beyond = refl;
+      going = λ is. is;
+      whole = λ is more. refl;
       told = record {
         replies = tells ∙ ap Some (sym (append-nil held));
         datagrams = was ∙ ap Some (sym (append-nil before));

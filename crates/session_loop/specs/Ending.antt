@@ -9,6 +9,7 @@ use Rattle.config_model.specs.Configs.{Config}
 use Rattle.line_splitting.specs.Lines.{Event, Line, TooLong}
 use Rattle.octets.specs.Counts.{Rose}
 use Rattle.r53_io.specs.Network.{Incoming}
+use Rattle.rand_core.specs.Stream.{Stream}
 use Rattle.session_loop.specs.declared.ended.Ended.{Ended}
 use Rattle.session_loop.specs.declared.ended.Ended.TheVariants as ended
 use Rattle.session_model.specs.Replies.{too_long_text}
@@ -20,6 +21,15 @@ use Rattle.session_server.specs.Taking.{PartOfOctets}
 use Rattle.store_model.specs.Opening.{OpensConfig}
 use Rattle.whole_writing.specs.Output.{OutputOf}
 use Rattle.whole_writing.specs.declared.output.Output.TheVariants as output
+
+-- An input: its octets, its lines, whether the limit comes before its end, what isn't read of it once
+-- all lines were taken, and the lines that end within its first octets.
+pub record Input : Type 0 where
+  pub octets : List ℕ
+  pub lines : List Event
+  pub is_long : Bool
+  pub beyond : List ℕ
+  pub ending_in : (first : List ℕ) → List Event
 
 -- A session over the first of some lines, with the others to come.
 pub record First (around : Surroundings) (lines : List Event) (start : State) (more : List Event)
@@ -46,22 +56,43 @@ EventComes around (Line octets) old step =
     (wanted : Bool) × LineComes around octets wanted old step
 EventComes around TooLong old step = step ≡ told_alone too_long_text old
 
+-- Of the network and of the random words what comes next is what a session has left.
+pub record IsLeft (now : State) (network : Option (List Incoming)) (random : Stream) : Type 0 where
+  pub coming : network ≡ Some now.arrivals
+  pub words : now.words ≡ random
+
 -- ---- by the answer
 
 -- A session over the first lines, all told, to which the files open.
-pub record IsTold {D : Type 0} (images : D → List ℕ → Type 0) (a b : D) (around : Surroundings)
+pub record AreReplied {D : Type 0} (images : D → List ℕ → Type 0) (a b : D) (around : Surroundings)
     (lines : List Event) (start : State) (more : List Event) (held : List ℕ)
-    (before : List Datagram) (out : Option (List ℕ)) (sent : Option (List Datagram)) : Type 0 where
+    (before : List Datagram) (network : Option (List Incoming)) (random : Stream)
+    (out : Option (List ℕ)) (sent : Option (List Datagram)) : Type 0 where
   pub session : Session
   pub first : First around lines start more session
   pub told : AllTold session held before out sent
+  pub rest : IsLeft session.new network random
   pub files : FilesOpen images a b session.new.engine.config
+
+-- The same over the lines that end within what was read of an input, which failed behind that.
+pub record IsBroken {D : Type 0} (images : D → List ℕ → Type 0) (a b : D) (around : Surroundings)
+    (input : Input) (start : State) (held : List ℕ) (before : List Datagram)
+    (left : Option (List ℕ)) (network : Option (List Incoming)) (random : Stream)
+    (out : Option (List ℕ)) (sent : Option (List Datagram)) : Type 0 where
+  pub seen : List ℕ
+  pub unseen : List ℕ
+  pub more : List Event
+  pub parts : input.octets ≡ seen ++ unseen
+  pub has : left ≡ Some unseen
+  pub all : AreReplied images a b around input.lines start more held before network random out sent
+  pub ending : all.first.done ≡ input.ending_in seen
 
 -- Behind a session over the first lines one more was taken, of whose reply a part was written that
 -- isn't the whole; to where it stands then the files open.
 pub record IsCut {D : Type 0} (images : D → List ℕ → Type 0) (a b : D) (around : Surroundings)
     (lines : List Event) (start : State) (held : List ℕ) (before : List Datagram)
-    (out : Option (List ℕ)) (sent : Option (List Datagram)) : Type 0 where
+    (network : Option (List Incoming)) (random : Stream) (out : Option (List ℕ))
+    (sent : Option (List Datagram)) : Type 0 where
   pub session : Session
   pub event : Event
   pub more : List Event
@@ -70,19 +101,22 @@ pub record IsCut {D : Type 0} (images : D → List ℕ → Type 0) (a b : D) (ar
   pub comes : EventComes around event session.new step
   pub reply : OutputOf (held ++ session.output) out output.Failed step.reply
   pub datagrams : sent ≡ Some (before ++ session.sent ++ step.sent)
+  pub rest : IsLeft step.new network random
   pub files : FilesOpen images a b step.new.engine.config
 
 -- Behind a session over the first lines, all told, a disk failed with the next: the files open to
 -- where the session stands, or to where it would with that line.
 pub record IsTorn {D : Type 0} (images : D → List ℕ → Type 0) (a b : D) (around : Surroundings)
     (lines : List Event) (start : State) (held : List ℕ) (before : List Datagram)
-    (out : Option (List ℕ)) (sent : Option (List Datagram)) : Type 0 where
+    (network : Option (List Incoming)) (random : Stream) (out : Option (List ℕ))
+    (sent : Option (List Datagram)) : Type 0 where
   pub session : Session
   pub octets : List ℕ
   pub more : List Event
   pub step : Step
   pub first : First around lines start (Line octets ∷ more) session
   pub told : AllTold session held before out sent
+  pub rest : IsLeft session.new network random
   pub steps : OctetsStep around octets session.new step
   pub files : ImagesOpen images a b session.new.engine.config step.new.engine.config
 
@@ -100,23 +134,34 @@ pub record IsUnsent {D : Type 0} (images : D → List ℕ → Type 0) (a b : D) 
   pub part : PartOfOctets around octets session.new (before ++ session.sent) network sent
   pub files : FilesOpen images a b session.new.engine.config
 
--- What lines leave, by how they ended; is_cut tells whether there is more input than the limit.
-abbrev pub Ends : {D : Type 0} → Ended → (images : D → List ℕ → Type 0) → (a b : D)
-    → Surroundings → (lines : List Event) → (is_cut : Bool) → (start : State) → (held : List ℕ)
-    → (before : List Datagram) → (network : Option (List Incoming)) → (out : Option (List ℕ))
+-- All lines were taken, and no more of the input than that needs.
+abbrev pub IsAll : {D : Type 0} → (images : D → List ℕ → Type 0) → (a b : D) → Surroundings → Input
+    → (start : State) → (held : List ℕ) → (before : List Datagram) → (left : Option (List ℕ))
+    → (network : Option (List Incoming)) → (random : Stream) → (out : Option (List ℕ))
     → (sent : Option (List Datagram)) → Type 0
-Ends ended.Done images a b around lines is_cut start held before network out sent =
-    (is_cut ≡ false) × IsTold images a b around lines start [] held before out sent
-Ends ended.InputTooLong images a b around lines is_cut start held before network out sent =
-    (is_cut ≡ true) × IsTold images a b around lines start [] held before out sent
-Ends ended.ReadFault images a b around lines is_cut start held before network out sent =
-    (more : List Event) × IsTold images a b around lines start more held before out sent
-Ends ended.WriteFault images a b around lines is_cut start held before network out sent =
-    IsCut images a b around lines start held before out sent
-Ends ended.DiskFault images a b around lines is_cut start held before network out sent =
-    IsTorn images a b around lines start held before out sent
-Ends ended.LinkFault images a b around lines is_cut start held before network out sent =
-    IsUnsent images a b around lines start held before network out sent
+IsAll images a b around input start held before left network random out sent =
+    (left ≡ Some input.beyond)
+    × AreReplied images a b around input.lines start [] held before network random out sent
+
+-- What the lines of an input leave, by how they ended; left tells what the input has left then.
+abbrev pub Ends : {D : Type 0} → Ended → (images : D → List ℕ → Type 0) → (a b : D)
+    → Surroundings → Input → (start : State) → (held : List ℕ) → (before : List Datagram)
+    → (left : Option (List ℕ)) → (network : Option (List Incoming)) → (random : Stream)
+    → (out : Option (List ℕ)) → (sent : Option (List Datagram)) → Type 0
+Ends ended.Done images a b around input start held before left network random out sent =
+    (input.is_long ≡ false)
+    × IsAll images a b around input start held before left network random out sent
+Ends ended.InputTooLong images a b around input start held before left network random out sent =
+    (input.is_long ≡ true)
+    × IsAll images a b around input start held before left network random out sent
+Ends ended.ReadFault images a b around input start held before left network random out sent =
+    IsBroken images a b around input start held before left network random out sent
+Ends ended.WriteFault images a b around input start held before left network random out sent =
+    IsCut images a b around input.lines start held before network random out sent
+Ends ended.DiskFault images a b around input start held before left network random out sent =
+    IsTorn images a b around input.lines start held before network random out sent
+Ends ended.LinkFault images a b around input start held before left network random out sent =
+    IsUnsent images a b around input.lines start held before network out sent
 
 -- ---- faults
 

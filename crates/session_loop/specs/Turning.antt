@@ -1,9 +1,9 @@
 -- What a turn of the loop leaves.
-use Rattle.std.specs.Prelude.{◌≡◌, ℕ, List, Option, None, Some}
-use Rattle.line_splitting.specs.Reading.{Reader, events, is_cut}
+use Rattle.std.specs.Prelude.{◌≡◌, ℕ, List, ◌++◌, drop, if◌then◌else◌, false, Option, None, Some}
+use Rattle.line_splitting.specs.Reading.{Reader, events, is_cut, whole}
 use Rattle.r53_io.specs.Network.{Incoming}
 use Rattle.rand_core.specs.Stream.{Stream}
-use Rattle.session_loop.specs.Ending.{AllTold, Ends, First}
+use Rattle.session_loop.specs.Ending.{AllTold, Ends, First, Input}
 use Rattle.session_loop.specs.declared.ended.Ended.{Ended}
 use Rattle.session_loop.specs.declared.ended.Ended.TheVariants as ended
 use Rattle.session_model.specs.Serving.{Datagram}
@@ -20,17 +20,38 @@ ended_of taken.WriteFault = Some ended.WriteFault
 ended_of taken.DiskFault = Some ended.DiskFault
 ended_of taken.LinkFault = Some ended.LinkFault
 
+-- what a reader doesn't take of what its source has left
+abbrev pub beyond : Reader → (left : List ℕ) → List ℕ
+beyond r left = if r.ended then left else drop r.budget left
+
+-- the input that a reader has to come, where its source has these bytes left
+abbrev pub input_of : Reader → (left : List ℕ) → Input
+input_of r left = record {
+  octets = left;
+  lines = events r left;
+  is_long = is_cut r left;
+  beyond = beyond r left;
+  ending_in = whole r;
+}
+
 -- A session over the first lines that a reader had to come, of which it has the others to come still,
--- all told; and the server stands where it does.
+-- all told; and the server stands where it does. The lines and those that wait whole are those that end
+-- within what was read.
 pub record GoesOn (around : Surroundings) (old new : Reader) (left : List ℕ)
     (after : Option (List ℕ)) (start : State) (server : Server) (network : Option (List Incoming))
     (random : Stream) (held : List ℕ) (before : List Datagram) (out : Option (List ℕ))
     (sent : Option (List Datagram)) : Type 0 where
+  pub seen : List ℕ
   pub rest : List ℕ
   pub session : Session
+  pub parts : left ≡ seen ++ rest
   pub has : after ≡ Some rest
   pub first : First around (events old left) start (events new rest) session
   pub cut : is_cut new rest ≡ is_cut old left
+  pub beyond : beyond new rest ≡ beyond old left
+  pub going : new.ended ≡ false → old.ended ≡ false
+  pub whole : new.ended ≡ false → (more : List ℕ)
+      → first.done ++ whole new more ≡ whole old (seen ++ more)
   pub told : AllTold session held before out sent
   pub stands : StandsFor session.new server network random
 
@@ -44,5 +65,4 @@ TurnLeaves None images a b around old new left after start server network random
     GoesOn around old new left after start server network random held before out sent
 TurnLeaves (Some ended) images a b around old new left after start server network random held
     before out sent =
-    Ends ended images a b around (events old left) (is_cut old left) start held before network out
-    sent
+    Ends ended images a b around (input_of old left) start held before after network random out sent

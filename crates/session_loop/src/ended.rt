@@ -5,7 +5,7 @@
 pub enum Ended {
     /// All of them were taken.
     Done,
-    /// The input failed. The lines that were taken are the first of it; how many, no clause tells.
+    /// The input failed. The lines that end within what was read of it were taken.
     ReadFault,
     /// 2^40 octets of input were read without its end. The lines that end within them were taken.
     InputTooLong,

@@ -1,8 +1,8 @@
 //! The loop over an input.
 
 ghost use Rattle.std.specs.Prelude.{◌≡◌, ◌≤◌, ℕ, List, Some};
-ghost use Rattle.line_splitting.specs.Reading.{events, is_cut};
 ghost use Rattle.session_loop.specs.Ending.{Ends, HasCause};
+ghost use Rattle.session_loop.specs.Turning.{input_of};
 ghost use Rattle.session_model.specs.Serving.{Datagram};
 ghost use Rattle.session_model.specs.Steps.{State, Surroundings};
 ghost use Rattle.session_server.specs.Holding.{Holds};
@@ -33,16 +33,17 @@ pub fn take_lines<S: Source, D: Disk, L: Link, R: Rng, K: Sink>(
 ) -> Ended
     requires stands { StandsOn D.reading D.images server.old.store.kept.journal a.old b.old }
 
-    // What was written and sent, and what the files open to, where all that is asked tells what it
-    // has.
+    // What was written and sent, what is left of the input, the network and the random words as far as
+    // `Ends` says it, and what the files open to, where all that is asked tells what it has.
     ensures leaves { (around : Surroundings) (start : State) (left : List ℕ) (held : List ℕ)
         (before : List Datagram) → around.tables ≡ server.old.tables
         → StandsFor start server.old (L.coming link.old) (R.stream words.old)
         → Leaves D.reading a.old b.old (Holds server.old.store.kept)
         → L.ports link.old ≡ Some around.given → S.left input.old ≡ Some left
         → K.held out.old ≡ Some held → L.sent link.old ≡ Some before
-        → Ends result D.images a.new b.new around (events reader.old left) (is_cut reader.old left)
-        start held before (L.coming link.new) (K.held out.new) (L.sent link.new) }
+        → Ends result D.images a.new b.new around (input_of reader.old left) start held before
+        (S.left input.new) (L.coming link.new) (R.stream words.new) (K.held out.new)
+        (L.sent link.new) }
 
     // A fault comes only where the count of what failed rose.
     ensures in_counts { S.faults input.old ≤ S.faults input.new }

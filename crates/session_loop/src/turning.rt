@@ -1,6 +1,6 @@
 //! A turn of the loop: a line is taken, or the source is read once.
 
-ghost use Rattle.std.specs.Prelude.{◌≡◌, ◌≤◌, ◌<◌, ℕ, List, IfSome, None, Some};
+ghost use Rattle.std.specs.Prelude.{◌≡◌, ◌≤◌, ◌<◌, ℕ, List, IfSome, None, Some, false};
 ghost use Rattle.line_splitting.specs.Reading.{steps};
 ghost use Rattle.session_loop.specs.Ending.{HasCause};
 ghost use Rattle.session_loop.specs.Turning.{TurnLeaves, ended_of};
@@ -47,6 +47,7 @@ pub(crate) fn take_next<S: Source, D: Disk, L: Link, R: Rng, K: Sink>(
     ensures holds { Leaves D.reading a.old b.old (Holds server.old.store.kept) → result ≡ None
         → Leaves D.reading a.new b.new (Holds server.new.store.kept) }
     ensures nearer { result ≡ None → steps reader.new < steps reader.old }
+    ensures going { result ≡ Some Ended.ReadFault → reader.old.ended ≡ false }
     ensures tables { server.new.tables ≡ server.old.tables }
     ensures ports { L.ports link.new ≡ L.ports link.old }
     ensures in_counts { S.faults input.old ≤ S.faults input.new }

@@ -1,20 +1,25 @@
 -- A session begins where its store was opened.
 use Rattle.std.proofs.Common.{◌≡◌, ◌∙◌, ℕ, List, Bool, Option, None, Some, Result, Ok, Err, ◌⊎◌, false, ap, refl, subst, sym}
 use Rattle.std.specs.Prelude.{⊤}
-use Rattle.line_splitting.specs.Lines.{Event, input_lines, is_too_long}
-use Rattle.line_splitting.specs.Reading.{FreshReader, Reader, events, fresh, is_cut}
+use Rattle.line_splitting.specs.Lines.{Event, but_last, events_of, input_lines, is_too_long, pieces}
+use Rattle.line_splitting.specs.Reading.{FreshReader, Reader, events, fresh, is_cut, whole}
+use Rattle.config_model.specs.Configs.{Config}
+use Rattle.session_loop.specs.Ending.{Ends, Input}
+use Rattle.session_loop.specs.Turning.{input_of}
+use Rattle.session_loop.specs.declared.ended.Ended.{Ended}
+use Rattle.session_loop.specs.declared.ended.Ended.TheVariants as ended
 use Rattle.session_loop.specs.Holding.{Holds}
 use Rattle.session_loop.specs.Journaled.{State as Kept}
 use Rattle.session_loop.specs.Standing.{Server, StandsFor}
 use Rattle.session_loop.specs.Stores.{StandsFor as StoreStandsFor, opened}
 use Rattle.r53_io.specs.Network.{Incoming}
 use Rattle.rand_core.specs.Stream.{Stream}
-use Rattle.session_model.specs.Steps.{State}
+use Rattle.session_model.specs.Steps.{State, Surroundings}
 use Rattle.geo_latency.specs.declared.tables.Tables.{Tables}
 use Rattle.session_model.specs.Serving.{Datagram}
 use Rattle.octets.specs.Counts.{Rose}
 use Rattle.session_run.specs.Running.{Given, HasCauseOf, IsBeginning, RunLeaves, SessionLeaves, Still}
-use Rattle.session_run.specs.Running.{IfUntabled, UnlessEnded, unopened, unread}
+use Rattle.session_run.specs.Running.{FilesSay, IfUntabled, TablesSay, UnlessEnded, unopened, unread, whole_input}
 use Rattle.session_run.specs.declared.ran.Ran.{Ran}
 use Rattle.session_run.specs.declared.ran.Ran.TheVariants as ran
 use Rattle.table_lines.specs.Input.{Reads, tables_of}
@@ -42,24 +47,37 @@ beginning given kept = record {
   words = given.words;
 }
 
+-- what files open to in which a store is held
+pub opens_as : {D : Type 0} (reading : D → Option (List ℕ)) (kept : Kept) (a b : D) (x y : List ℕ)
+    → (leaves : Leaves reading a b (Holds kept)) → reading a ≡ Some x → reading b ≡ Some y
+    → OpensAs x y kept.journal.generation leaves.has.snapshot leaves.has.entries
+    (opened kept).config
+opens_as reading kept a b x y leaves x_is y_is =
+    subst (λ (v : List ℕ). OpensAs x v kept.journal.generation leaves.has.snapshot
+    leaves.has.entries (opened kept).config) (some_same (sym leaves.b_reads ∙ y_is))
+    (subst (λ (u : List ℕ). OpensAs u leaves.y kept.journal.generation leaves.has.snapshot
+    leaves.has.entries (opened kept).config) (some_same (sym leaves.a_reads ∙ x_is))
+    leaves.has.opens)
+
+pub opens_config : {D : Type 0} (reading : D → Option (List ℕ)) (kept : Kept) (a b : D)
+    (x y : List ℕ) → Leaves reading a b (Holds kept) → reading a ≡ Some x → reading b ≡ Some y
+    → OpensConfig x y (opened kept).config
+opens_config reading kept a b x y leaves x_is y_is = record {
+  generation = kept.journal.generation;
+  snapshot = leaves.has.snapshot;
+  entries = leaves.has.entries;
+  opens = opens_as reading kept a b x y leaves x_is y_is;
+}
+
 pub is_beginning : {D : Type 0} (reading : D → Option (List ℕ)) (images : D → List ℕ → Type 0)
     → StandingPlace reading images → (given : Given) (kept : Kept) (a b : D)
     → StandsOn reading images kept.journal a b → Leaves reading a b (Holds kept)
     → reading a ≡ Some given.x → reading b ≡ Some given.y → kept.journal.plan ≡ None
     → IsBeginning given (beginning given kept)
 is_beginning reading images law given kept a b stands leaves x_is y_is idle =
-    let opens = subst (λ (y : List ℕ). OpensAs given.x y kept.journal.generation leaves.has.snapshot
-    leaves.has.entries (opened kept).config) (some_same (sym leaves.b_reads ∙ y_is))
-    (subst (λ (x : List ℕ). OpensAs x leaves.y kept.journal.generation leaves.has.snapshot
-    leaves.has.entries (opened kept).config) (some_same (sym leaves.a_reads ∙ x_is))
-    leaves.has.opens) in
+    let opens = opens_as reading kept a b given.x given.y leaves x_is y_is in
     record {
-      config = record {
-        generation = kept.journal.generation;
-        snapshot = leaves.has.snapshot;
-        entries = leaves.has.entries;
-        opens = opens;
-      };
+      config = opens_config reading kept a b given.x given.y leaves x_is y_is;
       shape = (law kept.journal a b given.x given.y kept.journal.generation leaves.has.snapshot
           leaves.has.entries stands x_is y_is opens.opens).3;
       plan = none_planned kept idle;
@@ -81,29 +99,74 @@ stands_for given kept server network random stands unbound coming words = record
   words = sym words;
 }
 
+-- an input of which other lines are told to end within its first octets
+abbrev with_lines : (octets : List ℕ) → (lines : List Event) → (is_long : Bool)
+    → (beyond : List ℕ) → (ending_in : List ℕ → List Event) → Input
+with_lines octets lines is_long beyond ending_in = record {
+  octets = octets;
+  lines = lines;
+  is_long = is_long;
+  beyond = beyond;
+  ending_in = ending_in;
+}
+
 -- a reader that has read nothing has the lines of its whole input to come
-pub from_fresh : FreshReader → (reader : Reader) → reader ≡ fresh → (left : List ℕ)
-    (P : List Event → Bool → Type 0) → P (events reader left) (is_cut reader left)
-    → P (input_lines left) (is_too_long left)
-from_fresh law reader is left P has =
-    subst (λ (cut : Bool). P (input_lines left) cut) (ap (λ (r : Reader). is_cut r left) is ∙ (law left).1)
-    (subst (λ (l : List Event). P l (is_cut reader left))
-    (ap (λ (r : Reader). events r left) is ∙ (law left).0) has)
+module _ {D : Type 0} (images : D → List ℕ → Type 0) (a b : D) (around : Surroundings)
+    (start : State) (held : List ℕ) (before : List Datagram) (after : Option (List ℕ))
+    (network : Option (List Incoming)) (random : Stream) (out : Option (List ℕ))
+    (sent : Option (List Datagram)) where
+  same_ending : (how : Ended) (octets : List ℕ) (lines : List Event) (is_long : Bool)
+      (beyond : List ℕ) (f g : List ℕ → List Event) → ((first : List ℕ) → f first ≡ g first)
+      → Ends how images a b around (with_lines octets lines is_long beyond f) start held before after
+      network random out sent
+      → Ends how images a b around (with_lines octets lines is_long beyond g) start held before after
+      network random out sent
+  same_ending ended.Done octets lines is_long beyond f g same h = h
+  same_ending ended.InputTooLong octets lines is_long beyond f g same h = h
+  same_ending ended.ReadFault octets lines is_long beyond f g same h = record {
+    seen = h.seen;
+    unseen = h.unseen;
+    more = h.more;
+    parts = h.parts;
+    has = h.has;
+    all = h.all;
+    ending = h.ending ∙ same h.seen;
+  }
+  same_ending ended.WriteFault octets lines is_long beyond f g same h = h
+  same_ending ended.DiskFault octets lines is_long beyond f g same h = h
+  same_ending ended.LinkFault octets lines is_long beyond f g same h = h
+
+  pub from_fresh : FreshReader → (how : Ended) (reader : Reader) → reader ≡ fresh
+      → (left : List ℕ)
+      → Ends how images a b around (input_of reader left) start held before after network random out
+      sent
+      → Ends how images a b around (whole_input left) start held before after network random out sent
+  from_fresh law how reader is left has =
+      let its = (whole_input left).beyond in
+      same_ending how left (input_lines left) (is_too_long left) its (whole fresh)
+      (λ first. events_of (but_last (pieces first))) (λ first. (law first).2)
+      (subst (λ (cut : Bool). Ends how images a b around (with_lines left (input_lines left) cut its (whole fresh)) start
+      held before after network random out sent) ((law left).1)
+      (subst (λ (l : List Event). Ends how images a b around (with_lines left l (is_cut fresh left) its (whole fresh)) start
+      held before after network random out sent) ((law left).0)
+      (subst (λ (r : Reader). Ends how images a b around (input_of r left) start held before after network random out
+      sent) is has)))
 
 -- once the tables are read
 module _ {D : Type 0} (images : D → List ℕ → Type 0) (a b : D) (given : Given) (tables : Tables)
-    (network : Option (List Incoming)) (out : Option (List ℕ)) (sent : Option (List Datagram))
-    (is : tables_of given.rows ≡ Ok tables) where
-  pub with_tables : (answer : Ran)
-      → SessionLeaves answer images a b given tables network out sent
-      → RunLeaves answer images a b given network out sent
-  with_tables (ran.BadTables number) leaves = absurd leaves
-  with_tables ran.TablesFault leaves = absurd leaves
-  with_tables ran.TablesTooLong leaves = absurd leaves
-  with_tables (ran.NotAStore side place) leaves = (tables, is, leaves)
-  with_tables ran.OpeningFault leaves = (tables, is, leaves)
-  with_tables ran.OutOfMemory leaves = leaves
-  with_tables (ran.Ended how) leaves = (tables, is, leaves)
+    (left : Option (List ℕ)) (network : Option (List Incoming)) (random : Stream)
+    (out : Option (List ℕ)) (sent : Option (List Datagram)) (is : tables_of given.rows ≡ Ok tables)
+  where
+    pub with_tables : (answer : Ran)
+        → SessionLeaves answer images a b given tables left network random out sent
+        → RunLeaves answer images a b given left network random out sent
+    with_tables (ran.BadTables number) leaves = absurd leaves
+    with_tables ran.TablesFault leaves = absurd leaves
+    with_tables ran.TablesTooLong leaves = absurd leaves
+    with_tables (ran.NotAStore side place) leaves = (tables, is, leaves)
+    with_tables ran.OpeningFault leaves = (tables, is, leaves)
+    with_tables ran.OutOfMemory leaves = leaves
+    with_tables (ran.Ended how) leaves = (tables, is, leaves)
 
 -- what is told of a place where the files are no store
 abbrev pub place_told : OpenFault → (P : Side → ℕ → Type 0) → Type 0
@@ -114,17 +177,17 @@ place_told fault.OutOfMemory P = ⊤
 -- ---- no lines were taken
 
 module _ {D : Type 0} (images : D → List ℕ → Type 0) (a b : D) (given : Given)
-    (network : Option (List Incoming)) (out : Option (List ℕ)) (sent : Option (List Datagram))
-    (still : Still given out sent) where
+    (left : Option (List ℕ)) (network : Option (List Incoming)) (random : Stream)
+    (out : Option (List ℕ)) (sent : Option (List Datagram)) (still : Still given out sent) where
   pub not_read : (after : Option (List ℕ)) (f : TablesFault) → Reads given.rows after (Err f)
-      → RunLeaves (unread f) images a b given network out sent
+      → RunLeaves (unread f) images a b given left network random out sent
   not_read after (tables.Bad number) reads = (reads, still)
   not_read after tables.ReadFault reads = still
   not_read after tables.TooLong reads = (reads.0, still)
   not_read after tables.OutOfMemory reads = still
 
   pub not_opened : (rows : Tables) (f : OpenFault) → place_told f (IsNoStore given.x given.y)
-      → SessionLeaves (unopened f) images a b given rows network out sent
+      → SessionLeaves (unopened f) images a b given rows left network random out sent
   not_opened rows (fault.NotAStore side place) told = (told, still)
   not_opened rows fault.DiskFault told = still
   not_opened rows fault.OutOfMemory told = still
@@ -177,3 +240,34 @@ tabled_any (ran.NotAStore side place) P none = tt
 tabled_any ran.OpeningFault P none = tt
 tabled_any ran.OutOfMemory P none = tt
 tabled_any (ran.Ended how) P none = tt
+
+-- ---- what the tables and the files say
+
+pub tables_faulty : (rows : List ℕ) (after : Option (List ℕ)) (f : TablesFault)
+    → Reads rows after (Err f) → TablesSay (unread f) rows
+tables_faulty rows after (tables.Bad number) reads = reads
+tables_faulty rows after tables.ReadFault reads = tt
+tables_faulty rows after tables.TooLong reads = reads.0
+tables_faulty rows after tables.OutOfMemory reads = tt
+
+pub tables_good : (answer : Ran) (rows : List ℕ) (its : Tables) → tables_of rows ≡ Ok its
+    → IfUntabled answer ⊥ → TablesSay answer rows
+tables_good (ran.BadTables number) rows its is none = absurd none
+tables_good ran.TablesFault rows its is none = absurd none
+tables_good ran.TablesTooLong rows its is none = absurd none
+tables_good (ran.NotAStore side place) rows its is none = (its, is)
+tables_good ran.OpeningFault rows its is none = (its, is)
+tables_good ran.OutOfMemory rows its is none = tt
+tables_good (ran.Ended how) rows its is none = (its, is)
+
+pub files_untold : (f : TablesFault) (x y : List ℕ) → FilesSay (unread f) x y
+files_untold (tables.Bad number) x y = tt
+files_untold tables.ReadFault x y = tt
+files_untold tables.TooLong x y = tt
+files_untold tables.OutOfMemory x y = tt
+
+pub files_faulty : (f : OpenFault) (x y : List ℕ) → place_told f (IsNoStore x y)
+    → FilesSay (unopened f) x y
+files_faulty (fault.NotAStore side place) x y told = told
+files_faulty fault.DiskFault x y told = tt
+files_faulty fault.OutOfMemory x y told = tt

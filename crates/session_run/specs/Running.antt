@@ -1,11 +1,13 @@
 -- What a session leaves, from its tables and its files on.
-use Rattle.std.specs.Prelude.{◌≡◌, ◌⊎◌, ℕ, List, [], false, Option, None, Some, Ok, Err, ⊤}
+use Rattle.std.specs.Prelude.{◌≡◌, ◌⊎◌, ℕ, List, [], drop, false, Option, None, Some, Ok, Err, ⊤}
+use Rattle.config_model.specs.Configs.{Config}
 use Rattle.geo_latency.specs.declared.tables.Tables.{Tables}
-use Rattle.line_splitting.specs.Lines.{input_lines, is_too_long}
+use Rattle.line_splitting.specs.Lines.{but_last, events_of, input_limit, input_lines, pieces}
+use Rattle.line_splitting.specs.Lines.{is_too_long}
 use Rattle.octets.specs.Counts.{Rose}
 use Rattle.r53_io.specs.Network.{Incoming}
 use Rattle.rand_core.specs.Stream.{Stream}
-use Rattle.session_loop.specs.Ending.{Ends, HasCause}
+use Rattle.session_loop.specs.Ending.{Ends, HasCause, Input}
 use Rattle.session_model.specs.Serving.{Datagram}
 use Rattle.session_model.specs.Steps.{State, Surroundings}
 use Rattle.session_run.specs.declared.ran.Ran.{Ran}
@@ -62,6 +64,17 @@ pub record IsBeginning (given : Given) (start : State) : Type 0 where
 abbrev pub surroundings : Given → Tables → Surroundings
 surroundings given tables = record { tables = tables; given = given.ports }
 
+-- The whole of an input. Where it reaches the limit its lines are those whose 0x0A is within it, and no
+-- more is read.
+abbrev pub whole_input : (octets : List ℕ) → Input
+whole_input octets = record {
+  octets = octets;
+  lines = input_lines octets;
+  is_long = is_too_long octets;
+  beyond = drop input_limit octets;
+  ending_in = λ first. events_of (but_last (pieces first));
+}
+
 -- ---- why there are no lines
 
 -- the tables aren't read
@@ -85,39 +98,61 @@ Still given out sent = (out ≡ Some given.held) × (sent ≡ Some given.before)
 
 -- A session over these tables, by its answer.
 abbrev pub SessionLeaves : {D : Type 0} → Ran → (images : D → List ℕ → Type 0) → (a b : D) → Given
-    → Tables → (network : Option (List Incoming)) → (out : Option (List ℕ))
-    → (sent : Option (List Datagram)) → Type 0
-SessionLeaves (ran.BadTables number) images a b given tables network out sent = ⊥
-SessionLeaves ran.TablesFault images a b given tables network out sent = ⊥
-SessionLeaves ran.TablesTooLong images a b given tables network out sent = ⊥
-SessionLeaves (ran.NotAStore side place) images a b given tables network out sent =
+    → Tables → (left : Option (List ℕ)) → (network : Option (List Incoming)) → (random : Stream)
+    → (out : Option (List ℕ)) → (sent : Option (List Datagram)) → Type 0
+SessionLeaves (ran.BadTables number) images a b given tables left network random out sent = ⊥
+SessionLeaves ran.TablesFault images a b given tables left network random out sent = ⊥
+SessionLeaves ran.TablesTooLong images a b given tables left network random out sent = ⊥
+SessionLeaves (ran.NotAStore side place) images a b given tables left network random out sent =
     IsNoStore given.x given.y side place × Still given out sent
-SessionLeaves ran.OpeningFault images a b given tables network out sent = Still given out sent
-SessionLeaves ran.OutOfMemory images a b given tables network out sent = Still given out sent
-SessionLeaves (ran.Ended how) images a b given tables network out sent =
+SessionLeaves ran.OpeningFault images a b given tables left network random out sent =
+    Still given out sent
+SessionLeaves ran.OutOfMemory images a b given tables left network random out sent =
+    Still given out sent
+SessionLeaves (ran.Ended how) images a b given tables left network random out sent =
     (start : State) × IsBeginning given start
-    × Ends how images a b (surroundings given tables) (input_lines given.input)
-    (is_too_long given.input) start given.held given.before network out sent
+    × Ends how images a b (surroundings given tables) (whole_input given.input) start given.held
+    given.before left network random out sent
 
 -- The tables are read first. Memory may be wanted for them, too.
 abbrev pub RunLeaves : {D : Type 0} → Ran → (images : D → List ℕ → Type 0) → (a b : D) → Given
-    → (network : Option (List Incoming)) → (out : Option (List ℕ))
-    → (sent : Option (List Datagram)) → Type 0
-RunLeaves (ran.BadTables number) images a b given network out sent =
+    → (left : Option (List ℕ)) → (network : Option (List Incoming)) → (random : Stream)
+    → (out : Option (List ℕ)) → (sent : Option (List Datagram)) → Type 0
+RunLeaves (ran.BadTables number) images a b given left network random out sent =
     (tables_of given.rows ≡ Err (fault.Bad number)) × Still given out sent
-RunLeaves ran.TablesFault images a b given network out sent = Still given out sent
-RunLeaves ran.TablesTooLong images a b given network out sent =
+RunLeaves ran.TablesFault images a b given left network random out sent = Still given out sent
+RunLeaves ran.TablesTooLong images a b given left network random out sent =
     (tables_of given.rows ≡ Err fault.TooLong) × Still given out sent
-RunLeaves (ran.NotAStore side place) images a b given network out sent =
+RunLeaves (ran.NotAStore side place) images a b given left network random out sent =
     (tables : Tables) × (tables_of given.rows ≡ Ok tables)
-    × SessionLeaves (ran.NotAStore side place) images a b given tables network out sent
-RunLeaves ran.OpeningFault images a b given network out sent =
+    × SessionLeaves (ran.NotAStore side place) images a b given tables left network random out sent
+RunLeaves ran.OpeningFault images a b given left network random out sent =
     (tables : Tables) × (tables_of given.rows ≡ Ok tables)
-    × SessionLeaves ran.OpeningFault images a b given tables network out sent
-RunLeaves ran.OutOfMemory images a b given network out sent = Still given out sent
-RunLeaves (ran.Ended how) images a b given network out sent =
+    × SessionLeaves ran.OpeningFault images a b given tables left network random out sent
+RunLeaves ran.OutOfMemory images a b given left network random out sent = Still given out sent
+RunLeaves (ran.Ended how) images a b given left network random out sent =
     (tables : Tables) × (tables_of given.rows ≡ Ok tables)
-    × SessionLeaves (ran.Ended how) images a b given tables network out sent
+    × SessionLeaves (ran.Ended how) images a b given tables left network random out sent
+
+-- What the tables say of how a session ended, where they tell what they have.
+abbrev pub TablesSay : Ran → (rows : List ℕ) → Type 0
+TablesSay (ran.BadTables number) rows = tables_of rows ≡ Err (fault.Bad number)
+TablesSay ran.TablesFault rows = ⊤
+TablesSay ran.TablesTooLong rows = tables_of rows ≡ Err fault.TooLong
+TablesSay (ran.NotAStore side place) rows = (tables : Tables) × (tables_of rows ≡ Ok tables)
+TablesSay ran.OpeningFault rows = (tables : Tables) × (tables_of rows ≡ Ok tables)
+TablesSay ran.OutOfMemory rows = ⊤
+TablesSay (ran.Ended how) rows = (tables : Tables) × (tables_of rows ≡ Ok tables)
+
+-- What the two files say of it.
+abbrev pub FilesSay : Ran → (x y : List ℕ) → Type 0
+FilesSay (ran.BadTables number) x y = ⊤
+FilesSay ran.TablesFault x y = ⊤
+FilesSay ran.TablesTooLong x y = ⊤
+FilesSay (ran.NotAStore side place) x y = IsNoStore x y side place
+FilesSay ran.OpeningFault x y = ⊤
+FilesSay ran.OutOfMemory x y = ⊤
+FilesSay (ran.Ended how) x y = (config : Config) × OpensConfig x y config
 
 -- P, where a session ended before its lines
 abbrev pub UnlessEnded : Ran → Type 0 → Type 0

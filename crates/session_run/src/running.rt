@@ -1,7 +1,6 @@
 //! The tables, the store, and then the lines.
 
 ghost use Rattle.std.specs.Prelude.{◌≡◌, ◌≤◌, ℕ, List, IfOk, Some, false};
-ghost use Rattle.line_splitting.specs.Lines.{input_lines, is_too_long};
 ghost use Rattle.line_splitting.specs.Reading.{fresh};
 ghost use Rattle.session_loop.specs.Ending.{Ends, HasCause};
 ghost use Rattle.session_loop.specs.Holding.{Holds};
@@ -9,7 +8,8 @@ ghost use Rattle.session_loop.specs.Standing.{StandsFor};
 ghost use Rattle.session_model.specs.Serving.{Datagram};
 ghost use Rattle.session_model.specs.Steps.{State, Surroundings};
 ghost use Rattle.session_run.specs.Running.{Given, HasCauseOf, IsTold, RunLeaves, SessionLeaves};
-ghost use Rattle.session_run.specs.Running.{IfUntabled, UnlessEnded, unopened, unread};
+ghost use Rattle.session_run.specs.Running.{FilesSay, IfUntabled, TablesSay, UnlessEnded};
+ghost use Rattle.session_run.specs.Running.{unopened, unread, whole_input};
 ghost use Rattle.zone_journal.specs.Pairs.{Leaves, Unwritten};
 ghost use Rattle.zone_journal.specs.Standing.{StandsOn};
 
@@ -39,13 +39,18 @@ pub fn run_session<S: Source, T: Source, D: Disk, L: Link, R: Rng, K: Sink>(
     link: &mut L,
     words: &mut R,
 ) -> Ran
-    // What was written and sent, and what the files open to, where all that is asked tells what it
-    // has.
+    // What was written and sent, what is left of the input, the network and the random words as far as
+    // `Ends` says it, and what the files open to, where all that is asked tells what it has.
     ensures leaves { (given : Given) → IsTold given (S.left input.old) (T.left tables.old)
         (D.reading a.old) (D.reading b.old) (K.held out.old) (L.ports link.old) (L.coming link.old)
         (L.sent link.old) (R.stream words.old)
-        → RunLeaves result D.images a.new b.new given (L.coming link.new) (K.held out.new)
-        (L.sent link.new) }
+        → RunLeaves result D.images a.new b.new given (S.left input.new) (L.coming link.new)
+        (R.stream words.new) (K.held out.new) (L.sent link.new) }
+
+    // What the tables and the files alone say of it, where these tell what they have.
+    ensures tables_say { (rows : List ℕ) → T.left tables.old ≡ Some rows → TablesSay result rows }
+    ensures files_say { (x y : List ℕ) → D.reading a.old ≡ Some x → D.reading b.old ≡ Some y
+        → FilesSay result x y }
 
     // Where it ended before its lines it asked the tables and the disks alone, and where the tables
     // ended it them alone. The files are as they were then.
@@ -101,8 +106,10 @@ fn open_session<S: Source, D: Disk, L: Link, R: Rng, K: Sink>(
     ensures leaves { (given : Given) → IsTold given (S.left input.old) (Some given.rows)
         (D.reading a.old) (D.reading b.old) (K.held out.old) (L.ports link.old) (L.coming link.old)
         (L.sent link.old) (R.stream words.old)
-        → SessionLeaves result D.images a.new b.new given rows (L.coming link.new) (K.held out.new)
-        (L.sent link.new) }
+        → SessionLeaves result D.images a.new b.new given rows (S.left input.new)
+        (L.coming link.new) (R.stream words.new) (K.held out.new) (L.sent link.new) }
+    ensures files_say { (x y : List ℕ) → D.reading a.old ≡ Some x → D.reading b.old ≡ Some y
+        → FilesSay result x y }
     ensures unasked { UnlessEnded result ((input.new ≡ input.old) × (out.new ≡ out.old)
         × (link.new ≡ link.old) × (words.new ≡ words.old)) }
     ensures tabled { IfUntabled result ⊥ }
@@ -178,8 +185,9 @@ fn go_on<S: Source, D: Disk, L: Link, R: Rng, K: Sink>(
         → Leaves D.reading a.old b.old (Holds begun.server.store.kept)
         → L.ports link.old ≡ Some around.given → S.left input.old ≡ Some left
         → K.held out.old ≡ Some held → L.sent link.old ≡ Some before
-        → Ends result D.images a.new b.new around (input_lines left) (is_too_long left) start held
-        before (L.coming link.new) (K.held out.new) (L.sent link.new) }
+        → Ends result D.images a.new b.new around (whole_input left) start held before
+        (S.left input.new) (L.coming link.new) (R.stream words.new) (K.held out.new)
+        (L.sent link.new) }
     ensures in_counts { S.faults input.old ≤ S.faults input.new }
     ensures a_counts { D.faults a.old ≤ D.faults a.new }
     ensures b_counts { D.faults b.old ≤ D.faults b.new }

@@ -1,12 +1,12 @@
 -- What each kind of line leaves, as what a line leaves in a session.
-use Rattle.std.proofs.Common.{◌≡◌, ◌≢◌, ◌⊎◌, ◌∙◌, inl, inr, ℕ, List, [], ◌++◌, Option, Some, Result, Ok, Err, ap, append-nil, refl, subst, sym}
+use Rattle.std.proofs.Common.{◌≡◌, ◌≢◌, ◌⊎◌, ◌∙◌, inl, inr, ℕ, List, [], ◌++◌, Option, Some, Result, Ok, Err, ap, append-nil, arith, refl, subst, sym}
 use Rattle.std.specs.Prelude.{⊤}
 use Rattle.batch_json.specs.declared.asking.Line.{Line}
 use Rattle.config_model.specs.Configs.{Config}
 use Rattle.engine_model.specs.Engine.{Engine}
 use Rattle.line_faults.specs.declared.fault.LineFault.{LineFault}
 use Rattle.line_faults.specs.declared.fault.LineFault.TheVariants.{BadLine, OutOfMemory, Unsupported}
-use Rattle.line_server.specs.Leaving.{CameTo, Replies, RepliesOr, StepLeaves, StoreLeaves, Written, taken_of}
+use Rattle.line_server.specs.Leaving.{CameTo, HasCause, Replies, RepliesOr, StepLeaves, StoreLeaves, Written, taken_of}
 use Rattle.line_server.specs.Standing.{Server, StandsFor}
 use Rattle.line_server.specs.Stores.{StandsFor as StoreStandsFor}
 use Rattle.line_server.specs.declared.answers.Taken.{Taken}
@@ -28,6 +28,15 @@ use Rattle.whole_writing.specs.declared.output.Output.TheVariants as output
 nothing_sent : {X : Type 0} {before : List X} {sent : Option (List X)} → sent ≡ Some before
     → sent ≡ Some (before ++ [])
 nothing_sent {before = before} is = is ∙ ap Some (sym (append-nil before))
+
+-- A disk that isn't asked doesn't fail.
+pub none_torn : (answer : Taken) (link_old link_new out_old out_new : ℕ)
+    → HasCause answer 0 0 0 0 link_old link_new out_old out_new → answer ≡ taken.DiskFault → ⊥
+none_torn taken.Replied link_old link_new out_old out_new cause is = absurd (Prim.cc)
+none_torn taken.WriteFault link_old link_new out_old out_new cause is = absurd (Prim.cc)
+none_torn taken.DiskFault link_old link_new out_old out_new (inl rose) is = omega (arith, rose)
+none_torn taken.DiskFault link_old link_new out_old out_new (inr rose) is = omega (arith, rose)
+none_torn taken.LinkFault link_old link_new out_old out_new cause is = absurd (Prim.cc)
 
 -- ---- other words for the same
 

@@ -52,8 +52,8 @@ LineLeaves taken.DiskFault Steps Part Given Opens old P held before out sent =
 LineLeaves taken.LinkFault Steps Part Given Opens old P held before out sent =
     (out ≡ Some held) × Part
 
--- What was sent of a line on the network, where that failed: of a Bind nothing, and of a Serve what
--- the turns sent that ended. No other line asks the network.
+-- What was sent of a line on the network and came of it, where that failed: of a Bind nothing, and of a
+-- Serve what the turns sent and took that ended. No other line asks the network.
 abbrev pub PartOf : Surroundings → Line → (old : State) → (before : List Datagram)
     → (network : Option (List Incoming)) → (sent : Option (List Datagram)) → Type 0
 PartOf around (line.Control given) old before network sent = ⊥
@@ -61,7 +61,8 @@ PartOf around (line.List list) old before network sent = ⊥
 PartOf around (line.Status id) old before network sent = ⊥
 PartOf around (line.Observe seen) old before network sent = ⊥
 PartOf around (line.Query asked) old before network sent = ⊥
-PartOf around (line.Bind ports) old before network sent = sent ≡ Some before
+PartOf around (line.Bind ports) old before network sent =
+    (sent ≡ Some before) × (network ≡ Some old.arrivals)
 PartOf around (line.Serve turns) old before network sent =
     TurnsInPart around turns old before network sent
 PartOf around (line.Compact pieces) old before network sent = ⊥

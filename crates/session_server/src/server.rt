@@ -110,6 +110,9 @@ impl Server {
         ensures holds { Leaves D.reading a.old b.old (Holds self.old.store.kept)
             → UnlessTorn result (Leaves D.reading a.new b.new (Holds self.new.store.kept)) }
         ensures kept { result ≡ Taken.LinkFault → self.new.store.kept ≡ self.old.store.kept }
+        // Where a disk failed the network has the same to come, and the random words are those before.
+        ensures undrawn { result ≡ Taken.DiskFault → (L.coming link.new ≡ L.coming link.old)
+            × (R.stream words.new ≡ R.stream words.old) }
         ensures tables { self.new.tables ≡ self.old.tables }
         ensures ports { L.ports link.new ≡ L.ports link.old }
         ensures a_counts { D.faults a.old ≤ D.faults a.new }
@@ -177,6 +180,8 @@ impl Server {
         ensures holds { Leaves D.reading a.old b.old (Holds self.old.store.kept)
             → UnlessTorn result (Leaves D.reading a.new b.new (Holds self.new.store.kept)) }
         ensures kept { result ≡ Taken.LinkFault → self.new.store.kept ≡ self.old.store.kept }
+        ensures undrawn { result ≡ Taken.DiskFault → (L.coming link.new ≡ L.coming link.old)
+            × (R.stream words.new ≡ R.stream words.old) }
         ensures tables { self.new.tables ≡ self.old.tables }
         ensures ports { L.ports link.new ≡ L.ports link.old }
         ensures a_counts { D.faults a.old ≤ D.faults a.new }
@@ -377,7 +382,8 @@ impl Server {
             → K.held out.old ≡ Some held → L.sent link.old ≡ Some before
             → LineLeaves result (LineSteps around (line.Bind ports) old)
             (PartOf around (line.Bind ports) old before (L.coming link.new) (L.sent link.new))
-            ⊤ (λ after. ⊥) old (λ new. StandsFor new self.new (L.coming link.new) random) held before (K.held out.new) (L.sent link.new) }
+            ⊤ (λ after. ⊥) old (λ new. StandsFor new self.new (L.coming link.new) random) held
+            before (K.held out.new) (L.sent link.new) }
         ensures kept { self.new.store.kept ≡ self.old.store.kept }
         ensures tables { self.new.tables ≡ self.old.tables }
         ensures ports { L.ports link.new ≡ L.ports link.old }
@@ -404,7 +410,8 @@ impl Server {
             → K.held out.old ≡ Some held → L.sent link.old ≡ Some before
             → LineLeaves result (LineSteps around (line.Serve turns) old)
             (PartOf around (line.Serve turns) old before (L.coming link.new) (L.sent link.new))
-            ⊤ (λ after. ⊥) old (λ new. StandsFor new self.new (L.coming link.new) (R.stream words.new)) held before (K.held out.new) (L.sent link.new) }
+            ⊤ (λ after. ⊥) old (λ new. StandsFor new self.new (L.coming link.new) (R.stream words.new))
+            held before (K.held out.new) (L.sent link.new) }
         ensures kept { self.new.store.kept ≡ self.old.store.kept }
         ensures tables { self.new.tables ≡ self.old.tables }
         ensures ports { L.ports link.new ≡ L.ports link.old }

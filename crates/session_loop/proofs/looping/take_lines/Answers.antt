@@ -1,4 +1,4 @@
-use Rattle.std.proofs.Common.{◌∙◌, ◌++◌, arith, refl, sym}
+use Rattle.std.proofs.Common.{◌∙◌, ◌++◌, Some, ap, arith, refl, sym}
 use Rattle.session_loop.proofs.Joining.{ends_join, goes_join}
 use Rattle.session_loop.proofs.Loop.{at_first}
 use Rattle.session_loop.proofs.looping.take_lines.Goals as goal
@@ -52,8 +52,10 @@ returns-in-Some-clause-leaves g c = λ around start left held before same stands
     (g.S.Source.left c.loop-ended.input) start c.loop-ended.server (g.L.Link.coming c.loop-ended.link)
     (g.R.Rng.stream c.loop-ended.words) held before (g.K.Sink.held c.loop-ended.out)
     (g.L.Link.sent c.loop-ended.link) so_far
-    g.D.Disk.images c.take_next.new.a c.take_next.new.b (g.L.Link.coming c.take_next.new.link) (g.K.Sink.held c.take_next.new.out)
-    (g.L.Link.sent c.take_next.new.link) c.in-Some.ended
+    g.D.Disk.images c.take_next.new.a c.take_next.new.b (g.S.Source.left c.take_next.new.input)
+    (g.L.Link.coming c.take_next.new.link) (g.R.Rng.stream c.take_next.new.words)
+    (g.K.Sink.held c.take_next.new.out) (g.L.Link.sent c.take_next.new.link) c.in-Some.ended
+    (λ is. c.take_next.ensures.going (c.in-Some.is ∙ ap Some is))
     (c.in-Some.ensures.leaves around so_far.session.new so_far.rest (held ++ so_far.session.output)
     (before ++ so_far.session.sent) (same ∙ sym c.loop-ended.invariant.tables) so_far.stands
     (c.loop-ended.invariant.holds files) (c.loop-ended.invariant.same_ports ∙ ports) so_far.has

@@ -2,7 +2,7 @@ use Rattle.std.proofs.Common.{◌≡◌, ◌∙◌, ℕ, List, [], Option, None,
 use Rattle.line_splitting.specs.Lines.{Line}
 use Rattle.line_splitting.specs.Reading.{Gives, events}
 use Rattle.session_loop.proofs.Files.{files_open}
-use Rattle.session_loop.proofs.Turns.{cause_of, is_more, is_whole, line_turn, link_whole, long_cause, long_turn, read, told_now, went_whole}
+use Rattle.session_loop.proofs.Turns.{all_now, at_end, at_limit, cause_of, is_more, is_whole, line_turn, link_whole, long_cause, long_turn, read, never_read, broken_now, went_whole}
 use Rattle.session_loop.specs.Ending.{FilesOpen, HasCause}
 use Rattle.session_loop.specs.Turning.{TurnLeaves}
 use Rattle.session_loop.specs.declared.ended.Ended.{Ended}
@@ -35,6 +35,10 @@ returns-in-Line-clause-leaves g c = λ around old left held before same stands f
     (c.take_line.ensures.stands (link_whole c.take_line.result is))
     (c.take_line.ensures.holds files (link_whole c.take_line.result is)) old.engine.config
     (stands.store.config ∙ ap (λ (k : Kept). config_of k) (sym (c.take_line.ensures.kept is))))
+    (λ is. record {
+      coming = (c.take_line.ensures.undrawn is).0 ∙ stands.coming;
+      words = stands.words ∙ sym (c.take_line.ensures.undrawn is).1;
+    })
     (c.take_line.ensures.leaves around old held before same stands ports tells was))
 
 pub returns-in-Line-clause-stands : goal.returns-in-Line-clause-stands
@@ -92,29 +96,49 @@ returns-in-Read-clause-leaves g c = λ around old left held before same stands f
     read around c.args.reader.now c.next.new.self left (g.S.Source.left c.next.new.source) old
     c.args.server.now (g.L.Link.coming c.args.link.now) (g.R.Rng.stream c.args.words.now) held before
     (g.K.Sink.held c.args.out.now) (g.L.Link.sent c.args.link.now)
-    (c.in-Read.ensures.leaves left has) stands tells was
+    c.in-Read.ensures.answers.0 (c.in-Read.ensures.leaves left has) stands tells was
 
 pub returns-in-Failed-clause-leaves : goal.returns-in-Failed-clause-leaves
-returns-in-Failed-clause-leaves g c = λ around old left held before same stands files ports has tells was. (
-  events c.args.reader.now left,
-  (told_now g.D.Disk.images c.args.a.now c.args.b.now around old held before (g.K.Sink.held c.args.out.now)
-      (g.L.Link.sent c.args.link.now) (events c.args.reader.now left) (events c.args.reader.now left) refl tells was
-      (files_open g.D.Disk.reading g.D.Disk.images c.standing_opens.ensures c.args.server.now.store.kept c.args.a.now c.args.b.now c.requires.stands files old.engine.config stands.store.config)),
-)
+returns-in-Failed-clause-leaves g c = λ around old left held before same stands files ports has tells was.
+    broken_now g.D.Disk.images c.args.a.now c.args.b.now around old held before
+    (g.L.Link.coming c.args.link.now) (g.R.Rng.stream c.args.words.now) (g.K.Sink.held c.args.out.now)
+    (g.L.Link.sent c.args.link.now) c.args.server.now stands c.args.reader.now c.next.new.self left
+    (g.S.Source.left c.next.new.source) c.in-Failed.ensures.answers.0
+    (c.in-Failed.ensures.leaves left has) tells was
+    (files_open g.D.Disk.reading g.D.Disk.images c.standing_opens.ensures c.args.server.now.store.kept c.args.a.now c.args.b.now c.requires.stands files old.engine.config stands.store.config)
+
+pub returns-in-Failed-clause-going : goal.returns-in-Failed-clause-going
+returns-in-Failed-clause-going g c = λ is. c.in-Failed.ensures.answers.0.going
+
+pub returns-in-Line-clause-going : goal.returns-in-Line-clause-going
+returns-in-Line-clause-going g c = λ is. absurd (never_read c.take_line.result (sym c.ended_of.ensures ∙ is))
+
+pub returns-in-TooLong-clause-going : goal.returns-in-TooLong-clause-going
+returns-in-TooLong-clause-going g c = λ is.
+    absurd (never_read c.refuse_line.result (sym c.ended_of-in-TooLong.ensures ∙ is))
 
 pub returns-in-Ended-clause-leaves : goal.returns-in-Ended-clause-leaves
 returns-in-Ended-clause-leaves g c = λ around old left held before same stands files ports has tells was. (
   is_whole c.args.reader.now left c.in-Ended.ensures.answers.1,
-  (told_now g.D.Disk.images c.args.a.now c.args.b.now around old held before (g.K.Sink.held c.args.out.now)
-      (g.L.Link.sent c.args.link.now) (events c.args.reader.now left) [] (c.in-Ended.ensures.answers.0.none_left left) tells was
-      (files_open g.D.Disk.reading g.D.Disk.images c.standing_opens.ensures c.args.server.now.store.kept c.args.a.now c.args.b.now c.requires.stands files old.engine.config stands.store.config)),
+  all_now g.D.Disk.images c.args.a.now c.args.b.now around old held before
+      (g.L.Link.coming c.args.link.now) (g.R.Rng.stream c.args.words.now) (g.K.Sink.held c.args.out.now)
+      (g.L.Link.sent c.args.link.now) c.args.server.now stands c.args.reader.now left
+      (g.S.Source.left c.next.new.source) (c.in-Ended.ensures.leaves left has)
+      (at_end c.args.reader.now left c.in-Ended.ensures.answers.1)
+      (c.in-Ended.ensures.answers.0.none_left left) tells was
+      (files_open g.D.Disk.reading g.D.Disk.images c.standing_opens.ensures c.args.server.now.store.kept c.args.a.now c.args.b.now c.requires.stands files old.engine.config stands.store.config),
 )
 
 pub returns-in-InputTooLong-clause-leaves : goal.returns-in-InputTooLong-clause-leaves
 returns-in-InputTooLong-clause-leaves g c = λ around old left held before same stands files ports has tells was. (
   is_more c.args.reader.now left c.in-InputTooLong.ensures.answers.1
       c.in-InputTooLong.ensures.answers.2,
-  (told_now g.D.Disk.images c.args.a.now c.args.b.now around old held before (g.K.Sink.held c.args.out.now)
-      (g.L.Link.sent c.args.link.now) (events c.args.reader.now left) [] (c.in-InputTooLong.ensures.answers.0.none_left left) tells was
-      (files_open g.D.Disk.reading g.D.Disk.images c.standing_opens.ensures c.args.server.now.store.kept c.args.a.now c.args.b.now c.requires.stands files old.engine.config stands.store.config)),
+  all_now g.D.Disk.images c.args.a.now c.args.b.now around old held before
+      (g.L.Link.coming c.args.link.now) (g.R.Rng.stream c.args.words.now) (g.K.Sink.held c.args.out.now)
+      (g.L.Link.sent c.args.link.now) c.args.server.now stands c.args.reader.now left
+      (g.S.Source.left c.next.new.source) (c.in-InputTooLong.ensures.leaves left has)
+      (at_limit c.args.reader.now left c.in-InputTooLong.ensures.answers.1
+      c.in-InputTooLong.ensures.answers.2)
+      (c.in-InputTooLong.ensures.answers.0.none_left left) tells was
+      (files_open g.D.Disk.reading g.D.Disk.images c.standing_opens.ensures c.args.server.now.store.kept c.args.a.now c.args.b.now c.requires.stands files old.engine.config stands.store.config),
 )

@@ -2,8 +2,8 @@ use Rattle.std.proofs.Common.{◌≡◌, ◌∙◌, ℕ, List, Err, Some, ap, re
 use Rattle.session_loop.specs.Holding.{Holds}
 use Rattle.session_loop.specs.Standing.{Server}
 use Rattle.session_loop.specs.Stores.{StandsFor as StoreStandsFor, State as Store, opened}
-use Rattle.session_run.proofs.Opened.{beginning, is_beginning, is_tabled, not_opened, stands_for, unopened_cause, without_store}
-use Rattle.session_run.specs.Running.{HasCauseOf, IfUntabled, SessionLeaves, UnlessEnded, surroundings}
+use Rattle.session_run.proofs.Opened.{beginning, files_faulty, is_beginning, is_tabled, not_opened, opens_config, stands_for, unopened_cause, without_store}
+use Rattle.session_run.specs.Running.{FilesSay, HasCauseOf, IfUntabled, SessionLeaves, UnlessEnded, surroundings}
 use Rattle.session_run.specs.declared.ran.Ran.{Ran}
 use Rattle.zone_journal.specs.Pairs.{Leaves, Unwritten}
 use Rattle.zone_journal.specs.declared.answers.OpenFault.{OpenFault}
@@ -34,10 +34,11 @@ returns-in-Ok-begin-clause-leaves g c = λ given told.
 pub returns-in-Err-clause-leaves : goal.returns-in-Err-clause-leaves
 returns-in-Err-clause-leaves g c = λ given told.
     subst (λ (r : Ran). SessionLeaves r g.D.Disk.images c.open.new.a c.open.new.b given c.args.rows
-    (g.L.Link.coming c.args.link.now) (g.K.Sink.held c.args.out.now)
+    (g.S.Source.left c.args.input.now) (g.L.Link.coming c.args.link.now)
+    (g.R.Rng.stream c.args.words.now) (g.K.Sink.held c.args.out.now)
     (g.L.Link.sent c.args.link.now)) (sym c.unopened.ensures)
-    (not_opened g.D.Disk.images c.open.new.a c.open.new.b given (g.L.Link.coming c.args.link.now)
-    (g.K.Sink.held c.args.out.now) (g.L.Link.sent c.args.link.now) (told.held_is, told.before_is)
+    (not_opened g.D.Disk.images c.open.new.a c.open.new.b given (g.S.Source.left c.args.input.now)
+    (g.L.Link.coming c.args.link.now) (g.R.Rng.stream c.args.words.now) (g.K.Sink.held c.args.out.now) (g.L.Link.sent c.args.link.now) (told.held_is, told.before_is)
     c.args.rows c.in-Err.fault
     (c.in-Err.ensures.faulty given.x given.y told.x_is told.y_is))
 
@@ -85,3 +86,17 @@ returns-in-Err-clause-unasked g c =
 pub returns-in-Err-clause-tabled : goal.returns-in-Err-clause-tabled
 returns-in-Err-clause-tabled g c =
     subst (λ (r : Ran). IfUntabled r ⊥) (sym c.unopened.ensures) (is_tabled c.in-Err.fault ⊥)
+
+pub returns-in-Ok-begin-clause-files_say : goal.returns-in-Ok-begin-clause-files_say
+returns-in-Ok-begin-clause-files_say g c = λ x y x_is y_is. (
+  _,
+  opens_config g.D.Disk.reading c.in-Ok.store.kept c.open.new.a c.open.new.b x y
+      (c.in-Ok.ensures.holds x y x_is y_is)
+      ((c.in-Ok.ensures.a_unwritten x x_is).reads ∙ x_is)
+      ((c.in-Ok.ensures.b_unwritten y y_is).reads ∙ y_is),
+)
+
+pub returns-in-Err-clause-files_say : goal.returns-in-Err-clause-files_say
+returns-in-Err-clause-files_say g c = λ x y x_is y_is.
+    subst (λ (r : Ran). FilesSay r x y) (sym c.unopened.ensures)
+    (files_faulty c.in-Err.fault x y (c.in-Err.ensures.faulty x y x_is y_is))

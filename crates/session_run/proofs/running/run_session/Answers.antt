@@ -1,15 +1,16 @@
 use Rattle.std.proofs.Common.{◌≡◌, ℕ, List, Err, Some, ap, arith, refl, subst, sym}
-use Rattle.session_run.specs.Running.{HasCauseOf, IfUntabled, RunLeaves, UnlessEnded}
+use Rattle.session_run.specs.Running.{FilesSay, HasCauseOf, IfUntabled, RunLeaves, TablesSay, UnlessEnded}
 use Rattle.session_run.specs.declared.ran.Ran.{Ran}
 use Rattle.zone_journal.specs.Pairs.{Unwritten}
 use Rattle.table_lines.specs.declared.reading.TablesFault.{TablesFault}
-use Rattle.session_run.proofs.Opened.{is_untabled, not_read, tabled_any, unread_cause, with_tables, without_tables}
+use Rattle.session_run.proofs.Opened.{files_untold, is_untabled, not_read, tabled_any, tables_faulty, tables_good, unread_cause, with_tables, without_tables}
 use Rattle.session_run.proofs.running.run_session.Goals as goal
 
 pub returns-in-Ok-clause-leaves : goal.returns-in-Ok-clause-leaves
 returns-in-Ok-clause-leaves g c = λ given told.
     with_tables g.D.Disk.images c.open_session.new.a c.open_session.new.b given c.in-Ok.rows
-    (g.L.Link.coming c.open_session.new.link) (g.K.Sink.held c.open_session.new.out)
+    (g.S.Source.left c.open_session.new.input) (g.L.Link.coming c.open_session.new.link)
+    (g.R.Rng.stream c.open_session.new.words) (g.K.Sink.held c.open_session.new.out)
     (g.L.Link.sent c.open_session.new.link) (c.in-Ok.ensures.reads given.rows told.rows_are).0
     c.open_session.result
     (c.open_session.ensures.leaves given (record {
@@ -27,10 +28,11 @@ returns-in-Ok-clause-leaves g c = λ given told.
 pub returns-in-Err-clause-leaves : goal.returns-in-Err-clause-leaves
 returns-in-Err-clause-leaves g c = λ given told.
     subst (λ (r : Ran). RunLeaves r g.D.Disk.images c.args.a.now c.args.b.now given
-    (g.L.Link.coming c.args.link.now) (g.K.Sink.held c.args.out.now)
+    (g.S.Source.left c.args.input.now) (g.L.Link.coming c.args.link.now)
+    (g.R.Rng.stream c.args.words.now) (g.K.Sink.held c.args.out.now)
     (g.L.Link.sent c.args.link.now)) (sym c.unread.ensures)
-    (not_read g.D.Disk.images c.args.a.now c.args.b.now given (g.L.Link.coming c.args.link.now)
-    (g.K.Sink.held c.args.out.now) (g.L.Link.sent c.args.link.now) (told.held_is, told.before_is)
+    (not_read g.D.Disk.images c.args.a.now c.args.b.now given (g.S.Source.left c.args.input.now)
+    (g.L.Link.coming c.args.link.now) (g.R.Rng.stream c.args.words.now) (g.K.Sink.held c.args.out.now) (g.L.Link.sent c.args.link.now) (told.held_is, told.before_is)
     (g.T.Source.left c.read_tables.new.source) c.in-Err.fault
     (c.in-Err.ensures.reads given.rows told.rows_are))
 
@@ -98,3 +100,18 @@ pub returns-in-Ok-clause-unopened : goal.returns-in-Ok-clause-unopened
 returns-in-Ok-clause-unopened g c =
     tabled_any c.open_session.result ((c.open_session.new.a ≡ c.args.a.now)
     × (c.open_session.new.b ≡ c.args.b.now)) c.open_session.ensures.tabled
+
+pub returns-in-Ok-clause-tables_say : goal.returns-in-Ok-clause-tables_say
+returns-in-Ok-clause-tables_say g c = λ rows tells.
+    tables_good c.open_session.result rows c.in-Ok.rows (c.in-Ok.ensures.reads rows tells).0
+    c.open_session.ensures.tabled
+
+pub returns-in-Err-clause-tables_say : goal.returns-in-Err-clause-tables_say
+returns-in-Err-clause-tables_say g c = λ rows tells.
+    subst (λ (r : Ran). TablesSay r rows) (sym c.unread.ensures)
+    (tables_faulty rows (g.T.Source.left c.read_tables.new.source) c.in-Err.fault
+    (c.in-Err.ensures.reads rows tells))
+
+pub returns-in-Err-clause-files_say : goal.returns-in-Err-clause-files_say
+returns-in-Err-clause-files_say g c = λ x y x_is y_is.
+    subst (λ (r : Ran). FilesSay r x y) (sym c.unread.ensures) (files_untold c.in-Err.fault x y)

@@ -1,4 +1,4 @@
-use Rattle.std.proofs.Common.{◌≡◌, refl, subst, sym, ap, Some, Bool}
+use Rattle.std.proofs.Common.{◌≡◌, ◌∙◌, refl, subst, sym, ap, Some, Bool}
 use Rattle.std.specs.Prelude.{⊤}
 use Rattle.batch_json.specs.declared.asking.Line.TheVariants as line
 use Rattle.line_server.specs.Standing.{Server, StandsFor}
@@ -29,5 +29,5 @@ returns-clause-leaves g c = λ around old held before random stands ports tells 
       bound = c.self.inside.bound;
     }) (g.L.Link.coming c.args.link.now) random its c.bind_ports.new.bound
     (g.L.Link.coming c.bind_ports.new.link) c.bind_ports.ensures.coming step.new is)
-    (λ part. part)
+    (λ part. (part, c.bind_ports.ensures.coming ∙ its.coming))
     (c.bind_ports.ensures.leaves around old held before its.bound ports tells was)

@@ -5,7 +5,7 @@ use Rattle.line_server.specs.Holding.{Holds}
 use Rattle.line_server.specs.Leaving.{ImagesOpen}
 use Rattle.line_server.specs.Standing.{StandsFor}
 use Rattle.session_model.specs.Steps.{LineSteps}
-use Rattle.session_server.proofs.Lines.{no_disk, no_fault}
+use Rattle.session_server.proofs.Lines.{no_disk, no_fault, none_torn}
 use Rattle.session_server.specs.Taking.{LineLeaves, PartOf}
 use Rattle.zone_journal.specs.Pairs.{Leaves}
 use Rattle.session_server.proofs.server.Server.take_asked.Goals as goal
@@ -81,3 +81,15 @@ returns-in-Compact-clause-leaves g c = λ around old held before same stands por
     (ImagesOpen g.D.Disk.images c.compact.new.a c.compact.new.b old.engine.config)
     old (λ new. StandsFor new c.compact.new.self (g.L.Link.coming c.args.link.now) (g.R.Rng.stream c.args.words.now)) held before (g.K.Sink.held c.compact.new.out) (g.L.Link.sent c.args.link.now)) (sym c.in-Compact.is)
     (c.compact.ensures.leaves around old held before (g.L.Link.coming c.args.link.now) (g.R.Rng.stream c.args.words.now) (g.L.Link.sent c.args.link.now) stands tells was)
+
+pub returns-in-Bind-clause-undrawn : goal.returns-in-Bind-clause-undrawn
+returns-in-Bind-clause-undrawn g c = λ is.
+    absurd (none_torn c.open_ports.result (g.L.Link.faults c.args.link.now)
+    (g.L.Link.faults c.open_ports.new.link) (g.K.Sink.faults c.args.out.now)
+    (g.K.Sink.faults c.open_ports.new.out) c.open_ports.ensures.cause is)
+
+pub returns-in-Serve-clause-undrawn : goal.returns-in-Serve-clause-undrawn
+returns-in-Serve-clause-undrawn g c = λ is.
+    absurd (none_torn c.take_turns.result (g.L.Link.faults c.args.link.now)
+    (g.L.Link.faults c.take_turns.new.link) (g.K.Sink.faults c.args.out.now)
+    (g.K.Sink.faults c.take_turns.new.out) c.take_turns.ensures.cause is)
