@@ -2,7 +2,7 @@
 #![tactic(auto)]
 
 use file_disk::{FileDisk, FileSource};
-use r53_cli::{Reading, Status, Writing, run, status_text};
+use r53_cli::{Status, run, status_text};
 use rand_chacha::ChaCha8Rng;
 use rand_core::SeedableRng;
 use std::env;
@@ -10,6 +10,7 @@ use std::fs::File;
 use std::io::{self, ErrorKind, Write};
 use std::process::ExitCode;
 use std::random::RandomSource;
+use stream_adapters::{Reading, Writing};
 use udp_link::UdpLink;
 
 /// The first file of a store, in the current folder.
@@ -52,7 +53,9 @@ fn started(rt: &HostRuntime) -> Status {
 /// Runs over the standard streams, the files and the sockets, with a generator of this key.
 fn run_over(rt: &HostRuntime, args: &[String], key: [u8; 32]) -> Status {
     let alloc = rt.alloc();
-    let mut input = Reading::new(rt.stdin());
+    let Ok(mut input) = Reading::new(alloc, rt.stdin()) else {
+        return Status::OutOfMemory;
+    };
     let mut tables = FileSource::new(File::open(rt, TABLES));
     let mut out = Writing::new(rt.stdout());
     let mut a = FileDisk::new(rt, FIRST_DISK);

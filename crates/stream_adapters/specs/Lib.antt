@@ -1,0 +1,3 @@
+pub mod Reading
+pub mod Writing
+pub use Rattle.octets.specs.Counts
