@@ -1,4 +1,5 @@
 pub mod Addresses
+mod Completing
 pub mod Endings
 pub mod Forms
 pub mod Lines

@@ -1,3 +1,4 @@
+pub mod Completing
 pub mod Forms
 pub mod Laws
 pub mod Once

@@ -17,7 +17,8 @@ use Rattle.session_model.specs.Serving.{Datagram}
 use Rattle.session_run.specs.Ended.{Ended}
 use Rattle.session_run.specs.Ended.TheVariants as ended
 use Rattle.session_run.specs.Ending.{FilesOpen}
-use Rattle.session_run.specs.Running.{Given, HasCauseOf, IfUntabled, IsTold, RunLeaves, UnlessEnded}
+use Rattle.session_run.specs.Running.{FilesSay, Given, HasCauseOf, IfUntabled, IsTold, RunLeaves}
+use Rattle.session_run.specs.Running.{TablesSay, UnlessEnded}
 use Rattle.session_run.specs.declared.ran.Ran.{Ran}
 use Rattle.session_run.specs.declared.ran.Ran.TheVariants as ran
 use Rattle.store_model.specs.Opening.{OpensConfig}
@@ -109,7 +110,11 @@ pub record Runs {D : Type 0} (reading : D → Option (List ℕ)) (images : D →
   pub unopened : IfUntabled answer ((a_new ≡ a_old) × (b_new ≡ b_old))
   pub leaves : (given : Given) → IsTold given before.left before.rows (reading a_old)
       (reading b_old) before.held before.ports before.coming before.sent before.words
-      → RunLeaves answer images a_new b_new given after.coming after.held after.sent
+      → RunLeaves answer images a_new b_new given after.left after.coming after.words after.held
+      after.sent
+  pub tables_say : (rows : List ℕ) → before.rows ≡ Some rows → TablesSay answer rows
+  pub files_say : (x y : List ℕ) → reading a_old ≡ Some x → reading b_old ≡ Some y
+      → FilesSay answer x y
   pub a_unwritten : UnlessEnded answer ((x : List ℕ) → reading a_old ≡ Some x
       → Unwritten reading images moment images_since a_old a_new)
   pub b_unwritten : UnlessEnded answer ((y : List ℕ) → reading b_old ≡ Some y

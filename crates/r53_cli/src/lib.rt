@@ -3,7 +3,6 @@
 //! `run` knows nothing of files or sockets: `main` hands in adapters, and a test hands in objects in memory.
 #![tactic(auto)]
 
-mod adapters;
 mod form;
 mod intake;
 mod laws;
@@ -14,9 +13,8 @@ mod splitting;
 mod status;
 mod words;
 
-pub use adapters::{Reading, Writing};
 pub use form::{Form, form_of};
-pub use laws::{one_form, one_reply, one_status};
+pub use laws::{dump_completes, init_completes, one_form, one_reply, one_status, run_completes};
 pub use once::Once;
 pub use program::run;
 pub use status::{Status, status_text};

@@ -15,6 +15,8 @@ returns g c = record {
         (g.D.Disk.faults c.run_session.new.b) c.run_session.ensures.unasked;
     unopened = c.run_session.ensures.unopened;
     leaves = c.run_session.ensures.leaves;
+    tables_say = c.run_session.ensures.tables_say;
+    files_say = c.run_session.ensures.files_say;
     a_unwritten = c.run_session.ensures.a_unwritten;
     b_unwritten = c.run_session.ensures.b_unwritten;
     cause = c.run_session.ensures.cause;
