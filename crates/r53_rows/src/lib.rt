@@ -4,6 +4,8 @@
 #[cfg(test)]
 mod edns;
 #[cfg(test)]
+mod faults;
+#[cfg(test)]
 mod forms;
 #[cfg(test)]
 mod once;
@@ -11,3 +13,5 @@ mod once;
 mod replies;
 #[cfg(test)]
 mod statuses;
+#[cfg(test)]
+mod stores;
