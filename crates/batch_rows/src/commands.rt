@@ -1,11 +1,8 @@
 //! Octets of commands, written and read.
 
-use crate::changes::{address, batch_of};
-use crate::sets::name;
+use crate::sets::{batch, name, upsert};
 use check_model::Check;
-use command_codec::{
-    Action, Batch, CheckCommand, CidrCommand, Command, ReadFault, has_spelling, read, write,
-};
+use command_codec::{CheckCommand, CidrCommand, Command, ReadFault, has_spelling, read, write};
 use std::alloc::Global;
 use std::process::Abort;
 
@@ -41,10 +38,13 @@ fn create(rt: &impl Abort) -> Command {
     }
 }
 
-/// A change of one address.
-fn change(rt: &impl Abort, alloc: Global) -> Command {
-    let batch = batch_of(rt, alloc, &[address(Action::Upsert, b"www.a")]);
-    Command::Change(Batch { zone: 258, ..batch })
+/// So many changes of one address.
+fn changes(rt: &impl Abort, alloc: Global, zone: u32, count: usize) -> Command {
+    let mut list = Vec::new(alloc);
+    for _ in 0..count {
+        assert!(rt; list.push(upsert(rt, alloc)).is_ok(), "memory");
+    }
+    Command::Change(batch(zone, list))
 }
 
 #[test]
@@ -64,7 +64,7 @@ fn octets_of_commands(rt: HostRuntime) {
     compare(
         &rt,
         rt.alloc(),
-        change(&rt, rt.alloc()),
+        changes(&rt, rt.alloc(), 258, 1),
         b"\x02\x03\0\0\x01\x02\0\x01\x03\0\0\0\x09\x03www\x01a\0\0\x01\0\0\0\0\x01\x2c\0\x01\0\x04\xc0\0\x02\x01\0",
     );
 }
@@ -109,19 +109,9 @@ fn first_version_read(rt: HostRuntime) {
     assert!(rt; matches!(command, Err(ReadFault::Bad(0))), "version 3");
 }
 
-/// A change of so many addresses.
-fn changes(rt: &impl Abort, alloc: Global, count: usize) -> Command {
-    let mut rows = Vec::new(alloc);
-    for _ in 0..count {
-        let row = address(Action::Upsert, b"www.a");
-        assert!(rt; rows.push(row).is_ok(), "memory");
-    }
-    Command::Change(batch_of(rt, alloc, rows.as_slice()))
-}
-
 #[test]
 fn changes_above_a_thousand(rt: HostRuntime) {
-    let command = changes(&rt, rt.alloc(), 1200);
+    let command = changes(&rt, rt.alloc(), 1, 1200);
     assert!(rt; has_spelling(&command), "a spelling");
     let written = write(rt.alloc(), &command).ok().expect(&rt, "memory");
     // 8 octets, and 29 a change: 4 for the characters, 24 for the set

@@ -1,13 +1,9 @@
-//! Rows by hand over commands and batches: their octets, the sets after a batch, and its refusals.
+//! Rows by hand over commands: their octets, and a batch whose set is too long to be kept.
 #![tactic(auto)]
 
 #[cfg(test)]
-mod batches;
-#[cfg(test)]
-mod bounds;
-#[cfg(test)]
-mod changes;
-#[cfg(test)]
 mod commands;
+#[cfg(test)]
+mod long;
 #[cfg(test)]
 mod sets;

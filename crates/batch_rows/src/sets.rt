@@ -1,8 +1,9 @@
-//! Sets for the rows.
+//! Sets and changes for the rows.
 
+use command_codec::{Action, Batch, Change, Changes};
 use dns_name::Name;
 use rdata::{RData, RType};
-use record_set::{Body, Ident, RecordSet, Routing, Values};
+use record_set::{Body, RecordSet, Routing, Values};
 use std::alloc::Global;
 use std::process::Abort;
 
@@ -13,55 +14,41 @@ pub fn name(rt: &impl Abort, text: &[u8]) -> Name {
     read.unwrap_or(Name::root())
 }
 
-/// The identifier of a text, which is one.
-pub fn ident(rt: &impl Abort, text: &[u8]) -> Ident {
-    Ident::new(text).expect(rt, "an identifier")
-}
-
-/// The values of these texts.
-fn list(rt: &impl Abort, alloc: Global, rtype: RType, texts: &[&[u8]]) -> Values {
-    let mut list = Vec::new(alloc);
-    for text in texts {
-        let value = RData::from_text(alloc, rtype, text).expect(rt, "a value");
-        assert!(rt; list.push(value).is_ok(), "memory");
-    }
-    Values::from_vec(list)
-}
-
-/// The body of values with these texts and this time to live.
-pub fn lasting(rt: &impl Abort, alloc: Global, ttl: u32, rtype: RType, texts: &[&[u8]]) -> Body {
-    Body::Values {
-        ttl,
-        values: list(rt, alloc, rtype, texts),
-    }
-}
-
-/// The body of values with these texts and a time to live of 300 seconds.
-pub fn values(rt: &impl Abort, alloc: Global, rtype: RType, texts: &[&[u8]]) -> Body {
-    lasting(rt, alloc, 300, rtype, texts)
-}
-
-/// So many different addresses.
-pub fn addresses(rt: &impl Abort, alloc: Global, count: u16) -> Body {
-    let mut list = Vec::new(alloc);
-    for n in 0..count {
-        let octets = [10, 0, (n / 256) as u8, (n % 256) as u8];
-        let value = RData::from_wire(alloc, RType::A, &octets).expect(rt, "an address");
-        assert!(rt; list.push(value).is_ok(), "memory");
-    }
-    Body::Values {
-        ttl: 60,
-        values: Values::from_vec(list),
-    }
-}
-
-/// A set of the name without a check.
-pub fn set(name: Name, rtype: RType, routing: Routing, body: Body) -> RecordSet {
+/// A simple set without a check.
+pub fn simple(name: Name, rtype: RType, values: Vec<RData>) -> RecordSet {
     RecordSet {
         name,
         rtype,
-        routing,
-        body,
+        routing: Routing::Simple,
+        body: Body::Values {
+            ttl: 300,
+            values: Values::from_vec(values),
+        },
         check: None,
     }
+}
+
+/// A change of a set, in nine characters.
+pub fn change(action: Action, set: RecordSet) -> Change {
+    Change {
+        action,
+        characters: 9,
+        set,
+    }
+}
+
+/// A batch of these changes.
+pub fn batch(zone: u32, changes: Vec<Change>) -> Batch {
+    Batch {
+        zone,
+        changes: Changes::from_vec(changes),
+    }
+}
+
+/// UPSERT of one address of www.a.
+pub fn upsert(rt: &impl Abort, alloc: Global) -> Change {
+    let mut list = Vec::new(alloc);
+    let value = RData::from_wire(alloc, RType::A, &[192, 0, 2, 1]).expect(rt, "an address");
+    assert!(rt; list.push(value).is_ok(), "memory");
+    change(Action::Upsert, simple(name(rt, b"www.a"), RType::A, list))
 }

@@ -1,14 +1,5 @@
-//! Rows by hand over collections of blocks: what commands make of them, their refusals, and where
-//! clients are located.
+//! Rows by hand over the numbers of collections that are read back.
 #![tactic(auto)]
 
 #[cfg(test)]
-mod bounds;
-#[cfg(test)]
-mod clients;
-#[cfg(test)]
-mod made;
-#[cfg(test)]
-mod refusals;
-#[cfg(test)]
-mod restoring;
+mod numbers;

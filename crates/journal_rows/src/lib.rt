@@ -11,6 +11,6 @@ mod tests;
 
 pub use counting::CountingDisk;
 pub use runs::{
-    Compacted, Run, compact, count_all, make_and_fill, open_all, open_and_append, open_and_begin,
-    open_and_compact, open_and_compact_in_four, open_and_read,
+    Compacted, Run, compact, count_all, make_and_fill, open_all, open_and_append,
+    open_and_compact_in_four, open_and_read,
 };

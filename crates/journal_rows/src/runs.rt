@@ -43,11 +43,9 @@ pub fn open_all<D: Disk>(
     Err(OpenFault::OutOfMemory)
 }
 
-/// What the pieces of a compaction came to.
+/// How far a compaction came.
 #[derive(Clone, Copy, Debug, PartialEq, Eq)]
 pub struct Compacted {
-    /// Each piece, as far as it was reached.
-    pub pieces: [Option<Piece>; 3],
     /// The entry between the pieces was acknowledged.
     pub appended: bool,
     /// No device call failed.
@@ -68,7 +66,6 @@ pub fn compact<D: Disk>(
     ensures { IsTrue result.whole → StandsOn D.reading D.images journal.new a.new b.new }
 {
     let mut came = Compacted {
-        pieces: [None; 3],
         appended: false,
         whole: false,
     };
@@ -77,7 +74,6 @@ pub fn compact<D: Disk>(
         return came;
     };
     let first = journal.compact_piece(a, b);
-    came.pieces[0] = Some(first);
     let Piece::Running(_) = first else {
         return came;
     };
@@ -85,14 +81,10 @@ pub fn compact<D: Disk>(
         return came;
     };
     came.appended = true;
-    let second = journal.compact_piece(a, b);
-    came.pieces[1] = Some(second);
-    let Piece::Running(_) = second else {
+    let Piece::Running(_) = journal.compact_piece(a, b) else {
         return came;
     };
-    let third = journal.compact_piece(a, b);
-    came.pieces[2] = Some(third);
-    let Piece::Done(_) = third else {
+    let Piece::Done(_) = journal.compact_piece(a, b) else {
         return came;
     };
     came.whole = true;
@@ -133,20 +125,6 @@ pub fn make_and_fill<D: Disk>(
         acknowledged: 3,
         whole: true,
     })
-}
-
-/// Opens a store and compacts it.
-pub fn open_and_compact<D: Disk>(
-    alloc: Global,
-    a: &mut D,
-    b: &mut D,
-    entry: &Entry,
-    snapshot: Vec<u8>,
-) -> Result<Compacted, OpenFault>
-    requires { length snapshot.items ≤ 268435435 }
-{
-    let (mut journal, _, _) = open_all(alloc, a, b)?;
-    Ok(compact(&mut journal, a, b, entry, snapshot))
 }
 
 /// Opens a store and compacts it in at most four pieces.
@@ -209,19 +187,6 @@ pub fn count_all<D: Disk>(alloc: Global, a: &mut D, b: &mut D) -> Result<u64, Op
     let (_journal, snapshot, entries) = open_all(alloc, a, b)?;
     let before = u64::from(snapshot.len() == 1);
     Ok(entries.saturating_add(before))
-}
-
-/// Opens a store and begins a compaction.
-pub fn open_and_begin<D: Disk>(
-    alloc: Global,
-    a: &mut D,
-    b: &mut D,
-    snapshot: Vec<u8>,
-) -> Result<Begun, OpenFault>
-    requires { length snapshot.items ≤ 268435435 }
-{
-    let (mut journal, _, _) = open_all(alloc, a, b)?;
-    Ok(journal.compact_begin(snapshot))
 }
 
 fn stopped(made: bool, acknowledged: u64) -> Run {

@@ -1,15 +1,15 @@
 //! The bytes of a store after each run, and what is left where each device call fails in turn.
 
 use crate::{
-    CountingDisk, Run, count_all, make_and_fill, open_all, open_and_append, open_and_begin,
-    open_and_compact, open_and_compact_in_four, open_and_read,
+    CountingDisk, Run, count_all, make_and_fill, open_all, open_and_append,
+    open_and_compact_in_four, open_and_read,
 };
 use gate_journal::Journal;
 use octets::OutOfMemory;
 use r53_disk::{MemoryDisk, Torn};
 use std::alloc::Global;
 use std::test::Fail;
-use zone_journal::{Appended, Begun, Entry, Init, OpenFault, Piece, Side, init};
+use zone_journal::{Appended, Entry, Init, OpenFault, Piece, Side, init};
 
 const ROOM: u64 = 200_000;
 
@@ -21,15 +21,6 @@ const EMPTY: [u8; 34] = [
     0x01, 0x52, 0x35, 0x33, 0x5a, 0x4a, 0x30, 0x31, 0, 0, 0, 0, 0, 0, 0, 1, 0, 0, 0, 13, 2, 0, 0,
     0, 1, 0, 0, 0, 1, 0, 0, 0, 0, 0,
 ];
-
-/// That store after the entry 02 04 01 03 00 00 was appended in a compaction.
-const COMPACTED: [u8; 45] = [
-    0x01, 0x52, 0x35, 0x33, 0x5a, 0x4a, 0x30, 0x31, 0, 0, 0, 0, 0, 0, 0, 2, 0, 0, 0, 13, 2, 0, 0,
-    0, 1, 0, 0, 0, 1, 0, 0, 0, 0, 1, 0, 0, 0, 6, 2, 4, 1, 3, 0, 0, 0,
-];
-
-/// Nothing: version 2, next zone 1, next check 1, no checks, no zones.
-const SNAPSHOT: [u8; 13] = [2, 0, 0, 0, 1, 0, 0, 0, 1, 0, 0, 0, 0];
 
 /// A health check over one endpoint is created: version 2, kind 4, threshold 3, neither inverted
 /// nor disabled.
@@ -59,49 +50,6 @@ fn bytes_of_a_new_store(rt: HostRuntime) -> Result<(), Fail> {
         "the other way round"
     );
     assert_eq!(rt; a.starved(), 0, "with ample memory");
-    Ok(())
-}
-
-#[test]
-fn no_store(rt: HostRuntime) -> Result<(), Fail> {
-    let alloc = rt.alloc();
-    let mut a = memory(alloc, &[], &[])?;
-    let mut b = memory(alloc, &[], &[])?;
-    let counted = count_all(alloc, &mut a, &mut b);
-    assert_eq!(rt;
-        counted,
-        Err(OpenFault::NotAStore(Side::A, 0)),
-        "two empty disks"
-    );
-    Ok(())
-}
-
-#[test]
-fn a_compaction_in_pieces(rt: HostRuntime) -> Result<(), Fail> {
-    let alloc = rt.alloc();
-    let mut a = memory(alloc, &EMPTY, &[])?;
-    let mut b = memory(alloc, &[], &[])?;
-    let entry = Entry::new(alloc, &CREATE)?;
-    let snapshot = SNAPSHOT.to_vec(alloc)?;
-    let came = open_and_compact(alloc, &mut a, &mut b, &entry, snapshot)?;
-    assert_eq!(rt;
-        came.pieces,
-        [
-            Some(Piece::Running(34)),
-            Some(Piece::Running(2)),
-            Some(Piece::Done(2))
-        ]
-    );
-    assert_eq!(rt;
-        b.image(Torn::Lost)?.as_slice(),
-        COMPACTED.as_slice(),
-        "the file of b"
-    );
-    assert_eq!(rt;
-        entries_in(alloc, &a.image(Torn::Lost)?, &b.image(Torn::Lost)?)?,
-        Some(1),
-        "opened again"
-    );
     Ok(())
 }
 
@@ -145,19 +93,6 @@ fn a_long_entry(rt: HostRuntime) -> Result<(), Fail> {
     let found = open_and_read(alloc, &mut a, &mut b)?;
     assert_eq!(rt; found, Some(bytes), "opened again");
     assert_eq!(rt; a.starved(), 0, "with ample memory");
-    Ok(())
-}
-
-#[test]
-fn the_last_generation(rt: HostRuntime) -> Result<(), Fail> {
-    let alloc = rt.alloc();
-    let mut file = EMPTY;
-    file[8..16].fill(0xff);
-    let mut a = memory(alloc, &file, &[])?;
-    let mut b = memory(alloc, &[], &[])?;
-    let snapshot = SNAPSHOT.to_vec(alloc)?;
-    let begun = open_and_begin(alloc, &mut a, &mut b, snapshot)?;
-    assert_eq!(rt; begun, Begun::GenerationsEnded);
     Ok(())
 }
 

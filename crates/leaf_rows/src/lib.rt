@@ -1,9 +1,5 @@
-//! Rows that were worked by hand, run over the leaf parts: what definitions themselves could have wrong.
+//! Rows by hand over client subnet options: where the first fault stands, and what is written.
 #![tactic(auto)]
 
 #[cfg(test)]
-mod calculated_health_rows;
-#[cfg(test)]
-mod checker_state_rows;
-#[cfg(test)]
-mod ecs_option_rows;
+mod options;

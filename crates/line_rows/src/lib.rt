@@ -1,18 +1,12 @@
-//! Rows of control lines: what the AWS command line writes, and each fault in its order. Tables come
-//! line by line too.
+//! Rows of inputs split into lines, of tables that are longer than a buffer, of a line that is cut off, and of two
+//! numbers of a line that no reply tells.
 #![tactic(auto)]
 
 #[cfg(test)]
-mod checks;
-#[cfg(test)]
-mod collections;
+mod cut;
 #[cfg(test)]
 mod inputs;
 #[cfg(test)]
-mod queries;
-#[cfg(test)]
-mod sets;
+mod numbers;
 #[cfg(test)]
 mod table_inputs;
-#[cfg(test)]
-mod zones;

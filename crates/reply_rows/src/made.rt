@@ -1,16 +1,15 @@
-//! Zones of a few sets.
+//! A zone of a few simple sets.
 
 use dns_name::Name;
 use rdata::{RData, RType};
 use record_set::{Body, RecordSet, Routing, Values};
-use routing::Ident;
 use std::alloc::Global;
 use std::process::Abort;
 use zone_allowed::is_allowed;
 use zone_table::{Sets, ZoneEdit, Zones};
 
-/// A set: its owner, its type, its TTL, and the texts of its values.
-pub type Set = (&'static str, RType, u32, &'static [&'static str]);
+/// A set: its owner, its type, and the texts of its values.
+pub type Set = (&'static str, RType, &'static [&'static str]);
 
 /// The name of a text, which is one.
 pub fn name(rt: &impl Abort, text: &str) -> Name {
@@ -29,94 +28,39 @@ fn values(rt: &impl Abort, alloc: Global, rtype: RType, texts: &[&str]) -> Value
     Values::from_vec(list)
 }
 
-/// A set with values.
-fn valued(rt: &impl Abort, alloc: Global, set: &Set, routing: Routing) -> RecordSet {
-    let (owner, rtype, ttl, texts) = *set;
-    RecordSet {
-        name: name(rt, owner),
-        rtype,
-        routing,
-        body: Body::Values {
-            ttl,
-            values: values(rt, alloc, rtype, texts),
-        },
-        check: None,
-    }
-}
-
-/// An alias of type A.
-pub fn alias(rt: &impl Abort, owner: &str, target: &str, routing: Routing) -> RecordSet {
-    RecordSet {
-        name: name(rt, owner),
-        rtype: RType::A,
-        routing,
-        body: Body::Alias {
-            target: name(rt, target),
-            evaluate: true,
-        },
-        check: None,
-    }
-}
-
-/// An identifier.
-pub fn ident(rt: &impl Abort, text: &str) -> Ident {
-    Ident::new(text.as_bytes()).expect(rt, "an identifier")
-}
-
-/// Adds a set of a policy.
-pub fn put(rt: &impl Abort, alloc: Global, sets: &mut Vec<RecordSet>, set: &Set, routing: Routing) {
-    let set = valued(rt, alloc, set, routing);
-    assert!(rt; sets.push(set).is_ok(), "memory");
-}
-
-/// Adds simple sets.
-pub fn add(rt: &impl Abort, alloc: Global, sets: &mut Vec<RecordSet>, rows: &[Set]) {
+/// The sets of these rows.
+fn sets(rt: &impl Abort, alloc: Global, rows: &[Set]) -> Sets {
+    let mut list = Vec::new(alloc);
     for row in rows {
-        put(rt, alloc, sets, row, Routing::Simple);
+        let (owner, rtype, texts) = *row;
+        let set = RecordSet {
+            name: name(rt, owner),
+            rtype,
+            routing: Routing::Simple,
+            body: Body::Values {
+                ttl: 86400,
+                values: values(rt, alloc, rtype, texts),
+            },
+            check: None,
+        };
+        assert!(rt; list.push(set).is_ok(), "memory");
     }
+    Sets::from_vec(list)
 }
 
-/// Opens a zone with these sets.
-pub fn open(
-    rt: &impl Abort,
-    alloc: Global,
-    zones: &mut Zones,
-    zone: u32,
-    apex: &str,
-    sets: Vec<RecordSet>,
-) {
-    let name = name(rt, apex);
-    let sets = Sets::from_vec(sets);
-    make(rt, alloc, zones, ZoneEdit::Open { zone, name, sets });
-}
-
-/// Makes an edit, which is allowed.
-pub fn make(rt: &impl Abort, alloc: Global, zones: &mut Zones, edit: ZoneEdit) {
-    assert!(rt; is_allowed(zones, &edit), "an edit that is allowed");
+/// Zone 1, the root, with simple sets.
+pub fn root(rt: &impl Abort, alloc: Global, rows: &[Set]) -> Zones {
+    let mut zones = Zones::new(alloc);
+    let edit = ZoneEdit::Open {
+        zone: 1,
+        name: Name::root(),
+        sets: sets(rt, alloc, rows),
+    };
+    assert!(rt; is_allowed(&zones, &edit), "an edit that is allowed");
     let ready = zones.ready(alloc, edit);
     assert!(rt; ready.is_ok(), "memory");
     if let Ok(ready) = ready {
         zones.edit(ready);
     }
-}
-
-/// Opens a zone with simple sets.
-pub fn open_simple(
-    rt: &impl Abort,
-    alloc: Global,
-    zones: &mut Zones,
-    zone: u32,
-    apex: &str,
-    rows: &[Set],
-) {
-    let mut sets = Vec::new(alloc);
-    add(rt, alloc, &mut sets, rows);
-    open(rt, alloc, zones, zone, apex, sets);
-}
-
-/// Zone 1, with simple sets.
-pub fn zone(rt: &impl Abort, alloc: Global, apex: &str, rows: &[Set]) -> Zones {
-    let mut zones = Zones::new(alloc);
-    open_simple(rt, alloc, &mut zones, 1, apex, rows);
     zones
 }

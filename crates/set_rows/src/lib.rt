@@ -1,4 +1,4 @@
-//! Rows by hand over record sets: reasons of refusal, equality, texts of policies, and octets.
+//! Rows by hand over record sets: an alias of an address block, equality, texts of policies, and octets.
 #![tactic(auto)]
 
 #[cfg(test)]

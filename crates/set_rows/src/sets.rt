@@ -41,20 +41,6 @@ pub fn values(rt: &impl Abort, alloc: Global, rtype: RType, texts: &[&[u8]]) -> 
     lasting(rt, alloc, 300, rtype, texts)
 }
 
-/// So many different addresses.
-pub fn addresses(rt: &impl Abort, alloc: Global, count: u16) -> Body {
-    let mut list = Vec::new(alloc);
-    for n in 0..count {
-        let octets = [10, 0, (n / 256) as u8, (n % 256) as u8];
-        let value = RData::from_wire(alloc, RType::A, &octets).expect(rt, "an address");
-        assert!(rt; list.push(value).is_ok(), "memory");
-    }
-    Body::Values {
-        ttl: 60,
-        values: Values::from_vec(list),
-    }
-}
-
 /// A set of the name without a check.
 pub fn set(name: Name, rtype: RType, routing: Routing, body: Body) -> RecordSet {
     RecordSet {

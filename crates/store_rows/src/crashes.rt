@@ -1,6 +1,5 @@
 //! What is left where each device call of a run fails in turn, and where a crash stops it.
 
-use crate::files::memory;
 use crate::runs::{Run, make_and_change};
 use crate::steps::opened;
 use octets::OutOfMemory;
@@ -13,6 +12,12 @@ const TORN: [Torn; 3] = [Torn::Kept, Torn::Lost, Torn::Filled(1)];
 
 /// The most device calls of a run on one disk.
 const MOST_CALLS: u64 = 80;
+
+/// A disk with these bytes, of which these calls fail.
+fn memory(alloc: Global, bytes: &[u8], fail: &[u64]) -> Result<MemoryDisk, OutOfMemory> {
+    let room = bytes.len() as u64;
+    MemoryDisk::new(alloc, bytes, room.max(4096), fail)
+}
 
 /// How many checks there are in the store of two files, none where they are none.
 fn checks_in(alloc: Global, a: &[u8], b: &[u8]) -> Result<Option<usize>, OutOfMemory> {
