@@ -1,0 +1,240 @@
+"""What the program is given next: the lines of clients, and Serve lines in between.
+
+The program does one thing at a time: it takes a line, or it serves as many turns as a Serve line says. So lines, for 5 ms at most, and
+Serve lines take turns. A Serve is as short as a line may wait, and one that waits for datagrams is ended by a datagram to the
+program's report port when a line comes. At each moment at most one line of a client is in the program's hand; where the program
+ends with it, nobody knows whether it was done, and its client is told so.
+"""
+import json
+import time
+from collections import deque
+
+from . import logs, program, reports
+from .mail import Mail
+from .turns import Turns
+
+SLICE = 0.005
+QUIET = 0.1
+FEW = 16
+BURST = 128
+RENEW = 1 << 39
+
+NO_REPLY = b'{"Error":"NoReply"}\n'
+NOT_FOR_CLIENTS = b'{"Error":"NotForClients","Member":"Serve"}\n'
+UNKNOWN_WORD = b'{"Error":"UnknownWord"}\n'
+
+KINDS = frozenset((
+    "CreateHostedZone", "DeleteHostedZone", "ListResourceRecordSets", "ChangeResourceRecordSets", "CreateCidrCollection",
+    "ChangeCidrCollection", "DeleteCidrCollection", "CreateHealthCheck", "UpdateHealthCheck", "DeleteHealthCheck",
+    "GetHealthCheckStatus", "Observe", "Query", "Bind", "Serve", "Compact"))
+
+
+def kind_of(thing):
+    """The one member of a line's object and its value; ("other", None) where it is none that is known."""
+    if isinstance(thing, dict) and len(thing) == 1:
+        kind, value = next(iter(thing.items()))
+        if kind in KINDS and isinstance(value, dict):
+            return kind, value
+    return "other", None
+
+
+def check_number(ident):
+    return int(ident[1:])
+
+
+class Hand:
+    """The lines that wait, and the Serve line in the program's hand.
+
+    `own` has lines of the driver with what takes their replies; `serving` is (turns, when it began) of a Serve line, and `wake_at` when
+    wakes are sent to end it.
+    """
+
+    def __init__(self, driver):
+        self.driver, self.counts = driver, driver.counts
+        self.turns, self.mail, self.own, self.tcp_waiters = Turns(), None, deque(), []
+        self.serving, self.is_woken, self.wake_at, self.held = None, False, None, None
+        self.slice_end, self.handed, self.own_turn, self.line_end = 0.0, 0, False, 0.0
+
+    def begin(self, port, now):
+        """The program serves, with this report port."""
+        self.mail, self.line_end = Mail(port), now
+
+    def end(self, pending):
+        """The program has ended, with these lines in its hand."""
+        if self.mail is not None:
+            self.mail.close()
+        self.mail = self.serving = self.wake_at = self.held = None
+        self.own.clear()
+        waiters, self.tcp_waiters = self.tcp_waiters, []
+        for then in waiters:
+            then(None)
+        for then in pending:
+            if isinstance(then, Request):
+                then(NO_REPLY)
+
+    # ---- turns
+
+    def next_line(self):
+        """Gives the program a line or a Serve line."""
+        now, clients = time.monotonic(), self.driver.clients
+        waits = clients.has_lines()
+        if (waits or self.own) and (self.handed == 0 or now < self.slice_end):
+            self.handed += 1
+            self.own_turn = bool(self.own) and (not waits or not self.own_turn)
+            if self.own_turn:
+                self.driver.child.give(*self.own.popleft())
+            else:
+                self.hand_over(clients.next(), now)
+        else:
+            self.serve(now, waits or bool(self.own) or self.driver.upkeep.compacting)
+
+    def serve(self, now, is_urgent):
+        """Gives a Serve line; where lines wait, wakes see to it that it doesn't wait for datagrams.
+
+        One of many turns ends soon after the load does: after 100 ms by wakes, whether a line waits or not.
+        """
+        count = self.turns.count
+        self.serving, self.is_woken = (count, now), False
+        self.wake_at = now + QUIET if count > 1 else None
+        if is_urgent:
+            self.wake()
+        self.mail.handed()
+        self.driver.child.give(b'{"Serve":{"Turns":%d}}' % count, self.served)
+
+    def wake(self):
+        """Ends the Serve soon: by as many wakes as it has turns where these are few, and else where it doesn't end in time."""
+        if self.serving is None or self.mail is None:
+            return
+        count, began = self.serving
+        self.is_woken = True
+        if count <= FEW:
+            self.mail.wake(count)
+        self.wake_at = max(time.monotonic(), began + count * self.turns.each) + 0.001
+
+    def watch(self, now):
+        """Sends wakes where a Serve lasts too long."""
+        if self.wake_at is not None and now >= self.wake_at and self.serving is not None:
+            self.mail.more(min(self.serving[0], BURST))
+            self.wake_at = now + 0.001
+
+    def served(self, reply):
+        """A Serve line's reply."""
+        counts, now = json.loads(reply), time.monotonic()
+        wakes = self.mail.took(counts["Reports"] + counts["Unknown"], counts["Quiet"])
+        self.counts.serve(counts, wakes)
+        is_idle = counts["Quiet"] > 0 or 2 * wakes > counts["Turns"]
+        self.turns.took(counts["Turns"], is_idle, now - self.serving[1])
+        self.serving = self.wake_at = None
+        self.slice_end, self.handed = now + SLICE, 0
+        if self.held is not None:
+            self.forward_held()
+        if self.driver.child.given > RENEW:
+            self.driver.renewing = True
+        self.driver.upkeep.served()
+
+    def line_came(self):
+        """A line has come: a wait of the program ends."""
+        if self.serving is not None and not self.is_woken:
+            self.wake()
+
+    # ---- lines of clients
+
+    def hand_over(self, client, now):
+        """Hands a client's line over, or answers it where it is the driver's to answer."""
+        line, came = client.take()
+        request = Request(self, client, line, now, now - max(came, self.line_end))
+        self.counts.waited(request.waited)
+        if line[:1] == b"!":
+            request(self.word(line.strip()))
+        elif request.kind == "Serve":
+            request(NOT_FOR_CLIENTS)
+        else:
+            self.driver.child.give(line, request)
+
+    def word(self, word):
+        """The reply to a line to the driver itself."""
+        if word == b"!status":
+            return program.compact({"Ok": "!status", "r53d": self.driver.upkeep.status()}) + b"\n"
+        if word == b"!compact":
+            self.driver.upkeep.compacting = True
+            return b'{"Ok":"!compact"}\n'
+        return UNKNOWN_WORD
+
+    def note(self, kind, value, reply):
+        """What a command that was done changes in what the driver knows of checks and reports."""
+        checks, kept = self.driver.checks, self.driver.reports
+        if kind == "Observe":
+            kept.take(check_number(value["HealthCheckId"]), int(value["Checker"]), value["Pass"])
+            kept.flush()
+        elif kind == "CreateHealthCheck":
+            config = value["HealthCheckConfig"]
+            is_calculated = config["Type"] == "CALCULATED"
+            checks[check_number(reply["HealthCheck"]["Id"])] = None if is_calculated else int(config.get("FailureThreshold", 3))
+        elif kind == "DeleteHealthCheck":
+            number = check_number(value["HealthCheckId"])
+            checks.pop(number, None)
+            kept.views.forget(number)
+
+    # ---- queries over TCP
+
+    def asked_by_tcp(self, line, then):
+        """Asks the program a Query line; `then` is called with its reply as an object, or with None where there is none."""
+        if self.driver.state != "serving":
+            then(None)
+            return
+        self.tcp_waiters.append(then)
+        self.own.append((line, self.tcp_answered))
+        self.line_came()
+
+    def tcp_answered(self, reply):
+        got = json.loads(reply)
+        self.counts.tcp += "Ok" in got and got["Reply"] is not None
+        self.tcp_waiters.pop(0)(got)
+
+    # ---- reports
+
+    def report_came(self, _):
+        """Takes datagrams of the report port: keeps the reports, and passes all on."""
+        for _ in range(64):
+            try:
+                datagram = self.driver.report_sock.recv(65535)
+            except BlockingIOError:
+                break
+            except OSError:
+                continue
+            report = reports.read_report(datagram)
+            if report and self.driver.checks.get(report[0]):
+                self.driver.reports.take(*report)
+            if self.mail is not None and not self.mail.send(datagram):
+                self.held = datagram
+                self.driver.take_reports(False)
+                break
+        self.driver.reports.flush()
+
+    def forward_held(self):
+        """Passes on a report for which the program's port had no room, and takes others again."""
+        if self.mail.send(self.held):
+            self.held = None
+            self.driver.take_reports(True)
+
+
+class Request:
+    """A client's line in the program's hand: called with its reply."""
+
+    def __init__(self, hand, client, line, at, waited):
+        self.hand, self.client, self.line, self.at, self.waited = hand, client, line, at, waited
+        thing = logs.parse(line)
+        self.is_json = thing is not None
+        self.kind, self.value = kind_of(thing)
+
+    def __call__(self, reply):
+        driver, now = self.hand.driver, time.monotonic()
+        got = logs.parse(reply) if len(reply) < 65536 else {"Ok": self.kind}
+        outcome = got.get("Error", "Ok")
+        if outcome == "Ok" and self.value is not None:
+            self.hand.note(self.kind, self.value, got)
+        driver.counts.line(self.kind, outcome)
+        driver.log.line(self.client.number, self.client.peer, self.line, self.is_json, reply[:-1], self.waited, now - self.at)
+        self.hand.line_end = now
+        self.client.reply(reply)
+        driver.clients.done(self.client)

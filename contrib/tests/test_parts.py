@@ -1,0 +1,279 @@
+"""What can be tried without the program: names, values, views of checkers, turns, files, settings, and pages."""
+import os
+import random
+import subprocess
+import sys
+import tempfile
+import unittest
+
+import helpers
+from r53d import commands, explain, journal, logs, mail, names, pages, reports, settings, turns, values, wire, world
+
+
+class Names(unittest.TestCase):
+    def test_texts(self):
+        rows = [(".", b"\0", "."), ("wWw.example.com", b"\3www\7example\3com\0", "www.example.com."),
+                ("*.a.", b"\1*\1a\0", "\\052.a."), ("\\101\\056.a", b"\2a.\1a\0", "a\\056.a.")]
+        for text, octets, written in rows:
+            self.assertEqual(names.to_wire(text), octets, text)
+            self.assertEqual(names.read(octets, 0), (written, len(octets)), text)
+
+    def test_faults(self):
+        for text in ("", ".a", "a..b", "a b", "\\400", "\\x", "a" * 64, ".".join(["a" * 63] * 4) + ".a", "é"):
+            with self.assertRaises(names.NameFault, msg=text):
+                names.to_wire(text)
+
+    def test_pointers(self):
+        self.assertEqual(names.read(b"\3com\0\1a\xc0\0", 5), ("a.com.", 9), "a pointer to octet 0")
+        with self.assertRaises(names.NameFault):
+            names.read(b"\xc0\0", 0)
+
+
+class Values(unittest.TestCase):
+    def test_texts(self):
+        rows = [("A", bytes([192, 0, 2, 1]), "192.0.2.1"),
+                ("AAAA", bytes(16), "::"), ("AAAA", bytes([0, 1] + [0] * 4 + [0, 1] + [0] * 8), "1:0:0:1::"),
+                ("AAAA", bytes([0x20, 1, 0xd, 0xb8] + [0] * 4 + [0, 1, 0, 0, 0, 1, 0, 2]), "2001:db8::1:0:1:2"),
+                ("AAAA", bytes([0] * 10 + [255, 255, 1, 2, 3, 4]), "::ffff:102:304"),
+                ("AAAA", bytes([0, 1, 0, 0] * 4), "1:0:1:0:1:0:1:0"),
+                ("MX", b"\0\x0a\1a\0", "10 a."), ("SRV", b"\0\1\0\2\0\3\1a\0", "1 2 3 a."),
+                ("SOA", b"\1a\0\1b\0" + bytes([0, 0, 0, 1] * 5), "a. b. 1 1 1 1 1"),
+                ("TXT", b"\3a\"\\\1\0", '"a\\"\\\\" "\\000"'), ("CAA", b"\0\5issueab", '0 issue "ab"')]
+        for kind, octets, text in rows:
+            self.assertEqual(values.text_of(values.NUMBERS[kind], octets), text, kind)
+
+    def test_octets_that_are_none(self):
+        for kind, octets in (("NS", b"\3a"), ("MX", b"\0"), ("SOA", b"\1a\0")):
+            with self.assertRaises(values.ValueFault, msg=kind):
+                values.text_of(values.NUMBERS[kind], octets)
+
+
+class Packets(unittest.TestCase):
+    def test_query(self):
+        self.assertEqual(wire.query("a.", 1, "198.51.100.0/22").hex(),
+                         "000001000001000000000001" "016100" "00010001" "00" "0029" "1000" "00000000" "000b" "0008" "0007" "0001" "1600" "c63364")
+
+    def test_reply(self):
+        data = bytes.fromhex("000085000001000100000001" "016100" "00010001" "c00c" "00010001" "0000003c" "0004c0000201"
+                             "00" "0029" "1000" "00000000" "000b" "0008" "0007" "0001" "1618" "c63364")
+        self.assertEqual(wire.read_reply(data), ("NOERROR", ["aa"], [("a.", 60, "A", "192.0.2.1")], [], [], 24))
+
+
+    def test_the_size_of_the_opt_record(self):
+        query = wire.query("a.", 1, "198.51.100.0/22", size=512)
+        self.assertEqual(wire.widen(query), (wire.query("a.", 1, "198.51.100.0/22", size=4096), True))
+        bare = query[:10] + b"\0\0" + query[12:19]
+        self.assertEqual(wire.widen(bare + b"rest"), (wire.query("a.", 1), False), "octets behind the last record go")
+        self.assertEqual(wire.without_opt(wire.query("a.", 1)), bare)
+        for packet in (b"", b"x" * 11, bare[:-1], query[:-1], bare[:4] + b"\xff\xff" + bare[6:]):
+            self.assertEqual(wire.widen(packet), (packet, True), packet)
+
+
+class Checker:
+    """The rule itself: the view turns to a result that came so often in a row."""
+
+    def __init__(self, threshold):
+        self.threshold, self.view, self.last, self.row = threshold, True, None, 0
+
+    def take(self, passed):
+        self.row = self.row + 1 if passed == self.last else 1
+        self.last = passed
+        if self.row >= self.threshold:
+            self.view = passed
+
+
+class Views(unittest.TestCase):
+    def test_replay_shows_the_same_now_and_later(self):
+        draw = random.Random(1)
+        for _ in range(300):
+            results = [draw.random() < 0.5 for _ in range(draw.randrange(30))]
+            later = [draw.random() < 0.5 for _ in range(12)]
+            kept = reports.Views()
+            for passed in results:
+                kept.take(1, 0, passed)
+            again = reports.Views()
+            again.read(kept.text().splitlines())
+            for threshold in range(1, 11):
+                there, replayed = Checker(threshold), Checker(threshold)
+                for passed in results:
+                    there.take(passed)
+                for line in again.replay({1: threshold}):
+                    replayed.take(line["Observe"]["Pass"])
+                for passed in [None] + later:
+                    for one in (there, replayed) if passed is not None else ():
+                        one.take(passed)
+                    self.assertEqual(there.view, replayed.view, (results, later, threshold))
+
+    def test_file(self):
+        with tempfile.TemporaryDirectory() as folder:
+            kept = reports.ReportFile(folder)
+            kept.take(1, 7, False)
+            kept.flush()
+            with open(kept.path, "ab") as file:
+                file.write(b"nonsense\nOBS h1 07 0\nOBS h1 50 0\nOBS h2 0 0\nOBS h3 0 ")
+            kept.close()
+            views, taken = reports.load(folder)
+            self.assertEqual((sorted(views.of), taken), ([(1, 7), (2, 0)], 2))
+            self.assertEqual(os.stat(kept.path).st_mode & 0o777, 0o600)
+
+    def test_file_is_written_anew_where_it_is_long(self):
+        with tempfile.TemporaryDirectory() as folder:
+            kept = reports.ReportFile(folder)
+            for n in range(reports.SLACK + 10):
+                kept.take(1, 7, n % 3 == 0)
+                if n % 100 == 0:
+                    kept.flush()
+            kept.flush()
+            kept.flush()
+            text = kept.views.text()
+            kept.close()
+            self.assertLess(os.path.getsize(kept.path), 20 * reports.SLACK)
+            self.assertEqual(reports.load(folder)[0].text(), text)
+
+
+class TurnsAndMail(unittest.TestCase):
+    def test_doubles_under_load_within_its_time(self):
+        t = turns.Turns(0.004)
+        seen = []
+        for _ in range(12):
+            seen.append(t.count)
+            t.took(t.count, 0, t.count * 10e-6)
+        self.assertEqual(seen[:9], [1, 2, 4, 8, 16, 32, 64, 128, 256])
+        self.assertEqual(seen[-1], 400, "0.004 seconds at 10 microseconds a turn")
+
+    def test_one_turn_where_it_is_quiet_or_slow(self):
+        t = turns.Turns(0.004)
+        t.count = 64
+        t.took(64, 1, 0.1)
+        self.assertEqual(t.count, 1)
+        t.took(1, 0, 0.09)
+        self.assertEqual(t.count, 1, "a datagram in 90 ms")
+
+    def test_wakes_are_told_from_unknown_ones(self):
+        import socket
+        sock = socket.socket(socket.AF_INET, socket.SOCK_DGRAM)
+        sock.bind(("127.0.0.1", 0))
+        m = mail.Mail(sock.getsockname()[1])
+        m.wake(2)
+        m.send(b"x")
+        m.wake(5)
+        self.assertEqual((m.there, m.took(3, 0), m.there, m.took(2, 0), m.there), (5, 2, 2, 2, 0))
+        m.wake(3)
+        m.handed()
+        m.wake(4)
+        self.assertEqual((m.took(0, 1), m.there), (0, 1), "what was lost before a quiet turn is forgotten")
+        m.close()
+        sock.close()
+
+
+class Files(unittest.TestCase):
+    def store(self, folder, side="a", generation=1, entries=(), tail=b"\0"):
+        snapshot = bytes.fromhex("02000000010000000100000000")
+        with open(journal.path_of(folder, side), "wb") as file:
+            file.write(b"\1R53ZJ01" + generation.to_bytes(8, "big") + len(snapshot).to_bytes(4, "big") + snapshot)
+            for entry in entries:
+                file.write(b"\1" + len(entry).to_bytes(4, "big") + entry)
+            file.write(tail)
+
+    def test_which_file_decides(self):
+        with tempfile.TemporaryDirectory() as folder:
+            with self.assertRaises(journal.StoreFault):
+                journal.deciding(folder)
+            self.store(folder, "b", 7)
+            self.assertEqual(journal.deciding(folder)[:2], ("b", 7))
+            self.store(folder, "a", 7)
+            self.assertEqual(journal.deciding(folder)[:2], ("a", 7))
+            self.store(folder, "b", 8)
+            self.assertEqual(journal.deciding(folder)[:2], ("b", 8))
+
+    def test_entries_and_length(self):
+        with tempfile.TemporaryDirectory() as folder:
+            long = b"y" * (3 << 20)
+            self.store(folder, entries=[b"x", long, b""], tail=b"\0\0\0\0\1z")
+            with journal.Opened(folder) as opened:
+                self.assertEqual(list(opened.entries()), [(33, b"x"), (39, long), (44 + len(long), b"")])
+            watch = journal.Watch(folder).look()
+            self.assertEqual(watch.length, 33 + 6 + 5 + len(long) + 5 + 1)
+            self.assertTrue(watch.is_due(2.0, 1000))
+            self.assertFalse(watch.is_due(2.0, 4 << 20), "below the least")
+            self.assertFalse(watch.is_due(1e6, 1000), "not so many times its snapshot")
+
+    def test_commands_that_are_none(self):
+        for octets in (b"", b"\2\x0a", b"\2\2\0\0\0", b"\2\2\0\0\0\1x"):
+            with self.assertRaises(commands.OctetFault, msg=octets):
+                commands.read_command(octets)
+
+
+class Settings(unittest.TestCase):
+    def file(self, text):
+        file = tempfile.NamedTemporaryFile("w", suffix=".toml")
+        self.addCleanup(file.close)
+        file.write(text)
+        file.flush()
+        return file.name
+
+    def test_words_count_more_than_the_file(self):
+        path = self.file('folder = "zones"\nquery_port = 53\ncompact_factor = 3\n')
+        got = settings.load(path, {"query_port": 54, "report_port": None})
+        self.assertEqual((got.query_port, got.report_port, got.compact_factor), (54, 5301, 3.0))
+        self.assertEqual(got.folder, os.path.join(os.path.dirname(path), "zones"))
+        self.assertEqual(got.socket, os.path.join(got.folder, "r53d.socket"))
+
+    def test_faults(self):
+        for text in ("folder = 3", "query_port = 65536", "query_port = -1", "query_port = true", "other = 1", "folder = "):
+            with self.assertRaises(settings.BadSettings, msg=text):
+                settings.load(self.file(text))
+
+    def test_the_example_is_the_defaults(self):
+        import tomllib
+        with open(os.path.join(helpers.CONTRIB, "r53d.toml"), "rb") as file:
+            told = tomllib.load(file)
+        self.assertLessEqual(set(told), set(settings.KEYS))
+
+
+class Pages(unittest.TestCase):
+    def test_pages_are_fresh(self):
+        for place, text in pages.pages().items():
+            with open(os.path.join(helpers.CONTRIB, place), encoding="utf-8") as file:
+                self.assertEqual(file.read(), text, "%s: run contrib/r53d/make-pages" % place)
+
+    def test_bash_takes_its_completion(self):
+        path = os.path.join(helpers.CONTRIB, "completion", "r53.bash")
+        done = subprocess.run(["bash", "-c", '. "$1"; COMP_WORDS=(r53ctl a); COMP_CWORD=1; _r53ctl; echo "${COMPREPLY[@]}"', "-", path],
+                              capture_output=True, text=True)
+        self.assertEqual((done.stdout, done.stderr), ("ask\n", ""))
+
+    def test_help(self):
+        for tool, words in ((helpers.R53D, []), (helpers.R53CTL, []), (helpers.R53CTL, ["ask"])):
+            done = subprocess.run([sys.executable, "-B", tool, *words, "--help"], capture_output=True, text=True)
+            self.assertEqual(done.returncode, 0, words)
+            self.assertIn("usage:", done.stdout)
+
+
+class Logs(unittest.TestCase):
+    def test_what_is_json(self):
+        for line, is_json in ((b'{"a":1}', True), (b'{"a":NaN}', False), (b"\xff", False), (b"[" * 100000, False),
+                              (b'{"a":%s}' % (b"9" * 6000), True)):
+            self.assertEqual(logs.parse(line) is not None, is_json, line[:20])
+
+
+class Explanations(unittest.TestCase):
+    def test_weights(self):
+        sets = [{"Weight": 0, "n": 0}, {"Weight": 2, "n": 1}, {"Weight": 1, "n": 2}]
+        self.assertEqual([explain.weighted(sets, word)[0]["n"] for word in range(4)], [1, 1, 2, 1])
+        zeros = [{"Weight": 0, "n": 0}, {"Weight": 0, "n": 1}]
+        self.assertEqual([explain.weighted(zeros, word)[0]["n"] for word in range(3)], [0, 1, 0])
+
+    def test_longest_prefix(self):
+        import ipaddress
+        prefixes = world.Prefixes()
+        for text in ("0.0.0.0/0", "198.51.100.0/24", "198.51.0.0/16", "2001:db8::/32"):
+            prefixes.add(text, text)
+        for address, prefix in (("198.51.100.1", "198.51.100.0/24"), ("198.51.1.1", "198.51.0.0/16"), ("1.1.1.1", "0.0.0.0/0"),
+                                ("2001:db8::1", "2001:db8::/32"), ("::1", None)):
+            found = prefixes.find(ipaddress.ip_address(address))
+            self.assertEqual(found and found[0], prefix, address)
+
+
+if __name__ == "__main__":
+    unittest.main()
