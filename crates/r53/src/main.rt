@@ -22,6 +22,9 @@ const SECOND_DISK: &str = "r53-b.journal";
 /// The file of the tables.
 const TABLES: &str = "r53.tables";
 
+/// The current folder, which can be opened, and neither read nor written as a file.
+const FOLDER: &str = ".";
+
 fn main(rt: HostRuntime) -> ExitCode {
     let status = started(&rt);
     let mut text = [0; 128];
@@ -51,8 +54,16 @@ fn started(rt: &HostRuntime) -> Status {
 }
 
 /// Runs over the standard streams, the files and the sockets, with a generator of this key.
+///
+/// A standard stream that is closed leaves its number to the next file that is opened: replies would be written over a journal. So
+/// these numbers are taken first, and a closed stream fails where it is read or written.
 fn run_over(rt: &HostRuntime, args: &[String], key: [u8; 32]) -> Status {
     let alloc = rt.alloc();
+    let _taken = (
+        File::open(rt, FOLDER),
+        File::open(rt, FOLDER),
+        File::open(rt, FOLDER),
+    );
     let Ok(mut input) = Reading::new(alloc, rt.stdin()) else {
         return Status::OutOfMemory;
     };
