@@ -15,9 +15,9 @@ use Rattle.record_set.specs.declared.sets.Body.TheVariants as body
 use Rattle.record_set.specs.declared.sets.RecordSet.{RecordSet}
 use Rattle.record_set.specs.declared.sets.SetKey.{SetKey}
 use Rattle.set_scratch.specs.Telling.{is_alias}
-use Rattle.zone_list.proofs.Equation.{with_all_rises}
-use Rattle.zone_list.proofs.Members.{all_in, in_all, same_sets}
-use Rattle.zone_list.specs.Changes.{DifferByKey, IsKeyOf, with_all}
+use Rattle.zone_table.proofs.Equation.{with_all_rises}
+use Rattle.zone_table.proofs.Members.{all_in, in_all, same_sets}
+use Rattle.zone_table.specs.Changes.{DifferByKey, IsKeyOf, with_all}
 use Rattle.zone_model.proofs.Ordered.{keys_tie, keys_total}
 use Rattle.zone_model.specs.Keys.{key_cmp}
 use Rattle.zone_model.specs.Placing.{IsThere}

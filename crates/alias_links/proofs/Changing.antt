@@ -7,11 +7,11 @@ use Rattle.rdata_layout.specs.declared.types.RType.{RType}
 use Rattle.record_set.specs.Sets.{key_of}
 use Rattle.record_set.specs.declared.sets.RecordSet.{RecordSet}
 use Rattle.record_set.specs.declared.sets.SetKey.{SetKey}
-use Rattle.zone_list.proofs.Equation.{in_with_all, in_without_all, new_with_all, of_with_all}
-use Rattle.zone_list.proofs.Equation.{of_without_all, with_all_rises, without_all_rises}
-use Rattle.zone_list.proofs.Members.{in_all}
-use Rattle.zone_list.specs.Changes.{IsKeyOf, without_all}
-use Rattle.zone_list.specs.Zones.{Zone}
+use Rattle.zone_table.proofs.Equation.{in_with_all, in_without_all, new_with_all, of_with_all}
+use Rattle.zone_table.proofs.Equation.{of_without_all, with_all_rises, without_all_rises}
+use Rattle.zone_table.proofs.Members.{in_all}
+use Rattle.zone_table.specs.Changes.{IsKeyOf, without_all}
+use Rattle.zone_table.specs.Zones.{Zone}
 use Rattle.zone_model.specs.Placing.{IsThere}
 use Rattle.zone_model.specs.Zones.{IsAmong, IsRising, group, is_of_group}
 use Rattle.zone_table.specs.Edits.{IsAllowed}

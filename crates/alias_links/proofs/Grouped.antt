@@ -5,7 +5,7 @@ use Rattle.std.specs.Prelude.{slice_get}
 use Rattle.rdata_layout.specs.declared.types.RType.{RType}
 use Rattle.record_set.specs.declared.sets.RecordSet.{RecordSet}
 use Rattle.set_search.specs.Found.{IsGroupAt}
-use Rattle.zone_list.proofs.Members.{filled}
+use Rattle.zone_table.proofs.Members.{filled}
 use Rattle.zone_model.proofs.Among.{among_at, place_of}
 use Rattle.zone_model.specs.Zones.{IsAmong, group}
 

@@ -15,9 +15,9 @@ use Rattle.routing.specs.declared.policies.Routing.{Routing}
 use Rattle.set_scratch.specs.Bodies.{alias_of}
 use Rattle.set_scratch.specs.Telling.{is_alias}
 use Rattle.set_search.specs.Found.{FindsAt}
-use Rattle.zone_list.proofs.Coming.{set_parts}
-use Rattle.zone_list.proofs.Members.{left_at, nothing_left}
-use Rattle.zone_list.specs.Changes.{IsKeyOf, with_all}
+use Rattle.zone_table.proofs.Coming.{set_parts}
+use Rattle.zone_table.proofs.Members.{left_at, nothing_left}
+use Rattle.zone_table.specs.Changes.{IsKeyOf, with_all}
 use Rattle.zone_model.proofs.Among.{place_of}
 use Rattle.zone_model.proofs.Lists.{take_more}
 use Rattle.zone_model.specs.Placing.{comes_before, placed}

@@ -6,3 +6,4 @@ pub mod Held
 pub mod Kept
 pub mod Looping
 pub mod Walking
+pub mod Unaliased

@@ -14,7 +14,7 @@ use Rattle.record_set.specs.declared.sets.Body.{Body}
 use Rattle.record_set.specs.declared.sets.Body.TheVariants as body
 use Rattle.record_set.specs.declared.sets.RecordSet.{RecordSet}
 use Rattle.record_set.specs.declared.sets.SetKey.{SetKey}
-use Rattle.zone_list.specs.Changes.{IsKeyOf}
+use Rattle.zone_table.specs.Changes.{IsKeyOf}
 use Rattle.zone_model.proofs.Ordered.{one_number}
 use Rattle.zone_model.specs.Walks.{HasNoTarget, IsTooDeep, IsWalk, StartsWalk}
 use Rattle.zone_model.specs.Zones.{IsAmong, group, is_of_group, target_group_of}

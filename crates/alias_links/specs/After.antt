@@ -4,8 +4,8 @@ use Rattle.alias_tree.specs.Firsts.{IsFirstPlace}
 use Rattle.record_set.specs.Sets.{key_of}
 use Rattle.record_set.specs.declared.sets.RecordSet.{RecordSet}
 use Rattle.record_set.specs.declared.sets.SetKey.{SetKey}
-use Rattle.zone_list.specs.Changes.{with_all, without_all}
-use Rattle.zone_list.specs.Zones.{Zone, placed_in}
+use Rattle.zone_table.specs.Changes.{with_all, without_all}
+use Rattle.zone_table.specs.Zones.{Zone, placed_in}
 use Rattle.zone_model.specs.Placed.{sets_of}
 
 -- the sets of a zone by its number

@@ -6,7 +6,7 @@ use Rattle.record_set.specs.Reasons.{IsAlias}
 use Rattle.record_set.specs.Sets.{key_of}
 use Rattle.record_set.specs.declared.sets.RecordSet.{RecordSet}
 use Rattle.record_set.specs.declared.sets.SetKey.{SetKey}
-use Rattle.zone_list.specs.Changes.{DifferByKey, IsKeyOf}
+use Rattle.zone_table.specs.Changes.{DifferByKey, IsKeyOf}
 use Rattle.zone_model.specs.Placing.{IsThere}
 use Rattle.zone_model.specs.Walks.{HasNoTarget, IsTooDeep}
 use Rattle.zone_model.specs.Zones.{IsAmong, group}

@@ -1,8 +1,8 @@
 -- Where a set of a zone leads.
 use Rattle.std.specs.Prelude.{ℕ, List, Option, None, Some}
 use Rattle.rdata_layout.specs.declared.types.RType.{RType}
-use Rattle.zone_list.specs.Zones.{Zone}
-use Rattle.zone_list.specs.declared.refs.SetRef.{SetRef}
+use Rattle.zone_table.specs.Zones.{Zone}
+use Rattle.zone_table.specs.SetRefRecord.{SetRef}
 use Rattle.zone_table.specs.Looking.{IsGroup, Targets}
 use Rattle.zone_table.specs.declared.refs.Group.{Group}
 

@@ -5,7 +5,7 @@ ghost use Rattle.std.specs.Prelude.{OnOk, Some};
 ghost use Rattle.record_set.specs.Sets.{key_of};
 ghost use Rattle.record_set.specs.declared.sets.RecordSet.{RecordSet};
 ghost use Rattle.set_scratch.specs.Holding.{IsHolding};
-ghost use Rattle.zone_list.specs.Changes.{with_all};
+ghost use Rattle.zone_table.specs.Changes.{with_all};
 ghost use Rattle.zone_model.specs.Placing.{placed};
 ghost use Rattle.zone_model.specs.Zones.{IsRising};
 ghost use Rattle.alias_links.specs.After.{changed_in, sets_in};

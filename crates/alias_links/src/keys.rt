@@ -4,7 +4,7 @@ ghost use Rattle.std.specs.Prelude.{◌≡◌, ◌↔◌, IsTrue, Some};
 ghost use Rattle.record_set.specs.Sets.{ident_of, key_of};
 ghost use Rattle.record_set.specs.declared.sets.RecordSet.{RecordSet};
 ghost use Rattle.set_scratch.specs.Holding.{IsHolding};
-ghost use Rattle.zone_list.specs.Changes.{IsKeyOf};
+ghost use Rattle.zone_table.specs.Changes.{IsKeyOf};
 ghost use Rattle.zone_model.specs.Zones.{IsAmong, is_of_group};
 ghost use Rattle.alias_links.specs.Aliases.{is_alias_set};
 ghost use Rattle.alias_links.specs.Laws.{HasAlias};

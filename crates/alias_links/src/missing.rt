@@ -34,8 +34,27 @@ pub fn missing_after(
     lesser(kept, added)
 }
 
-/// The least key of the sets that stay and lead to no set.
+/// The least key of the sets that stay and lead to no set. A zone without aliases has none.
 fn missing_kept(
+    zones: &Zones,
+    zone: u32,
+    remove: &[SetKey],
+    add: &[RecordSet],
+    scratch: &mut Scratch,
+) -> Option<SetKey>
+    requires { IsChange (sets_in zones.now.zones zone) remove.now add.now }
+    ensures { LeastOrNone
+        (StaysWithout remove.now (changed_in zones.now.zones zone remove.now add.now))
+        (sets_in zones.now.zones zone) result }
+{
+    if zones.aliases(zone) == 0 {
+        return None;
+    }
+    missing_among(zones, zone, remove, add, scratch)
+}
+
+/// The same by a look at each set.
+fn missing_among(
     zones: &Zones,
     zone: u32,
     remove: &[SetKey],

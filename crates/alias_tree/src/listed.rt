@@ -6,7 +6,7 @@ ghost use Rattle.set_search.specs.Found.{IsOf};
 use dns_name::Name;
 use rdata_layout::RType;
 use record_set::RecordSet;
-use set_search::{SetList, Stop, set_is_before};
+use set_search::{SetList, Stop, set_is_before, type_under};
 
 /// Sets that are searched where they stand.
 #[derive(Clone, Copy)]
@@ -31,6 +31,10 @@ impl<'a> SetList for Listed<'a> {
 
     fn is_of(&self, place: usize, name: &Name, rtype: RType) -> bool {
         has_both(&self.sets[place], name, rtype)
+    }
+
+    fn type_at(&self, place: usize, name: &Name) -> Option<u16> {
+        type_under(&self.sets[place], name)
     }
 }
 

@@ -34,8 +34,8 @@ use Rattle.config_zones.specs.Configured.{IsEditFor, TellsEdit, config_of}
 use Rattle.config_zones.specs.Laws.{CountsAgree, ZonesAreFound}
 use Rattle.record_set.specs.declared.sets.RecordSet.{RecordSet}
 use Rattle.record_set.specs.declared.sets.SetKey.{SetKey}
-use Rattle.zone_list.proofs.Listing.{its_placed}
-use Rattle.zone_list.specs.Zones.{AreZones, IsZoneId, Zone, hosted, placed_in}
+use Rattle.zone_table.proofs.Listing.{its_placed}
+use Rattle.zone_table.specs.Zones.{AreZones, IsZoneId, Zone, hosted, placed_in}
 use Rattle.zone_model.specs.Hosted.{HostedZone}
 use Rattle.zone_model.specs.Placed.{Placed, sets_of}
 use Rattle.zone_table.specs.Counted.{octets_in_all, sets_in_all}

@@ -22,10 +22,10 @@ use Rattle.set_octets.specs.Octets.{HasSpelling, set_octets}
 use Rattle.set_search.specs.Bounds.{is_before}
 use Rattle.set_search.specs.Found.{IsCount}
 use Rattle.set_search.specs.declared.bounds.Bound.TheVariants as bound
-use Rattle.zone_list.specs.Changes.{AreThere, CanChange, without_all}
-use Rattle.zone_list.specs.declared.refs.SetRef.{SetRef}
-use Rattle.zone_list.specs.Zones.{AreZones, CanStand, Zone, placed_in}
-use Rattle.zone_list.proofs.Listing.{its_placed}
+use Rattle.zone_table.specs.Changes.{AreThere, CanChange, without_all}
+use Rattle.zone_table.specs.SetRefRecord.{SetRef}
+use Rattle.zone_table.specs.Zones.{AreZones, CanStand, Zone, placed_in}
+use Rattle.zone_table.proofs.Listing.{its_placed}
 use Rattle.zone_model.proofs.Among.{place_of}
 use Rattle.zone_model.proofs.Ordered.{keys_total}
 use Rattle.zone_model.proofs.Places.{rising_at}

@@ -7,7 +7,7 @@ use Rattle.config_model.specs.Batches.{first_among}
 use Rattle.config_model.specs.Telling.{first_of}
 use Rattle.config_model.specs.declared.refusals.Refusal.{Refusal}
 use Rattle.record_set.specs.declared.sets.RecordSet.{RecordSet}
-use Rattle.zone_list.proofs.Members.{left_at, nothing_left}
+use Rattle.zone_table.proofs.Members.{left_at, nothing_left}
 use Rattle.zone_model.specs.Zones.{IsAmong}
 
 -- ---- several rules

@@ -8,9 +8,9 @@ use Rattle.std.proofs.lemmas.List.Sums.{sum_by-cons}
 use Rattle.config_zones.specs.Edited.{hosted_in}
 use Rattle.config_model.specs.Configs.{with_sets, with_sets_at}
 use Rattle.record_set.specs.declared.sets.RecordSet.{RecordSet}
-use Rattle.zone_list.proofs.Listing.{its_placed}
-use Rattle.zone_list.proofs.Members.{in_all}
-use Rattle.zone_list.specs.Zones.{AreListed, IsOne, IsZoneId, Zone, hosted, placed_in}
+use Rattle.zone_table.proofs.Listing.{its_placed}
+use Rattle.zone_table.proofs.Members.{in_all}
+use Rattle.zone_table.specs.Zones.{AreListed, IsOne, IsZoneId, Zone, hosted, placed_in}
 use Rattle.zone_model.specs.Hosted.{HostedZone}
 use Rattle.zone_model.specs.Placed.{Placed, sets_of}
 

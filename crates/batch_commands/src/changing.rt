@@ -12,7 +12,7 @@ ghost use Rattle.config_model.specs.Telling.{first_of};
 ghost use Rattle.config_zones.specs.Configured.{TellsEdit, config_of};
 ghost use Rattle.alias_links.specs.After.{changed_in, sets_in};
 ghost use Rattle.zone_model.specs.Differences.{AreMissing};
-ghost use Rattle.zone_list.specs.Zones.{IsZoneId};
+ghost use Rattle.zone_table.specs.Zones.{IsZoneId};
 ghost use Rattle.zone_table.specs.Edits.{IsAllowed};
 ghost use Rattle.zone_table.specs.declared.edits.ZoneEdit.TheVariants as edit;
 

@@ -7,7 +7,7 @@ ghost use Rattle.config_model.specs.Batches.{is_store_full, is_zone_full, store_
 ghost use Rattle.config_model.specs.Configs.{with_sets};
 ghost use Rattle.config_model.specs.Telling.{first_of, rule};
 ghost use Rattle.config_model.specs.declared.refusals.Refusal.TheVariants as refusal;
-ghost use Rattle.zone_list.specs.Changes.{AreThere, without_all};
+ghost use Rattle.zone_table.specs.Changes.{AreThere, without_all};
 ghost use Rattle.zone_model.specs.Placing.{IsThere, Keeps};
 ghost use Rattle.zone_table.specs.Counted.{octets_in_all, sets_in_all};
 ghost use Rattle.zone_table.specs.Edits.{IsAllowed};

@@ -5,7 +5,7 @@ use Rattle.std.specs.Prelude.{Result, Ok, Err}
 use Rattle.record_set.specs.declared.sets.RecordSet.{RecordSet}
 use Rattle.record_set.specs.declared.sets.SetKey.{SetKey}
 use Rattle.record_set.specs.Sets.{key_of}
-use Rattle.zone_list.specs.Zones.{Zone, placed_in}
+use Rattle.zone_table.specs.Zones.{Zone, placed_in}
 use Rattle.zone_model.specs.Placed.{sets_of}
 use Rattle.batch_model.specs.declared.batches.Change.{Change}
 use Rattle.batch_model.specs.declared.refusals.BatchRefusal.{BatchRefusal}

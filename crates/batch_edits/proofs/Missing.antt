@@ -8,8 +8,8 @@ use Rattle.std.proofs.lemmas.Cmp.{tied_itself}
 use Rattle.record_set.specs.declared.sets.RecordSet.{RecordSet}
 use Rattle.record_set.specs.declared.sets.SetKey.{SetKey}
 use Rattle.record_set.specs.Sets.{key_of}
-use Rattle.zone_list.proofs.Members.{all_in, in_all}
-use Rattle.zone_list.specs.Changes.{IsKeyOf}
+use Rattle.zone_table.proofs.Members.{all_in, in_all}
+use Rattle.zone_table.specs.Changes.{IsKeyOf}
 use Rattle.zone_model.specs.Keys.{key_cmp}
 use Rattle.zone_model.specs.Zones.{IsAmong, IsRising}
 use Rattle.zone_model.proofs.Among.{among_at, place_of}
@@ -20,7 +20,7 @@ use Rattle.zone_model.specs.Differences.{AreMissing}
 use Rattle.std.proofs.lemmas.Option.{slice_get_within}
 use Rattle.std.proofs.lemmas.List.{take_all}
 use Rattle.zone_model.proofs.Lists.{take_more}
-use Rattle.zone_list.proofs.Members.{filled, left_at}
+use Rattle.zone_table.proofs.Members.{filled, left_at}
 use Rattle.set_search.proofs.Lookups.{at_one}
 use Rattle.batch_names.proofs.Filtered.{of_filter}
 
@@ -159,6 +159,15 @@ rising_drop : (sets : List RecordSet) (i : ℕ) → IsRising sets → IsRising (
 rising_drop sets zero rising = rising
 rising_drop [] (suc i) rising = rising
 rising_drop (set ∷ sets) (suc i) rising = rising_drop sets i rising.1
+
+-- where there are no others, all are missing
+all_missing : (sets : List RecordSet) → AreMissing sets [] sets
+all_missing [] = refl
+all_missing (set ∷ sets) = inr ((λ among. among), (sets, refl, all_missing sets))
+
+pub missing_all : (sets others : List RecordSet) → length others ≡ 0 → AreMissing sets others sets
+missing_all sets [] none = all_missing sets
+missing_all sets (other ∷ others) none = absurd (omega (arith, none))
 
 -- What was found among some of the sets, and a place before which all other keys are below theirs.
 pub record FoundSo (sets others : List RecordSet) (i place : ℕ)

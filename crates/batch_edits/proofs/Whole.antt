@@ -14,11 +14,11 @@ use Rattle.zone_model.specs.Zones.{IsAmong, IsRising, IsZone}
 use Rattle.zone_model.specs.Placed.{Placed, sets_of}
 use Rattle.zone_model.proofs.Among.{place_of}
 use Rattle.zone_model.proofs.Ordered.{keys_tie}
-use Rattle.zone_list.specs.Changes.{AreThere, CanChange, DifferByKey, IsKeyOf, without_all}
-use Rattle.zone_list.specs.Zones.{CanStand}
-use Rattle.zone_list.proofs.Equation.{in_with_all, in_without_all, new_with_all, of_with_all}
-use Rattle.zone_list.proofs.Equation.{of_without_all, with_all_rises, without_all_rises}
-use Rattle.zone_list.proofs.Members.{all_in, in_all, same_sets}
+use Rattle.zone_table.specs.Changes.{AreThere, CanChange, DifferByKey, IsKeyOf, without_all}
+use Rattle.zone_table.specs.Zones.{CanStand}
+use Rattle.zone_table.proofs.Equation.{in_with_all, in_without_all, new_with_all, of_with_all}
+use Rattle.zone_table.proofs.Equation.{of_without_all, with_all_rises, without_all_rises}
+use Rattle.zone_table.proofs.Members.{all_in, in_all, same_sets}
 use Rattle.batch_model.specs.declared.batches.Action.{Action}
 use Rattle.batch_model.specs.declared.batches.Action.TheVariants as action
 use Rattle.batch_model.specs.declared.batches.Change.{Change}
@@ -37,8 +37,8 @@ use Rattle.batch_edits.proofs.Missing.{rising_filtered}
 use Rattle.batch_edits.specs.Edits.{EditsOrNot, MeetsRules}
 use Rattle.zone_table.specs.Looking.{IsApex}
 use Rattle.zone_table.specs.Laws.{OneApex, SetsOfOne}
-use Rattle.zone_list.proofs.Members.{placed_with}
-use Rattle.zone_list.specs.Zones.{AreZones, StandsAlone, Zone, placed_in}
+use Rattle.zone_table.proofs.Members.{placed_with}
+use Rattle.zone_table.specs.Zones.{AreZones, StandsAlone, Zone, placed_in}
 use Rattle.batch_model.specs.declared.refusals.BatchRefusal.{BatchRefusal}
 use Rattle.batch_names.proofs.Runs.{named_is}
 use Rattle.batch_names.proofs.Filtered.{below_or_not, in_filter, of_filter}

@@ -7,8 +7,8 @@ use Rattle.batch_model.specs.declared.batches.Change.{Change}
 use Rattle.batch_model.specs.declared.refusals.BatchRefusal.{BatchRefusal}
 use Rattle.batch_model.specs.Batches.{Prepares}
 use Rattle.batch_model.specs.Rules.{MeetsAll, rules}
-use Rattle.zone_list.specs.Changes.{IsKeyOf, with_all, without_all}
-use Rattle.zone_list.specs.Zones.{Zone, placed_in}
+use Rattle.zone_table.specs.Changes.{IsKeyOf, with_all, without_all}
+use Rattle.zone_table.specs.Zones.{Zone, placed_in}
 use Rattle.zone_model.specs.Placed.{sets_of}
 use Rattle.zone_model.specs.Zones.{IsAmong}
 use Rattle.zone_table.specs.declared.edits.ZoneEdit.TheVariants.{Change as ChangeZone}

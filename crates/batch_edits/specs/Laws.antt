@@ -3,7 +3,7 @@ use Rattle.std.specs.Prelude.{◌≡◌, ◌≢◌, ℕ, List, Result, Err}
 use Rattle.batch_model.specs.declared.batches.Change.{Change}
 use Rattle.batch_model.specs.declared.refusals.BatchRefusal.{BatchRefusal}
 use Rattle.batch_model.specs.declared.refusals.BatchRefusal.TheVariants as batch
-use Rattle.zone_list.specs.Zones.{Zone}
+use Rattle.zone_table.specs.Zones.{Zone}
 use Rattle.batch_edits.specs.Edits.{EditsOrNot}
 use Rattle.batch_edits.specs.declared.editing.Edit.{Edit}
 

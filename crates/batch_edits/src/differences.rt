@@ -32,8 +32,25 @@ pub fn missing_keys(
     Ok(keys)
 }
 
+/// The sets that are not among the others. Where there are no others these are all, and none is
+/// copied.
+pub fn only_new(
+    alloc: Global,
+    sets: Vec<RecordSet>,
+    others: &[RecordSet],
+) -> Result<Vec<RecordSet>, OutOfMemory>
+    requires sets { IsRising sets.items }
+    requires others { IsRising others.now }
+    ensures { IfOk result (λ found. AreMissing sets.items others.now found.items) }
+{
+    if others.is_empty() {
+        return Ok(sets);
+    }
+    missing_sets(alloc, sets.as_slice(), others)
+}
+
 /// Copies of the sets that are not among the others.
-pub fn missing_sets(
+fn missing_sets(
     alloc: Global,
     sets: &[RecordSet],
     others: &[RecordSet],

@@ -3,13 +3,13 @@
 ghost use Rattle.std.specs.Prelude.{ℕ, List, IfOk};
 ghost use Rattle.std.specs.List.{AllByRecursion};
 ghost use Rattle.config_model.specs.Laws.{HasBoundedSet};
-ghost use Rattle.zone_list.specs.Zones.{IsZoneId};
+ghost use Rattle.zone_table.specs.Zones.{IsZoneId};
 ghost use Rattle.zone_model.specs.Zones.{IsRising};
 ghost use Rattle.zone_table.specs.Looking.{IsApex};
 ghost use Rattle.zone_model.specs.Differences.{IsDifference};
 ghost use Rattle.batch_edits.specs.Edits.{EditsOrNot, MeetsRules};
 
-use crate::differences::{missing_keys, missing_sets};
+use crate::differences::{missing_keys, only_new};
 use batch_model::{Batch, BatchRefusal};
 use batch_names::{named_sets, names_decide};
 use change_batch::prepare;
@@ -60,20 +60,24 @@ pub fn edit_of(
         Ok(sets) => sets,
         Err(why) => return Err(why),
     };
-    match difference(alloc, before.as_slice(), after.as_slice()) {
+    match difference(alloc, before.as_slice(), after) {
         Ok(edit) => Ok(edit),
         Err(OutOfMemory) => Err(BatchRefusal::OutOfMemory),
     }
 }
 
 /// What goes and what comes between some sets and others.
-fn difference(alloc: Global, before: &[RecordSet], after: &[RecordSet]) -> Result<Edit, OutOfMemory>
+fn difference(
+    alloc: Global,
+    before: &[RecordSet],
+    after: Vec<RecordSet>,
+) -> Result<Edit, OutOfMemory>
     requires before { IsRising before.now }
-    requires after { IsRising after.now }
-    ensures { IfOk result (λ edit. IsDifference before.now after.now edit.remove edit.add) }
+    requires after { IsRising after.items }
+    ensures { IfOk result (λ edit. IsDifference before.now after.items edit.remove edit.add) }
 {
-    let remove = missing_keys(alloc, before, after)?;
-    let add = missing_sets(alloc, after, before)?;
+    let remove = missing_keys(alloc, before, after.as_slice())?;
+    let add = only_new(alloc, after, before)?;
     Ok(Edit {
         remove: SetKeys::from_vec(remove),
         add: Sets::from_vec(add),

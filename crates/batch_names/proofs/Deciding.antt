@@ -8,7 +8,7 @@ use Rattle.dns_name.specs.OrderLaws.{same_labels-Decides}
 use Rattle.record_set.specs.declared.sets.RecordSet.{RecordSet}
 use Rattle.zone_model.specs.Zones.{IsAmong, IsRising, IsZone}
 use Rattle.zone_model.proofs.Places.{all_at}
-use Rattle.zone_list.proofs.Members.{same_sets}
+use Rattle.zone_table.proofs.Members.{same_sets}
 use Rattle.batch_model.specs.declared.batches.Change.{Change}
 use Rattle.batch_model.specs.declared.refusals.BatchRefusal.{BatchRefusal}
 use Rattle.batch_model.specs.declared.refusals.BatchRefusal.TheVariants as batch

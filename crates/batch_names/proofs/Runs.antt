@@ -23,7 +23,7 @@ use Rattle.zone_model.proofs.Places.{name_between}
 use Rattle.set_search.proofs.Lookups.{at_one, filled}
 use Rattle.std.proofs.lemmas.List.Kept.{AllPairs-from_increasing}
 use Rattle.zone_model.proofs.Lists.{split, take_more}
-use Rattle.zone_list.proofs.Members.{in_all}
+use Rattle.zone_table.proofs.Members.{in_all}
 use Rattle.batch_names.specs.Starts.{AreRisingStarts, ReadsRun}
 use Rattle.std.proofs.Common.{append-nil, append_assoc, slice_index_or, AllPairs}
 

@@ -1,7 +1,7 @@
 //! The sets of a zone whose names a batch names, read from a table of zones.
 
 ghost use Rattle.std.specs.Prelude.{◌≡◌, ◌≤◌, length, IfOk, OnOk};
-ghost use Rattle.zone_list.specs.Zones.{placed_in};
+ghost use Rattle.zone_table.specs.Zones.{placed_in};
 ghost use Rattle.zone_model.specs.Placed.{sets_of};
 ghost use Rattle.batch_names.specs.Named.{named_in};
 ghost use Rattle.batch_names.specs.Starts.{ReadsNamed, ReadsRun};

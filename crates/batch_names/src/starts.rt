@@ -2,7 +2,7 @@
 
 ghost use Rattle.std.specs.Prelude.{◌≡◌, ◌↔◌, ℕ, List, IfOk};
 ghost use Rattle.std.specs.List.Sorted.{IsStrictlyIncreasing};
-ghost use Rattle.zone_list.specs.Zones.{placed_in};
+ghost use Rattle.zone_table.specs.Zones.{placed_in};
 ghost use Rattle.zone_model.specs.Placed.{sets_of};
 ghost use Rattle.zone_model.specs.Zones.{IsAmong};
 ghost use Rattle.batch_names.specs.Starts.{AreRisingStarts, AreStarts, StartOrNone};
@@ -15,13 +15,21 @@ use rdata::RType;
 use std::alloc::Global;
 use zone_table::{Scratch, Zones};
 
-/// Where the sets of a name begin, if the zone has any.
-fn start_of(zones: &Zones, zone: u32, name: &Name, scratch: &mut Scratch) -> Option<usize>
+/// Where the sets of a name begin, if the zone has any. The hint is where they may, and then where
+/// those of the next name may, since batches mostly name sets in zone order.
+fn start_of(
+    zones: &Zones,
+    zone: u32,
+    name: &Name,
+    near: &mut Option<usize>,
+    scratch: &mut Scratch,
+) -> Option<usize>
     ensures { StartOrNone (sets_of (placed_in zones.now.zones zone)) name.now result }
 {
     zones.well_formed();
     // No type is lower, and a set without an identifier comes first.
-    let start = zones.group(zone, name, RType::A).start;
+    let start = zones.group_near(zone, name, RType::A, *near).start;
+    *near = Some(start);
     if hold_named(zones, zone, start, name, scratch) {
         return Some(start);
     }
@@ -40,8 +48,9 @@ fn each_start(
         changes.now starts.items) }
 {
     let mut starts = Vec::with_capacity(alloc, changes.len())?;
+    let mut near = None;
     for change in changes {
-        if let Some(start) = start_of(zones, zone, &change.set.name, scratch) {
+        if let Some(start) = start_of(zones, zone, &change.set.name, &mut near, scratch) {
             starts.push(start)?;
         }
     }

@@ -15,15 +15,18 @@ use dns_name::Name;
 use octets::OutOfMemory;
 use rdata_layout::RType;
 use record_set::{RecordSet, same};
-use set_search::find;
+use set_search::find_near;
 use std::alloc::Global;
 
 /// Applies a change. Where it is refused, the sets may be thrown away.
+///
+/// The hint is where its set may stand, and then where the next one does if it comes right behind.
 pub fn apply(
     alloc: Global,
     sets: &mut Vec<RecordSet>,
     apex: &Name,
     change: &Change,
+    hint: &mut Option<usize>,
 ) -> Result<(), ChangeRefusal>
     requires { IsRising sets.old.items }
     ensures ok { OnOk result (Gives sets.old.items apex.now change.now (Ok sets.new.items)) }
@@ -33,9 +36,9 @@ pub fn apply(
         return Err(ChangeRefusal::NotInZone);
     }
     match change.action {
-        Action::Create => create(alloc, sets, apex, change),
-        Action::Delete => delete(sets, apex, change),
-        Action::Upsert => upsert(alloc, sets, apex, change),
+        Action::Create => create(alloc, sets, apex, change, hint),
+        Action::Delete => delete(sets, apex, change, hint),
+        Action::Upsert => upsert(alloc, sets, apex, change, hint),
     }
 }
 
@@ -45,6 +48,7 @@ fn create(
     sets: &mut Vec<RecordSet>,
     apex: &Name,
     change: &Change,
+    hint: &mut Option<usize>,
 ) -> Result<(), ChangeRefusal>
     requires rising { IsRising sets.old.items }
     requires inside { EndsWith change.now.set.name apex.now }
@@ -52,7 +56,7 @@ fn create(
     ensures ok { OnOk result (Gives sets.old.items apex.now change.now (Ok sets.new.items)) }
     ensures err { IfErr result (λ why. Gives sets.old.items apex.now change.now (Err why)) }
 {
-    let place = match find_set(sets, &change.set) {
+    let place = match find_set(sets, &change.set, hint) {
         Ok(_) => return Err(ChangeRefusal::AlreadyExists),
         Err(place) => place,
     };
@@ -63,14 +67,19 @@ fn create(
 }
 
 /// Takes away a set that is there as it is given.
-fn delete(sets: &mut Vec<RecordSet>, apex: &Name, change: &Change) -> Result<(), ChangeRefusal>
+fn delete(
+    sets: &mut Vec<RecordSet>,
+    apex: &Name,
+    change: &Change,
+    hint: &mut Option<usize>,
+) -> Result<(), ChangeRefusal>
     requires rising { IsRising sets.old.items }
     requires inside { EndsWith change.now.set.name apex.now }
     requires action { change.now.action ≡ Delete }
     ensures ok { OnOk result (Gives sets.old.items apex.now change.now (Ok sets.new.items)) }
     ensures err { IfErr result (λ why. Gives sets.old.items apex.now change.now (Err why)) }
 {
-    let place = match find_set(sets, &change.set) {
+    let place = match find_set(sets, &change.set, hint) {
         Ok(place) => place,
         Err(_) => return Err(ChangeRefusal::NotFound),
     };
@@ -90,6 +99,7 @@ fn upsert(
     sets: &mut Vec<RecordSet>,
     apex: &Name,
     change: &Change,
+    hint: &mut Option<usize>,
 ) -> Result<(), ChangeRefusal>
     requires rising { IsRising sets.old.items }
     requires inside { EndsWith change.now.set.name apex.now }
@@ -97,7 +107,7 @@ fn upsert(
     ensures ok { OnOk result (Gives sets.old.items apex.now change.now (Ok sets.new.items)) }
     ensures err { IfErr result (λ why. Gives sets.old.items apex.now change.now (Err why)) }
 {
-    match find_set(sets, &change.set) {
+    match find_set(sets, &change.set, hint) {
         Ok(place) => match replace_by_copy(alloc, sets, place, &change.set) {
             Ok(()) => Ok(()),
             Err(OutOfMemory) => Err(ChangeRefusal::OutOfMemory),
@@ -109,12 +119,26 @@ fn upsert(
     }
 }
 
-/// The place of the set with the key of this one, or else that at which it would stand.
-fn find_set(sets: &Vec<RecordSet>, given: &RecordSet) -> Result<usize, usize>
+/// The place of the set with the key of this one, or else that at which it would stand. Batches
+/// mostly name sets in zone order, so that the place behind is the next hint.
+fn find_set(
+    sets: &Vec<RecordSet>,
+    given: &RecordSet,
+    hint: &mut Option<usize>,
+) -> Result<usize, usize>
     requires { IsRising sets.now.items }
     ensures { Finds sets.now.items (key_of given.now) result }
 {
-    find(sets, &given.key())
+    let found = find_near(sets, &given.key(), *hint);
+    *hint = Some(behind(&found));
+    found
+}
+
+/// The place behind one that was found.
+fn behind(found: &Result<usize, usize>) -> usize {
+    match found {
+        Ok(place) | Err(place) => place.wrapping_add(1),
+    }
 }
 
 /// Whether the set with the key of this one, which stands at the place, is equal to it.

@@ -28,8 +28,9 @@ pub fn apply_all(
         Ok(copies) => copies,
         Err(OutOfMemory) => return Err(BatchRefusal::OutOfMemory),
     };
+    let mut hint = None;
     for (i, change) in changes.iter().enumerate() {
-        match apply(alloc, &mut after, apex, change) {
+        match apply(alloc, &mut after, apex, change, &mut hint) {
             Ok(()) => {}
             Err(why) => return Err(why.at(i)),
         }

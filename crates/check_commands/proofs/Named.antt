@@ -11,9 +11,9 @@ use Rattle.config_model.specs.Others.{is_check_named, is_number}
 use Rattle.config_zones.specs.Laws.{ZonesFollow}
 use Rattle.config_zones.specs.Walks.{above}
 use Rattle.record_set.specs.declared.sets.RecordSet.{RecordSet}
-use Rattle.zone_list.proofs.Members.{filled, left_at, nothing_left}
-use Rattle.zone_list.specs.Found.{IsNextZone, NextZoneOrNone}
-use Rattle.zone_list.specs.Zones.{AreZones, Zone, placed_in}
+use Rattle.zone_table.proofs.Members.{filled, left_at, nothing_left}
+use Rattle.zone_table.specs.FoundZones.{IsNextZone, NextZoneOrNone}
+use Rattle.zone_table.specs.Zones.{AreZones, Zone, placed_in}
 use Rattle.zone_model.specs.Placed.{Placed, sets_of}
 
 abbrev pub names : ℕ → RecordSet → Bool

@@ -13,9 +13,9 @@ use Rattle.config_zones.specs.Walks.{above}
 use Rattle.record_set.specs.declared.sets.RecordSet.{RecordSet}
 use Rattle.routing.specs.declared.policies.Routing.{Routing}
 use Rattle.set_octets.specs.Octets.{HasSpelling, IsSpelledRouting}
-use Rattle.zone_list.proofs.Members.{left_at, nothing_left}
-use Rattle.zone_list.specs.Found.{IsNextZone, NextZoneOrNone}
-use Rattle.zone_list.specs.Zones.{AreZones, Zone, placed_in}
+use Rattle.zone_table.proofs.Members.{left_at, nothing_left}
+use Rattle.zone_table.specs.FoundZones.{IsNextZone, NextZoneOrNone}
+use Rattle.zone_table.specs.Zones.{AreZones, Zone, placed_in}
 use Rattle.zone_model.specs.Placed.{sets_of}
 use Rattle.collection_commands.specs.Named.{named_in}
 

@@ -6,7 +6,7 @@ ghost use Rattle.config_model.specs.Others.{named_by, used_by};
 ghost use Rattle.record_set.specs.declared.sets.RecordSet.{RecordSet};
 ghost use Rattle.routing.specs.Texts.{IsLocation};
 ghost use Rattle.set_octets.specs.Octets.{HasSpelling, IsSpelledRouting};
-ghost use Rattle.zone_list.specs.Zones.{placed_in};
+ghost use Rattle.zone_table.specs.Zones.{placed_in};
 ghost use Rattle.zone_model.specs.Placed.{sets_of};
 ghost use Rattle.collection_commands.specs.Named.{named_in};
 

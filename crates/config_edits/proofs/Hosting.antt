@@ -10,11 +10,11 @@ use Rattle.std.proofs.lemmas.Bool.Decides.{Decides-eqb}
 use Rattle.record_set.specs.Sets.{key_of}
 use Rattle.record_set.specs.declared.sets.RecordSet.{RecordSet}
 use Rattle.record_set.specs.declared.sets.SetKey.{SetKey}
-use Rattle.zone_list.proofs.Equation.{new_with_all, of_with_all, with_all_rises}
-use Rattle.zone_list.proofs.Listing.{its_placed, one_zone}
-use Rattle.zone_list.proofs.Members.{Sorted, all_in, in_all, same_sets, sorted_same}
-use Rattle.zone_list.specs.Changes.{DifferByKey, with_all, without_all}
-use Rattle.zone_list.specs.Zones.{AreListed, AreZones, IsOne, IsZoneId, Zone, hosted, placed_in}
+use Rattle.zone_table.proofs.Equation.{new_with_all, of_with_all, with_all_rises}
+use Rattle.zone_table.proofs.Listing.{its_placed, one_zone}
+use Rattle.zone_table.proofs.Members.{Sorted, all_in, in_all, same_sets, sorted_same}
+use Rattle.zone_table.specs.Changes.{DifferByKey, with_all, without_all}
+use Rattle.zone_table.specs.Zones.{AreListed, AreZones, IsOne, IsZoneId, Zone, hosted, placed_in}
 use Rattle.zone_model.proofs.Ordered.{keys_total}
 use Rattle.zone_model.specs.Hosted.{HostedZone}
 use Rattle.zone_model.specs.Keys.{key_cmp}

@@ -2,8 +2,8 @@
 use Rattle.std.specs.Prelude.{◌≡◌, ◌<◌, ◌++◌, ℕ, List, [], ◌∷◌, map}
 use Rattle.record_set.specs.declared.sets.RecordSet.{RecordSet}
 use Rattle.record_set.specs.declared.sets.SetKey.{SetKey}
-use Rattle.zone_list.specs.Changes.{with_all, without_all}
-use Rattle.zone_list.specs.Zones.{AreZones, IsOne, IsZoneId, Zone, hosted, placed_in}
+use Rattle.zone_table.specs.Changes.{with_all, without_all}
+use Rattle.zone_table.specs.Zones.{AreZones, IsOne, IsZoneId, Zone, hosted, placed_in}
 use Rattle.zone_model.specs.Hosted.{HostedZone}
 use Rattle.zone_model.specs.Placed.{sets_of}
 use Rattle.zone_model.specs.Zones.{IsRising}

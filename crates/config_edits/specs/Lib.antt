@@ -1,5 +1,5 @@
 pub mod Laws
 pub use Rattle.config_model.specs.Configs
-pub use Rattle.zone_list.specs.Changes
-pub use Rattle.zone_list.specs.Zones
+pub use Rattle.zone_table.specs.Changes
+pub use Rattle.zone_table.specs.Zones
 pub use Rattle.zone_table.specs.Edits

@@ -21,8 +21,9 @@ use Rattle.dns_name.specs.Suffix.{EndsWith}
 use Rattle.record_set.specs.declared.sets.RecordSet.{RecordSet}
 use Rattle.set_octets.specs.Octets.{HasSpelling, set_octets}
 use Rattle.zone_allowed.proofs.Rises.{rising_differ}
-use Rattle.zone_list.specs.Changes.{CanBeAdded}
-use Rattle.zone_list.specs.Zones.{AreZones, CanStand, HasName, IsOne, IsZoneId, Zone, hosted}
+use Rattle.zone_allowed.specs.New.{IsNewZone}
+use Rattle.zone_table.specs.Changes.{CanBeAdded}
+use Rattle.zone_table.specs.Zones.{AreZones, CanStand, HasName, IsOne, IsZoneId, Zone, hosted}
 use Rattle.zone_model.specs.Hosted.{HostedZone}
 use Rattle.zone_model.specs.Zones.{IsAmong}
 use Rattle.zone_table.proofs.Naming.{in_map, of_map}
@@ -86,17 +87,17 @@ module _ (table : Table) (checks : Checks) (next : ℕ) (id : ℕ) (name : List 
   abbrev IsLast : Type 0
   IsLast = (zone : Zone) → IsOne table.zones zone → zone.id ≤ id
 
-  module _ (last : IsLast) (allowed : IsAllowed table.zones (Open id name sets)) where
+  module _ (last : IsLast) (is_new : IsNewZone table.zones id name) where
     pub lower : (zone : Zone) → IsOne table.zones zone → zone.id < id
     lower zone there =
         let most = last zone there in
-        let other : zone.id ≢ id = λ e. allowed.0 (zone, there, e) in
+        let other : zone.id ≢ id = λ e. is_new.0 (zone, there, e) in
         omega (arith, most, other)
 
     comes : (zone : HostedZone) → (x : Zone) × IsAmong table.zones x × (hosted x ≡ zone)
         → Comes zone new
     comes zone (x, there, e) =
-        subst (λ z. Comes z new) e (lower x there, λ same. allowed.1 (x, there, same))
+        subst (λ z. Comes z new) e (lower x there, λ same. is_new.1 (x, there, same))
 
     pub sound_with : Sound before → SoundZone new → id < next
         → length (hosted_in table.zones) < 500 → IsRoom → Sound (with_zone before new)
@@ -106,7 +107,7 @@ module _ (table : Table) (checks : Checks) (next : ℕ) (id : ℕ) (name : List 
       from = sound.from;
       to = sound.to;
       numbers = all_appended Numbered before.zones (new ∷ []) sound.numbers
-          ((let some = allowed.3 in omega (arith, some), below), tt);
+          ((let some = is_new.2 in omega (arith, some), below), tt);
       listed = listed_behind before.zones new sound.listed
           (all_from (λ z. Comes z new) before.zones
           (λ z there. comes z (of_map hosted table.zones z there)));
@@ -152,13 +153,15 @@ module _ (table : Table) (checks : Checks) (next : ℕ) (id : ℕ) (name : List 
       differ = rising_differ sets zone_sound.sets.rising;
     }
 
-    pub allowed : IsAllowed table.zones (Open id name sets)
-    allowed = (
+    pub is_new_zone : IsNewZone table.zones id name
+    is_new_zone = (
       λ is. (let lt = (after is.0 is.1).0 in let same = is.2 in omega (arith, lt, same)),
       λ is. (after is.0 is.1).1 is.2,
-      can_be_added,
       (let some = numbered.0 in omega (arith, some)),
     )
+
+    pub allowed : IsAllowed table.zones (Open id name sets)
+    allowed = (is_new_zone.0, is_new_zone.1, can_be_added, is_new_zone.2)
 
   -- the table once the zone is opened in it
   pub opened : EditsAreTold → (now : Table) → AreZones table.zones → AreZones now.zones

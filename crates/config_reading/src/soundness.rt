@@ -9,7 +9,7 @@ ghost use Rattle.config_model.specs.Sound.{Sound};
 ghost use Rattle.config_reading.specs.Reading.{OpensSoundly};
 ghost use Rattle.config_zones.specs.Configured.{config_of};
 ghost use Rattle.set_octets.specs.Octets.{HasSpelling, set_octets};
-ghost use Rattle.zone_list.specs.Zones.{IsOne, Zone};
+ghost use Rattle.zone_table.specs.Zones.{IsOne, Zone};
 
 use config_model::refusals_are_told;
 use config_zones::{counts_agree, is_over, octets_in};
@@ -17,7 +17,7 @@ use health_check::CheckTable;
 use octets::OutOfMemory;
 use record_set::RecordSet;
 use std::alloc::Global;
-use zone_allowed::is_allowed;
+use zone_allowed::is_new_zone;
 use zone_soundness::is_sound_zone;
 use zone_table::{ZoneEdit, Zones};
 
@@ -48,7 +48,7 @@ pub fn opens_soundly(
     if !is_last(zones, next_zone, *zone) {
         return Ok(false);
     }
-    if !is_allowed(zones, edit) {
+    if !is_new_zone(zones, *zone, name) {
         return Ok(false);
     }
     Ok(has_room(zones, sets))

@@ -9,7 +9,7 @@ use Rattle.config_zones.specs.Laws.{CountsAgree}
 use Rattle.record_set.specs.declared.sets.RecordSet.{RecordSet}
 use Rattle.set_octets.specs.Octets.{set_octets}
 use Rattle.zone_table.specs.Sums.{octets_in, octets_of as octets_placed}
-use Rattle.zone_list.specs.Zones.{Zone, hosted}
+use Rattle.zone_table.specs.Zones.{Zone, hosted}
 use Rattle.zone_model.specs.Placed.{Placed, sets_of}
 use Rattle.zone_table.specs.Counted.{octets_in_all, sets_in_all}
 

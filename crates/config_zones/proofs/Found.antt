@@ -10,10 +10,10 @@ use Rattle.config_model.specs.NewZones.{has_zone}
 use Rattle.config_zones.specs.Laws.{ZonesAreFound}
 use Rattle.dns_name.specs.Order.{same_labels}
 use Rattle.dns_name.specs.OrderLaws.{same_labels-Decides}
-use Rattle.zone_list.proofs.Listing.{its_placed}
-use Rattle.zone_list.proofs.Members.{in_all}
-use Rattle.zone_list.specs.Zones.{AreListed, AreZones, HasName, IsOne, IsZoneId, Zone, hosted}
-use Rattle.zone_list.specs.Zones.{placed_in}
+use Rattle.zone_table.proofs.Listing.{its_placed}
+use Rattle.zone_table.proofs.Members.{in_all}
+use Rattle.zone_table.specs.Zones.{AreListed, AreZones, HasName, IsOne, IsZoneId, Zone, hosted}
+use Rattle.zone_table.specs.Zones.{placed_in}
 use Rattle.zone_model.specs.Hosted.{HostedZone}
 use Rattle.zone_model.specs.Placed.{Placed, sets_of}
 use Rattle.zone_model.specs.Zones.{IsAmong}

@@ -8,11 +8,11 @@ use Rattle.config_edits.specs.Laws.{hosted_in}
 use Rattle.config_model.specs.Configs.{all_sets}
 use Rattle.config_zones.specs.Laws.{ZonesFollow}
 use Rattle.config_zones.specs.Walks.{above}
-use Rattle.zone_list.proofs.Listing.{its_placed}
-use Rattle.zone_list.proofs.Members.{in_all}
-use Rattle.zone_list.specs.Found.{IsNextZone, NextZoneOrNone}
-use Rattle.zone_list.specs.Zones.{AreListed, AreZones, IsOne, StandsAlone, Zone}
-use Rattle.zone_list.specs.Zones.{placed_in}
+use Rattle.zone_table.proofs.Listing.{its_placed}
+use Rattle.zone_table.proofs.Members.{in_all}
+use Rattle.zone_table.specs.FoundZones.{IsNextZone, NextZoneOrNone}
+use Rattle.zone_table.specs.Zones.{AreListed, AreZones, IsOne, StandsAlone, Zone}
+use Rattle.zone_table.specs.Zones.{placed_in}
 use Rattle.zone_model.specs.Placed.{Placed, sets_of}
 
 -- a zone of a number that isn't above another isn't among those above it

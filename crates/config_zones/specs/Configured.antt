@@ -10,7 +10,7 @@ use Rattle.config_model.specs.Applying.{Applies, Decides}
 use Rattle.config_model.specs.Configs.{Config}
 use Rattle.config_model.specs.declared.refusals.Made.{Made}
 use Rattle.config_model.specs.declared.refusals.Refusal.{Refusal}
-use Rattle.zone_list.specs.Zones.{AreZones, Zone, placed_in}
+use Rattle.zone_table.specs.Zones.{AreZones, Zone, placed_in}
 use Rattle.zone_model.specs.Placed.{sets_of}
 use Rattle.zone_model.specs.Zones.{IsRising}
 use Rattle.zone_table.specs.Edits.{Edits, IsAllowed, collections_after, zone_of}

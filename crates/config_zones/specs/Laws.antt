@@ -5,8 +5,8 @@ use Rattle.config_edits.specs.Laws.{hosted_in}
 use Rattle.config_model.specs.Configs.{all_sets, count_of, octets_of, zone_with}
 use Rattle.config_model.specs.NewZones.{has_zone}
 use Rattle.config_zones.specs.Walks.{above}
-use Rattle.zone_list.specs.Found.{IsNextZone, NextZoneOrNone}
-use Rattle.zone_list.specs.Zones.{AreZones, HasName, IsOne, IsZoneId, Zone, placed_in}
+use Rattle.zone_table.specs.FoundZones.{IsNextZone, NextZoneOrNone}
+use Rattle.zone_table.specs.Zones.{AreZones, HasName, IsOne, IsZoneId, Zone, placed_in}
 use Rattle.zone_model.specs.Placed.{sets_of}
 use Rattle.zone_table.specs.Counted.{octets_in_all, sets_in_all}
 use Rattle.zone_table.specs.Looking.{IsApex}

@@ -4,7 +4,7 @@ ghost use Rattle.std.specs.Prelude.{◌≡◌, ◌<◌, length, slice_get, Some}
 ghost use Rattle.record_set.specs.declared.sets.RecordSet.{RecordSet};
 ghost use Rattle.set_octets.specs.Octets.{HasSpelling};
 ghost use Rattle.set_scratch.specs.Holding.{IsHolding};
-ghost use Rattle.zone_list.specs.Zones.{placed_in};
+ghost use Rattle.zone_table.specs.Zones.{placed_in};
 ghost use Rattle.zone_model.specs.Placed.{sets_of};
 
 use zone_table::{Scratch, Zones};

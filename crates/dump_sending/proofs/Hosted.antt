@@ -9,9 +9,9 @@ use Rattle.set_octets.specs.Octets.{AreOfType, HasSpelling}
 use Rattle.set_sending.proofs.Passed.{first_next}
 use Rattle.set_sending.specs.Passing.{IsPassed}
 use Rattle.std.proofs.lemmas.Option.{same_Some}
-use Rattle.zone_list.proofs.Listing.{its_placed, one_zone}
-use Rattle.zone_list.specs.Found.{IsNextZone, NextZoneOrNone}
-use Rattle.zone_list.specs.Zones.{AreListed, AreZones, IsOne, Zone, hosted, placed_in}
+use Rattle.zone_table.proofs.Listing.{its_placed, one_zone}
+use Rattle.zone_table.specs.FoundZones.{IsNextZone, NextZoneOrNone}
+use Rattle.zone_table.specs.Zones.{AreListed, AreZones, IsOne, Zone, hosted, placed_in}
 use Rattle.zone_model.specs.Hosted.{HostedZone}
 use Rattle.zone_model.specs.Placed.{Placed, sets_of}
 use Rattle.zone_table.specs.Looking.{IsApex}

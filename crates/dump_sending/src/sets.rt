@@ -7,7 +7,7 @@ ghost use Rattle.octets.specs.Counts.{Rose};
 ghost use Rattle.record_set.specs.declared.sets.RecordSet.{RecordSet};
 ghost use Rattle.reply_model.specs.Dump.{set_line};
 ghost use Rattle.set_scratch.specs.Holding.{IsHolding};
-ghost use Rattle.zone_list.specs.Zones.{placed_in};
+ghost use Rattle.zone_table.specs.Zones.{placed_in};
 ghost use Rattle.zone_model.specs.Placed.{sets_of};
 ghost use Rattle.dump_sending.specs.Dumps.{sets_text};
 ghost use Rattle.set_sending.specs.Passing.{Passes};

@@ -4,7 +4,7 @@ ghost use Rattle.std.specs.Prelude.{◌≡◌, ◌≤◌, ℕ, List, vec_capacit
 ghost use Rattle.config_edits.specs.Laws.{hosted_in};
 ghost use Rattle.octets.specs.Counts.{Rose};
 ghost use Rattle.reply_model.specs.Dump.{zone_line};
-ghost use Rattle.zone_list.specs.Zones.{IsZoneId, placed_in};
+ghost use Rattle.zone_table.specs.Zones.{IsZoneId, placed_in};
 ghost use Rattle.zone_model.specs.Placed.{sets_of};
 ghost use Rattle.zone_table.specs.Looking.{IsApex};
 ghost use Rattle.dump_sending.specs.Dumps.{hosted_text, zones_text};

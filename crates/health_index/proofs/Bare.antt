@@ -5,8 +5,8 @@ use Rattle.policy_select.specs.Groups.{members_of, sets_in, sets_in_zone}
 use Rattle.rdata_layout.specs.declared.types.RType.{RType}
 use Rattle.record_set.specs.Sets.{key_of}
 use Rattle.record_set.specs.declared.sets.RecordSet.{RecordSet}
-use Rattle.zone_list.proofs.Members.{one_of_key, placed_with, set_in}
-use Rattle.zone_list.specs.Zones.{AreZones, Zone, placed_in}
+use Rattle.zone_table.proofs.Members.{one_of_key, placed_with, set_in}
+use Rattle.zone_table.specs.Zones.{AreZones, Zone, placed_in}
 use Rattle.zone_model.specs.Placed.{IsHere, Placed, sets_of}
 use Rattle.zone_model.specs.Zones.{IsAmong, group, is_of_group}
 use Rattle.zone_table.specs.declared.refs.Group.{Group}

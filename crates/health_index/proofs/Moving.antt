@@ -8,11 +8,11 @@ use Rattle.policy_select.proofs.Members.{one_named}
 use Rattle.record_set.specs.Sets.{key_of}
 use Rattle.record_set.specs.declared.sets.RecordSet.{RecordSet}
 use Rattle.record_set.specs.declared.sets.SetKey.{SetKey}
-use Rattle.zone_list.proofs.Listing.{its_placed}
-use Rattle.zone_list.proofs.Members.{filled, one_of_key}
-use Rattle.zone_list.specs.Changes.{Changes, ref_in}
-use Rattle.zone_list.specs.Zones.{AreListed, AreZones, IsOne, IsZoneId, Zone, placed_in}
-use Rattle.zone_list.specs.declared.refs.SetRef.{SetRef}
+use Rattle.zone_table.proofs.Listing.{its_placed}
+use Rattle.zone_table.proofs.Members.{filled, one_of_key}
+use Rattle.zone_table.specs.Changes.{Changes, ref_in}
+use Rattle.zone_table.specs.Zones.{AreListed, AreZones, IsOne, IsZoneId, Zone, placed_in}
+use Rattle.zone_table.specs.SetRefRecord.{SetRef}
 use Rattle.zone_model.proofs.Among.{place_of}
 use Rattle.zone_model.specs.Placed.{IsHere, Placed}
 use Rattle.zone_table.specs.Edits.{Edits, IsAllowed}

@@ -21,10 +21,10 @@ use Rattle.record_set.specs.declared.sets.Body.TheVariants as body
 use Rattle.record_set.specs.declared.sets.RecordSet.{RecordSet}
 use Rattle.record_set.specs.declared.sets.SetKey.{SetKey}
 use Rattle.set_scratch.specs.Telling.{evaluates}
-use Rattle.zone_list.proofs.Members.{all_in, in_all, one_of_key, placed_with, set_in}
-use Rattle.zone_list.specs.Changes.{ref_in}
-use Rattle.zone_list.specs.Zones.{AreZones, Zone, placed_in}
-use Rattle.zone_list.specs.declared.refs.SetRef.{SetRef}
+use Rattle.zone_table.proofs.Members.{all_in, in_all, one_of_key, placed_with, set_in}
+use Rattle.zone_table.specs.Changes.{ref_in}
+use Rattle.zone_table.specs.Zones.{AreZones, Zone, placed_in}
+use Rattle.zone_table.specs.SetRefRecord.{SetRef}
 use Rattle.zone_model.specs.Keys.{key_cmp}
 use Rattle.zone_model.specs.Placed.{IsHere, Placed, sets_of}
 use Rattle.zone_model.specs.Zones.{IsAmong, IsRising, is_of_group}

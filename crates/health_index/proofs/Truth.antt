@@ -21,8 +21,8 @@ use Rattle.record_set.specs.declared.sets.Body.TheVariants as body
 use Rattle.record_set.specs.declared.sets.RecordSet.{RecordSet}
 use Rattle.record_set.specs.Sets.{key_of}
 use Rattle.set_scratch.specs.Telling.{evaluates}
-use Rattle.zone_list.specs.Zones.{Zone, placed_in}
-use Rattle.zone_list.specs.declared.refs.SetRef.{SetRef}
+use Rattle.zone_table.specs.Zones.{Zone, placed_in}
+use Rattle.zone_table.specs.SetRefRecord.{SetRef}
 use Rattle.zone_model.specs.Placed.{IsHere, Placed, sets_of}
 use Rattle.zone_model.specs.Zones.{IsAmong, is_of_group}
 use Rattle.zone_table.specs.Looking.{Names}

@@ -15,7 +15,7 @@ ghost use Rattle.health_planning.specs.Wired.{watched_of};
 ghost use Rattle.health_model.specs.Nodes.{CheckNode, InCone, Node};
 ghost use Rattle.health_model.specs.Sound.{IsSound};
 ghost use Rattle.health_model.specs.Statuses.{Report, status, status_told};
-ghost use Rattle.zone_list.specs.Zones.{Zone};
+ghost use Rattle.zone_table.specs.Zones.{Zone};
 
 use crate::finding::gate_of;
 use crate::gate_leaving::leaves_gates;

@@ -7,9 +7,9 @@ use mathlib.Core.Path.{subst}
 use Rattle.health_gates.proofs.Runs.{in_more}
 use Rattle.health_gates.specs.declared.plan.Shape.{Shape}
 use Rattle.record_set.specs.declared.sets.RecordSet.{RecordSet}
-use Rattle.zone_list.specs.Changes.{ref_in}
-use Rattle.zone_list.specs.Zones.{Zone, IsOne, placed_in}
-use Rattle.zone_list.specs.declared.refs.SetRef.{SetRef}
+use Rattle.zone_table.specs.Changes.{ref_in}
+use Rattle.zone_table.specs.Zones.{Zone, IsOne, placed_in}
+use Rattle.zone_table.specs.SetRefRecord.{SetRef}
 use Rattle.zone_model.proofs.Among.{among_at}
 use Rattle.zone_model.specs.Placed.{IsHere, Placed}
 use Rattle.zone_table.specs.Looking.{IsSetAt, Names}

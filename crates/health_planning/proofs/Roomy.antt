@@ -17,9 +17,9 @@ use Rattle.health_model.proofs.Members.{nothing_in}
 use Rattle.policy_select.specs.Groups.{members_of}
 use Rattle.rdata_layout.specs.declared.types.RType.{RType}
 use Rattle.record_set.specs.declared.sets.RecordSet.{RecordSet}
-use Rattle.zone_list.specs.Changes.{ref_in}
-use Rattle.zone_list.specs.Zones.{AreZones, Zone, placed_in}
-use Rattle.zone_list.specs.declared.refs.SetRef.{SetRef}
+use Rattle.zone_table.specs.Changes.{ref_in}
+use Rattle.zone_table.specs.Zones.{AreZones, Zone, placed_in}
+use Rattle.zone_table.specs.SetRefRecord.{SetRef}
 use Rattle.zone_model.specs.Placed.{HaveOwnSlots, IsHere, Placed}
 use Rattle.zone_table.specs.Looking.{Names}
 use Rattle.zone_table.specs.declared.refs.Group.{Group}

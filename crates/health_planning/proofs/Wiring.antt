@@ -22,10 +22,10 @@ use Rattle.record_set.specs.declared.sets.Body.{Body}
 use Rattle.record_set.specs.declared.sets.Body.TheVariants as body
 use Rattle.record_set.specs.declared.sets.RecordSet.{RecordSet}
 use Rattle.set_scratch.specs.Telling.{evaluates}
-use Rattle.zone_list.proofs.Members.{filled, one_of_key, placed_with, set_in}
-use Rattle.zone_list.specs.Changes.{ref_in}
-use Rattle.zone_list.specs.Zones.{AreZones, StandsAlone, Zone, placed_in}
-use Rattle.zone_list.specs.declared.refs.SetRef.{SetRef}
+use Rattle.zone_table.proofs.Members.{filled, one_of_key, placed_with, set_in}
+use Rattle.zone_table.specs.Changes.{ref_in}
+use Rattle.zone_table.specs.Zones.{AreZones, StandsAlone, Zone, placed_in}
+use Rattle.zone_table.specs.SetRefRecord.{SetRef}
 use Rattle.zone_model.proofs.Among.{among_at}
 use Rattle.zone_model.proofs.Ordered.{one_number}
 use Rattle.zone_model.specs.Placed.{IsHere, Placed, sets_of}

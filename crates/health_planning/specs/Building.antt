@@ -16,9 +16,9 @@ use Rattle.record_set.specs.declared.sets.Body.{Body}
 use Rattle.record_set.specs.declared.sets.Body.TheVariants as body
 use Rattle.record_set.specs.declared.sets.RecordSet.{RecordSet}
 use Rattle.set_scratch.specs.Telling.{evaluates}
-use Rattle.zone_list.specs.Changes.{ref_in}
-use Rattle.zone_list.specs.Zones.{Zone, placed_in}
-use Rattle.zone_list.specs.declared.refs.SetRef.{SetRef}
+use Rattle.zone_table.specs.Changes.{ref_in}
+use Rattle.zone_table.specs.Zones.{Zone, placed_in}
+use Rattle.zone_table.specs.SetRefRecord.{SetRef}
 use Rattle.zone_model.specs.Placed.{IsHere, Placed}
 use Rattle.zone_table.specs.Looking.{Names}
 use Rattle.health_planning.specs.Wired.{AreMembers, HasSlot, IsFirstIn, TellGroup, check_need, check_own, check_seat, gates_of, group_seat, ids_of, is_inverted, is_watched, only_check, place_of, plain_among, seat_of, with_gate}

@@ -5,7 +5,7 @@ ghost use Rattle.health_gates.specs.Plan.{KeepsRoom, feeders_in};
 ghost use Rattle.health_gates.specs.declared.plan.Shape.{Shape};
 ghost use Rattle.record_set.specs.declared.sets.Body.TheVariants.{Alias};
 ghost use Rattle.record_set.specs.declared.sets.RecordSet.{RecordSet};
-ghost use Rattle.zone_list.specs.Zones.{placed_in};
+ghost use Rattle.zone_table.specs.Zones.{placed_in};
 ghost use Rattle.zone_model.specs.Placed.{sets_of};
 ghost use Rattle.zone_model.specs.Walks.{HasNoTarget};
 ghost use Rattle.zone_table.specs.Looking.{Names};

@@ -8,8 +8,8 @@ ghost use Rattle.health_planning.specs.Building.{AreWithin, FeedsSet, HasTargetG
 ghost use Rattle.health_planning.specs.Building.{links_to};
 ghost use Rattle.health_planning.specs.Wired.{group_seat, place_of, with_gate};
 ghost use Rattle.record_set.specs.declared.sets.RecordSet.{RecordSet};
-ghost use Rattle.zone_list.specs.Zones.{placed_in};
-ghost use Rattle.zone_list.specs.declared.refs.SetRef.{SetRef};
+ghost use Rattle.zone_table.specs.Zones.{placed_in};
+ghost use Rattle.zone_table.specs.SetRefRecord.{SetRef};
 ghost use Rattle.zone_model.specs.Placed.{sets_of};
 ghost use Rattle.zone_model.specs.Walks.{HasNoTarget};
 ghost use Rattle.zone_table.specs.Looking.{Names};

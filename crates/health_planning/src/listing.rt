@@ -8,9 +8,9 @@ ghost use Rattle.health_planning.specs.Rooms.{HasListRoom};
 ghost use Rattle.health_planning.specs.Wired.{is_watched, only_check};
 ghost use Rattle.record_set.specs.declared.sets.RecordSet.{RecordSet};
 ghost use Rattle.set_scratch.specs.Telling.{watch_of};
-ghost use Rattle.zone_list.specs.Changes.{ref_in};
-ghost use Rattle.zone_list.specs.Zones.{placed_in};
-ghost use Rattle.zone_list.specs.declared.refs.SetRef.{SetRef};
+ghost use Rattle.zone_table.specs.Changes.{ref_in};
+ghost use Rattle.zone_table.specs.Zones.{placed_in};
+ghost use Rattle.zone_table.specs.SetRefRecord.{SetRef};
 ghost use Rattle.zone_model.specs.Placed.{IsHere, Placed};
 ghost use Rattle.zone_table.specs.Looking.{Names};
 

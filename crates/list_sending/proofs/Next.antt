@@ -3,7 +3,7 @@ use Rattle.std.proofs.Common.{◌≡◌, ℕ, zero, suc, ◌+◌, ◌<◌, ◌�
 use Rattle.std.specs.Prelude.{slice_get}
 use Rattle.list_writing.specs.Pieces.{set_pieces, sets_pieces}
 use Rattle.record_set.specs.declared.sets.RecordSet.{RecordSet}
-use Rattle.zone_list.proofs.Members.{filled, left_at}
+use Rattle.zone_table.proofs.Members.{filled, left_at}
 
 pub next_set : (later : Bool) (zone : ℕ) (sets : List RecordSet) (place : ℕ) (set : RecordSet)
     → slice_get sets place ≡ Some set

@@ -19,7 +19,7 @@ use Rattle.reply_model.specs.Paging.{Start, is_before, next_of, page, page_reply
 use Rattle.set_octets.specs.Octets.{AreOfType}
 use Rattle.set_search.specs.Found.{IsCount}
 use Rattle.set_search.specs.declared.bounds.Bound.TheVariants.{From}
-use Rattle.zone_list.specs.Zones.{AreZones, Zone}
+use Rattle.zone_table.specs.Zones.{AreZones, Zone}
 use Rattle.zone_model.specs.Placed.{Placed, sets_of}
 use Rattle.zone_model.specs.Zones.{IsAmong}
 use Rattle.zone_table.proofs.Holding.{kept_in}

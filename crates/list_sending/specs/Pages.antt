@@ -3,7 +3,7 @@ use Rattle.std.specs.Prelude.{◌≡◌, ◌≤◌, ℕ, List, drop, length, sli
 use Rattle.record_set.specs.declared.sets.RecordSet.{RecordSet}
 use Rattle.reply_model.specs.Paging.{Start, from_start, next_of, page}
 use Rattle.zone_lines.specs.declared.lists.ListOfSets.{ListOfSets}
-use Rattle.zone_list.specs.Zones.{Zone, placed_in}
+use Rattle.zone_table.specs.Zones.{Zone, placed_in}
 use Rattle.zone_model.specs.Placed.{sets_of}
 
 -- where a list starts

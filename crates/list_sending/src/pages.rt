@@ -9,7 +9,7 @@ ghost use Rattle.record_set.specs.declared.sets.RecordSet.{RecordSet};
 ghost use Rattle.reply_model.specs.Json.{line_of};
 ghost use Rattle.reply_model.specs.Paging.{page_reply};
 ghost use Rattle.whole_writing.specs.Output.{OutputOf};
-ghost use Rattle.zone_list.specs.Zones.{placed_in};
+ghost use Rattle.zone_table.specs.Zones.{placed_in};
 ghost use Rattle.list_sending.specs.Pages.{sets_in, start_of};
 ghost use Rattle.set_sending.specs.Passing.{IsPassed, Passes};
 

@@ -8,7 +8,7 @@ ghost use Rattle.record_set.specs.declared.sets.RecordSet.{RecordSet};
 ghost use Rattle.set_scratch.specs.Holding.{IsHolding};
 ghost use Rattle.set_search.specs.Found.{IsBracket, IsCount};
 ghost use Rattle.set_search.specs.declared.bounds.Bound.TheVariants.{From};
-ghost use Rattle.zone_list.specs.Zones.{placed_in};
+ghost use Rattle.zone_table.specs.Zones.{placed_in};
 ghost use Rattle.zone_model.specs.Placing.{comes_before};
 ghost use Rattle.list_sending.specs.Pages.{IsFirst, IsPage, sets_in, start_of};
 

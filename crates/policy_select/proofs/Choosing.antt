@@ -6,6 +6,9 @@ use Rattle.std.specs.Prelude.{slice_get, ◌-◌}
 use Rattle.std.specs.List.{All, cons_option}
 use Rattle.std.proofs.lemmas.List.{length-map}
 use Rattle.std.proofs.Math.Seq.{take-append_seam}
+use Rattle.answer_model.specs.Clients.{Client}
+use Rattle.answer_model.specs.Descent.{group_uses, uses}
+use Rattle.answer_model.specs.declared.used.Used.{Used}
 use Rattle.choice_model.specs.Choice.{ClientRows, chosen, chosen_by, each}
 use Rattle.choice_model.specs.Laws.{ChosenAreOfGroup}
 use Rattle.choice_model.specs.Policies.{weight_of}
@@ -13,8 +16,8 @@ use Rattle.record_set.specs.declared.sets.RecordSet.{RecordSet}
 use Rattle.routing.specs.declared.policies.Routing.{Routing}
 use Rattle.routing.specs.declared.policies.Routing.TheVariants as routing
 use Rattle.weighted.specs.Choice as weighted
-use Rattle.zone_list.specs.Zones.{Zone}
-use Rattle.zone_list.specs.declared.refs.SetRef.{SetRef}
+use Rattle.zone_table.specs.Zones.{Zone}
+use Rattle.zone_table.specs.SetRefRecord.{SetRef}
 use Rattle.zone_model.specs.Placed.{Placed}
 use Rattle.zone_table.specs.Looking.{IsGroupNow}
 use Rattle.zone_table.specs.declared.refs.Group.{Group}
@@ -102,23 +105,33 @@ module _ (law : ChosenAreOfGroup) (zones : List Zone) (test : SetRef → Bool) (
       subst (IsInZone g.zone) (sym is)
       (in_zone g (chosen (sets_in zones g) (flags_in zones test g) rows word))
 
--- of a simple group the first set is held
-simple_first : (zones : List Zone) (g : Group) (held : Option RecordSet) (set : RecordSet)
-    → held ≡ Some set → slice_get (sets_in zones g) 0 ≡ Some set
-    → HoldsFirst zones (selected_of g (0 ∷ [])) held
-simple_first zones g held set is first = (
-  set,
-  is,
-  ap (λ (o : Option RecordSet). slice_get (cons_option o []) 0) first,
-)
+-- ---- a group whose first set is simple
 
-pub simple_held : (zones : List Zone) (g : Group) (flags : List Bool) (rows : ClientRows) (word : ℕ)
-    (set : RecordSet) (policy : Routing) (selected : Selected) (held : Option RecordSet)
-    → slice_get (sets_in zones g) 0 ≡ Some set → policy ≡ set.routing → policy ≡ routing.Simple
-    → selected ≡ selected_of g (chosen (sets_in zones g) flags rows word)
-    → held ≡ slice_get (sets_in zones g) 0 → HoldsFirst zones selected held
-simple_held zones g flags rows word set policy selected held first same one is loaded =
-    subst (λ (s : Selected). HoldsFirst zones s held)
-    (sym (is ∙ ap (selected_of g)
-    (by_policy (sets_in zones g) flags rows word set policy routing.Simple first same one)))
-    (simple_first zones g held set (loaded ∙ first) first)
+-- that set is chosen
+pub simple_is : (g : Group) (sets : List RecordSet) (flags : List Bool) (rows : ClientRows)
+    (word : ℕ) (set : RecordSet) (result : Selected)
+    → slice_get sets 0 ≡ Some set → set.routing ≡ routing.Simple
+    → result ≡ selected_of g (0 ∷ []) → result ≡ selected_of g (chosen sets flags rows word)
+simple_is g sets flags rows word set result first simple is =
+    is ∙ sym (ap (selected_of g)
+    (by_policy sets flags rows word set set.routing routing.Simple first refl simple))
+
+-- nothing is used
+pub simple_uses : (client : Client) (sets : List RecordSet) (set : RecordSet) (used : Used)
+    → slice_get sets 0 ≡ Some set → set.routing ≡ routing.Simple → used ≡ group_uses client sets used
+simple_uses client [] set used first simple = refl
+simple_uses client (x ∷ others) set used first simple =
+    let same : x ≡ set = cc in
+    sym (ap (λ (s : RecordSet). uses client s.routing used) same
+    ∙ ap (λ (r : Routing). uses client r used) simple)
+
+-- and it is held
+pub simple_held : (zones : List Zone) (g : Group) (result : Selected) (held : Option RecordSet)
+    (set : RecordSet) → result ≡ selected_of g (0 ∷ []) → held ≡ Some set
+    → slice_get (sets_in zones g) 0 ≡ Some set → HoldsFirst zones result held
+simple_held zones g result held set is has first =
+    subst (λ (s : Selected). HoldsFirst zones s held) (sym is) (
+      set,
+      has,
+      ap (λ (o : Option RecordSet). slice_get (cons_option o []) 0) first,
+    )

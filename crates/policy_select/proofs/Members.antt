@@ -14,9 +14,9 @@ use Rattle.std.specs.declared.cmp.Ordering.TheVariants.{Less, Equal, Greater}
 use Rattle.record_set.specs.Sets.{key_of}
 use Rattle.record_set.specs.declared.sets.RecordSet.{RecordSet}
 use Rattle.set_octets.specs.Octets.{HasSpelling}
-use Rattle.zone_list.proofs.Members.{in_all, one_of_key}
-use Rattle.zone_list.specs.Zones.{AreZones, CanStand, StandsAlone, Zone, placed_in}
-use Rattle.zone_list.specs.declared.refs.SetRef.{SetRef}
+use Rattle.zone_table.proofs.Members.{in_all, one_of_key}
+use Rattle.zone_table.specs.Zones.{AreZones, CanStand, StandsAlone, Zone, placed_in}
+use Rattle.zone_table.specs.SetRefRecord.{SetRef}
 use Rattle.zone_model.proofs.Among.{among_at}
 use Rattle.zone_model.proofs.Ordered.{keys_tie, keys_total}
 use Rattle.zone_model.specs.Keys.{key_cmp}

@@ -9,7 +9,7 @@ use Rattle.std.proofs.Math.Seq.{take-suc-set}
 use Rattle.choice_model.specs.Choice.{each}
 use Rattle.record_set.specs.declared.sets.RecordSet.{RecordSet}
 use Rattle.routing.specs.declared.policies.Routing.{Routing}
-use Rattle.zone_list.specs.Zones.{Zone, placed_in}
+use Rattle.zone_table.specs.Zones.{Zone, placed_in}
 use Rattle.zone_model.proofs.Lists.{take_more}
 use Rattle.zone_model.specs.Placed.{Placed}
 use Rattle.zone_table.specs.declared.refs.Group.{Group}

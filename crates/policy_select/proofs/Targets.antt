@@ -17,7 +17,7 @@ use Rattle.record_set.specs.declared.sets.Body.TheVariants as body
 use Rattle.record_set.specs.declared.sets.RecordSet.{RecordSet}
 use Rattle.set_scratch.specs.Bodies.{alias_of}
 use Rattle.set_search.specs.Found.{IsGroupAt}
-use Rattle.zone_list.specs.Zones.{Zone, placed_in}
+use Rattle.zone_table.specs.Zones.{Zone, placed_in}
 use Rattle.zone_model.specs.Zones.{IsAmong, group, is_of_group, target_group_of}
 use Rattle.zone_model.specs.Placed.{Placed}
 use Rattle.zone_table.specs.Looking.{IsGroup, IsGroupNow}

@@ -1,19 +1,26 @@
 //! From a group to the sets that answer, through aliases.
 
-ghost use Rattle.std.specs.Prelude.{◌≡◌, ◌<◌, ◌≤◌, ◌+◌, IfSome, length};
+ghost use Rattle.std.specs.Prelude.{◌≡◌, ◌<◌, ◌≤◌, ◌+◌, ℕ, Bool, IfSome, IsTrue, Some, length};
+ghost use Rattle.std.specs.Prelude.{slice_get};
 ghost use Rattle.std.specs.Option.{option_map};
-ghost use Rattle.answer_model.specs.Clients.{client_at};
+ghost use Rattle.answer_model.specs.Clients.{Client, client_at};
 ghost use Rattle.answer_model.specs.Descent.{descend as descended, descends, group_uses, word_of};
+ghost use Rattle.answer_model.specs.declared.used.Used.{Used};
+ghost use Rattle.record_set.specs.Reasons.{IsAlias};
+ghost use Rattle.record_set.specs.declared.sets.RecordSet.{RecordSet};
 ghost use Rattle.routing.specs.declared.policies.Routing.TheVariants as policy;
+ghost use Rattle.set_octets.specs.Octets.{HasSpelling};
 ghost use Rattle.set_scratch.specs.Bodies.{alias_of};
 ghost use Rattle.set_scratch.specs.Holding.{IsHolding};
+ghost use Rattle.zone_table.specs.SetRefRecord.{SetRef};
 ghost use Rattle.zone_table.specs.Looking.{IsGroupNow};
 ghost use Rattle.policy_select.specs.Groups.{FewInGroups, sets_in, sets_in_zone};
 ghost use Rattle.policy_select.specs.Selecting.{AreOfGroup, GivesDescent, HoldsFirst, IsInZone};
 ghost use Rattle.policy_select.specs.Selecting.{LeadsTo, TargetOf, choice_of};
 
-use crate::group::{load_member, routing_at};
-use crate::selection::{Selected, choose};
+use crate::group::load_member;
+use crate::parts::is_simple_in;
+use crate::selection::{Selected, choose, one};
 use crate::view::HealthView;
 use address_text::IpAddress;
 use answer_model::Used;
@@ -139,25 +146,92 @@ fn choose_next<V: HealthView>(
     chosen_are_of_group();
     let word = words[usize::from(*choices % 8)];
     *choices += 1;
-    let routing = routing_at(zones, group, 0, scratch);
+    if first_is_simple(zones, group, scratch) {
+        return choose_simple(zones, group, scratch);
+    }
+    choose_held(zones, group, view, tables, client, word, used, scratch)
+}
+
+/// Loads the first set of a group, and tells whether its policy is the simple one.
+fn first_is_simple(zones: &Zones, group: Group, scratch: &mut Scratch) -> bool
+    requires group { IsGroupNow zones.now.zones group }
+    requires some { 0 < group.length }
+    ensures { (set : RecordSet) × (slice_get (sets_in zones.now.zones group) 0 ≡ Some set)
+        × (scratch.new ≡ Some set) × HasSpelling set
+        × (IsTrue result → set.routing ≡ policy.Simple) }
+{
+    load_member(zones, group, 0, scratch);
+    is_simple(scratch)
+}
+
+/// Whether the policy of the set that is held is the simple one. It isn't copied.
+fn is_simple(scratch: &Scratch) -> bool
+    requires { IsHolding scratch.now }
+    ensures { IfSome scratch.now (λ set. IsTrue result → set.routing ≡ policy.Simple) }
+{
+    is_simple_in(scratch.policy())
+}
+
+/// Chooses the first set of a group, which is held and is simple.
+fn choose_simple(zones: &Zones, group: Group, scratch: &Scratch) -> Selected
+    requires group { IsGroupNow zones.now.zones group }
+    requires some { 0 < group.length }
+    requires first { (set : RecordSet)
+        × (slice_get (sets_in zones.now.zones group) 0 ≡ Some set)
+        × (set.routing ≡ policy.Simple) × (scratch.now ≡ Some set) }
+    ensures selected { (test : SetRef → Bool) (client : Client) (word : ℕ)
+        → result ≡ choice_of zones.now.zones test client group word }
+    ensures used { (client : Client) (used : Used)
+        → used ≡ group_uses client (sets_in zones.now.zones group) used }
+    ensures held { HoldsFirst zones.now.zones result scratch.now }
+{
+    one(group, 0)
+}
+
+/// Chooses by the policy of the first set of a group, which is held. The scratch holds the first
+/// selected set then.
+fn choose_held<V: HealthView>(
+    zones: &Zones,
+    group: Group,
+    view: &V,
+    tables: &Tables,
+    client: IpAddress,
+    word: u64,
+    used: &mut Used,
+    scratch: &mut Scratch,
+) -> Selected
+    requires group { IsGroupNow zones.now.zones group }
+    requires some { 0 < group.length }
+    requires few { group.length ≤ 100 }
+    requires first { (set : RecordSet)
+        × (slice_get (sets_in zones.now.zones group) 0 ≡ Some set)
+        × (scratch.old ≡ Some set) × HasSpelling set }
+    ensures selected { result
+        ≡ choice_of zones.now.zones (V.test view.now)
+        (client_at tables.now zones.now.collections.list client) group word }
+    ensures used { used.new
+        ≡ group_uses (client_at tables.now zones.now.collections.list client)
+        (sets_in zones.now.zones group) used.old }
+    ensures places { AreOfGroup zones.now.zones result }
+    ensures held { HoldsFirst zones.now.zones result scratch.new }
+{
+    chosen_are_of_group();
+    let routing = policy_held(zones, group, scratch);
     let selected = choose(
         &routing, zones, group, view, tables, client, word, used, scratch,
     );
-    hold_first(&routing, zones, &selected, scratch);
+    load_first(zones, &selected, scratch);
     selected
 }
 
-/// Loads the first selected set, where it isn't held. Of a simple group it is.
-fn hold_first(routing: &Routing, zones: &Zones, selected: &Selected, scratch: &mut Scratch)
-    requires places { AreOfGroup zones.now.zones selected.now }
-    requires simple { routing.now ≡ policy.Simple
-        → HoldsFirst zones.now.zones selected.now scratch.old }
-    ensures { HoldsFirst zones.now.zones selected.now scratch.new }
+/// The policy of the first set of a group, which is held.
+fn policy_held(zones: &Zones, group: Group, scratch: &Scratch) -> Routing
+    requires { (set : RecordSet) × (slice_get (sets_in zones.now.zones group) 0 ≡ Some set)
+        × (scratch.now ≡ Some set) × HasSpelling set }
+    ensures { (set : RecordSet) × (slice_get (sets_in zones.now.zones group) 0 ≡ Some set)
+        × (result ≡ set.routing) × HasSpelling set }
 {
-    match routing {
-        Routing::Simple => {}
-        _ => load_first(zones, selected, scratch),
-    }
+    scratch.routing()
 }
 
 /// Loads the first selected set.
@@ -195,10 +269,21 @@ fn target_of(zones: &Zones, zone: u32, scratch: &Scratch) -> Option<Group>
     requires held { IsHolding scratch.now }
     ensures { IfSome scratch.now (λ set. TargetOf zones.now.zones zone set result) }
 {
+    if has_values(scratch) {
+        return None;
+    }
     match target_name(scratch) {
         None => None,
         Some(target) => Some(zones.group(zone, &target, scratch.rtype())),
     }
+}
+
+/// Whether the set that is held has values, as no alias has. Its name isn't read then.
+fn has_values(scratch: &Scratch) -> bool
+    requires { IsHolding scratch.now }
+    ensures { IfSome scratch.now (λ set. IsTrue result → IsAlias set.body → ⊥) }
+{
+    scratch.values() > 0
 }
 
 /// The name of the target of the set that is held, where it is an alias.

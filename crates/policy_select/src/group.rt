@@ -1,16 +1,20 @@
 //! The sets of a group, one at a time.
 
-ghost use Rattle.std.specs.Prelude.{◌≡◌, ◌<◌, length, slice_get, Some};
+ghost use Rattle.std.specs.Prelude.{◌≡◌, ◌<◌, length, slice_get, IfSome, Some};
+ghost use Rattle.std.specs.Option.{unwrap_or};
+ghost use Rattle.choice_model.specs.Policies.{place_of, region_of, role_of, weight_of};
 ghost use Rattle.record_set.specs.declared.sets.RecordSet.{RecordSet};
 ghost use Rattle.set_octets.specs.Octets.{HasSpelling};
+ghost use Rattle.set_scratch.specs.Holding.{IsHolding};
 ghost use Rattle.zone_table.specs.Looking.{IsGroupNow};
 ghost use Rattle.policy_select.specs.Groups.{flags_in, sets_in, sets_in_zone};
 ghost use Rattle.zone_model.specs.Zones.{group};
 
+use crate::parts::{place_in, region_in, role_in, weight_in};
 use crate::view::HealthView;
 use dns_name::Name;
 use rdata_layout::RType;
-use routing::Routing;
+use routing::{Place, Region, Role, Routing};
 use zone_table::{Group, Scratch, Zones};
 
 /// The sets of a name and type of a zone.
@@ -49,6 +53,106 @@ pub fn routing_at(zones: &Zones, group: Group, i: usize, scratch: &mut Scratch) 
 {
     load_member(zones, group, i, scratch);
     scratch.routing()
+}
+
+/// The weight of the set at a place of a group.
+pub(crate) fn weight_at(
+    zones: &Zones,
+    group: Group,
+    i: usize,
+    first: u8,
+    scratch: &mut Scratch,
+) -> u8
+    requires group { IsGroupNow zones.now.zones group }
+    requires within { i < group.length }
+    ensures { (set : RecordSet) × (slice_get (sets_in zones.now.zones group) i ≡ Some set)
+        × (result ≡ unwrap_or (weight_of set.routing) first) }
+{
+    load_member(zones, group, i, scratch);
+    weight_held(scratch, first)
+}
+
+/// The role of the set at a place of a group.
+pub(crate) fn role_at(
+    zones: &Zones,
+    group: Group,
+    i: usize,
+    first: Role,
+    scratch: &mut Scratch,
+) -> Role
+    requires group { IsGroupNow zones.now.zones group }
+    requires within { i < group.length }
+    ensures { (set : RecordSet) × (slice_get (sets_in zones.now.zones group) i ≡ Some set)
+        × (result ≡ unwrap_or (role_of set.routing) first) }
+{
+    load_member(zones, group, i, scratch);
+    role_held(scratch, first)
+}
+
+/// The place of the set at a place of a group.
+pub(crate) fn place_at(
+    zones: &Zones,
+    group: Group,
+    i: usize,
+    first: &Place,
+    scratch: &mut Scratch,
+) -> Place
+    requires group { IsGroupNow zones.now.zones group }
+    requires within { i < group.length }
+    ensures { (set : RecordSet) × (slice_get (sets_in zones.now.zones group) i ≡ Some set)
+        × (result ≡ unwrap_or (place_of set.routing) first.now) }
+{
+    load_member(zones, group, i, scratch);
+    place_held(scratch, first)
+}
+
+/// The region of the set at a place of a group.
+pub(crate) fn region_at(
+    zones: &Zones,
+    group: Group,
+    i: usize,
+    first: &Region,
+    scratch: &mut Scratch,
+) -> Region
+    requires group { IsGroupNow zones.now.zones group }
+    requires within { i < group.length }
+    ensures { (set : RecordSet) × (slice_get (sets_in zones.now.zones group) i ≡ Some set)
+        × (result ≡ unwrap_or (region_of set.routing) first.now) }
+{
+    load_member(zones, group, i, scratch);
+    region_held(scratch, first)
+}
+
+/// The weight of the set that is held.
+fn weight_held(scratch: &Scratch, first: u8) -> u8
+    requires { IsHolding scratch.now }
+    ensures { IfSome scratch.now (λ set. result ≡ unwrap_or (weight_of set.routing) first) }
+{
+    weight_in(scratch.policy(), first)
+}
+
+/// The role of the set that is held.
+fn role_held(scratch: &Scratch, first: Role) -> Role
+    requires { IsHolding scratch.now }
+    ensures { IfSome scratch.now (λ set. result ≡ unwrap_or (role_of set.routing) first) }
+{
+    role_in(scratch.policy(), first)
+}
+
+/// The place of the set that is held.
+fn place_held(scratch: &Scratch, first: &Place) -> Place
+    requires { IsHolding scratch.now }
+    ensures { IfSome scratch.now (λ set. result ≡ unwrap_or (place_of set.routing) first.now) }
+{
+    place_in(scratch.policy(), first)
+}
+
+/// The region of the set that is held.
+fn region_held(scratch: &Scratch, first: &Region) -> Region
+    requires { IsHolding scratch.now }
+    ensures { IfSome scratch.now (λ set. result ≡ unwrap_or (region_of set.routing) first.now) }
+{
+    region_in(scratch.policy(), first)
 }
 
 /// Whether the set at a place of a group is healthy.

@@ -6,8 +6,8 @@ ghost use Rattle.choice_model.specs.Policies.{location_of, place_of, region_of, 
 ghost use Rattle.zone_table.specs.Looking.{IsGroupNow};
 ghost use Rattle.policy_select.specs.Groups.{flags_in, sets_in};
 
-use crate::group::{is_member_healthy, routing_at};
-use crate::parts::{location_or, place_or, region_or, role_or, weight_or};
+use crate::group::{is_member_healthy, place_at, region_at, role_at, routing_at, weight_at};
+use crate::parts::location_or;
 use crate::view::HealthView;
 use cidr_routing::Ident;
 use routing::{Place, Region, Role};
@@ -46,7 +46,7 @@ pub(crate) fn note_weights(
     ensures size { length weights.new ≡ length weights.old }
 {
     for i in 0..group.length {
-        weights[i] = weight_or(&routing_at(zones, group, i, scratch), first);
+        weights[i] = weight_at(zones, group, i, first, scratch);
     }
 }
 
@@ -65,7 +65,7 @@ pub(crate) fn note_roles(
     ensures size { length roles.new ≡ length roles.old }
 {
     for i in 0..group.length {
-        roles[i] = role_or(&routing_at(zones, group, i, scratch), first);
+        roles[i] = role_at(zones, group, i, first, scratch);
     }
 }
 
@@ -84,7 +84,7 @@ pub(crate) fn note_places(
     ensures size { length places.new ≡ length places.old }
 {
     for i in 0..group.length {
-        places[i] = place_or(&routing_at(zones, group, i, scratch), first);
+        places[i] = place_at(zones, group, i, first, scratch);
     }
 }
 
@@ -103,7 +103,7 @@ pub(crate) fn note_regions(
     ensures size { length regions.new ≡ length regions.old }
 {
     for i in 0..group.length {
-        regions[i] = region_or(&routing_at(zones, group, i, scratch), first);
+        regions[i] = region_at(zones, group, i, first, scratch);
     }
 }
 

@@ -1,53 +1,151 @@
-//! What a set says by the policy of the first one of its group. A set of another policy counts as
-//! the first one does.
+//! What a set says by the policy of the first one of its group, told where it stands among the
+//! octets of the set: neither the identifier nor the rest of the policy is copied. A set of another
+//! policy counts as the first one does.
 
-ghost use Rattle.std.specs.Prelude.{◌≡◌};
+ghost use Rattle.std.specs.Prelude.{◌≡◌, ◌∷◌, ◌++◌, ℕ, IsTrue, List};
 ghost use Rattle.std.specs.Option.{unwrap_or};
 ghost use Rattle.choice_model.specs.Policies.{location_of, place_of, region_of, role_of, weight_of};
-ghost use Rattle.routing.specs.Texts.{IsLocation};
-ghost use Rattle.set_octets.specs.Octets.{IsSpelledRouting};
+ghost use Rattle.routing.specs.Texts.{IsLocation, IsRegion, IsSubdivision};
+ghost use Rattle.routing.specs.declared.policies.Continent.{Continent};
+ghost use Rattle.routing.specs.declared.policies.Place.{Place};
+ghost use Rattle.routing.specs.declared.policies.Place.TheVariants.{Subdivision};
+ghost use Rattle.routing.specs.declared.policies.Role.{Role};
+ghost use Rattle.routing.specs.declared.policies.Routing.{Routing};
+ghost use Rattle.routing.specs.declared.policies.Routing.TheVariants as policy;
+ghost use Rattle.set_octets.specs.Octets.{IsSpelledRouting, continent_number, place_octets};
+ghost use Rattle.set_octets.specs.Octets.{role_number, routing_octets, text_octets};
+ghost use Rattle.set_reading.specs.Sets.{IsPlace, IsRouting};
 
 use cidr_blocks::locations_are_names;
 use cidr_routing::Ident;
-use routing::{Place, Region, Role, Routing};
+use routing::{Continent, Place, Region, Role, Routing};
+use set_fields::{fields_are_read, region_at, sub_at};
+use set_parts::behind_text;
 
-/// The weight of a weighted set.
-pub(crate) fn weight_or(routing: &Routing, first: u8) -> u8
-    ensures { result ≡ unwrap_or (weight_of routing.now) first }
+/// Whether a policy at the front is the simple one.
+pub(crate) fn is_simple_in(octets: &[u8]) -> bool
+    ensures { (routing : Routing) (rest : List ℕ) → octets.now ≡ routing_octets routing ++ rest
+        → IsTrue result → routing ≡ policy.Simple }
 {
-    match routing {
-        Routing::Weighted(_, weight) => *weight,
+    matches!(octets, [0, ..])
+}
+
+/// The weight in a policy at the front.
+pub(crate) fn weight_in(octets: &[u8], first: u8) -> u8
+    ensures { (routing : Routing) (rest : List ℕ) → octets.now ≡ routing_octets routing ++ rest
+        → result ≡ unwrap_or (weight_of routing) first }
+{
+    match octets {
+        [1, others @ ..] => octet_in(behind_text(others)),
         _ => first,
     }
 }
 
-/// The role of a failover set.
-pub(crate) fn role_or(routing: &Routing, first: Role) -> Role
-    ensures { result ≡ unwrap_or (role_of routing.now) first }
+/// The octet at the front.
+fn octet_in(octets: &[u8]) -> u8
+    ensures { (octet : ℕ) (rest : List ℕ) → octets.now ≡ octet ∷ rest → result ≡ octet }
 {
-    match routing {
-        Routing::Failover(_, role) => *role,
+    match octets {
+        [octet, ..] => *octet,
+        [] => 0,
+    }
+}
+
+/// The role in a policy at the front.
+pub(crate) fn role_in(octets: &[u8], first: Role) -> Role
+    ensures { (routing : Routing) (rest : List ℕ) → octets.now ≡ routing_octets routing ++ rest
+        → result ≡ unwrap_or (role_of routing) first }
+{
+    match octets {
+        [2, others @ ..] => role_at(behind_text(others)),
         _ => first,
     }
 }
 
-/// The place of a geolocation set.
-pub(crate) fn place_or(routing: &Routing, first: &Place) -> Place
-    ensures { result ≡ unwrap_or (place_of routing.now) first.now }
+/// The role of the number at the front.
+fn role_at(octets: &[u8]) -> Role
+    ensures { (role : Role) (rest : List ℕ) → octets.now ≡ role_number role ∷ rest
+        → result ≡ role }
 {
-    match routing {
-        Routing::Geolocation(_, place) => *place,
+    match octets {
+        [1, ..] => Role::Primary,
+        _ => Role::Secondary,
+    }
+}
+
+/// The place in a policy at the front.
+pub(crate) fn place_in(octets: &[u8], first: &Place) -> Place
+    ensures { (routing : Routing) (rest : List ℕ) → IsRouting routing
+        → octets.now ≡ routing_octets routing ++ rest
+        → result ≡ unwrap_or (place_of routing) first.now }
+{
+    match octets {
+        [3, others @ ..] => place_at(behind_text(others)),
         _ => *first,
     }
 }
 
-/// The region of a latency set.
-pub(crate) fn region_or(routing: &Routing, first: &Region) -> Region
-    ensures { result ≡ unwrap_or (region_of routing.now) first.now }
+/// The place at the front.
+fn place_at(octets: &[u8]) -> Place
+    ensures { (place : Place) (rest : List ℕ) → IsPlace place
+        → octets.now ≡ place_octets place ++ rest → result ≡ place }
 {
-    match routing {
-        Routing::Latency(_, region) => *region,
+    match octets {
+        [1, number, ..] => Place::Continent(continent_of(*number)),
+        [2, x, y, ..] => Place::Country([*x, *y]),
+        [3, x, y, others @ ..] => part_of([*x, *y], others),
+        _ => Place::Anywhere,
+    }
+}
+
+/// The continent of a number.
+fn continent_of(number: u8) -> Continent
+    ensures { (continent : Continent) → number ≡ continent_number continent → result ≡ continent }
+{
+    match number {
+        1 => Continent::Af,
+        2 => Continent::An,
+        3 => Continent::As,
+        4 => Continent::Eu,
+        5 => Continent::Na,
+        6 => Continent::Oc,
+        _ => Continent::Sa,
+    }
+}
+
+/// The subdivision of a country whose code stands at the front.
+fn part_of(country: [u8; 2], octets: &[u8]) -> Place
+    ensures { (code rest : List ℕ) → IsSubdivision code → octets.now ≡ text_octets code ++ rest
+        → result ≡ Subdivision country code }
+{
+    fields_are_read();
+    match sub_at(octets) {
+        Ok((code, _)) => Place::Subdivision(country, code),
+        Err(_) => Place::Anywhere,
+    }
+}
+
+/// The region in a policy at the front.
+pub(crate) fn region_in(octets: &[u8], first: &Region) -> Region
+    ensures { (routing : Routing) (rest : List ℕ) → IsRouting routing
+        → octets.now ≡ routing_octets routing ++ rest
+        → result ≡ unwrap_or (region_of routing) first.now }
+{
+    match octets {
+        [4, others @ ..] => region_or(behind_text(others), first),
         _ => *first,
+    }
+}
+
+/// The region at the front, where there is one.
+fn region_or(octets: &[u8], other: &Region) -> Region
+    ensures { (region rest : List ℕ) → IsRegion region → octets.now ≡ text_octets region ++ rest
+        → result ≡ region }
+{
+    fields_are_read();
+    match region_at(octets) {
+        Ok((region, _)) => region,
+        Err(_) => *other,
     }
 }
 

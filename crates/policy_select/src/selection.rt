@@ -6,7 +6,6 @@ ghost use Rattle.answer_model.specs.Clients.{client_at};
 ghost use Rattle.answer_model.specs.Descent.{group_uses};
 ghost use Rattle.multivalue.specs.Answer.{picked};
 ghost use Rattle.record_set.specs.declared.sets.RecordSet.{RecordSet};
-ghost use Rattle.routing.specs.declared.policies.Routing.TheVariants as policy;
 ghost use Rattle.set_octets.specs.Octets.{HasSpelling};
 ghost use Rattle.zone_table.specs.Looking.{IsGroupNow};
 ghost use Rattle.policy_select.specs.Groups.{sets_in};
@@ -66,8 +65,6 @@ pub fn select<V: HealthView>(
 }
 
 /// Chooses from a group by the policy of its first set, and notes what the choice used.
-///
-/// The scratch is left as it is where that is simple.
 pub(crate) fn choose<V: HealthView>(
     routing: &Routing,
     zones: &Zones,
@@ -91,7 +88,6 @@ pub(crate) fn choose<V: HealthView>(
     ensures used { used.new
         ≡ group_uses (client_at tables.now zones.now.collections.list client)
         (sets_in zones.now.zones group) used.old }
-    ensures simple { routing.now ≡ policy.Simple → scratch.new ≡ scratch.old }
 {
     match routing {
         Routing::Simple => one(group, 0),
@@ -128,7 +124,7 @@ pub(crate) fn choose<V: HealthView>(
 }
 
 /// One set of a group.
-fn one(group: Group, place: usize) -> Selected
+pub(crate) fn one(group: Group, place: usize) -> Selected
     ensures { result ≡ selected_of group (place ∷ []) }
 {
     let places = [place, 0, 0, 0, 0, 0, 0, 0];

@@ -1,7 +1,7 @@
 //! Which sets are healthy, as far as choices ask.
 
 ghost use Rattle.std.specs.Prelude.{◌≡◌, Bool, true};
-ghost use Rattle.zone_list.specs.declared.refs.SetRef.{SetRef};
+ghost use Rattle.zone_table.specs.SetRefRecord.{SetRef};
 ghost use Rattle.policy_select.specs.Groups.{ViewsAgree};
 
 use zone_table::SetRef;

@@ -7,7 +7,7 @@ use Rattle.dns_wire.specs.Draft.{opt_of, reply_to}
 use Rattle.dns_wire.specs.Limit.{refusal_of}
 use Rattle.dns_wire.specs.Message.{wire}
 use Rattle.std.specs.Prelude.{cond}
-use Rattle.zone_list.specs.Zones.{Zone}
+use Rattle.zone_table.specs.Zones.{Zone}
 use Rattle.answer_model.specs.Laws.{ZoneOrNone, ZonesAreLongest}
 use Rattle.answer_model.specs.Reply.{Asker, Served, is_refused, query_reply, zone_reply}
 use Rattle.answer_model.specs.Sections.{Sections}

@@ -11,8 +11,8 @@ use Rattle.rdata_layout.specs.Types.{number_of}
 use Rattle.rdata_layout.specs.declared.types.RType.TheVariants as rtype
 use Rattle.record_set.specs.declared.sets.RecordSet.{RecordSet}
 use Rattle.record_set.specs.declared.sets.SetKey.{SetKey}
-use Rattle.zone_list.specs.Zones.{Zone}
-use Rattle.zone_list.specs.declared.refs.SetRef.{SetRef}
+use Rattle.zone_table.specs.Zones.{Zone}
+use Rattle.zone_table.specs.SetRefRecord.{SetRef}
 use Rattle.zone_model.specs.Hosted.{HostedZone}
 use Rattle.zone_model.specs.Zones.{IsAmong}
 use Rattle.zone_table.specs.declared.refs.Group.{Group}

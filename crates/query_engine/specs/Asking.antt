@@ -11,7 +11,7 @@ use Rattle.geo_latency.specs.declared.tables.Tables.{Tables}
 use Rattle.rdata_layout.specs.declared.types.RType.TheVariants as rtype
 use Rattle.record_set.specs.declared.sets.RecordSet.{RecordSet}
 use Rattle.record_set.specs.declared.sets.SetKey.{SetKey}
-use Rattle.zone_list.specs.Zones.{Zone}
+use Rattle.zone_table.specs.Zones.{Zone}
 use Rattle.answer_model.specs.declared.used.Used.{Used}
 use Rattle.answer_model.specs.Clients.{client_at}
 use Rattle.answer_model.specs.Descent.{Choices}

@@ -17,7 +17,7 @@ ghost use Rattle.record_set.specs.declared.sets.RecordSet.{RecordSet};
 ghost use Rattle.record_set.specs.declared.sets.SetKey.{SetKey};
 ghost use Rattle.reply_records.specs.Writing.{IsOpen, Writes};
 ghost use Rattle.set_search.specs.Found.{IsFirstNamed};
-ghost use Rattle.zone_list.specs.Zones.{placed_in};
+ghost use Rattle.zone_table.specs.Zones.{placed_in};
 ghost use Rattle.zone_lookup.specs.Cuts.{HasSets};
 ghost use Rattle.zone_lookup.specs.Served.{AreServed};
 ghost use Rattle.zone_model.specs.Zones.{IsAmong, group};

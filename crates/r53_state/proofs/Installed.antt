@@ -19,7 +19,7 @@ use Rattle.health_check.specs.Stored.{Kept}
 use Rattle.r53_state.specs.States.{IsAccepted, IsOnChecks, State, config_in}
 use Rattle.r53_state.specs.Steps.{CanApply, OpensZone, checks_of, made_of, next_after}
 use Rattle.r53_state.proofs.Decided.{check_becomes, decided, not_refused}
-use Rattle.zone_list.specs.Zones.{AreZones}
+use Rattle.zone_table.specs.Zones.{AreZones}
 use Rattle.zone_model.specs.Hosted.{HostedZone}
 use Rattle.zone_table.specs.Edits.{Edits, collections_after}
 use Rattle.zone_table.specs.Tables.{Table}

@@ -13,7 +13,7 @@ use Rattle.config_zones.specs.Configured.{IsEditFor, IsLeast, zone_asked}
 use Rattle.health_check.specs.Stored.{Kept}
 use Rattle.r53_state.specs.States.{IsAccepted, IsReady, IsWorkReady, State, StayReady}
 use Rattle.r53_state.specs.States.{IsOnChecks, config_in}
-use Rattle.zone_list.specs.Zones.{AreZones, Zone}
+use Rattle.zone_table.specs.Zones.{AreZones, Zone}
 use Rattle.zone_table.specs.Edits.{Edits, IsAllowed, IsReady as IsEditReady, Prepared as ReadyEdit}
 use Rattle.zone_table.specs.Edits.{collections_after, zone_of}
 use Rattle.zone_table.specs.Tables.{Table}

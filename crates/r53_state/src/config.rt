@@ -23,8 +23,7 @@ use health_check::CheckTable;
 use octets::OutOfMemory;
 use std::alloc::Global;
 use std::marker::Model;
-use zone_list::SetRefs;
-use zone_table::{Delta, Ready, Scratch, ZoneEdit, Zones};
+use zone_table::{Delta, Ready, Scratch, SetRefs, ZoneEdit, Zones};
 
 /// The hosted zones, health checks and collections of a server, which are sound.
 #[derive(Drop)]

@@ -11,7 +11,7 @@ use Rattle.std.proofs.lemmas.List.Elements.{filter-append, filter_map-append}
 use Rattle.dns_wire.specs.Message.{Record}
 use Rattle.rdata_layout.specs.declared.types.RType.{RType}
 use Rattle.record_set.specs.declared.sets.RecordSet.{RecordSet}
-use Rattle.zone_list.proofs.Members.{left_at, nothing_left}
+use Rattle.zone_table.proofs.Members.{left_at, nothing_left}
 use Rattle.zone_model.proofs.Lists.{in_itself, split, take_more}
 use Rattle.answer_model.specs.Descent.{sets_at}
 use Rattle.answer_model.specs.Records.{answer_records, data_of, is_among, is_simple, joint_data}

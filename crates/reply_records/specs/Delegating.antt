@@ -8,7 +8,7 @@ use Rattle.dns_wire.specs.declared.reply.Section.TheVariants.{Additional, Author
 use Rattle.rdata_layout.specs.declared.types.RType.{RType}
 use Rattle.rdata_layout.specs.declared.types.RType.TheVariants as rtype
 use Rattle.record_set.specs.declared.sets.RecordSet.{RecordSet}
-use Rattle.zone_list.specs.Zones.{Zone}
+use Rattle.zone_table.specs.Zones.{Zone}
 use Rattle.zone_model.specs.Zones.{group}
 use Rattle.zone_table.specs.Looking.{IsGroupNow}
 use Rattle.zone_table.specs.declared.refs.Group.{Group}

@@ -12,4 +12,5 @@ mod telling;
 pub use octet_region::{Handle, Region};
 pub use octets::OutOfMemory;
 pub use scratch::Scratch;
+pub use set_parts::{ident_in_front, keys_are_in_front, name_and_rest, type_and_rest};
 pub use telling::{Watch, is_alias_in, target_in, watch_in};

@@ -186,8 +186,8 @@ impl Scratch {
         behind(front(&self.octets, self.places.len), self.places.name)
     }
 
-    /// The octets of the set from its policy on.
-    fn policy(&self) -> &[u8]
+    /// The octets of the set from its policy on, by which single parts of the policy are told.
+    pub fn policy(&self) -> &[u8]
         requires { IsHolding self.now }
         ensures { IfSome self.now (λ set. IsPart result.now (from_policy set) set) }
     {

@@ -37,7 +37,7 @@ equal Equal e = refl
 equal Greater e = absurd (grind (arith, e))
 
 -- all of a list stands between its ends
-whole : (sets : List RecordSet) (b : Bound) → IsBracket sets b 0 (length sets)
+pub whole : (sets : List RecordSet) (b : Bound) → IsBracket sets b 0 (length sets)
 whole sets b = record {
   order = omega arith;
   within = omega arith;

@@ -3,3 +3,4 @@ pub mod Beside
 pub mod Filters
 pub mod Lookups
 pub mod Together
+pub mod Typed

@@ -1,10 +1,11 @@
 -- Where sets stand, by their keys.
 use Rattle.std.specs.Prelude.{◌≡◌, ◌≢◌, ◌≤◌, ◌<◌, ◌+◌, ℕ, List, take, drop, length, true, false}
-use Rattle.std.specs.Prelude.{slice_get, None, Some, Result, Ok, Err}
+use Rattle.std.specs.Prelude.{slice_get, Option, None, Some, Result, Ok, Err}
 use Rattle.std.specs.List.{filter}
 use Rattle.std.specs.declared.cmp.Ordering.TheVariants.{Less}
 use Rattle.dns_name.specs.Order.{zone_cmp}
 use Rattle.dns_name.specs.Suffix.{EndsWith}
+use Rattle.rdata_layout.specs.Types.{number_of}
 use Rattle.rdata_layout.specs.declared.types.RType.{RType}
 use Rattle.record_set.specs.declared.sets.RecordSet.{RecordSet}
 use Rattle.record_set.specs.declared.sets.SetKey.{SetKey}
@@ -31,6 +32,17 @@ IsCount sets bound n = IsBracket sets bound n n
 -- a set has the name and the type
 abbrev pub IsOf : (name : List (List ℕ)) → RType → RecordSet → Type 0
 IsOf name rtype set = (set.name ≡ name) × (set.rtype ≡ rtype)
+
+-- A set has the name, and its type this number; or else it has another name.
+abbrev pub TypeOrNone : (name : List (List ℕ)) → RecordSet → Option ℕ → Type 0
+TypeOrNone name set None = set.name ≢ name
+TypeOrNone name set (Some number) = (set.name ≡ name) × (number ≡ number_of set.rtype)
+
+-- the set at a place has the name, and its type this number
+abbrev pub IsTypedAt : List RecordSet → (name : List (List ℕ)) → (place number : ℕ) → Type 0
+IsTypedAt sets name place number =
+    (set : RecordSet) × (slice_get sets place ≡ Some set) × (set.name ≡ name)
+    × (number ≡ number_of set.rtype)
 
 -- the set at a place has the name and the type
 abbrev pub IsMemberAt : List RecordSet → (name : List (List ℕ)) → RType → (place : ℕ) → Type 0

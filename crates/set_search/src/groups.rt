@@ -1,8 +1,9 @@
 //! The sets of one name and type: all that stands between two bounds.
 
-ghost use Rattle.std.specs.Prelude.{◌≡◌, None};
+ghost use Rattle.std.specs.Prelude.{◌≡◌, ◌<◌, ℕ, length, None};
+ghost use Rattle.rdata_layout.specs.Types.{number_of};
 ghost use Rattle.zone_model.specs.Zones.{IsRising};
-ghost use Rattle.set_search.specs.Found.{IsCount, IsGroupAt, IsMemberAt};
+ghost use Rattle.set_search.specs.Found.{IsBracket, IsCount, IsGroupAt, IsMemberAt, IsTypedAt};
 ghost use Rattle.set_search.specs.declared.bounds.Bound.TheVariants.{From, PastGroup};
 
 use crate::bounds::Stop;
@@ -13,6 +14,9 @@ use rdata_layout::RType;
 
 /// Where the sets of a name and type stand, which is side by side: the place of the first one, and
 /// how many they are.
+///
+/// A set of the name at the hint tells by its type on which side to look, and mostly the one beside
+/// it tells the rest.
 pub fn group_in<S: SetList>(
     sets: &S,
     name: &Name,
@@ -24,14 +28,95 @@ pub fn group_in<S: SetList>(
 {
     if let Some(place) = hint {
         if place < sets.count() {
-            if sets.is_of(place, name, rtype) {
-                return group_round(sets, name, rtype, place);
+            if let Some(number) = sets.type_at(place, name) {
+                return group_beside(sets, name, rtype, place, number);
             }
         }
     }
     let start = count_before(sets, &Stop::From(name, rtype, None), hint);
     let end = end_from(sets, name, rtype, start);
     (start, end - start)
+}
+
+/// The same where a set of the name stands at a place, and its type has this number.
+fn group_beside<S: SetList>(
+    sets: &S,
+    name: &Name,
+    rtype: RType,
+    place: usize,
+    number: u16,
+) -> (usize, usize)
+    requires rising { IsRising (S.sets sets.now) }
+    requires typed { IsTypedAt (S.sets sets.now) name.now place number }
+    ensures { IsGroupAt (S.sets sets.now) name.now rtype result.0 result.1 }
+{
+    if number == rtype.number() {
+        return group_round(sets, name, rtype, place);
+    }
+    if number < rtype.number() {
+        return group_behind(sets, name, rtype, place);
+    }
+    let start = start_in_front(sets, name, rtype, place);
+    let end = end_from(sets, name, rtype, start);
+    (start, end - start)
+}
+
+/// The same where the type at the place is a lower one.
+fn group_behind<S: SetList>(sets: &S, name: &Name, rtype: RType, place: usize) -> (usize, usize)
+    requires rising { IsRising (S.sets sets.now) }
+    requires lower { (number : ℕ) × IsTypedAt (S.sets sets.now) name.now place number
+        × (number < number_of rtype) }
+    ensures { IsGroupAt (S.sets sets.now) name.now rtype result.0 result.1 }
+{
+    let size = sets.count();
+    let next = place + 1;
+    if next >= size {
+        return (next, 0);
+    }
+    let Some(number) = sets.type_at(next, name) else {
+        return (next, 0);
+    };
+    if number > rtype.number() {
+        return (next, 0);
+    }
+    let start = start_behind(sets, name, rtype, next, number);
+    let end = end_from(sets, name, rtype, start);
+    (start, end - start)
+}
+
+/// The place of the first set of a group that isn't in front of a place, at which a set of the name
+/// stands whose type has this number.
+fn start_behind<S: SetList>(sets: &S, name: &Name, rtype: RType, place: usize, number: u16) -> usize
+    requires rising { IsRising (S.sets sets.now) }
+    requires typed { IsTypedAt (S.sets sets.now) name.now place number }
+    requires before { IsBracket (S.sets sets.now)
+        (From (record { name = name.now; rtype = rtype; ident = None })) place
+        (length (S.sets sets.now)) }
+    ensures { IsCount (S.sets sets.now)
+        (From (record { name = name.now; rtype = rtype; ident = None })) result }
+{
+    if number == rtype.number() {
+        return place;
+    }
+    count_before(sets, &Stop::From(name, rtype, None), Some(place))
+}
+
+/// The place of the first set of a group, where a set of the name and of a higher type stands at a
+/// place.
+fn start_in_front<S: SetList>(sets: &S, name: &Name, rtype: RType, place: usize) -> usize
+    requires rising { IsRising (S.sets sets.now) }
+    requires higher { (number : ℕ) × IsTypedAt (S.sets sets.now) name.now place number
+        × (number_of rtype < number) }
+    ensures { IsCount (S.sets sets.now)
+        (From (record { name = name.now; rtype = rtype; ident = None })) result }
+{
+    if place == 0 {
+        return 0;
+    }
+    let Some(_) = sets.type_at(place - 1, name) else {
+        return place;
+    };
+    count_before(sets, &Stop::From(name, rtype, None), Some(place))
 }
 
 /// The same where a set of the group stands at a place.

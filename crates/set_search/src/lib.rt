@@ -13,7 +13,7 @@ mod searching;
 
 pub use bounds::{Bound, Stop, before_key, behind_key};
 pub use groups::group_in;
-pub use lists::SetList;
+pub use lists::{SetList, type_under};
 pub use names::{closest_in, exists_in};
 pub use order::set_is_before;
-pub use searching::{count_before, find};
+pub use searching::{count_before, find, find_near};

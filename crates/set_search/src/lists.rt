@@ -4,7 +4,7 @@ ghost use Rattle.std.specs.Prelude.{◌≡◌, ◌<◌, ℕ, List, length, slice
 ghost use Rattle.dns_name.specs.Suffix.{EndsWith};
 ghost use Rattle.record_set.specs.declared.sets.RecordSet.{RecordSet};
 ghost use Rattle.set_search.specs.Bounds.{is_before};
-ghost use Rattle.set_search.specs.Found.{IsOf};
+ghost use Rattle.set_search.specs.Found.{IsOf, TypeOrNone};
 ghost use Rattle.set_search.specs.Stops.{bound_of};
 
 use crate::bounds::Stop;
@@ -39,6 +39,12 @@ pub trait SetList {
         requires { place < length (sets self.now) }
         ensures { (set : RecordSet) → slice_get (sets self.now) place ≡ Some set
             → IsTrue result ↔ IsOf name.now rtype set };
+
+    /// The number of the type of the set at a place, where it has the name. None where it has not.
+    fn type_at(&self, place: usize, name: &Name) -> Option<u16>
+        requires { place < length (sets self.now) }
+        ensures { (set : RecordSet) → slice_get (sets self.now) place ≡ Some set
+            → TypeOrNone name.now set result };
 }
 
 impl SetList for Vec<RecordSet> {
@@ -59,6 +65,20 @@ impl SetList for Vec<RecordSet> {
     fn is_of(&self, place: usize, name: &Name, rtype: RType) -> bool {
         has_both(&self[place], name, rtype)
     }
+
+    fn type_at(&self, place: usize, name: &Name) -> Option<u16> {
+        type_under(&self[place], name)
+    }
+}
+
+/// The number of a set's type, where it has the name.
+pub fn type_under(set: &RecordSet, name: &Name) -> Option<u16>
+    ensures { TypeOrNone name.now set.now result }
+{
+    if !set.name.is_same(name) {
+        return None;
+    }
+    Some(set.rtype.number())
 }
 
 /// Whether a set has the name and the type.

@@ -132,7 +132,16 @@ pub fn find<S: SetList>(sets: &S, key: &SetKey) -> Result<usize, usize>
     requires { IsRising (S.sets sets.now) }
     ensures { Finds (S.sets sets.now) key.now result }
 {
-    let place = count_before(sets, &before_key(key), None);
+    find_near(sets, key, None)
+}
+
+/// The same with a hint: a place that may be the right one, as that behind the set which was found
+/// last where keys come in their order.
+pub fn find_near<S: SetList>(sets: &S, key: &SetKey, hint: Option<usize>) -> Result<usize, usize>
+    requires { IsRising (S.sets sets.now) }
+    ensures { Finds (S.sets sets.now) key.now result }
+{
+    let place = count_before(sets, &before_key(key), hint);
     if has_key(sets, place, key) {
         return Ok(place);
     }

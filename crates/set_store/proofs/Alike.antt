@@ -16,7 +16,7 @@ use Rattle.rdata_layout.specs.declared.types.RType.{RType}
 use Rattle.record_set.specs.declared.sets.RecordSet.{RecordSet}
 use Rattle.record_set.specs.declared.sets.SetKey.{SetKey}
 use Rattle.record_set.specs.Sets.{ident_of}
-use Rattle.set_parts.specs.Laws.{KeysAreInFront}
+use Rattle.set_scratch.specs.Laws.{KeysAreInFront}
 use Rattle.set_scratch.specs.Spelling.{Spells}
 use Rattle.set_search.specs.Bounds.{is_before}
 use Rattle.set_search.specs.declared.bounds.Bound.TheVariants as bound

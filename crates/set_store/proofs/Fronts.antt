@@ -12,8 +12,8 @@ use Rattle.dns_name.proofs.Labels.{labels_of-wire}
 use Rattle.rdata_layout.specs.Types.{number_of}
 use Rattle.rdata_layout.specs.declared.types.RType.{RType}
 use Rattle.record_set.specs.declared.sets.RecordSet.{RecordSet}
-use Rattle.set_parts.specs.Heads.{policy_front}
-use Rattle.set_parts.specs.Laws.{KeysAreInFront}
+use Rattle.set_scratch.specs.Heads.{policy_front}
+use Rattle.set_scratch.specs.Laws.{KeysAreInFront}
 use Rattle.set_scratch.specs.Spelling.{Spells}
 use Rattle.zone_model.proofs.Ordered.{one_number}
 

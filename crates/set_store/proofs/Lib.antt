@@ -1,4 +1,5 @@
 mod Alike
+mod Behind
 pub mod Named
 pub mod Lists
 pub mod Chains

@@ -10,7 +10,7 @@ use Rattle.octet_reading.specs.Names.{name_at}
 use Rattle.octet_reading.specs.Rules.{BaseFieldsAreRead}
 use Rattle.rdata_layout.specs.Types.{number_of}
 use Rattle.record_set.specs.declared.sets.RecordSet.{RecordSet}
-use Rattle.set_parts.specs.Heads.{key_octets, policy_front}
+use Rattle.set_scratch.specs.Heads.{key_octets, policy_front}
 use Rattle.set_reading.specs.Sets.{IsSet}
 
 pub name_of_head : BaseFieldsAreRead → (set : RecordSet) (rest octets : List ℕ) → IsSet set

@@ -1,11 +1,13 @@
 -- Sets told by the octets of their keys.
-use Rattle.std.specs.Prelude.{◌≡◌, ℕ, List, ◌++◌, Result, Ok, Err}
+use Rattle.std.specs.Prelude.{◌≡◌, ◌≢◌, ℕ, List, ◌++◌, drop, length, take, Option, None, Some}
+use Rattle.std.specs.Prelude.{Result, Ok, Err}
 use Rattle.std.specs.Borrow.{Bor}
 use Rattle.std.specs.declared.cmp.Ordering.{Ordering}
 use Rattle.std.specs.declared.cmp.Ordering.TheVariants.{Equal}
+use Rattle.octets.specs.Numbers.{number_at}
 use Rattle.rdata_layout.specs.declared.types.RType.{RType}
 use Rattle.record_set.specs.declared.sets.RecordSet.{RecordSet}
-use Rattle.set_parts.specs.Heads.{key_octets, policy_front}
+use Rattle.set_scratch.specs.Heads.{key_octets, policy_front}
 use Rattle.set_reading.specs.Sets.{IsSet}
 use Rattle.set_search.specs.Bounds.{group_cmp}
 
@@ -24,3 +26,9 @@ IsPartedBy set name rtype rest (Err order) = (group_cmp set name rtype ≡ order
 -- The octets begin with those that tell the key of this set.
 abbrev pub IsHeadIn : List ℕ → RecordSet → Type 0
 IsHeadIn octets set = (rest : List ℕ) × IsSet set × (octets ≡ key_octets set ++ rest)
+
+-- The number in the two octets behind a piece, where the octets begin with that piece.
+abbrev pub IsTypeBehind : (octets piece : List ℕ) → Option ℕ → Type 0
+IsTypeBehind octets piece None = take (length piece) octets ≢ piece
+IsTypeBehind octets piece (Some number) = (take (length piece) octets ≡ piece)
+    × (number ≡ number_at (take 2 (drop (length piece) octets)) 0)

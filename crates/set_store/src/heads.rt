@@ -1,26 +1,28 @@
 //! Sets compared with bounds by the octets that tell their keys.
 
-ghost use Rattle.std.specs.Prelude.{◌≡◌, ◌++◌, ℕ, List, Ok, Err, IsTrue, ◌↔◌};
+ghost use Rattle.std.specs.Prelude.{◌≡◌, ◌++◌, ℕ, List, length, Ok, Err, IsTrue, ◌↔◌};
 ghost use Rattle.std.specs.Option.{option_copied};
 ghost use Rattle.std.specs.Ordering.{nat_cmp};
 ghost use Rattle.dns_name.specs.Labels.{wire};
 ghost use Rattle.dns_name.specs.Names.{IsName};
 ghost use Rattle.dns_name.specs.Order.{zone_cmp};
 ghost use Rattle.dns_name.specs.Suffix.{EndsWith};
+ghost use Rattle.rdata_layout.specs.Types.{number_of};
 ghost use Rattle.record_set.specs.Sets.{ident_of, key_of};
 ghost use Rattle.record_set.specs.declared.sets.RecordSet.{RecordSet};
-ghost use Rattle.set_parts.specs.Heads.{Tells, key_octets, policy_front};
+ghost use Rattle.set_scratch.specs.Heads.{Tells, key_octets, policy_front};
 ghost use Rattle.set_reading.specs.Sets.{IsSet};
 ghost use Rattle.zone_model.specs.Keys.{ident_cmp, key_cmp};
 ghost use Rattle.set_search.specs.Bounds.{group_cmp, is_before};
 ghost use Rattle.set_search.specs.Stops.{bound_of};
 ghost use Rattle.set_store.specs.Heads.{IsHead, IsPartedBy};
+ghost use Rattle.set_store.specs.Servers.{server_labels};
 
 use dns_name::{Name, octets_cmp, one_name_of_a_wire};
 use octet_reading::{base_fields_are_read, name_at};
 use rdata_layout::RType;
 use record_set::Ident;
-use set_parts::{ident_in_front, name_and_rest, type_and_rest};
+use set_scratch::{ident_in_front, name_and_rest, type_and_rest};
 use set_search::Stop;
 use std::cmp::Ordering;
 
@@ -46,6 +48,43 @@ pub fn head_is_below(octets: &[u8], name: &Name) -> bool
     base_fields_are_read();
     match name_at(octets) {
         Ok(read) => read.0.ends_with(name),
+        Err(_) => unreachable!(),
+    }
+}
+
+/// How many labels the name of an NS set has, from octets that begin with all that tells its key.
+pub fn head_server_labels(octets: &[u8]) -> Option<usize>
+    requires { IsHead octets.now }
+    ensures { (set : RecordSet) (rest : List ℕ) → IsSet set
+        → octets.now ≡ key_octets set ++ rest → result ≡ server_labels set }
+{
+    let number = head_number(octets);
+    if number != 2 {
+        return None;
+    }
+    Some(head_labels(octets))
+}
+
+/// The number of a set's type.
+fn head_number(octets: &[u8]) -> u16
+    requires { IsHead octets.now }
+    ensures { (set : RecordSet) (rest : List ℕ) → IsSet set
+        → octets.now ≡ key_octets set ++ rest → result ≡ number_of set.rtype }
+{
+    let (_, behind) = name_and_rest(octets);
+    let (rtype, _) = type_and_rest(behind);
+    rtype.number()
+}
+
+/// How many labels a set's name has.
+fn head_labels(octets: &[u8]) -> usize
+    requires { IsHead octets.now }
+    ensures { (set : RecordSet) (rest : List ℕ) → IsSet set
+        → octets.now ≡ key_octets set ++ rest → result ≡ length set.name }
+{
+    base_fields_are_read();
+    match name_at(octets) {
+        Ok(read) => read.0.labels(),
         Err(_) => unreachable!(),
     }
 }
@@ -110,7 +149,7 @@ fn name_order(octets: &[u8], name: &Name) -> Ordering
 }
 
 /// Whether octets are the same.
-fn is_same(octets: &[u8], others: &[u8]) -> bool
+pub(crate) fn is_same(octets: &[u8], others: &[u8]) -> bool
     ensures { IsTrue result ↔ (octets.now ≡ others.now) }
 {
     octets == others

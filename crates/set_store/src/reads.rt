@@ -7,25 +7,28 @@ ghost use Rattle.record_set.specs.declared.sets.RecordSet.{RecordSet};
 ghost use Rattle.set_octets.specs.Octets.{most_octets, set_octets};
 ghost use Rattle.set_scratch.specs.Telling.{is_alias, target_of, watch_of};
 ghost use Rattle.set_search.specs.Bounds.{is_before};
-ghost use Rattle.set_search.specs.Found.{IsOf};
+ghost use Rattle.set_search.specs.Found.{IsOf, TypeOrNone};
 ghost use Rattle.set_search.specs.Stops.{bound_of};
 ghost use Rattle.set_store.specs.declared.slots.Slot.{Slot};
 ghost use Rattle.set_store.specs.Index.{HoldsAt};
+ghost use Rattle.set_store.specs.Servers.{server_labels};
 ghost use Rattle.set_store.specs.Stored.{IsKept, IsSpelling, IsTaken, Kept, Spells, zone_told};
 
 use crate::hashes::hash_of;
-use crate::heads::{head_is_before, head_is_below};
+use crate::heads::{head_is_before, head_is_below, head_server_labels};
 use crate::siblings::is_before_beside;
 use crate::slots::{NO_CELL, Slot};
 use crate::store::SetStore;
+use crate::typed::{is_of_at, type_under};
 use dns_name::Name;
 use octet_region::{Handle, Region};
-use octets::{OutOfMemory, front, two_octets, zeros};
+use octets::{OutOfMemory, front, zeros};
 use rdata_layout::RType;
 use record_set::RecordSet;
-use set_parts::{keys_are_in_front, name_and_rest};
 use set_reading::{ReadFault, read_set, written_reads_back};
-use set_scratch::{Scratch, Watch, is_alias_in, target_in, watch_in};
+use set_scratch::{
+    Scratch, Watch, is_alias_in, keys_are_in_front, name_and_rest, target_in, watch_in,
+};
 use set_search::Stop;
 use std::alloc::Global;
 
@@ -94,14 +97,32 @@ impl SetStore {
         ensures { (kept : Kept) → IsKept self.now.slots slot kept
             → IsTrue result ↔ IsOf name.now rtype kept.set }
     {
+        written_reads_back();
+        is_of_at(&self.region, &self.slots, slot, name, rtype)
+    }
+
+    /// The number of the type of a slot's set, where it has the name. None where it has not.
+    pub fn type_at(&self, slot: u32, name: &Name) -> Option<u16>
+        requires { IsTaken self.now.slots slot }
+        ensures { (kept : Kept) → IsKept self.now.slots slot kept
+            → TypeOrNone name.now kept.set result }
+    {
+        written_reads_back();
+        type_under(&self.region, &self.slots, slot, name)
+    }
+
+    /// How many labels the name of a slot's set has, where that is an NS set.
+    pub fn server_labels(&self, slot: u32) -> Option<usize>
+        requires { IsTaken self.now.slots slot }
+        ensures { (kept : Kept) → IsKept self.now.slots slot kept
+            → result ≡ server_labels kept.set }
+    {
         keys_are_in_front();
         written_reads_back();
-        let octets = name.octets();
-        if !stands_at(&self.region, &self.slots, slot, 0, octets) {
-            return false;
+        if size_at(&self.region, &self.slots, slot) <= SHORT {
+            return head_server_labels(head_at(&self.region, &self.slots, slot, &mut [0; 64]));
         }
-        let number = two_octets(rtype.number());
-        stands_at(&self.region, &self.slots, slot, octets.len(), &number)
+        head_server_labels(head_at(&self.region, &self.slots, slot, &mut [0; 387]))
     }
 
     /// A hash of the name of a slot's set, of which no contract speaks.

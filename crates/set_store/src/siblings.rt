@@ -15,11 +15,12 @@ ghost use Rattle.set_search.specs.Stops.{bound_of};
 ghost use Rattle.set_store.specs.Index.{HoldsAt};
 ghost use Rattle.set_store.specs.Stored.{IsSpelling, Spells};
 
-use crate::reads::{front_at, stands_at, two_at};
+use crate::reads::{front_at, stands_at};
 use crate::slots::Slot;
+use crate::typed::type_under;
 use dns_name::Name;
 use octet_region::Region;
-use octets::{behind, number_at};
+use octets::behind;
 use rdata_layout::RType;
 use set_search::Stop;
 use std::cmp::Ordering;
@@ -33,6 +34,13 @@ pub fn is_before_beside(region: &Region, slots: &Vec<Slot>, slot: u32, stop: &St
         → HoldsAt region.now.held slots.now.items slot octets → Spells octets set
         → IfSome result (λ before. before ≡ is_before (bound_of stop.now) set) }
 {
+    // Most sets that are looked at for the end of a group have its name, and few others do.
+    if let Stop::PastGroup(_, _) = stop {
+        if let Some(before) = is_before_by_type(region, slots, slot, stop) {
+            return Some(before);
+        }
+        return is_before_by_name(region, slots, slot, stop);
+    }
     if let Some(before) = is_before_by_name(region, slots, slot, stop) {
         return Some(before);
     }
@@ -93,12 +101,8 @@ fn type_order(
         → IfSome result (λ order. (set.name ≡ name.now)
         × (order ≡ nat_cmp (number_of set.rtype) (number_of rtype))) }
 {
-    let octets = name.octets();
-    if !stands_at(region, slots, slot, 0, octets) {
-        return None;
-    }
-    let own = two_at(region, slots, slot, octets.len());
-    Some(number_at(&own, 0).cmp(&rtype.number()))
+    let own = type_under(region, slots, slot, name)?;
+    Some(own.cmp(&rtype.number()))
 }
 
 /// Whether the name of a slot's set comes before another, where both are right below one name and

@@ -11,10 +11,10 @@ use Rattle.config_zones.specs.Walks.{above}
 use Rattle.record_set.specs.declared.sets.RecordSet.{RecordSet}
 use Rattle.set_octets.specs.Octets.{set_octets}
 use Rattle.snapshot_octets.specs.Octets.{zone_octets}
-use Rattle.zone_list.proofs.Listing.{its_placed, one_zone}
-use Rattle.zone_list.proofs.Members.{left_at, nothing_left}
-use Rattle.zone_list.specs.Found.{IsNextZone, NextZoneOrNone}
-use Rattle.zone_list.specs.Zones.{AreListed, AreZones, IsOne, Zone, hosted, placed_in}
+use Rattle.zone_table.proofs.Listing.{its_placed, one_zone}
+use Rattle.zone_table.proofs.Members.{left_at, nothing_left}
+use Rattle.zone_table.specs.FoundZones.{IsNextZone, NextZoneOrNone}
+use Rattle.zone_table.specs.Zones.{AreListed, AreZones, IsOne, Zone, hosted, placed_in}
 use Rattle.zone_model.specs.Hosted.{HostedZone}
 use Rattle.zone_model.specs.Placed.{Placed, sets_of}
 use Rattle.zone_table.specs.Counted.{sets_in_all}

@@ -7,7 +7,7 @@ ghost use Rattle.config_zones.specs.Edited.{hosted_in};
 ghost use Rattle.set_octets.specs.Octets.{set_octets};
 ghost use Rattle.set_scratch.specs.Holding.{IsHolding};
 ghost use Rattle.snapshot_octets.specs.Octets.{counted_octets, zone_octets};
-ghost use Rattle.zone_list.specs.Zones.{IsZoneId, placed_in};
+ghost use Rattle.zone_table.specs.Zones.{IsZoneId, placed_in};
 ghost use Rattle.zone_model.specs.Placed.{sets_of};
 ghost use Rattle.zone_table.specs.Counted.{sets_in_all};
 ghost use Rattle.zone_table.specs.Looking.{IsApex};

@@ -16,8 +16,8 @@ use Rattle.health_model.specs.Sound.{IsSound}
 use Rattle.policy_select.proofs.GroupSizes.{few_by_each_set}
 use Rattle.policy_select.specs.Groups.{FewInGroups}
 use Rattle.record_set.specs.declared.sets.RecordSet.{RecordSet}
-use Rattle.zone_list.proofs.Members.{in_all}
-use Rattle.zone_list.specs.Zones.{IsOne, Zone, hosted, placed_in}
+use Rattle.zone_table.proofs.Members.{in_all}
+use Rattle.zone_table.specs.Zones.{IsOne, Zone, hosted, placed_in}
 use Rattle.zone_lookup.specs.Served.{AreServed, CanAnswer}
 use Rattle.zone_model.proofs.Among.{place_of}
 use Rattle.zone_model.specs.Hosted.{HostedZone}

@@ -12,7 +12,7 @@ use Rattle.health_index.specs.Wired.{watched_of}
 use Rattle.health_model.specs.Sound.{IsSound}
 use Rattle.health_model.specs.Statuses.{Report}
 use Rattle.policy_select.specs.Groups.{Agrees}
-use Rattle.zone_list.specs.Zones.{Zone}
+use Rattle.zone_table.specs.Zones.{Zone}
 use Rattle.zone_lookup.specs.Served.{AreServed}
 
 -- Each zone has a set, and no group has more than 100.

@@ -46,6 +46,7 @@ fn a_set_comes(rt: HostRuntime) -> Result<(), Fail> {
         &set,
         buffer.as_mut_slice(),
         &mut sums,
+        &mut None,
     );
     assert_eq!(rt; order.len(), 1, "it came");
     assert_eq!(rt; sums.octets, 12, "its octets");

@@ -17,9 +17,9 @@ use Rattle.set_search.specs.Bounds.{is_before}
 use Rattle.set_search.specs.Found.{IsCount}
 use Rattle.set_search.specs.declared.bounds.Bound.{Bound}
 use Rattle.set_search.specs.declared.bounds.Bound.TheVariants as bound
-use Rattle.zone_list.proofs.Members.{in_all}
-use Rattle.zone_list.specs.Zones.{AreZones, StandsAlone, Zone, placed_in}
-use Rattle.zone_list.specs.declared.refs.SetRef.{SetRef}
+use Rattle.zone_table.proofs.Members.{in_all}
+use Rattle.zone_table.specs.Zones.{AreZones, StandsAlone, Zone, placed_in}
+use Rattle.zone_table.specs.SetRefRecord.{SetRef}
 use Rattle.zone_model.proofs.Among.{among_at, place_of}
 use Rattle.zone_model.proofs.Ordered.{keys_total}
 use Rattle.zone_model.specs.Keys.{key_cmp}

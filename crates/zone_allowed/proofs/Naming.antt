@@ -2,8 +2,8 @@
 use Rattle.std.proofs.Common.{◌≡◌, ◌≤◌, ◌+◌, ℕ, List, [], ◌∷◌, ◌++◌, length, ap, sym, ◌∙◌, arith}
 use Rattle.std.proofs.lemmas.List.{length-append}
 use Rattle.dns_name.specs.Suffix.{EndsWith}
-use Rattle.zone_list.proofs.Listing.{one_zone}
-use Rattle.zone_list.specs.Zones.{AreZones, HasName, Zone}
+use Rattle.zone_table.proofs.Listing.{one_zone}
+use Rattle.zone_table.specs.Zones.{AreZones, HasName, Zone}
 use Rattle.zone_table.specs.Looking.{Holds, IsApex}
 
 as_long : (first name other : List (List ℕ)) → name ≡ first ++ other → length name ≤ length other

@@ -1,2 +1,3 @@
 pub mod Apart
+pub mod New
 pub use Rattle.zone_table.specs.Edits

@@ -4,8 +4,9 @@ ghost use Rattle.std.specs.Prelude.{◌≡◌, ◌<◌, IsTrue, ◌↔◌};
 ghost use Rattle.std.specs.List.{AllByRecursion};
 ghost use Rattle.record_set.specs.Sets.{key_of};
 ghost use Rattle.record_set.specs.declared.sets.RecordSet.{RecordSet};
-ghost use Rattle.zone_list.specs.Changes.{CanBeAdded, IsKeyOf};
-ghost use Rattle.zone_list.specs.Zones.{CanStand, HasName, IsZoneId, placed_in};
+ghost use Rattle.zone_allowed.specs.New.{IsNewZone};
+ghost use Rattle.zone_table.specs.Changes.{CanBeAdded, IsKeyOf};
+ghost use Rattle.zone_table.specs.Zones.{CanStand, HasName, IsZoneId, placed_in};
 ghost use Rattle.zone_model.specs.Placing.{IsThere};
 ghost use Rattle.zone_model.specs.Placed.{sets_of};
 ghost use Rattle.zone_table.specs.Edits.{IsAllowed};
@@ -36,7 +37,15 @@ pub fn is_allowed(zones: &Zones, edit: &ZoneEdit) -> bool
 fn is_open_allowed(zones: &Zones, zone: u32, name: &Name, sets: &[RecordSet]) -> bool
     ensures { IsTrue result ↔ IsAllowed zones.now.zones (Open zone name.now sets.now) }
 {
-    zone > 0 && !has_zone(zones, zone) && !has_name(zones, name) && can_be_added(name, sets)
+    is_new_zone(zones, zone, name) && can_be_added(name, sets)
+}
+
+/// Whether a zone of this number and name is new: the number is one that zones have, and no zone has
+/// it, or the name.
+pub fn is_new_zone(zones: &Zones, zone: u32, name: &Name) -> bool
+    ensures { IsTrue result ↔ IsNewZone zones.now.zones zone name.now }
+{
+    zone > 0 && !has_zone(zones, zone) && !has_name(zones, name)
 }
 
 /// Whether a zone has this number.

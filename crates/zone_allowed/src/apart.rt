@@ -6,7 +6,7 @@ ghost use Rattle.std.specs.List.{AllByRecursion};
 ghost use Rattle.record_set.specs.Sets.{key_of};
 ghost use Rattle.record_set.specs.declared.sets.RecordSet.{RecordSet};
 ghost use Rattle.zone_allowed.specs.Apart.{AreApart};
-ghost use Rattle.zone_list.specs.Changes.{DifferByKey};
+ghost use Rattle.zone_table.specs.Changes.{DifferByKey};
 ghost use Rattle.zone_model.specs.Keys.{key_cmp};
 ghost use Rattle.zone_model.specs.Zones.{IsRising};
 

@@ -5,4 +5,4 @@ mod allowed;
 mod apart;
 mod there;
 
-pub use allowed::{is_allowed, is_change_allowed};
+pub use allowed::{is_allowed, is_change_allowed, is_new_zone};

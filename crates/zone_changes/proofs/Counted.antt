@@ -4,13 +4,16 @@ use Rattle.std.specs.Prelude.{slice_get}
 use Rattle.std.specs.List.{sum_by}
 use Rattle.zone_model.specs.Placed.{Placed, IsPut, IsTakenAt}
 use Rattle.zone_changes.specs.declared.sums.Sums.{Sums}
-use Rattle.zone_changes.specs.Sums.{aliases_in, octets_in, plus, sums_of}
+use Rattle.zone_changes.specs.Sums.{AreSmall, aliases_in, labels_in, octets_in, plus, servers_in, sums_of}
 use Rattle.zone_changes.proofs.Cells.{sum_insert, sum_remove, sum_set}
 
-both : (x y : Sums) → x.octets ≡ y.octets → x.aliases ≡ y.aliases → x ≡ y
-both x y octets aliases =
-    ap (λ (n : ℕ). record { octets = n; aliases = x.aliases }) octets
-    ∙ ap (λ (n : ℕ). record { octets = y.octets; aliases = n }) aliases
+all_four : (x y : Sums) → x.octets ≡ y.octets → x.aliases ≡ y.aliases → x.servers ≡ y.servers
+    → x.labels ≡ y.labels → x ≡ y
+all_four x y octets aliases servers labels =
+    ap (λ (n : ℕ). record { octets = n; aliases = x.aliases; servers = x.servers; labels = x.labels }) octets
+    ∙ (ap (λ (n : ℕ). record { octets = y.octets; aliases = n; servers = x.servers; labels = x.labels }) aliases
+    ∙ (ap (λ (n : ℕ). record { octets = y.octets; aliases = y.aliases; servers = n; labels = x.labels }) servers
+    ∙ ap (λ (n : ℕ). record { octets = y.octets; aliases = y.aliases; servers = y.servers; labels = n }) labels))
 
 more : (before after given counted : ℕ) → after ≡ before + given → counted ≡ (before % 2 ^ 64 + given) % 2 ^ 64
     → counted ≡ after % 2 ^ 64
@@ -30,41 +33,59 @@ pub put_sums : (before : List Placed) (given : Placed) (after : List Placed) →
     → (sums counted : Sums) → sums ≡ sums_of before → counted ≡ plus sums given → counted ≡ sums_of after
 put_sums before given after put sums counted so_far is =
     let now = is ∙ ap (λ s. plus s given) so_far in
-    both counted (sums_of after)
+    all_four counted (sums_of after)
     (more (sum_by octets_in before) (sum_by octets_in after) (octets_in given) counted.octets
     (ap (sum_by octets_in) put.inserted ∙ sum_insert octets_in before put.at given)
     (ap (λ (s : Sums). s.octets) now))
     (more (sum_by aliases_in before) (sum_by aliases_in after) (aliases_in given) counted.aliases
     (ap (sum_by aliases_in) put.inserted ∙ sum_insert aliases_in before put.at given)
     (ap (λ (s : Sums). s.aliases) now))
+    (more (sum_by servers_in before) (sum_by servers_in after) (servers_in given) counted.servers
+    (ap (sum_by servers_in) put.inserted ∙ sum_insert servers_in before put.at given)
+    (ap (λ (s : Sums). s.servers) now))
+    (more (sum_by labels_in before) (sum_by labels_in after) (labels_in given) counted.labels
+    (ap (sum_by labels_in) put.inserted ∙ sum_insert labels_in before put.at given)
+    (ap (λ (s : Sums). s.labels) now))
 
 -- one comes in place of another
 pub replaced_sums : (before : List Placed) (given was : Placed) (after : List Placed) (at : ℕ)
     → slice_get before at ≡ Some was → after ≡ set before at given → (sums counted left : Sums)
-    → sums ≡ sums_of before → counted ≡ plus sums given → left.octets < 2 ^ 64 → left.aliases < 2 ^ 64
+    → sums ≡ sums_of before → counted ≡ plus sums given → AreSmall left
     → plus left was ≡ counted → left ≡ sums_of after
-replaced_sums before given was after at there replaced sums counted left so_far is few few_too without =
+replaced_sums before given was after at there replaced sums counted left so_far is small without =
     let now = is ∙ ap (λ s. plus s given) so_far in
-    both left (sums_of after)
+    all_four left (sums_of after)
     (swapped (sum_by octets_in before) (sum_by octets_in after) (octets_in given) (octets_in was) counted.octets left.octets
     (ap (λ ps. sum_by octets_in ps + octets_in was) replaced ∙ sum_set octets_in before at was given there)
-    (ap (λ (s : Sums). s.octets) now) few (ap (λ (s : Sums). s.octets) without))
+    (ap (λ (s : Sums). s.octets) now) small.octets (ap (λ (s : Sums). s.octets) without))
     (swapped (sum_by aliases_in before) (sum_by aliases_in after) (aliases_in given) (aliases_in was) counted.aliases left.aliases
     (ap (λ ps. sum_by aliases_in ps + aliases_in was) replaced ∙ sum_set aliases_in before at was given there)
-    (ap (λ (s : Sums). s.aliases) now) few_too (ap (λ (s : Sums). s.aliases) without))
+    (ap (λ (s : Sums). s.aliases) now) small.aliases (ap (λ (s : Sums). s.aliases) without))
+    (swapped (sum_by servers_in before) (sum_by servers_in after) (servers_in given) (servers_in was) counted.servers left.servers
+    (ap (λ ps. sum_by servers_in ps + servers_in was) replaced ∙ sum_set servers_in before at was given there)
+    (ap (λ (s : Sums). s.servers) now) small.servers (ap (λ (s : Sums). s.servers) without))
+    (swapped (sum_by labels_in before) (sum_by labels_in after) (labels_in given) (labels_in was) counted.labels left.labels
+    (ap (λ ps. sum_by labels_in ps + labels_in was) replaced ∙ sum_set labels_in before at was given there)
+    (ap (λ (s : Sums). s.labels) now) small.labels (ap (λ (s : Sums). s.labels) without))
 
 -- one goes
 pub taken_sums : (before : List Placed) (at slot : ℕ) (after : List Placed)
     → (t : IsTakenAt before at slot after) → (sums left : Sums) → sums ≡ sums_of before
-    → left.octets < 2 ^ 64 → left.aliases < 2 ^ 64
+    → AreSmall left
     → plus left (record { slot = slot; set = t.set }) ≡ sums → left ≡ sums_of after
-taken_sums before at slot after t sums left so_far few few_too without =
+taken_sums before at slot after t sums left so_far small without =
     let was : Placed = record { slot = slot; set = t.set } in
     let now = without ∙ so_far in
-    both left (sums_of after)
+    all_four left (sums_of after)
     (fewer (sum_by octets_in before) (sum_by octets_in after) (octets_in was) left.octets
     (ap (λ ps. sum_by octets_in ps + octets_in was) t.removed ∙ sum_remove octets_in before at was t.there)
-    few (ap (λ (s : Sums). s.octets) now))
+    small.octets (ap (λ (s : Sums). s.octets) now))
     (fewer (sum_by aliases_in before) (sum_by aliases_in after) (aliases_in was) left.aliases
     (ap (λ ps. sum_by aliases_in ps + aliases_in was) t.removed ∙ sum_remove aliases_in before at was t.there)
-    few_too (ap (λ (s : Sums). s.aliases) now))
+    small.aliases (ap (λ (s : Sums). s.aliases) now))
+    (fewer (sum_by servers_in before) (sum_by servers_in after) (servers_in was) left.servers
+    (ap (λ ps. sum_by servers_in ps + servers_in was) t.removed ∙ sum_remove servers_in before at was t.there)
+    small.servers (ap (λ (s : Sums). s.servers) now))
+    (fewer (sum_by labels_in before) (sum_by labels_in after) (labels_in was) left.labels
+    (ap (λ ps. sum_by labels_in ps + labels_in was) t.removed ∙ sum_remove labels_in before at was t.there)
+    small.labels (ap (λ (s : Sums). s.labels) now))

@@ -1,7 +1,10 @@
--- How many octets sets have, and how many of them are aliases.
-use Rattle.std.specs.Prelude.{ℕ, ◌+◌, ◌%◌, ◌^◌, List, Bool, true, false, length}
+-- What is counted of sets: their octets, the aliases among them, the NS sets, and the labels of the
+-- names of these.
+use Rattle.std.specs.Prelude.{ℕ, ◌<◌, ◌+◌, ◌%◌, ◌^◌, List, Bool, true, false, is_some, length}
+use Rattle.std.specs.Option.{unwrap_or}
 use Rattle.std.specs.List.{sum_by}
 use Rattle.set_octets.specs.Octets.{set_octets}
+use Rattle.zone_order.specs.Servers.{server_labels}
 use Rattle.zone_order.specs.Telling.{is_alias}
 use Rattle.zone_changes.specs.declared.sums.Sums.{Sums}
 use Rattle.zone_model.specs.Placed.{Placed}
@@ -16,6 +19,12 @@ one_of true = 1
 abbrev pub aliases_in : Placed → ℕ
 aliases_in placed = one_of (is_alias placed.set.body)
 
+abbrev pub servers_in : Placed → ℕ
+servers_in placed = one_of (is_some (server_labels placed.set))
+
+abbrev pub labels_in : Placed → ℕ
+labels_in placed = unwrap_or (server_labels placed.set) 0
+
 -- how many octets the sets have
 abbrev pub octets_of : List Placed → ℕ
 octets_of placed = sum_by octets_in placed
@@ -24,13 +33,35 @@ octets_of placed = sum_by octets_in placed
 abbrev pub aliases_of : List Placed → ℕ
 aliases_of placed = sum_by aliases_in placed
 
--- both, as they are counted: modulo 2^64
+-- how many of the sets are NS sets
+abbrev pub servers_of : List Placed → ℕ
+servers_of placed = sum_by servers_in placed
+
+-- how many labels the names of the NS sets have in all
+abbrev pub labels_of : List Placed → ℕ
+labels_of placed = sum_by labels_in placed
+
+-- all of them, as they are counted: modulo 2^64
 abbrev pub sums_of : List Placed → Sums
-sums_of placed = record { octets = octets_of placed % 2 ^ 64; aliases = aliases_of placed % 2 ^ 64 }
+sums_of placed = record {
+  octets = octets_of placed % 2 ^ 64;
+  aliases = aliases_of placed % 2 ^ 64;
+  servers = servers_of placed % 2 ^ 64;
+  labels = labels_of placed % 2 ^ 64;
+}
 
 -- with one more set
 abbrev pub plus : Sums → Placed → Sums
 plus sums placed = record {
   octets = (sums.octets + octets_in placed) % 2 ^ 64;
   aliases = (sums.aliases + aliases_in placed) % 2 ^ 64;
+  servers = (sums.servers + servers_in placed) % 2 ^ 64;
+  labels = (sums.labels + labels_in placed) % 2 ^ 64;
 }
+
+-- all four are below 2^64
+pub record AreSmall (sums : Sums) : Type 0 where
+  pub octets : sums.octets < 2 ^ 64
+  pub aliases : sums.aliases < 2 ^ 64
+  pub servers : sums.servers < 2 ^ 64
+  pub labels : sums.labels < 2 ^ 64

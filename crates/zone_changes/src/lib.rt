@@ -8,3 +8,6 @@ mod sums;
 
 pub use single::{come, go};
 pub use sums::{Sums, no_sums};
+pub use zone_order::{
+    Scratch, SetStore, Watch, ZoneView, hash_of, make_room, of_zone, take_at, view_of,
+};

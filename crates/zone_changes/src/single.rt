@@ -17,10 +17,12 @@ use octets::front;
 use record_set::{RecordSet, SetKey};
 use set_octets::fill_set;
 use set_reading::{one_spelling, well_formed};
-use set_search::find;
+use set_search::{find, find_near};
 use zone_order::{SetStore, put_at, replace_at, take_at, view_of};
 
 /// A set comes into a zone, and its slot is told. The buffer has room for its octets.
+///
+/// The hint is where it may stand, and then where the next one does if it comes right behind.
 pub fn come(
     store: &mut SetStore,
     zone: u32,
@@ -28,6 +30,7 @@ pub fn come(
     set: &RecordSet,
     buffer: &mut [u8],
     sums: &mut Sums,
+    hint: &mut Option<usize>,
 ) -> u32
     requires order { IsOrder store.old.slots zone order.old.items }
     requires spelled { HasSpelling set.now }
@@ -56,7 +59,7 @@ pub fn come(
     let octets = spell(set, buffer);
     let key = set.key();
     let counted = with_set(*sums, octets.len(), set);
-    match place_of(store, zone, order, &key) {
+    match place_near(store, zone, order, &key, hint) {
         Ok(place) => {
             *sums = without_at(counted, store, zone, order, place);
             replace_at(store, zone, order, place, octets)
@@ -106,6 +109,29 @@ fn place_of(store: &SetStore, zone: u32, order: &Vec<u32>, key: &SetKey) -> Resu
     ensures { Finds (sets_of (placed_of store.now.slots zone order.now.items)) key.now result }
 {
     find(&view_of(store, zone, order), key)
+}
+
+/// The same with a hint, which becomes the place behind.
+fn place_near(
+    store: &SetStore,
+    zone: u32,
+    order: &Vec<u32>,
+    key: &SetKey,
+    hint: &mut Option<usize>,
+) -> Result<usize, usize>
+    requires { IsOrder store.now.slots zone order.now.items }
+    ensures { Finds (sets_of (placed_of store.now.slots zone order.now.items)) key.now result }
+{
+    let found = find_near(&view_of(store, zone, order), key, *hint);
+    *hint = Some(behind(&found));
+    found
+}
+
+/// The place behind one that was found.
+fn behind(found: &Result<usize, usize>) -> usize {
+    match found {
+        Ok(place) | Err(place) => place.wrapping_add(1),
+    }
 }
 
 /// The octets of a set, at the front of a buffer.

@@ -2,19 +2,26 @@
 //!
 //! The counts are kept modulo 2^64, so that no call asks for a bound.
 
-ghost use Rattle.std.specs.Prelude.{◌≡◌, ◌<◌, ◌^◌, [], length, slice_get, Some};
-ghost use Rattle.zone_changes.specs.Sums.{aliases_in, octets_in, one_of, plus, sums_of};
+ghost use Rattle.std.specs.Prelude.{◌≡◌, ◌<◌, [], length, slice_get, Some};
+ghost use Rattle.zone_changes.specs.Sums.{AreSmall, aliases_in, octets_in, one_of, plus, sums_of};
 ghost use Rattle.zone_model.specs.Placed.{Placed};
 ghost use Rattle.zone_order.specs.Orders.{IsOrder, placed_of};
+ghost use Rattle.zone_order.specs.Servers.{server_labels};
 
+use rdata_layout::RType;
 use record_set::{Body, RecordSet};
 use zone_order::SetStore;
 
-/// How many octets sets have, and how many of them are aliases, each modulo 2^64.
+/// How many octets sets have, how many of them are aliases, how many are NS sets, and how many
+/// labels the names of these have in all, each modulo 2^64.
+///
+/// The last two tell whether all NS sets stand at one name, of which all other names are below.
 #[derive(Clone, Copy)]
 pub struct Sums {
     pub octets: u64,
     pub aliases: u64,
+    pub servers: u64,
+    pub labels: u64,
 }
 
 /// The sums of no sets.
@@ -24,6 +31,8 @@ pub fn no_sums() -> Sums
     Sums {
         octets: 0,
         aliases: 0,
+        servers: 0,
+        labels: 0,
     }
 }
 
@@ -32,9 +41,12 @@ pub(crate) fn with_set(sums: Sums, octets: usize, set: &RecordSet) -> Sums
     ensures { (given : Placed) → given.set ≡ set.now → octets ≡ octets_in given
         → result ≡ plus sums given }
 {
+    let labels = labels_in(set);
     Sums {
         octets: sums.octets.wrapping_add(octets as u64),
         aliases: sums.aliases.wrapping_add(u64::from(is_alias(set))),
+        servers: sums.servers.wrapping_add(u64::from(labels.is_some())),
+        labels: sums.labels.wrapping_add(labels.unwrap_or(0) as u64),
     }
 }
 
@@ -46,6 +58,16 @@ fn is_alias(set: &RecordSet) -> bool
         Body::Alias { .. } => true,
         Body::Values { .. } => false,
     }
+}
+
+/// How many labels the name of an NS set has.
+fn labels_in(set: &RecordSet) -> Option<usize>
+    ensures { result ≡ server_labels set.now }
+{
+    if set.rtype.number() != RType::Ns.number() {
+        return None;
+    }
+    Some(set.name.labels())
 }
 
 /// The sums without the set at a place of a zone.
@@ -61,11 +83,15 @@ pub(crate) fn without_at(
     ensures without { (was : Placed)
         → slice_get (placed_of store.now.slots zone order.now.items) place ≡ Some was
         → plus result was ≡ sums }
-    ensures octets { result.octets < 2 ^ 64 }
-    ensures aliases { result.aliases < 2 ^ 64 }
+    ensures small { AreSmall result }
 {
     let slot = slot_at(order, place);
-    without(sums, store.size(slot), store.is_alias(slot))
+    without(
+        sums,
+        store.size(slot),
+        store.is_alias(slot),
+        store.server_labels(slot),
+    )
 }
 
 /// The slot at a place.
@@ -76,15 +102,16 @@ fn slot_at(order: &Vec<u32>, place: usize) -> u32
     order[place]
 }
 
-/// The sums without a set of so many octets.
-fn without(sums: Sums, octets: usize, alias: bool) -> Sums
+/// The sums without a set of so many octets, which is an NS set where labels are told.
+fn without(sums: Sums, octets: usize, alias: bool, labels: Option<usize>) -> Sums
     ensures without { (was : Placed) → octets ≡ octets_in was → one_of alias ≡ aliases_in was
-        → plus result was ≡ sums }
-    ensures octets { result.octets < 2 ^ 64 }
-    ensures aliases { result.aliases < 2 ^ 64 }
+        → labels ≡ server_labels was.set → plus result was ≡ sums }
+    ensures small { AreSmall result }
 {
     Sums {
         octets: sums.octets.wrapping_sub(octets as u64),
         aliases: sums.aliases.wrapping_sub(u64::from(alias)),
+        servers: sums.servers.wrapping_sub(u64::from(labels.is_some())),
+        labels: sums.labels.wrapping_sub(labels.unwrap_or(0) as u64),
     }
 }

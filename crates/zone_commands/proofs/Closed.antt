@@ -13,7 +13,7 @@ use Rattle.config_model.specs.declared.refusals.Made.TheVariants as made
 use Rattle.config_model.specs.declared.refusals.Refusal.TheVariants as refusal
 use Rattle.config_zones.specs.Configured.{IsEditFor, LeadsTo, TellsEditOnly, config_of}
 use Rattle.config_zones.specs.Laws.{ZonesAreFound}
-use Rattle.zone_list.specs.Zones.{AreZones, IsZoneId, placed_in}
+use Rattle.zone_table.specs.Zones.{AreZones, IsZoneId, placed_in}
 use Rattle.zone_model.specs.Hosted.{HostedZone}
 use Rattle.zone_model.specs.Placed.{sets_of}
 use Rattle.zone_table.specs.Looking.{IsApex}

@@ -8,7 +8,7 @@ use Rattle.config_zones.specs.Edited.{hosted_in}
 use Rattle.config_model.specs.NewZones.{has_zone}
 use Rattle.config_zones.specs.Laws.{ZonesAreFound}
 use Rattle.dns_name.specs.Suffix.{EndsWith}
-use Rattle.zone_list.specs.Zones.{AreZones, HasName, IsOne, Zone}
+use Rattle.zone_table.specs.Zones.{AreZones, HasName, IsOne, Zone}
 use Rattle.zone_table.specs.Laws.{OneApex}
 use Rattle.zone_table.specs.Looking.{Holds, IsApex}
 

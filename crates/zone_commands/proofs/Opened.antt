@@ -32,8 +32,8 @@ use Rattle.dns_name.specs.Names.{IsName}
 use Rattle.record_set.specs.Sets.{key_of}
 use Rattle.record_set.specs.declared.sets.RecordSet.{RecordSet}
 use Rattle.set_octets.specs.Octets.{HasSpelling, set_octets}
-use Rattle.zone_list.specs.Changes.{CanBeAdded}
-use Rattle.zone_list.specs.Zones.{AreZones, HasName, IsOne, IsZoneId, Zone, hosted}
+use Rattle.zone_table.specs.Changes.{CanBeAdded}
+use Rattle.zone_table.specs.Zones.{AreZones, HasName, IsOne, IsZoneId, Zone, hosted}
 use Rattle.zone_model.specs.Hosted.{HostedZone}
 use Rattle.zone_table.specs.Counted.{octets_in_all, sets_in_all}
 use Rattle.zone_table.specs.Edits.{Edits, IsAllowed}

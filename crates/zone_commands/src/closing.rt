@@ -7,7 +7,7 @@ ghost use Rattle.command_octets.specs.declared.commands.Command.TheVariants.{Del
 ghost use Rattle.config_model.specs.NewZones.{is_another, is_of_zone};
 ghost use Rattle.config_zones.specs.Configured.{TellsEditOnly, config_of};
 ghost use Rattle.set_scratch.specs.Holding.{IsHolding};
-ghost use Rattle.zone_list.specs.Zones.{placed_in};
+ghost use Rattle.zone_table.specs.Zones.{placed_in};
 ghost use Rattle.zone_model.specs.Placed.{sets_of};
 
 use config_model::Refusal;

@@ -11,7 +11,7 @@ use Rattle.zone_model.specs.Zones.{IsAmong, IsRising}
 use Rattle.zone_model.specs.Placed.{Placed, IsTaken, sets_of}
 use Rattle.zone_model.proofs.Among.{among_at}
 use Rattle.zone_model.proofs.Lists.{split_at}
-use Rattle.zone_order.proofs.Rising.{rising_taken}
+use Rattle.zone_changes.proofs.Rising.{rising_taken}
 use Rattle.zone_list.specs.declared.refs.SetRef.{SetRef}
 use Rattle.zone_list.specs.Changes.{AreThere, IsKeyOf}
 use Rattle.zone_list.specs.Steps.{HasCome, IsOfKey, Leaves, Leavings}

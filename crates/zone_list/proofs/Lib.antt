@@ -6,3 +6,7 @@ pub mod Looking
 pub mod Made
 pub mod Members
 pub mod Naming
+pub use Rattle.zone_changes.proofs.Cells
+pub use Rattle.zone_changes.proofs.Lists
+pub use Rattle.zone_changes.proofs.Orders
+pub use Rattle.zone_changes.proofs.Slots

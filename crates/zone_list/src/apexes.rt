@@ -72,7 +72,7 @@ impl Apexes {
         ensures { self.new ≡ self.old }
     {
         self.list.reserve(1)?;
-        self.hints.widen(self.list.len().saturating_add(1));
+        self.hints.grow(self.list.len().saturating_add(1));
         Ok(())
     }
 

@@ -11,15 +11,15 @@ ghost use Rattle.zone_model.specs.Placed.{sets_of};
 ghost use Rattle.zone_list.specs.Changes.{AreThere, ref_in};
 ghost use Rattle.zone_list.specs.Steps.{cells_in_all, Comings, FoundBetween};
 ghost use Rattle.zone_list.specs.Steps.{Leaves, Leavings, PlaceOrNone};
-ghost use Rattle.zone_order.specs.Orders.{IsOrder, OthersStay, placed_of};
+ghost use Rattle.zone_changes.specs.Orders.{IsOrder, OthersStay, placed_of};
 
 use crate::refs::SetRef;
 use record_set::{RecordSet, SetKey};
-use zone_changes::{Sums, come, go};
+use zone_changes::{SetStore, Sums, come, go, of_zone, take_at};
 use zone_model::{key_cmp, keys_are_ordered};
-use zone_order::{SetStore, of_zone, take_at};
 
-/// These sets come into a zone, and their references are told.
+/// These sets come into a zone, and their references are told. The hint is where the first of them
+/// may stand; where they come in zone order, each other one is looked for behind the one before.
 pub fn come_all(
     store: &mut SetStore,
     zone: u32,
@@ -28,6 +28,7 @@ pub fn come_all(
     buffer: &mut [u8],
     added: &mut Vec<SetRef>,
     sums: &mut Sums,
+    near: Option<usize>,
 )
     requires order { IsOrder store.old.slots zone order.old.items }
     requires spelled { AllByRecursion HasSpelling add.now }
@@ -47,8 +48,9 @@ pub fn come_all(
     ensures sets { store.new.free + length order.new.items
         ≡ store.old.free + length order.old.items }
 {
+    let mut hint = near;
     for set in add {
-        let slot = come(store, zone, order, set, buffer, sums);
+        let slot = come(store, zone, order, set, buffer, sums, &mut hint);
         of_zone(store, zone, order);
         added.push_reserved(SetRef { zone, slot });
     }

@@ -3,19 +3,16 @@
 //! A hint is tried and never trusted: no contract speaks of what the table holds, so nothing has to
 //! be mended where sets come and go. It is made anew once enough of them did.
 
-ghost use Rattle.zone_order.specs.Orders.{IsOrder};
+ghost use Rattle.zone_changes.specs.Orders.{IsOrder};
 
 use crate::apexes::Apex;
-use zone_order::{SetStore, hash_of};
+use zone_changes::{SetStore, hash_of};
 
 /// An entry that tells nothing.
 const NOTHING: u32 = 0xffff_ffff;
 
 /// How many entries in a row are tried.
 const TRIES: usize = 8;
-
-/// A zone of fewer sets has no table.
-const FEWEST: usize = 16;
 
 /// A flat table: an entry has eight bits of a hash and the place of the first set of that name.
 #[derive(Drop)]
@@ -57,18 +54,11 @@ impl Hints {
     /// Makes the table larger where it is small for so many places. It stays as it is where there
     /// is no memory.
     pub fn grow(&mut self, places: usize) {
-        if places >= FEWEST {
-            self.widen(places);
-        }
-    }
-
-    /// The same for few places too.
-    pub fn widen(&mut self, places: usize) {
         let size = self.entries.len();
         if places <= size - size / 8 {
             return;
         }
-        let more = places.saturating_add(places / 4) - size;
+        let more = places.saturating_add(places / 4).saturating_add(TRIES) - size;
         if self.entries.reserve_exact(more).is_err() {
             return;
         }
@@ -85,7 +75,7 @@ impl Hints {
         requires { IsOrder store.now.slots zone order.now }
     {
         self.moved = self.moved.saturating_add(moved);
-        if self.moved > order.len() / 16 + FEWEST {
+        if self.moved > order.len() / 16 {
             clear(&mut self.entries);
             fill(&mut self.entries, store, zone, order);
             self.moved = 0;
@@ -149,9 +139,9 @@ fn put(entries: &mut Vec<u32>, hash: u64, place: u32) {
     }
 }
 
-/// The entry at which a hash is looked for first.
+/// The entry at which a hash is looked for first: one with as many behind it as are tried.
 fn start_of(hash: u64, size: usize) -> usize {
-    ((hash >> 32) as usize).wrapping_mul(size) >> 32
+    ((hash >> 32) as usize).wrapping_mul(size.saturating_sub(TRIES - 1)) >> 32
 }
 
 /// The bits of a hash that an entry has.

@@ -17,4 +17,4 @@ pub use hints::Hints;
 pub use octets::OutOfMemory;
 pub use refs::{SetRef, SetRefs};
 pub use stored::StoredZone;
-pub use zone_changes::Sums;
+pub use zone_changes::{Scratch, SetStore, Sums, Watch, ZoneView, make_room, no_sums, view_of};

@@ -7,7 +7,7 @@ ghost use Rattle.set_octets.specs.Octets.{set_octets};
 ghost use Rattle.zone_changes.specs.Sums.{sums_of};
 ghost use Rattle.zone_list.specs.Changes.{CanChange, Changes, ref_in};
 ghost use Rattle.zone_list.specs.Steps.{cells_in_all};
-ghost use Rattle.zone_order.specs.Orders.{IsOrder, OthersStay, placed_of};
+ghost use Rattle.zone_changes.specs.Orders.{IsOrder, OthersStay, placed_of};
 
 use crate::changing::{clear, come_all, leave_all, tell_all};
 use crate::hints::Hints;
@@ -16,8 +16,7 @@ use dns_name::Name;
 use octets::OutOfMemory;
 use record_set::{RecordSet, SetKey};
 use std::marker::Model;
-use zone_changes::{Sums, no_sums};
-use zone_order::SetStore;
+use zone_changes::{SetStore, Sums, no_sums};
 
 /// A zone. Contracts see its number, its name, the slots of its sets in zone order, how many more
 /// of them it can take without memory, and what is counted of them.
@@ -153,6 +152,7 @@ impl StoredZone {
             ≡ store.old.free + length self.old.order }
     {
         let before = self.order.len();
+        let near = place_of_first(&self.hints, add);
         come_all(
             store,
             self.id,
@@ -161,6 +161,7 @@ impl StoredZone {
             buffer,
             added,
             &mut self.sums,
+            near,
         );
         let middle = self.order.len();
         leave_all(
@@ -193,5 +194,13 @@ impl StoredZone {
     {
         tell_all(store, &self.order, self.id, removed);
         clear(store, self.id, &mut self.order);
+    }
+}
+
+/// A place at which the first of these sets may stand: a hint, which may be wrong.
+fn place_of_first(hints: &Hints, sets: &[RecordSet]) -> Option<usize> {
+    match sets.first() {
+        Some(set) => hints.find(set.name.octets()),
+        None => None,
     }
 }

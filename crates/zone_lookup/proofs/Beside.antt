@@ -17,7 +17,7 @@ use Rattle.record_set.specs.declared.sets.RecordSet.{RecordSet}
 use Rattle.set_search.proofs.Below.{beside, ends_itself, exists_at, no_longer}
 use Rattle.set_search.specs.Found.{IsBelowAt, IsCount, IsFirstNamed}
 use Rattle.set_search.specs.declared.bounds.Bound.TheVariants as bound
-use Rattle.zone_list.specs.Zones.{StandsAlone, Zone, placed_in}
+use Rattle.zone_table.specs.Zones.{StandsAlone, Zone, placed_in}
 use Rattle.zone_model.proofs.Lists.{some_one}
 use Rattle.zone_model.specs.Existing.{Exists}
 use Rattle.zone_model.specs.Keys.{ident_cmp}

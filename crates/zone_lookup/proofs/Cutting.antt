@@ -6,7 +6,7 @@ use Rattle.std.proofs.lemmas.List.{length-append}
 use Rattle.dns_name.specs.Suffix.{EndsWith}
 use Rattle.rdata_layout.specs.declared.types.RType.TheVariants as rtype
 use Rattle.record_set.specs.declared.sets.RecordSet.{RecordSet}
-use Rattle.zone_list.specs.Zones.{Zone}
+use Rattle.zone_table.specs.Zones.{Zone}
 use Rattle.zone_model.specs.Hosted.{HostedZone}
 use Rattle.zone_model.specs.Zones.{group}
 use Rattle.zone_table.specs.declared.refs.Group.{Group}
@@ -16,7 +16,9 @@ use Rattle.answer_model.specs.Sections.{cut_above, cut_at}
 use Rattle.answer_model.specs.Zones.{or_else}
 use Rattle.policy_select.proofs.Targets.{as_many}
 use Rattle.policy_select.specs.Groups.{sets_in}
+use Rattle.zone_table.specs.Looking.{ServersAreAt}
 use Rattle.zone_lookup.specs.Cuts.{CutOrNone, GroupOrNone, IsCut}
+use Rattle.zone_lookup.specs.Served.{zone_of}
 
 -- the labels of a name are those before the other and its
 pub counts : (name other : List (List ℕ)) → (ends : EndsWith name other)
@@ -86,6 +88,16 @@ module _ (nearest : CutsAreNearest) (below : NamesBelow) (zone : HostedZone) whe
       let longer : length zone.apex < length (label ∷ parent) = omega (arith, one) in
       at_name label parent ends longer
       (none_above parent (parent_ends label parent zone.apex ends longer) (omega (arith, one)))
+
+-- where no NS set has another name than the apex there is none
+pub none_below : CutsAreNearest → (zones : List Zone) (id : ℕ) (apex name : List (List ℕ))
+    → ServersAreAt zones id apex → cut_above (zone_of zones id apex) name ≡ None
+none_below nearest zones id apex name at =
+    by (cut_above (zone_of zones id apex) name) (nearest (zone_of zones id apex) name)
+  where
+    by : (found : Option RecordSet) → NearestOrNone (zone_of zones id apex) name found → found ≡ None
+    by None none = refl
+    by (Some cut) is = absurd (is.0.below_apex.1 (at cut is.0.there is.0.servers))
 
 -- the NS sets of a name as the cut
 pub as_cut : (zones : List Zone) (zone : HostedZone) (name : List (List ℕ)) (found : Option Group)

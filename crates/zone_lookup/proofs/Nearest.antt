@@ -13,7 +13,7 @@ use Rattle.rdata_layout.specs.declared.types.RType.{RType}
 use Rattle.rdata_layout.specs.declared.types.RType.TheVariants as rtype
 use Rattle.record_set.specs.declared.sets.RecordSet.{RecordSet}
 use Rattle.set_search.proofs.Below.{ends_itself, no_longer, parent_or_above}
-use Rattle.zone_list.specs.Zones.{Zone}
+use Rattle.zone_table.specs.Zones.{Zone}
 use Rattle.zone_model.specs.Existing.{Exists, IsAncestor, IsClosest}
 use Rattle.zone_model.specs.Hosted.{HostedZone}
 use Rattle.zone_model.specs.Zones.{IsAmong, group, is_of_group}

@@ -8,11 +8,11 @@ use Rattle.std.proofs.lemmas.List.{length-map}
 use Rattle.std.proofs.lemmas.Option.{slice_get-map}
 use Rattle.policy_select.specs.Groups.{FewInGroups, sets_in_zone}
 use Rattle.record_set.specs.declared.sets.RecordSet.{RecordSet}
-use Rattle.zone_list.proofs.Listing.{its_placed}
-use Rattle.zone_list.proofs.Members.{in_all}
-use Rattle.zone_list.specs.Found.{IsNextZone}
-use Rattle.zone_list.specs.Zones.{AreZones, IsOne, StandsAlone, Zone, placed_in}
-use Rattle.zone_list.specs.declared.refs.SetRef.{SetRef}
+use Rattle.zone_table.proofs.Listing.{its_placed}
+use Rattle.zone_table.proofs.Members.{in_all}
+use Rattle.zone_table.specs.FoundZones.{IsNextZone}
+use Rattle.zone_table.specs.Zones.{AreZones, IsOne, StandsAlone, Zone, placed_in}
+use Rattle.zone_table.specs.SetRefRecord.{SetRef}
 use Rattle.zone_model.proofs.Among.{among_at}
 use Rattle.zone_model.specs.Placed.{Placed, sets_of}
 use Rattle.zone_model.specs.Zones.{IsAmong}

@@ -7,7 +7,7 @@ use Rattle.std.specs.Bool.{Decides}
 use Rattle.dns_name.specs.Labels.{wire}
 use Rattle.dns_name.specs.Wildcard.{wildcard}
 use Rattle.record_set.specs.declared.sets.RecordSet.{RecordSet}
-use Rattle.zone_list.specs.Zones.{AreZones, Zone, placed_in}
+use Rattle.zone_table.specs.Zones.{AreZones, Zone, placed_in}
 use Rattle.zone_model.specs.Existing.{Exists, IsClosest}
 use Rattle.zone_table.proofs.Looked.{apex_there}
 use Rattle.zone_table.specs.Looking.{IsApex}

@@ -1,7 +1,7 @@
 -- Zone cuts as groups of NS sets.
 use Rattle.std.specs.Prelude.{◌≡◌, ◌<◌, ℕ, List, [], Option, None, Some, slice_get}
 use Rattle.record_set.specs.declared.sets.RecordSet.{RecordSet}
-use Rattle.zone_list.specs.Zones.{Zone}
+use Rattle.zone_table.specs.Zones.{Zone}
 use Rattle.zone_model.specs.Hosted.{HostedZone}
 use Rattle.zone_table.specs.Looking.{IsGroupNow}
 use Rattle.zone_table.specs.declared.refs.Group.{Group}

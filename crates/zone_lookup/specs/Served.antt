@@ -1,6 +1,6 @@
 -- The zones from which queries are answered.
 use Rattle.std.specs.Prelude.{◌≡◌, ◌≢◌, ℕ, List, [], map, Option, None, Some}
-use Rattle.zone_list.specs.Zones.{Zone, IsOne, hosted}
+use Rattle.zone_table.specs.Zones.{Zone, IsOne, hosted}
 use Rattle.zone_model.specs.Hosted.{HostedZone}
 use Rattle.zone_model.specs.Placed.{sets_of}
 use Rattle.zone_table.specs.Looking.{IsApex}

@@ -12,11 +12,15 @@ use rdata_layout::RType;
 use zone_table::{Group, Zones};
 
 /// The NS sets of the zone cut above or at a name of a zone: of those below the apex it is the one
-/// nearest the apex.
+/// nearest the apex. Most zones have none, and no name is looked up then.
 pub fn cut_above(zones: &Zones, zone: u32, apex: &Name, name: &Name) -> Option<Group>
     requires { EndsWith name.now apex.now }
     ensures { CutOrNone zones.now.zones (zone_of zones.now.zones zone apex.now) name.now result }
 {
+    cuts_are_nearest();
+    if !zones.may_have_cuts(zone, apex) {
+        return None;
+    }
     cut_below(zones, zone, apex, name, name.labels() - apex.labels())
 }
 

@@ -5,7 +5,7 @@ ghost use Rattle.answer_model.specs.Sections.{is_zone};
 ghost use Rattle.answer_model.specs.Zones.{zone_for};
 ghost use Rattle.dns_name.specs.Suffix.{EndsWith};
 ghost use Rattle.policy_select.specs.Groups.{FewInGroups, sets_in_zone};
-ghost use Rattle.zone_list.specs.Zones.{placed_in};
+ghost use Rattle.zone_table.specs.Zones.{placed_in};
 ghost use Rattle.zone_table.specs.Looking.{IsApex};
 ghost use Rattle.zone_lookup.specs.Served.{AreServed, FoundOrNone, hosted_of, zone_of};
 

@@ -3,7 +3,7 @@
 ghost use Rattle.std.specs.Prelude.{◌≡◌, ◌≢◌, ◌≤◌, ◌<◌, ◌↔◌, ℕ, [], IsTrue, length, slice_get, Some};
 ghost use Rattle.policy_select.specs.Groups.{FewInGroups, sets_in_zone};
 ghost use Rattle.record_set.specs.declared.sets.RecordSet.{RecordSet};
-ghost use Rattle.zone_list.specs.Zones.{placed_in};
+ghost use Rattle.zone_table.specs.Zones.{placed_in};
 ghost use Rattle.zone_model.specs.Zones.{group};
 ghost use Rattle.zone_lookup.specs.Served.{AreServed};
 

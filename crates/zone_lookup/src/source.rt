@@ -4,7 +4,7 @@ ghost use Rattle.std.specs.Prelude.{◌≡◌, ◌≢◌, []};
 ghost use Rattle.answer_model.specs.Names.{source};
 ghost use Rattle.dns_name.specs.Suffix.{EndsWith};
 ghost use Rattle.policy_select.specs.Groups.{sets_in_zone};
-ghost use Rattle.zone_list.specs.Zones.{placed_in};
+ghost use Rattle.zone_table.specs.Zones.{placed_in};
 ghost use Rattle.zone_table.specs.Looking.{IsApex};
 ghost use Rattle.zone_lookup.specs.Standing.{IsNearest};
 

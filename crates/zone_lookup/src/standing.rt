@@ -8,7 +8,7 @@ ghost use Rattle.dns_name.specs.Suffix.{EndsWith};
 ghost use Rattle.policy_select.specs.Groups.{sets_in_zone};
 ghost use Rattle.record_set.specs.declared.sets.RecordSet.{RecordSet};
 ghost use Rattle.set_search.specs.Found.{IsFirstNamed};
-ghost use Rattle.zone_list.specs.Zones.{placed_in};
+ghost use Rattle.zone_table.specs.Zones.{placed_in};
 ghost use Rattle.zone_table.specs.Looking.{IsApex};
 ghost use Rattle.zone_lookup.specs.Served.{zone_of};
 ghost use Rattle.zone_lookup.specs.Standing.{AreBeside, FindsAsked, FindsTyped, IsNearest};

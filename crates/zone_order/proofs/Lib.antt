@@ -4,3 +4,4 @@ pub mod Slots
 pub mod Replaced
 pub mod Vacant
 pub mod Rising
+pub use Rattle.set_store.proofs.Lists

@@ -8,5 +8,5 @@ mod changes;
 mod views;
 
 pub use changes::{make_room, put_at, replace_at, take_at};
-pub use set_store::{SetStore, hash_of};
+pub use set_store::{Scratch, SetStore, Watch, hash_of};
 pub use views::{ZoneView, of_zone, view_of};

@@ -77,6 +77,10 @@ impl<'a> SetList for ZoneView<'a> {
     fn is_of(&self, place: usize, name: &Name, rtype: RType) -> bool {
         self.store.is_of(slot_at(self.order, place), name, rtype)
     }
+
+    fn type_at(&self, place: usize, name: &Name) -> Option<u16> {
+        self.store.type_at(slot_at(self.order, place), name)
+    }
 }
 
 /// The slot at a place.

@@ -5,11 +5,11 @@ use Rattle.std.specs.List.{AllByRecursion, insert, remove}
 use Rattle.std.proofs.lemmas.Bool.{cases_eq}
 use Rattle.std.proofs.lemmas.List.{map-append}
 use Rattle.record_set.specs.declared.sets.RecordSet.{RecordSet}
-use Rattle.set_store.specs.Stored.{Kept}
+use Rattle.zone_list.specs.Stored.{Kept}
 use Rattle.zone_model.specs.Zones.{IsAmong}
 use Rattle.zone_model.proofs.Lists.{all_put, all_taken, in_itself, in_put, in_taken, split, split_at}
-use Rattle.zone_order.specs.Orders.{IsOrder, IsOrderBy, OthersStay, placed_by, placed_of, set_in}
-use Rattle.zone_changes.specs.Sums.{sums_of}
+use Rattle.zone_list.specs.Orders.{IsOrder, IsOrderBy, OthersStay, placed_by, placed_of, set_in}
+use Rattle.zone_list.specs.Sums.{sums_of}
 use Rattle.zone_list.specs.Kept.{AreKept, HasId, Listed, named, named_of, Stands, zone_in, zones_in}
 use Rattle.zone_list.specs.Zones.{AreListed, CanStand, Zone}
 use Rattle.record_set.specs.declared.sets.SetKey.{SetKey}

@@ -1,5 +1,6 @@
 pub mod Apexes
 pub mod Apart
+pub mod Cuts
 pub mod Edited
 pub mod Holding
 pub mod Kept
@@ -10,3 +11,7 @@ pub mod Opening
 pub mod Rooms
 pub mod Sizes
 pub mod Totals
+pub use Rattle.zone_list.proofs.Listing
+pub use Rattle.zone_list.proofs.Members
+pub use Rattle.zone_list.proofs.Coming
+pub use Rattle.zone_list.proofs.Equation

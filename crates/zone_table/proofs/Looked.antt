@@ -5,22 +5,22 @@ use Rattle.std.specs.List.{AllByRecursion}
 use Rattle.std.proofs.lemmas.Bool.{eq-eqb, eqb-true}
 use Rattle.std.proofs.lemmas.List.{map-append}
 use Rattle.record_set.specs.declared.sets.RecordSet.{RecordSet}
-use Rattle.set_store.specs.Index.{no_set}
-use Rattle.set_store.specs.Stored.{IsKept, Kept, zone_told}
+use Rattle.zone_list.specs.Index.{no_set}
+use Rattle.zone_list.specs.Stored.{IsKept, Kept, zone_told}
 use Rattle.zone_model.specs.Placed.{IsHere, Placed, sets_of}
 use Rattle.zone_model.specs.Zones.{IsAmong}
 use Rattle.zone_model.specs.Existing.{Exists}
 use Rattle.zone_model.proofs.Lists.{take_more}
-use Rattle.zone_order.specs.Orders.{HasSet, IsOrder, of_zone, placed_at, placed_by, placed_of, set_in}
-use Rattle.zone_order.proofs.Orders.{at_place, there}
-use Rattle.zone_order.proofs.Slots.{its_kept}
+use Rattle.zone_list.specs.Orders.{HasSet, IsOrder, of_zone, placed_at, placed_by, placed_of, set_in}
+use Rattle.zone_list.proofs.Orders.{at_place, there}
+use Rattle.zone_list.proofs.Slots.{its_kept}
 use Rattle.zone_list.specs.Kept.{AreKept, Listed, zones_in}
 use Rattle.zone_list.specs.Zones.{AreZones, placed_in, StandsAlone, Zone}
 use Rattle.zone_list.proofs.Listing.{its_placed}
 use Rattle.zone_list.proofs.Members.{apex_exists, in_all}
 use Rattle.zone_list.specs.declared.refs.SetRef.{SetRef}
 use Rattle.rdata_layout.specs.declared.types.RType.{RType}
-use Rattle.set_scratch.specs.Telling.{target_of}
+use Rattle.zone_list.specs.Telling.{target_of}
 use Rattle.zone_table.specs.Looking.{IsApex, Names, Targets}
 use Rattle.zone_table.proofs.Naming.{its_sets, stands_here}
 

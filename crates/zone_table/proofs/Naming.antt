@@ -5,11 +5,11 @@ use Rattle.std.specs.List.{AllByRecursion}
 use Rattle.std.proofs.lemmas.List.{length-map}
 use Rattle.std.proofs.lemmas.Option.{slice_get_read, slice_get_within, slice_get-map}
 use Rattle.dns_name.specs.Suffix.{EndsWith}
-use Rattle.set_store.specs.Stored.{Kept}
+use Rattle.zone_list.specs.Stored.{Kept}
 use Rattle.zone_model.specs.Zones.{IsAmong}
 use Rattle.zone_model.proofs.Among.{among_at}
-use Rattle.zone_order.specs.Orders.{IsOrder, placed_at, placed_of, set_in}
-use Rattle.zone_order.proofs.Orders.{of_zone}
+use Rattle.zone_list.specs.Orders.{IsOrder, placed_at, placed_of, set_in}
+use Rattle.zone_list.proofs.Orders.{of_zone}
 use Rattle.zone_list.specs.Found.{IsAt, LongestOrNone, NextZoneOrNone}
 use Rattle.zone_list.specs.Kept.{AreKept, HasId, Listed, named, named_of, Stands, zone_in, zones_in}
 use Rattle.zone_list.specs.Zones.{AreListed, AreZones, IsZoneId, StandsAlone, Zone, placed_in}

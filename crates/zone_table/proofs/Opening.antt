@@ -5,15 +5,15 @@ use Rattle.std.specs.List.{AllByRecursion, take-map}
 use Rattle.std.proofs.lemmas.Bool.{cases_eq}
 use Rattle.std.proofs.lemmas.List.{map-append}
 use Rattle.record_set.specs.declared.sets.RecordSet.{RecordSet}
-use Rattle.set_store.specs.Stored.{Kept}
+use Rattle.zone_list.specs.Stored.{Kept}
 use Rattle.record_set.specs.Sets.{key_of}
 use Rattle.zone_model.specs.Placing.{IsThere}
 use Rattle.zone_model.proofs.Among.{among_at}
 use Rattle.zone_model.proofs.Lists.{drop_map, split}
-use Rattle.zone_order.specs.Orders.{IsOrder, placed_of}
+use Rattle.zone_list.specs.Orders.{IsOrder, placed_of}
 use Rattle.zone_list.specs.Changes.{CanBeAdded, CanChange, IsKeyOf}
 use Rattle.zone_list.specs.Found.{IsSplit}
-use Rattle.zone_changes.specs.Sums.{sums_of}
+use Rattle.zone_list.specs.Sums.{sums_of}
 use Rattle.zone_list.specs.Kept.{AreKept, HasId, Listed, named, named_of, Stands, zone_in, zones_in}
 use Rattle.zone_list.specs.Zones.{AreListed, CanStand, IsOne, Zone}
 use Rattle.zone_table.specs.declared.edits.ZoneEdit.TheVariants as edit

@@ -7,11 +7,11 @@ use Rattle.std.proofs.lemmas.Bool.{cases_eq}
 use Rattle.record_set.specs.declared.sets.RecordSet.{RecordSet}
 use Rattle.set_octets.specs.Octets.{HasSpelling, set_octets}
 use Rattle.cidr_commands.specs.Stored.{Stored}
-use Rattle.set_store.specs.Stored.{Kept, Store}
+use Rattle.zone_list.specs.Stored.{Kept, Store}
 use Rattle.zone_model.proofs.Among.{among_at}
-use Rattle.zone_order.specs.Orders.{IsOrderBy, placed_by, set_in}
-use Rattle.zone_changes.specs.declared.sums.Sums.{Sums}
-use Rattle.zone_changes.specs.Sums.{sums_of}
+use Rattle.zone_list.specs.Orders.{IsOrderBy, placed_by, set_in}
+use Rattle.zone_list.specs.SumsRecord.{Sums}
+use Rattle.zone_list.specs.Sums.{sums_of}
 use Rattle.zone_list.specs.Kept.{AreKept, HasId, Listed, named, named_of, Stands, zone_in, zones_in}
 use Rattle.zone_list.specs.Zones.{AreListed, CanStand, IsZoneId, placed_in, Zone}
 use Rattle.zone_list.proofs.Listing.{listed_at}

@@ -4,13 +4,13 @@ use Rattle.std.specs.Prelude.{◌==◌, slice_get}
 use Rattle.std.specs.List.{AllByRecursion, insert, remove, sum_by}
 use Rattle.std.proofs.lemmas.List.{length-map}
 use Rattle.std.proofs.lemmas.List.Sums.{sum_by-cons}
-use Rattle.set_scratch.specs.Telling.{is_alias}
-use Rattle.set_store.specs.Stored.{Kept, Store}
-use Rattle.zone_changes.proofs.Cells.{sum_insert, sum_remove, sum_set}
-use Rattle.zone_changes.specs.declared.sums.Sums.{Sums}
-use Rattle.zone_changes.specs.Sums.{aliases_in, aliases_of, octets_in, octets_of, one_of}
+use Rattle.zone_list.specs.Telling.{is_alias}
+use Rattle.zone_list.specs.Stored.{Kept, Store}
+use Rattle.zone_list.proofs.Cells.{sum_insert, sum_remove, sum_set}
+use Rattle.zone_list.specs.SumsRecord.{Sums}
+use Rattle.zone_list.specs.Sums.{aliases_in, aliases_of, octets_in, octets_of, one_of}
 use Rattle.zone_model.specs.Placed.{Placed}
-use Rattle.zone_order.specs.Orders.{placed_at, placed_of, set_in}
+use Rattle.zone_list.specs.Orders.{placed_at, placed_of, set_in}
 use Rattle.zone_list.specs.Kept.{AreKept, Listed, Stands, zone_in, zones_in}
 use Rattle.zone_list.specs.Zones.{CanStand, Zone, placed_in}
 use Rattle.zone_table.specs.Counted.{AreCounted, counted_in, octets_in_all, places_in, sets_in_all}
@@ -216,7 +216,7 @@ module _ (store : Store) (list : List Listed) (octets : ℕ) (kept : AreKept sto
       let places = few_places in
       omega (arith, is, all, bound, places)
 
-  few_in : (id : ℕ) → length (placed_in (zones_in store.slots list) id) < 2 ^ 32
+  pub few_in : (id : ℕ) → length (placed_in (zones_in store.slots list) id) < 2 ^ 32
   few_in id =
       let some = some_of_all (zones_in store.slots list) id in
       let all = all_places store.slots list in

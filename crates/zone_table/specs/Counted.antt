@@ -1,8 +1,8 @@
 -- What is counted of all zones.
 use Rattle.std.specs.Prelude.{◌≡◌, ◌+◌, ◌%◌, ◌^◌, ℕ, List, length}
 use Rattle.std.specs.List.{sum_by}
-use Rattle.set_store.specs.Stored.{Store}
-use Rattle.zone_changes.specs.Sums.{octets_of}
+use Rattle.zone_list.specs.Stored.{Store}
+use Rattle.zone_list.specs.Sums.{octets_of}
 use Rattle.zone_list.specs.Kept.{Listed}
 use Rattle.zone_list.specs.Zones.{Zone}
 

@@ -2,14 +2,16 @@
 use Rattle.std.specs.Prelude.{◌≡◌, ◌≤◌, ◌+◌, ℕ, List, length, Bool, true, false, Option, None, Some}
 use Rattle.dns_name.specs.Suffix.{EndsWith}
 use Rattle.rdata_layout.specs.declared.types.RType.{RType}
+use Rattle.rdata_layout.specs.declared.types.RType.TheVariants as rtype
 use Rattle.record_set.specs.declared.sets.RecordSet.{RecordSet}
 use Rattle.record_set.specs.declared.sets.SetKey.{SetKey}
 use Rattle.set_search.specs.declared.bounds.Bound.{Bound}
 use Rattle.set_search.specs.declared.bounds.Bound.TheVariants as bound
-use Rattle.set_scratch.specs.declared.telling.Watch.{Watch}
-use Rattle.set_scratch.specs.Telling.{target_of, watch_of}
+use Rattle.zone_list.specs.WatchRecord.{Watch}
+use Rattle.zone_list.specs.Telling.{target_of, watch_of}
 use Rattle.set_search.specs.Found.{IsCount, IsGroupAt}
 use Rattle.zone_model.specs.Placed.{Placed, IsHere, IsSlotAt, sets_of}
+use Rattle.zone_model.specs.Zones.{IsAmong}
 use Rattle.zone_table.specs.declared.refs.Group.{Group}
 use Rattle.zone_list.specs.declared.refs.SetRef.{SetRef}
 use Rattle.zone_list.specs.Zones.{Zone, IsOne, IsZoneId, placed_in}
@@ -102,3 +104,8 @@ IsApex zones id name = (zone : Zone) × IsOne zones zone × (zone.id ≡ id) × 
 abbrev pub ApexOrNone : List Zone → ℕ → Option (List (List ℕ)) → Type 0
 ApexOrNone zones id (Some name) = IsApex zones id name
 ApexOrNone zones id None = IsZoneId zones id → ⊥
+
+-- No NS set of the zone has another name.
+abbrev pub ServersAreAt : List Zone → (id : ℕ) → (name : List (List ℕ)) → Type 0
+ServersAreAt zones id name = (set : RecordSet) → IsAmong (sets_of (placed_in zones id)) set
+    → set.rtype ≡ rtype.Ns → set.name ≡ name

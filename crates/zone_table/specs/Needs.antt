@@ -5,8 +5,8 @@ use Rattle.std.specs.List.{AllByRecursion}
 use Rattle.std.specs.declared.alloc.Global.{Global}
 use Rattle.record_set.specs.declared.sets.RecordSet.{RecordSet}
 use Rattle.set_octets.specs.Octets.{HasSpelling, set_octets}
-use Rattle.set_store.specs.Stored.{Kept, Store}
-use Rattle.zone_changes.specs.declared.sums.Sums.{Sums}
+use Rattle.zone_list.specs.Stored.{Kept, Store}
+use Rattle.zone_list.specs.SumsRecord.{Sums}
 use Rattle.zone_list.specs.Kept.{Listed, zones_in}
 use Rattle.zone_list.specs.Steps.{cells_in_all}
 use Rattle.zone_list.specs.Zones.{placed_in}

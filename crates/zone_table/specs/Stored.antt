@@ -2,14 +2,14 @@
 use Rattle.std.specs.Prelude.{◌≡◌, ℕ, List, [], Bool, true, false, Option, None, Some}
 use Rattle.std.specs.Borrow.{Bor}
 use Rattle.record_set.specs.declared.sets.RecordSet.{RecordSet}
-use Rattle.set_store.specs.Stored.{IsKept, Kept}
+use Rattle.zone_list.specs.Stored.{IsKept, Kept}
 use Rattle.zone_list.specs.Kept.{Listed, zones_in}
 use Rattle.zone_list.specs.Zones.{IsZoneId, Zone, placed_in}
 use Rattle.zone_list.specs.declared.refs.SetRef.{SetRef}
 use Rattle.zone_table.specs.Looking.{Names}
 use Rattle.zone_model.specs.Placed.{sets_of}
 use Rattle.zone_model.specs.Zones.{IsRising}
-use Rattle.zone_order.specs.Orders.{IsOrder, placed_of}
+use Rattle.zone_list.specs.Orders.{IsOrder, placed_of}
 
 -- The slots are those of the zone with this number.
 pub record IsOrderIn (slots : List (Option Kept)) (list : List Listed) (id : ℕ)

@@ -17,7 +17,5 @@ pub use edits::{Ready, SetKeys, Sets, ZoneEdit};
 pub use laws::{one_apex, one_edit, sets_of_one};
 pub use octets::OutOfMemory;
 pub use refs::{Delta, Group};
-pub use set_scratch::Scratch;
-pub use set_store::Watch;
-pub use zone_list::{SetRef, SetRefs};
+pub use zone_list::{Scratch, SetRef, SetRefs, Watch};
 pub use zones::Zones;

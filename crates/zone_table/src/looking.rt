@@ -1,26 +1,25 @@
 //! A zone found by its number, with its sets in their order.
 
-ghost use Rattle.std.specs.Prelude.{◌≡◌, ◌<◌, ◌+◌, length, slice_get, Some, IfOk};
+ghost use Rattle.std.specs.Prelude.{◌≡◌, ◌<◌, ◌+◌, ◌^◌, ℕ, length, slice_get, Some, IfOk, false};
 ghost use Rattle.set_search.specs.Stops.{bound_of};
-ghost use Rattle.zone_changes.specs.Sums.{sums_of};
+ghost use Rattle.zone_list.specs.Sums.{sums_of};
 ghost use Rattle.zone_list.specs.Kept.{AreKept, named_of, zones_in};
 ghost use Rattle.zone_list.specs.Zones.{AreListed, placed_in};
 ghost use Rattle.zone_model.specs.Placed.{IsSlotAt, sets_of};
-ghost use Rattle.zone_order.specs.Orders.{IsOrder, placed_of};
-ghost use Rattle.zone_table.specs.Looking.{Loads, SlotAt, SlotBehind, Targets, Watches};
+ghost use Rattle.zone_list.specs.Orders.{IsOrder, placed_of};
+ghost use Rattle.zone_table.specs.Counted.{AreCounted};
+ghost use Rattle.zone_table.specs.Looking.{Loads, ServersAreAt, SlotAt, SlotBehind, Targets, Watches};
 ghost use Rattle.zone_table.specs.Stored.{GetsOrder, IsNamed, ViewsZone};
 
 use dns_name::Name;
 use octets::OutOfMemory;
 use rdata_layout::RType;
 use record_set::RecordSet;
-use set_scratch::Scratch;
 use set_search::{SetList, Stop, count_before};
-use set_store::{SetStore, Watch};
 use std::alloc::Global;
-use zone_changes::no_sums;
-use zone_list::{SetRef, StoredZone, Sums, find_zone};
-use zone_order::{ZoneView, view_of};
+use zone_list::{
+    Scratch, SetRef, SetStore, StoredZone, Sums, Watch, ZoneView, find_zone, no_sums, view_of,
+};
 
 /// The slots of a zone's sets, in zone order.
 pub fn order_of<'a>(store: &SetStore, list: &'a [StoredZone], zone: u32) -> Option<&'a [u32]>
@@ -78,8 +77,14 @@ fn slot_of(order: &[u32], place: usize) -> u32
     order[place]
 }
 
-/// The slot of the first set of a zone behind the bound.
-pub fn slot_behind(store: &SetStore, list: &[StoredZone], zone: u32, to: &Stop) -> Option<u32>
+/// The slot of the first set of a zone behind the bound, with a hint of its place.
+pub fn slot_behind(
+    store: &SetStore,
+    list: &[StoredZone],
+    zone: u32,
+    to: &Stop,
+    hint: Option<usize>,
+) -> Option<u32>
     requires { AreKept store.now.slots list.now }
     ensures { SlotBehind (placed_in (zones_in store.now.slots list.now) zone) (bound_of to.now)
         result }
@@ -87,7 +92,7 @@ pub fn slot_behind(store: &SetStore, list: &[StoredZone], zone: u32, to: &Stop) 
     let Some(sets) = view(store, list, zone) else {
         return None;
     };
-    let place = count_before(&sets, to, None);
+    let place = count_before(&sets, to, hint);
     if place < sets.count() {
         return Some(slot_in(store, list, zone, place, 0));
     }
@@ -113,6 +118,31 @@ pub fn sums_in(store: &SetStore, list: &[StoredZone], zone: u32) -> Sums
         Some(place) => list[place].sums(),
         None => no_sums(),
     }
+}
+
+/// Whether a zone may have NS sets of another name than this one. It has none where the names of
+/// all have together as many labels as if each were this one, which is the apex: no name of a zone
+/// has fewer.
+pub fn may_have_cuts(store: &SetStore, list: &[StoredZone], zone: u32, apex: &Name) -> bool
+    requires kept { AreKept store.now.slots list.now }
+    requires counted { (octets : ℕ) × AreCounted store.now list.now octets }
+    requires few { length store.now.slots < 2 ^ 32 }
+    ensures { result ≡ false
+        → ServersAreAt (zones_in store.now.slots list.now) zone apex.now }
+{
+    let Some(place) = find_zone(list, zone) else {
+        return false;
+    };
+    let found = &list[place];
+    if !found.apex().is_same(apex) {
+        return true;
+    }
+    let sums = found.sums();
+    let least = sums.servers.wrapping_mul(apex.labels() as u64);
+    if sums.labels == least {
+        return false;
+    }
+    true
 }
 
 /// Whether a reference names a set.

@@ -4,7 +4,7 @@ ghost use Rattle.std.specs.Prelude.{◌≡◌, ◌≤◌, ◌<◌, ◌+◌, ◌%
 ghost use Rattle.std.specs.Prelude.{vec_capacity};
 ghost use Rattle.std.specs.List.{AllByRecursion, insert};
 ghost use Rattle.set_octets.specs.Octets.{set_octets};
-ghost use Rattle.zone_changes.specs.Sums.{sums_of};
+ghost use Rattle.zone_list.specs.Sums.{sums_of};
 ghost use Rattle.zone_list.specs.Kept.{AreKept, Listed, zones_in};
 ghost use Rattle.zone_list.specs.Steps.{cells_in_all};
 ghost use Rattle.zone_list.specs.Zones.{placed_in};
@@ -17,8 +17,7 @@ ghost use Rattle.zone_table.specs.Needs.{CanTake, IsReadyFor};
 use crate::edits::{Ready, SetKeys, Sets, ZoneEdit};
 use crate::refs::Delta;
 use cidr_routing::Collections;
-use set_store::SetStore;
-use zone_list::{Apexes, SetRef, SetRefs, StoredZone, find_zone, first_from};
+use zone_list::{Apexes, SetRef, SetRefs, SetStore, StoredZone, find_zone, first_from};
 
 /// Notes the name of a zone that is opened, and forgets that of one that is closed.
 pub fn note_name(apexes: &mut Apexes, made: &ZoneEdit)

@@ -3,7 +3,7 @@
 ghost use Rattle.std.specs.Prelude.{◌≡◌, ◌≤◌, List, length, Option, IfOk, IfSome, OnOk};
 ghost use Rattle.std.specs.List.{AllByRecursion};
 ghost use Rattle.set_octets.specs.Octets.{HasSpelling, set_octets};
-ghost use Rattle.set_store.specs.Stored.{Kept};
+ghost use Rattle.zone_list.specs.Stored.{Kept};
 ghost use Rattle.zone_list.specs.Kept.{named_of, zones_in};
 ghost use Rattle.zone_list.specs.Steps.{cells_in_all};
 ghost use Rattle.zone_list.specs.Zones.{AreListed, placed_in};

@@ -1,24 +1,25 @@
 //! The zones of a server: each look-up and each edit, one call a question.
 
 ghost use Rattle.std.specs.Prelude.{◌≡◌, ◌≢◌, ◌≤◌, ◌<◌, ◌+◌, ◌%◌, ◌^◌, length, List, ℕ, []};
-ghost use Rattle.std.specs.Prelude.{IfOk, IsTrue, ◌↔◌};
+ghost use Rattle.std.specs.Prelude.{IfOk, IsTrue, ◌↔◌, false};
 ghost use Rattle.zone_model.specs.Existing.{Exists, IsAncestor, IsClosest};
 ghost use Rattle.zone_model.specs.Placed.{sets_of};
-ghost use Rattle.zone_changes.specs.Sums.{aliases_of, octets_of};
+ghost use Rattle.zone_list.specs.Sums.{aliases_of, octets_of};
 ghost use Rattle.zone_list.specs.Found.{NextZoneOrNone};
 ghost use Rattle.zone_list.specs.Zones.{AreZones, IsZoneId, placed_in};
 ghost use Rattle.zone_table.specs.Counted.{octets_in_all, sets_in_all};
 ghost use Rattle.zone_table.specs.Edits.{Edits, IsAllowed, IsReady, StayReady};
 ghost use Rattle.zone_table.specs.Edits.{collections_after};
 ghost use Rattle.zone_table.specs.Looking.{ApexOrNone, HoldsOrNone, IsApex, IsGroup, IsGroupNow};
-ghost use Rattle.zone_table.specs.Looking.{IsMember, IsNextSet, IsSetAt, Loads, Targets, Watches};
-ghost use Rattle.zone_table.specs.Looking.{bound_of};
+ghost use Rattle.zone_table.specs.Looking.{IsMember, IsNextSet, IsSetAt, Loads, ServersAreAt};
+ghost use Rattle.zone_table.specs.Looking.{Targets, Watches, bound_of};
 ghost use Rattle.zone_table.specs.Tables.{HaveSlotsApart, HaveSlotsBelow};
 ghost use Rattle.set_search.specs.Stops.{bound_of as told};
 
 use crate::edits::{Ready, ZoneEdit};
 use crate::looking::{
-    copies, hint_of, load, order_of, slot_at, slot_behind, slot_in, sums_in, target, view, watch,
+    copies, hint_of, load, may_have_cuts, order_of, slot_at, slot_behind, slot_in, sums_in, target,
+    view, watch,
 };
 use crate::making::{make, note_name};
 use crate::needs::{need_of, reserve_for, reserve_name};
@@ -28,13 +29,12 @@ use dns_name::Name;
 use octets::OutOfMemory;
 use rdata_layout::RType;
 use record_set::{RecordSet, SetKey};
-use set_scratch::Scratch;
 use set_search::{Stop, before_key, behind_key, closest_in, exists_in, group_in};
-use set_store::{SetStore, Watch};
 use std::alloc::Global;
 use std::marker::Model;
-use zone_list::{Apexes, SetRef, StoredZone, find_zone, longest, next_id};
-use zone_order::make_room;
+use zone_list::{
+    Apexes, Scratch, SetRef, SetStore, StoredZone, Watch, find_zone, longest, make_room, next_id,
+};
 
 /// The zones of a server, by rising number, and the sets of all of them.
 #[derive(Drop)]
@@ -166,6 +166,15 @@ impl Zones {
         sums_in(&self.store, &self.list, zone).aliases as usize
     }
 
+    /// Whether a zone may have NS sets below its apex, which is this name. `false` is told only
+    /// where none has another name, by what is counted of the zone's sets.
+    pub fn may_have_cuts(&self, zone: u32, apex: &Name) -> bool
+        ensures { result ≡ false → ServersAreAt self.now.zones zone apex.now }
+    {
+        self.store.slots();
+        may_have_cuts(&self.store, &self.list, zone, apex)
+    }
+
     /// How many sets all zones have.
     pub fn all_sets(&self) -> u64
         ensures { result ≡ sets_in_all self.now.zones }
@@ -233,9 +242,17 @@ impl Zones {
     pub fn group(&self, zone: u32, name: &Name, rtype: RType) -> Group
         ensures { IsGroup self.now.zones zone name.now rtype result }
     {
+        self.group_near(zone, name, rtype, None)
+    }
+
+    /// The same with a hint: a place at which they may stand, as that of the sets of the last name
+    /// where names are looked up in their order.
+    pub fn group_near(&self, zone: u32, name: &Name, rtype: RType, near: Option<usize>) -> Group
+        ensures { IsGroup self.now.zones zone name.now rtype result }
+    {
         match view(&self.store, &self.list, zone) {
             Some(sets) => {
-                let hint = hint_of(&self.list, zone, name);
+                let hint = hint_of(&self.list, zone, name).or(near);
                 let (start, length) = group_in(&sets, name, rtype, hint);
                 Group {
                     zone,
@@ -313,7 +330,8 @@ impl Zones {
     pub fn next_from(&self, zone: u32, from: &SetKey, past: bool) -> Option<SetRef>
         ensures { IsNextSet self.now.zones zone (bound_of from.now past) result }
     {
-        match slot_behind(&self.store, &self.list, zone, &stop_at(from, past)) {
+        let hint = hint_of(&self.list, zone, &from.name);
+        match slot_behind(&self.store, &self.list, zone, &stop_at(from, past), hint) {
             Some(slot) => Some(SetRef { zone, slot }),
             None => None,
         }

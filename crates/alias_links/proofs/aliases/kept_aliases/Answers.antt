@@ -1,8 +1,8 @@
 use Rattle.std.proofs.Common.{◌∙◌, ◌++◌, [], ◌∷◌, List, ap, arith}
 use Rattle.std.proofs.lemmas.List.{length-map}
 use Rattle.record_set.specs.declared.sets.RecordSet.{RecordSet}
-use Rattle.zone_list.proofs.Members.{filled}
-use Rattle.zone_list.specs.Zones.{placed_in}
+use Rattle.zone_table.proofs.Members.{filled}
+use Rattle.zone_table.specs.Zones.{placed_in}
 use Rattle.zone_model.specs.Placed.{Placed}
 use Rattle.alias_links.specs.After.{sets_in}
 use Rattle.alias_links.specs.Aliases.{kept_of}

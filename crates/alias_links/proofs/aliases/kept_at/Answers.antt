@@ -1,6 +1,6 @@
 use Rattle.std.proofs.Common.{◌∙◌, sym, subst}
 use Rattle.record_set.specs.declared.sets.SetKey.{SetKey}
-use Rattle.zone_list.specs.Changes.{IsKeyOf}
+use Rattle.zone_table.specs.Changes.{IsKeyOf}
 use Rattle.alias_links.proofs.Held.{no_target, not_some}
 use Rattle.alias_links.proofs.Kept.{set_if_stays, stays_not, values_go}
 use Rattle.alias_links.proofs.aliases.kept_at.Goals as goal

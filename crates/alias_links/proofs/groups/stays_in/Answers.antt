@@ -3,7 +3,7 @@ use Rattle.std.specs.Prelude.{slice_get}
 use Rattle.std.proofs.lemmas.Bool.{false≢true}
 use Rattle.record_set.specs.Sets.{key_of}
 use Rattle.record_set.specs.declared.sets.RecordSet.{RecordSet}
-use Rattle.zone_list.specs.Changes.{IsKeyOf}
+use Rattle.zone_table.specs.Changes.{IsKeyOf}
 use Rattle.alias_links.specs.After.{sets_in}
 use Rattle.alias_links.proofs.Grouped.{filled_at, member_at, place_in}
 use Rattle.alias_links.proofs.Looping.{one_more_from}

@@ -1,7 +1,7 @@
 use Rattle.std.proofs.Common.{◌≡◌, ℕ, ◌<◌, ◌+◌, slice_get, Some}
 use Rattle.record_set.specs.Sets.{key_of}
 use Rattle.record_set.specs.declared.sets.RecordSet.{RecordSet}
-use Rattle.zone_list.specs.Changes.{IsKeyOf}
+use Rattle.zone_table.specs.Changes.{IsKeyOf}
 use Rattle.alias_links.specs.After.{sets_in}
 use Rattle.alias_links.proofs.groups.stays_in.Given as goal
 

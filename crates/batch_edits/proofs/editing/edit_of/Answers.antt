@@ -2,7 +2,7 @@ use Rattle.std.proofs.Common.{◌≡◌, ◌∙◌, ap, subst, sym, List}
 use Rattle.batch_model.specs.declared.batches.Change.{Change}
 use Rattle.batch_names.specs.Named.{named_in}
 use Rattle.record_set.specs.declared.sets.RecordSet.{RecordSet}
-use Rattle.zone_list.specs.Zones.{placed_in}
+use Rattle.zone_table.specs.Zones.{placed_in}
 use Rattle.zone_model.specs.Placed.{sets_of}
 use Rattle.zone_model.specs.Differences.{IsDifference}
 use Rattle.batch_edits.proofs.Whole.{edited_whole, few_of_zone, refused_whole}
@@ -55,6 +55,4 @@ returns-in-Ok-difference c =
     (subst (λ (s : List RecordSet). IsDifference s c.in-Ok-prepare.sets.items
     c.in-Ok-difference.edit.remove c.in-Ok-difference.edit.add)
     (c.as_slice-2.ensures.value ∙ sym c.as_slice.ensures.value)
-    (subst (λ (s : List RecordSet). IsDifference c.as_slice-2.result.now s
-    c.in-Ok-difference.edit.remove c.in-Ok-difference.edit.add) c.as_slice-3.ensures.value
-    c.in-Ok-difference.ensures))
+    c.in-Ok-difference.ensures)

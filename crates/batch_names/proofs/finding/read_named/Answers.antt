@@ -1,6 +1,6 @@
 use Rattle.std.proofs.Common.{◌∙◌, ◌++◌, ◌∷◌, [], ap, sym, arith}
 use Rattle.batch_names.proofs.Runs.{so_ends, so_more}
-use Rattle.zone_list.specs.Zones.{placed_in}
+use Rattle.zone_table.specs.Zones.{placed_in}
 use Rattle.zone_model.specs.Placed.{sets_of}
 use Rattle.batch_names.proofs.finding.read_named.Goals as goal
 use Rattle.std.proofs.lemmas.Option.{slice_get_within}

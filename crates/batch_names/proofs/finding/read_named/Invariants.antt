@@ -1,4 +1,4 @@
-use Rattle.zone_list.specs.Zones.{placed_in}
+use Rattle.zone_table.specs.Zones.{placed_in}
 use Rattle.zone_model.specs.Placed.{sets_of}
 use Rattle.batch_names.proofs.Runs.{ReadSo}
 use Rattle.batch_names.proofs.finding.read_named.Given as goal

@@ -3,8 +3,7 @@ use Rattle.std.specs.List.{AllByRecursion}
 use Rattle.std.proofs.lemmas.Bool.{false≢true}
 use Rattle.zone_soundness.proofs.Answered.{isnt}
 use Rattle.set_octets.specs.Octets.{HasSpelling}
-use Rattle.zone_table.specs.Edits.{IsAllowed}
-use Rattle.config_reading.proofs.Extending.{allowed, from_sound, has_room, is_last, sound_with}
+use Rattle.config_reading.proofs.Extending.{from_sound, has_room, is_last, is_new_zone, sound_with}
 use Rattle.config_reading.proofs.Extending.{to_sound, told_room, told_zone, zone_sound}
 use Rattle.config_reading.proofs.soundness.opens_soundly.Goals as goal
 
@@ -30,16 +29,15 @@ returns-then-not-is_last c =
     ∙ c.is_last.ensures.1 (is_last table checks next new.zone new.name new.sets
     (to_sound table checks next new.zone new.name new.sets c.args.edit.now new.is opens))))
 
-pub returns-then-not-is_allowed : goal.returns-then-not-is_allowed
-returns-then-not-is_allowed c =
+pub returns-then-not-is_new_zone : goal.returns-then-not-is_new_zone
+returns-then-not-is_new_zone c =
     let table = c.args.zones.now in
     let checks = c.args.checks.now.checks in
     let next = c.args.next_zone in
     let new = c.in-Open in
-    isnt (λ opens. false≢true (sym c.if-not-is_allowed.true
-    ∙ c.is_allowed.ensures.1 (subst (IsAllowed table.zones) (sym new.is)
-    (allowed table checks next new.zone new.name new.sets
-    (to_sound table checks next new.zone new.name new.sets c.args.edit.now new.is opens)))))
+    isnt (λ opens. false≢true (sym c.if-not-is_new_zone.true
+    ∙ c.is_new_zone.ensures.1 (is_new_zone table checks next new.zone new.name new.sets
+    (to_sound table checks next new.zone new.name new.sets c.args.edit.now new.is opens))))
 
 pub has_room-requires-clause-few : goal.has_room-requires-clause-few
 has_room-requires-clause-few c =
@@ -76,13 +74,12 @@ returns c =
     c.as_slice-sets.ensures
     c.in_ok-sound.sound c.in_ok-sound.ensures).0 c.if-not-sound.false in
     let last = c.is_last.ensures.0 c.if-not-is_last.false in
-    let may = subst (IsAllowed table.zones) new.is
-    (c.is_allowed.ensures.0 c.if-not-is_allowed.false) in
+    let is_new = c.is_new_zone.ensures.0 c.if-not-is_new_zone.false in
     let room = told_room table checks next new.zone new.name new.sets c.as_slice-sets.result.now
     c.as_slice-sets.ensures c.has_room.result c.has_room.ensures in (
       λ t. from_sound table checks next new.zone new.name new.sets c.args.edit.now new.is
           (let fits = room.0 t in
-          sound_with table checks next new.zone new.name new.sets last.1 may c.requires sound
+          sound_with table checks next new.zone new.name new.sets last.1 is_new c.requires sound
           last.0 fits.0 fits.1),
       λ opens. room.1 (has_room table checks next new.zone new.name new.sets
           (to_sound table checks next new.zone new.name new.sets c.args.edit.now new.is opens)),

@@ -2,7 +2,7 @@ use Rattle.std.proofs.Common.{◌≡◌, ◌≤◌, ◌<◌, ◌+◌, ◌*◌, �
 use Rattle.std.specs.Prelude.{slice_get}
 use Rattle.health_gates.specs.Plan.{KeepsRoom, feeders_in}
 use Rattle.record_set.specs.declared.sets.RecordSet.{RecordSet}
-use Rattle.zone_list.specs.declared.refs.SetRef.{SetRef}
+use Rattle.zone_table.specs.SetRefRecord.{SetRef}
 use Rattle.zone_table.specs.Looking.{Names}
 use Rattle.health_planning.specs.Building.{AreWithin, FeedsSet}
 use Rattle.health_planning.proofs.joining.join_sets.Given as goal

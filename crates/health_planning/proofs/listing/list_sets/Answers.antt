@@ -1,11 +1,11 @@
 use Rattle.std.proofs.Common.{◌≡◌, arith, refl, ◌∙◌, inl, inr}
 use mathlib.Core.Path.{subst}
 use Rattle.std.proofs.lemmas.Bool.{cases_lt}
-use Rattle.zone_list.specs.Changes.{ref_in}
-use Rattle.zone_list.specs.Found.{NextZoneOrNone}
+use Rattle.zone_table.specs.Changes.{ref_in}
+use Rattle.zone_table.specs.FoundZones.{NextZoneOrNone}
 use Rattle.health_planning.proofs.ListedOnce.{its_zone, up_to}
-use Rattle.zone_list.proofs.Members.{in_all}
-use Rattle.zone_list.specs.Zones.{StandsAlone}
+use Rattle.zone_table.proofs.Members.{in_all}
+use Rattle.zone_table.specs.Zones.{StandsAlone}
 use Rattle.health_planning.proofs.listing.list_sets.Goals as goal
 
 pub loop-next-init : goal.loop-next-init

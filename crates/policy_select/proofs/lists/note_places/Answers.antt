@@ -1,4 +1,4 @@
-use Rattle.std.proofs.Common.{arith}
+use Rattle.std.proofs.Common.{arith, refl}
 use Rattle.std.specs.Option.{unwrap_or}
 use Rattle.choice_model.specs.Choice.{each}
 use Rattle.choice_model.specs.Policies.{place_of}
@@ -11,14 +11,13 @@ pub loop-i-preserved : goal.loop-i-preserved
 loop-i-preserved c =
     let first = c.args.first.now in
     let sets = sets_in c.args.zones.now.zones c.args.group in
-    let read = c.routing_at.ensures.routing in
-    let said = said_at place_of first sets c.loop-i.i read.0 c.routing_at.result
-    c.place_or.result read.1 read.2
-    c.place_or.ensures in
+    let read = c.place_at.ensures in
+    let said = said_at place_of first sets c.loop-i.i read.0 read.0.routing
+    c.place_at.result read.1 refl read.2 in
     let within = c.loop-i-test.true in
     let long = c.loop-i.auto.places in
     let room = c.requires.room in
-    noted_more (each place_of first sets) c.loop-i.places c.loop-i.i c.place_or.result
+    noted_more (each place_of first sets) c.loop-i.places c.loop-i.i c.place_at.result
     (omega (arith, within, long, room)) said c.loop-i.invariant
 
 pub returns-clause-noted : goal.returns-clause-noted

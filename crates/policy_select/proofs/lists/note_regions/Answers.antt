@@ -1,4 +1,4 @@
-use Rattle.std.proofs.Common.{arith}
+use Rattle.std.proofs.Common.{arith, refl}
 use Rattle.std.specs.Option.{unwrap_or}
 use Rattle.choice_model.specs.Choice.{each}
 use Rattle.choice_model.specs.Policies.{region_of}
@@ -11,14 +11,13 @@ pub loop-i-preserved : goal.loop-i-preserved
 loop-i-preserved c =
     let first = c.args.first.now in
     let sets = sets_in c.args.zones.now.zones c.args.group in
-    let read = c.routing_at.ensures.routing in
-    let said = said_at region_of first sets c.loop-i.i read.0 c.routing_at.result
-    c.region_or.result read.1 read.2
-    c.region_or.ensures in
+    let read = c.region_at.ensures in
+    let said = said_at region_of first sets c.loop-i.i read.0 read.0.routing
+    c.region_at.result read.1 refl read.2 in
     let within = c.loop-i-test.true in
     let long = c.loop-i.auto.regions in
     let room = c.requires.room in
-    noted_more (each region_of first sets) c.loop-i.regions c.loop-i.i c.region_or.result
+    noted_more (each region_of first sets) c.loop-i.regions c.loop-i.i c.region_at.result
     (omega (arith, within, long, room)) said c.loop-i.invariant
 
 pub returns-clause-noted : goal.returns-clause-noted

@@ -1,4 +1,4 @@
-use Rattle.std.proofs.Common.{arith}
+use Rattle.std.proofs.Common.{arith, refl}
 use Rattle.std.specs.Option.{unwrap_or}
 use Rattle.choice_model.specs.Choice.{each}
 use Rattle.choice_model.specs.Policies.{role_of}
@@ -11,14 +11,13 @@ pub loop-i-preserved : goal.loop-i-preserved
 loop-i-preserved c =
     let first = c.args.first in
     let sets = sets_in c.args.zones.now.zones c.args.group in
-    let read = c.routing_at.ensures.routing in
-    let said = said_at role_of first sets c.loop-i.i read.0 c.routing_at.result
-    c.role_or.result read.1 read.2
-    c.role_or.ensures in
+    let read = c.role_at.ensures in
+    let said = said_at role_of first sets c.loop-i.i read.0 read.0.routing
+    c.role_at.result read.1 refl read.2 in
     let within = c.loop-i-test.true in
     let long = c.loop-i.auto.roles in
     let room = c.requires.room in
-    noted_more (each role_of first sets) c.loop-i.roles c.loop-i.i c.role_or.result
+    noted_more (each role_of first sets) c.loop-i.roles c.loop-i.i c.role_at.result
     (omega (arith, within, long, room)) said c.loop-i.invariant
 
 pub returns-clause-noted : goal.returns-clause-noted

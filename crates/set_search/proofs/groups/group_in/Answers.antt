@@ -15,9 +15,10 @@ returns g c =
     c.count_before-start.result c.end_from-end.result
     c.count_before-start.ensures c.end_from-end.ensures
 
-pub group_round-requires-clause-member : goal.group_round-requires-clause-member
-group_round-requires-clause-member g c =
+pub group_beside-requires-clause-typed : goal.group_beside-requires-clause-typed
+group_beside-requires-clause-typed g c =
     let count = c.count.ensures in
     let inside = c.if-place-count.true in
     let x = filled (g.S.SetList.sets c.args.sets.now) c.in-Some.place (omega (arith, count, inside)) in
-    (x.0, x.1, (c.is_of.ensures x.0 x.1).0 c.if-is_of.true)
+    let told = c.in-Some-type_at.ensures x.0 x.1 in
+    (x.0, x.1, told.0, told.1)

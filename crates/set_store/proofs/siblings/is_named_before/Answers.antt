@@ -1,5 +1,5 @@
 use Rattle.std.proofs.Common.{arith}
-use Rattle.set_parts.proofs.Fronts as keys
+use Rattle.set_scratch.proofs.Fronts as keys
 use Rattle.set_store.proofs.Fronts.{fronted}
 use Rattle.set_store.proofs.Beside.{enough, fits, in_order, told_of}
 use Rattle.set_store.proofs.siblings.is_named_before.Goals as goal

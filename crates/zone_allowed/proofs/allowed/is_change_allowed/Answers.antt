@@ -1,6 +1,6 @@
 use Rattle.std.proofs.Common.{List, ℕ, arith, subst}
-use Rattle.zone_list.specs.Changes.{CanChange}
-use Rattle.zone_list.specs.Zones.{placed_in}
+use Rattle.zone_table.specs.Changes.{CanChange}
+use Rattle.zone_table.specs.Zones.{placed_in}
 use Rattle.zone_allowed.proofs.allowed.is_change_allowed.Goals as goal
 
 pub returns : goal.returns

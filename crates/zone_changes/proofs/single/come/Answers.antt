@@ -94,7 +94,7 @@ returns-in-Ok-clause-sums c =
     (c.replace_at.ensures.replaced c.args.set.now c.spell-octets.ensures.spells))
     c.args.sums.now c.with_set-counted.result c.without_at.result c.requires.sums
     (c.with_set-counted.ensures given refl (ap length c.spell-octets.ensures.spells.same))
-    c.without_at.ensures.octets c.without_at.ensures.aliases (c.without_at.ensures.without was there)
+    c.without_at.ensures.small (c.without_at.ensures.without was there)
 
 pub returns-in-Err-clause-sums : goal.returns-in-Err-clause-sums
 returns-in-Err-clause-sums c =

@@ -22,5 +22,5 @@ returns-clause-sums c =
     let taken = c.take_at.ensures.taken in
     taken_sums (placed_of c.args.store.now.slots c.args.zone c.args.order.now.items) c.in-Ok.place
     c.take_at.result _ taken c.args.sums.now c.without_at.result c.requires.sums
-    c.without_at.ensures.octets c.without_at.ensures.aliases
+    c.without_at.ensures.small
     (c.without_at.ensures.without (record { slot = c.take_at.result; set = taken.set }) taken.there)

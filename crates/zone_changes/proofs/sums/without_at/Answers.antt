@@ -15,9 +15,16 @@ is_alias-requires c =
     c.args.place c.slot_at-slot.result c.slot_at-slot.ensures in
     (record { zone = c.args.zone; set = it.0 }, it.1)
 
+pub server_labels-requires : goal.server_labels-requires
+server_labels-requires c =
+    let it = kept_at c.args.store.now.slots c.args.zone c.args.order.now.items c.requires.order.present
+    c.args.place c.slot_at-slot.result c.slot_at-slot.ensures in
+    (record { zone = c.args.zone; set = it.0 }, it.1)
+
 pub returns-clause-without : goal.returns-clause-without
 returns-clause-without c = λ was is.
     let kept = kept_there c.args.store.now.slots c.args.zone c.args.order.now.items c.requires.order.present
     c.args.place c.slot_at-slot.result c.slot_at-slot.ensures was is in
     c.without.ensures.without was (c.size.ensures (record { zone = c.args.zone; set = was.set }) kept)
     (ap one_of (c.is_alias.ensures (record { zone = c.args.zone; set = was.set }) kept))
+    (c.server_labels.ensures (record { zone = c.args.zone; set = was.set }) kept)

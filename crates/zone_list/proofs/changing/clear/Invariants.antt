@@ -1,5 +1,5 @@
 use Rattle.std.proofs.Common.{◌≡◌, ◌+◌, length}
-use Rattle.zone_order.specs.Orders.{IsOrder, OthersStay}
+use Rattle.zone_changes.specs.Orders.{IsOrder, OthersStay}
 use Rattle.zone_list.proofs.changing.clear.Given as goal
 
 abbrev pub invariant-loop-order : goal.invariant-loop-order

@@ -1,6 +1,6 @@
 use Rattle.std.proofs.Common.{◌≡◌, [], List, drop, sym, subst, refl, arith}
 use Rattle.record_set.specs.declared.sets.RecordSet.{RecordSet}
-use Rattle.zone_order.specs.Orders.{placed_of}
+use Rattle.zone_changes.specs.Orders.{placed_of}
 use Rattle.zone_list.specs.declared.refs.SetRef.{SetRef}
 use Rattle.zone_list.specs.Steps.{Comings}
 use Rattle.zone_list.proofs.Members.{nothing_left}

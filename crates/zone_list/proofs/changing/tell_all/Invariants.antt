@@ -1,5 +1,5 @@
 use Rattle.std.proofs.Common.{◌≡◌, map, take}
-use Rattle.zone_order.specs.Orders.{placed_of}
+use Rattle.zone_changes.specs.Orders.{placed_of}
 use Rattle.zone_list.specs.Changes.{ref_in}
 use Rattle.zone_list.proofs.changing.tell_all.Given as goal
 

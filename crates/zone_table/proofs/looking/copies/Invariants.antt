@@ -1,6 +1,6 @@
 use Rattle.std.proofs.Common.{◌≡◌, take}
 use Rattle.zone_model.specs.Placed.{sets_of}
-use Rattle.zone_order.specs.Orders.{placed_of}
+use Rattle.zone_list.specs.Orders.{placed_of}
 use Rattle.zone_table.proofs.looking.copies.Given as goal
 
 abbrev pub invariant-loop-slot : goal.invariant-loop-slot

@@ -1,5 +1,5 @@
 use Rattle.std.proofs.Common.{◌∙◌, ap, sym}
-use Rattle.zone_changes.specs.Sums.{sums_of}
+use Rattle.zone_list.specs.Sums.{sums_of}
 use Rattle.zone_model.proofs.Among.{among_at}
 use Rattle.zone_list.specs.Kept.{zones_in}
 use Rattle.zone_list.specs.Zones.{placed_in}

@@ -5,7 +5,7 @@ use Rattle.record_set.specs.declared.sets.RecordSet.{RecordSet}
 use Rattle.record_set.specs.declared.sets.SetKey.{SetKey}
 use Rattle.set_octets.specs.Octets.{set_octets}
 use Rattle.zone_model.proofs.Among.{among_at}
-use Rattle.zone_order.specs.Orders.{placed_of}
+use Rattle.zone_list.specs.Orders.{placed_of}
 use Rattle.zone_list.specs.Changes.{CanChange, Changes}
 use Rattle.zone_list.specs.Found.{IsAt}
 use Rattle.zone_list.specs.Kept.{Listed, named_of, Stands, zone_in, zones_in}
@@ -14,7 +14,7 @@ use Rattle.zone_table.specs.declared.edits.ZoneEdit.TheVariants.{Change}
 use Rattle.zone_table.proofs.Edited.{changed_edits, its_can, told}
 use Rattle.zone_table.proofs.Kept.{changed_kept, changed_stands, changed_zones, whole_zones}
 use Rattle.zone_table.proofs.Naming.{in_map, inside_of, it_is, one_named, stands_here, with_sets}
-use Rattle.set_store.proofs.Lists.{get_same}
+use Rattle.zone_list.proofs.Lists.{get_same}
 use Rattle.zone_table.proofs.Totals.{changed_counted}
 use Rattle.zone_table.proofs.making.change.Goals as goal
 

@@ -2,7 +2,7 @@ use Rattle.std.proofs.Common.{◌≡◌, ◌≤◌, ◌∙◌, ◌+◌, ◌%◌,
 use Rattle.std.specs.List.{AllByRecursion, insert}
 use Rattle.record_set.specs.declared.sets.RecordSet.{RecordSet}
 use Rattle.set_octets.specs.Octets.{set_octets}
-use Rattle.zone_order.specs.Orders.{IsOrder, OthersStay, placed_of}
+use Rattle.zone_list.specs.Orders.{IsOrder, OthersStay, placed_of}
 use Rattle.zone_list.specs.Changes.{CanChange, Changes}
 use Rattle.zone_list.specs.Found.{IsSplit}
 use Rattle.zone_list.specs.Kept.{AreKept, Listed, named_of, Stands, zone_in, zones_in}
@@ -12,7 +12,7 @@ use Rattle.zone_table.proofs.Edited.{opened_edits, told}
 use Rattle.zone_table.proofs.Kept.{changed_stands, opened_kept, opened_zones, part_zones}
 use Rattle.zone_table.proofs.Opening.{can_open, empty_order, listed_with, new_id, stands_empty}
 use Rattle.zone_table.proofs.Naming.{one_with, with_sets}
-use Rattle.zone_changes.specs.declared.sums.Sums.{Sums}
+use Rattle.zone_list.specs.SumsRecord.{Sums}
 use Rattle.zone_table.specs.Counted.{AreCounted}
 use Rattle.zone_table.proofs.Totals.{opened_counted}
 use Rattle.zone_table.proofs.making.open.Goals as goal

@@ -1,6 +1,6 @@
 use Rattle.std.proofs.Common.{◌∙◌, [], List, length, ap, subst, sym}
-use Rattle.zone_order.specs.Orders.{IsOrder, placed_of, set_in}
-use Rattle.zone_order.proofs.Orders.{of_zone}
+use Rattle.zone_changes.specs.Orders.{IsOrder, placed_of, set_in}
+use Rattle.zone_changes.proofs.Orders.{of_zone}
 use Rattle.zone_list.specs.declared.refs.SetRef.{SetRef}
 use Rattle.zone_list.specs.Changes.{CanChange, Changes}
 use Rattle.zone_list.specs.Kept.{Listed}

@@ -1,6 +1,6 @@
 use Rattle.std.proofs.Common.{◌≡◌, ◌<◌, ◌^◌, List, length, ap, subst, ◌∙◌, arith}
-use Rattle.zone_changes.specs.declared.sums.Sums.{Sums}
-use Rattle.zone_changes.specs.Sums.{aliases_of, sums_of}
+use Rattle.zone_list.specs.SumsRecord.{Sums}
+use Rattle.zone_list.specs.Sums.{aliases_of, sums_of}
 use Rattle.zone_list.specs.Kept.{Listed, zones_in}
 use Rattle.zone_list.specs.Zones.{placed_in}
 use Rattle.zone_table.specs.Tables.{Table}

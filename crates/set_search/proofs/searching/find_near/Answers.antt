@@ -1,7 +1,7 @@
 use Rattle.std.proofs.Common.{arith, subst}
 use Rattle.set_search.specs.Found.{IsCount}
 use Rattle.set_search.proofs.Lookups.{found, not_found}
-use Rattle.set_search.proofs.searching.find.Goals as goal
+use Rattle.set_search.proofs.searching.find_near.Goals as goal
 
 pub returns-then-has_key : goal.returns-then-has_key
 returns-then-has_key g c =
