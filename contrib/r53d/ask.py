@@ -18,7 +18,10 @@ class Question:
     def __init__(self, place, folder):
         self.objects = program.dump(place.program, folder)
         self.world = world.World(self.objects)
-        self.world.places, self.world.latencies = world.read_tables(os.path.join(folder, "r53.tables"))
+        try:
+            self.world.places, self.world.latencies = world.read_tables(os.path.join(folder, "r53.tables"))
+        except ValueError:
+            raise Fault("%s: bad tables; r53ctl check-tables says where" % os.path.join(place.folder, "r53.tables")) from None
         self.session = program.Session(place.program, folder)
         self.replay(place.folder)
 
@@ -49,10 +52,15 @@ class Question:
             yield None if got["Reply"] is None else wire.read_reply(bytes.fromhex(got["Reply"]))
 
 
+def is_number(text):
+    """Whether a text is 1 to 20 decimal digits."""
+    return text.isascii() and text.isdigit() and len(text) <= 20
+
+
 def read_words(text):
     """Eight words from up to eight numbers with commas between. Raises Fault."""
     parts = text.split(",") if text else []
-    if len(parts) > 8 or not all(p.isdigit() and int(p) < 1 << 64 for p in parts):
+    if len(parts) > 8 or not all(is_number(p) and int(p) < 1 << 64 for p in parts):
         raise Fault("--words %s: not up to eight numbers below 2^64" % text)
     return [int(p) for p in parts] + [0] * (8 - len(parts))
 
@@ -64,7 +72,7 @@ def read_question(given):
     except names.NameFault as fault:
         raise Fault("%s: %s" % (given.name, fault)) from None
     kind = given.type.upper()
-    number = values.NUMBERS.get(kind) or (int(kind) if kind.isdigit() and int(kind) < 65536 else None)
+    number = values.NUMBERS.get(kind) or (int(kind) if is_number(kind) and int(kind) < 65536 else None)
     if number is None:
         raise Fault("%s: no type" % given.type)
     try:

@@ -1,5 +1,6 @@
-"""The program as a child: lines go in one behind another, and each has its reply."""
+"""The program as a child: lines go in one behind another, and each has its reply. And its dump, of which the checks are read."""
 import fcntl
+import json
 import os
 import signal
 import subprocess
@@ -33,11 +34,12 @@ class Child:
             [program, "run"], cwd=folder, stdin=subprocess.PIPE, stdout=subprocess.PIPE, stderr=subprocess.PIPE,
             pass_fds=(lock,), preexec_fn=dies_with_driver, process_group=0, bufsize=0)
         self.pending, self.out, self.into, self.scanned = deque(), bytearray(), bytearray(), 0
-        self.given, self.oldest = 0, 0.0
+        self.given, self.oldest, self.has_replied = 0, 0.0, False
         for pipe in (self.process.stdin, self.process.stdout):
             os.set_blocking(pipe.fileno(), False)
             widen(pipe)
         self.loop.set(self.process.stdout, READ, self.read)
+        self.loop.urgent.add(self.process.stdout.fileno())
 
     @property
     def is_free(self):
@@ -78,7 +80,7 @@ class Child:
             reply = bytes(self.into[:end + 1])
             del self.into[:end + 1]
             self.scanned = 0
-            self.oldest = time.monotonic()
+            self.oldest, self.has_replied = time.monotonic(), True
             self.pending.popleft()(reply)
         self.scanned = len(self.into)
 
@@ -94,15 +96,67 @@ class Child:
         """The program closed its output: it has ended, or is killed. Tells its status and its line on standard error."""
         self.end_input()
         self.loop.drop(self.process.stdout)
-        os.set_blocking(self.process.stderr.fileno(), False)
+        self.on_end(*status_of(self.process))
+
+
+def status_of(process):
+    """The exit status of a process that has ended, or is killed, and its line on standard error, which is closed."""
+    os.set_blocking(process.stderr.fileno(), False)
+    try:
+        status = process.wait(5)
+    except subprocess.TimeoutExpired:
+        process.kill()
+        status = process.wait()
+    text = (process.stderr.read(4096) or b"").decode("utf-8", "replace").strip()
+    process.stderr.close()
+    return status, text
+
+
+class Checks:
+    """A dump that is read as far as its health checks, which stand before all else.
+
+    `then` is called with the failure threshold of each endpoint's check by its number, None for that of each calculated one; or with
+    None, a status and a line where the dump ended by a fault.
+    """
+
+    def __init__(self, loop, program, folder, lock, then):
+        self.loop, self.then = loop, then
+        self.process = subprocess.Popen(
+            [program, "dump"], cwd=folder, stdin=subprocess.DEVNULL, stdout=subprocess.PIPE, stderr=subprocess.PIPE,
+            pass_fds=(lock,), preexec_fn=dies_with_driver, process_group=0, bufsize=0)
+        os.set_blocking(self.process.stdout.fileno(), False)
+        self.into, self.found = bytearray(), {}
+        self.loop.set(self.process.stdout, READ, self.read)
+
+    def read(self, _):
         try:
-            status = self.process.wait(5)
-        except subprocess.TimeoutExpired:
-            self.process.kill()
-            status = self.process.wait()
-        text = (self.process.stderr.read(4096) or b"").decode("utf-8", "replace").strip()
-        self.process.stderr.close()
-        self.on_end(status, text)
+            data = os.read(self.process.stdout.fileno(), PIPE)
+        except BlockingIOError:
+            return
+        if not data:
+            status, text = self.end()
+            if status:
+                self.then(None, status, text)
+            else:
+                self.then(self.found)
+            return
+        *lines, self.into = (self.into + data).split(b"\n")
+        for line in lines:
+            check = json.loads(line).get("HealthCheck")
+            if check is None:
+                self.kill()
+                self.then(self.found)
+                return
+            self.found[int(check["Id"][1:])] = check.get("FailureThreshold")
+
+    def end(self):
+        self.loop.drop(self.process.stdout)
+        return status_of(self.process)
+
+    def kill(self):
+        """Ends it; `then` isn't called any more."""
+        self.process.kill()
+        self.end()
 
 
 def widen(pipe):

@@ -1,10 +1,13 @@
 """The control socket: lines from many clients, and their replies in order.
 
-A client that reads no replies is read from no further, and its lines aren't handed over, once a mebibyte of them waits for it; nobody
-else waits for it.
+Of each client a few lines are read ahead. One that reads no replies is read from no further, and its lines aren't handed over, once a
+mebibyte of them waits for it; nobody else waits for it. A line that begins with an exclamation mark is for the driver itself, which answers
+it once those before it on the connection are answered, whatever the program does.
 """
+import errno
 import os
 import socket
+import stat
 import struct
 import time
 from collections import deque
@@ -13,7 +16,10 @@ from .loop import READ, WRITE
 
 MOST_LINE = 1048576
 MOST_WAITING = 1 << 20
+MOST_AHEAD = 1 << 14
+PIECE, LARGE = 1 << 13, 1 << 16
 MOST_CLIENTS = 200
+OVERHEAD = 128
 BLANKS = b" \t\r"
 
 
@@ -40,7 +46,7 @@ class Client:
 
     def read(self):
         try:
-            data = self.sock.recv(65536)
+            data = self.sock.recv(LARGE if len(self.part) > PIECE else PIECE)
         except BlockingIOError:
             return
         except OSError:
@@ -76,14 +82,14 @@ class Client:
             line = line[:-1] + b"x"
         if line.strip(BLANKS):
             self.lines.append((line, time.monotonic()))
-            self.waiting += len(line)
+            self.waiting += len(line) + OVERHEAD
             self.clients.may_go(self)
         self.rest_is_blank = True
 
     def take(self):
         """The next line that waits, and when it came."""
         line, came = self.lines.popleft()
-        self.waiting -= len(line)
+        self.waiting -= len(line) + OVERHEAD
         return line, came
 
     # ---- out
@@ -112,7 +118,7 @@ class Client:
         if self.ended and not (self.lines or self.busy or self.out):
             self.close()
             return
-        reads = not self.ended and self.waiting <= MOST_WAITING and len(self.out) <= MOST_WAITING
+        reads = not self.ended and self.waiting <= MOST_AHEAD and len(self.out) <= MOST_WAITING
         self.clients.loop.set(self.sock, (READ if reads else 0) | (WRITE if self.out else 0), self.on_event)
 
     def close(self):
@@ -127,7 +133,7 @@ class Clients:
 
     def __init__(self, loop, path, wake):
         self.loop, self.path, self.wake = loop, path, wake
-        self.all, self.turn, self.count = set(), deque(), 0
+        self.all, self.turn, self.asking, self.count = set(), deque(), deque(), 0
         self.sock = listen(path)
         self.loop.set(self.sock, READ, self.on_accept)
 
@@ -152,13 +158,24 @@ class Clients:
         """Puts a client among those whose turn comes, where it has a line and isn't there, and takes its replies."""
         if client.lines and not (client.in_turn or client.busy) and len(client.out) <= MOST_WAITING:
             client.in_turn = True
-            self.turn.append(client)
-            self.wake()
+            if client.lines[0][0][:1] == b"!":
+                self.asking.append(client)
+            else:
+                self.turn.append(client)
+                self.wake()
 
     def next(self):
-        """The client whose turn it is and that has a line, or None. It is busy until `done`."""
-        while self.turn:
-            client = self.turn.popleft()
+        """The client whose turn it is and that has a line for the program, or None. It is busy until `done`."""
+        return self.first(self.turn)
+
+    def next_asking(self):
+        """The same of the clients whose line is for the driver."""
+        return self.first(self.asking)
+
+    @staticmethod
+    def first(queue):
+        while queue:
+            client = queue.popleft()
             client.in_turn = False
             if client.lines:
                 client.busy = True
@@ -203,11 +220,28 @@ class Clients:
             client.close()
 
 
+def make_room(path):
+    """Removes a socket that was left at a path. Raises OSError where a process listens there, or where it is no socket."""
+    try:
+        if not stat.S_ISSOCK(os.lstat(path).st_mode):
+            raise FileExistsError(errno.EEXIST, "no socket is there", path)
+    except FileNotFoundError:
+        return
+    with socket.socket(socket.AF_UNIX, socket.SOCK_STREAM | socket.SOCK_NONBLOCK) as other:
+        try:
+            other.connect(path)
+        except ConnectionRefusedError:
+            os.unlink(path)
+            return
+        except BlockingIOError:
+            pass
+    raise OSError(errno.EADDRINUSE, "another process listens there", path)
+
+
 def listen(path):
     """A listening socket at a path, for its owner alone, in the place of one that was left there. Raises OSError."""
+    make_room(path)
     sock = socket.socket(socket.AF_UNIX, socket.SOCK_STREAM | socket.SOCK_CLOEXEC | socket.SOCK_NONBLOCK)
-    if os.path.exists(path):
-        os.unlink(path)
     mask = os.umask(0o177)
     try:
         sock.bind(path)

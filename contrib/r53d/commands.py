@@ -59,7 +59,7 @@ class Reader:
 # ---- sets
 
 def read_place(r):
-    kind = r.number(1)
+    kind = r.one_of({kind: kind for kind in (1, 2, 3, 4)})
     if kind == 1:
         return {"ContinentCode": r.one_of(CONTINENTS)}
     if kind == 2:
@@ -125,8 +125,8 @@ def check_ids(r):
 
 def read_check(r, version):
     """The HealthCheckConfig of a check."""
-    kind = r.number(1)
-    threshold = r.number(1 if kind == 1 else 2)
+    kind = r.one_of({1: 1, 2: 2})
+    threshold = r.number(kind)
     more = {"Inverted": r.flag()}
     if version >= 2:
         more["Disabled"] = r.flag()
@@ -137,7 +137,7 @@ def read_check(r, version):
 
 
 def read_block(r):
-    octets = r.take(4 if r.number(1) == 4 else 16)
+    octets = r.take(r.one_of({4: 4, 6: 16}))
     return "%s/%d" % (values.address_text(octets), r.number(1))
 
 
@@ -190,11 +190,14 @@ KINDS = {
 }
 
 
+KINDS_OF_1 = {kind: KINDS[kind] for kind in range(1, 7)}
+
+
 def read_command(octets):
     """The control line of a command's octets. Raises OctetFault."""
     r = Reader(octets)
-    version = r.number(1)
-    line = r.one_of(KINDS)(r, version)
+    version = r.one_of({1: 1, 2: 2})
+    line = r.one_of(KINDS if version == 2 else KINDS_OF_1)(r, version)
     if r.at != len(octets):
         raise OctetFault("octets stand behind the command at %d" % r.at)
     return line
@@ -216,21 +219,22 @@ def read_collection(r):
 
 def read_counts(octets):
     """How many zones, checks and collections were made before a snapshot, by the letters of their ids."""
-    r = Reader(octets)
-    version = r.number(1)
+    return read_made(Reader(octets))[1]
+
+
+def read_made(r):
+    """The version of a snapshot, and its counts."""
+    version = r.one_of({1: 1, 2: 2, 3: 3})
     made = {"Z": r.number(4) - 1, "h": r.number(4) - 1, "c": 0}
     if version == 3:
         made["c"] = r.number(4) - 1
-    return made
+    return version, made
 
 
 def read_snapshot(octets):
     """(made, checks, collections, zones) of a snapshot, the last three by id. Raises OctetFault."""
     r = Reader(octets)
-    version = r.number(1)
-    made = {"Z": r.number(4) - 1, "h": r.number(4) - 1, "c": 0}
-    if version == 3:
-        made["c"] = r.number(4) - 1
+    version, made = read_made(r)
     checks = dict(r.list(lambda: ("h%d" % r.number(4), read_check(r, version))))
     collections = dict(r.list(lambda: read_collection(r))) if version == 3 else {}
     zones = dict(r.list(lambda: read_zone(r)))

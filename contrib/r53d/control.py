@@ -19,10 +19,7 @@ class Place:
 
     def __init__(self, given):
         chosen = settings.load(given.config, {"folder": given.folder, "socket": given.socket, "program": given.program})
-        self.folder, self.socket = chosen.folder, chosen.socket
-        if given.folder and not given.socket:
-            self.socket = os.path.join(given.folder, "r53d.socket")
-        self.given_program = chosen.program
+        self.folder, self.socket, self.given_program = chosen.folder, chosen.socket, chosen.program
 
     @property
     def program(self):

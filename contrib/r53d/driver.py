@@ -10,15 +10,17 @@ import signal
 import socket
 import sys
 import time
+from contextlib import contextmanager
 
 from . import journal, lock, logs, metrics, notify, program, reports, tcp
-from .child import Child
+from .child import Checks, Child
 from .clients import Clients
 from .hand import Hand
 from .loop import READ, Loop
 from .upkeep import Upkeep
 
 REPLAY = 256
+ROOM_FOR_REPORTS = 1 << 20
 FIRST_DELAY, GOOD = 0.1, 60.0
 FINAL = (1, 2)
 
@@ -31,6 +33,20 @@ class Stop(Exception):
         self.status = status
 
 
+@contextmanager
+def named(what):
+    """Lets a fault of the system tell what it is about."""
+    try:
+        yield
+    except OSError as fault:
+        raise OSError(fault.errno or 0, fault.strerror or str(fault), fault.filename or what) from None
+
+
+def status_number(status):
+    """The exit status that tells how a process ended, by itself or by a signal."""
+    return status if status >= 0 else 128 - status
+
+
 class Driver:
     """The whole service. `settings` has the keys of settings.KEYS; `may_make` says that a missing store is made.
 
@@ -41,7 +57,8 @@ class Driver:
         self.settings, self.may_make = settings, may_make
         self.counts, self.checks = metrics.Counts(), {}
         self.hand, self.upkeep = Hand(self), Upkeep(self)
-        self.child = self.clients = self.page = self.tcp = self.report_sock = self.reports = self.lock = None
+        self.child = self.looking = self.fault = None
+        self.clients = self.page = self.tcp = self.report_sock = self.reports = self.lock = self.log = None
         self.state, self.was_ready, self.stopping, self.renewing = "down", False, False, False
         self.delay, self.again_at, self.good_since = FIRST_DELAY, 0.0, 0.0
         self.query_port, self.begun, self.stop_by = settings.query_port, time.time(), 0.0
@@ -55,6 +72,7 @@ class Driver:
             self.open()
             while True:
                 self.step()
+                self.hand.answer_words()
                 self.loop.once(self.timeout())
                 self.watch()
         except Stop as stop:
@@ -88,7 +106,7 @@ class Driver:
             until.append(self.hand.wake_at)
         if self.child is None:
             until.append(self.again_at)
-        elif self.is_free():
+        if self.is_free() or self.clients.asking:
             return 0
         return max(0.0, min(until) - time.monotonic())
 
@@ -113,7 +131,7 @@ class Driver:
         if not os.path.isdir(s.folder):
             raise Stop(2, "r53d: %s: no folder is there" % s.folder)
         try:
-            self.log = logs.Log(s.log, s.log_most)
+            self.log = logs.Log(s.log, s.log_most, self.loop)
             self.lock = lock.take(s.folder, s.lock_wait)
             self.make_store()
             self.reports = reports.ReportFile(s.folder)
@@ -128,24 +146,33 @@ class Driver:
 
     def make_store(self):
         """Makes an empty store where none is there and that is allowed. Raises Stop."""
-        if self.may_make and not journal.is_there(self.settings.folder):
+        if self.may_make and journal.may_be_made(self.settings.folder):
             try:
                 program.words(self.program, self.settings.folder, "init")
             except program.Refused as fault:
-                raise Stop(fault.status, str(fault)) from None
+                raise Stop(status_number(fault.status), str(fault)) from None
 
     def open_sockets(self):
         """Opens the control socket, the report port, and the page and TCP where they are wanted. Raises OSError."""
         s = self.settings
-        self.clients = Clients(self.loop, s.socket, self.hand.line_came)
+        with named(s.socket):
+            self.clients = Clients(self.loop, s.socket, self.hand.line_came)
+        with named("report_port %d of %s" % (s.report_port, s.report_address)):
+            self.open_report_port()
+        if s.metrics_port:
+            with named("metrics_port %d" % s.metrics_port):
+                self.page = metrics.Server(self.loop, s.metrics_port, self.upkeep.asked_for_page)
+        if s.tcp_port:
+            with named("tcp_port %d of %s" % (s.tcp_port, s.tcp_address)):
+                self.tcp = tcp.Server(self.loop, s.tcp_address, s.tcp_port, self.hand.asked_by_tcp)
+
+    def open_report_port(self):
+        s = self.settings
         family = socket.AF_INET6 if ":" in s.report_address else socket.AF_INET
         self.report_sock = socket.socket(family, socket.SOCK_DGRAM | socket.SOCK_CLOEXEC | socket.SOCK_NONBLOCK)
+        self.report_sock.setsockopt(socket.SOL_SOCKET, socket.SO_RCVBUF, ROOM_FOR_REPORTS)
         self.report_sock.bind((s.report_address, s.report_port))
         self.report_port = self.report_sock.getsockname()[1]
-        if s.metrics_port:
-            self.page = metrics.Server(self.loop, s.metrics_port, self.upkeep.asked_for_page)
-        if s.tcp_port:
-            self.tcp = tcp.Server(self.loop, s.tcp_address, s.tcp_port, self.hand.asked_by_tcp)
         self.take_reports(True)
 
     def take_reports(self, is_taken):
@@ -179,14 +206,18 @@ class Driver:
         self.log.event("stopping")
         self.clients.stop_listening()
         if self.state == "starting" and self.child is not None:
-            self.child.end_input()
+            self.fault = 0, ""
+            self.child.kill()
         self.hand.wake()
 
     def close(self):
         """Closes all, in whatever state."""
+        if self.looking is not None:
+            self.looking.kill()
         if self.child is not None:
             self.child.kill()
             self.child.process.wait()
+            self.hand.end(self.child.pending)
         if self.clients is not None:
             self.clients.stop_listening()
             self.clients.flush(1.0)
@@ -196,28 +227,42 @@ class Driver:
         if self.reports is not None:
             self.reports.flush()
             self.reports.close()
+        if self.log is not None:
+            self.log.end(1.0)
         if self.lock is not None:
             os.close(self.lock)
 
     # ---- the program's life
 
     def start(self):
-        """Starts the program, and replays the reports before it binds. Raises Stop where the store is refused."""
-        self.state = "starting"
+        """Starts the program, which opens the store, and beside it a dump, which tells of the checks; no line is given before that."""
+        self.state, self.fault = "starting", None
+        folder = self.settings.folder
         try:
-            self.checks = program.checks_of(self.program, self.settings.folder)
-            self.child = Child(self.loop, self.program, self.settings.folder, self.lock, self.child_ended)
-        except program.Refused as fault:
-            self.faulty(fault.status, str(fault))
-            return
+            self.child = Child(self.loop, self.program, folder, self.lock, self.child_ended)
+            self.looking = Checks(self.loop, self.program, folder, self.lock, self.looked)
         except OSError as fault:
-            self.faulty(5, "r53d: %s" % (fault.strerror or fault))
+            self.fault = 5, "r53d: %s" % (fault.strerror or fault).lower()
+            self.end_start()
+
+    def end_start(self):
+        """What can't be started ends by `fault`. Raises Stop where it isn't tried again."""
+        if self.child is not None:
+            self.child.kill()
+        else:
+            self.faulty(*self.fault)
+
+    def looked(self, checks, *fault):
+        """The checks are known, or the dump ended by a fault: then the reports are replayed, before the program binds."""
+        self.looking = None
+        if checks is None:
+            self.fault = fault
+            self.end_start()
             return
-        self.reports.flush()
+        self.checks = checks
         self.reports.views.keep_only(self.checks)
         self.replaying = self.reports.views.replay(self.checks)
         self.replayed = self.replay_left = 0
-        self.take_reports(False)
         self.replay()
 
     def replay(self, reply=None):
@@ -241,7 +286,6 @@ class Driver:
         self.query_port = ports["QueryPort"]
         self.state, self.good_since = "serving", time.monotonic()
         self.hand.begin(ports["ReportPort"], self.good_since)
-        self.take_reports(True)
         self.log.event("serving", query_port=self.query_port, report_port=self.report_port, replayed=self.replayed,
                        child=self.child.process.pid)
         if not self.was_ready:
@@ -251,6 +295,11 @@ class Driver:
     def child_ended(self, status, text):
         """The program has ended. Whoever waits for a reply of it is told. Raises Stop."""
         pending, self.child = self.child.pending, None
+        if self.looking is not None:
+            self.looking.kill()
+            self.looking = None
+        if self.fault is not None:
+            (status, text), self.fault = self.fault, None
         self.hand.end(pending)
         self.upkeep.end()
         if self.stopping and status == 0:
@@ -264,11 +313,10 @@ class Driver:
         """The program ended by itself: once more after a while, or never where the store is refused. Raises Stop."""
         self.log.event("ended", status=status, text=text)
         if status in FINAL or self.stopping or (not self.was_ready and status > 0):
-            raise Stop(status if status > 0 else 128 - status, text)
+            raise Stop(status_number(status), text)
         now = time.monotonic()
         if self.good_since and now - self.good_since > GOOD:
             self.delay = FIRST_DELAY
         self.state, self.good_since = "down", 0.0
         self.again_at, self.delay = now + self.delay, min(2 * self.delay, self.settings.restart_most)
         self.counts.restarts += 1
-        self.take_reports(True)

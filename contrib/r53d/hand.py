@@ -1,6 +1,6 @@
 """What the program is given next: the lines of clients, and Serve lines in between.
 
-The program does one thing at a time: it takes a line, or it serves as many turns as a Serve line says. So lines, for 5 ms at most, and
+The program does one thing at a time: it takes a line, or it serves as many turns as a Serve line says. So lines, for 3 ms at most, and
 Serve lines take turns. A Serve is as short as a line may wait, and one that waits for datagrams is ended by a datagram to the
 program's report port when a line comes. At each moment at most one line of a client is in the program's hand; where the program
 ends with it, nobody knows whether it was done, and its client is told so.
@@ -13,10 +13,13 @@ from . import logs, program, reports
 from .mail import Mail
 from .turns import Turns
 
-SLICE = 0.005
+SLICE = 0.003
 QUIET = 0.1
 FEW = 16
 BURST = 128
+WORDS = 8
+MOST_QUEUED = 10000
+MOST_REPORT = 64
 RENEW = 1 << 39
 
 NO_REPLY = b'{"Error":"NoReply"}\n'
@@ -46,25 +49,32 @@ class Hand:
     """The lines that wait, and the Serve line in the program's hand.
 
     `own` has lines of the driver with what takes their replies; `serving` is (turns, when it began) of a Serve line, and `wake_at` when
-    wakes are sent to end it.
+    wakes are sent to end it. `queue` has datagrams that are to be passed on; `early` those that came while the program starts, which
+    aren't noted yet, since those that are noted are replayed.
     """
 
     def __init__(self, driver):
         self.driver, self.counts = driver, driver.counts
         self.turns, self.mail, self.own, self.tcp_waiters = Turns(), None, deque(), []
-        self.serving, self.is_woken, self.wake_at, self.held = None, False, None, None
+        self.serving, self.is_woken, self.wake_at = None, False, None
+        self.queue, self.early = deque(), deque()
         self.slice_end, self.handed, self.own_turn, self.line_end = 0.0, 0, False, 0.0
 
     def begin(self, port, now):
         """The program serves, with this report port."""
         self.mail, self.line_end = Mail(port), now
+        self.note_early(True)
+        self.forward()
 
     def end(self, pending):
         """The program has ended, with these lines in its hand."""
         if self.mail is not None:
             self.mail.close()
-        self.mail = self.serving = self.wake_at = self.held = None
+        self.mail = self.serving = self.wake_at = None
         self.own.clear()
+        self.queue.clear()
+        self.note_early(False)
+        self.driver.take_reports(True)
         waiters, self.tcp_waiters = self.tcp_waiters, []
         for then in waiters:
             then(None)
@@ -120,14 +130,13 @@ class Hand:
     def served(self, reply):
         """A Serve line's reply."""
         counts, now = json.loads(reply), time.monotonic()
-        wakes = self.mail.took(counts["Reports"] + counts["Unknown"], counts["Quiet"])
+        wakes = self.mail.took(counts["Reports"] + counts["Unknown"], counts["Turns"], counts["Quiet"])
         self.counts.serve(counts, wakes)
         is_idle = counts["Quiet"] > 0 or 2 * wakes > counts["Turns"]
         self.turns.took(counts["Turns"], is_idle, now - self.serving[1])
         self.serving = self.wake_at = None
         self.slice_end, self.handed = now + SLICE, 0
-        if self.held is not None:
-            self.forward_held()
+        self.forward()
         if self.driver.child.given > RENEW:
             self.driver.renewing = True
         self.driver.upkeep.served()
@@ -144,12 +153,18 @@ class Hand:
         line, came = client.take()
         request = Request(self, client, line, now, now - max(came, self.line_end))
         self.counts.waited(request.waited)
-        if line[:1] == b"!":
-            request(self.word(line.strip()))
-        elif request.kind == "Serve":
+        if request.kind == "Serve":
             request(NOT_FOR_CLIENTS)
         else:
             self.driver.child.give(line, request)
+
+    def answer_words(self):
+        """Answers lines to the driver itself, some at a time, which don't wait for the program."""
+        for _ in range(min(WORDS, len(self.driver.clients.asking))):
+            if client := self.driver.clients.next_asking():
+                line, came = client.take()
+                now = time.monotonic()
+                Request(self, client, line, now, now - came)(self.word(line.strip()))
 
     def word(self, word):
         """The reply to a line to the driver itself."""
@@ -194,28 +209,44 @@ class Hand:
     # ---- reports
 
     def report_came(self, _):
-        """Takes datagrams of the report port: keeps the reports, and passes all on."""
+        """Takes datagrams of the report port, notes the reports, and passes all on.
+
+        The longest report has 21 octets, so what is longer than 64 is none when it is cut there either.
+        """
         for _ in range(64):
             try:
-                datagram = self.driver.report_sock.recv(65535)
+                datagram = self.driver.report_sock.recv(MOST_REPORT)
             except BlockingIOError:
                 break
             except OSError:
                 continue
-            report = reports.read_report(datagram)
-            if report and self.driver.checks.get(report[0]):
-                self.driver.reports.take(*report)
-            if self.mail is not None and not self.mail.send(datagram):
-                self.held = datagram
-                self.driver.take_reports(False)
-                break
+            if self.driver.state == "starting":
+                self.early.append(datagram)
+                continue
+            self.note_report(datagram)
+            if self.mail is not None:
+                self.queue.append(datagram)
+        self.forward()
         self.driver.reports.flush()
 
-    def forward_held(self):
-        """Passes on a report for which the program's port had no room, and takes others again."""
-        if self.mail.send(self.held):
-            self.held = None
-            self.driver.take_reports(True)
+    def note_report(self, datagram):
+        report = reports.read_report(datagram)
+        if report and self.driver.checks.get(report[0]):
+            self.driver.reports.take(*report)
+
+    def note_early(self, is_passed_on):
+        """Notes what came while the program started."""
+        for datagram in self.early:
+            self.note_report(datagram)
+        if is_passed_on:
+            self.queue.extend(self.early)
+        self.early.clear()
+
+    def forward(self):
+        """Passes on as much as the program's port has room for; where much is left, the report port isn't read."""
+        while self.queue and self.mail is not None and self.mail.has_room() and self.mail.send(self.queue[0]):
+            self.queue.popleft()
+        self.driver.take_reports(len(self.queue) + len(self.early) < MOST_QUEUED)
 
 
 class Request:
@@ -235,6 +266,7 @@ class Request:
             self.hand.note(self.kind, self.value, got)
         driver.counts.line(self.kind, outcome)
         driver.log.line(self.client.number, self.client.peer, self.line, self.is_json, reply[:-1], self.waited, now - self.at)
-        self.hand.line_end = now
+        if self.line[:1] != b"!":
+            self.hand.line_end = now
         self.client.reply(reply)
         driver.clients.done(self.client)

@@ -1,11 +1,13 @@
 """`r53ctl log`: the journal as control lines, and the line that undoes one of them.
 
-Entries are counted from 1 in the file that decides; a compaction begins anew.
+Entries are counted from 1 in the file that decides; a compaction begins anew. They are read of a copy, since two compactions would take the
+file for another content while it is read.
 """
 import json
 import sys
+from collections import deque
 
-from . import commands, journal
+from . import commands, journal, program
 from .control import Fault
 from .undo import State
 
@@ -37,7 +39,7 @@ def write(opened, given):
     counts = commands.read_counts(opened.snapshot())
     if not given.lines:
         print("# file %s, generation %d, snapshot of %d bytes" % (header.side, header.generation, header.snapshot))
-    kept = []
+    kept = deque(maxlen=max(0, given.last or 0))
     for number, at, size, line in entries(opened):
         ident = made(line, counts)
         text = compact(line)
@@ -47,7 +49,7 @@ def write(opened, given):
         if given.last is None:
             print(text)
         else:
-            kept = (kept + [text])[-given.last:] if given.last > 0 else []
+            kept.append(text)
     for text in kept:
         print(text)
     return 0
@@ -57,12 +59,15 @@ def undo(opened, wanted):
     """Writes the line that undoes an entry. Raises Fault where there is no such entry."""
     state = State(opened.snapshot())
     out, later, touched = None, 0, set()
-    for number, _, _, line in entries(opened):
-        if number == wanted:
-            out, touched = state.opposite(line), state.touched(line)
-        elif number > wanted:
-            later += bool(touched & state.touched(line))
-        state.make(line)
+    for number, at, _, line in entries(opened):
+        try:
+            if number == wanted:
+                out, touched = state.opposite(line), state.touched(line)
+            elif number > wanted:
+                later += bool(touched & state.touched(line))
+            state.make(line)
+        except KeyError:
+            raise journal.StoreFault("entry %d at byte %d changes what isn't there" % (number, at)) from None
     if out is None:
         raise Fault("no entry %d is in the journal" % wanted)
     line, note = out
@@ -76,7 +81,7 @@ def undo(opened, wanted):
 
 
 def run(given, place):
-    with journal.Opened(place.folder) as opened:
+    with program.Copy(place.folder) as folder, journal.Opened(folder) as opened:
         try:
             return write(opened, given) if given.undo is None else undo(opened, given.undo)
         except commands.OctetFault as fault:

@@ -8,9 +8,10 @@ new compaction while it is copied could a copy mix two of its contents; that cha
 and after, and where they differ the copy is made again.
 """
 import os
+from itertools import islice
 from typing import NamedTuple
 
-HEADER = 20
+HEADER, NEW = 20, 34
 MAGIC = b"R53ZJ01"
 SIDES = ("a", "b")
 CHUNK = 1 << 20
@@ -56,9 +57,11 @@ def deciding(folder):
     return max(found, key=lambda h: (h.generation, h.side == "a"))
 
 
-def is_there(folder):
-    """Whether either file exists."""
-    return any(os.path.exists(path_of(folder, s)) for s in SIDES)
+def may_be_made(folder):
+    """Whether no store is there, nor what could be one: no file, or what a making leaves that was stopped, which is no open file
+    and no longer than a new store."""
+    sizes = [os.path.getsize(path_of(folder, s)) if os.path.exists(path_of(folder, s)) else 0 for s in SIDES]
+    return sizes[0] <= NEW and sizes[1] == 0 and read_header("a", header_octets(folder, "a")) is None
 
 
 # ---- entries
@@ -95,34 +98,45 @@ class Opened:
         return os.pread(self.file, self.header.snapshot, HEADER)
 
     def entries(self):
-        """(place of the gate, octets) of each entry in order."""
+        """(place of the gate, octets) of each entry in order. Raises StoreFault where the file ends before a closed gate."""
+        size = os.fstat(self.file).st_size
         for at, length in gates(self.file, HEADER + self.header.snapshot):
+            if at + (1 if length is None else 5 + length) > size:
+                raise StoreFault("file %s ends within the entry at byte %d" % (self.header.side, at))
             if length is not None:
                 yield at, os.pread(self.file, length, at + 5)
 
 
 # ---- a copy
 
-def copy_file(from_path, to_path):
-    """Copies a file from its first byte on; a missing one is left out."""
+def private(path, flags):
+    """Opens a file that its owner alone may read."""
+    return os.open(path, flags, 0o600)
+
+
+def copy_file(from_path, to_path, is_synced=False):
+    """Copies a file from its first byte on, for the eyes of its owner alone; a missing one is left out."""
     try:
         source = open(from_path, "rb", buffering=0)
     except FileNotFoundError:
         return
-    with source, open(to_path, "wb", buffering=0) as target:
+    with source, open(to_path, "wb", opener=private) as target:
         while chunk := source.read(CHUNK):
             target.write(chunk)
+        if is_synced:
+            target.flush()
+            os.fsync(target.fileno())
 
 
-def copy_store(folder, to):
+def copy_store(folder, to, is_synced=False):
     """Copies the two files of a store, in use or not, and the tables, into the folder `to`. Raises StoreFault."""
     deciding(folder)
     for _ in range(ATTEMPTS):
         before = [header_octets(folder, s) for s in SIDES]
         for side in SIDES:
-            copy_file(path_of(folder, side), path_of(to, side))
+            copy_file(path_of(folder, side), path_of(to, side), is_synced)
         if before == [header_octets(folder, s) for s in SIDES]:
-            copy_file(os.path.join(folder, "r53.tables"), os.path.join(to, "r53.tables"))
+            copy_file(os.path.join(folder, "r53.tables"), os.path.join(to, "r53.tables"), is_synced)
             return
     raise StoreFault("%s: compactions kept changing the files" % folder)
 
@@ -137,14 +151,14 @@ class Watch:
         self.header = None
         self.length = 0
 
-    def look(self):
-        """Follows the gates that were opened since the last look."""
+    def look(self, most=None):
+        """Follows the gates that were opened since the last look, so many at most."""
         header = deciding(self.folder)
         if header != self.header:
             self.header, self.length = header, HEADER + header.snapshot + 1
         file = os.open(path_of(self.folder, header.side), os.O_RDONLY)
         try:
-            for at, length in gates(file, self.length - 1):
+            for at, _ in islice(gates(file, self.length - 1), most):
                 self.length = at + 1
         finally:
             os.close(file)

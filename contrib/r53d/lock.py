@@ -1,7 +1,8 @@
 """One writer for a store: a lock on a file in its folder.
 
 The system frees the lock when the last process that holds the file open has ended. The program is started with the file open
-too, so the lock outlives a driver that was killed for as long as its program still runs. That the file exists means nothing.
+too, so the lock outlives a driver that was killed for as long as its program still runs. That the file exists means nothing. The number of
+the process that it holds is for people, and a full disk may lack it.
 """
 import fcntl
 import os
@@ -29,6 +30,9 @@ def take(folder, patience):
                 os.close(file)
                 raise Locked("%s: locked by process %s" % (folder, owner)) from None
             time.sleep(0.05)
-    os.ftruncate(file, 0)
-    os.pwrite(file, b"%d\n" % os.getpid(), 0)
+    try:
+        os.ftruncate(file, 0)
+        os.pwrite(file, b"%d\n" % os.getpid(), 0)
+    except OSError:
+        pass
     return file

@@ -1,7 +1,20 @@
-"""The log: one JSON object a line, for each control line with its client and reply, and for each event of the driver."""
+"""The log: one JSON object a line, for each control line with its client and reply, and for each event of the driver.
+
+The service waits for nobody who reads it: where a pipe, a socket or a terminal takes no more, up to a mebibyte is kept for it. A file on a
+full disk lacks lines; one of which a part was written is ended by a line feed once there is room.
+"""
 import json
-import sys
+import os
+import select
+import stat
+import time
 from datetime import datetime, timezone
+
+from .loop import WRITE
+
+STDOUT = 1
+PIECE = 4096
+MOST_LEFT = 1 << 20
 
 
 def refuse(_):
@@ -20,37 +33,84 @@ def text_of(octets):
     return json.dumps(octets.decode("utf-8", "backslashreplace"))
 
 
-class Log:
-    """Writes to a file, or to standard output at `-`. A text of more than `most` bytes is cut; its length is told beside it."""
+def is_read(file):
+    """Whether a descriptor is one that another process reads, and that may take no more for a while."""
+    mode = os.fstat(file).st_mode
+    return stat.S_ISFIFO(mode) or stat.S_ISSOCK(mode) or os.isatty(file)
 
-    def __init__(self, path, most):
-        self.path, self.most, self.lost = path, most, 0
-        self.file = None
+
+class Log:
+    """Writes to a file, or to standard output at `-`. A text of more than `most` bytes is cut; its length is told beside it.
+
+    `lost` counts lines that weren't written; `left` has what a reader hasn't taken yet; `is_torn` says that the file ends within a line.
+    """
+
+    def __init__(self, path, most, loop=None):
+        self.path, self.most, self.loop, self.lost = path, most, loop, 0
+        self.left, self.is_torn = bytearray(), False
+        self.file = STDOUT
         self.open()
+        self.is_read = is_read(self.file)
 
     def open(self):
         """Opens the file, again where it was renamed. Raises OSError."""
-        if self.path == "-":
-            self.file = sys.stdout.buffer
-            return
-        if self.file is not None:
-            self.file.close()
-        self.file = open(self.path, "ab")
+        if self.path != "-":
+            before = self.file
+            self.file = os.open(self.path, os.O_WRONLY | os.O_APPEND | os.O_CREAT | os.O_CLOEXEC, 0o600)
+            self.is_torn = False
+            if before != STDOUT:
+                os.close(before)
 
     def reopen(self):
-        """Opens the file anew; where that fails the next lines are lost, and counted."""
+        """Opens the file anew; where that fails the old one is written further."""
         try:
             self.open()
         except OSError:
             self.lost += 1
 
     def write(self, text):
-        """Writes a line. Where that fails it is counted in `lost`, and the driver goes on."""
-        try:
-            self.file.write(text.encode("utf-8", "backslashreplace") + b"\n")
-            self.file.flush()
-        except (OSError, ValueError):
+        """Writes a line, or what there is room for."""
+        data = text.encode("utf-8", "backslashreplace") + b"\n"
+        if not self.is_read:
+            self.append(data)
+        elif len(self.left) + len(data) > MOST_LEFT:
             self.lost += 1
+        else:
+            self.left += data
+            self.give()
+
+    def append(self, data):
+        """Writes a line to a file, on a line of its own."""
+        head = b"\n" if self.is_torn else b""
+        try:
+            count = os.write(self.file, head + data)
+        except OSError:
+            count = 0
+        if count:
+            self.is_torn = len(head) < count < len(head) + len(data)
+        self.lost += count < len(head) + len(data)
+
+    def give(self, _=None):
+        """Writes as much of `left` as the reader takes, and the rest when it takes more."""
+        room = select.poll()
+        room.register(self.file, select.POLLOUT)
+        try:
+            while self.left and room.poll(0):
+                del self.left[:os.write(self.file, self.left[:PIECE])]
+        except BlockingIOError:
+            pass
+        except OSError:
+            self.lost += self.left.count(b"\n")
+            self.left.clear()
+        if self.loop is not None:
+            self.loop.set(self.file, WRITE if self.left else 0, self.give)
+
+    def end(self, seconds):
+        """Gives the reader so many seconds to take what is left."""
+        until = time.monotonic() + seconds
+        while self.left and time.monotonic() < until:
+            time.sleep(0.01)
+            self.give()
 
     @staticmethod
     def now():

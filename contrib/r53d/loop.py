@@ -1,7 +1,13 @@
-"""A loop over sockets and pipes: who waits for what, and who is called when it comes."""
+"""A loop over sockets and pipes: who waits for what, and who is called when it comes.
+
+What comes of files that are `urgent` is handled alone, so that what follows from it doesn't wait for the rest. The rest is handled for 2 ms at
+most in one go, in turns.
+"""
 import selectors
+import time
 
 READ, WRITE = selectors.EVENT_READ, selectors.EVENT_WRITE
+SLICE = 0.002
 
 
 class Loop:
@@ -9,6 +15,7 @@ class Loop:
 
     def __init__(self):
         self.selector = selectors.DefaultSelector()
+        self.urgent, self.turn = set(), 0
 
     def set(self, file, events, handler=None):
         """Waits for these events of a file from now on; for none, where `events` is 0."""
@@ -23,6 +30,7 @@ class Loop:
 
     def drop(self, file):
         """Waits for nothing of a file, which is then closed."""
+        self.urgent.discard(file.fileno())
         try:
             self.selector.unregister(file)
         except (KeyError, ValueError):
@@ -30,10 +38,16 @@ class Loop:
         file.close()
 
     def once(self, seconds):
-        """Waits for events, so many seconds at most, and calls the handlers."""
-        for key, events in self.selector.select(seconds):
+        """Waits for events, so many seconds at most, and calls the handlers. What it doesn't come to is found again by the next call."""
+        ready = self.selector.select(seconds)
+        urgent = [one for one in ready if one[0].fd in self.urgent]
+        end, at = time.monotonic() + SLICE, self.turn % max(1, len(ready))
+        for key, events in urgent or ready[at:] + ready[:at]:
             if self.selector.get_map().get(key.fd) is key:
                 key.data(events)
+            self.turn += 1
+            if time.monotonic() > end:
+                break
 
     def close(self):
         self.selector.close()

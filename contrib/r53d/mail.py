@@ -2,11 +2,16 @@
 
 A wake is a datagram that is no report; a Serve line counts it as unknown. The port is a queue, so from how many datagrams a
 Serve took it follows how many wakes were among them, and these are no unknown ones of others.
+
+The system drops what comes to a full port and tells nobody. So reports are sent while fewer than 128 datagrams are there, which fit. The program
+looks at the port after 64 queries at the latest: where it took none in 65 turns, or had a quiet turn, what was sent before is gone.
 """
 import socket
 from collections import deque
 
 WAKE = b"-"
+MOST_THERE = 128
+LOOKS_AFTER = 65
 
 
 class Mail:
@@ -16,10 +21,14 @@ class Mail:
         self.sock = socket.socket(socket.AF_INET, socket.SOCK_DGRAM | socket.SOCK_CLOEXEC | socket.SOCK_NONBLOCK)
         self.sock.connect(("127.0.0.1", port))
         self.runs = deque()
-        self.sent = self.there = self.mark = 0
+        self.sent = self.there = self.mark = self.dry = self.dry_mark = 0
+
+    def has_room(self):
+        """Whether a report may be sent."""
+        return self.there < MOST_THERE
 
     def send(self, datagram, is_wake=False):
-        """Whether the datagram went out; it doesn't while the port's queue is full."""
+        """Whether the datagram went out."""
         try:
             self.sock.send(datagram)
         except OSError:
@@ -46,6 +55,8 @@ class Mail:
     def handed(self):
         """A Serve line is handed over: at a quiet turn of it all that was sent before is gone."""
         self.mark = self.sent
+        if not self.dry:
+            self.dry_mark = self.sent
 
     def take(self, number):
         """Forgets the oldest ones; answers how many wakes were among them."""
@@ -61,12 +72,20 @@ class Mail:
                 self.runs.popleft()
         return wakes
 
-    def took(self, number, quiet):
-        """A Serve took so many datagrams from the port; answers how many of them were wakes."""
+    def took(self, number, turns, quiet):
+        """A Serve of so many turns took so many datagrams from the port; answers how many of them were wakes."""
         wakes = self.take(number)
+        self.dry = 0 if number else self.dry + turns
         if quiet:
-            self.take(max(0, self.there - (self.sent - self.mark)))
+            self.forget(self.mark)
+        elif self.dry >= LOOKS_AFTER:
+            self.forget(self.dry_mark)
         return wakes
+
+    def forget(self, mark):
+        """Those among the first `mark` that were sent are gone."""
+        self.take(max(0, self.there - (self.sent - mark)))
+        self.dry = 0
 
     def close(self):
         self.sock.close()

@@ -127,7 +127,7 @@ class Reader:
         words = self.request.split(b"\r\n", 1)[0].split(b" ")
         if words[0] != b"GET":
             self.answer("405 Method Not Allowed", b"")
-        elif words[1:2] != [b"/metrics"]:
+        elif len(words) < 2 or words[1].split(b"?")[0].strip() != b"/metrics":
             self.answer("404 Not Found", b"the page is /metrics\n")
         else:
             self.server.ask(lambda text: self.answer("200 OK", text))

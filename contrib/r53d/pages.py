@@ -21,8 +21,8 @@ them before the program binds its ports. A journal is compacted by a rule. Where
 and then twice as long each time up to 30; never where it refused the store or the tables. The line that was in its hand is answered
 {"Error":"NoReply"}: it may have been done, or not.
 .PP
-Lines to r53d itself begin with an exclamation mark: \\fB!status\\fR tells its state, \\fB!compact\\fR begins a compaction. A Serve line is
-answered {"Error":"NotForClients"}."""
+Lines to r53d itself begin with an exclamation mark, and are answered whatever the program does: \\fB!status\\fR tells its state,
+\\fB!compact\\fR begins a compaction. A Serve line is answered {"Error":"NotForClients"}."""
 
 R53D_SIGNALS = (("SIGTERM, SIGINT", "a clean stop: the line in hand is answered, and others aren't taken"),
                 ("SIGHUP", "the log file is opened anew"))

@@ -5,7 +5,6 @@ A store that is served isn't touched: what a tool runs, it runs in a temporary f
 import json
 import os
 import shutil
-import signal
 import subprocess
 import tempfile
 import threading
@@ -46,36 +45,26 @@ def ended(process, stderr):
 
 def words(program, folder, *given):
     """Runs the program with these words in a folder: what it wrote. Raises Refused where it ends otherwise than with 0."""
-    done = subprocess.run([program, *given], cwd=folder, stdin=subprocess.DEVNULL, capture_output=True)
-    if done.returncode:
-        raise Refused(done.returncode, done.stderr.decode("utf-8", "replace").strip())
-    return done.stdout
+    with subprocess.Popen([program, *given], cwd=folder, stdin=subprocess.DEVNULL, stdout=subprocess.PIPE,
+                          stderr=subprocess.PIPE) as process:
+        stdout, stderr = process.communicate()
+        if process.returncode:
+            raise ended(process, stderr)
+    return stdout
+
+
+def opens(program, folder):
+    """Sees that the program opens the store in a folder. Raises Refused."""
+    with subprocess.Popen([program, "dump"], cwd=folder, stdin=subprocess.DEVNULL, stdout=subprocess.DEVNULL,
+                          stderr=subprocess.PIPE) as process:
+        stderr = process.stderr.read()
+        if process.wait():
+            raise ended(process, stderr)
 
 
 def dump(program, folder):
     """The objects of a dump, in its order."""
     return [json.loads(line) for line in words(program, folder, "dump").splitlines()]
-
-
-def checks_of(program, folder):
-    """The failure threshold of each endpoint's check by its number, and None for that of each calculated one.
-
-    They stand before all else in a dump, of which no more is read. Raises Refused.
-    """
-    process = subprocess.Popen([program, "dump"], cwd=folder, stdin=subprocess.DEVNULL, stdout=subprocess.PIPE,
-                               stderr=subprocess.PIPE)
-    out = {}
-    with process:
-        for line in process.stdout:
-            check = json.loads(line).get("HealthCheck")
-            if check is None:
-                process.kill()
-                return out
-            out[int(check["Id"][1:])] = check.get("FailureThreshold")
-        stderr = process.stderr.read()
-        if process.wait():
-            raise ended(process, stderr)
-    return out
 
 
 class Session:
@@ -150,8 +139,3 @@ class Copy:
 
     def __exit__(self, *_):
         self.temporary.cleanup()
-
-
-def ends_by_pipe():
-    """Lets a closed standard output end a tool without a word."""
-    signal.signal(signal.SIGPIPE, signal.SIG_DFL)

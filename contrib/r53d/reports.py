@@ -10,13 +10,17 @@ views at the thresholds 1 to 10, the last result, and how often in a row it came
 """
 import os
 import re
+import time
+
+from .journal import private
 
 REPORT = re.compile(rb"OBS h([1-9][0-9]{0,9}) (0|[1-9]|[1-4][0-9]) ([01])\n?")
-VIEW = re.compile(rb"VIEW h([1-9][0-9]{0,9}) (0|[1-9]|[1-4][0-9]) ([01]{10}) ([01]) ([0-9]+)")
+VIEW = re.compile(rb"VIEW h([1-9][0-9]{0,9}) (0|[1-9]|[1-4][0-9]) ([01]{10}) ([01]) ([0-9]{1,2})")
 MOST = 10
 ALL = (1 << MOST) - 1
 FILE = "r53d.reports"
 SLACK = 20000
+TRY_AGAIN = 1.0
 
 
 class View:
@@ -113,7 +117,7 @@ class ReportFile:
     def __init__(self, folder):
         self.path = os.path.join(folder, FILE)
         self.views, self.lines = load(folder)
-        self.file = None
+        self.file, self.again_at = None, 0.0
         self.new = bytearray()
         self.lost = 0
 
@@ -123,16 +127,23 @@ class ReportFile:
         self.lines += 1
 
     def flush(self):
-        """Writes the reports that came since the last call. Where the disk refuses, they are counted in `lost` and kept in memory."""
+        """Writes the reports that came since the last call.
+
+        Where the disk refuses, they are counted in `lost` and kept in memory, and the whole file is tried again after a second.
+        """
         if not self.new:
             return
         try:
             if self.file is None or self.lines > SLACK + 4 * len(self.views.of):
+                if time.monotonic() < self.again_at:
+                    raise BlockingIOError
                 self.rewrite()
-            else:
-                os.write(self.file, self.new)
-        except OSError:
+            elif os.write(self.file, self.new) < len(self.new):
+                raise OSError
+        except OSError as fault:
             self.lost += self.new.count(b"\n")
+            if not isinstance(fault, BlockingIOError):
+                self.again_at = time.monotonic() + TRY_AGAIN
             self.close()
         self.new.clear()
 
@@ -141,11 +152,15 @@ class ReportFile:
         self.close()
         temporary = self.path + ".new"
         text = self.views.text()
-        with open(temporary, "wb", opener=private) as file:
-            file.write(text)
-            file.flush()
-            os.fsync(file.fileno())
-        os.replace(temporary, self.path)
+        try:
+            with open(temporary, "wb", opener=private) as file:
+                file.write(text)
+                file.flush()
+                os.fsync(file.fileno())
+            os.replace(temporary, self.path)
+        except OSError:
+            unlink(temporary)
+            raise
         self.file = os.open(self.path, os.O_WRONLY | os.O_APPEND)
         self.lines = len(self.views.of)
 
@@ -155,6 +170,9 @@ class ReportFile:
             self.file = None
 
 
-def private(path, flags):
-    """Opens a file that its owner alone may read."""
-    return os.open(path, flags, 0o600)
+def unlink(path):
+    """Removes a file, where it is there."""
+    try:
+        os.unlink(path)
+    except OSError:
+        pass

@@ -46,23 +46,33 @@ class Writer(threading.Thread):
 
 
 def replies(sock):
-    """The replies on a connection, as octets."""
+    """The replies on a connection, as octets, until it ends, in whatever way."""
     with sock.makefile("rb") as stream:
-        for reply in stream:
-            if reply.endswith(b"\n"):
-                yield reply
+        try:
+            for reply in stream:
+                if reply.endswith(b"\n"):
+                    yield reply
+        except ConnectionError:
+            return
 
 
-def exchange(path, lines):
-    """The replies to lines of octets, in order and as octets. They end early where the service ends the connection. Raises Fault."""
+def exchange(path, lines, seconds=None):
+    """The replies to lines of octets, in order and as octets. They end early where the service ends the connection.
+
+    Raises Fault, or TimeoutError where none comes for so many seconds.
+    """
     with connect(path) as sock:
+        sock.settimeout(seconds)
         Writer(sock, enumerate(lines)).start()
         yield from replies(sock)
 
 
-def ask(path, lines):
-    """The replies to lines as objects. Raises Fault where one is missing."""
-    got = [json.loads(reply) for reply in exchange(path, lines)]
+def ask(path, lines, seconds=None):
+    """The replies to lines as objects. Raises Fault where one is missing, or where none comes for so many seconds."""
+    try:
+        got = [json.loads(reply) for reply in exchange(path, lines, seconds)]
+    except TimeoutError:
+        raise Fault("%s: the service didn't reply for %d seconds" % (path, seconds)) from None
     if len(got) < len(lines):
         raise Fault("%s: the service ended the connection" % path)
     return got

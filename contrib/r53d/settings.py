@@ -18,7 +18,7 @@ KEYS = {
     "metrics_port": (int, 0, "TCP port of this host for the metrics page; 0 for none"),
     "log": (str, "-", "file of the log, - for standard output"),
     "log_most": (int, 4096, "bytes of a line or a reply that the log holds"),
-    "compact_factor": (float, 2.0, "how many times its snapshot a journal is when it is compacted; 0 for never"),
+    "compact_factor": (float, 2.0, "how many times its snapshot a journal is when it is compacted, above 1; 0 for never"),
     "compact_least": (int, 1048576, "bytes below which a journal isn't compacted"),
     "lock_wait": (float, 10.0, "seconds for which a lock that another process holds is waited for"),
     "stop_within": (float, 10.0, "seconds after which a program that doesn't end is killed when r53d stops"),
@@ -51,15 +51,20 @@ def check(key, value):
         value = float(value)
     if not isinstance(value, kind) or isinstance(value, bool):
         raise BadSettings("%s is no %s" % (key, {str: "text", int: "whole number", float: "number"}[kind]))
-    if kind is not str and value < 0:
+    if kind is not str and not value >= 0:
         raise BadSettings("%s is below 0" % key)
+    if key == "compact_factor" and 0 < value <= 1:
+        raise BadSettings("compact_factor is neither 0 nor above 1")
     if key.endswith("_port") and value > 65535:
         raise BadSettings("%s is above 65535" % key)
     return value
 
 
 def load(path=None, given=None):
-    """The settings, `given` over those of the file over the defaults. Raises BadSettings."""
+    """The settings, `given` over those of the file over the defaults. Raises BadSettings.
+
+    Where `given` names a folder and no socket, the socket is in that folder: the file's is that of the file's folder.
+    """
     if path is None and os.path.exists(PLACE):
         path = PLACE
     found = read_file(path) if path else {}
@@ -73,6 +78,8 @@ def load(path=None, given=None):
                     raise BadSettings("%s: %s" % (source, fault)) from None
     if path and "folder" in found and not (given or {}).get("folder"):
         out["folder"] = os.path.join(os.path.dirname(os.path.abspath(path)), out["folder"])
+    if (given or {}).get("folder") and not (given or {}).get("socket"):
+        out["socket"] = None
     if out["socket"] is None:
         out["socket"] = os.path.join(out["folder"], "r53d.socket")
     return SimpleNamespace(**out)

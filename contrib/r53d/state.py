@@ -1,6 +1,6 @@
 """`r53ctl status`: what a service does, and its checks, groups and trees of aliases with their health.
 
-Health comes from the service, by its control socket; where none runs, from the reports that it kept, by the program on a copy.
+Health comes from the service, by its control socket; where none serves, from the reports that it kept, by the program on a copy.
 """
 import json
 import os
@@ -13,6 +13,8 @@ from .control import Fault
 from .texts import check_text, policy_text
 
 MOST_GROUPS = 100
+MOST_LINKS = 17
+PATIENCE = 20.0
 CLEAR = "\033[H\033[J"
 
 
@@ -25,23 +27,24 @@ class Looker:
     def look(self):
         """(the world with health, passing by check, the service's own state or None). Raises Fault."""
         service = self.service()
-        if service is None:
+        if service is None or service["state"] != "serving":
             with program.Copy(self.place.folder) as folder, Question(self.place, folder) as question:
-                return question.world, question.passing, None
+                return question.world, question.passing, service
         self.dump()
         seen = world.World(self.objects)
         lines = [program.compact({"GetHealthCheckStatus": {"HealthCheckId": ident}}) for ident in seen.checks]
         passing = {}
-        for ident, reply in zip(seen.checks, send.ask(self.place.socket, lines) if lines else []):
+        for ident, reply in zip(seen.checks, send.ask(self.place.socket, lines, PATIENCE) if lines else []):
             seen.statuses[ident], passing[ident] = reply.get("Healthy", True), reply.get("Passing", 0)
         return seen, passing, service
 
     def service(self):
         """The state of the service, or None where none listens."""
         try:
-            return send.ask(self.place.socket, [b"!status"])[0]["r53d"]
+            send.connect(self.place.socket).close()
         except Fault:
             return None
+        return send.ask(self.place.socket, [b"!status"], PATIENCE)[0]["r53d"]
 
     def dump(self):
         paths = [journal.path_of(self.place.folder, side) for side in journal.SIDES]
@@ -88,7 +91,7 @@ def tree_lines(seen, zone, owner, kind, depth):
         sick = seen.why_sick(zone, thing)
         yield "%s- %s%s: %s" % ("  " * depth + "  ", " ".join((policy_text(thing) + " " + what).split()), "",
                                 "healthy" if sick is None else "SICK, " + sick)
-        if alias and depth < 17:
+        if alias and depth < 2 * MOST_LINKS:
             yield from tree_lines(seen, zone, alias["DNSName"], kind, depth + 2)
 
 
@@ -132,16 +135,27 @@ def show(looker, given):
     return "\n".join(out + (["", "groups"] + groups if groups else []))
 
 
+def show_again(looker, given):
+    """The text of a look, or why there is none for the moment."""
+    try:
+        return show(looker, given)
+    except BrokenPipeError:
+        raise
+    except (Fault, program.Refused, journal.StoreFault, OSError) as fault:
+        return "r53ctl: %s" % fault
+
+
 def run(given, place):
     looker = Looker(place)
     try:
         if given.watch is None:
             print(show(looker, given))
             return 0
+        text = show(looker, given)
         while True:
-            text = show(looker, given)
             print((CLEAR if sys.stdout.isatty() else "") + text, flush=True)
             time.sleep(max(given.watch, 0.1))
+            text = show_again(looker, given)
     except names.NameFault as fault:
         raise Fault("%s: %s" % (given.name, fault)) from None
     except KeyboardInterrupt:

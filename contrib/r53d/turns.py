@@ -4,7 +4,7 @@ A turn without a datagram may last 100 ms, so a quiet Serve is followed by one o
 datagram the number doubles, as long as a Serve lasts no longer than a line may wait: by the seconds that a turn took lately.
 """
 
-BUDGET = 0.003
+BUDGET = 0.002
 MOST = 4096
 
 

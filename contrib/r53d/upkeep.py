@@ -6,7 +6,9 @@ import time
 from . import journal, metrics, notify
 
 PIECES = 16
+MOST_GATES = 50000
 TRY_AGAIN = 600.0
+PAGE_WAITS = 2.0
 
 
 def milliseconds(seconds):
@@ -20,7 +22,7 @@ class Upkeep:
         self.driver, self.counts = driver, driver.counts
         self.watching = journal.Watch(driver.settings.folder)
         self.healthy, self.waiters = {}, []
-        self.compacting, self.compact_at, self.look_at = False, 0.0, 0.0
+        self.compacting, self.compact_at, self.look_at, self.asked_at = False, 0.0, 0.0, 0.0
 
     def watch(self, now):
         """Looks at all once a second."""
@@ -32,13 +34,20 @@ class Upkeep:
         for server in (self.driver.page, self.driver.tcp):
             if server is not None:
                 server.sweep(now)
+        if self.waiters and now - self.asked_at > PAGE_WAITS:
+            self.healthy = {}
+            self.give_page()
         self.look_at_child(now)
         self.look_at_journal(now)
 
     def look_at_child(self, now):
-        """Kills a program that hasn't replied for too long."""
+        """Kills a program that hasn't replied for too long. Until it has opened the store it is let be, and so by the manager."""
         child, patience = self.driver.child, self.driver.settings.patience
-        if child is not None and child.pending and patience and now - child.oldest > patience:
+        if child is None:
+            return
+        if not child.has_replied:
+            notify.send("EXTEND_TIMEOUT_USEC=30000000")
+        elif child.pending and patience and now - child.oldest > patience:
             self.driver.log.event("killed", text="the program didn't reply")
             child.kill()
 
@@ -54,7 +63,7 @@ class Upkeep:
         s = self.driver.settings
         if self.driver.state == "serving" and not self.compacting and s.compact_factor and now >= self.compact_at:
             try:
-                self.compacting = self.watching.look().is_due(s.compact_factor, s.compact_least)
+                self.compacting = self.watching.look(MOST_GATES).is_due(s.compact_factor, s.compact_least)
             except (journal.StoreFault, OSError):
                 pass
 
@@ -78,13 +87,13 @@ class Upkeep:
     # ---- the page
 
     def asked_for_page(self, then):
-        """Asks for the status of each check, and gives the page once all are there."""
+        """Asks for the status of each check, and gives the page once all are there; without them where that takes too long."""
         self.waiters.append(then)
         checks, hand = self.driver.checks, self.driver.hand
         if self.driver.state != "serving" or not checks:
             self.give_page()
         elif len(self.waiters) == 1:
-            self.healthy, last = {}, max(checks)
+            self.healthy, last, self.asked_at = {}, max(checks), time.monotonic()
             for number in sorted(checks):
                 line = b'{"GetHealthCheckStatus":{"HealthCheckId":"h%d"}}' % number
                 hand.own.append((line, lambda reply, number=number: self.took_health(number, reply, number == last)))
@@ -109,12 +118,12 @@ class Upkeep:
         driver = self.driver
         is_up = driver.state == "serving"
         try:
-            header, length = self.watching.look().header, self.watching.length
+            header, length = self.watching.look(MOST_GATES).header, self.watching.length
         except (journal.StoreFault, OSError):
             header, length = None, None
         return {"up": int(is_up), "journal_bytes": length, "snapshot_bytes": header and header.snapshot,
                 "generation": header and header.generation, "checks": len(driver.checks),
-                "healthy": sum(self.healthy.values()) if is_up else None,
+                "healthy": sum(self.healthy.values()) if is_up and len(self.healthy) == len(driver.checks) else None,
                 "clients": len(driver.clients.all), "lost": driver.reports.lost, "unlogged": driver.log.lost}
 
     def status(self):

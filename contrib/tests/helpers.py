@@ -34,6 +34,15 @@ def until(test, what, seconds=PATIENCE):
     raise AssertionError("waited for " + what)
 
 
+def script(folder, text, name="script"):
+    """The path of a shell script in a folder; `$R53` in it is the program."""
+    path = os.path.join(folder, name)
+    with open(path, "w") as file:
+        file.write("#!/bin/sh\n%s\n" % text.replace("$R53", R53))
+    os.chmod(path, 0o755)
+    return path
+
+
 def is_alive(pid):
     """Whether a process is there and no zombie."""
     try:
@@ -137,19 +146,19 @@ class Case(unittest.TestCase):
 
     def tool(self, *words, status=0, text=None, folder=None):
         """Runs r53ctl in this process; answers what it wrote, standard error where the status is 2."""
+        given = [] if "--program" in words else ["--program", R53]
         out, err = (io.TextIOWrapper(io.BytesIO(), write_through=True) for _ in range(2))
-        given = io.TextIOWrapper(io.BytesIO((text or "").encode()))
-        kept, sys.stdin = sys.stdin, given
+        kept, sys.stdin = sys.stdin, io.TextIOWrapper(io.BytesIO((text or "").encode()))
         try:
             with contextlib.redirect_stdout(out), contextlib.redirect_stderr(err):
-                got = control.main([words[0], "--folder", folder or self.folder, "--program", R53, *words[1:]])
+                got = control.main([words[0], "--folder", folder or self.folder, *given, *words[1:]])
         except SystemExit as end:
             got = end.code
         finally:
             sys.stdin = kept
         out, err = (stream.buffer.getvalue().decode() for stream in (out, err))
         self.assertEqual(got, status, out + err)
-        return err if status == 2 else out
+        return err if status == 2 else out + err if status == 3 else out
 
     def dump(self, folder=None):
         """The octets of a dump of the store, by the program on a copy."""

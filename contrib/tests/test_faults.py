@@ -1,6 +1,7 @@
 """What goes wrong: processes that are killed, a lock that is left, a disk that is full, a program that hangs."""
 import json
 import os
+import random
 import shutil
 import signal
 import socket
@@ -11,7 +12,7 @@ import unittest
 
 import helpers
 from helpers import Case, batch, check, down, failover, is_alive, one_set, until, zone
-from r53d import journal, program, send
+from r53d import control, journal, logs, program, reports, send
 
 
 class Killed(Case):
@@ -125,6 +126,57 @@ class Hangs(Case):
         self.assertEqual([e["text"] for e in service.events("killed")], ["the program didn't reply"])
         self.all_ok(service.lines(check()))
 
+    def test_a_store_may_take_long_to_open(self):
+        slow = helpers.script(self.folder, '[ "$1" != run ] || sleep 4\nexec $R53 "$@"')
+        service = self.service(patience=1.5, program=slow).ready()
+        self.assertEqual(service.events("killed"), [])
+
+    def test_a_dump_that_is_cut(self):
+        cut = helpers.script(self.folder, 'if [ "$1" = dump ] && [ ! -e %s/cut ]; then touch %s/cut; printf "{\\"Heal"; kill -9 $$; fi\nexec $R53 "$@"'
+                             % (self.folder, self.folder))
+        service = self.service(program=cut).ready()
+        self.assertEqual([event["status"] for event in service.events("ended")], [-9])
+
+    def stub(self, what):
+        """A program that serves, and does this at any other line."""
+        return helpers.script(self.folder, """\
+[ "$1" = run ] || exit 0
+while read -r line; do
+    case "$line" in
+        *Bind*) echo '{"Ok":"Bind","QueryPort":1,"ReportPort":1}' ;;
+        *Serve*) sleep 0.05; echo '{"Answered":0,"Ok":"Serve","Quiet":1,"Reports":0,"Silent":0,"Turns":1,"Unknown":0}' ;;
+        *) %s ;;
+    esac
+done""" % what)
+
+    def test_the_line_in_the_hand_of_a_program_that_does_not_end(self):
+        service = self.service(stop_within=1, program=self.stub("exec sleep 60")).ready()
+        with send.connect(service.socket) as sock:
+            sock.sendall(program.compact(zone()) + b"\n" + program.compact(check()) + b"\n")
+            until(lambda: service.status()["counts"]["Serves"] > 0, "the first turns")
+            time.sleep(0.5)
+            service.process.send_signal(signal.SIGTERM)
+            sock.settimeout(helpers.PATIENCE)
+            with sock.makefile("rb") as replies:
+                self.assertEqual(replies.read(), b'{"Error":"NoReply"}\n', "of the line that it had alone")
+        self.assertEqual(service.process.wait(helpers.PATIENCE), 128 + signal.SIGKILL)
+
+    def test_a_line_at_which_the_program_ends(self):
+        service = self.service(program=self.stub("echo '{\"Ok\":\"x\"}'; printf '{'; exit 5")).ready()
+        self.assertEqual(list(send.exchange(service.socket, [b"x"])), [b'{"Ok":"x"}\n'])
+        service.ready(2)
+        service.kill()
+        service = self.service(program=self.stub("printf '{'; exit 5")).ready()
+        self.assertEqual(list(send.exchange(service.socket, [b"x", b"y"])), [b'{"Error":"NoReply"}\n'] * 2)
+        service.ready(3)
+        self.assertEqual([event["status"] for event in service.events("ended")], [5, 5])
+
+    def test_a_store_that_is_refused_later(self):
+        service = self.service(program=self.stub("echo 'r53: not a store: disk b, byte 7' >&2; exit 2")).ready()
+        self.assertEqual(list(send.exchange(service.socket, [b"x", b"y"])), [b'{"Error":"NoReply"}\n'])
+        self.assertEqual((service.process.wait(helpers.PATIENCE), service.process.stderr.read()), (2, b"r53: not a store: disk b, byte 7\n"))
+        self.assertEqual(len(service.events("serving")), 1, "never again")
+
     def test_a_program_that_does_not_end(self):
         service = self.service(stop_within=1).ready()
         os.kill(service.child, signal.SIGSTOP)
@@ -134,6 +186,66 @@ class Hangs(Case):
 
 
 class FullDisk(Case):
+    """What happens on a small disk without room."""
+
+    def fill(self):
+        with open(os.path.join(self.disk, "ballast"), "ab", buffering=0) as file:
+            try:
+                while file.write(b"x" * 4096):
+                    pass
+            except OSError:
+                pass
+
+    def test_it_starts_on_a_full_disk(self):
+        words = {"socket": os.path.join(self.folder, "s"), "log": os.path.join(self.folder, "log")}
+        service = self.service(self.disk, **words).ready()
+        self.all_ok(service.lines(zone(), check(), failover()))
+        self.assertEqual(service.stop()[0], 0)
+        os.truncate(os.path.join(self.disk, "r53d.lock"), 0)
+        self.fill()
+        again = self.service(self.disk, **words).ready()
+        self.assertEqual(again.values("www.example.com"), ["192.0.2.1"])
+        again.report(*down())
+        until(lambda: again.values("www.example.com") == ["192.0.2.2"], "the secondary")
+        until(lambda: again.status()["counts"]["Reports"] == 50, "all reports")
+        self.assertEqual(sorted(os.listdir(self.disk)), ["ballast", "r53-a.journal", "r53d.lock"], "and nothing half written")
+        os.unlink(os.path.join(self.disk, "ballast"))
+        time.sleep(1.1)
+        again.report("OBS h1 0 0")
+        until(lambda: reports.load(self.disk)[1] == 50, "what was kept in memory")
+
+    def test_a_log_on_a_full_disk(self):
+        log = logs.Log(os.path.join(self.disk, "log"), 100)
+        log.event("before")
+        self.fill()
+        while not log.lost:
+            log.event("before", text="x" * 1000)
+        log.event("lost", text="x" * 1000)
+        os.unlink(os.path.join(self.disk, "ballast"))
+        log.event("after")
+        with open(log.path, "rb") as file:
+            told = [(logs.parse(line) or {}).get("event") for line in file.read().split(b"\n")]
+        self.assertEqual(set(told[:-4]), {"before"})
+        self.assertEqual(told[-3:], [None, "after", None], "one torn line, which ends before the next")
+
+    def test_reports_of_which_a_part_is_written(self):
+        kept = reports.ReportFile(self.disk)
+        kept.take(1, 0, False)
+        kept.flush()
+        self.fill()
+        for n in range(3000):
+            kept.take(1 + n // 50, n % 50, False)
+            kept.flush()
+            with open(kept.path, "rb") as file:
+                if not file.read().endswith(b"\n"):
+                    break
+        self.assertLess(n, 2999, "a line that is cut")
+        os.unlink(os.path.join(self.disk, "ballast"))
+        kept.again_at = 0.0
+        kept.take(1, 0, False)
+        kept.flush()
+        self.assertEqual(reports.load(self.disk)[0].text(), kept.views.text())
+
     def setUp(self):
         super().setUp()
         self.disk = os.path.join(self.folder, "disk")
@@ -216,32 +328,143 @@ class Long(Case):
         for number in range(50):
             self.assertEqual(service.values("c%d.example.com" % number), ["192.0.2.%d" % (999 % 200)])
 
-    def test_kills_at_any_moment(self):
+    def random_client(self, path, draw):
+        """Lines of all kinds in random pieces; sees that each has its reply, in order, or NoReply."""
+        wanted, octets = [], b""
+        for n in range(draw.randrange(1, 60)):
+            kind = draw.randrange(8)
+            if kind < 4:
+                number = draw.randrange(1, 1 << 30)
+                line, reply = b'{"GetHealthCheckStatus":{"HealthCheckId":"h%d"}}' % number, {"HealthCheckId": "h%d" % number}
+            elif kind == 4:
+                line, reply = draw.choice([b"", b" ", b"\r", b" " * 2000000]), None
+            elif kind == 5:
+                line, reply = b"!" + draw.choice([b"what", b"\xff", b""]), {"Error": "UnknownWord"}
+            elif kind == 6:
+                line, reply = bytes(draw.choice(b"{}[]\"xyz\0\xff,:1") for _ in range(draw.randrange(1, 40))) + b"x", {"Error": "BadLine"}
+            else:
+                line, reply = draw.choice([(b"y" * (1048576 + draw.randrange(1, 9)), {"Error": "LineTooLong"}),
+                                           (b"y" * (1048576 - draw.randrange(0, 9)), {"Error": "BadLine"})])
+            octets += line + b"\n"
+            wanted += [reply] if reply else []
+        if draw.random() < 0.5 and wanted:
+            octets += b'{"Half":'
+            wanted.append({"Error": "BadLine"})
+        with send.connect(path) as sock:
+            sock.settimeout(60)
+            if draw.random() < 0.2:
+                sock.sendall(octets[:draw.randrange(len(octets))])
+                return
+            writer = threading.Thread(target=self.write_in_pieces, args=(sock, octets, draw))
+            writer.start()
+            with sock.makefile("rb") as stream:
+                got = [json.loads(reply) for reply in stream]
+            writer.join()
+        self.assertEqual(len(got), len(wanted))
+        for one, reply in zip(got, wanted):
+            if one.get("Error") != "NoReply":
+                self.assertLessEqual(reply.items(), one.items())
+
+    @staticmethod
+    def write_in_pieces(sock, octets, draw):
+        at = 0
+        while at < len(octets):
+            size = draw.choice([1, 7, 100, 8192, 8193, 70000, 1 << 20])
+            sock.sendall(octets[at:at + size])
+            at += size
+        sock.shutdown(socket.SHUT_WR)
+
+    def test_random_lines_in_random_pieces_while_the_program_is_killed(self):
         service = self.service(restart_most=0.2).ready()
-        self.all_ok(service.lines(zone()))
-        done, stop = [], threading.Event()
+        end, wrong = time.monotonic() + 20, []
+
+        def client(seed):
+            draw = random.Random(seed)
+            while time.monotonic() < end:
+                try:
+                    self.random_client(service.socket, draw)
+                except Exception as fault:
+                    wrong.append((seed, repr(fault)[:500]))
+                    return
+        clients = [threading.Thread(target=client, args=(seed,)) for seed in range(12)]
+        for one in clients:
+            one.start()
+        times = 1
+        while time.monotonic() < end:
+            service.ready(times)
+            time.sleep(1)
+            os.kill(service.child, signal.SIGKILL)
+            times += 1
+        for one in clients:
+            one.join(120)
+        self.assertEqual(wrong, [])
+        self.assertEqual(service.ready(times).stop(), (0, ""))
+
+    def write_all_the_time(self, count):
+        """So many clients that create sets one after another; answers a call that ends them, and gives the names that were acknowledged."""
+        done, stop, path = [], threading.Event(), os.path.join(self.folder, "r53d.socket")
 
         def client(number):
             n = 0
             while not stop.is_set():
                 n += 1
                 name = "k%d-%d.example.com" % (number, n)
-                if "Ok" in service.lines(batch(one_set(name, "192.0.2.1")))[0]:
+                try:
+                    got = send.ask(path, [program.compact(batch(one_set(name, "192.0.2.1")))])[0]
+                except (control.Fault, OSError):
+                    time.sleep(0.05)
+                    continue
+                if "Ok" in got:
                     done.append(name + ".")
-        clients = [threading.Thread(target=client, args=(n,)) for n in range(4)]
+                elif got["Error"] != "NoReply":
+                    done.append("refused: %s" % got)
+        clients = [threading.Thread(target=client, args=(n,)) for n in range(count)]
         for one in clients:
             one.start()
+
+        def end():
+            stop.set()
+            for one in clients:
+                one.join(60)
+            return done
+        return end
+
+    def see(self, done):
+        """Sees that all that was acknowledged is there."""
+        there = {thing["ResourceRecordSet"]["Name"] for thing in map(json.loads, self.dump().splitlines()) if "ResourceRecordSet" in thing}
+        print("%d batches acknowledged, %d there" % (len(done), len(there) - 1))
+        self.assertGreater(len(done), 100)
+        self.assertLessEqual(set(done), there)
+
+    def test_kills_of_the_program_at_any_moment(self):
+        service = self.service(restart_most=0.2).ready()
+        self.all_ok(service.lines(zone()))
+        end = self.write_all_the_time(4)
         for times in range(1, 41):
             service.ready(times)
             time.sleep(0.01 * (times % 17))
             os.kill(service.child, signal.SIGKILL)
         service.ready(41)
-        stop.set()
-        for one in clients:
-            one.join(60)
-        there = {thing["ResourceRecordSet"]["Name"] for thing in map(json.loads, self.dump().splitlines()) if "ResourceRecordSet" in thing}
-        print("%d batches acknowledged, %d there" % (len(done), len(there) - 1))
-        self.assertLessEqual(set(done), there)
+        time.sleep(0.5)
+        self.see(end())
+
+    def test_kills_of_the_driver_and_of_both_at_any_moment(self):
+        service = self.service().ready()
+        self.all_ok(service.lines(zone(), check(), failover()))
+        service.report(*down())
+        until(lambda: service.status()["counts"]["Reports"] == 50, "all reports")
+        end = self.write_all_the_time(4)
+        for times in range(20):
+            time.sleep(0.03 * (times % 13))
+            if times % 3 == 1:
+                os.kill(service.child, signal.SIGKILL)
+            service.kill()
+            if times % 3 == 2:
+                os.kill(service.child, signal.SIGKILL) if is_alive(service.child) else None
+            service = self.service().ready()
+            self.assertEqual(service.values("www.example.com"), ["192.0.2.2"], "the reports are there")
+        time.sleep(0.5)
+        self.see(end())
 
 
 if __name__ == "__main__":

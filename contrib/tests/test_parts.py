@@ -7,7 +7,7 @@ import tempfile
 import unittest
 
 import helpers
-from r53d import commands, explain, journal, logs, mail, names, pages, reports, settings, turns, values, wire, world
+from r53d import commands, explain, journal, logs, loop, mail, names, pages, reports, settings, turns, values, wire, world
 
 
 class Names(unittest.TestCase):
@@ -157,13 +157,46 @@ class TurnsAndMail(unittest.TestCase):
         m.wake(2)
         m.send(b"x")
         m.wake(5)
-        self.assertEqual((m.there, m.took(3, 0), m.there, m.took(2, 0), m.there), (5, 2, 2, 2, 0))
+        self.assertEqual((m.there, m.took(3, 3, 0), m.there, m.took(2, 2, 0), m.there), (5, 2, 2, 2, 0))
         m.wake(3)
         m.handed()
         m.wake(4)
-        self.assertEqual((m.took(0, 1), m.there), (0, 1), "what was lost before a quiet turn is forgotten")
+        self.assertEqual((m.took(0, 1, 1), m.there), (0, 1), "what was lost before a quiet turn is forgotten")
+        m.wake(3)
+        m.handed()
+        self.assertEqual((m.took(0, 40, 0), m.there), (0, 3))
+        m.wake(5)
+        m.handed()
+        self.assertEqual((m.took(0, 40, 0), m.there), (0, 2), "and what was lost before 65 turns without a datagram of the port")
         m.close()
         sock.close()
+
+
+class Loops(unittest.TestCase):
+    def test_what_is_urgent_goes_first_and_the_rest_in_turns(self):
+        import socket
+        import time
+        todo, called, pairs = loop.Loop(), [], [socket.socketpair() for _ in range(5)]
+
+        def handler(number):
+            def handle(_):
+                called.append(number)
+                time.sleep(0.003)
+            return handle
+        for number, (here, there) in enumerate(pairs):
+            todo.set(here, loop.READ, handler(number))
+            there.send(b"x")
+        todo.urgent.add(pairs[3][0].fileno())
+        todo.once(1)
+        self.assertEqual(called, [3], "it alone")
+        pairs[3][0].recv(1)
+        for _ in range(8):
+            todo.once(1)
+        self.assertEqual(sorted(called[1:]), [0, 0, 1, 1, 2, 2, 4, 4], "each that stays ready comes twice in eight goes")
+        for here, there in pairs:
+            todo.drop(here)
+            there.close()
+        todo.close()
 
 
 class Files(unittest.TestCase):
@@ -198,8 +231,55 @@ class Files(unittest.TestCase):
             self.assertFalse(watch.is_due(2.0, 4 << 20), "below the least")
             self.assertFalse(watch.is_due(1e6, 1000), "not so many times its snapshot")
 
+    def test_the_length_is_followed_some_entries_at_a_time(self):
+        with tempfile.TemporaryDirectory() as folder:
+            self.store(folder, entries=[b"x"] * 9)
+            watch = journal.Watch(folder)
+            self.assertEqual([watch.look(4).length for _ in range(4)], [33 + 6 * n + 1 for n in (3, 6, 9, 9)])
+
+    def test_a_tail_that_is_torn(self):
+        """Octets behind the closed gate count for nothing; a file that ends before one is no store."""
+        for tail, told in ((b"\0", None), (b"\0\1\0\0\0\1x", None), (b"\0\0\0", None), (b"", 39), (b"\1", 39), (b"\1\0\0", 39), (b"\1\0\0\0\2x", 39),
+                           (b"\1\0\0\0\1x", 45)):
+            with tempfile.TemporaryDirectory() as folder:
+                self.store(folder, entries=[b"x"], tail=tail)
+                with journal.Opened(folder) as opened:
+                    if told is None:
+                        self.assertEqual(list(opened.entries()), [(33, b"x")], tail)
+                    else:
+                        with self.assertRaisesRegex(journal.StoreFault, "byte %d$" % told, msg=tail):
+                            list(opened.entries())
+
+    def test_commands_of_both_versions(self):
+        name = b"\1a\0"
+        rows = [("01 01", name * 5, {"CreateHostedZone": {"Name": "a.", "NameServers": ["a."] * 4}}),
+                ("01 04 01 03 01", b"", {"CreateHealthCheck": {"HealthCheckConfig": {"Type": "TCP", "FailureThreshold": 3, "Inverted": True}}}),
+                ("02 04 01 03 00 01", b"", {"CreateHealthCheck": {"HealthCheckConfig": {"Type": "TCP", "FailureThreshold": 3, "Disabled": True}}}),
+                ("01 04 02 0100 00 0001 00000007", b"", {"CreateHealthCheck": {"HealthCheckConfig": {
+                    "Type": "CALCULATED", "HealthThreshold": 256, "ChildHealthChecks": ["h7"]}}}),
+                ("01 05 00000007 01 00 01 0002 00", b"", {"UpdateHealthCheck": {"HealthCheckId": "h7", "Inverted": False, "HealthThreshold": 2}}),
+                ("02 05 00000007 00 01 01 00 01 0001 00000002", b"", {"UpdateHealthCheck": {
+                    "HealthCheckId": "h7", "Disabled": True, "ChildHealthChecks": ["h2"]}}),
+                ("01 06 00000007", b"", {"DeleteHealthCheck": {"HealthCheckId": "h7"}}),
+                ("02 07 02", b"ab", {"CreateCidrCollection": {"Name": "ab"}})]
+        for octets, more, line in rows:
+            self.assertEqual(commands.read_command(bytes.fromhex(octets) + more), line, octets)
+
+    def test_snapshots_of_each_version(self):
+        for octets, made, checks in (("01 00000002 00000003 0001 00000002 01 03 01 0000", {"Z": 1, "h": 2, "c": 0}, 1),
+                                     ("02 00000002 00000003 0001 00000002 01 03 01 01 0000", {"Z": 1, "h": 2, "c": 0}, 1),
+                                     ("03 00000001 00000001 00000003 0000 0001 00000002 0161 0000 0000", {"Z": 0, "h": 0, "c": 2}, 0)):
+            octets = bytes.fromhex(octets)
+            got = commands.read_snapshot(octets)
+            self.assertEqual((got[0], len(got[1])), (made, checks))
+            self.assertEqual(commands.read_counts(octets), made)
+        self.assertEqual(got[2], {"c2": {"Name": "a", "Locations": {}}})
+        for octets in (b"\0" + bytes(12), b"\4" + bytes(20)):
+            with self.assertRaises(commands.OctetFault):
+                commands.read_snapshot(octets)
+
     def test_commands_that_are_none(self):
-        for octets in (b"", b"\2\x0a", b"\2\2\0\0\0", b"\2\2\0\0\0\1x"):
+        for octets in (b"", b"\2\x0a", b"\2\2\0\0\0", b"\2\2\0\0\0\1x", b"\1\7\1a", b"\0\2\0\0\0\1", b"\3\2\0\0\0\1", b"\2\4\3\0\0"):
             with self.assertRaises(commands.OctetFault, msg=octets):
                 commands.read_command(octets)
 
@@ -219,8 +299,13 @@ class Settings(unittest.TestCase):
         self.assertEqual(got.folder, os.path.join(os.path.dirname(path), "zones"))
         self.assertEqual(got.socket, os.path.join(got.folder, "r53d.socket"))
 
+    def test_another_folder_has_another_socket(self):
+        path = self.file('folder = "/zones"\nsocket = "/run/control"\n')
+        for given, found in (({}, "/run/control"), ({"folder": "/copy"}, "/copy/r53d.socket"), ({"folder": "/copy", "socket": "/s"}, "/s")):
+            self.assertEqual(settings.load(path, given).socket, found)
+
     def test_faults(self):
-        for text in ("folder = 3", "query_port = 65536", "query_port = -1", "query_port = true", "other = 1", "folder = "):
+        for text in ("folder = 3", "query_port = 65536", "query_port = -1", "query_port = true", "other = 1", "folder = ", "patience = nan", "compact_factor = 1"):
             with self.assertRaises(settings.BadSettings, msg=text):
                 settings.load(self.file(text))
 

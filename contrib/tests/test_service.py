@@ -2,6 +2,7 @@
 import json
 import os
 import re
+import signal
 import socket
 import subprocess
 import sys
@@ -50,6 +51,30 @@ class Lines(Case):
             self.assertEqual(replies.readline(), b"")
             replies.close()
         self.assertEqual(os.stat(service.socket).st_mode & 0o777, 0o600)
+
+    def test_lines_to_the_driver_wait_for_nothing(self):
+        service = self.service(metrics_port=free_port()).ready()
+        self.all_ok(service.lines(zone(), check()))
+        port = service.status()["metrics_port"]
+        os.kill(service.child, signal.SIGSTOP)
+        try:
+            with send.connect(service.socket) as waits:
+                waits.sendall(program.compact(check()) + b"\n!status\n")
+                time.sleep(0.2)
+                self.assertEqual(send.ask(service.socket, [b"!status", b"!what", b"!status"], 5)[0]["r53d"]["state"], "serving")
+                with urllib.request.urlopen("http://127.0.0.1:%d/metrics?x=y" % port, timeout=5) as page:
+                    text = page.read().decode()
+                self.assertIn("\nr53d_checks 1\n", text)
+                self.assertNotIn("r53d_checks_healthy", text, "which isn't known")
+                waits.setblocking(False)
+                with self.assertRaises(BlockingIOError):
+                    waits.recv(1)
+                os.kill(service.child, signal.SIGCONT)
+                waits.settimeout(helpers.PATIENCE)
+                with waits.makefile("rb") as replies:
+                    self.assertEqual([json.loads(replies.readline())["Ok"] for _ in range(2)], ["CreateHealthCheck", "!status"])
+        finally:
+            os.kill(service.child, signal.SIGCONT)
 
     def test_lines_of_a_megabyte(self):
         service = self.service().ready()
@@ -113,6 +138,8 @@ class Health(Case):
         service.report(*down(times=2), "nonsense", "OBS h9 0 0")
         until(lambda: service.values("www.example.com") == ["192.0.2.2"], "the secondary")
         until(lambda: service.status()["counts"]["Reports"] == 100, "all reports")
+        until(lambda: service.status()["counts"]["Unknown"] >= 2, "what is none")
+        service.lines(*[b"x"] * 20)
         self.assertEqual(service.status()["counts"]["Unknown"], 2, "wakes aren't counted")
         service.stop()
         service = self.service().ready()
@@ -130,6 +157,33 @@ class Health(Case):
         service.stop()
         service = self.service().ready()
         self.assertEqual(service.events("serving")[0]["replayed"], 0)
+
+    def test_all_of_many_reports_reach_the_program(self):
+        """More than its port has room for."""
+        service = self.service().ready()
+        self.all_ok(service.lines(*(check() for _ in range(20))))
+        os.kill(service.child, signal.SIGSTOP)
+        for n in range(1, 21):
+            service.report(*down("h%d" % n), "x" * 60000)
+            time.sleep(0.05)
+        os.kill(service.child, signal.SIGCONT)
+        until(lambda: service.status()["counts"]["Reports"] == 1000, "all reports")
+        until(lambda: service.status()["counts"]["Unknown"] == 20, "what is none, once each")
+        self.assertEqual([one["Passing"] for one in service.lines(
+            *({"GetHealthCheckStatus": {"HealthCheckId": "h%d" % n}} for n in range(1, 21)))], [0] * 20)
+
+    def test_reports_that_come_while_the_program_starts_count_once(self):
+        slow = helpers.script(self.folder, '[ "$1" != run ] || sleep 1\nexec $R53 "$@"')
+        service = self.start(program=slow)
+        os.kill(service.child, 9)
+        until(lambda: len(service.events("ended")) == 1, "the end")
+        time.sleep(0.6)
+        service.report(*down())
+        service.ready(2)
+        until(lambda: service.status()["counts"]["Reports"] == 50, "all reports")
+        self.assertEqual(service.lines({"GetHealthCheckStatus": {"HealthCheckId": "h1"}})[0]["Passing"], 50, "one failure of two")
+        service.report(*down())
+        until(lambda: service.values("www.example.com") == ["192.0.2.2"], "the secondary")
 
     def test_reports_that_come_while_the_program_is_away(self):
         service = self.start()
@@ -316,7 +370,10 @@ class Ends(Case):
             taken.bind(("127.0.0.1", 0))
             port = str(taken.getsockname()[1])
             self.assertEqual(self.ended("--folder", folder, "--query-port", port, "--report-port", "0"), (6, "r53: link fault\n"))
-            self.assertEqual(self.ended("--folder", folder, "--query-port", "0", "--report-port", port)[0], 6)
+            self.assertEqual(self.ended("--folder", folder, "--query-port", "0", "--report-port", port),
+                             (6, "r53d: report_port %s of 127.0.0.1: address already in use\n" % port))
+        for path, told in (("/none/socket", "no such file or directory"), ("/" + "x" * 200, "af_unix path too long")):
+            self.assertEqual(self.ended("--folder", folder, *ports, "--socket", path), (6, "r53d: %s: %s\n" % (path, told)))
 
     def test_clean_stop_and_the_manager(self):
         manager = socket.socket(socket.AF_UNIX, socket.SOCK_DGRAM)
@@ -342,6 +399,54 @@ class Ends(Case):
         self.assertFalse(os.path.exists(service.socket))
         self.assertFalse(helpers.is_alive(service.child))
 
+    def test_a_socket_of_another_process_is_left_alone(self):
+        first = self.service().ready()
+        store, text = os.path.join(self.folder, "store"), os.path.join(self.folder, "text")
+        os.mkdir(store)
+        with open(text, "w") as file:
+            file.write("kept")
+        for path, told in ((first.socket, "another process listens there"), (text, "no socket is there")):
+            self.assertEqual(self.ended("--init", "--folder", store, "--query-port", "0", "--report-port", "0", "--socket", path),
+                             (6, "r53d: %s: %s\n" % (path, told)))
+        with open(text) as file:
+            self.assertEqual(file.read(), "kept")
+        self.all_ok(first.lines(zone()))
+
+    def test_a_making_that_was_stopped_is_made_again(self):
+        path = os.path.join(self.folder, "r53-a.journal")
+        for octets, is_made in ((bytes(20), True), (bytes(40), False)):
+            with open(path, "wb") as file:
+                file.write(octets)
+            service = self.service()
+            if is_made:
+                self.all_ok(service.ready().lines(zone()))
+                self.assertEqual(service.stop(), (0, ""))
+            else:
+                self.assertEqual((service.process.wait(helpers.PATIENCE), service.process.stderr.read()),
+                                 (2, b"r53: not a store: disk a, byte 0\n"))
+
+    def test_who_reads_the_log_holds_up_nobody(self):
+        path = os.path.join(self.folder, "s")
+        words = [sys.executable, "-B", R53D, "--init", "--folder", self.folder, "--query-port", "0", "--report-port", "0", "--socket", path]
+        with subprocess.Popen(words, env={**os.environ, "R53": R53}, stdout=subprocess.PIPE) as process:
+            try:
+                until(lambda: os.path.exists(path), "the socket")
+                lines = [b'{"GetHealthCheckStatus":{"HealthCheckId":"h%d"}}' % n for n in range(1, 2001)]
+                self.assertEqual(len(send.ask(path, lines, helpers.PATIENCE)), 2000)
+                process.send_signal(signal.SIGTERM)
+                told = [json.loads(line) for line in process.stdout]
+                self.assertEqual(process.wait(helpers.PATIENCE), 0)
+            finally:
+                process.kill()
+        self.assertEqual([one["reply"]["HealthCheckId"] for one in told if "reply" in one], ["h%d" % n for n in range(1, 2001)])
+
+    def test_a_stop_while_the_store_is_opened(self):
+        slow = helpers.script(self.folder, '[ "$1" != run ] || exec sleep 30\nexec $R53 "$@"')
+        service = self.service(program=slow)
+        until(lambda: service.events("begun"), "the beginning")
+        time.sleep(0.3)
+        self.assertEqual(service.stop(), (0, ""))
+
     def test_the_log_is_opened_anew(self):
         service = self.service().ready()
         service.lines(b"x")
@@ -351,6 +456,7 @@ class Ends(Case):
         service.skip = 0
         service.lines(b"y")
         self.assertEqual([e["line"] for e in service.events() if "line" in e], ["y"])
+        self.assertEqual(os.stat(service.log).st_mode & 0o777, 0o600)
 
     def test_a_second_driver_is_told_of_the_first(self):
         first = self.service().ready()

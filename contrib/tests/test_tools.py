@@ -1,7 +1,10 @@
 """What r53ctl says: of a store in use, of one at rest, and where it can't."""
+import contextlib
+import io
 import json
 import os
 import random
+import shutil
 import socket
 import subprocess
 import tempfile
@@ -11,7 +14,7 @@ import unittest
 
 import helpers
 from helpers import Case, R53, batch, check, down, failover, one_set, until, zone
-from r53d import journal, program, undo
+from r53d import control, journal, program, undo
 
 
 class Store(Case):
@@ -211,7 +214,7 @@ why:
 
     def test_words_that_are_none(self):
         self.make(zone())
-        for words in (("a b", "A"), ("a", "BOGUS"), ("a", "A", "--from", "1.2.3"), ("a", "A", "--words", "x"), ("a", "A", "--words", "1,2,3,4,5,6,7,8,9"),
+        for words in (("a b", "A"), ("a", "BOGUS"), ("a", "A", "--from", "1.2.3"), ("a", "A", "--words", "x"), ("a", "A", "--words", "\u00b2"), ("a", "\u00b2"), ("a", "A", "--words", "1,2,3,4,5,6,7,8,9"),
                       ("a", "A", "--subnet", "198.51.100.1/24"), ("a",)):
             self.assertEqual(self.tool("ask", *words, status=2).count("\n"), 1, words)
 
@@ -299,7 +302,8 @@ class Log(Store):
         self.assertTrue(text[1].startswith('1 a 1 33 88 {"CreateHostedZone":{"Name":"example.com.","NameServers":['), text[1])
         self.assertTrue(text[1].endswith(" # Z1"))
         self.assertTrue(text[2].startswith("2 a 1 121 11 "), text[2])
-        self.assertEqual(self.tool("log", "--last", "1").splitlines(), [text[0], text[3]])
+        for last, kept in ((1, text[3:]), (2, text[2:]), (9, text[1:]), (0, [])):
+            self.assertEqual(self.tool("log", "--last", str(last)).splitlines(), text[:1] + kept)
         with program.Session(R53, self.folder) as session:
             self.all_ok([session.line({"Compact": {"Pieces": 100}}), session.line(check())])
             session.end()
@@ -342,10 +346,42 @@ class Others(Store):
             text = self.tool(*words, status=2, folder=empty)
             self.assertIn(told, text, words)
             self.assertEqual(text.count("\n"), 1, words)
-        self.make(zone())
-        os.truncate(os.path.join(self.folder, "r53-a.journal"), 25)
+        self.make(zone(), {"DeleteHostedZone": {"Id": "Z1"}})
+        path = os.path.join(self.folder, "r53-a.journal")
+        with open(path, "rb+") as file:
+            whole = file.read()
+            file.seek(0)
+            file.write(whole[:-2] + b"\7" + whole[-1:])
+        self.assertIn("entry 2 at byte 121 changes what isn't there", self.tool("log", "--undo", "1", status=2))
+        with open(path, "wb") as file:
+            file.write(whole)
+        with open(os.path.join(self.folder, "r53.tables"), "w") as file:
+            file.write("geo 192.0.2.0/99 NA US -\n")
+        for words in (("ask", "a", "A"), ("status",)):
+            text = self.tool(*words, status=2)
+            self.assertEqual((text.count("\n"), "bad tables" in text), (1, True), text)
+        os.truncate(path, 25)
         for words in (("ask", "a", "A"), ("diff", "/dev/null"), ("log",), ("status",)):
             self.assertEqual(self.tool(*words, status=2).count("\n"), 1, words)
+
+    def test_a_backup_that_fails_leaves_nothing(self):
+        self.make(zone())
+        copy = os.path.join(self.folder, "copy")
+        os.mkdir(copy)
+        fails = helpers.script(self.folder, "exit 5")
+        self.assertIn("status 5", self.tool("backup", copy, "--program", fails, status=2))
+        self.assertEqual(os.listdir(copy), [])
+        self.assertIn("file a", self.tool("backup", copy))
+
+    def test_send_tells_the_line_that_has_no_reply(self):
+        service = self.service().ready()
+        self.all_ok(service.lines(zone()))
+        service.process.send_signal(19)
+        done = threading.Timer(0.5, lambda: (service.process.kill(), service.process.wait()))
+        done.start()
+        out = self.tool("send", text="\n" + "\n".join(json.dumps(check()) for _ in range(3)), status=3)
+        done.join()
+        self.assertIn("line 2 has no reply", out)
 
     def test_send(self):
         service = self.service().ready()
@@ -388,11 +424,29 @@ class Watch(Store):
                               env={**os.environ, "R53": R53}) as watch:
             for _ in range(6):
                 self.assertTrue(watch.stdout.readline())
+            path = os.path.join(self.folder, "r53-a.journal")
+            os.rename(path, path + ".kept")
+            until(lambda: b"no store is there" in watch.stdout.readline(), "the fault")
+            os.rename(path + ".kept", path)
+            until(lambda: b"1 zones" in watch.stdout.readline(), "the state again")
             watch.terminate()
-            self.assertEqual(watch.wait(helpers.PATIENCE), -15)
+            self.assertEqual(watch.wait(helpers.PATIENCE), 143)
+
+    def test_a_tool_that_is_ended_removes_its_copy(self):
+        self.make(zone())
+        slow = helpers.script(self.folder, '[ "$1" != run ] || exec sleep 30\nexec $R53 "$@"')
+        temporary = os.path.join(self.folder, "temporary")
+        os.mkdir(temporary)
+        with subprocess.Popen([helpers.R53CTL, "ask", "--folder", self.folder, "--program", slow, "a", "A"],
+                              env={**os.environ, "TMPDIR": temporary}) as ask:
+            until(lambda: os.listdir(temporary), "the copy")
+            time.sleep(0.5)
+            ask.terminate()
+            self.assertEqual(ask.wait(helpers.PATIENCE), 143)
+        self.assertEqual(os.listdir(temporary), [])
 
 
-class Example(unittest.TestCase):
+class Example(Case):
     def test_it_runs_as_its_readme_says(self):
         done = subprocess.run([os.path.join(helpers.CONTRIB, "example", "try")], capture_output=True, text=True, timeout=60,
                               env={**os.environ, "R53": R53, **free_ports()})
@@ -400,6 +454,31 @@ class Example(unittest.TestCase):
         self.assertIn("  -> main PRIMARY (healthy)\n", done.stdout)
         self.assertIn("     main PRIMARY (sick: h1 is sick)\n  -> spare SECONDARY (healthy)\n", done.stdout)
         self.assertTrue(done.stdout.endswith("1 removed, 1 added\n"), done.stdout)
+
+
+    def test_the_first_page_runs_as_it_says(self):
+        """The commands of the block in README.md, on free ports, with dig where it is there."""
+        with open(os.path.join(helpers.CONTRIB, "..", "README.md"), encoding="utf-8") as file:
+            block = next(part for part in file.read().split("```text\n") if "$ r53d" in part).split("```")[0]
+        commands = [line[2:].split("   ")[0] for line in block.splitlines() if line.startswith("$ ")]
+        told = [line for line in block.splitlines() if not line.startswith(("$ ", ".."))]
+        ports = free_ports()
+        with tempfile.TemporaryDirectory() as folder:
+            os.symlink(helpers.CONTRIB, os.path.join(folder, "contrib"))
+            text = "\n".join(commands).replace("5300", ports["PORT"]).replace("5301", ports["REPORTS"])
+            text = text.replace("/log &", "/log --query-port %s --report-port %s &\nuntil [ -S zones/r53d.socket ]; do sleep 0.1; done" % (
+                ports["PORT"], ports["REPORTS"]))
+            text = text.replace("dig @", "sleep 1; dig +tries=5 @") + "\nkill %1\nwait"
+            if shutil.which("dig") is None:
+                text, told = text.replace("dig @", "echo dig @"), []
+            done = subprocess.run(["bash", "-c", text], cwd=folder, capture_output=True, text=True, timeout=60, env={
+                **os.environ, "R53": R53, "PATH": os.path.dirname(helpers.R53D) + ":" + os.environ["PATH"]})
+        self.assertEqual(done.stderr, "")
+        replies = [line for line in done.stdout.splitlines() if line.startswith("{")]
+        self.assertEqual(len(replies), 3)
+        self.all_ok([json.loads(line) for line in replies])
+        if told:
+            self.assertEqual(done.stdout.splitlines()[3:], told)
 
 
 def free_ports():
@@ -411,6 +490,42 @@ def free_ports():
     for sock in socks:
         sock.close()
     return ports
+
+
+class Trees(Store):
+    def test_aliases_are_followed_to_their_end(self):
+        chain = [alias("n%d.example.com" % n, "n%d.example.com" % (n + 1)) for n in range(15)]
+        self.make(zone(), batch(one_set("n15.example.com", "192.0.2.1")), *(batch(one) for one in reversed(chain)))
+        self.assertIn("- 192.0.2.1: healthy", self.tool("status"))
+
+
+class Away(Store):
+    def test_status_of_a_service_that_does_not_serve(self):
+        away = os.path.join(self.folder, "away")
+        fails = helpers.script(self.folder, '[ ! -e %s ] || exit 5\nexec $R53 "$@"' % away)
+        service = self.service(program=fails).ready()
+        self.all_ok(service.lines(zone(), check(), failover()))
+        service.report(*down("h1"))
+        until(lambda: service.status()["counts"]["Reports"] == 50, "all reports")
+        with open(away, "w"):
+            os.kill(service.child, 9)
+        until(lambda: len(service.events("ended")) > 4, "the program to fail again and again")
+        told = self.tool("status")
+        self.assertIn("h1: endpoint, threshold 1, 0 of 50 pass: SICK", told)
+        self.assertRegex(told, "service: (down|starting), ")
+        os.unlink(away)
+        service.ready(2)
+
+    def test_status_of_a_service_that_hangs(self):
+        from r53d import state
+        service = self.service().ready()
+        service.process.send_signal(19)
+        kept, state.PATIENCE = state.PATIENCE, 1
+        try:
+            self.assertIn("didn't reply for 1 seconds", self.tool("status", status=2))
+        finally:
+            state.PATIENCE = kept
+            service.process.send_signal(18)
 
 
 class InUse(Store):
@@ -434,7 +549,8 @@ class InUse(Store):
         self.assertIn("copy: file a, generation 1, %d bytes\n" % len(held["r53-a.journal"]), self.tool("backup", copy))
         self.assertEqual(program.words(R53, copy, "dump"), before)
         self.assertIn("192.0.2.2", self.tool("ask", "www.example.com", "A", folder=copy), "the reports too")
-        self.assertIn("a store is there already", self.tool("backup", copy, status=2))
+        self.assertIn("r53-a.journal is there already", self.tool("backup", copy, status=2))
+        self.assertEqual({os.stat(os.path.join(copy, name)).st_mode & 0o777 for name in os.listdir(copy)}, {0o600})
         path = self.file(batch(one_set("new.example.com", "192.0.2.1")), check())
         self.assertIn("192.0.2.2", self.tool("ask", "www.example.com", "A"))
         self.assertIn("new.example.com.", self.tool("diff", path))
@@ -451,6 +567,28 @@ class InUse(Store):
         service.stop()
         self.assertEqual(program.words(R53, self.folder, "dump"), before)
         self.assertIn("h1: endpoint, threshold 1, 0 of 50 pass: SICK", self.tool("status"))
+
+    def test_the_log_is_read_of_one_content(self):
+        """Two compactions while it is written, of which the second one takes the file that is read."""
+        service = self.service().ready()
+        self.all_ok(service.lines(zone(), *(batch(one_set("n%d.example.com" % n, "192.0.2.1")) for n in range(400))))
+        before = self.tool("log", "--lines")
+        compacted = []
+
+        class Out(io.StringIO):
+            def write(out, text):
+                if not compacted:
+                    for _ in range(2):
+                        compacted.append(service.status()["compactions"])
+                        service.lines(b"!compact")
+                        until(lambda: service.status()["compactions"] > compacted[-1], "a compaction")
+                        self.all_ok(service.lines(*(batch(one_set("m%d.example.com" % n, "192.0.2.1"), action="UPSERT") for n in range(50))))
+                return super().write(text)
+        out = Out()
+        with contextlib.redirect_stdout(out):
+            self.assertEqual(control.main(["log", "--folder", self.folder, "--lines"]), 0)
+        self.assertEqual(len(compacted), 2)
+        self.assertEqual(out.getvalue(), before)
 
     def test_copies_while_lines_and_compactions_go_on(self):
         service = self.service(compact_least=1500).ready()
