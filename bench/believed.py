@@ -1,0 +1,156 @@
+#!/usr/bin/env python3
+"""What a reader of the main theorem has to believe: each definition that the clauses of `run` reach, by file, with its lines.
+
+    python3 bench/believed.py            a table of files, with the lines of the definitions that are reached and of the file
+    python3 bench/believed.py --names    each file with the definitions that are reached
+    python3 bench/believed.py --rest     the files of specs/ from which nothing is reached
+
+It begins with the imports of `crates/r53_cli/src/program.rt` that the contract of `run` names, and goes on through the imports of the definitions. A
+definition's lines are its own and the comment right above it. Structs and enums of the code are named as types, and not followed.
+"""
+import os
+import re
+import sys
+
+TOP = os.path.dirname(os.path.dirname(os.path.abspath(__file__)))
+NAME = r"[^\s{},;:()\[\].=]+"
+IMPORT = re.compile(r"(?:ghost )?use Rattle\.([\w.]+?)(?:\.\{([^}]*)\}|\s+as\s+(\w+))?;?\s*$", re.M)
+HEAD = re.compile(r"^(?:(?:pub|abbrev|unfoldable|opaque)\s+)*(?:(record|data)\s+)?(" + NAME + r")")
+
+
+def read(path):
+    with open(path, encoding="utf-8") as file:
+        return file.read()
+
+
+def exports(crate):
+    path = f"{TOP}/crates/{crate}/specs/Lib.antt"
+    found = {}
+    if os.path.isfile(path):
+        for where, name in re.findall(r"^pub use Rattle\.([\w.]+?)(?: as (\w+))?$", read(path), re.M):
+            found[name or where.split(".")[-1]] = where
+    return found
+
+
+def place_of(where):
+    """The file of a module, behind every `pub use`; None of the library's and of the code's types."""
+    for _ in range(20):
+        parts = where.split(".")
+        if len(parts) != 3 or parts[1] != "specs":
+            return None
+        path = f"{TOP}/crates/{parts[0]}/specs/{parts[2]}.antt"
+        if os.path.isfile(path):
+            return path
+        where = exports(parts[0]).get(parts[2], "")
+    return None
+
+
+def imports(text):
+    """Names that a text imports, each with its file and its name there; modules by their short names."""
+    names, modules = {}, {}
+    for where, listed, short in IMPORT.findall(re.sub(r"\n[ \t]+", " ", text)):
+        path = place_of(where)
+        if not path:
+            continue
+        if listed:
+            for it in listed.split(","):
+                name, _, other = it.strip().partition(" as ")
+                if name:
+                    names[(other or name).strip()] = (path, name.strip())
+        else:
+            modules[short or where.split(".")[-1]] = path
+    return names, modules
+
+
+class File:
+    def __init__(self, path):
+        text = read(path)
+        self.names, self.modules = imports(text)
+        self.items, self.size = {}, text.count("\n")
+        lines, at, notes = text.split("\n"), None, []
+        for line in lines:
+            if line.startswith("--"):
+                at = None
+                notes.append(line)
+            elif not line.strip():
+                at = None
+                notes = []
+            elif line[0] in " \t" or line.startswith(("}", ")")):
+                if at:
+                    self.items[at].append(line)
+            elif line.startswith("use "):
+                at, notes = None, []
+            else:
+                found = HEAD.match(line)
+                at = found[2] if found else None
+                if at:
+                    self.items.setdefault(at, []).extend([*notes, line])
+                notes = []
+        # an item goes on behind a blank line where its equations do
+        self.words = {it: set(re.findall(r"[^\s{},;:()\[\]→×⊎λ]+", " ".join(x for x in rows if not x.startswith("--")))) for it, rows in self.items.items()}
+
+
+FILES = {}
+
+
+def file_of(path):
+    if path not in FILES:
+        FILES[path] = File(path)
+    return FILES[path]
+
+
+def reach(starts):
+    seen, left = set(), list(starts)
+    while left:
+        path, name = left.pop()
+        if (path, name) in seen:
+            continue
+        file = file_of(path)
+        if name not in file.items:
+            # a constructor or a field of one of the file's records and types
+            for it, words in file.words.items():
+                if name in words and (path, it) not in seen:
+                    left.append((path, it))
+            continue
+        seen.add((path, name))
+        for word in file.words[name]:
+            first, _, second = word.partition(".")
+            if word in file.items and word != name:
+                left.append((path, word))
+            elif word in file.names:
+                left.append(file.names[word])
+            elif first in file.modules and second:
+                left.append((file.modules[first], second.split(".")[0]))
+            elif first in file.names:
+                left.append(file.names[first])
+            elif first in file.items and first != name:
+                left.append((path, first))
+    return seen
+
+
+def main():
+    text = read(f"{TOP}/crates/r53_cli/src/program.rt")
+    begin = text.index("pub fn run<")
+    contract = text[begin : text.index("\n{", begin)]
+    names, _ = imports(text)
+    words = set(re.findall(r"[\w']+", contract))
+    seen = reach(places for name, places in names.items() if name in words)
+    files = {}
+    for path, name in seen:
+        files.setdefault(path, []).append(name)
+    short = lambda path: os.path.relpath(path, f"{TOP}/crates")
+    size = lambda path: sum(len(file_of(path).items[it]) for it in files[path])
+    if "--rest" in sys.argv:
+        for at, _, listed in sorted(os.walk(f"{TOP}/crates")):
+            if os.path.basename(at) == "specs":
+                for it in sorted(listed):
+                    path = f"{at}/{it}"
+                    if it.endswith(".antt") and it != "Lib.antt" and path not in files:
+                        print(short(path), read(path).count("\n"))
+        return
+    for path in sorted(files):
+        print(f"| `{short(path)}` | {size(path)} | {file_of(path).size} |" + (" " + ", ".join(f"`{it}`" for it in sorted(files[path])) if "--names" in sys.argv else ""))
+    print(f"{len(files)} files, {len(seen)} definitions, {sum(map(size, files))} lines; {sum(file_of(it).size for it in files)} lines of these files in all")
+
+
+main()
