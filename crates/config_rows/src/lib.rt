@@ -1,10 +1,5 @@
-//! Rows by hand over configurations: the sets of a new zone, and snapshots that are read part by
-//! part and as a whole.
+//! Rows by hand over configurations: snapshots that are read and written.
 #![tactic(auto)]
 
-#[cfg(test)]
-mod new_zone;
-#[cfg(test)]
-mod snapshots;
 #[cfg(test)]
 mod states;

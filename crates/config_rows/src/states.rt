@@ -109,28 +109,6 @@ fn unsound(rt: HostRuntime) {
 }
 
 #[test]
-fn outside_the_grammar(rt: HostRuntime) {
-    let rows: [(&[u8], &str); 3] = [
-        (
-            b"\x03\0\0\0\x01\0\0\0\x01\0\0\0\x01\0\0\0\0\0\0",
-            "version 3, but there was no collection",
-        ),
-        (
-            b"\x01\0\0\0\x01\0\0\0\x01\0\0\0\0\0\0",
-            "collections in version 1",
-        ),
-        (
-            b"\x02\0\0\0\x01\0\0\0\x01\0\0\0\0\0",
-            "an octet behind the zones",
-        ),
-    ];
-    for (octets, why) in rows {
-        let found = fault(rt.alloc(), octets);
-        assert_eq!(rt; found, Some(SnapshotFault::Bad), "{why}");
-    }
-}
-
-#[test]
 fn cut_short(rt: HostRuntime) {
     for len in 0..SECOND.len() {
         let found = fault(rt.alloc(), &SECOND[..len]);

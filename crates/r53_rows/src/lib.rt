@@ -6,12 +6,6 @@ mod edns;
 #[cfg(test)]
 mod faults;
 #[cfg(test)]
-mod forms;
-#[cfg(test)]
 mod once;
-#[cfg(test)]
-mod replies;
-#[cfg(test)]
-mod statuses;
 #[cfg(test)]
 mod stores;
