@@ -14,14 +14,14 @@ use Rattle.record_set.specs.declared.sets.Body.{Body}
 use Rattle.record_set.specs.declared.sets.Body.TheVariants as body
 use Rattle.record_set.specs.declared.sets.RecordSet.{RecordSet}
 use Rattle.record_set.specs.declared.sets.SetKey.{SetKey}
-use Rattle.set_scratch.specs.Telling.{is_alias}
+use Rattle.zone_table.specs.Telling.{is_alias}
 use Rattle.zone_table.proofs.Equation.{with_all_rises}
 use Rattle.zone_table.proofs.Members.{all_in, in_all, same_sets}
 use Rattle.zone_table.specs.Changes.{DifferByKey, IsKeyOf, with_all}
-use Rattle.zone_model.proofs.Ordered.{keys_tie, keys_total}
-use Rattle.zone_model.specs.Keys.{key_cmp}
-use Rattle.zone_model.specs.Placing.{IsThere}
-use Rattle.zone_model.specs.Zones.{IsAmong, IsRising}
+use Rattle.zone_table.proofs.Ordered.{keys_tie, keys_total}
+use Rattle.zone_table.specs.Keys.{key_cmp}
+use Rattle.zone_table.specs.Placing.{IsThere}
+use Rattle.zone_table.specs.Sets.{IsAmong, IsRising}
 use Rattle.alias_links.specs.After.{changed}
 use Rattle.alias_links.specs.Aliases.{aliases_of, is_alias_set, is_key_of, kept_of, stays}
 use Rattle.alias_links.specs.Laws.{IsChange}

@@ -12,8 +12,8 @@ use Rattle.zone_table.proofs.Equation.{of_without_all, with_all_rises, without_a
 use Rattle.zone_table.proofs.Members.{in_all}
 use Rattle.zone_table.specs.Changes.{IsKeyOf, without_all}
 use Rattle.zone_table.specs.Zones.{Zone}
-use Rattle.zone_model.specs.Placing.{IsThere}
-use Rattle.zone_model.specs.Zones.{IsAmong, IsRising, group, is_of_group}
+use Rattle.zone_table.specs.Placing.{IsThere}
+use Rattle.zone_table.specs.Sets.{IsAmong, IsRising, group, is_of_group}
 use Rattle.zone_table.specs.Edits.{IsAllowed}
 use Rattle.zone_table.specs.declared.edits.ZoneEdit.TheVariants.{Change}
 use Rattle.alias_links.specs.After.{changed, sets_in}

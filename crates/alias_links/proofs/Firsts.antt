@@ -9,11 +9,11 @@ use Rattle.alias_tree.specs.Firsts.{IsFirstPlace, NoneBefore}
 use Rattle.record_set.specs.Sets.{key_of}
 use Rattle.record_set.specs.declared.sets.RecordSet.{RecordSet}
 use Rattle.record_set.specs.declared.sets.SetKey.{SetKey}
-use Rattle.zone_model.proofs.Among.{among_at, place_of}
-use Rattle.zone_model.proofs.Ordered.{keys_tie, keys_total}
-use Rattle.zone_model.proofs.Places.{rising_at}
-use Rattle.zone_model.specs.Keys.{key_cmp}
-use Rattle.zone_model.specs.Zones.{IsAmong, IsRising}
+use Rattle.zone_table.proofs.Among.{among_at, place_of}
+use Rattle.zone_table.proofs.Ordered.{keys_tie, keys_total}
+use Rattle.zone_table.proofs.Places.{rising_at}
+use Rattle.zone_table.specs.Keys.{key_cmp}
+use Rattle.zone_table.specs.Sets.{IsAmong, IsRising}
 use Rattle.alias_links.specs.After.{IsFirstKey, IsFirstSet}
 use Rattle.alias_links.specs.Leasts.{IsLeast, IsLesser, LeastOrNone}
 

@@ -4,10 +4,10 @@ use Rattle.std.proofs.Common.{ap, ◌∙◌, sym, refl, subst, arith}
 use Rattle.std.specs.Prelude.{slice_get}
 use Rattle.rdata_layout.specs.declared.types.RType.{RType}
 use Rattle.record_set.specs.declared.sets.RecordSet.{RecordSet}
-use Rattle.set_search.specs.Found.{IsGroupAt}
+use Rattle.zone_table.specs.Found.{IsGroupAt}
 use Rattle.zone_table.proofs.Members.{filled}
-use Rattle.zone_model.proofs.Among.{among_at, place_of}
-use Rattle.zone_model.specs.Zones.{IsAmong, group}
+use Rattle.zone_table.proofs.Among.{among_at, place_of}
+use Rattle.zone_table.specs.Sets.{IsAmong, group}
 
 module _ {X : Type 0} where
   got_of_take : (xs : List X) (n i : ℕ) → i < n → slice_get (take n xs) i ≡ slice_get xs i

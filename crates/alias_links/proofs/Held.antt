@@ -10,13 +10,13 @@ use Rattle.record_set.specs.Reasons.{IsAlias}
 use Rattle.record_set.specs.declared.sets.Body.{Body}
 use Rattle.record_set.specs.declared.sets.Body.TheVariants as body
 use Rattle.record_set.specs.declared.sets.RecordSet.{RecordSet}
-use Rattle.set_scratch.specs.Telling.{is_alias, target_in, target_of}
+use Rattle.zone_table.specs.Telling.{is_alias, target_in, target_of}
 use Rattle.zone_table.proofs.Members.{in_all}
 use Rattle.zone_table.specs.Zones.{AreZones, StandsAlone, Zone, placed_in}
 use Rattle.zone_table.specs.SetRefRecord.{SetRef}
-use Rattle.zone_model.proofs.Among.{among_at}
-use Rattle.zone_model.specs.Placed.{HaveOwnSlots, IsSlotAt, Placed, sets_of}
-use Rattle.zone_model.specs.Zones.{IsAmong, IsRising, group, target_group, target_group_of}
+use Rattle.zone_table.proofs.Among.{among_at}
+use Rattle.zone_table.specs.Placed.{HaveOwnSlots, IsSlotAt, Placed, sets_of}
+use Rattle.zone_table.specs.Sets.{IsAmong, IsRising, group, target_group, target_group_of}
 use Rattle.zone_table.specs.Looking.{Names, Targets}
 use Rattle.alias_links.specs.After.{sets_in}
 

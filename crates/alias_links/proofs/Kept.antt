@@ -12,17 +12,17 @@ use Rattle.record_set.specs.declared.sets.Body.TheVariants as body
 use Rattle.record_set.specs.declared.sets.RecordSet.{RecordSet}
 use Rattle.record_set.specs.declared.sets.SetKey.{SetKey}
 use Rattle.routing.specs.declared.policies.Routing.{Routing}
-use Rattle.set_scratch.specs.Bodies.{alias_of}
-use Rattle.set_scratch.specs.Telling.{is_alias}
-use Rattle.set_search.specs.Found.{FindsAt}
+use Rattle.zone_table.specs.Bodies.{alias_of}
+use Rattle.zone_table.specs.Telling.{is_alias}
+use Rattle.zone_table.specs.Found.{FindsAt}
 use Rattle.zone_table.proofs.Coming.{set_parts}
 use Rattle.zone_table.proofs.Members.{left_at, nothing_left}
 use Rattle.zone_table.specs.Changes.{IsKeyOf, with_all}
-use Rattle.zone_model.proofs.Among.{place_of}
-use Rattle.zone_model.proofs.Lists.{take_more}
-use Rattle.zone_model.specs.Placing.{comes_before, placed}
-use Rattle.zone_model.specs.Walks.{HasNoTarget, IsTooDeep}
-use Rattle.zone_model.specs.Zones.{IsRising}
+use Rattle.zone_table.proofs.Among.{place_of}
+use Rattle.zone_table.proofs.Lists.{take_more}
+use Rattle.zone_table.specs.Placing.{comes_before, placed}
+use Rattle.zone_table.specs.Walks.{HasNoTarget, IsTooDeep}
+use Rattle.zone_table.specs.Sets.{IsRising}
 use Rattle.alias_tree.specs.Firsts.{IsFirstPlace}
 use Rattle.alias_links.specs.After.{IsFirstKey, changed}
 use Rattle.alias_links.specs.Aliases.{SetIf, aliases_of, is_alias_set, kept_of, stays}

@@ -3,8 +3,8 @@ use Rattle.std.proofs.Common.{◌≡◌, ◌≢◌, ℕ, zero, suc, ◌+◌, ◌
 use Rattle.std.proofs.Common.{refl, subst, arith, inl, inr}
 use Rattle.std.specs.Prelude.{slice_get, ◌⊎◌}
 use Rattle.std.proofs.lemmas.Option.{slice_get_within}
-use Rattle.zone_model.proofs.Among.{place_of}
-use Rattle.zone_model.specs.Zones.{IsAmong}
+use Rattle.zone_table.proofs.Among.{place_of}
+use Rattle.zone_table.specs.Sets.{IsAmong}
 
 -- a number below the next one is below this one, or it
 last_or : (j i : ℕ) → j < i + 1 → (j < i) ⊎ (j ≡ i)

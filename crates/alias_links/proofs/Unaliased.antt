@@ -6,9 +6,9 @@ use Rattle.record_set.specs.Reasons.{IsAlias}
 use Rattle.record_set.specs.declared.sets.Body.{Body}
 use Rattle.record_set.specs.declared.sets.Body.TheVariants as body
 use Rattle.record_set.specs.declared.sets.RecordSet.{RecordSet}
-use Rattle.zone_model.specs.Placed.{Placed, sets_of}
-use Rattle.zone_model.specs.Zones.{IsAmong}
-use Rattle.zone_model.specs.Walks.{HasNoTarget}
+use Rattle.zone_table.specs.Placed.{Placed, sets_of}
+use Rattle.zone_table.specs.Sets.{IsAmong}
+use Rattle.zone_table.specs.Walks.{HasNoTarget}
 use Rattle.zone_table.specs.Sums.{aliases_in, aliases_of, one_of}
 use Rattle.zone_table.specs.Telling.{is_alias}
 

@@ -15,9 +15,9 @@ use Rattle.record_set.specs.declared.sets.Body.TheVariants as body
 use Rattle.record_set.specs.declared.sets.RecordSet.{RecordSet}
 use Rattle.record_set.specs.declared.sets.SetKey.{SetKey}
 use Rattle.zone_table.specs.Changes.{IsKeyOf}
-use Rattle.zone_model.proofs.Ordered.{one_number}
-use Rattle.zone_model.specs.Walks.{HasNoTarget, IsTooDeep, IsWalk, StartsWalk}
-use Rattle.zone_model.specs.Zones.{IsAmong, group, is_of_group, target_group_of}
+use Rattle.zone_table.proofs.Ordered.{one_number}
+use Rattle.zone_table.specs.Walks.{HasNoTarget, IsTooDeep, IsWalk, StartsWalk}
+use Rattle.zone_table.specs.Sets.{IsAmong, group, is_of_group, target_group_of}
 use Rattle.alias_links.specs.After.{changed}
 use Rattle.alias_links.specs.Aliases.{aliases_of, is_alias_set, is_key_of}
 use Rattle.alias_links.specs.Laws.{AliasesStay, EmptiesGroup, HasAlias, IsChange, NoneHas}

@@ -5,8 +5,8 @@ use Rattle.std.specs.Ordering.{is_eq}
 use Rattle.record_set.specs.Sets.{key_of}
 use Rattle.record_set.specs.declared.sets.RecordSet.{RecordSet}
 use Rattle.record_set.specs.declared.sets.SetKey.{SetKey}
-use Rattle.set_scratch.specs.Telling.{is_alias}
-use Rattle.zone_model.specs.Keys.{key_cmp}
+use Rattle.zone_table.specs.Telling.{is_alias}
+use Rattle.zone_table.specs.Keys.{key_cmp}
 
 abbrev pub is_alias_set : RecordSet → Bool
 is_alias_set set = is_alias set.body

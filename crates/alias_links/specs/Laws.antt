@@ -7,9 +7,9 @@ use Rattle.record_set.specs.Sets.{key_of}
 use Rattle.record_set.specs.declared.sets.RecordSet.{RecordSet}
 use Rattle.record_set.specs.declared.sets.SetKey.{SetKey}
 use Rattle.zone_table.specs.Changes.{DifferByKey, IsKeyOf}
-use Rattle.zone_model.specs.Placing.{IsThere}
-use Rattle.zone_model.specs.Walks.{HasNoTarget, IsTooDeep}
-use Rattle.zone_model.specs.Zones.{IsAmong, group}
+use Rattle.zone_table.specs.Placing.{IsThere}
+use Rattle.zone_table.specs.Walks.{HasNoTarget, IsTooDeep}
+use Rattle.zone_table.specs.Sets.{IsAmong, group}
 
 -- an alias is among the sets
 abbrev pub HasAlias : List RecordSet → Type 0

@@ -5,9 +5,9 @@ use Rattle.record_set.specs.Sets.{key_of}
 use Rattle.record_set.specs.declared.sets.RecordSet.{RecordSet}
 use Rattle.record_set.specs.declared.sets.SetKey.{SetKey}
 use Rattle.zone_table.specs.Changes.{IsKeyOf}
-use Rattle.zone_model.specs.Keys.{key_cmp}
-use Rattle.zone_model.specs.Walks.{HasNoTarget}
-use Rattle.zone_model.specs.Zones.{IsAmong}
+use Rattle.zone_table.specs.Keys.{key_cmp}
+use Rattle.zone_table.specs.Walks.{HasNoTarget}
+use Rattle.zone_table.specs.Sets.{IsAmong}
 
 -- The key is that of a set that has it, and no such set's key is less.
 pub record IsLeast (Has : RecordSet → Type 0) (sets : List RecordSet) (key : SetKey)

@@ -4,6 +4,9 @@ pub mod Laws
 pub mod Leasts
 pub mod Links
 pub use Rattle.alias_tree.specs.Firsts
-pub use Rattle.zone_model.specs.Walks
+pub use Rattle.zone_table.specs.Walks
 pub use Rattle.zone_table.specs.Edits
 pub use Rattle.zone_table.specs.Looking
+pub use Rattle.alias_tree.specs.Bounds
+pub use Rattle.alias_tree.specs.Found
+pub use Rattle.alias_tree.specs.BoundRecord

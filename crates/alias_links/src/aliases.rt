@@ -4,10 +4,10 @@ ghost use Rattle.std.specs.Prelude.{◌≡◌, ◌<◌, ◌++◌, ◌∷◌, [],
 ghost use Rattle.std.specs.Prelude.{OnOk, Some};
 ghost use Rattle.record_set.specs.Sets.{key_of};
 ghost use Rattle.record_set.specs.declared.sets.RecordSet.{RecordSet};
-ghost use Rattle.set_scratch.specs.Holding.{IsHolding};
+ghost use Rattle.zone_table.specs.Holding.{IsHolding};
 ghost use Rattle.zone_table.specs.Changes.{with_all};
-ghost use Rattle.zone_model.specs.Placing.{placed};
-ghost use Rattle.zone_model.specs.Zones.{IsRising};
+ghost use Rattle.zone_table.specs.Placing.{placed};
+ghost use Rattle.zone_table.specs.Sets.{IsRising};
 ghost use Rattle.alias_links.specs.After.{changed_in, sets_in};
 ghost use Rattle.alias_links.specs.Aliases.{SetIf, aliases_of, is_alias_set, kept_of, stays};
 ghost use Rattle.alias_links.specs.Laws.{IsChange};
@@ -16,9 +16,8 @@ use crate::keys::{is_alias, is_key_of, key_in};
 use crate::places::{hold_at, target_at};
 use octets::OutOfMemory;
 use record_set::{Body, RecordSet, SetKey};
-use set_search::find;
 use std::alloc::Global;
-use zone_table::{Scratch, Zones};
+use zone_table::{Scratch, Zones, find};
 
 /// The aliases of a zone after a change.
 pub fn aliases_after(

@@ -4,7 +4,7 @@ ghost use Rattle.std.specs.Prelude.{◌≡◌, ◌≢◌, ◌↔◌, [], IsTrue}
 ghost use Rattle.record_set.specs.Sets.{key_of};
 ghost use Rattle.record_set.specs.declared.sets.RecordSet.{RecordSet};
 ghost use Rattle.zone_table.specs.Changes.{IsKeyOf};
-ghost use Rattle.zone_model.specs.Zones.{IsAmong, group};
+ghost use Rattle.zone_table.specs.Sets.{IsAmong, group};
 ghost use Rattle.zone_table.specs.Edits.{IsAllowed};
 ghost use Rattle.zone_table.specs.declared.edits.ZoneEdit.TheVariants.{Change};
 ghost use Rattle.alias_links.specs.After.{changed_in, sets_in};

@@ -3,9 +3,9 @@
 ghost use Rattle.std.specs.Prelude.{◌≡◌, ◌↔◌, IsTrue, Some};
 ghost use Rattle.record_set.specs.Sets.{ident_of, key_of};
 ghost use Rattle.record_set.specs.declared.sets.RecordSet.{RecordSet};
-ghost use Rattle.set_scratch.specs.Holding.{IsHolding};
+ghost use Rattle.zone_table.specs.Holding.{IsHolding};
 ghost use Rattle.zone_table.specs.Changes.{IsKeyOf};
-ghost use Rattle.zone_model.specs.Zones.{IsAmong, is_of_group};
+ghost use Rattle.zone_table.specs.Sets.{IsAmong, is_of_group};
 ghost use Rattle.alias_links.specs.Aliases.{is_alias_set};
 ghost use Rattle.alias_links.specs.Laws.{HasAlias};
 ghost use Rattle.alias_links.specs.Leasts.{IsLesser};
@@ -13,8 +13,7 @@ ghost use Rattle.alias_links.specs.Leasts.{IsLesser};
 use dns_name::Name;
 use rdata_layout::RType;
 use record_set::{Body, Ident, RecordSet, Routing, SetKey};
-use zone_model::{key_cmp, keys_are_ordered};
-use zone_table::Scratch;
+use zone_table::{Scratch, key_cmp, keys_are_ordered};
 
 /// Whether the key is one of these.
 pub fn is_key_of(keys: &[SetKey], key: &SetKey) -> bool

@@ -3,8 +3,8 @@
 ghost use Rattle.std.specs.Prelude.{◌≡◌, ◌≢◌, ◌<◌, ◌+◌, length, slice_get, IsTrue, ◌↔◌, Some};
 ghost use Rattle.record_set.specs.Sets.{key_of};
 ghost use Rattle.record_set.specs.declared.sets.RecordSet.{RecordSet};
-ghost use Rattle.set_scratch.specs.Holding.{IsHolding};
-ghost use Rattle.set_scratch.specs.Telling.{target_of};
+ghost use Rattle.zone_table.specs.Holding.{IsHolding};
+ghost use Rattle.zone_table.specs.Telling.{target_of};
 ghost use Rattle.zone_table.specs.Changes.{IsKeyOf};
 ghost use Rattle.zone_table.specs.Looking.{IsGroupNow};
 ghost use Rattle.alias_links.specs.After.{sets_in};

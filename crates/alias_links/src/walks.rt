@@ -1,8 +1,8 @@
 //! The first set from which, after a change, aliases would lead on too far.
 
 ghost use Rattle.std.specs.Prelude.{IfOk};
-ghost use Rattle.zone_model.specs.Walks.{IsTooDeep};
-ghost use Rattle.zone_model.specs.Zones.{IsRising};
+ghost use Rattle.zone_table.specs.Walks.{IsTooDeep};
+ghost use Rattle.zone_table.specs.Sets.{IsRising};
 ghost use Rattle.zone_table.specs.Edits.{IsAllowed};
 ghost use Rattle.zone_table.specs.declared.edits.ZoneEdit.TheVariants.{Change};
 ghost use Rattle.alias_links.specs.After.{IsFirstKey, changed_in};

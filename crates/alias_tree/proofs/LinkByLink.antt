@@ -3,10 +3,10 @@ use Rattle.std.proofs.Common.{◌≡◌, ℕ, ◌+◌, ◌<◌, List, [], ◌∷
 use Rattle.std.proofs.Common.{true, Option, None, Some, arith, inl, inr}
 use Rattle.std.specs.Prelude.{◌⊎◌, ◌↔◌, slice_get, is_none}
 use Rattle.std.proofs.lemmas.Option.{slice_get_within}
-use Rattle.record_set.specs.Reasons.{IsAlias}
-use Rattle.record_set.specs.declared.sets.RecordSet.{RecordSet}
-use Rattle.zone_model.specs.Walks.{StartsWalk, IsTooDeep}
-use Rattle.zone_model.specs.Zones.{IsAmong, target_group}
+use Rattle.set_search.specs.Reasons.{IsAlias}
+use Rattle.set_search.specs.RecordSetRecord.{RecordSet}
+use Rattle.set_search.specs.Walks.{StartsWalk, IsTooDeep}
+use Rattle.set_search.specs.Zones.{IsAmong, target_group}
 use Rattle.alias_tree.specs.declared.targets.Target.{Target}
 use Rattle.alias_tree.specs.Firsts.{IsFirstPlace}
 use Rattle.alias_tree.specs.Marks.{IsMarked, IsMarkedWithin, AreLedOn, IsFirstMark}

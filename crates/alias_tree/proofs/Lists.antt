@@ -2,7 +2,7 @@
 use Rattle.std.proofs.Common.{◌≡◌, ℕ, zero, suc, ◌+◌, ◌<◌, ◌≤◌, List, [], ◌∷◌, ◌++◌, length, take}
 use Rattle.std.proofs.Common.{drop, ap, refl, Some, arith, inl, inr}
 use Rattle.std.specs.Prelude.{◌⊎◌, slice_get}
-use Rattle.zone_model.specs.Zones.{IsAmong}
+use Rattle.set_search.specs.Zones.{IsAmong}
 
 module _ {X : Type 0} where
   pub filled : (xs : List X) (i : ℕ) → i < length xs → (x : X) × (slice_get xs i ≡ Some x)

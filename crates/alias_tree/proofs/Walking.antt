@@ -1,11 +1,11 @@
 -- Walks by their first link.
 use Rattle.std.proofs.Common.{◌≡◌, ℕ, zero, suc, ◌+◌, ◌<◌, ◌≤◌, List, [], ◌∷◌, length, ap, refl, arith}
-use Rattle.record_set.specs.Reasons.{IsAlias}
-use Rattle.record_set.specs.declared.sets.RecordSet.{RecordSet}
-use Rattle.record_set.specs.declared.sets.Body.{Body}
-use Rattle.record_set.specs.declared.sets.Body.TheVariants as body
-use Rattle.zone_model.specs.Walks.{IsWalk, StartsWalk}
-use Rattle.zone_model.specs.Zones.{IsAmong, target_group, target_group_of}
+use Rattle.set_search.specs.Reasons.{IsAlias}
+use Rattle.set_search.specs.RecordSetRecord.{RecordSet}
+use Rattle.set_search.specs.BodyRecord.{Body}
+use Rattle.set_search.specs.BodyRecord.TheVariants as body
+use Rattle.set_search.specs.Walks.{IsWalk, StartsWalk}
+use Rattle.set_search.specs.Zones.{IsAmong, target_group, target_group_of}
 use Rattle.alias_tree.specs.Laws.{WalksBegin, WalksGoOn}
 
 module _ (sets : List RecordSet) (set : RecordSet) where

@@ -1,6 +1,6 @@
 -- The first set of a list that has something.
 use Rattle.std.specs.Prelude.{◌≡◌, ◌<◌, ℕ, List, length, slice_get, Option, None, Some}
-use Rattle.record_set.specs.declared.sets.RecordSet.{RecordSet}
+use Rattle.set_search.specs.RecordSetRecord.{RecordSet}
 
 -- the set at place i has it
 abbrev pub HasAt : (RecordSet → Type 0) → List RecordSet → (i : ℕ) → Type 0

@@ -1,9 +1,9 @@
 -- Laws on walks, and on first places.
 use Rattle.std.specs.Prelude.{◌≡◌, ◌↔◌, ℕ, ◌+◌, ◌<◌, List, Option}
-use Rattle.record_set.specs.declared.sets.RecordSet.{RecordSet}
-use Rattle.record_set.specs.Reasons.{IsAlias}
-use Rattle.zone_model.specs.Walks.{StartsWalk, HasNoTarget, IsTooDeep}
-use Rattle.zone_model.specs.Zones.{IsAmong, target_group}
+use Rattle.set_search.specs.RecordSetRecord.{RecordSet}
+use Rattle.set_search.specs.Reasons.{IsAlias}
+use Rattle.set_search.specs.Walks.{StartsWalk, HasNoTarget, IsTooDeep}
+use Rattle.set_search.specs.Zones.{IsAmong, target_group}
 use Rattle.alias_tree.specs.Firsts.{IsFirstPlace}
 
 -- A walk of one link starts at each alias of the zone, and at no other set.

@@ -1,7 +1,7 @@
 -- Where walks of so many links start.
 use Rattle.std.specs.Prelude.{◌≡◌, ◌↔◌, ℕ, List, length, Bool, slice_get, Some}
-use Rattle.record_set.specs.declared.sets.RecordSet.{RecordSet}
-use Rattle.zone_model.specs.Walks.{StartsWalk}
+use Rattle.set_search.specs.RecordSetRecord.{RecordSet}
+use Rattle.set_search.specs.Walks.{StartsWalk}
 use Rattle.alias_tree.specs.Marks.{IsMarked}
 
 -- The marks are at the sets at which a walk of n links starts.

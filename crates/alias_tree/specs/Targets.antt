@@ -1,7 +1,7 @@
 -- The places of target groups in a list of sets.
 use Rattle.std.specs.Prelude.{◌≡◌, ◌+◌, ◌≤◌, ℕ, List, length, take, drop, slice_get, Some}
-use Rattle.record_set.specs.declared.sets.RecordSet.{RecordSet}
-use Rattle.zone_model.specs.Zones.{target_group}
+use Rattle.set_search.specs.RecordSetRecord.{RecordSet}
+use Rattle.set_search.specs.Zones.{target_group}
 use Rattle.alias_tree.specs.declared.targets.Target.{Target}
 
 -- The target group of the set stands at these places, side by side.

@@ -5,8 +5,7 @@ ghost use Rattle.set_search.specs.Found.{IsOf};
 
 use dns_name::Name;
 use rdata_layout::RType;
-use record_set::RecordSet;
-use set_search::{SetList, Stop, set_is_before, type_under};
+use set_search::{RecordSet, SetList, Stop, set_is_before, type_under};
 
 /// Sets that are searched where they stand.
 #[derive(Clone, Copy)]

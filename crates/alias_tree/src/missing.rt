@@ -1,13 +1,13 @@
 //! The first alias whose target group has no sets.
 
 ghost use Rattle.std.specs.Prelude.{◌↔◌, IsTrue};
-ghost use Rattle.record_set.specs.Reasons.{IsAlias};
-ghost use Rattle.zone_model.specs.Walks.{HasNoTarget};
-ghost use Rattle.zone_model.specs.Zones.{IsRising};
+ghost use Rattle.set_search.specs.Reasons.{IsAlias};
+ghost use Rattle.set_search.specs.Walks.{HasNoTarget};
+ghost use Rattle.set_search.specs.Zones.{IsRising};
 ghost use Rattle.alias_tree.specs.Firsts.{IsFirstPlace};
 
 use crate::targets::target_of;
-use record_set::{Body, RecordSet};
+use set_search::{Body, RecordSet};
 
 /// The place of the first set that is an alias of an empty target group; None where no set is.
 pub fn missing_target(sets: &[RecordSet]) -> Option<usize>

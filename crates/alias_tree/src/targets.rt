@@ -1,13 +1,12 @@
 //! Where the target groups of aliases stand in zone order.
 
 ghost use Rattle.std.specs.Prelude.{IfOk};
-ghost use Rattle.zone_model.specs.Zones.{IsRising};
+ghost use Rattle.set_search.specs.Zones.{IsRising};
 ghost use Rattle.alias_tree.specs.Targets.{IsTargetOf, AreTargets};
 
 use crate::listed::Listed;
 use octets::OutOfMemory;
-use record_set::{Body, RecordSet};
-use set_search::group_in;
+use set_search::{Body, RecordSet, group_in};
 use std::alloc::Global;
 
 /// The places of a target group: the first of them, and how many they are.

@@ -4,9 +4,9 @@
 //! the target group.
 
 ghost use Rattle.std.specs.Prelude.{◌≡◌, List, length, IfOk};
-ghost use Rattle.record_set.specs.declared.sets.RecordSet.{RecordSet};
-ghost use Rattle.zone_model.specs.Walks.{IsTooDeep};
-ghost use Rattle.zone_model.specs.Zones.{IsRising};
+ghost use Rattle.set_search.specs.RecordSetRecord.{RecordSet};
+ghost use Rattle.set_search.specs.Walks.{IsTooDeep};
+ghost use Rattle.set_search.specs.Zones.{IsRising};
 ghost use Rattle.alias_tree.specs.Firsts.{IsFirstPlace};
 ghost use Rattle.alias_tree.specs.Starts.{AreStarts};
 ghost use Rattle.alias_tree.specs.Targets.{AreTargets, AreWithin};
@@ -16,7 +16,7 @@ use crate::missing::is_alias;
 use crate::rounds::lead_on;
 use crate::targets::{Target, targets_of};
 use octets::OutOfMemory;
-use record_set::RecordSet;
+use set_search::RecordSet;
 use std::alloc::Global;
 
 /// The most links of a walk.

@@ -4,10 +4,10 @@ use Rattle.std.proofs.Common.{Option, List, [], ◌∷◌, refl, inl, inr, arith
 use Rattle.std.specs.Prelude.{⊤, cond}
 use Rattle.dns_name.specs.Stored.{labels_of}
 use Rattle.dns_wire.specs.Message.{Record}
-use Rattle.rdata_layout.specs.declared.types.RType.TheVariants as rtype
-use Rattle.record_set.specs.declared.sets.Body.{Body}
-use Rattle.record_set.specs.declared.sets.Body.TheVariants as body
-use Rattle.record_set.specs.declared.sets.RecordSet.{RecordSet}
+use Rattle.zone_model.specs.RTypeRecord.TheVariants as rtype
+use Rattle.zone_model.specs.BodyRecord.{Body}
+use Rattle.zone_model.specs.BodyRecord.TheVariants as body
+use Rattle.zone_model.specs.RecordSetRecord.{RecordSet}
 use Rattle.zone_model.specs.Zones.{group, target_group}
 use Rattle.answer_model.specs.Descent.{Choices, Descended, Means, no_choices, by_body, by_choice}
 use Rattle.answer_model.specs.Descent.{descend, descends, selected, with_choice, word_of}

@@ -8,11 +8,11 @@ use Rattle.std.specs.List.{filter}
 use Rattle.std.proofs.lemmas.Bool.Decides.{Decides-and}
 use Rattle.dns_name.specs.OrderLaws.{same_labels-Decides}
 use Rattle.dns_name.specs.Suffix.{EndsWith}
-use Rattle.rdata_layout.specs.Types.{number_of}
-use Rattle.rdata_layout.specs.declared.types.RType.{RType}
-use Rattle.rdata_layout.specs.declared.types.RType.TheVariants.{A, Ns, Cname, Soa, Ptr, Mx, Txt}
-use Rattle.rdata_layout.specs.declared.types.RType.TheVariants.{Aaaa, Srv, Spf, Caa}
-use Rattle.record_set.specs.declared.sets.RecordSet.{RecordSet}
+use Rattle.zone_model.specs.Types.{number_of}
+use Rattle.zone_model.specs.RTypeRecord.{RType}
+use Rattle.zone_model.specs.RTypeRecord.TheVariants.{A, Ns, Cname, Soa, Ptr, Mx, Txt}
+use Rattle.zone_model.specs.RTypeRecord.TheVariants.{Aaaa, Srv, Spf, Caa}
+use Rattle.zone_model.specs.RecordSetRecord.{RecordSet}
 use Rattle.zone_model.specs.Existing.{IsAncestor}
 use Rattle.zone_model.specs.Zones.{IsAmong, group, is_of_group}
 use Rattle.answer_model.specs.Laws.{CutOrNone, CutsAreNearest, IsCutAbove}

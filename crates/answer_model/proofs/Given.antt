@@ -2,18 +2,18 @@
 use Rattle.std.proofs.Common.{ℕ, true, false, None, List, [], ◌∷◌, ◌++◌, replicate}
 use Rattle.std.specs.Prelude.{Option, codes, length, map, ◌+◌}
 use Rattle.address_text.specs.declared.address.IpAddress.TheVariants.{V4}
-use Rattle.dns_message.specs.declared.query.Edns.{Edns}
-use Rattle.dns_message.specs.declared.query.Query.{Query}
-use Rattle.dns_message.specs.declared.query.QueryRead.TheVariants as read
+use Rattle.dns_wire.specs.EdnsRecord.{Edns}
+use Rattle.dns_wire.specs.QueryRecord.{Query}
+use Rattle.dns_wire.specs.QueryReadRecord.TheVariants as read
 use Rattle.dns_name.specs.Labels.{wire}
 use Rattle.dns_wire.specs.Message.{Record}
-use Rattle.geo_latency.specs.declared.tables.Tables.{Tables}
+use Rattle.choice_model.specs.TablesRecord.{Tables}
 use Rattle.octets.specs.Numbers.{two_octets}
-use Rattle.rdata_layout.specs.declared.types.RType.{RType}
-use Rattle.rdata_layout.specs.declared.types.RType.TheVariants as rtype
-use Rattle.record_set.specs.declared.sets.Body.TheVariants as body
-use Rattle.record_set.specs.declared.sets.RecordSet.{RecordSet}
-use Rattle.record_set.specs.declared.sets.SetKey.{SetKey}
+use Rattle.zone_model.specs.RTypeRecord.{RType}
+use Rattle.zone_model.specs.RTypeRecord.TheVariants as rtype
+use Rattle.zone_model.specs.BodyRecord.TheVariants as body
+use Rattle.zone_model.specs.RecordSetRecord.{RecordSet}
+use Rattle.zone_model.specs.SetKeyRecord.{SetKey}
 use Rattle.routing.specs.declared.policies.Routing.{Routing}
 use Rattle.routing.specs.declared.policies.Routing.TheVariants as routing
 use Rattle.answer_model.specs.Clients.{Client}

@@ -8,3 +8,5 @@ pub mod Replies
 pub mod Scenarios
 pub mod Vectors
 pub mod Zoning
+pub use Rattle.zone_model.proofs.Among
+pub use Rattle.zone_model.proofs.Lists

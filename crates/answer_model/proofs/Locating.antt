@@ -8,11 +8,11 @@ use Rattle.std.proofs.lemmas.Bool.Decides.{Decides-and, Decides-eqb, Decides-ltb
 use Rattle.address_text.specs.declared.address.IpAddress.{IpAddress}
 use Rattle.address_text.specs.declared.address.IpAddress.TheVariants.{V4, V6}
 use Rattle.cidr_blocks.specs.Places.{rows_of}
-use Rattle.ip_table.specs.Laws.{OneLocation}
-use Rattle.ip_table.specs.Bits.{SharesFirst, first_bits, width_of}
-use Rattle.ip_table.specs.Location.{HasLongerInside, IsFound, IsLonger, IsScope, length_of}
-use Rattle.ip_table.specs.Prefixes.{Covers, LiesInside, Prefix}
-use Rattle.ip_table.specs.Rows.{AreRows}
+use Rattle.cidr_blocks.specs.LawsOfIpTable.{OneLocation}
+use Rattle.cidr_blocks.specs.Bits.{SharesFirst, first_bits, width_of}
+use Rattle.cidr_blocks.specs.Location.{HasLongerInside, IsFound, IsLonger, IsScope, length_of}
+use Rattle.cidr_blocks.specs.Prefixes.{Covers, LiesInside, Prefix}
+use Rattle.cidr_blocks.specs.Rows.{AreRows}
 use Rattle.answer_model.specs.Laws.{LocatesAsTold, ToldOnce, ToldOnceIn}
 use Rattle.answer_model.specs.Location.{covers, first_apart, found_in, has_longer_inside, is_longer}
 use Rattle.answer_model.specs.Location.{lies_inside, longer, scope_in, scope_from, shares_first}

@@ -8,7 +8,7 @@ use Rattle.std.proofs.lemmas.Bool.Decides.{Decides-or}
 use Rattle.dns_name.specs.Order.{same_labels}
 use Rattle.dns_name.specs.OrderLaws.{same_labels-Decides}
 use Rattle.dns_name.specs.Suffix.{EndsWith}
-use Rattle.record_set.specs.declared.sets.RecordSet.{RecordSet}
+use Rattle.zone_model.specs.RecordSetRecord.{RecordSet}
 use Rattle.zone_model.specs.Existing.{Exists, IsAncestor, IsClosest}
 use Rattle.zone_model.specs.Zones.{IsAmong}
 use Rattle.answer_model.specs.Laws.{EnclosersAreClosest, NamesBelow, NamesExist}

@@ -7,16 +7,16 @@ use Rattle.std.specs.Str.{bytes_eq}
 use Rattle.address_text.specs.declared.address.IpAddress.{IpAddress}
 use Rattle.address_text.specs.declared.address.IpAddress.TheVariants.{V4, V6}
 use Rattle.cidr_blocks.specs.declared.places.Collection.{Collection}
-use Rattle.dns_message.specs.declared.query.Edns.{Edns}
+use Rattle.dns_wire.specs.EdnsRecord.{Edns}
 use Rattle.dns_name.specs.Labels.{wire as name_wire}
 use Rattle.dns_wire.specs.Message.{Record, wire}
 use Rattle.ecs_option.specs.declared.subnet.ClientSubnet.{ClientSubnet}
-use Rattle.geo_latency.specs.declared.location.Location.{Location}
-use Rattle.ip_table.specs.Bits.{number_of}
-use Rattle.ip_table.specs.Prefixes.{Prefix}
-use Rattle.rdata_layout.specs.declared.types.RType.TheVariants as rtype
-use Rattle.record_set.specs.declared.sets.RecordSet.{RecordSet}
-use Rattle.record_set.specs.declared.sets.SetKey.{SetKey}
+use Rattle.choice_model.specs.LocationRecord.{Location}
+use Rattle.cidr_blocks.specs.Bits.{number_of}
+use Rattle.cidr_blocks.specs.Prefixes.{Prefix}
+use Rattle.zone_model.specs.RTypeRecord.TheVariants as rtype
+use Rattle.zone_model.specs.RecordSetRecord.{RecordSet}
+use Rattle.zone_model.specs.SetKeyRecord.{SetKey}
 use Rattle.routing.specs.declared.policies.Continent.TheVariants.{Eu, Na}
 use Rattle.routing.specs.declared.policies.Place.TheVariants as place
 use Rattle.routing.specs.declared.policies.Routing.TheVariants as routing

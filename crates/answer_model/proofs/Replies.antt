@@ -1,9 +1,9 @@
 -- A packet has one reply.
 use Rattle.std.proofs.Common.{◌≡◌, ℕ, None, List, refl, sym, ap, ◌∙◌, arith}
-use Rattle.dns_message.specs.Judge.{Judges}
-use Rattle.dns_message.specs.Laws.{OneJudgement}
-use Rattle.dns_message.specs.declared.query.QueryRead.{QueryRead}
-use Rattle.dns_message.specs.declared.query.QueryRead.TheVariants as read
+use Rattle.dns_wire.specs.Judge.{Judges}
+use Rattle.dns_wire.specs.LawsOfDnsMessage.{OneJudgement}
+use Rattle.dns_wire.specs.QueryReadRecord.{QueryRead}
+use Rattle.dns_wire.specs.QueryReadRecord.TheVariants as read
 use Rattle.answer_model.specs.Laws.{NoReply, OneReply}
 use Rattle.answer_model.specs.Reply.{Asker, Served, reply_to_read}
 

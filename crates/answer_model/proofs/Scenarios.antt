@@ -2,12 +2,12 @@
 use Rattle.std.proofs.Common.{◌≡◌, ℕ, true, false, Some, None, Option, List, [], ◌∷◌, ◌++◌, refl}
 use Rattle.std.proofs.Common.{replicate}
 use Rattle.std.specs.Prelude.{codes, length, map, ◌+◌}
-use Rattle.dns_message.specs.declared.query.Edns.{Edns}
-use Rattle.dns_message.specs.declared.query.QueryRead.TheVariants as read
+use Rattle.dns_wire.specs.EdnsRecord.{Edns}
+use Rattle.dns_wire.specs.QueryReadRecord.TheVariants as read
 use Rattle.dns_name.specs.Labels.{wire as name_wire}
 use Rattle.dns_wire.specs.Message.{Record, wire}
-use Rattle.rdata_layout.specs.declared.types.RType.TheVariants as rtype
-use Rattle.record_set.specs.declared.sets.RecordSet.{RecordSet}
+use Rattle.zone_model.specs.RTypeRecord.TheVariants as rtype
+use Rattle.zone_model.specs.RecordSetRecord.{RecordSet}
 use Rattle.routing.specs.declared.policies.Routing.TheVariants as routing
 use Rattle.answer_model.specs.Descent.{descend}
 use Rattle.answer_model.specs.Reply.{reply_to_read}

@@ -3,7 +3,7 @@ use Rattle.std.proofs.Common.{◌≡◌, ℕ, Some, None, List, [], ◌∷◌, �
 use Rattle.std.specs.Prelude.{codes}
 use Rattle.dns_name.specs.Labels.{wire}
 use Rattle.dns_wire.specs.Message.{Record}
-use Rattle.rdata_layout.specs.declared.types.RType.TheVariants as rtype
+use Rattle.zone_model.specs.RTypeRecord.TheVariants as rtype
 use Rattle.answer_model.specs.Descent.{descend}
 use Rattle.answer_model.specs.Names.{closest, source}
 use Rattle.answer_model.specs.Sections.{sections}

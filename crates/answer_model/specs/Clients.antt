@@ -6,9 +6,9 @@ use Rattle.address_text.specs.declared.address.IpAddress.TheVariants.{V4, V6}
 use Rattle.choice_model.specs.Choice.{ClientRows}
 use Rattle.cidr_blocks.specs.declared.places.Collection.{Collection}
 use Rattle.cidr_blocks.specs.Places.{rows_of}
-use Rattle.cidr_commands.specs.Stored.{collection_at}
+use Rattle.choice_model.specs.Stored.{collection_at}
 use Rattle.ecs_option.specs.declared.subnet.ClientSubnet.{ClientSubnet}
-use Rattle.geo_latency.specs.declared.tables.Tables.{Tables}
+use Rattle.choice_model.specs.TablesRecord.{Tables}
 use Rattle.answer_model.specs.Location.{told_in, scope_in}
 
 -- the address of a client subnet: FAMILY 1 is IPv4, and 2 is IPv6

@@ -3,17 +3,17 @@ use Rattle.std.specs.Prelude.{◌≡◌, ◌≢◌, ◌≤◌, ◌+◌, ◌⊎�
 use Rattle.std.specs.Bool.{Decides}
 use Rattle.address_text.specs.declared.address.IpAddress.{IpAddress}
 use Rattle.cidr_blocks.specs.declared.places.Collection.{Collection}
-use Rattle.cidr_commands.specs.Stored.{AreRowsIn, LocatesIn}
-use Rattle.dns_message.specs.Judge.{Judges}
-use Rattle.dns_message.specs.declared.query.QueryRead.TheVariants as read
+use Rattle.choice_model.specs.Stored.{AreRowsIn, LocatesIn}
+use Rattle.dns_wire.specs.Judge.{Judges}
+use Rattle.dns_wire.specs.QueryReadRecord.TheVariants as read
 use Rattle.dns_name.specs.Suffix.{EndsWith}
-use Rattle.ip_table.specs.Location.{Locates}
-use Rattle.ip_table.specs.Prefixes.{Prefix}
-use Rattle.ip_table.specs.Rows.{AreRows}
-use Rattle.rdata_layout.specs.Types.{number_of}
-use Rattle.rdata_layout.specs.declared.types.RType.{RType}
-use Rattle.rdata_layout.specs.declared.types.RType.TheVariants.{Ns}
-use Rattle.record_set.specs.declared.sets.RecordSet.{RecordSet}
+use Rattle.cidr_blocks.specs.Location.{Locates}
+use Rattle.cidr_blocks.specs.Prefixes.{Prefix}
+use Rattle.cidr_blocks.specs.Rows.{AreRows}
+use Rattle.zone_model.specs.Types.{number_of}
+use Rattle.zone_model.specs.RTypeRecord.{RType}
+use Rattle.zone_model.specs.RTypeRecord.TheVariants.{Ns}
+use Rattle.zone_model.specs.RecordSetRecord.{RecordSet}
 use Rattle.zone_model.specs.Existing.{Exists, IsAncestor, IsClosest}
 use Rattle.zone_model.specs.Zones.{IsAmong, group}
 use Rattle.answer_model.specs.Clients.{blocks_scope, location_in}

@@ -5,9 +5,9 @@ use Rattle.std.specs.Prelude.{nat_le, ◌&&◌, Option, None, Some, if◌then◌
 use Rattle.std.specs.List.{list_any}
 use Rattle.std.specs.Option.{option_map}
 use Rattle.address_text.specs.declared.address.IpAddress.{IpAddress}
-use Rattle.ip_table.specs.Bits.{first_bits, width_of}
-use Rattle.ip_table.specs.Location.{length_of}
-use Rattle.ip_table.specs.Prefixes.{Prefix}
+use Rattle.cidr_blocks.specs.Bits.{first_bits, width_of}
+use Rattle.cidr_blocks.specs.Location.{length_of}
+use Rattle.cidr_blocks.specs.Prefixes.{Prefix}
 
 -- both are of one family, and have their first n bits in common
 abbrev pub shares_first : ℕ → (address other : IpAddress) → Bool

@@ -5,7 +5,7 @@ use Rattle.std.specs.List.{list_any}
 use Rattle.dns_name.specs.Labels.{wire}
 use Rattle.dns_name.specs.Order.{same_labels}
 use Rattle.dns_name.specs.Wildcard.{wildcard}
-use Rattle.record_set.specs.declared.sets.RecordSet.{RecordSet}
+use Rattle.zone_model.specs.RecordSetRecord.{RecordSet}
 
 -- the name is the other one, or its parent is at or below that
 abbrev pub is_at_or_below : (name other : List (List ℕ)) → Bool

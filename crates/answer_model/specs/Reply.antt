@@ -3,18 +3,18 @@ use Rattle.std.specs.Prelude.{◌≡◌, ℕ, List, Bool, not, ◌||◌, ◌==�
 use Rattle.std.specs.Prelude.{if◌then◌else◌}
 use Rattle.address_text.specs.declared.address.IpAddress.{IpAddress}
 use Rattle.cidr_blocks.specs.declared.places.Collection.{Collection}
-use Rattle.dns_message.specs.Judge.{Judges}
-use Rattle.dns_message.specs.Whole.{subnet_of}
-use Rattle.dns_message.specs.declared.query.Query.{Query}
-use Rattle.dns_message.specs.declared.query.QueryRead.{QueryRead}
-use Rattle.dns_message.specs.declared.query.QueryRead.TheVariants as read
+use Rattle.dns_wire.specs.Judge.{Judges}
+use Rattle.dns_wire.specs.Whole.{subnet_of}
+use Rattle.dns_wire.specs.QueryRecord.{Query}
+use Rattle.dns_wire.specs.QueryReadRecord.{QueryRead}
+use Rattle.dns_wire.specs.QueryReadRecord.TheVariants as read
 use Rattle.dns_wire.specs.Draft.{opt_of, reply_to}
 use Rattle.dns_wire.specs.Header.{short_reply}
 use Rattle.dns_wire.specs.Limit.{limit_of, refusal_of, version_refusal_of}
 use Rattle.dns_wire.specs.Message.{Message, wire}
 use Rattle.ecs_option.specs.declared.subnet.ClientSubnet.{ClientSubnet}
-use Rattle.geo_latency.specs.declared.tables.Tables.{Tables}
-use Rattle.record_set.specs.declared.sets.SetKey.{SetKey}
+use Rattle.choice_model.specs.TablesRecord.{Tables}
+use Rattle.zone_model.specs.SetKeyRecord.{SetKey}
 use Rattle.answer_model.specs.declared.used.Used.{Used}
 use Rattle.answer_model.specs.Clients.{Client, client_address, client_at}
 use Rattle.answer_model.specs.Sections.{Lookup, Sections, sections}

@@ -5,9 +5,9 @@ use Rattle.std.specs.List.{filter, flat_map}
 use Rattle.dns_name.specs.Order.{same_labels}
 use Rattle.dns_name.specs.Stored.{labels_of}
 use Rattle.dns_wire.specs.Message.{Record}
-use Rattle.rdata_layout.specs.Types.{number_of}
-use Rattle.rdata_layout.specs.declared.types.RType.TheVariants as rtype
-use Rattle.record_set.specs.declared.sets.RecordSet.{RecordSet}
+use Rattle.zone_model.specs.Types.{number_of}
+use Rattle.zone_model.specs.RTypeRecord.TheVariants as rtype
+use Rattle.zone_model.specs.RecordSetRecord.{RecordSet}
 use Rattle.zone_model.specs.Zones.{group}
 use Rattle.answer_model.specs.declared.used.Used.{Used}
 use Rattle.answer_model.specs.Descent.{Choices, Means, Descended, descend, no_choices}

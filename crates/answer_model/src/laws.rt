@@ -5,9 +5,8 @@ ghost use Rattle.answer_model.specs.Laws.{FewChoices, LocatesAsTold, NamesBelow,
 ghost use Rattle.answer_model.specs.Laws.{NoReply, OneReply, RcodesOfSections, ToldOnce};
 ghost use Rattle.answer_model.specs.Laws.{ToldOnceIn, ZonesAreLongest};
 
-use cidr_blocks::Ident;
-use dns_message::one_judgement;
-use ip_table::one_location;
+use cidr_blocks::{Ident, one_location};
+use dns_wire::one_judgement;
 
 /// A packet has one reply, given what is served, who asks, and the words.
 pub fn one_reply()

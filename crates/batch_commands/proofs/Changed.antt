@@ -6,44 +6,44 @@ use Rattle.alias_links.specs.After.{changed_in, sets_in}
 use Rattle.zone_model.specs.Differences.{AreMissing, IsDifference}
 use Rattle.batch_edits.specs.Edits.{EditsOrNot}
 use Rattle.batch_edits.specs.declared.editing.Edit.{Edit}
-use Rattle.batch_model.specs.Batches.{Prepares}
-use Rattle.batch_model.specs.Rules.{MeetsAll, rules}
-use Rattle.batch_model.specs.declared.batches.Batch.{Batch}
-use Rattle.batch_model.specs.declared.batches.Change.{Change}
-use Rattle.batch_model.specs.declared.refusals.BatchRefusal.{BatchRefusal}
-use Rattle.batch_model.specs.declared.refusals.BatchRefusal.TheVariants as batch
+use Rattle.batch_edits.specs.Batches.{Prepares}
+use Rattle.batch_edits.specs.Rules.{MeetsAll, rules}
+use Rattle.batch_edits.specs.BatchRecord.{Batch}
+use Rattle.batch_edits.specs.ChangeRecord.{Change}
+use Rattle.batch_edits.specs.BatchRefusalRecord.{BatchRefusal}
+use Rattle.batch_edits.specs.BatchRefusalRecord.TheVariants as batch
 use Rattle.check_model.specs.Checks.{Checks}
 use Rattle.cidr_commands.specs.Stored.{Stored}
-use Rattle.command_octets.specs.declared.commands.Command.TheVariants as command
+use Rattle.config_zones.specs.CommandRecord.TheVariants as command
 use Rattle.config_zones.specs.Edited.{EditsAreTold, hosted_in}
-use Rattle.config_model.proofs.Ended.{not_full}
-use Rattle.config_model.proofs.Members.{all_at}
-use Rattle.config_model.proofs.Told.{none_among, parts}
-use Rattle.config_model.specs.Batches.{ChangesIn, check_refusal, collection_refusal, depth_refusal}
-use Rattle.config_model.specs.Batches.{first_among, is_zone_full, location_refusal, sets_refusal}
-use Rattle.config_model.specs.Batches.{store_refusal, target_refusal}
-use Rattle.config_model.specs.Configs.{Config, with_sets, zone_with}
-use Rattle.config_model.specs.Sound.{IsSoundZone, Sound}
-use Rattle.config_model.specs.Telling.{first_of, of_batch, rule, unless}
-use Rattle.config_model.specs.Told.{AreInOrder, RefusalsAreTold}
-use Rattle.config_model.specs.declared.refusals.Made.TheVariants as made
-use Rattle.config_model.specs.declared.refusals.Refusal.{Refusal}
-use Rattle.config_model.specs.declared.refusals.Refusal.TheVariants as refusal
+use Rattle.config_zones.proofs.Ended.{not_full}
+use Rattle.config_zones.proofs.Members.{all_at}
+use Rattle.config_zones.proofs.Told.{none_among, parts}
+use Rattle.config_zones.specs.Batches.{ChangesIn, check_refusal, collection_refusal, depth_refusal}
+use Rattle.config_zones.specs.Batches.{first_among, is_zone_full, location_refusal, sets_refusal}
+use Rattle.config_zones.specs.Batches.{store_refusal, target_refusal}
+use Rattle.config_zones.specs.Configs.{Config, with_sets, zone_with}
+use Rattle.config_zones.specs.Sound.{IsSoundZone, Sound}
+use Rattle.config_zones.specs.Telling.{first_of, of_batch, rule, unless}
+use Rattle.config_zones.specs.Told.{AreInOrder, RefusalsAreTold}
+use Rattle.config_zones.specs.MadeRecord.TheVariants as made
+use Rattle.config_zones.specs.RefusalRecord.{Refusal}
+use Rattle.config_zones.specs.RefusalRecord.TheVariants as refusal
 use Rattle.config_zones.proofs.Found.{in_hosted}
 use Rattle.config_zones.specs.Configured.{IsEditFor, TellsEdit, config_of}
 use Rattle.config_zones.specs.Laws.{CountsAgree, ZonesAreFound}
 use Rattle.record_set.specs.declared.sets.RecordSet.{RecordSet}
 use Rattle.record_set.specs.declared.sets.SetKey.{SetKey}
-use Rattle.zone_table.proofs.Listing.{its_placed}
-use Rattle.zone_table.specs.Zones.{AreZones, IsZoneId, Zone, hosted, placed_in}
+use Rattle.config_zones.proofs.Listing.{its_placed}
+use Rattle.config_zones.specs.Zones.{AreZones, IsZoneId, Zone, hosted, placed_in}
 use Rattle.zone_model.specs.Hosted.{HostedZone}
 use Rattle.zone_model.specs.Placed.{Placed, sets_of}
-use Rattle.zone_table.specs.Counted.{octets_in_all, sets_in_all}
-use Rattle.zone_table.specs.Edits.{IsAllowed}
-use Rattle.zone_table.specs.Laws.{OneApex}
-use Rattle.zone_table.specs.Looking.{IsApex}
-use Rattle.zone_table.specs.Tables.{Table}
-use Rattle.zone_table.specs.declared.edits.ZoneEdit.TheVariants as edit
+use Rattle.config_zones.specs.Counted.{octets_in_all, sets_in_all}
+use Rattle.config_zones.specs.Edits.{IsAllowed}
+use Rattle.config_zones.specs.LawsOfZoneTable.{OneApex}
+use Rattle.config_zones.specs.Looking.{IsApex}
+use Rattle.config_zones.specs.Tables.{Table}
+use Rattle.config_zones.specs.ZoneEditRecord.TheVariants as edit
 use Rattle.batch_commands.proofs.Firsts.{in_groups, new_decide}
 
 -- ---- refusals of a batch by itself

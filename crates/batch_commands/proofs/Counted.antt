@@ -10,22 +10,22 @@ use Rattle.std.proofs.lemmas.List.{length-map}
 use Rattle.std.proofs.lemmas.Option.{slice_get_within}
 use Rattle.alias_links.proofs.Held.{sets_rise}
 use Rattle.alias_links.specs.After.{changed_in, sets_in}
-use Rattle.zone_table.proofs.Holding.{held_there, named}
+use Rattle.config_zones.proofs.Holding.{held_there, named}
 use Rattle.config_zones.specs.Edited.{hosted_in}
-use Rattle.config_model.specs.Batches.{is_over, is_store_full}
-use Rattle.config_model.specs.Configs.{count_of, octets_of, with_sets}
+use Rattle.config_zones.specs.Batches.{is_over, is_store_full}
+use Rattle.config_zones.specs.Configs.{count_of, octets_of, with_sets}
 use Rattle.config_zones.specs.Laws.{CountsAgree}
 use Rattle.record_set.specs.Sets.{key_of}
 use Rattle.record_set.specs.declared.sets.RecordSet.{RecordSet}
 use Rattle.record_set.specs.declared.sets.SetKey.{SetKey}
-use Rattle.set_octets.specs.Octets.{HasSpelling, set_octets}
-use Rattle.set_search.specs.Bounds.{is_before}
-use Rattle.set_search.specs.Found.{IsCount}
-use Rattle.set_search.specs.declared.bounds.Bound.TheVariants as bound
-use Rattle.zone_table.specs.Changes.{AreThere, CanChange, without_all}
-use Rattle.zone_table.specs.SetRefRecord.{SetRef}
-use Rattle.zone_table.specs.Zones.{AreZones, CanStand, Zone, placed_in}
-use Rattle.zone_table.proofs.Listing.{its_placed}
+use Rattle.config_zones.specs.Octets.{HasSpelling, set_octets}
+use Rattle.alias_links.specs.Bounds.{is_before}
+use Rattle.alias_links.specs.Found.{IsCount}
+use Rattle.alias_links.specs.BoundRecord.TheVariants as bound
+use Rattle.config_zones.specs.Changes.{AreThere, CanChange, without_all}
+use Rattle.config_zones.specs.SetRefRecord.{SetRef}
+use Rattle.config_zones.specs.Zones.{AreZones, CanStand, Zone, placed_in}
+use Rattle.config_zones.proofs.Listing.{its_placed}
 use Rattle.zone_model.proofs.Among.{place_of}
 use Rattle.zone_model.proofs.Ordered.{keys_total}
 use Rattle.zone_model.proofs.Places.{rising_at}
@@ -33,10 +33,10 @@ use Rattle.zone_model.specs.Keys.{key_cmp}
 use Rattle.zone_model.specs.Placed.{Placed, sets_of}
 use Rattle.zone_model.specs.Placing.{IsThere, Keeps}
 use Rattle.zone_model.specs.Zones.{IsRising}
-use Rattle.zone_table.specs.Counted.{octets_in_all, sets_in_all}
-use Rattle.zone_table.specs.Edits.{IsAllowed}
-use Rattle.zone_table.specs.Looking.{IsNextSet, Names}
-use Rattle.zone_table.specs.declared.edits.ZoneEdit.TheVariants.{Change}
+use Rattle.config_zones.specs.Counted.{octets_in_all, sets_in_all}
+use Rattle.config_zones.specs.Edits.{IsAllowed}
+use Rattle.config_zones.specs.Looking.{IsNextSet, Names}
+use Rattle.config_zones.specs.ZoneEditRecord.TheVariants.{Change}
 use Rattle.batch_commands.specs.Sizes.{octets_in}
 use Rattle.batch_commands.proofs.Fullness.{part_of_all, with_other}
 use Rattle.batch_commands.proofs.Sums.{as_many_gone, changed_count, changed_sum, ones}

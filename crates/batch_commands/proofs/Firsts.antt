@@ -3,11 +3,11 @@ use Rattle.std.proofs.Common.{◌≡◌, ℕ, zero, suc, ◌+◌, ◌<◌, ◌�
 use Rattle.std.proofs.Common.{sym, refl, arith, inl, inr, Option, None, Some}
 use Rattle.std.specs.Prelude.{slice_get}
 use Rattle.zone_model.specs.Differences.{AreMissing}
-use Rattle.config_model.specs.Batches.{first_among}
-use Rattle.config_model.specs.Telling.{first_of}
-use Rattle.config_model.specs.declared.refusals.Refusal.{Refusal}
+use Rattle.config_zones.specs.Batches.{first_among}
+use Rattle.config_zones.specs.Telling.{first_of}
+use Rattle.config_zones.specs.RefusalRecord.{Refusal}
 use Rattle.record_set.specs.declared.sets.RecordSet.{RecordSet}
-use Rattle.zone_table.proofs.Members.{left_at, nothing_left}
+use Rattle.config_zones.proofs.MembersOfZoneList.{left_at, nothing_left}
 use Rattle.zone_model.specs.Zones.{IsAmong}
 
 -- ---- several rules

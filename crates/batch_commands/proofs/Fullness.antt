@@ -6,11 +6,11 @@ use Rattle.std.specs.List.{AllByRecursion, sum_by}
 use Rattle.std.proofs.lemmas.Bool.{eq-eqb, eqb-true}
 use Rattle.std.proofs.lemmas.List.Sums.{sum_by-cons}
 use Rattle.config_zones.specs.Edited.{hosted_in}
-use Rattle.config_model.specs.Configs.{with_sets, with_sets_at}
+use Rattle.config_zones.specs.Configs.{with_sets, with_sets_at}
 use Rattle.record_set.specs.declared.sets.RecordSet.{RecordSet}
-use Rattle.zone_table.proofs.Listing.{its_placed}
-use Rattle.zone_table.proofs.Members.{in_all}
-use Rattle.zone_table.specs.Zones.{AreListed, IsOne, IsZoneId, Zone, hosted, placed_in}
+use Rattle.config_zones.proofs.Listing.{its_placed}
+use Rattle.config_zones.proofs.MembersOfZoneList.{in_all}
+use Rattle.config_zones.specs.Zones.{AreListed, IsOne, IsZoneId, Zone, hosted, placed_in}
 use Rattle.zone_model.specs.Hosted.{HostedZone}
 use Rattle.zone_model.specs.Placed.{Placed, sets_of}
 

@@ -6,14 +6,14 @@ use Rattle.std.proofs.lemmas.Bool.{false≢true}
 use Rattle.std.proofs.lemmas.Option.{slice_get_within}
 use Rattle.alias_links.specs.After.{IsFirstKey, IsFirstSet}
 use Rattle.alias_links.specs.Laws.{NoneHas}
-use Rattle.config_model.proofs.Told.{none_of_all}
-use Rattle.config_model.specs.Batches.{depth_refusal, first_among, is_alias, is_empty, is_too_deep}
-use Rattle.config_model.specs.Batches.{leads_on, target_refusal}
-use Rattle.config_model.specs.Telling.{rule}
-use Rattle.config_model.specs.Told.{RefusalsAreTold}
-use Rattle.config_model.specs.declared.refusals.Refusal.{Refusal}
-use Rattle.config_model.specs.declared.refusals.Refusal.TheVariants.{AliasTargetMissing}
-use Rattle.config_model.specs.declared.refusals.Refusal.TheVariants.{AliasTooDeep}
+use Rattle.config_zones.proofs.Told.{none_of_all}
+use Rattle.config_zones.specs.Batches.{depth_refusal, first_among, is_alias, is_empty, is_too_deep}
+use Rattle.config_zones.specs.Batches.{leads_on, target_refusal}
+use Rattle.config_zones.specs.Telling.{rule}
+use Rattle.config_zones.specs.Told.{RefusalsAreTold}
+use Rattle.config_zones.specs.RefusalRecord.{Refusal}
+use Rattle.config_zones.specs.RefusalRecord.TheVariants.{AliasTargetMissing}
+use Rattle.config_zones.specs.RefusalRecord.TheVariants.{AliasTooDeep}
 use Rattle.record_set.specs.Reasons.{IsAlias}
 use Rattle.record_set.specs.Sets.{key_of}
 use Rattle.record_set.specs.declared.sets.Body.{Body}

@@ -11,10 +11,10 @@ use Rattle.std.proofs.lemmas.List.Sums.{sum_by-append, sum_by-cons}
 use Rattle.record_set.specs.Sets.{key_of}
 use Rattle.record_set.specs.declared.sets.RecordSet.{RecordSet}
 use Rattle.record_set.specs.declared.sets.SetKey.{SetKey}
-use Rattle.zone_table.proofs.Equation.{in_without_all, of_with_all, of_without_all}
-use Rattle.zone_table.proofs.Equation.{without_all_rises}
-use Rattle.zone_table.proofs.Members.{in_all}
-use Rattle.zone_table.specs.Changes.{AreThere, DifferByKey, IsKeyOf, with_all, without_all}
+use Rattle.config_zones.proofs.Equation.{in_without_all, of_with_all, of_without_all}
+use Rattle.config_zones.proofs.Equation.{without_all_rises}
+use Rattle.config_zones.proofs.MembersOfZoneList.{in_all}
+use Rattle.config_zones.specs.Changes.{AreThere, DifferByKey, IsKeyOf, with_all, without_all}
 use Rattle.zone_model.proofs.Ordered.{keys_tie, keys_total}
 use Rattle.zone_model.specs.Keys.{key_cmp}
 use Rattle.zone_model.specs.Placing.{comes_before, comes_behind, IsThere, placed, without}

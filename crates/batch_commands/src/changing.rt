@@ -2,32 +2,32 @@
 
 ghost use Rattle.std.specs.Prelude.{◌≡◌, ◌↔◌, ◌∷◌, [], ℕ, IfOk, IsTrue};
 ghost use Rattle.std.specs.List.{AllByRecursion};
-ghost use Rattle.command_octets.specs.declared.commands.Command.TheVariants as command;
+ghost use Rattle.config_zones.specs.CommandRecord.TheVariants as command;
 ghost use Rattle.config_zones.specs.Edited.{hosted_in};
-ghost use Rattle.config_model.specs.Batches.{sets_refusal, store_refusal};
-ghost use Rattle.config_model.specs.Configs.{with_sets};
-ghost use Rattle.config_model.specs.Laws.{HasBoundedSet};
-ghost use Rattle.config_model.specs.Sound.{Sound};
-ghost use Rattle.config_model.specs.Telling.{first_of};
+ghost use Rattle.config_zones.specs.Batches.{sets_refusal, store_refusal};
+ghost use Rattle.config_zones.specs.Configs.{with_sets};
+ghost use Rattle.config_zones.specs.LawsOfConfigModel.{HasBoundedSet};
+ghost use Rattle.config_zones.specs.Sound.{Sound};
+ghost use Rattle.config_zones.specs.Telling.{first_of};
 ghost use Rattle.config_zones.specs.Configured.{TellsEdit, config_of};
 ghost use Rattle.alias_links.specs.After.{changed_in, sets_in};
 ghost use Rattle.zone_model.specs.Differences.{AreMissing};
-ghost use Rattle.zone_table.specs.Zones.{IsZoneId};
-ghost use Rattle.zone_table.specs.Edits.{IsAllowed};
-ghost use Rattle.zone_table.specs.declared.edits.ZoneEdit.TheVariants as edit;
+ghost use Rattle.config_zones.specs.Zones.{IsZoneId};
+ghost use Rattle.config_zones.specs.Edits.{IsAllowed};
+ghost use Rattle.config_zones.specs.ZoneEditRecord.TheVariants as edit;
 
 use crate::links::link_refusal;
 use crate::names::named_refusal;
 use crate::sizes::size_refusal;
-use batch_edits::edit_of;
-use batch_model::Batch;
-use config_model::{Refusal, of_batch, refusals_are_told};
-use config_zones::{counts_agree, edits_are_told, zones_are_found};
+use batch_edits::{Batch, edit_of};
+use config_zones::{
+    Refusal, Scratch, ZoneEdit, Zones, counts_agree, edits_are_told, of_batch, one_apex,
+    refusals_are_told, zones_are_found,
+};
 use health_check::CheckTable;
 use octets::OutOfMemory;
 use record_set::{RecordSet, SetKey};
 use std::alloc::Global;
-use zone_table::{Scratch, ZoneEdit, Zones, one_apex};
 
 /// The edit by which a zone comes to have the sets that a batch makes, or why the batch is refused.
 /// What the scratch holds afterwards is left open.

@@ -3,19 +3,18 @@
 ghost use Rattle.std.specs.Prelude.{◌≡◌, ◌∷◌, [], IfOk, option_map, true};
 ghost use Rattle.alias_links.specs.After.{changed_in, sets_in};
 ghost use Rattle.alias_links.specs.Laws.{NoneHas};
-ghost use Rattle.config_model.specs.Batches.{depth_refusal, first_among, target_refusal};
-ghost use Rattle.config_model.specs.Telling.{first_of};
-ghost use Rattle.config_model.specs.declared.refusals.Refusal.TheVariants.{AliasTooDeep};
+ghost use Rattle.config_zones.specs.Batches.{depth_refusal, first_among, target_refusal};
+ghost use Rattle.config_zones.specs.Telling.{first_of};
+ghost use Rattle.config_zones.specs.RefusalRecord.TheVariants.{AliasTooDeep};
 ghost use Rattle.zone_model.specs.Walks.{HasNoTarget, IsTooDeep};
-ghost use Rattle.zone_table.specs.Edits.{IsAllowed};
-ghost use Rattle.zone_table.specs.declared.edits.ZoneEdit.TheVariants.{Change};
+ghost use Rattle.config_zones.specs.Edits.{IsAllowed};
+ghost use Rattle.config_zones.specs.ZoneEditRecord.TheVariants.{Change};
 
 use alias_links::{adds_alias, aliases_stay, empties_group, missing_after, walk_after};
-use config_model::{Refusal, refusals_are_told};
+use config_zones::{Refusal, Scratch, Zones, refusals_are_told};
 use octets::OutOfMemory;
 use record_set::{RecordSet, SetKey};
 use std::alloc::Global;
-use zone_table::{Scratch, Zones};
 
 /// The first refusal of a change for where aliases lead.
 pub fn link_refusal(

@@ -5,15 +5,15 @@ ghost use Rattle.std.specs.List.{AllByRecursion, list_any};
 ghost use Rattle.std.specs.Option.{option_copied};
 ghost use Rattle.std.specs.Str.{bytes_eq};
 ghost use Rattle.cidr_blocks.specs.Places.{names_of};
-ghost use Rattle.config_model.specs.Batches.{check_refusal, collection_refusal, first_among};
-ghost use Rattle.config_model.specs.Batches.{is_location_in, location_refusal, named_check};
-ghost use Rattle.config_model.specs.Batches.{named_collection, named_location};
-ghost use Rattle.config_model.specs.Telling.{first_of};
+ghost use Rattle.config_zones.specs.Batches.{check_refusal, collection_refusal, first_among};
+ghost use Rattle.config_zones.specs.Batches.{is_location_in, location_refusal, named_check};
+ghost use Rattle.config_zones.specs.Batches.{named_collection, named_location};
+ghost use Rattle.config_zones.specs.Telling.{first_of};
 ghost use Rattle.routing.specs.Texts.{IsLocation};
-ghost use Rattle.set_octets.specs.Octets.{HasSpelling, IsSpelledRouting};
+ghost use Rattle.config_zones.specs.Octets.{HasSpelling, IsSpelledRouting};
 
 use cidr_routing::{CidrLocation, Collection, Collections, Ident, locations_are_names};
-use config_model::Refusal;
+use config_zones::Refusal;
 use health_check::CheckTable;
 use record_set::{RecordSet, Routing};
 

@@ -3,23 +3,21 @@
 ghost use Rattle.std.specs.Prelude.{◌≡◌, ◌≤◌, ◌<◌, ◌+◌, ◌^◌, ◌∷◌, [], length};
 ghost use Rattle.alias_links.specs.After.{changed_in, sets_in};
 ghost use Rattle.config_zones.specs.Edited.{hosted_in};
-ghost use Rattle.config_model.specs.Batches.{is_store_full, is_zone_full, store_refusal};
-ghost use Rattle.config_model.specs.Configs.{with_sets};
-ghost use Rattle.config_model.specs.Telling.{first_of, rule};
-ghost use Rattle.config_model.specs.declared.refusals.Refusal.TheVariants as refusal;
-ghost use Rattle.zone_table.specs.Changes.{AreThere, without_all};
+ghost use Rattle.config_zones.specs.Batches.{is_store_full, is_zone_full, store_refusal};
+ghost use Rattle.config_zones.specs.Configs.{with_sets};
+ghost use Rattle.config_zones.specs.Telling.{first_of, rule};
+ghost use Rattle.config_zones.specs.RefusalRecord.TheVariants as refusal;
+ghost use Rattle.config_zones.specs.Changes.{AreThere, without_all};
 ghost use Rattle.zone_model.specs.Placing.{IsThere, Keeps};
-ghost use Rattle.zone_table.specs.Counted.{octets_in_all, sets_in_all};
-ghost use Rattle.zone_table.specs.Edits.{IsAllowed};
-ghost use Rattle.zone_table.specs.declared.edits.ZoneEdit.TheVariants.{Change};
-ghost use Rattle.set_octets.specs.Octets.{set_octets};
+ghost use Rattle.config_zones.specs.Counted.{octets_in_all, sets_in_all};
+ghost use Rattle.config_zones.specs.Edits.{IsAllowed};
+ghost use Rattle.config_zones.specs.ZoneEditRecord.TheVariants.{Change};
+ghost use Rattle.config_zones.specs.Octets.{set_octets};
 ghost use Rattle.record_set.specs.declared.sets.RecordSet.{RecordSet};
 ghost use Rattle.batch_commands.specs.Sizes.{octets_in};
 
-use config_model::Refusal;
-use config_zones::{counts_agree, is_over, octets_in};
+use config_zones::{Refusal, Scratch, Zones, counts_agree, is_over, octets_in};
 use record_set::{RecordSet, SetKey};
-use zone_table::{Scratch, Zones};
 
 /// The most sets of a zone (Route 53 quotas).
 const MAX_IN_ZONE: u64 = 10_000;

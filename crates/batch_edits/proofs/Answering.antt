@@ -5,14 +5,14 @@ use Rattle.std.specs.Prelude.{Result, Ok, Err}
 use Rattle.record_set.specs.declared.sets.RecordSet.{RecordSet}
 use Rattle.record_set.specs.declared.sets.SetKey.{SetKey}
 use Rattle.record_set.specs.Sets.{key_of}
-use Rattle.zone_table.specs.Zones.{Zone, placed_in}
-use Rattle.zone_model.specs.Placed.{sets_of}
-use Rattle.batch_model.specs.declared.batches.Change.{Change}
-use Rattle.batch_model.specs.declared.refusals.BatchRefusal.{BatchRefusal}
-use Rattle.batch_model.specs.declared.refusals.BatchRefusal.TheVariants as batch
-use Rattle.batch_model.specs.Batches.{Prepares}
-use Rattle.batch_model.proofs.Answering.{one_answer}
-use Rattle.zone_model.specs.Differences.{AreMissing, IsDifference}
+use Rattle.batch_names.specs.AllZones.{Zone, placed_in}
+use Rattle.config_model.specs.Placed.{sets_of}
+use Rattle.change_batch.specs.ChangeRecord.{Change}
+use Rattle.change_batch.specs.BatchRefusalRecord.{BatchRefusal}
+use Rattle.change_batch.specs.BatchRefusalRecord.TheVariants as batch
+use Rattle.change_batch.specs.Batches.{Prepares}
+use Rattle.change_batch.proofs.Answering.{one_answer}
+use Rattle.config_model.specs.Differences.{AreMissing, IsDifference}
 use Rattle.batch_edits.specs.Edits.{EditsOrNot, after_edit}
 use Rattle.batch_edits.specs.Laws.{OneBatchEdit}
 use Rattle.batch_edits.specs.declared.editing.Edit.{Edit}

@@ -8,20 +8,20 @@ use Rattle.std.proofs.lemmas.Cmp.{tied_itself}
 use Rattle.record_set.specs.declared.sets.RecordSet.{RecordSet}
 use Rattle.record_set.specs.declared.sets.SetKey.{SetKey}
 use Rattle.record_set.specs.Sets.{key_of}
-use Rattle.zone_table.proofs.Members.{all_in, in_all}
-use Rattle.zone_table.specs.Changes.{IsKeyOf}
-use Rattle.zone_model.specs.Keys.{key_cmp}
-use Rattle.zone_model.specs.Zones.{IsAmong, IsRising}
-use Rattle.zone_model.proofs.Among.{among_at, place_of}
-use Rattle.zone_model.proofs.Ordered.{keys_total}
-use Rattle.zone_model.proofs.Places.{rising_at}
+use Rattle.batch_names.proofs.Members.{all_in, in_all}
+use Rattle.batch_names.specs.Changes.{IsKeyOf}
+use Rattle.config_model.specs.Keys.{key_cmp}
+use Rattle.config_model.specs.Zones.{IsAmong, IsRising}
+use Rattle.config_model.proofs.Among.{among_at, place_of}
+use Rattle.config_model.proofs.Ordered.{keys_total}
+use Rattle.config_model.proofs.Places.{rising_at}
 use Rattle.batch_edits.specs.Places.{IsNextPlace}
-use Rattle.zone_model.specs.Differences.{AreMissing}
+use Rattle.config_model.specs.Differences.{AreMissing}
 use Rattle.std.proofs.lemmas.Option.{slice_get_within}
 use Rattle.std.proofs.lemmas.List.{take_all}
-use Rattle.zone_model.proofs.Lists.{take_more}
-use Rattle.zone_table.proofs.Members.{filled, left_at}
-use Rattle.set_search.proofs.Lookups.{at_one}
+use Rattle.config_model.proofs.Lists.{take_more}
+use Rattle.batch_names.proofs.Members.{filled, left_at}
+use Rattle.change_batch.proofs.Lookups.{at_one}
 use Rattle.batch_names.proofs.Filtered.{of_filter}
 
 -- ---- members

@@ -7,42 +7,42 @@ use Rattle.dns_name.specs.Suffix.{EndsWith}
 use Rattle.record_set.specs.declared.sets.RecordSet.{RecordSet}
 use Rattle.record_set.specs.declared.sets.SetKey.{SetKey}
 use Rattle.record_set.specs.Sets.{key_of}
-use Rattle.set_octets.specs.Octets.{HasSpelling, most_octets, set_octets}
-use Rattle.zone_model.specs.Keys.{key_cmp}
-use Rattle.zone_model.specs.Placing.{IsThere, placed}
-use Rattle.zone_model.specs.Zones.{IsAmong, IsRising, IsZone}
-use Rattle.zone_model.specs.Placed.{Placed, sets_of}
-use Rattle.zone_model.proofs.Among.{place_of}
-use Rattle.zone_model.proofs.Ordered.{keys_tie}
-use Rattle.zone_table.specs.Changes.{AreThere, CanChange, DifferByKey, IsKeyOf, without_all}
-use Rattle.zone_table.specs.Zones.{CanStand}
-use Rattle.zone_table.proofs.Equation.{in_with_all, in_without_all, new_with_all, of_with_all}
-use Rattle.zone_table.proofs.Equation.{of_without_all, with_all_rises, without_all_rises}
-use Rattle.zone_table.proofs.Members.{all_in, in_all, same_sets}
-use Rattle.batch_model.specs.declared.batches.Action.{Action}
-use Rattle.batch_model.specs.declared.batches.Action.TheVariants as action
-use Rattle.batch_model.specs.declared.batches.Change.{Change}
-use Rattle.batch_model.specs.Batches.{IsWithinLimits, Leaves, Prepares}
-use Rattle.batch_model.specs.Changing.{Makes}
-use Rattle.batch_model.specs.Rules.{MeetsAll, rules}
+use Rattle.config_model.specs.OctetsOfSetOctets.{HasSpelling, most_octets, set_octets}
+use Rattle.config_model.specs.Keys.{key_cmp}
+use Rattle.config_model.specs.Placing.{IsThere, placed}
+use Rattle.config_model.specs.Zones.{IsAmong, IsRising, IsZone}
+use Rattle.config_model.specs.Placed.{Placed, sets_of}
+use Rattle.config_model.proofs.Among.{place_of}
+use Rattle.config_model.proofs.Ordered.{keys_tie}
+use Rattle.batch_names.specs.Changes.{AreThere, CanChange, DifferByKey, IsKeyOf, without_all}
+use Rattle.batch_names.specs.AllZones.{CanStand}
+use Rattle.batch_names.proofs.Equation.{in_with_all, in_without_all, new_with_all, of_with_all}
+use Rattle.batch_names.proofs.Equation.{of_without_all, with_all_rises, without_all_rises}
+use Rattle.batch_names.proofs.Members.{all_in, in_all, same_sets}
+use Rattle.change_batch.specs.ActionRecord.{Action}
+use Rattle.change_batch.specs.ActionRecord.TheVariants as action
+use Rattle.change_batch.specs.ChangeRecord.{Change}
+use Rattle.change_batch.specs.Batches.{IsWithinLimits, Leaves, Prepares}
+use Rattle.change_batch.specs.Changing.{Makes}
+use Rattle.change_batch.specs.Rules.{MeetsAll, rules}
 use Rattle.config_model.specs.Laws.{HasBoundedSet, IsBoundedSet}
 use Rattle.batch_names.specs.Laws.{NamesDecide}
 use Rattle.batch_names.specs.Named.{named_in, names, unnamed_in}
-use Rattle.zone_model.specs.Differences.{AreMissing, IsDifference}
+use Rattle.config_model.specs.Differences.{AreMissing, IsDifference}
 use Rattle.batch_edits.specs.Edits.{AreOfChanges, after_edit}
 use Rattle.batch_edits.specs.declared.editing.Edit.{Edit}
 use Rattle.batch_edits.proofs.Missing.{key_among, missing_either, missing_is, missing_of_all}
 use Rattle.batch_edits.proofs.Missing.{missing_rises, not_below, of_key_among, one_set}
 use Rattle.batch_edits.proofs.Missing.{rising_filtered}
 use Rattle.batch_edits.specs.Edits.{EditsOrNot, MeetsRules}
-use Rattle.zone_table.specs.Looking.{IsApex}
-use Rattle.zone_table.specs.Laws.{OneApex, SetsOfOne}
-use Rattle.zone_table.proofs.Members.{placed_with}
-use Rattle.zone_table.specs.Zones.{AreZones, StandsAlone, Zone, placed_in}
-use Rattle.batch_model.specs.declared.refusals.BatchRefusal.{BatchRefusal}
+use Rattle.batch_names.specs.Looking.{IsApex}
+use Rattle.batch_names.specs.LawsOfZoneTable.{OneApex, SetsOfOne}
+use Rattle.batch_names.proofs.Members.{placed_with}
+use Rattle.batch_names.specs.AllZones.{AreZones, StandsAlone, Zone, placed_in}
+use Rattle.change_batch.specs.BatchRefusalRecord.{BatchRefusal}
 use Rattle.batch_names.proofs.Runs.{named_is}
 use Rattle.batch_names.proofs.Filtered.{below_or_not, in_filter, of_filter}
-use Rattle.zone_model.proofs.Ordered.{keys_total}
+use Rattle.config_model.proofs.Ordered.{keys_total}
 use Rattle.std.proofs.lemmas.Cmp.{tied_itself}
 use Rattle.std.specs.declared.cmp.Ordering.TheVariants.{Less, Equal, Greater}
 use Rattle.std.specs.declared.cmp.Ordering.{Ordering}

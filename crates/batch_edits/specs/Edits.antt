@@ -3,18 +3,18 @@ use Rattle.std.specs.Prelude.{◌≡◌, ℕ, List, Result, Ok, Err}
 use Rattle.record_set.specs.declared.sets.RecordSet.{RecordSet}
 use Rattle.record_set.specs.declared.sets.SetKey.{SetKey}
 use Rattle.record_set.specs.Sets.{key_of}
-use Rattle.batch_model.specs.declared.batches.Change.{Change}
-use Rattle.batch_model.specs.declared.refusals.BatchRefusal.{BatchRefusal}
-use Rattle.batch_model.specs.Batches.{Prepares}
-use Rattle.batch_model.specs.Rules.{MeetsAll, rules}
-use Rattle.zone_table.specs.Changes.{IsKeyOf, with_all, without_all}
-use Rattle.zone_table.specs.Zones.{Zone, placed_in}
-use Rattle.zone_model.specs.Placed.{sets_of}
-use Rattle.zone_model.specs.Zones.{IsAmong}
-use Rattle.zone_table.specs.declared.edits.ZoneEdit.TheVariants.{Change as ChangeZone}
-use Rattle.zone_table.specs.Edits.{IsAllowed}
-use Rattle.zone_table.specs.Looking.{IsApex}
-use Rattle.zone_model.specs.Differences.{IsDifference}
+use Rattle.change_batch.specs.ChangeRecord.{Change}
+use Rattle.change_batch.specs.BatchRefusalRecord.{BatchRefusal}
+use Rattle.change_batch.specs.Batches.{Prepares}
+use Rattle.change_batch.specs.Rules.{MeetsAll, rules}
+use Rattle.batch_names.specs.Changes.{IsKeyOf, with_all, without_all}
+use Rattle.batch_names.specs.AllZones.{Zone, placed_in}
+use Rattle.config_model.specs.Placed.{sets_of}
+use Rattle.config_model.specs.Zones.{IsAmong}
+use Rattle.batch_names.specs.ZoneEditRecord.TheVariants.{Change as ChangeZone}
+use Rattle.batch_names.specs.Edits.{IsAllowed}
+use Rattle.batch_names.specs.Looking.{IsApex}
+use Rattle.config_model.specs.Differences.{IsDifference}
 use Rattle.batch_edits.specs.declared.editing.Edit.{Edit}
 
 -- the sets of a zone once the edit is made

@@ -1,9 +1,9 @@
 -- A batch makes one edit.
 use Rattle.std.specs.Prelude.{◌≡◌, ◌≢◌, ℕ, List, Result, Err}
-use Rattle.batch_model.specs.declared.batches.Change.{Change}
-use Rattle.batch_model.specs.declared.refusals.BatchRefusal.{BatchRefusal}
-use Rattle.batch_model.specs.declared.refusals.BatchRefusal.TheVariants as batch
-use Rattle.zone_table.specs.Zones.{Zone}
+use Rattle.change_batch.specs.ChangeRecord.{Change}
+use Rattle.change_batch.specs.BatchRefusalRecord.{BatchRefusal}
+use Rattle.change_batch.specs.BatchRefusalRecord.TheVariants as batch
+use Rattle.batch_names.specs.AllZones.{Zone}
 use Rattle.batch_edits.specs.Edits.{EditsOrNot}
 use Rattle.batch_edits.specs.declared.editing.Edit.{Edit}
 

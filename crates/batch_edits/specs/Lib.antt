@@ -1,11 +1,14 @@
 pub mod Places
 pub mod Edits
 pub mod Laws
-pub use Rattle.batch_model.specs.Batches
-pub use Rattle.batch_model.specs.Rules
+pub use Rattle.change_batch.specs.Batches
+pub use Rattle.change_batch.specs.Rules
 pub use Rattle.config_model.specs.Laws as Bounds
-pub use Rattle.zone_table.specs.Changes
-pub use Rattle.zone_table.specs.Zones
-pub use Rattle.zone_model.specs.Placed
-pub use Rattle.zone_table.specs.Edits as Tables
-pub use Rattle.zone_table.specs.Looking
+pub use Rattle.batch_names.specs.Changes
+pub use Rattle.batch_names.specs.AllZones as Zones
+pub use Rattle.config_model.specs.Placed
+pub use Rattle.batch_names.specs.Edits as Tables
+pub use Rattle.batch_names.specs.Looking
+pub use Rattle.change_batch.specs.BatchRecord
+pub use Rattle.change_batch.specs.ChangeRecord
+pub use Rattle.change_batch.specs.BatchRefusalRecord

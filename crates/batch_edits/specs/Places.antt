@@ -3,7 +3,7 @@ use Rattle.std.specs.Prelude.{◌≡◌, ◌<◌, ◌≤◌, ◌≢◌, ℕ, Lis
 use Rattle.std.specs.declared.cmp.Ordering.TheVariants.{Less}
 use Rattle.record_set.specs.declared.sets.RecordSet.{RecordSet}
 use Rattle.record_set.specs.Sets.{key_of}
-use Rattle.zone_model.specs.Keys.{key_cmp}
+use Rattle.config_model.specs.Keys.{key_cmp}
 
 -- The first place from one on at which a set's key isn't below that of another set.
 pub record IsNextPlace (others : List RecordSet) (from : ℕ) (set : RecordSet)

@@ -1,9 +1,9 @@
 //! Sets that are in one list and not in another, both in zone order.
 
 ghost use Rattle.std.specs.Prelude.{◌≡◌, ◌≤◌, slice_get, length, IfOk, IsTrue, ◌↔◌, Some};
-ghost use Rattle.zone_model.specs.Zones.{IsRising};
+ghost use Rattle.config_model.specs.Zones.{IsRising};
 ghost use Rattle.batch_edits.specs.Places.{IsNextPlace};
-ghost use Rattle.zone_model.specs.Differences.{AreMissing, AreMissingKeys};
+ghost use Rattle.config_model.specs.Differences.{AreMissing, AreMissingKeys};
 
 use crate::order::comes_before;
 use crate::sameness::is_equal;

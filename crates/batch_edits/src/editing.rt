@@ -3,20 +3,18 @@
 ghost use Rattle.std.specs.Prelude.{ℕ, List, IfOk};
 ghost use Rattle.std.specs.List.{AllByRecursion};
 ghost use Rattle.config_model.specs.Laws.{HasBoundedSet};
-ghost use Rattle.zone_table.specs.Zones.{IsZoneId};
-ghost use Rattle.zone_model.specs.Zones.{IsRising};
-ghost use Rattle.zone_table.specs.Looking.{IsApex};
-ghost use Rattle.zone_model.specs.Differences.{IsDifference};
+ghost use Rattle.batch_names.specs.AllZones.{IsZoneId};
+ghost use Rattle.config_model.specs.Zones.{IsRising};
+ghost use Rattle.batch_names.specs.Looking.{IsApex};
+ghost use Rattle.config_model.specs.Differences.{IsDifference};
 ghost use Rattle.batch_edits.specs.Edits.{EditsOrNot, MeetsRules};
 
 use crate::differences::{missing_keys, only_new};
-use batch_model::{Batch, BatchRefusal};
-use batch_names::{named_sets, names_decide};
-use change_batch::prepare;
+use batch_names::{Scratch, SetKeys, Sets, Zones, named_sets, names_decide, one_apex, sets_of_one};
+use change_batch::{Batch, BatchRefusal, prepare};
 use octets::OutOfMemory;
 use record_set::RecordSet;
 use std::alloc::Global;
-use zone_table::{Scratch, SetKeys, Sets, Zones, one_apex, sets_of_one};
 
 /// What changes in a zone: the keys of the sets that go or give way, and the sets that come, both
 /// in zone order.

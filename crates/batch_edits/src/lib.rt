@@ -11,6 +11,6 @@ mod laws;
 mod order;
 mod sameness;
 
-pub use batch_model::{Batch, BatchRefusal};
+pub use change_batch::{Batch, BatchRefusal};
 pub use editing::{Edit, edit_of};
 pub use laws::one_batch_edit;

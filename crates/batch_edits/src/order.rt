@@ -6,7 +6,7 @@ ghost use Rattle.std.specs.Ordering.{nat_cmp};
 ghost use Rattle.std.specs.Option.{option_copied};
 ghost use Rattle.std.specs.declared.cmp.Ordering.TheVariants.{Less};
 ghost use Rattle.record_set.specs.Sets.{ident_of, key_of};
-ghost use Rattle.zone_model.specs.Keys.{ident_cmp, key_cmp};
+ghost use Rattle.config_model.specs.Keys.{ident_cmp, key_cmp};
 
 use record_set::{Ident, RecordSet, Routing};
 use std::cmp::Ordering;

@@ -2,7 +2,7 @@
 use Rattle.std.proofs.Common.{◌≡◌, ◌≢◌, ℕ, ◌+◌, ◌<◌, List, [], length, zero, suc, inl, inr, ap, refl, Some, subst, arith}
 use Rattle.std.specs.Prelude.{◌⊎◌, None, slice_get}
 use Rattle.std.proofs.lemmas.Option.{slice_get_within}
-use Rattle.record_set.specs.Reasons.{IsFirst}
+use Rattle.batch_model.specs.Reasons.{IsFirst}
 use Rattle.batch_model.specs.declared.batches.Change.{Change}
 use Rattle.batch_model.specs.Batches.{AreValidBefore, IsValid}
 

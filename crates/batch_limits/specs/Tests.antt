@@ -1,6 +1,6 @@
 -- What a batch meets by itself.
 use Rattle.std.specs.Prelude.{◌≡◌, ◌⊎◌, ℕ, List, [], length, Option, None, Some}
-use Rattle.record_set.specs.declared.reasons.Reason.{Reason}
+use Rattle.batch_model.specs.ReasonRecord.{Reason}
 use Rattle.batch_model.specs.declared.batches.Change.{Change}
 use Rattle.batch_model.specs.declared.refusals.BatchRefusal.{BatchRefusal}
 use Rattle.batch_model.specs.declared.refusals.BatchRefusal.TheVariants as batch

@@ -5,4 +5,5 @@
 
 mod limits;
 
+pub use batch_model::{Action, Batch, BatchRefusal, Change, ChangeRefusal, Changes};
 pub use limits::check_limits;

@@ -4,10 +4,8 @@ ghost use Rattle.std.specs.Prelude.{◌≡◌, ◌+◌, ◌<◌, IfSome, IfNone,
 ghost use Rattle.batch_model.specs.Limits.{counted, elements_in, HasTooManyValues, HasTooManyCharacters, HasLongSet};
 ghost use Rattle.batch_limits.specs.Tests.{IsFirstInvalidOrNone, TellsLimits};
 
-use batch_model::{Action, BatchRefusal, Change};
+use batch_model::{Action, BatchRefusal, Body, Change, Reason, check_set, is_long};
 use dns_name::Name;
-use record_set::{Body, Reason, check_set};
-use set_octets::is_long;
 
 /// The most values and aliases of a batch, those of an UPSERT counted twice.
 const MOST_ELEMENTS: usize = 1000;

@@ -2,11 +2,11 @@
 use Rattle.std.proofs.Common.{◌≡◌, ◌≢◌, ℕ, zero, suc, ◌<◌, List, [], ◌∷◌, length, take, ap, ◌∙◌, sym, refl, Some, None, subst, arith, inl, inr}
 use Rattle.std.specs.Prelude.{◌⊎◌, slice_get, Option, Result, Ok, Err}
 use Rattle.std.proofs.lemmas.Option.{slice_get_within}
-use Rattle.record_set.specs.declared.reasons.Reason.{Reason}
-use Rattle.record_set.specs.declared.sets.RecordSet.{RecordSet}
-use Rattle.record_set.specs.Reasons.{IsFirst}
-use Rattle.record_set.specs.Sets.{key_of}
-use Rattle.record_set.proofs.Firsts.{one_first}
+use Rattle.zone_model.specs.ReasonRecord.{Reason}
+use Rattle.zone_model.specs.RecordSetRecord.{RecordSet}
+use Rattle.zone_model.specs.Reasons.{IsFirst}
+use Rattle.zone_model.specs.Sets.{key_of}
+use Rattle.zone_model.proofs.Firsts.{one_first}
 use Rattle.batch_model.specs.declared.batches.Action.{Action}
 use Rattle.batch_model.specs.declared.batches.Action.TheVariants as action
 use Rattle.batch_model.specs.declared.batches.Change.{Change}

@@ -1,8 +1,8 @@
 -- A change leaves a zone a zone.
 use Rattle.std.proofs.Common.{ℕ, List, sym, subst}
 use Rattle.std.specs.Prelude.{Ok}
-use Rattle.dns_name.specs.Suffix.{EndsWith}
-use Rattle.record_set.specs.declared.sets.RecordSet.{RecordSet}
+use Rattle.zone_model.specs.Suffix.{EndsWith}
+use Rattle.zone_model.specs.RecordSetRecord.{RecordSet}
 use Rattle.zone_model.specs.Zones.{IsZone}
 use Rattle.zone_model.proofs.Staying.{placed_zone, without_zone}
 use Rattle.batch_model.specs.declared.batches.Action.{Action}

@@ -1,7 +1,7 @@
 -- What is told of a batch, change by change.
 use Rattle.std.proofs.Common.{◌≡◌, ℕ, List, [], ◌∷◌, ◌++◌, take, refl, Some, subst}
 use Rattle.std.specs.Prelude.{Ok, Err, slice_get}
-use Rattle.record_set.specs.declared.sets.RecordSet.{RecordSet}
+use Rattle.zone_model.specs.RecordSetRecord.{RecordSet}
 use Rattle.batch_model.specs.declared.batches.Change.{Change}
 use Rattle.batch_model.specs.declared.refusals.ChangeRefusal.{ChangeRefusal}
 use Rattle.batch_model.specs.declared.refusals.ChangeRefusal.TheVariants as refusal

@@ -2,15 +2,15 @@
 use Rattle.std.proofs.Common.{◌≡◌, ℕ, List, [], ◌∷◌, codes, None, ap, arith, refl, map, replicate, true}
 use Rattle.std.specs.Prelude.{slice_index}
 use Rattle.std.specs.List.{sum_by}
-use Rattle.rdata_layout.specs.declared.types.RType.{RType}
-use Rattle.rdata_layout.specs.declared.types.RType.TheVariants as rtype
-use Rattle.routing.specs.declared.policies.Place.{Place}
-use Rattle.routing.specs.declared.policies.Place.TheVariants as place
-use Rattle.routing.specs.declared.policies.Role.TheVariants as role
-use Rattle.routing.specs.declared.policies.Routing.{Routing}
-use Rattle.routing.specs.declared.policies.Routing.TheVariants as routing
-use Rattle.record_set.specs.declared.sets.RecordSet.{RecordSet}
-use Rattle.record_set.specs.declared.sets.Body.TheVariants as body
+use Rattle.zone_model.specs.RTypeRecord.{RType}
+use Rattle.zone_model.specs.RTypeRecord.TheVariants as rtype
+use Rattle.set_octets.specs.PlaceRecord.{Place}
+use Rattle.set_octets.specs.PlaceRecord.TheVariants as place
+use Rattle.set_octets.specs.RoleRecord.TheVariants as role
+use Rattle.set_octets.specs.RoutingRecord.{Routing}
+use Rattle.set_octets.specs.RoutingRecord.TheVariants as routing
+use Rattle.zone_model.specs.RecordSetRecord.{RecordSet}
+use Rattle.zone_model.specs.BodyRecord.TheVariants as body
 use Rattle.batch_model.specs.declared.batches.Action.TheVariants as action
 use Rattle.batch_model.specs.Limits.{elements_of, characters_of}
 use Rattle.batch_model.specs.Rules.{AreOnePlace, policy_of}

@@ -1,9 +1,9 @@
 -- A batch: the sets after it, or its first refusal (API Reference, ChangeResourceRecordSets).
 use Rattle.std.specs.Prelude.{◌≡◌, ◌≢◌, ◌<◌, ◌⊎◌, ℕ, List, [], ◌∷◌, take, slice_get, Some, None, Result, Ok, Err, ⊤}
-use Rattle.record_set.specs.declared.reasons.Reason.{Reason}
-use Rattle.record_set.specs.declared.sets.RecordSet.{RecordSet}
-use Rattle.record_set.specs.Reasons.{IsFirst}
-use Rattle.record_set.specs.Sets.{key_of}
+use Rattle.zone_model.specs.ReasonRecord.{Reason}
+use Rattle.zone_model.specs.RecordSetRecord.{RecordSet}
+use Rattle.zone_model.specs.Reasons.{IsFirst}
+use Rattle.zone_model.specs.Sets.{key_of}
 use Rattle.batch_model.specs.declared.batches.Change.{Change}
 use Rattle.batch_model.specs.declared.refusals.BatchRefusal.{BatchRefusal}
 use Rattle.batch_model.specs.declared.refusals.BatchRefusal.TheVariants as batch

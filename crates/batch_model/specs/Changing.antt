@@ -1,10 +1,10 @@
 -- One change to the sets of a zone (API Reference, ChangeResourceRecordSets).
 use Rattle.std.specs.Prelude.{◌≡◌, ℕ, List, Result, Ok, Err, ⊤}
-use Rattle.dns_name.specs.Suffix.{EndsWith}
-use Rattle.record_set.specs.declared.sets.RecordSet.{RecordSet}
-use Rattle.record_set.specs.Reasons.{IsOfZone}
-use Rattle.record_set.specs.Sameness.{Same}
-use Rattle.record_set.specs.Sets.{key_of}
+use Rattle.zone_model.specs.Suffix.{EndsWith}
+use Rattle.zone_model.specs.RecordSetRecord.{RecordSet}
+use Rattle.zone_model.specs.Reasons.{IsOfZone}
+use Rattle.zone_model.specs.Sameness.{Same}
+use Rattle.zone_model.specs.Sets.{key_of}
 use Rattle.zone_model.specs.Placing.{placed, without, Keeps, IsThere}
 use Rattle.batch_model.specs.declared.batches.Action.{Action}
 use Rattle.batch_model.specs.declared.batches.Action.TheVariants as action

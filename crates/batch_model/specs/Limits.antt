@@ -1,8 +1,8 @@
 -- The limits of a batch (API Reference, ChangeResourceRecordSets, "Limits on Change Batch Requests").
 use Rattle.std.specs.Prelude.{◌≡◌, ℕ, ◌*◌, ◌<◌, List, length, slice_get, Some}
 use Rattle.std.specs.List.{sum_by}
-use Rattle.record_set.specs.declared.sets.Body.{Body}
-use Rattle.record_set.specs.declared.sets.Body.TheVariants as body
+use Rattle.zone_model.specs.BodyRecord.{Body}
+use Rattle.zone_model.specs.BodyRecord.TheVariants as body
 use Rattle.set_octets.specs.Octets.{set_octets, most_octets}
 use Rattle.batch_model.specs.declared.batches.Action.{Action}
 use Rattle.batch_model.specs.declared.batches.Action.TheVariants as action

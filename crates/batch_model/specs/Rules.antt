@@ -1,10 +1,10 @@
 -- The rules that the sets of a zone meet together (API Reference, ResourceRecordSet; Developer Guide, Choosing a routing
 -- policy, and Supported DNS record types). They are looked at once, after the last change of a batch (own).
 use Rattle.std.specs.Prelude.{◌≡◌, ◌≢◌, ◌⊎◌, ◌<◌, ℕ, List, [], ◌∷◌, length, slice_get, Some, ⊤}
-use Rattle.rdata_layout.specs.declared.types.RType.TheVariants as rtype
-use Rattle.routing.specs.declared.policies.Routing.{Routing}
-use Rattle.routing.specs.declared.policies.Routing.TheVariants as routing
-use Rattle.record_set.specs.declared.sets.RecordSet.{RecordSet}
+use Rattle.zone_model.specs.RTypeRecord.TheVariants as rtype
+use Rattle.set_octets.specs.RoutingRecord.{Routing}
+use Rattle.set_octets.specs.RoutingRecord.TheVariants as routing
+use Rattle.zone_model.specs.RecordSetRecord.{RecordSet}
 use Rattle.zone_model.specs.Zones.{AreOneGroup, IsAmong, group}
 
 -- The policy of a set: a number for each, and for IP-based routing that of its collection.

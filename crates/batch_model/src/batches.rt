@@ -2,8 +2,8 @@
 
 ghost use Rattle.std.specs.Prelude.{◌≡◌, length};
 
-use record_set::RecordSet;
 use std::marker::Model;
+use zone_model::RecordSet;
 
 /// What a change does.
 #[derive(Clone, Copy, Debug, PartialEq, Eq)]

@@ -11,3 +11,8 @@ mod refusals;
 pub use batches::{Action, Batch, Change, Changes};
 pub use laws::{one_answer, zones_stay};
 pub use refusals::{BatchRefusal, ChangeRefusal};
+pub use set_octets::{
+    Body, Place, RData, RType, Reason, RecordSet, Role, Routing, ValueFault, Values, check_set,
+    has_spelling, is_long, texts_read_as_values, write_set,
+};
+pub use zone_model::{key_cmp, keys_are_ordered};

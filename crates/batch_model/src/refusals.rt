@@ -3,9 +3,7 @@
 ghost use Rattle.std.specs.Prelude.{◌≡◌};
 ghost use Rattle.batch_model.specs.Telling.{refusal_at};
 
-use dns_name::Name;
-use rdata_layout::RType;
-use record_set::{Reason, SetKey};
+use zone_model::{Name, RType, Reason, SetKey};
 
 /// Why a batch is refused. Of several refusals the first in this order is told; those with the
 /// place of a change are told change by change, an earlier change's first.

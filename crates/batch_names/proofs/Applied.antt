@@ -6,13 +6,13 @@ use Rattle.std.specs.List.{AllByRecursion, filter}
 use Rattle.std.specs.Ordering.{is_gt, is_lt, ordering_reverse}
 use Rattle.std.specs.declared.cmp.Ordering.{Ordering}
 use Rattle.std.proofs.lemmas.List.Elements.{filter-append}
-use Rattle.record_set.specs.declared.sets.RecordSet.{RecordSet}
-use Rattle.record_set.specs.declared.sets.SetKey.{SetKey}
-use Rattle.record_set.specs.Sets.{key_of}
-use Rattle.zone_model.specs.Keys.{key_cmp}
-use Rattle.zone_model.specs.Placing.{comes_before, comes_behind, placed, without, IsThere}
-use Rattle.zone_model.specs.Zones.{IsRising, IsZone}
-use Rattle.zone_model.proofs.Ordered.{keys_tie, keys_total}
+use Rattle.batch_model.specs.RecordSetRecord.{RecordSet}
+use Rattle.batch_model.specs.SetKeyRecord.{SetKey}
+use Rattle.batch_model.specs.Sets.{key_of}
+use Rattle.zone_table.specs.Keys.{key_cmp}
+use Rattle.zone_table.specs.Placing.{comes_before, comes_behind, placed, without, IsThere}
+use Rattle.zone_table.specs.Sets.{IsRising, IsZone}
+use Rattle.zone_table.proofs.Ordered.{keys_tie, keys_total}
 use Rattle.batch_model.specs.declared.batches.Action.{Action}
 use Rattle.batch_model.specs.declared.batches.Action.TheVariants as action
 use Rattle.batch_model.specs.declared.batches.Change.{Change}

@@ -5,9 +5,9 @@ use Rattle.std.specs.Prelude.{Ok, Err, ◌||◌}
 use Rattle.std.specs.List.{filter}
 use Rattle.dns_name.specs.Order.{same_labels}
 use Rattle.dns_name.specs.OrderLaws.{same_labels-Decides}
-use Rattle.record_set.specs.declared.sets.RecordSet.{RecordSet}
-use Rattle.zone_model.specs.Zones.{IsAmong, IsRising, IsZone}
-use Rattle.zone_model.proofs.Places.{all_at}
+use Rattle.batch_model.specs.RecordSetRecord.{RecordSet}
+use Rattle.zone_table.specs.Sets.{IsAmong, IsRising, IsZone}
+use Rattle.zone_table.proofs.Places.{all_at}
 use Rattle.zone_table.proofs.Members.{same_sets}
 use Rattle.batch_model.specs.declared.batches.Change.{Change}
 use Rattle.batch_model.specs.declared.refusals.BatchRefusal.{BatchRefusal}

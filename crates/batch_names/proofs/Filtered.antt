@@ -3,7 +3,7 @@ use Rattle.std.proofs.Common.{◌≡◌, ℕ, zero, suc, ◌<◌, ◌≤◌, Lis
 use Rattle.std.proofs.Common.{Bool, true, false, cond, Some, arith, inl, inr}
 use Rattle.std.specs.Prelude.{◌⊎◌, slice_get}
 use Rattle.std.specs.List.{filter}
-use Rattle.zone_model.specs.Zones.{IsAmong}
+use Rattle.zone_table.specs.Sets.{IsAmong}
 
 -- a number is below another, or not
 pub below_or_not : (a b : ℕ) → (a < b) ⊎ (b ≤ a)

@@ -6,3 +6,5 @@ pub mod Ruled
 pub mod Runs
 pub mod Starting
 pub mod Values
+pub use Rattle.zone_table.proofs.Equation
+pub use Rattle.zone_table.proofs.Members

@@ -6,8 +6,8 @@ use Rattle.std.specs.List.Sorted.{IsPermutation}
 use Rattle.std.proofs.lemmas.List.Kept.{Contains-dedup_nat, Contains-from_dedup}
 use Rattle.std.proofs.lemmas.List.Sorted.{Contains-permutation, IsPermutation-sym}
 use Rattle.std.proofs.lemmas.Option.{get_or_from_slice_get, slice_get-get_or, slice_get_within}
-use Rattle.zone_model.specs.Zones.{IsAmong}
-use Rattle.zone_model.proofs.Among.{among_at, place_of}
+use Rattle.zone_table.specs.Sets.{IsAmong}
+use Rattle.zone_table.proofs.Among.{among_at, place_of}
 
 among_of : (xs : List ℕ) (x : ℕ) → Contains xs x → IsAmong xs x
 among_of xs x (k, lt, e) =

@@ -9,11 +9,11 @@ use Rattle.dns_name.specs.Order.{same_labels}
 use Rattle.dns_name.specs.OrderLaws.{same_labels-Decides}
 use Rattle.rdata_layout.specs.declared.types.RType.{RType}
 use Rattle.rdata_layout.specs.Types.{number_of}
-use Rattle.record_set.specs.declared.sets.RecordSet.{RecordSet}
+use Rattle.batch_model.specs.RecordSetRecord.{RecordSet}
 use Rattle.batch_model.specs.Rules.{Rule, OnePolicy, CnameAlone, OwnPlace, GroupSize, Breaks}
 use Rattle.batch_model.specs.Rules.{BreaksAt, HasCname, HasOtherType, IsFirstBreak, MeetsAll}
 use Rattle.batch_model.specs.Rules.{NoneBreaksBefore, rules, rules_before}
-use Rattle.zone_model.specs.Zones.{AreOneGroup, group, is_of_group}
+use Rattle.zone_table.specs.Sets.{AreOneGroup, group, is_of_group}
 use Rattle.batch_names.proofs.Filtered.{absorbed, in_filter, of_filter, rank, at_rank, Stood, stood}
 use Rattle.batch_names.proofs.Filtered.{rank_below, earlier}
 

@@ -8,21 +8,21 @@ use Rattle.std.proofs.lemmas.List.Elements.{filter-append}
 use Rattle.std.proofs.lemmas.Option.{slice_get_within}
 use Rattle.dns_name.specs.Order.{same_labels}
 use Rattle.dns_name.specs.OrderLaws.{same_labels-Decides}
-use Rattle.record_set.specs.declared.sets.RecordSet.{RecordSet}
-use Rattle.set_search.proofs.Lookups.{at_one, filled}
-use Rattle.zone_model.specs.Zones.{IsAmong, IsRising}
-use Rattle.zone_model.proofs.Places.{name_between}
+use Rattle.batch_model.specs.RecordSetRecord.{RecordSet}
+use Rattle.zone_table.proofs.Lookups.{at_one, filled}
+use Rattle.zone_table.specs.Sets.{IsAmong, IsRising}
+use Rattle.zone_table.proofs.Places.{name_between}
 use Rattle.batch_model.specs.declared.batches.Change.{Change}
 use Rattle.batch_names.specs.Named.{named_in, names}
 use Rattle.batch_names.specs.Starts.{IsNamed, IsNamedStart, IsStart, ReadsNamed}
 use Rattle.batch_names.proofs.Filtered.{below_or_not, fails, passes}
 use Rattle.batch_names.specs.Starts.{ReadsNamed}
-use Rattle.zone_model.specs.Zones.{IsRising}
+use Rattle.zone_table.specs.Sets.{IsRising}
 use Rattle.std.proofs.lemmas.Option.{slice_get_within}
-use Rattle.zone_model.proofs.Places.{name_between}
-use Rattle.set_search.proofs.Lookups.{at_one, filled}
+use Rattle.zone_table.proofs.Places.{name_between}
+use Rattle.zone_table.proofs.Lookups.{at_one, filled}
 use Rattle.std.proofs.lemmas.List.Kept.{AllPairs-from_increasing}
-use Rattle.zone_model.proofs.Lists.{split, take_more}
+use Rattle.zone_table.proofs.Lists.{split, take_more}
 use Rattle.zone_table.proofs.Members.{in_all}
 use Rattle.batch_names.specs.Starts.{AreRisingStarts, ReadsRun}
 use Rattle.std.proofs.Common.{append-nil, append_assoc, slice_index_or, AllPairs}

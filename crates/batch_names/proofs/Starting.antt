@@ -12,18 +12,18 @@ use Rattle.rdata_layout.specs.Types.{number_of}
 use Rattle.rdata_layout.specs.declared.types.RType.{RType}
 use Rattle.rdata_layout.specs.declared.types.RType.TheVariants.{A, Ns, Cname, Soa, Ptr, Mx, Txt}
 use Rattle.rdata_layout.specs.declared.types.RType.TheVariants.{Aaaa, Srv, Spf, Caa}
-use Rattle.record_set.specs.declared.sets.RecordSet.{RecordSet}
-use Rattle.record_set.specs.declared.sets.SetKey.{SetKey}
-use Rattle.record_set.specs.Sets.{key_of}
-use Rattle.set_search.specs.Bounds.{is_before}
-use Rattle.set_search.specs.Found.{IsCount}
-use Rattle.set_search.specs.declared.bounds.Bound.TheVariants as bound
-use Rattle.set_search.proofs.Lookups.{filled}
-use Rattle.zone_model.specs.Keys.{ident_cmp}
-use Rattle.zone_model.specs.Zones.{IsAmong, IsRising}
-use Rattle.zone_model.proofs.Among.{among_at, place_of}
-use Rattle.zone_model.proofs.Ordered.{names_tie}
-use Rattle.zone_model.proofs.Places.{ordered_at}
+use Rattle.batch_model.specs.RecordSetRecord.{RecordSet}
+use Rattle.batch_model.specs.SetKeyRecord.{SetKey}
+use Rattle.batch_model.specs.Sets.{key_of}
+use Rattle.zone_table.specs.Bounds.{is_before}
+use Rattle.zone_table.specs.Found.{IsCount}
+use Rattle.zone_table.specs.BoundRecord.TheVariants as bound
+use Rattle.zone_table.proofs.Lookups.{filled}
+use Rattle.zone_table.specs.Keys.{ident_cmp}
+use Rattle.zone_table.specs.Sets.{IsAmong, IsRising}
+use Rattle.zone_table.proofs.Among.{among_at, place_of}
+use Rattle.zone_table.proofs.Ordered.{names_tie}
+use Rattle.zone_table.proofs.Places.{ordered_at}
 use Rattle.batch_model.specs.declared.batches.Change.{Change}
 use Rattle.batch_names.specs.Starts.{AreStarts, IsNamed, IsNamedStart, IsStart}
 use Rattle.batch_names.proofs.Filtered.{below_or_not}

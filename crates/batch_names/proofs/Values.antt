@@ -4,13 +4,13 @@ use Rattle.std.proofs.Common.{◌∙◌, subst, arith}
 use Rattle.std.specs.Prelude.{IfSome, slice_get, unwrap_or}
 use Rattle.rdata.specs.Datum.{Datum}
 use Rattle.rdata_layout.specs.declared.types.RType.{RType}
-use Rattle.record_set.specs.declared.sets.Body.{Body}
-use Rattle.record_set.specs.declared.sets.Body.TheVariants as body
-use Rattle.record_set.specs.declared.sets.RecordSet.{RecordSet}
-use Rattle.set_octets.specs.Octets.{AreOfType, HasSpelling}
-use Rattle.set_scratch.specs.Bodies.{values_of, wires_of}
-use Rattle.zone_model.proofs.Lists.{take_more}
-use Rattle.zone_model.proofs.Places.{all_at}
+use Rattle.batch_model.specs.BodyRecord.{Body}
+use Rattle.batch_model.specs.BodyRecord.TheVariants as body
+use Rattle.batch_model.specs.RecordSetRecord.{RecordSet}
+use Rattle.batch_model.specs.Octets.{AreOfType, HasSpelling}
+use Rattle.zone_table.specs.Bodies.{values_of, wires_of}
+use Rattle.zone_table.proofs.Lists.{take_more}
+use Rattle.zone_table.proofs.Places.{all_at}
 use Rattle.zone_table.proofs.Naming.{of_map_at}
 
 one_type : (rtype : RType) (what : Body) (i : ℕ) (value : Datum) → AreOfType rtype what

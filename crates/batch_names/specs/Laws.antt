@@ -1,11 +1,11 @@
 -- A batch is decided name by name.
 use Rattle.std.specs.Prelude.{◌≡◌, ◌↔◌, ℕ, List, Ok, Err}
-use Rattle.record_set.specs.declared.sets.RecordSet.{RecordSet}
+use Rattle.batch_model.specs.RecordSetRecord.{RecordSet}
 use Rattle.batch_model.specs.declared.batches.Change.{Change}
 use Rattle.batch_model.specs.declared.refusals.BatchRefusal.{BatchRefusal}
 use Rattle.batch_model.specs.Batches.{Prepares}
 use Rattle.batch_model.specs.Rules.{MeetsAll, rules}
-use Rattle.zone_model.specs.Zones.{IsZone}
+use Rattle.zone_table.specs.Sets.{IsZone}
 use Rattle.batch_names.specs.Named.{named_in, unnamed_in}
 
 -- In a zone that meets the rules for groups and names:

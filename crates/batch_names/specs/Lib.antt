@@ -3,6 +3,11 @@ pub mod Named
 pub mod Starts
 pub use Rattle.batch_model.specs.Batches
 pub use Rattle.batch_model.specs.Rules
-pub use Rattle.zone_model.specs.Zones
+pub use Rattle.zone_table.specs.Sets as Zones
 pub use Rattle.zone_table.specs.Zones as AllZones
-pub use Rattle.zone_model.specs.Placed
+pub use Rattle.zone_table.specs.Placed
+pub use Rattle.zone_table.specs.Changes
+pub use Rattle.zone_table.specs.Edits
+pub use Rattle.zone_table.specs.Laws as LawsOfZoneTable
+pub use Rattle.zone_table.specs.Looking
+pub use Rattle.zone_table.specs.declared.edits.ZoneEdit as ZoneEditRecord

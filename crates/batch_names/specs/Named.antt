@@ -2,7 +2,7 @@
 use Rattle.std.specs.Prelude.{ℕ, List, Bool, not}
 use Rattle.std.specs.List.{filter, list_any}
 use Rattle.dns_name.specs.Order.{same_labels}
-use Rattle.record_set.specs.declared.sets.RecordSet.{RecordSet}
+use Rattle.batch_model.specs.RecordSetRecord.{RecordSet}
 use Rattle.batch_model.specs.declared.batches.Change.{Change}
 
 -- whether the set of a change has this name

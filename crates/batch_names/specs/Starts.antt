@@ -2,9 +2,9 @@
 use Rattle.std.specs.Prelude.{◌≡◌, ◌≢◌, ◌≤◌, ◌<◌, ◌-◌, ◌++◌, ℕ, List, take, drop, length, slice_get}
 use Rattle.std.specs.Prelude.{Bool, true, false, Option, None, Some}
 use Rattle.std.specs.List.Sorted.{IsStrictlyIncreasing}
-use Rattle.record_set.specs.declared.sets.RecordSet.{RecordSet}
-use Rattle.set_octets.specs.Octets.{HasSpelling}
-use Rattle.zone_model.specs.Zones.{IsAmong}
+use Rattle.batch_model.specs.RecordSetRecord.{RecordSet}
+use Rattle.batch_model.specs.Octets.{HasSpelling}
+use Rattle.zone_table.specs.Sets.{IsAmong}
 use Rattle.batch_model.specs.declared.batches.Change.{Change}
 
 -- whether there is a set at a place, which a scratch holds then

@@ -2,16 +2,15 @@
 
 ghost use Rattle.std.specs.Prelude.{◌≡◌, ◌≤◌, length, IfOk, OnOk};
 ghost use Rattle.zone_table.specs.Zones.{placed_in};
-ghost use Rattle.zone_model.specs.Placed.{sets_of};
+ghost use Rattle.zone_table.specs.Placed.{sets_of};
 ghost use Rattle.batch_names.specs.Named.{named_in};
 ghost use Rattle.batch_names.specs.Starts.{ReadsNamed, ReadsRun};
 
 use crate::held::{hold_at, hold_named, read_held};
 use crate::starts::rising_starts;
-use batch_model::Change;
+use batch_model::{Change, RecordSet};
 use dns_name::Name;
 use octets::OutOfMemory;
-use record_set::RecordSet;
 use std::alloc::Global;
 use zone_table::{Scratch, Zones};
 

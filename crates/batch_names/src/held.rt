@@ -1,17 +1,17 @@
 //! A set at a place of a zone, held in a scratch and read from it.
 
 ghost use Rattle.std.specs.Prelude.{◌≡◌, ◌≤◌, length, Some, take, IfOk, IfSome};
-ghost use Rattle.record_set.specs.declared.sets.RecordSet.{RecordSet};
-ghost use Rattle.set_octets.specs.Octets.{HasSpelling};
-ghost use Rattle.set_scratch.specs.Bodies.{values_of};
+ghost use Rattle.batch_model.specs.RecordSetRecord.{RecordSet};
+ghost use Rattle.batch_model.specs.Octets.{HasSpelling};
+ghost use Rattle.zone_table.specs.Bodies.{values_of};
 ghost use Rattle.zone_table.specs.Zones.{placed_in};
-ghost use Rattle.zone_model.specs.Placed.{sets_of};
+ghost use Rattle.zone_table.specs.Placed.{sets_of};
 ghost use Rattle.batch_names.specs.Starts.{HoldsAt, HoldsNamed};
 
+use batch_model::{Body, RecordSet, Values};
 use dns_name::Name;
 use octets::OutOfMemory;
 use rdata::{RData, WireFault};
-use record_set::{Body, RecordSet, Values};
 use std::alloc::Global;
 use zone_table::{Scratch, Zones};
 

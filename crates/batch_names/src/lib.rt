@@ -12,3 +12,4 @@ mod starts;
 
 pub use finding::named_sets;
 pub use laws::names_decide;
+pub use zone_table::{Scratch, SetKeys, Sets, Zones, one_apex, sets_of_one};

@@ -3,8 +3,8 @@
 ghost use Rattle.std.specs.Prelude.{◌≡◌, ◌↔◌, ℕ, List, IfOk};
 ghost use Rattle.std.specs.List.Sorted.{IsStrictlyIncreasing};
 ghost use Rattle.zone_table.specs.Zones.{placed_in};
-ghost use Rattle.zone_model.specs.Placed.{sets_of};
-ghost use Rattle.zone_model.specs.Zones.{IsAmong};
+ghost use Rattle.zone_table.specs.Placed.{sets_of};
+ghost use Rattle.zone_table.specs.Sets.{IsAmong};
 ghost use Rattle.batch_names.specs.Starts.{AreRisingStarts, AreStarts, StartOrNone};
 
 use crate::held::hold_named;

@@ -3,11 +3,11 @@ use Rattle.std.specs.Prelude.{ℕ, ◌<◌, ◌^◌, List, [], ◌∷◌, ◌++�
 use Rattle.std.specs.List.{AllByRecursion}
 use Rattle.octets.specs.Numbers.{four_octets}
 use Rattle.octet_reading.specs.Rules.{list_octets, text_octets}
-use Rattle.address_text.specs.declared.address.IpAddress.{IpAddress}
-use Rattle.address_text.specs.declared.address.IpAddress.TheVariants.{V4, V6}
-use Rattle.ip_table.specs.Prefixes.{Prefix}
-use Rattle.cidr_blocks.specs.Places.{octets_of}
-use Rattle.cidr_changes.specs.declared.changes.CidrChange.{CidrChange}
+use Rattle.cidr_commands.specs.IpAddressRecord.{IpAddress}
+use Rattle.cidr_commands.specs.IpAddressRecord.TheVariants.{V4, V6}
+use Rattle.cidr_commands.specs.Prefixes.{Prefix}
+use Rattle.cidr_commands.specs.Places.{octets_of}
+use Rattle.cidr_commands.specs.CidrChangeRecord.{CidrChange}
 use Rattle.cidr_commands.specs.Commands.{HasNames}
 use Rattle.cidr_commands.specs.declared.command.CidrCommand.{CidrCommand}
 use Rattle.cidr_commands.specs.declared.command.CidrCommand.TheVariants.{Create, Change, Delete}

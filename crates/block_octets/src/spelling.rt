@@ -4,8 +4,7 @@ ghost use Rattle.std.specs.Prelude.{◌<◌, ◌^◌, length, IsTrue, ◌↔◌}
 ghost use Rattle.std.specs.List.{AllByRecursion};
 ghost use Rattle.block_octets.specs.Octets.{HasFewBlocks, IsListed, HasSpelling};
 
-use cidr_changes::CidrChange;
-use cidr_commands::{CidrCommand, has_names};
+use cidr_commands::{CidrChange, CidrCommand, has_names};
 
 /// Whether a command has a spelling: its names are names of collections and of locations, and its
 /// lists can be counted.

@@ -6,11 +6,7 @@ ghost use Rattle.octet_reading.specs.Rules.{list_octets, text_octets};
 ghost use Rattle.block_octets.specs.Octets.{block_octets, change_octets, put_number, kind_of};
 ghost use Rattle.block_octets.specs.Octets.{field_octets, HasFewBlocks, HasSpelling};
 
-use address_text::IpAddress;
-use cidr_blocks::Ident;
-use cidr_changes::CidrChange;
-use cidr_commands::CidrCommand;
-use ip_table::IpPrefix;
+use cidr_commands::{CidrChange, CidrCommand, Ident, IpAddress, IpPrefix};
 use octets::{OutOfMemory, append, four_octets, two_octets};
 
 /// Appends the kind of a command and its fields.

@@ -5,21 +5,21 @@ use Rattle.std.proofs.Common.{Some}
 use Rattle.std.specs.Prelude.{⊤}
 use Rattle.std.specs.List.{AllByRecursion}
 use Rattle.octets.specs.Numbers.{four_octets}
-use Rattle.octet_reading.specs.Reading.{four_at}
-use Rattle.octet_reading.specs.Rules.{IsReadAs, AreListed, list_octets}
-use Rattle.octet_reading.proofs.Base.{read_as, octet_read}
-use Rattle.octet_reading.proofs.Composed.{in_turn_read}
-use Rattle.octet_reading.proofs.Digits.{four_is, four_again}
-use Rattle.octet_reading.proofs.Optional.{list_read, meaning_read, numbered_is}
-use Rattle.octet_reading.proofs.Rules.{alike, seen_read}
-use Rattle.octet_reading.proofs.Within.{four_within}
-use Rattle.ip_table.specs.Prefixes.{Prefix}
-use Rattle.routing.specs.Texts.{IsLocationName}
-use Rattle.cidr_blocks.specs.Idents.{IsCollectionName}
-use Rattle.cidr_changes.specs.declared.changes.CidrChange.{CidrChange}
-use Rattle.cidr_changes.specs.Laws.{HasName, HaveNames}
-use Rattle.cidr_commands.specs.declared.command.CidrCommand.{CidrCommand}
-use Rattle.cidr_commands.specs.declared.command.CidrCommand.TheVariants.{Create, Change, Delete}
+use Rattle.block_octets.specs.Reading.{four_at}
+use Rattle.block_octets.specs.Rules.{IsReadAs, AreListed, list_octets}
+use Rattle.block_octets.proofs.Base.{read_as, octet_read}
+use Rattle.block_octets.proofs.Composed.{in_turn_read}
+use Rattle.block_octets.proofs.Digits.{four_is, four_again}
+use Rattle.block_octets.proofs.Optional.{list_read, meaning_read, numbered_is}
+use Rattle.block_octets.proofs.Rules.{alike, seen_read}
+use Rattle.block_octets.proofs.Within.{four_within}
+use Rattle.block_octets.specs.Prefixes.{Prefix}
+use Rattle.block_octets.specs.Texts.{IsLocationName}
+use Rattle.block_octets.specs.Idents.{IsCollectionName}
+use Rattle.block_octets.specs.CidrChangeRecord.{CidrChange}
+use Rattle.block_octets.specs.Laws.{HasName, HaveNames}
+use Rattle.block_octets.specs.CidrCommandRecord.{CidrCommand}
+use Rattle.block_octets.specs.CidrCommandRecord.TheVariants.{Create, Change, Delete}
 use Rattle.block_octets.specs.Octets.{put_number, change_octets, field_octets, HasFewBlocks}
 use Rattle.block_reading.specs.Laws.{IsOfKind, CidrCommandsAreRead}
 use Rattle.block_reading.specs.Reading.{create_at, put_of, put_at, changed, change_at}

@@ -8,19 +8,19 @@ use Rattle.std.proofs.lemmas.Bool.{leb-true, le-leb, eqb-true, eq-eqb, le-ltb, l
 use Rattle.std.proofs.lemmas.Bool.{and_parts}
 use Rattle.std.proofs.lemmas.List.{length-append, length-drop, length-take-le, take-append-drop}
 use Rattle.std.proofs.Math.Seq.{take-append_seam, drop-append_seam}
-use Rattle.address_text.specs.declared.address.IpAddress.{IpAddress}
-use Rattle.address_text.specs.declared.address.IpAddress.TheVariants.{V4, V6}
-use Rattle.dns_name.specs.Names.{AreOctets}
-use Rattle.octet_reading.specs.Readers.{has_kind}
-use Rattle.octet_reading.specs.Rules.{IsReadAs}
-use Rattle.octet_reading.proofs.Base.{octet_read}
-use Rattle.octet_reading.proofs.Composed.{in_turn_by_read, tested_read}
-use Rattle.octet_reading.proofs.Digits.{ok_is}
-use Rattle.octet_reading.proofs.OfKind.{kinds_read}
-use Rattle.octet_reading.proofs.Rules.{err_is, seen_read}
-use Rattle.ip_table.specs.Bits.{IsAddress, width_of, number_of}
-use Rattle.ip_table.specs.Prefixes.{IsPrefix, Prefix}
-use Rattle.cidr_blocks.specs.Places.{octets_of}
+use Rattle.block_octets.specs.IpAddressRecord.{IpAddress}
+use Rattle.block_octets.specs.IpAddressRecord.TheVariants.{V4, V6}
+use Rattle.block_octets.specs.Names.{AreOctets}
+use Rattle.block_octets.specs.Readers.{has_kind}
+use Rattle.block_octets.specs.Rules.{IsReadAs}
+use Rattle.block_octets.proofs.Base.{octet_read}
+use Rattle.block_octets.proofs.Composed.{in_turn_by_read, tested_read}
+use Rattle.block_octets.proofs.Digits.{ok_is}
+use Rattle.block_octets.proofs.OfKind.{kinds_read}
+use Rattle.block_octets.proofs.Rules.{err_is, seen_read}
+use Rattle.block_octets.specs.Bits.{IsAddress, width_of, number_of}
+use Rattle.block_octets.specs.Prefixes.{IsPrefix, Prefix}
+use Rattle.block_octets.specs.Places.{octets_of}
 use Rattle.block_octets.specs.Octets.{family_of, block_octets}
 use Rattle.block_reading.specs.Blocks.{octets_at, short_address_at, long_address_at, is_length}
 use Rattle.block_reading.specs.Blocks.{length_at}

@@ -1,13 +1,13 @@
 -- Names of collections and of locations.
 use Rattle.std.proofs.Common.{◌≡◌, ℕ, suc, ◌<◌, inl, List, [], ◌∷◌, arith, refl, Ok}
 use Rattle.std.specs.Prelude.{slice_index}
-use Rattle.dns_name.specs.Names.{AreOctets}
-use Rattle.octet_reading.specs.Readers.{text_at}
-use Rattle.octet_reading.specs.Rules.{IsReadAs, text_octets}
-use Rattle.octet_reading.proofs.Plain.{text_read}
-use Rattle.octet_reading.proofs.Rules.{alike}
-use Rattle.routing.specs.Texts.{IsText, IsLocationName, is_location_byte}
-use Rattle.cidr_blocks.specs.Idents.{IsCollectionName, IsNameOrStar}
+use Rattle.block_octets.specs.Names.{AreOctets}
+use Rattle.block_octets.specs.Readers.{text_at}
+use Rattle.block_octets.specs.Rules.{IsReadAs, text_octets}
+use Rattle.block_octets.proofs.Plain.{text_read}
+use Rattle.block_octets.proofs.Rules.{alike}
+use Rattle.block_octets.specs.Texts.{IsText, IsLocationName, is_location_byte}
+use Rattle.block_octets.specs.Idents.{IsCollectionName, IsNameOrStar}
 use Rattle.block_reading.specs.Reading.{name_at, location_at}
 
 texts_read : (most : ℕ)

@@ -1,12 +1,12 @@
 -- Reading a CIDR block from left to right (FORMATS, Octets of commands).
 use Rattle.std.specs.Prelude.{◌==◌, ℕ, ◌-◌, ◌%◌, ◌^◌, List, [], ◌∷◌, length, take, drop, Bool}
 use Rattle.std.specs.Prelude.{nat_le, nat_lt, ◌&&◌, if◌then◌else◌, Result, Ok, Err}
-use Rattle.octet_reading.specs.Reading.{octet_at}
-use Rattle.octet_reading.specs.Readers.{Reader, seen, in_turn_by, tested, kinds}
-use Rattle.address_text.specs.declared.address.IpAddress.{IpAddress}
-use Rattle.address_text.specs.declared.address.IpAddress.TheVariants.{V4, V6}
-use Rattle.ip_table.specs.Bits.{width_of, number_of}
-use Rattle.ip_table.specs.Prefixes.{Prefix}
+use Rattle.block_octets.specs.Reading.{octet_at}
+use Rattle.block_octets.specs.Readers.{Reader, seen, in_turn_by, tested, kinds}
+use Rattle.block_octets.specs.IpAddressRecord.{IpAddress}
+use Rattle.block_octets.specs.IpAddressRecord.TheVariants.{V4, V6}
+use Rattle.block_octets.specs.Bits.{width_of, number_of}
+use Rattle.block_octets.specs.Prefixes.{Prefix}
 
 -- so many octets, as they are
 abbrev pub octets_at : (count : ℕ) → Reader (List ℕ)

@@ -1,7 +1,7 @@
 -- What reading commands on collections tells.
 use Rattle.std.specs.Prelude.{◌≡◌, ℕ}
-use Rattle.octet_reading.specs.Rules.{IsReadAs}
-use Rattle.cidr_commands.specs.declared.command.CidrCommand.{CidrCommand}
+use Rattle.block_octets.specs.Rules.{IsReadAs}
+use Rattle.block_octets.specs.CidrCommandRecord.{CidrCommand}
 use Rattle.block_octets.specs.Octets.{kind_of, field_octets, HasSpelling}
 use Rattle.block_reading.specs.Reading.{create_at, change_collection_at, delete_at}
 

@@ -1,13 +1,13 @@
 -- Reading commands on collections from left to right, with the first fault that is met (FORMATS,
 -- Octets of commands).
 use Rattle.std.specs.Prelude.{ℕ, List, [], ◌∷◌, Bool, true, false, Option, Result}
-use Rattle.octet_reading.specs.Reading.{octet_at, four_at}
-use Rattle.octet_reading.specs.Readers.{seen, in_turn, list_at, meaning, numbered, text_at}
-use Rattle.routing.specs.Texts.{is_location_byte}
-use Rattle.ip_table.specs.Prefixes.{Prefix}
-use Rattle.cidr_changes.specs.declared.changes.CidrChange.{CidrChange}
-use Rattle.cidr_commands.specs.declared.command.CidrCommand.{CidrCommand}
-use Rattle.cidr_commands.specs.declared.command.CidrCommand.TheVariants.{Create, Change, Delete}
+use Rattle.block_octets.specs.Reading.{octet_at, four_at}
+use Rattle.block_octets.specs.Readers.{seen, in_turn, list_at, meaning, numbered, text_at}
+use Rattle.block_octets.specs.Texts.{is_location_byte}
+use Rattle.block_octets.specs.Prefixes.{Prefix}
+use Rattle.block_octets.specs.CidrChangeRecord.{CidrChange}
+use Rattle.block_octets.specs.CidrCommandRecord.{CidrCommand}
+use Rattle.block_octets.specs.CidrCommandRecord.TheVariants.{Create, Change, Delete}
 use Rattle.block_octets.specs.Octets.{put_number}
 use Rattle.block_reading.specs.Blocks.{block_at}
 

@@ -1,11 +1,9 @@
 //! CIDR blocks at the front of octets.
 
-ghost use Rattle.octet_reading.specs.Reading.{Gives, GivesOrStops};
+ghost use Rattle.block_octets.specs.Reading.{Gives, GivesOrStops};
 ghost use Rattle.block_reading.specs.Blocks.{prefix_at, short_at, long_at, block_at};
 
-use address_text::IpAddress;
-use ip_table::IpPrefix;
-use octet_reading::{Fault, Field, Stop, octet_at};
+use block_octets::{Fault, Field, IpAddress, IpPrefix, Stop, octet_at};
 use octets::{behind, front};
 use std::alloc::Global;
 

@@ -9,7 +9,6 @@ mod laws;
 mod names;
 mod reading;
 
-pub use block_octets::{Blocks, Changes, CidrChange, CidrCommand, Ident, IpPrefix};
+pub use block_octets::{Blocks, Changes, CidrChange, CidrCommand, Fault, Ident, IpPrefix, Stop};
 pub use laws::cidr_commands_are_read;
-pub use octet_reading::{Fault, Stop};
 pub use reading::{change_collection_at, create_collection_at, delete_collection_at};

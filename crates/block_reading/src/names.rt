@@ -1,17 +1,15 @@
 //! Names of collections and of locations at the front of octets.
 
-ghost use Rattle.octet_reading.specs.Reading.{Gives};
+ghost use Rattle.block_octets.specs.Reading.{Gives};
 ghost use Rattle.block_reading.specs.Reading.{name_at, location_at};
 
-use cidr_blocks::Ident;
-use octet_reading::{Alphabet, Fault, text_at};
-use routing::is_location_byte;
+use block_octets::{Alphabet, Fault, Ident, is_location_byte, text_at};
 
 /// A to Z, a to z, 0 to 9, `_` and `-`.
 struct OfNames;
 
 impl Alphabet for OfNames {
-    ghost use Rattle.routing.specs.Texts.{is_location_byte};
+    ghost use Rattle.block_octets.specs.Texts.{is_location_byte};
 
     ghost is_plain = { λ b. is_location_byte b };
 

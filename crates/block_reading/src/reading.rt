@@ -1,15 +1,14 @@
 //! Commands on collections at the front of octets, each behind its kind.
 
-ghost use Rattle.octet_reading.specs.Reading.{Gives, GivesOrStops};
+ghost use Rattle.block_octets.specs.Reading.{Gives, GivesOrStops};
 ghost use Rattle.block_reading.specs.Reading.{put_of, put_at, change_at, create_at};
 ghost use Rattle.block_reading.specs.Reading.{change_collection_at, delete_at};
 
 use crate::blocks::OneBlock;
 use crate::names::{location_at, name_at};
-use cidr_blocks::Blocks;
-use cidr_changes::{Changes, CidrChange};
-use cidr_commands::CidrCommand;
-use octet_reading::{Fault, Field, Stop, four_at, list_at, octet_at};
+use block_octets::{
+    Blocks, Changes, CidrChange, CidrCommand, Fault, Field, Stop, four_at, list_at, octet_at,
+};
 use std::alloc::Global;
 
 /// A new collection.

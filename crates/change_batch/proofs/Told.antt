@@ -1,13 +1,13 @@
 -- What is told of a batch.
 use Rattle.std.proofs.Common.{◌≡◌, ℕ, ◌+◌, List, drop, set, suc, ◌∙◌, subst, arith}
 use Rattle.std.proofs.lemmas.Option.{slice_get_within}
-use Rattle.record_set.specs.declared.sets.RecordSet.{RecordSet}
-use Rattle.record_set.specs.Sameness.{Same}
-use Rattle.record_set.specs.Sets.{key_of}
-use Rattle.record_set.specs.declared.sets.SetKey.{SetKey}
+use Rattle.set_search.specs.RecordSetRecord.{RecordSet}
+use Rattle.set_search.specs.Sameness.{Same}
+use Rattle.set_search.specs.Sets.{key_of}
+use Rattle.set_search.specs.SetKeyRecord.{SetKey}
 use Rattle.std.specs.List.{remove, filter}
-use Rattle.zone_model.specs.Placing.{placed, without, comes_behind}
-use Rattle.batch_model.specs.Changing.{IsThereAsGiven}
+use Rattle.set_search.specs.Placing.{placed, without, comes_behind}
+use Rattle.batch_limits.specs.Changing.{IsThereAsGiven}
 use Rattle.change_batch.proofs.Edits.{replaced}
 use Rattle.set_search.specs.Found.{FindsAt}
 

@@ -3,19 +3,18 @@
 ghost use Rattle.std.specs.Prelude.{◌≡◌, ◌<◌, ◌≤◌, length, set, OnOk, IfErr, Ok, Err, IsTrue, ◌↔◌};
 ghost use Rattle.std.specs.List.{insert, remove};
 ghost use Rattle.dns_name.specs.Suffix.{EndsWith};
-ghost use Rattle.record_set.specs.Reasons.{IsOfZone};
-ghost use Rattle.record_set.specs.Sets.{key_of};
-ghost use Rattle.batch_model.specs.declared.batches.Action.TheVariants.{Create, Delete, Upsert};
-ghost use Rattle.batch_model.specs.Changing.{Gives, IsProtected, IsThereAsGiven};
-ghost use Rattle.zone_model.specs.Zones.{IsRising};
+ghost use Rattle.set_search.specs.Reasons.{IsOfZone};
+ghost use Rattle.set_search.specs.Sets.{key_of};
+ghost use Rattle.batch_limits.specs.ActionRecord.TheVariants.{Create, Delete, Upsert};
+ghost use Rattle.batch_limits.specs.Changing.{Gives, IsProtected, IsThereAsGiven};
+ghost use Rattle.set_search.specs.Zones.{IsRising};
 ghost use Rattle.set_search.specs.Found.{Finds, FindsAt};
 
-use batch_model::{Action, Change, ChangeRefusal};
+use batch_limits::{Action, Change, ChangeRefusal};
 use dns_name::Name;
 use octets::OutOfMemory;
 use rdata_layout::RType;
-use record_set::{RecordSet, same};
-use set_search::find_near;
+use set_search::{RecordSet, find_near, same};
 use std::alloc::Global;
 
 /// Applies a change. Where it is refused, the sets may be thrown away.

@@ -8,5 +8,5 @@ mod applying;
 mod preparing;
 mod whole;
 
-pub use batch_model::{Action, Batch, BatchRefusal, Change, Changes};
+pub use batch_limits::{Action, Batch, BatchRefusal, Change, Changes};
 pub use preparing::prepare;

@@ -1,15 +1,14 @@
 //! A batch made whole, or its first refusal.
 
 ghost use Rattle.std.specs.Prelude.{◌≡◌, IfOk, IfErr};
-ghost use Rattle.batch_model.specs.Batches.{Prepares};
-ghost use Rattle.zone_model.specs.Zones.{IsZone};
-ghost use Rattle.batch_model.specs.Telling.{with_items};
+ghost use Rattle.batch_limits.specs.Batches.{Prepares};
+ghost use Rattle.set_search.specs.Zones.{IsZone};
+ghost use Rattle.batch_limits.specs.Telling.{with_items};
 
 use crate::whole::apply_all;
-use batch_limits::check_limits;
-use batch_model::{Batch, BatchRefusal};
+use batch_limits::{Batch, BatchRefusal, check_limits};
 use dns_name::Name;
-use record_set::RecordSet;
+use set_search::RecordSet;
 use std::alloc::Global;
 use zone_rules::first_break;
 

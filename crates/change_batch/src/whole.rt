@@ -1,14 +1,14 @@
 //! All changes of a batch, applied one after another.
 
 ghost use Rattle.std.specs.Prelude.{◌≡◌, IfOk, IfErr, Err};
-ghost use Rattle.batch_model.specs.Batches.{IsWithinLimits, Leaves, Prepares};
-ghost use Rattle.zone_model.specs.Zones.{IsZone};
+ghost use Rattle.batch_limits.specs.Batches.{IsWithinLimits, Leaves, Prepares};
+ghost use Rattle.set_search.specs.Zones.{IsZone};
 
 use crate::applying::apply;
-use batch_model::{BatchRefusal, Change};
+use batch_limits::{BatchRefusal, Change};
 use dns_name::Name;
 use octets::OutOfMemory;
-use record_set::RecordSet;
+use set_search::RecordSet;
 use std::alloc::Global;
 
 /// The sets after the changes, or the refusal of the first change that is refused.

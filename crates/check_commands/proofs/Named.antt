@@ -6,14 +6,14 @@ use Rattle.std.specs.List.{list_any}
 use Rattle.std.proofs.lemmas.List.{length-map}
 use Rattle.std.proofs.lemmas.List.Folds.{list_any-append}
 use Rattle.config_zones.specs.Edited.{hosted_in}
-use Rattle.config_model.specs.Configs.{all_sets}
-use Rattle.config_model.specs.Others.{is_check_named, is_number}
+use Rattle.config_zones.specs.Configs.{all_sets}
+use Rattle.config_zones.specs.Others.{is_check_named, is_number}
 use Rattle.config_zones.specs.Laws.{ZonesFollow}
 use Rattle.config_zones.specs.Walks.{above}
 use Rattle.record_set.specs.declared.sets.RecordSet.{RecordSet}
-use Rattle.zone_table.proofs.Members.{filled, left_at, nothing_left}
-use Rattle.zone_table.specs.FoundZones.{IsNextZone, NextZoneOrNone}
-use Rattle.zone_table.specs.Zones.{AreZones, Zone, placed_in}
+use Rattle.config_zones.proofs.MembersOfZoneList.{filled, left_at, nothing_left}
+use Rattle.config_zones.specs.Found.{IsNextZone, NextZoneOrNone}
+use Rattle.config_zones.specs.Zones.{AreZones, Zone, placed_in}
 use Rattle.zone_model.specs.Placed.{Placed, sets_of}
 
 abbrev pub names : ℕ → RecordSet → Bool

@@ -4,13 +4,12 @@
 ghost use Rattle.std.specs.Prelude.{◌≡◌, ◌∷◌, [], option_map};
 ghost use Rattle.check_model.specs.Commands.{refusal_of};
 ghost use Rattle.config_zones.specs.Edited.{hosted_in};
-ghost use Rattle.config_model.specs.Others.{in_use};
-ghost use Rattle.config_model.specs.Telling.{first_of, of_check, unless};
+ghost use Rattle.config_zones.specs.Others.{in_use};
+ghost use Rattle.config_zones.specs.Telling.{first_of, of_check, unless};
 
 use crate::naming::is_check_named;
-use config_model::{Refusal, of_check};
+use config_zones::{Refusal, Zones, of_check};
 use health_check::{CheckCommand, CheckTable};
-use zone_table::Zones;
 
 /// The first refusal of a command on health checks: that of the table, or where a check is deleted
 /// that a set names. It takes no memory.

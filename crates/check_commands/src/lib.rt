@@ -6,4 +6,5 @@
 mod judging;
 mod naming;
 
+pub use config_zones::{InputReason, Made, Refusal, commands_keep_sound, empty_is_sound};
 pub use judging::judge_checks;

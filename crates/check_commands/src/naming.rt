@@ -2,13 +2,12 @@
 
 ghost use Rattle.std.specs.Prelude.{◌≡◌};
 ghost use Rattle.config_zones.specs.Edited.{hosted_in};
-ghost use Rattle.config_model.specs.Configs.{all_sets};
-ghost use Rattle.config_model.specs.Others.{is_check_named, is_number};
-ghost use Rattle.zone_table.specs.Zones.{placed_in};
+ghost use Rattle.config_zones.specs.Configs.{all_sets};
+ghost use Rattle.config_zones.specs.Others.{is_check_named, is_number};
+ghost use Rattle.config_zones.specs.Zones.{placed_in};
 ghost use Rattle.zone_model.specs.Placed.{sets_of};
 
-use config_zones::{check_at, zones_follow};
-use zone_table::Zones;
+use config_zones::{Zones, check_at, zones_follow};
 
 /// Whether a set of a zone names the health check.
 pub fn is_check_named(zones: &Zones, id: u32) -> bool

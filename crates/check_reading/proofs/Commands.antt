@@ -4,12 +4,12 @@ use Rattle.std.proofs.Common.{◌≡◌, ℕ, ◌≤◌, Bool, true, false, List
 use Rattle.std.proofs.Common.{Option, None}
 use Rattle.std.specs.Prelude.{⊤}
 use Rattle.octets.specs.Numbers.{two_octets, four_octets}
-use Rattle.octet_reading.specs.Readers.{has_kind}
-use Rattle.octet_reading.specs.Rules.{IsReadAs, flag_octet, list_octets, WhereSome}
-use Rattle.octet_reading.proofs.Base.{flag_read}
-use Rattle.octet_reading.proofs.Composed.{in_turn_read}
-use Rattle.octet_reading.proofs.OfKind.{kinds_read}
-use Rattle.octet_reading.proofs.Rules.{alike, seen_read}
+use Rattle.check_octets.specs.Readers.{has_kind}
+use Rattle.check_octets.specs.Rules.{IsReadAs, flag_octet, list_octets, WhereSome}
+use Rattle.check_octets.proofs.Base.{flag_read}
+use Rattle.check_octets.proofs.Composed.{in_turn_read}
+use Rattle.check_octets.proofs.OfKind.{kinds_read}
+use Rattle.check_octets.proofs.Rules.{alike, seen_read}
 use Rattle.check_model.specs.declared.checks.Check.{Check}
 use Rattle.check_model.specs.declared.checks.Check.TheVariants.{Endpoint, Calculated}
 use Rattle.check_model.specs.declared.checks.CheckCommand.{CheckCommand}

@@ -5,15 +5,15 @@ use Rattle.std.specs.Prelude.{⊤}
 use Rattle.std.specs.List.{AllByRecursion}
 use Rattle.std.proofs.lemmas.Bool.{leb-true, le-leb, and_from, and_parts}
 use Rattle.octets.specs.Numbers.{two_octets, four_octets}
-use Rattle.octet_reading.specs.Readers.{Reader, list_at, optional_at}
-use Rattle.octet_reading.specs.Reading.{four_at, flag_at}
-use Rattle.octet_reading.specs.Rules.{IsReadAs, list_octets, optional_octets, WhereSome}
-use Rattle.octet_reading.proofs.Base.{read_as, octet_read, two_read, flag_read}
-use Rattle.octet_reading.proofs.Composed.{so_many_read, tested_read}
-use Rattle.octet_reading.proofs.Digits.{four_is, four_again}
-use Rattle.octet_reading.proofs.Optional.{list_read, optional_read}
-use Rattle.octet_reading.proofs.Rules.{alike, nothing_read, then_read}
-use Rattle.octet_reading.proofs.Within.{four_within}
+use Rattle.check_octets.specs.Readers.{Reader, list_at, optional_at}
+use Rattle.check_octets.specs.Reading.{four_at, flag_at}
+use Rattle.check_octets.specs.Rules.{IsReadAs, list_octets, optional_octets, WhereSome}
+use Rattle.check_octets.proofs.Base.{read_as, octet_read, two_read, flag_read}
+use Rattle.check_octets.proofs.Composed.{so_many_read, tested_read}
+use Rattle.check_octets.proofs.Digits.{four_is, four_again}
+use Rattle.check_octets.proofs.Optional.{list_read, optional_read}
+use Rattle.check_octets.proofs.Rules.{alike, nothing_read, then_read}
+use Rattle.check_octets.proofs.Within.{four_within}
 use Rattle.check_model.specs.Commands.{IsThreshold}
 use Rattle.check_octets.specs.Octets.{tells_disabled, where_told, flag_octets, disabled_octets}
 use Rattle.check_octets.specs.Octets.{IsTold, IsListable}

@@ -1,7 +1,7 @@
 -- The fields of health checks (FORMATS, Octets of commands).
 use Rattle.std.specs.Prelude.{ℕ, List, Bool, true, false, nat_le, ◌&&◌, Option, None, Result, Ok}
-use Rattle.octet_reading.specs.Reading.{◌>>=◌, octet_at, two_at, four_at, flag_at}
-use Rattle.octet_reading.specs.Readers.{Reader, so_many, optional_at, tested}
+use Rattle.check_octets.specs.Reading.{◌>>=◌, octet_at, two_at, four_at, flag_at}
+use Rattle.check_octets.specs.Readers.{Reader, so_many, optional_at, tested}
 use Rattle.check_octets.specs.Octets.{tells_disabled}
 
 -- the threshold of an endpoint's check, 1 to 10

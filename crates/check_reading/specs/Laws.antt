@@ -1,6 +1,6 @@
 -- What reading commands on health checks tells.
 use Rattle.std.specs.Prelude.{◌≡◌, ℕ}
-use Rattle.octet_reading.specs.Rules.{IsReadAs}
+use Rattle.check_octets.specs.Rules.{IsReadAs}
 use Rattle.check_model.specs.declared.checks.CheckCommand.{CheckCommand}
 use Rattle.check_octets.specs.Octets.{kind_of, field_octets, HasSpelling}
 use Rattle.check_reading.specs.Reading.{create_at, update_at, delete_at}

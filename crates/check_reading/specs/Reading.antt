@@ -1,8 +1,8 @@
 -- Reading commands on health checks from left to right, with the first fault that is met (FORMATS,
 -- Octets of commands).
 use Rattle.std.specs.Prelude.{ℕ, List, [], ◌∷◌, Bool, Option, Result}
-use Rattle.octet_reading.specs.Reading.{four_at, flag_at}
-use Rattle.octet_reading.specs.Readers.{Reader, seen, in_turn, list_at, optional_at, kinds}
+use Rattle.check_octets.specs.Reading.{four_at, flag_at}
+use Rattle.check_octets.specs.Readers.{Reader, seen, in_turn, list_at, optional_at, kinds}
 use Rattle.check_model.specs.declared.checks.Check.{Check}
 use Rattle.check_model.specs.declared.checks.Check.TheVariants.{Endpoint, Calculated}
 use Rattle.check_model.specs.declared.checks.CheckCommand.{CheckCommand}

@@ -1,12 +1,12 @@
 //! The fields of health checks at the front of octets.
 
-ghost use Rattle.octet_reading.specs.Reading.{Gives, GivesOrStops};
-ghost use Rattle.octet_reading.specs.Readers.{optional_at};
+ghost use Rattle.check_octets.specs.Reading.{Gives, GivesOrStops};
+ghost use Rattle.check_octets.specs.Readers.{optional_at};
 ghost use Rattle.check_reading.specs.Fields.{failures_at, threshold_at, few_at, children_at};
 ghost use Rattle.check_reading.specs.Fields.{disabled_at, disabling_at};
 
 use check_model::Children;
-use octet_reading::{Fault, Field, Stop, flag_at, four_at, list_at, octet_at, so_many, two_at};
+use check_octets::{Fault, Field, Stop, flag_at, four_at, list_at, octet_at, so_many, two_at};
 use std::alloc::Global;
 
 /// The most of an endpoint's threshold.
@@ -118,7 +118,7 @@ pub(crate) struct Flag;
 impl Field for Flag {
     type Value = bool;
 
-    ghost use Rattle.octet_reading.specs.Reading.{flag_at};
+    ghost use Rattle.check_octets.specs.Reading.{flag_at};
 
     ghost reading = { λ _. flag_at };
 
@@ -133,7 +133,7 @@ pub(crate) struct Number;
 impl Field for Number {
     type Value = u32;
 
-    ghost use Rattle.octet_reading.specs.Reading.{four_at};
+    ghost use Rattle.check_octets.specs.Reading.{four_at};
 
     ghost reading = { λ _. four_at };
 
@@ -163,8 +163,8 @@ pub(crate) struct AnyChildren;
 impl Field for AnyChildren {
     type Value = Children;
 
-    ghost use Rattle.octet_reading.specs.Reading.{four_at};
-    ghost use Rattle.octet_reading.specs.Readers.{list_at};
+    ghost use Rattle.check_octets.specs.Reading.{four_at};
+    ghost use Rattle.check_octets.specs.Readers.{list_at};
 
     ghost reading = { λ _. list_at four_at };
 

@@ -7,7 +7,6 @@ mod fields;
 mod laws;
 mod reading;
 
-pub use check_octets::{Check, CheckCommand, Children};
+pub use check_octets::{Check, CheckCommand, Children, Fault, Stop};
 pub use laws::check_commands_are_read;
-pub use octet_reading::{Fault, Stop};
 pub use reading::{create_check_at, delete_check_at, update_check_at};

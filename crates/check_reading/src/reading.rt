@@ -1,6 +1,6 @@
 //! Commands on health checks at the front of octets, each behind its kind.
 
-ghost use Rattle.octet_reading.specs.Reading.{Gives, GivesOrStops};
+ghost use Rattle.check_octets.specs.Reading.{Gives, GivesOrStops};
 ghost use Rattle.check_reading.specs.Reading.{endpoint_at, calculated_at, check_at};
 ghost use Rattle.check_reading.specs.Reading.{create_at, update_at, delete_at};
 
@@ -9,7 +9,7 @@ use crate::fields::{
     threshold_at,
 };
 use check_model::{Check, CheckCommand};
-use octet_reading::{Fault, Stop, flag_at, four_at, octet_at};
+use check_octets::{Fault, Stop, flag_at, four_at, octet_at};
 use std::alloc::Global;
 
 /// A new check.

@@ -3,7 +3,7 @@ use Rattle.std.proofs.Common.{◌≡◌, ℕ, Bool, true, false, Some, None, Lis
 use Rattle.std.specs.Prelude.{codes, if◌then◌else◌, ◌==◌}
 use Rattle.record_set.specs.declared.sets.Body.TheVariants as body
 use Rattle.record_set.specs.declared.sets.RecordSet.{RecordSet}
-use Rattle.rdata_layout.specs.declared.types.RType.TheVariants as rtype
+use Rattle.record_set.specs.RTypeRecord.TheVariants as rtype
 use Rattle.routing.specs.declared.policies.Continent.TheVariants.{Na}
 use Rattle.routing.specs.declared.policies.Place.TheVariants as place
 use Rattle.routing.specs.declared.policies.Role.TheVariants.{Primary, Secondary}

@@ -11,4 +11,5 @@ pub use bridges::{
     cidr_choice, failover_choice, geolocation_choice, latency_choice, multivalue_choice,
     policies_of_groups, simple_choice, weighted_choice,
 };
+pub use geo_latency::{Latencies, Location, Tables, choose_place, choose_region};
 pub use laws::{chosen_are_of_group, some_is_chosen};

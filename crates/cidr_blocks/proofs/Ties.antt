@@ -6,8 +6,8 @@ use Rattle.std.specs.Cmp.Lexicographic.{slice_cmp}
 use Rattle.std.specs.Ordering.{nat_cmp, ordering_then}
 use Rattle.std.proofs.lemmas.Cmp.{ranked}
 use Rattle.std.proofs.lemmas.Map.Lookups.{exact_bytes}
-use Rattle.address_text.specs.declared.address.IpAddress.{IpAddress}
-use Rattle.address_text.specs.declared.address.IpAddress.TheVariants.{V4, V6}
+use Rattle.ip_table.specs.IpAddressRecord.{IpAddress}
+use Rattle.ip_table.specs.IpAddressRecord.TheVariants.{V4, V6}
 use Rattle.ip_table.specs.Bits.{width_of}
 use Rattle.ip_table.specs.Prefixes.{Prefix}
 use Rattle.cidr_blocks.specs.Laws.{OneOrder}

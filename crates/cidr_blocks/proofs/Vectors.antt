@@ -4,7 +4,7 @@ use Rattle.std.specs.List.{AllByRecursion}
 use Rattle.std.specs.List.Sorted.{IsStrictlySortedBy}
 use Rattle.std.specs.Prelude.{codes}
 use Rattle.std.specs.declared.cmp.Ordering.TheVariants.{Less, Equal, Greater}
-use Rattle.address_text.specs.declared.address.IpAddress.TheVariants.{V4, V6}
+use Rattle.ip_table.specs.IpAddressRecord.TheVariants.{V4, V6}
 use Rattle.ip_table.specs.Prefixes.{Prefix}
 use Rattle.routing.specs.Texts.{IsLocation, IsLocationName, is_location_byte}
 use Rattle.cidr_blocks.specs.declared.places.CidrLocation.{CidrLocation}

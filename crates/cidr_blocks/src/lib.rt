@@ -12,10 +12,12 @@ mod places;
 mod tables;
 
 pub use ident::Ident;
+pub use ip_table::{IpAddress, IpPrefix, IpTable, one_location};
 pub use judging::is_collection;
 pub use laws::{locations_are_names, one_listing, one_order};
 pub use lists::{Blocks, Locations};
 pub use octets::OutOfMemory;
 pub use order::{Block, is_block, name_order};
 pub use places::{CidrLocation, Collection};
+pub use routing::is_location_byte;
 pub use tables::table_of;

@@ -10,8 +10,7 @@ ghost use Rattle.cidr_blocks.specs.Order.{same_block_laws, same_block_partial};
 ghost use Rattle.cidr_blocks.specs.Places.{block_cmp, is_block, name_cmp, octets_of};
 
 use crate::ident::Ident;
-use address_text::IpAddress;
-use ip_table::IpPrefix;
+use ip_table::{IpAddress, IpPrefix};
 use std::cmp::Ordering;
 use std::marker::Model;
 

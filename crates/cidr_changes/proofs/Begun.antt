@@ -3,7 +3,7 @@ use Rattle.std.proofs.Common.{◌≡◌, ◌≢◌, ◌⊎◌, ℕ, Bool, true, 
 use Rattle.std.specs.Prelude.{◌↔◌, Contains}
 use Rattle.std.specs.BTreeMap.{insert_entry}
 use Rattle.std.proofs.lemmas.List.Elements.{Contains-append_cases, Contains-append_left, Contains-append_right}
-use Rattle.ip_table.specs.Prefixes.{Prefix}
+use Rattle.cidr_blocks.specs.Prefixes.{Prefix}
 use Rattle.cidr_blocks.specs.declared.places.CidrLocation.{CidrLocation}
 use Rattle.cidr_blocks.specs.Places.{StandOnce, block_cmp, rows_at, rows_of}
 use Rattle.cidr_blocks.proofs.Elements.{at_each, none, which}

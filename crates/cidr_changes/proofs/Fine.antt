@@ -2,7 +2,7 @@
 use Rattle.std.proofs.Common.{◌≡◌, Bool, true, false, cond, List, [], ◌∷◌, Result, Ok, refl, subst}
 use Rattle.std.specs.List.{AllByRecursion}
 use Rattle.std.specs.Prelude.{not, ◌||◌}
-use Rattle.ip_table.specs.Prefixes.{IsPrefix, Prefix}
+use Rattle.cidr_blocks.specs.Prefixes.{IsPrefix, Prefix}
 use Rattle.cidr_changes.specs.Laws.{HasName, HaveNames}
 use Rattle.cidr_changes.specs.declared.changes.CidrChange.{CidrChange}
 use Rattle.cidr_changes.specs.declared.faults.CidrFault.{CidrFault}

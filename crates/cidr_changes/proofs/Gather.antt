@@ -6,8 +6,8 @@ use Rattle.std.specs.Cmp.Lexicographic.{nat_list_cmp_total}
 use Rattle.std.specs.List.{AllByRecursion}
 use Rattle.std.specs.List.Sorted.{IsStrictlySortedBy}
 use Rattle.std.specs.Ordering.{match_ordering, ordering_reverse}
-use Rattle.ip_table.specs.Prefixes.{Prefix}
-use Rattle.routing.specs.Texts.{IsLocationName}
+use Rattle.cidr_blocks.specs.Prefixes.{Prefix}
+use Rattle.cidr_blocks.specs.Texts.{IsLocationName}
 use Rattle.cidr_blocks.specs.declared.places.CidrLocation.{CidrLocation}
 use Rattle.cidr_changes.specs.Changes.{BlocksRise, Rows}
 use Rattle.cidr_changes.specs.Gathered.{gathered, grown, of_block, with_row}

@@ -4,8 +4,8 @@ use Rattle.std.specs.BTreeMap.{insert_entry, is_at}
 use Rattle.std.specs.List.{AllByRecursion}
 use Rattle.std.specs.Map.{remove_entry}
 use Rattle.std.specs.Ordering.{match_ordering, ordering_reverse}
-use Rattle.ip_table.specs.Prefixes.{Prefix}
-use Rattle.routing.specs.Texts.{IsLocationName}
+use Rattle.cidr_blocks.specs.Prefixes.{Prefix}
+use Rattle.cidr_blocks.specs.Texts.{IsLocationName}
 use Rattle.cidr_changes.specs.Changes.{BlocksRise, Rows, location_of, put, put_all, removed, removed_all, stands_at}
 use Rattle.cidr_blocks.specs.Order.{block_cmp_total}
 use Rattle.cidr_blocks.specs.Places.{IsBlock, block_cmp}

@@ -4,7 +4,7 @@ use Rattle.std.specs.Ordering.{match_ordering}
 use Rattle.std.proofs.lemmas.List.{drop_more, take-append-drop, take-set, drop-set}
 use Rattle.std.specs.Prelude.{unwrap_or}
 use Rattle.std.proofs.lemmas.Option.{slice_get_read, slice_get_within}
-use Rattle.ip_table.specs.Prefixes.{Prefix}
+use Rattle.cidr_blocks.specs.Prefixes.{Prefix}
 use Rattle.cidr_changes.specs.declared.gathering.Spot.TheVariants.{At}
 use Rattle.cidr_blocks.specs.declared.places.CidrLocation.{CidrLocation}
 use Rattle.cidr_changes.specs.Gathered.{IsSpot, grown, of_block, with_row}

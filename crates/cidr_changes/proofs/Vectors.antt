@@ -1,8 +1,8 @@
 -- The definitions at values from outside.
 use Rattle.std.proofs.Common.{◌≡◌, ℕ, true, false, Some, None, List, [], ◌∷◌, Result, Ok, Err, replicate, refl}
 use Rattle.std.specs.Prelude.{codes}
-use Rattle.address_text.specs.declared.address.IpAddress.TheVariants.{V4, V6}
-use Rattle.ip_table.specs.Prefixes.{Prefix}
+use Rattle.cidr_blocks.specs.IpAddressRecord.TheVariants.{V4, V6}
+use Rattle.cidr_blocks.specs.Prefixes.{Prefix}
 use Rattle.cidr_changes.specs.declared.changes.CidrChange.{CidrChange}
 use Rattle.cidr_changes.specs.declared.faults.CidrFault.{CidrFault}
 use Rattle.cidr_changes.specs.declared.faults.CidrFault.TheVariants.{BlockLength, CidrBlockInUse, TooManyCidrBlocks, CidrLocationInUse}

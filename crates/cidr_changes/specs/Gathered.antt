@@ -2,7 +2,7 @@
 use Rattle.std.specs.Prelude.{◌≡◌, ℕ, ◌+◌, ◌≤◌, List, [], ◌∷◌, ◌++◌, length, take, drop, slice_get, Some}
 use Rattle.std.specs.List.{insert}
 use Rattle.std.specs.Ordering.{match_ordering}
-use Rattle.ip_table.specs.Prefixes.{Prefix}
+use Rattle.cidr_blocks.specs.Prefixes.{Prefix}
 use Rattle.cidr_changes.specs.declared.gathering.Spot.{Spot}
 use Rattle.cidr_changes.specs.declared.gathering.Spot.TheVariants.{At, Before}
 use Rattle.cidr_blocks.specs.declared.places.CidrLocation.{CidrLocation}

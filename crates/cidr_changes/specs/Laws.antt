@@ -1,7 +1,7 @@
 -- What the definitions of changes come to.
 use Rattle.std.specs.Prelude.{◌≡◌, ℕ, ◌⊎◌, ◌↔◌, List, [], length, Contains, Ok, true, false}
 use Rattle.std.specs.List.{AllByRecursion}
-use Rattle.routing.specs.Texts.{IsLocationName}
+use Rattle.cidr_blocks.specs.Texts.{IsLocationName}
 use Rattle.cidr_changes.specs.declared.changes.CidrChange.{CidrChange}
 use Rattle.cidr_blocks.specs.declared.places.Collection.{Collection}
 use Rattle.cidr_blocks.specs.declared.places.CidrLocation.{CidrLocation}
@@ -11,7 +11,7 @@ use Rattle.cidr_blocks.specs.Places.{IsCollection, names_of, rows_of}
 use Rattle.cidr_changes.specs.Changed.{changed_collection, with_locations}
 use Rattle.cidr_changes.specs.Changes.{BlocksRise, Rows, changed, has_block_in_use}
 use Rattle.cidr_changes.specs.Gathered.{locations_of}
-use Rattle.ip_table.specs.Prefixes.{IsPrefix, Prefix}
+use Rattle.cidr_blocks.specs.Prefixes.{IsPrefix, Prefix}
 
 -- A change names a location of 1 to 16 letters, digits, `_` and `-`, and prefixes.
 pub record HasName (change : CidrChange) : Type 0 where

@@ -3,8 +3,7 @@
 ghost use Rattle.std.specs.Prelude.{◌≡◌, ◌++◌, ◌∷◌, [], IfOk, OnOk};
 ghost use Rattle.cidr_changes.specs.Gathered.{IsSpot, grown, locations_of, of_block, with_row};
 
-use cidr_blocks::{Block, Blocks, CidrLocation, Ident, name_order};
-use ip_table::IpPrefix;
+use cidr_blocks::{Block, Blocks, CidrLocation, Ident, IpPrefix, name_order};
 use octets::OutOfMemory;
 use std::alloc::Global;
 use std::cmp::Ordering;

@@ -13,6 +13,10 @@ mod rows;
 
 pub use changes::{Changes, CidrChange};
 pub use changing::change_collection;
+pub use cidr_blocks::{
+    Blocks, CidrLocation, Collection, Ident, IpAddress, IpPrefix, IpTable, Locations,
+    is_collection, is_location_byte, locations_are_names, one_listing, one_location, table_of,
+};
 pub use faults::CidrFault;
 pub use laws::{
     blocks_are_gathered, changes_are_told, changes_keep_collections, changes_keep_placed,

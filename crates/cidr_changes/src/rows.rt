@@ -7,8 +7,7 @@ ghost use Rattle.cidr_changes.specs.Changes.{changed, has_bad_length, has_block_
 ghost use Rattle.cidr_changes.specs.Changes.{location_of};
 
 use crate::changes::CidrChange;
-use cidr_blocks::{Block, Ident, is_block};
-use ip_table::IpPrefix;
+use cidr_blocks::{Block, Ident, IpPrefix, is_block};
 use octets::OutOfMemory;
 use std::collections::BTreeMap;
 

@@ -6,10 +6,10 @@ use Rattle.std.specs.List.{AllByRecursion}
 use Rattle.std.specs.Prelude.{◌||◌, nat_eq}
 use Rattle.cidr_changes.specs.declared.changes.CidrChange.{CidrChange}
 use Rattle.cidr_changes.specs.declared.faults.CidrFault.TheVariants.{CidrCollectionInUse}
-use Rattle.cidr_blocks.specs.declared.places.Collection.{Collection}
+use Rattle.cidr_changes.specs.CollectionRecord.{Collection}
 use Rattle.cidr_changes.specs.Changed.{changed_collection}
-use Rattle.cidr_blocks.specs.Listing.{HoldSame, OneListing, SameMembers}
-use Rattle.cidr_blocks.specs.Places.{IsCollection}
+use Rattle.cidr_changes.specs.Listing.{HoldSame, OneListing, SameMembers}
+use Rattle.cidr_changes.specs.Places.{IsCollection}
 use Rattle.cidr_changes.specs.Laws.{OnlyNamedCount}
 use Rattle.cidr_changes.specs.Refusals.{first_of, rule, unless}
 use Rattle.cidr_changes.proofs.Named.{same_any}

@@ -5,7 +5,7 @@ use Rattle.std.specs.Prelude.{cond}
 use Rattle.std.proofs.lemmas.Bool.{eq-eqb}
 use Rattle.std.proofs.lemmas.List.{drop_more, length-drop}
 use Rattle.std.proofs.lemmas.Option.{slice_get_read}
-use Rattle.cidr_blocks.specs.declared.places.Collection.{Collection}
+use Rattle.cidr_changes.specs.CollectionRecord.{Collection}
 use Rattle.cidr_commands.specs.Stored.{IdsRise, IsId, IsNextId, NextIdOrNone, PlaceOrNone, collection_at}
 
 abbrev pub Held : Type 0

@@ -10,12 +10,12 @@ use Rattle.std.proofs.lemmas.Slice.Eq.{bytes_eq-Decides}
 use Rattle.cidr_changes.specs.declared.changes.CidrChange.{CidrChange}
 use Rattle.cidr_changes.specs.declared.faults.CidrFault.{CidrFault}
 use Rattle.cidr_changes.specs.declared.faults.CidrFault.TheVariants.{CollectionExists, IdsEnded, TooManyCidrCollections, CidrCollectionInUse}
-use Rattle.cidr_blocks.specs.declared.places.CidrLocation.{CidrLocation}
-use Rattle.cidr_blocks.specs.declared.places.Collection.{Collection}
+use Rattle.cidr_changes.specs.CidrLocationRecord.{CidrLocation}
+use Rattle.cidr_changes.specs.CollectionRecord.{Collection}
 use Rattle.cidr_changes.specs.Changed.{changed_collection}
 use Rattle.cidr_changes.specs.Laws.{HaveNames, KeepCollections}
-use Rattle.cidr_blocks.specs.Idents.{IsCollectionName}
-use Rattle.cidr_blocks.specs.Places.{IsCollection}
+use Rattle.cidr_changes.specs.Idents.{IsCollectionName}
+use Rattle.cidr_changes.specs.Places.{IsCollection}
 use Rattle.cidr_changes.specs.Refusals.{first_of, rule, unless}
 use Rattle.cidr_commands.specs.declared.command.CidrCommand.TheVariants.{Create, Change, Delete}
 use Rattle.cidr_commands.specs.Commands.{any_has_block, created, delete_refusal, deleted, is_taken, is_used, of_there, put_back, replaced, with_locations_at}

@@ -3,14 +3,14 @@ use Rattle.std.proofs.Common.{◌≡◌, ◌≢◌, ◌≤◌, ◌<◌, ◌+◌,
 use Rattle.std.specs.List.{AllByRecursion}
 use Rattle.std.specs.Prelude.{codes, nat_le, ◌==◌, ◌&&◌, ◌||◌}
 use Rattle.std.proofs.lemmas.Bool.{le-leb}
-use Rattle.address_text.specs.declared.address.IpAddress.TheVariants.{V4}
-use Rattle.ip_table.specs.Prefixes.{Prefix}
-use Rattle.routing.specs.Texts.{is_location_byte}
+use Rattle.cidr_changes.specs.IpAddressRecord.TheVariants.{V4}
+use Rattle.cidr_changes.specs.Prefixes.{Prefix}
+use Rattle.cidr_changes.specs.Texts.{is_location_byte}
 use Rattle.cidr_changes.specs.declared.changes.CidrChange.{CidrChange}
 use Rattle.cidr_changes.specs.declared.faults.CidrFault.TheVariants.{CollectionExists, BlockLength, IdsEnded, TooManyCidrCollections, NoSuchCidrCollection, CidrCollectionInUse, CidrLocationInUse}
-use Rattle.cidr_blocks.specs.declared.places.CidrLocation.{CidrLocation}
-use Rattle.cidr_blocks.specs.declared.places.Collection.{Collection}
-use Rattle.cidr_blocks.specs.Places.{IsCollection, rows_of}
+use Rattle.cidr_changes.specs.CidrLocationRecord.{CidrLocation}
+use Rattle.cidr_changes.specs.CollectionRecord.{Collection}
+use Rattle.cidr_changes.specs.Places.{IsCollection, rows_of}
 use Rattle.cidr_commands.specs.declared.command.CidrCommand.TheVariants.{Create, Change, Delete}
 use Rattle.cidr_commands.specs.Commands.{HasNames, answer, create_refusal}
 use Rattle.cidr_commands.specs.Stored.{IdsRise, IsSound, NamesDiffer, Stored, collection_at}

@@ -6,9 +6,9 @@ use Rattle.std.specs.List.{filter, list_any}
 use Rattle.std.specs.Str.{bytes_eq}
 use Rattle.cidr_changes.specs.declared.faults.CidrFault.{CidrFault}
 use Rattle.cidr_changes.specs.declared.faults.CidrFault.TheVariants.{CollectionExists, IdsEnded, TooManyCidrCollections, NoSuchCidrCollection, CidrCollectionInUse, OutOfMemory}
-use Rattle.cidr_blocks.specs.declared.places.CidrLocation.{CidrLocation}
-use Rattle.cidr_blocks.specs.declared.places.Collection.{Collection}
-use Rattle.cidr_blocks.specs.Idents.{IsCollectionName}
+use Rattle.cidr_changes.specs.CidrLocationRecord.{CidrLocation}
+use Rattle.cidr_changes.specs.CollectionRecord.{Collection}
+use Rattle.cidr_changes.specs.Idents.{IsCollectionName}
 use Rattle.cidr_changes.specs.Changed.{changed_collection}
 use Rattle.cidr_changes.specs.Laws.{HaveNames}
 use Rattle.cidr_changes.specs.Refusals.{first_of, rule, unless}

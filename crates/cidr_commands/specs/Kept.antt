@@ -1,7 +1,7 @@
 -- What commands keep, and what their answers hang on.
 use Rattle.std.specs.Prelude.{◌≡◌, ℕ, List, Option, None, Some, Contains, Ok, ⊤}
-use Rattle.cidr_blocks.specs.declared.places.Collection.{Collection}
-use Rattle.cidr_blocks.specs.Listing.{HoldSame, SameMembers}
+use Rattle.cidr_changes.specs.CollectionRecord.{Collection}
+use Rattle.cidr_changes.specs.Listing.{HoldSame, SameMembers}
 use Rattle.cidr_changes.specs.Laws.{IsPlaced}
 use Rattle.cidr_commands.specs.declared.command.CidrCommand.{CidrCommand}
 use Rattle.cidr_commands.specs.Commands.{HasNames, answer}

@@ -2,11 +2,11 @@
 use Rattle.std.specs.Prelude.{◌≡◌, ◌≢◌, ℕ, ◌<◌, ◌≤◌, List, [], ◌∷◌, length, Option, None, Some, Contains, slice_get, nat_eq, ⊤}
 use Rattle.std.specs.List.{AllByRecursion}
 use Rattle.std.specs.Map.{lookup}
-use Rattle.address_text.specs.declared.address.IpAddress.{IpAddress}
-use Rattle.ip_table.specs.Location.{Locates}
-use Rattle.ip_table.specs.Rows.{AreRows}
-use Rattle.cidr_blocks.specs.declared.places.Collection.{Collection}
-use Rattle.cidr_blocks.specs.Places.{IsCollection, rows_of}
+use Rattle.cidr_changes.specs.IpAddressRecord.{IpAddress}
+use Rattle.cidr_changes.specs.Location.{Locates}
+use Rattle.cidr_changes.specs.RowsOfIpTable.{AreRows}
+use Rattle.cidr_changes.specs.CollectionRecord.{Collection}
+use Rattle.cidr_changes.specs.Places.{IsCollection, rows_of}
 
 -- the collections, and the number that the next one gets
 pub record Stored : Type 0 where

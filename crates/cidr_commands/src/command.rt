@@ -2,13 +2,11 @@
 
 ghost use Rattle.std.specs.Prelude.{IsTrue, ◌↔◌};
 ghost use Rattle.std.specs.List.{AllByRecursion};
-ghost use Rattle.ip_table.specs.Prefixes.{IsPrefix, Prefix};
+ghost use Rattle.cidr_changes.specs.Prefixes.{IsPrefix, Prefix};
 ghost use Rattle.cidr_changes.specs.Laws.{HasName, HaveNames};
 ghost use Rattle.cidr_commands.specs.Commands.{HasNames};
 
-use cidr_blocks::Ident;
-use cidr_changes::{Changes, CidrChange};
-use ip_table::IpPrefix;
+use cidr_changes::{Changes, CidrChange, Ident, IpPrefix};
 
 /// A command on collections.
 #[derive(Drop)]

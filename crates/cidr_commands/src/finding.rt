@@ -3,7 +3,7 @@
 ghost use Rattle.std.specs.Prelude.{◌≡◌};
 ghost use Rattle.cidr_commands.specs.Stored.{IdsRise, NextIdOrNone, PlaceOrNone};
 
-use cidr_blocks::Collection;
+use cidr_changes::Collection;
 
 /// Where the collection of a number stands.
 pub fn place_of(list: &[(u32, Collection)], id: u32) -> Option<usize>

@@ -2,8 +2,7 @@
 
 ghost use Rattle.cidr_commands.specs.Kept.{KeepsSound, KeepsUsed, OnlyMembersCount};
 
-use cidr_blocks::one_listing;
-use cidr_changes::{changes_keep_collections, changes_keep_placed, only_named_count};
+use cidr_changes::{changes_keep_collections, changes_keep_placed, one_listing, only_named_count};
 
 /// What a command makes of sound collections is sound, where it has names.
 pub fn commands_keep_sound()

@@ -2,10 +2,10 @@
 
 ghost use Rattle.std.specs.Prelude.{◌≡◌, ◌≢◌, ◌+◌, ◌<◌, ◌≤◌, ◌↔◌, length, drop, IfOk, IsTrue};
 ghost use Rattle.std.specs.List.{AllByRecursion};
-ghost use Rattle.cidr_blocks.specs.Places.{IsCollection};
+ghost use Rattle.cidr_changes.specs.Places.{IsCollection};
 ghost use Rattle.cidr_commands.specs.Stored.{IdsRise, IsSound, NamesDiffer, Stored};
 
-use cidr_blocks::{Collection, Ident, is_collection};
+use cidr_changes::{Collection, Ident, is_collection};
 use octets::OutOfMemory;
 use std::alloc::Global;
 

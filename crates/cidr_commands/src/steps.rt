@@ -10,8 +10,9 @@ ghost use Rattle.cidr_commands.specs.Stored.{Stored, collection_at};
 
 use crate::command::CidrCommand;
 use crate::finding::place_of;
-use cidr_blocks::{CidrLocation, Collection, Ident, Locations};
-use cidr_changes::{Changes, CidrFault, change_collection};
+use cidr_changes::{
+    Changes, CidrFault, CidrLocation, Collection, Ident, Locations, change_collection,
+};
 use octets::OutOfMemory;
 use std::alloc::Global;
 

@@ -1,8 +1,8 @@
 -- A client has one location in a collection.
 use Rattle.std.proofs.Common.{◌∙◌, ℕ, List, None, Some, sym}
-use Rattle.cidr_blocks.specs.Places.{rows_of}
+use Rattle.cidr_commands.specs.Places.{rows_of}
 use Rattle.cidr_routing.specs.Located.{OneLocationIn}
-use Rattle.ip_table.specs.Laws.{OneLocation}
+use Rattle.cidr_commands.specs.LawsOfIpTable.{OneLocation}
 
 pub one_in : OneLocation (List ℕ) → OneLocationIn
 one_in law None client name other scope wide rows (none, zero) (as_none, as_zero) =

@@ -1,7 +1,7 @@
 -- What the location of a client comes to.
 use Rattle.std.specs.Prelude.{◌≡◌, ℕ, Option, List}
-use Rattle.address_text.specs.declared.address.IpAddress.{IpAddress}
-use Rattle.cidr_blocks.specs.declared.places.Collection.{Collection}
+use Rattle.cidr_commands.specs.IpAddressRecord.{IpAddress}
+use Rattle.cidr_commands.specs.CollectionRecord.{Collection}
 use Rattle.cidr_commands.specs.Stored.{AreRowsIn, LocatesIn}
 
 -- A client has one location in a collection, and one scope.

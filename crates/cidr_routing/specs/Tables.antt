@@ -1,8 +1,8 @@
 -- What is kept beside the collections.
 use Rattle.std.specs.Prelude.{ℕ, List, map}
-use Rattle.ip_table.specs.Prefixes.{Prefix}
-use Rattle.cidr_blocks.specs.declared.places.Collection.{Collection}
-use Rattle.cidr_blocks.specs.Places.{rows_of}
+use Rattle.cidr_commands.specs.Prefixes.{Prefix}
+use Rattle.cidr_commands.specs.CollectionRecord.{Collection}
+use Rattle.cidr_commands.specs.Places.{rows_of}
 
 -- the blocks of each collection
 abbrev pub tables_of : List (ℕ × Collection) → List (List (Prefix × List ℕ))

@@ -3,18 +3,17 @@
 ghost use Rattle.std.specs.Prelude.{◌≡◌, [], IfOk, Ok};
 ghost use Rattle.std.specs.List.{AllByRecursion};
 ghost use Rattle.std.specs.Option.{option_copied};
-ghost use Rattle.cidr_blocks.specs.Places.{IsCollection};
-ghost use Rattle.cidr_changes.specs.Refusals.{Gives};
+ghost use Rattle.cidr_commands.specs.Places.{IsCollection};
+ghost use Rattle.cidr_commands.specs.Refusals.{Gives};
 ghost use Rattle.cidr_commands.specs.Commands.{GivesWhere, HasNames, MayWant, answer};
 ghost use Rattle.cidr_commands.specs.Stored.{AreRowsIn, IsSound, LocatesIn};
 ghost use Rattle.cidr_commands.specs.Stored.{NextIdOrNone, Stored, collection_at};
 ghost use Rattle.cidr_routing.specs.Tables.{tables_of};
 
-use address_text::IpAddress;
-use cidr_blocks::{Collection, Ident, table_of};
-use cidr_changes::CidrFault;
-use cidr_commands::{CidrCommand, carry_out, commands_keep_sound, id_after, place_of};
-use ip_table::IpTable;
+use cidr_commands::{
+    CidrCommand, CidrFault, Collection, Ident, IpAddress, IpTable, carry_out, commands_keep_sound,
+    id_after, place_of, table_of,
+};
 use octets::OutOfMemory;
 use std::alloc::Global;
 use std::marker::Model;

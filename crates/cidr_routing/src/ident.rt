@@ -1,3 +1,3 @@
 //! The names of collections and of their locations.
 
-pub use cidr_blocks::Ident;
+pub use cidr_commands::Ident;

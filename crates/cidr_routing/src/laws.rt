@@ -3,7 +3,7 @@
 ghost use Rattle.cidr_routing.specs.Located.{OneLocationIn};
 
 use crate::ident::Ident;
-use ip_table::one_location;
+use cidr_commands::one_location;
 
 /// A client has one location in a collection, and one scope.
 pub fn one_location_in()

@@ -10,12 +10,10 @@ mod ident;
 mod laws;
 
 pub use choice::choose_block;
-pub use cidr_blocks::{
-    Blocks, CidrLocation, Collection, Locations, OutOfMemory, locations_are_names, one_listing,
-};
-pub use cidr_changes::{Changes, CidrChange, CidrFault};
 pub use cidr_commands::{
-    CidrCommand, commands_keep_sound, commands_keep_used, has_names, is_sound, only_members_count,
+    Blocks, Changes, CidrChange, CidrCommand, CidrFault, CidrLocation, Collection, Locations,
+    OutOfMemory, commands_keep_sound, commands_keep_used, has_names, is_sound, locations_are_names,
+    one_listing, only_members_count,
 };
 pub use collections::Collections;
 pub use ident::Ident;

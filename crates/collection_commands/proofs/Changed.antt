@@ -6,13 +6,13 @@ use Rattle.cidr_changes.specs.declared.faults.CidrFault.{CidrFault}
 use Rattle.cidr_commands.specs.Commands.{GivesWhere, MayWant, answer}
 use Rattle.cidr_commands.specs.Stored.{Stored}
 use Rattle.cidr_commands.specs.declared.command.CidrCommand.{CidrCommand}
-use Rattle.command_octets.specs.declared.commands.Command.TheVariants as command
+use Rattle.config_zones.specs.CommandRecord.TheVariants as command
 use Rattle.config_zones.specs.Edited.{hosted_in}
-use Rattle.config_model.specs.Configs.{Config}
-use Rattle.config_model.specs.Others.{made_collection, used_by, with_collections}
+use Rattle.config_zones.specs.Configs.{Config}
+use Rattle.config_zones.specs.Others.{made_collection, used_by, with_collections}
 use Rattle.config_zones.specs.Configured.{IsEditFor, config_of}
-use Rattle.zone_table.specs.Tables.{Table}
-use Rattle.zone_table.specs.declared.edits.ZoneEdit.TheVariants.{Collections}
+use Rattle.config_zones.specs.Tables.{Table}
+use Rattle.config_zones.specs.ZoneEditRecord.TheVariants.{Collections}
 
 abbrev Used : Type 0
 Used = List (ℕ × List ℕ)

@@ -6,16 +6,16 @@ use Rattle.std.specs.Prelude.{slice_get}
 use Rattle.std.proofs.lemmas.List.{append_assoc, append-nil}
 use Rattle.std.proofs.lemmas.List.Elements.{filter_map-append}
 use Rattle.config_zones.specs.Edited.{hosted_in}
-use Rattle.config_model.specs.Configs.{all_sets}
-use Rattle.config_model.specs.Others.{named_by, used_by}
+use Rattle.config_zones.specs.Configs.{all_sets}
+use Rattle.config_zones.specs.Others.{named_by, used_by}
 use Rattle.config_zones.specs.Laws.{ZonesFollow}
 use Rattle.config_zones.specs.Walks.{above}
 use Rattle.record_set.specs.declared.sets.RecordSet.{RecordSet}
 use Rattle.routing.specs.declared.policies.Routing.{Routing}
-use Rattle.set_octets.specs.Octets.{HasSpelling, IsSpelledRouting}
-use Rattle.zone_table.proofs.Members.{left_at, nothing_left}
-use Rattle.zone_table.specs.FoundZones.{IsNextZone, NextZoneOrNone}
-use Rattle.zone_table.specs.Zones.{AreZones, Zone, placed_in}
+use Rattle.config_zones.specs.Octets.{HasSpelling, IsSpelledRouting}
+use Rattle.config_zones.proofs.MembersOfZoneList.{left_at, nothing_left}
+use Rattle.config_zones.specs.Found.{IsNextZone, NextZoneOrNone}
+use Rattle.config_zones.specs.Zones.{AreZones, Zone, placed_in}
 use Rattle.zone_model.specs.Placed.{sets_of}
 use Rattle.collection_commands.specs.Named.{named_in}
 

@@ -1,7 +1,7 @@
 -- What some sets name.
 use Rattle.std.specs.Prelude.{ℕ, List}
 use Rattle.std.specs.List.{filter_map}
-use Rattle.config_model.specs.Others.{named_by}
+use Rattle.config_zones.specs.Others.{named_by}
 use Rattle.record_set.specs.declared.sets.RecordSet.{RecordSet}
 
 -- the collections and the locations that these sets name

@@ -4,17 +4,16 @@
 ghost use Rattle.std.specs.Prelude.{◌≡◌, ℕ, IfOk};
 ghost use Rattle.check_model.specs.Checks.{Checks};
 ghost use Rattle.cidr_commands.specs.Commands.{HasNames, answer};
-ghost use Rattle.command_octets.specs.declared.commands.Command.TheVariants.{Cidr};
+ghost use Rattle.config_zones.specs.CommandRecord.TheVariants.{Cidr};
 ghost use Rattle.config_zones.specs.Edited.{hosted_in};
-ghost use Rattle.config_model.specs.Others.{used_by};
+ghost use Rattle.config_zones.specs.Others.{used_by};
 ghost use Rattle.config_zones.specs.Configured.{TellsEdit, config_of};
 
 use crate::naming::used_by;
 use cidr_routing::{CidrCommand, Ident};
-use config_model::{Refusal, of_fault};
+use config_zones::{Refusal, Scratch, ZoneEdit, Zones, of_fault};
 use octets::OutOfMemory;
 use std::alloc::Global;
-use zone_table::{Scratch, ZoneEdit, Zones};
 
 /// The edit by which collections come to be what a command makes of them, or why it is refused.
 /// What the scratch holds afterwards is left open.

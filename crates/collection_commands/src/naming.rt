@@ -2,20 +2,19 @@
 
 ghost use Rattle.std.specs.Prelude.{◌≡◌, ◌++◌, ◌∷◌, [], IfOk, IfSome, OnOk, Some};
 ghost use Rattle.config_zones.specs.Edited.{hosted_in};
-ghost use Rattle.config_model.specs.Others.{named_by, used_by};
+ghost use Rattle.config_zones.specs.Others.{named_by, used_by};
 ghost use Rattle.record_set.specs.declared.sets.RecordSet.{RecordSet};
 ghost use Rattle.routing.specs.Texts.{IsLocation};
-ghost use Rattle.set_octets.specs.Octets.{HasSpelling, IsSpelledRouting};
-ghost use Rattle.zone_table.specs.Zones.{placed_in};
+ghost use Rattle.config_zones.specs.Octets.{HasSpelling, IsSpelledRouting};
+ghost use Rattle.config_zones.specs.Zones.{placed_in};
 ghost use Rattle.zone_model.specs.Placed.{sets_of};
 ghost use Rattle.collection_commands.specs.Named.{named_in};
 
 use cidr_routing::{Ident, locations_are_names};
-use config_zones::{hold_at, zones_follow};
+use config_zones::{Scratch, Zones, hold_at, zones_follow};
 use octets::OutOfMemory;
 use record_set::Routing;
 use std::alloc::Global;
-use zone_table::{Scratch, Zones};
 
 /// The collections and the locations that the sets of all zones name, in their order.
 pub fn used_by(

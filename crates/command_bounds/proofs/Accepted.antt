@@ -6,12 +6,12 @@ use Rattle.std.proofs.lemmas.Bool.{eq-eqb, eqb-true}
 use Rattle.std.proofs.lemmas.List.Sums.{sum_by-cons}
 use Rattle.octet_reading.specs.Rules.{WhereSome}
 use Rattle.std.specs.List.{AllByRecursion, sum_by}
-use Rattle.batch_model.specs.Batches.{IsWithinLimits}
-use Rattle.batch_model.specs.Limits.{counted, elements_in, elements_of}
-use Rattle.batch_model.specs.declared.batches.Action.{Action}
-use Rattle.batch_model.specs.declared.batches.Action.TheVariants as action
-use Rattle.batch_model.specs.declared.batches.Batch.{Batch}
-use Rattle.batch_model.specs.declared.batches.Change.{Change}
+use Rattle.config_model.specs.BatchModel.{IsWithinLimits}
+use Rattle.config_model.specs.Limits.{counted, elements_in, elements_of}
+use Rattle.config_model.specs.ActionRecord.{Action}
+use Rattle.config_model.specs.ActionRecord.TheVariants as action
+use Rattle.config_model.specs.BatchRecord.{Batch}
+use Rattle.config_model.specs.ChangeRecord.{Change}
 use Rattle.check_model.specs.Checks.{Checks, IsBounded as IsBoundedCheck, check_at}
 use Rattle.check_model.specs.Commands.{Given, IsBoundedCommand, IsThreshold, checks_after, given_by}
 use Rattle.check_model.specs.Commands.{of_there, refusal_of, update_refusal}
@@ -21,16 +21,16 @@ use Rattle.check_model.specs.declared.checks.Check.TheVariants.{Calculated, Endp
 use Rattle.check_model.specs.declared.checks.CheckCommand.{CheckCommand}
 use Rattle.check_model.specs.declared.checks.CheckCommand.TheVariants as check
 use Rattle.check_model.specs.declared.refusals.CheckRefusal.{CheckRefusal}
-use Rattle.block_octets.specs.Octets.{HasFewBlocks, IsListed}
-use Rattle.check_octets.specs.Octets as checks
-use Rattle.cidr_changes.specs.declared.changes.CidrChange.{CidrChange}
-use Rattle.cidr_commands.specs.declared.command.CidrCommand.{CidrCommand}
-use Rattle.cidr_commands.specs.declared.command.CidrCommand.TheVariants as cidr
+use Rattle.config_model.specs.Octets.{HasFewBlocks, IsListed}
+use Rattle.config_model.specs.OctetsOfCheckOctets as checks
+use Rattle.config_model.specs.CidrChangeRecord.{CidrChange}
+use Rattle.config_model.specs.CidrCommandRecord.{CidrCommand}
+use Rattle.config_model.specs.CidrCommandRecord.TheVariants as cidr
 use Rattle.command_bounds.specs.Laws.{AcceptedHaveSpelling, AreShortLists, HasShortLists}
 use Rattle.command_bounds.specs.Laws.{IsShortChange}
-use Rattle.command_octets.specs.Octets.{HasSpelledSet, HasSpelling, IsSpelledBatch}
-use Rattle.command_octets.specs.declared.commands.Command.{Command}
-use Rattle.command_octets.specs.declared.commands.Command.TheVariants as command
+use Rattle.command_codec.specs.Octets.{HasSpelledSet, HasSpelling, IsSpelledBatch}
+use Rattle.command_codec.specs.CommandRecord.{Command}
+use Rattle.command_codec.specs.CommandRecord.TheVariants as command
 use Rattle.config_model.proofs.Batched.{not_above}
 use Rattle.config_model.proofs.Zoning.{accepted, both_none}
 use Rattle.config_model.specs.Applying.{Decides}
@@ -41,11 +41,11 @@ use Rattle.config_model.specs.Others.{in_use, made_check}
 use Rattle.config_model.specs.Sound.{Sound}
 use Rattle.config_model.specs.Telling.{first_of, of_check}
 use Rattle.config_model.specs.declared.refusals.Made.{Made}
-use Rattle.record_set.specs.Reasons.{WithValues}
-use Rattle.record_set.specs.declared.sets.Body.{Body}
-use Rattle.record_set.specs.declared.sets.Body.TheVariants as body
-use Rattle.set_octets.specs.Octets.{most_octets, set_octets}
-use Rattle.zone_model.specs.Hosted.{HostedZone}
+use Rattle.config_model.specs.Reasons.{WithValues}
+use Rattle.config_model.specs.BodyRecord.{Body}
+use Rattle.config_model.specs.BodyRecord.TheVariants as body
+use Rattle.config_model.specs.OctetsOfSetOctets.{most_octets, set_octets}
+use Rattle.config_model.specs.Hosted.{HostedZone}
 
 -- ---- batches
 

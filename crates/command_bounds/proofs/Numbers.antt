@@ -7,9 +7,9 @@ use Rattle.config_model.specs.NewZones.{create_refusal}
 use Rattle.config_model.specs.declared.refusals.Refusal.{Refusal}
 use Rattle.config_model.specs.declared.refusals.Refusal.TheVariants as refusal
 use Rattle.rdata_layout.specs.declared.types.RType.TheVariants.{A}
-use Rattle.record_set.specs.Sets.{key_of}
-use Rattle.record_set.specs.declared.sets.Body.TheVariants.{Alias, Values}
-use Rattle.record_set.specs.declared.sets.RecordSet.{RecordSet}
+use Rattle.config_model.specs.Sets.{key_of}
+use Rattle.config_model.specs.BodyRecord.TheVariants.{Alias, Values}
+use Rattle.config_model.specs.RecordSetRecord.{RecordSet}
 use Rattle.routing.specs.declared.policies.Routing.TheVariants.{Cidr, Simple}
 
 abbrev named : ℕ → List (List ℕ)

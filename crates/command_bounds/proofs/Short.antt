@@ -6,27 +6,27 @@ use Rattle.std.proofs.Math.Nat.{suc-mul}
 use Rattle.std.proofs.lemmas.List.{length-append}
 use Rattle.address_text.specs.declared.address.IpAddress.{IpAddress}
 use Rattle.address_text.specs.declared.address.IpAddress.TheVariants.{V4, V6}
-use Rattle.batch_model.specs.declared.batches.Batch.{Batch}
-use Rattle.batch_model.specs.declared.batches.Change.{Change}
-use Rattle.block_octets.specs.Octets as collections
+use Rattle.config_model.specs.BatchRecord.{Batch}
+use Rattle.config_model.specs.ChangeRecord.{Change}
+use Rattle.config_model.specs.Octets as collections
 use Rattle.check_model.specs.Checks.{IsBounded as IsBoundedCheck}
 use Rattle.check_model.specs.declared.checks.Check.{Check}
 use Rattle.check_model.specs.declared.checks.Check.TheVariants.{Calculated, Endpoint}
 use Rattle.check_model.specs.declared.checks.CheckCommand.{CheckCommand}
 use Rattle.check_model.specs.declared.checks.CheckCommand.TheVariants as check
-use Rattle.check_octets.specs.Octets as checks
-use Rattle.cidr_commands.specs.Places.{octets_of}
-use Rattle.cidr_commands.specs.Laws.{HasName, HaveNames}
-use Rattle.cidr_changes.specs.declared.changes.CidrChange.{CidrChange}
-use Rattle.cidr_commands.specs.Commands.{HasNames}
-use Rattle.cidr_commands.specs.declared.command.CidrCommand.{CidrCommand}
-use Rattle.cidr_commands.specs.declared.command.CidrCommand.TheVariants as cidr
+use Rattle.config_model.specs.OctetsOfCheckOctets as checks
+use Rattle.config_model.specs.Places.{octets_of}
+use Rattle.config_model.specs.LawsOfCidrChanges.{HasName, HaveNames}
+use Rattle.config_model.specs.CidrChangeRecord.{CidrChange}
+use Rattle.config_model.specs.Collections.{HasNames}
+use Rattle.config_model.specs.CidrCommandRecord.{CidrCommand}
+use Rattle.config_model.specs.CidrCommandRecord.TheVariants as cidr
 use Rattle.command_bounds.specs.Laws.{AcceptedAreShort, AreShortLists, HasShortLists}
 use Rattle.command_bounds.specs.Laws.{IsShortChange}
 use Rattle.command_bounds.proofs.Accepted.{IsShortBatch, accepted_have_spelling, batch_by}
-use Rattle.command_octets.specs.Octets.{HasSpelledSet, batch_octets, change_octets, command_octets}
-use Rattle.command_octets.specs.declared.commands.Command.{Command}
-use Rattle.command_octets.specs.declared.commands.Command.TheVariants as command
+use Rattle.command_codec.specs.Octets.{HasSpelledSet, batch_octets, change_octets, command_octets}
+use Rattle.command_codec.specs.CommandRecord.{Command}
+use Rattle.command_codec.specs.CommandRecord.TheVariants as command
 use Rattle.config_model.specs.Applying.{Decides}
 use Rattle.config_model.specs.Configs.{Config, zone_with}
 use Rattle.config_model.specs.Laws.{IsBounded, KeepsSound}
@@ -34,7 +34,7 @@ use Rattle.config_model.specs.Sound.{Sound}
 use Rattle.config_model.specs.declared.refusals.Made.{Made}
 use Rattle.dns_name.specs.Labels.{wire}
 use Rattle.dns_name.specs.Names.{IsName}
-use Rattle.cidr_changes.specs.Prefixes.{IsPrefix, Prefix}
+use Rattle.config_model.specs.Prefixes.{IsPrefix, Prefix}
 use Rattle.octet_reading.specs.Rules.{list_octets, optional_octets, text_octets, WhereSome}
 use Rattle.octets.specs.Numbers.{four_octets, two_octets}
 

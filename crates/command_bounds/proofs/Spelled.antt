@@ -1,16 +1,16 @@
 -- The command that octets are is within its bounds.
 use Rattle.std.proofs.Common.{ℕ, List, [], ◌∷◌}
 use Rattle.std.specs.List.{AllByRecursion}
-use Rattle.batch_model.specs.declared.batches.Change.{Change}
+use Rattle.config_model.specs.ChangeRecord.{Change}
 use Rattle.check_model.specs.Commands.{IsBoundedCommand}
 use Rattle.check_model.specs.declared.checks.CheckCommand.{CheckCommand}
 use Rattle.check_model.specs.declared.checks.CheckCommand.TheVariants as check
-use Rattle.check_octets.specs.Octets as checks
+use Rattle.config_model.specs.OctetsOfCheckOctets as checks
 use Rattle.command_bounds.specs.Laws.{SpelledAreBounded}
 use Rattle.command_codec.specs.Commands.{HasSet, IsCommand}
-use Rattle.command_octets.specs.Octets.{HasSpelledSet, HasSpelling}
-use Rattle.command_octets.specs.declared.commands.Command.{Command}
-use Rattle.command_octets.specs.declared.commands.Command.TheVariants as command
+use Rattle.command_codec.specs.Octets.{HasSpelledSet, HasSpelling}
+use Rattle.command_codec.specs.CommandRecord.{Command}
+use Rattle.command_codec.specs.CommandRecord.TheVariants as command
 use Rattle.config_model.specs.Laws.{HasBoundedSet, IsBounded}
 
 changes_are : (changes : List Change) → AllByRecursion HasSet changes

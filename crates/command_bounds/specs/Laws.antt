@@ -1,13 +1,13 @@
 -- What is known of commands.
 use Rattle.std.specs.Prelude.{ℕ, ◌<◌, ◌≤◌, ◌^◌, List, length, Ok, ⊤}
 use Rattle.std.specs.List.{AllByRecursion}
-use Rattle.cidr_changes.specs.declared.changes.CidrChange.{CidrChange}
-use Rattle.cidr_commands.specs.declared.command.CidrCommand.{CidrCommand}
-use Rattle.cidr_commands.specs.declared.command.CidrCommand.TheVariants as cidr
+use Rattle.config_model.specs.CidrChangeRecord.{CidrChange}
+use Rattle.config_model.specs.CidrCommandRecord.{CidrCommand}
+use Rattle.config_model.specs.CidrCommandRecord.TheVariants as cidr
 use Rattle.command_codec.specs.Commands.{Spells}
-use Rattle.command_octets.specs.Octets.{HasSpelling, command_octets}
-use Rattle.command_octets.specs.declared.commands.Command.{Command}
-use Rattle.command_octets.specs.declared.commands.Command.TheVariants as command
+use Rattle.command_codec.specs.Octets.{HasSpelling, command_octets}
+use Rattle.command_codec.specs.CommandRecord.{Command}
+use Rattle.command_codec.specs.CommandRecord.TheVariants as command
 use Rattle.config_model.specs.Applying.{Decides}
 use Rattle.config_model.specs.Configs.{Config}
 use Rattle.config_model.specs.Laws.{IsBounded}

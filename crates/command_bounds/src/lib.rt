@@ -4,4 +4,5 @@
 
 mod laws;
 
+pub use config_model::Command;
 pub use laws::{accepted_are_short, accepted_have_spelling, spelled_are_bounded};

@@ -1,9 +1,9 @@
 -- Commands on collections by hand, and each kind of fault.
 use Rattle.std.proofs.Common.{◌≡◌, ℕ, List, [], ◌∷◌, ◌++◌, map, refl, true, false, Result, Ok, Err}
-use Rattle.address_text.specs.declared.address.IpAddress.TheVariants.{V4}
-use Rattle.octet_reading.specs.Readers.{text_at}
-use Rattle.ip_table.specs.Bits.{number_of}
-use Rattle.cidr_commands.specs.declared.command.CidrCommand.TheVariants.{Create, Change, Delete}
+use Rattle.block_reading.specs.IpAddressRecord.TheVariants.{V4}
+use Rattle.set_reading.specs.Readers.{text_at}
+use Rattle.block_reading.specs.Bits.{number_of}
+use Rattle.command_octets.specs.CidrCommandRecord.TheVariants.{Create, Change, Delete}
 use Rattle.block_reading.specs.Blocks.{short_at, long_at, block_at}
 use Rattle.block_reading.specs.Reading.{create_at, put_at, change_at, change_collection_at}
 use Rattle.block_reading.specs.Reading.{delete_at}

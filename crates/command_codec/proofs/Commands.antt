@@ -1,14 +1,14 @@
 -- What is told of a command that octets are as a whole.
 use Rattle.std.proofs.Common.{◌≡◌, ℕ, suc, ◌≤◌, ◌<◌, List, [], ◌∷◌, length, ap, ◌∙◌, sym, subst, Result, Ok, Err}
 use Rattle.std.specs.Prelude.{IfOk, slice_index}
-use Rattle.dns_name.specs.Names.{AreOctets}
-use Rattle.octet_reading.specs.declared.stop.Stop.{Stop}
-use Rattle.octet_reading.specs.declared.stop.Stop.TheVariants as stop
-use Rattle.octet_reading.specs.Reading.{Stops}
-use Rattle.octet_reading.specs.Readers.{whole}
-use Rattle.octet_reading.specs.Rules.{IsReadAs, TellsWhole}
-use Rattle.octet_reading.proofs.Rules.{one_spelling}
-use Rattle.octet_reading.proofs.Whole.{whole_again, tells_whole}
+use Rattle.set_reading.specs.Names.{AreOctets}
+use Rattle.set_reading.specs.StopRecord.{Stop}
+use Rattle.set_reading.specs.StopRecord.TheVariants as stop
+use Rattle.set_reading.specs.ReadingOfOctetReading.{Stops}
+use Rattle.set_reading.specs.Readers.{whole}
+use Rattle.set_reading.specs.Rules.{IsReadAs, TellsWhole}
+use Rattle.set_reading.proofs.Rules.{one_spelling}
+use Rattle.set_reading.proofs.WholeOfOctetReading.{whole_again, tells_whole}
 use Rattle.set_reading.specs.declared.faults.ReadFault.{ReadFault}
 use Rattle.set_reading.specs.Laws as set_laws
 use Rattle.check_reading.specs.Laws as check_laws

@@ -6,35 +6,35 @@ use Rattle.std.specs.List.{AllByRecursion, flat_map}
 use Rattle.std.proofs.lemmas.List.{length-drop}
 use Rattle.std.proofs.Math.Seq.{drop-append_seam}
 use Rattle.octets.specs.Numbers.{two_octets, four_octets}
-use Rattle.dns_name.specs.Labels.{wire}
-use Rattle.dns_name.specs.Names.{IsName}
-use Rattle.octet_reading.specs.Reading.{four_at}
-use Rattle.octet_reading.specs.Readers.{seen, has_kind}
-use Rattle.octet_reading.specs.Rules.{IsReadAs, AreListed, list_octets}
-use Rattle.octet_reading.proofs.Base.{read_as, octet_read, name_read}
-use Rattle.octet_reading.proofs.Digits.{ok_is, four_is, four_again}
-use Rattle.octet_reading.proofs.Rules.{err_is, alike, seen_read}
-use Rattle.octet_reading.proofs.Composed.{in_turn_read, in_turn_by_read, so_many_read, tested_read}
-use Rattle.octet_reading.proofs.Optional.{list_read, meaning_read, numbered_is}
-use Rattle.octet_reading.proofs.OfKind.{LinesRead, kinds_read}
-use Rattle.octet_reading.proofs.Within.{four_within}
-use Rattle.batch_model.specs.declared.batches.Action.{Action}
-use Rattle.batch_model.specs.declared.batches.Action.TheVariants as action
-use Rattle.batch_model.specs.declared.batches.Change.{Change}
-use Rattle.record_set.specs.declared.sets.RecordSet.{RecordSet}
-use Rattle.set_octets.specs.Octets.{set_octets}
-use Rattle.set_octets.specs.Octets as set_spelling
+use Rattle.set_reading.specs.Labels.{wire}
+use Rattle.set_reading.specs.Names.{IsName}
+use Rattle.set_reading.specs.ReadingOfOctetReading.{four_at}
+use Rattle.set_reading.specs.Readers.{seen, has_kind}
+use Rattle.set_reading.specs.Rules.{IsReadAs, AreListed, list_octets}
+use Rattle.set_reading.proofs.Base.{read_as, octet_read, name_read}
+use Rattle.set_reading.proofs.Digits.{ok_is, four_is, four_again}
+use Rattle.set_reading.proofs.Rules.{err_is, alike, seen_read}
+use Rattle.set_reading.proofs.Composed.{in_turn_read, in_turn_by_read, so_many_read, tested_read}
+use Rattle.set_reading.proofs.Optional.{list_read, meaning_read, numbered_is}
+use Rattle.set_reading.proofs.OfKind.{LinesRead, kinds_read}
+use Rattle.set_reading.proofs.Within.{four_within}
+use Rattle.command_octets.specs.ActionRecord.{Action}
+use Rattle.command_octets.specs.ActionRecord.TheVariants as action
+use Rattle.command_octets.specs.ChangeRecord.{Change}
+use Rattle.set_reading.specs.RecordSetRecord.{RecordSet}
+use Rattle.set_reading.specs.Octets.{set_octets}
+use Rattle.set_reading.specs.Octets as set_spelling
 use Rattle.set_reading.specs.Sets.{IsSet}
 use Rattle.set_reading.specs.Reading as sets
 use Rattle.set_reading.specs.Laws as set_laws
 use Rattle.check_model.specs.declared.checks.CheckCommand.{CheckCommand}
-use Rattle.check_octets.specs.Octets as checks
+use Rattle.check_reading.specs.Octets as checks
 use Rattle.check_reading.specs.Laws as check_laws
-use Rattle.cidr_commands.specs.declared.command.CidrCommand.{CidrCommand}
-use Rattle.block_octets.specs.Octets as collections
+use Rattle.command_octets.specs.CidrCommandRecord.{CidrCommand}
+use Rattle.block_reading.specs.Octets as collections
 use Rattle.block_reading.specs.Laws as block_laws
 use Rattle.check_model.specs.declared.checks.CheckCommand.TheVariants as check_command
-use Rattle.cidr_commands.specs.declared.command.CidrCommand.TheVariants as cidr_command
+use Rattle.command_octets.specs.CidrCommandRecord.TheVariants as cidr_command
 use Rattle.command_octets.specs.declared.commands.Command.{Command}
 use Rattle.command_octets.specs.declared.commands.Command.TheVariants as command
 use Rattle.command_octets.specs.Octets.{action_number, change_octets, kind_of, field_octets, spelling, IsVersion, HasSpelledSet, HasSpelling}

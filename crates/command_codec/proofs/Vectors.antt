@@ -1,15 +1,15 @@
 -- Commands by hand, and each kind of fault.
 use Rattle.std.proofs.Common.{◌≡◌, ℕ, List, [], ◌∷◌, ◌++◌, take, map, refl, None, Result, Ok, Err}
-use Rattle.rdata_layout.specs.declared.types.RType.TheVariants as rtype
-use Rattle.routing.specs.declared.policies.Routing.TheVariants as routing
-use Rattle.record_set.specs.declared.sets.RecordSet.{RecordSet}
-use Rattle.record_set.specs.declared.sets.Body.TheVariants as body
-use Rattle.batch_model.specs.declared.batches.Action.TheVariants as action
-use Rattle.octet_reading.specs.Layouts.{is_layout}
-use Rattle.octet_reading.specs.Names.{name_at}
-use Rattle.set_fields.specs.Numbers.{type_of, type_at, continent_at, role_at, ttl_at}
-use Rattle.octet_reading.specs.Readers.{text_at}
-use Rattle.set_fields.specs.Texts.{country_at}
+use Rattle.set_reading.specs.RTypeRecord.TheVariants as rtype
+use Rattle.set_reading.specs.RoutingRecord.TheVariants as routing
+use Rattle.set_reading.specs.RecordSetRecord.{RecordSet}
+use Rattle.set_reading.specs.BodyRecord.TheVariants as body
+use Rattle.command_octets.specs.ActionRecord.TheVariants as action
+use Rattle.set_reading.specs.Layouts.{is_layout}
+use Rattle.set_reading.specs.NamesOfOctetReading.{name_at}
+use Rattle.set_reading.specs.Numbers.{type_of, type_at, continent_at, role_at, ttl_at}
+use Rattle.set_reading.specs.Readers.{text_at}
+use Rattle.set_reading.specs.Texts.{country_at}
 use Rattle.set_reading.specs.Reading.{subdivision_at, place_at, weighted_at, failover_at, geolocation_at, latency_at, multivalue_at, routing_at, value_at, records_at, alias_at, body_at, check_at}
 use Rattle.set_reading.specs.Reading as sets
 use Rattle.command_octets.specs.declared.commands.Command.{Command}

@@ -1,8 +1,8 @@
 -- What the parts of a command are.
 use Rattle.std.specs.Prelude.{◌≡◌, ℕ, List, length, ⊤}
 use Rattle.std.specs.List.{AllByRecursion}
-use Rattle.dns_name.specs.Names.{IsName}
-use Rattle.batch_model.specs.declared.batches.Change.{Change}
+use Rattle.set_reading.specs.Names.{IsName}
+use Rattle.command_octets.specs.ChangeRecord.{Change}
 use Rattle.set_reading.specs.Sets.{IsSet}
 use Rattle.command_octets.specs.declared.commands.Command.{Command}
 use Rattle.command_octets.specs.declared.commands.Command.TheVariants as command

@@ -1,6 +1,6 @@
 -- Laws over the definitions of this crate.
 use Rattle.std.specs.Prelude.{◌≡◌, ◌≤◌, ℕ, List, ◌++◌, length, Result, Ok, Err}
-use Rattle.dns_name.specs.Names.{AreOctets}
+use Rattle.set_reading.specs.Names.{AreOctets}
 use Rattle.command_octets.specs.declared.commands.Command.{Command}
 use Rattle.command_codec.specs.Commands.{IsCommand, Spells}
 use Rattle.command_octets.specs.Octets.{IsVersion, spelling, HasSpelling}

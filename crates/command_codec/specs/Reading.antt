@@ -1,12 +1,12 @@
 -- Reading the octets of a command from left to right, with the first fault that is met (FORMATS, Octets of commands).
 use Rattle.std.specs.Prelude.{ℕ, ◌-◌, List, [], ◌∷◌, length, drop, Bool, ◌==◌, ◌||◌, Option, Result, Ok, Err, if◌then◌else◌}
-use Rattle.octet_reading.specs.Reading.{octet_at, four_at}
-use Rattle.octet_reading.specs.Names.{name_at}
-use Rattle.octet_reading.specs.Readers.{seen, in_turn, in_turn_by, so_many, list_at, tested, meaning, numbered, kinds, whole}
-use Rattle.batch_model.specs.declared.batches.Action.{Action}
-use Rattle.batch_model.specs.declared.batches.Action.TheVariants as action
-use Rattle.batch_model.specs.declared.batches.Change.{Change}
-use Rattle.record_set.specs.declared.sets.RecordSet.{RecordSet}
+use Rattle.set_reading.specs.ReadingOfOctetReading.{octet_at, four_at}
+use Rattle.set_reading.specs.NamesOfOctetReading.{name_at}
+use Rattle.set_reading.specs.Readers.{seen, in_turn, in_turn_by, so_many, list_at, tested, meaning, numbered, kinds, whole}
+use Rattle.command_octets.specs.ActionRecord.{Action}
+use Rattle.command_octets.specs.ActionRecord.TheVariants as action
+use Rattle.command_octets.specs.ChangeRecord.{Change}
+use Rattle.set_reading.specs.RecordSetRecord.{RecordSet}
 use Rattle.set_reading.specs.Reading as sets
 use Rattle.check_reading.specs.Reading as checks
 use Rattle.block_reading.specs.Reading as collections

@@ -2,12 +2,11 @@
 
 ghost use Rattle.std.specs.Prelude.{◌≡◌, length};
 ghost use Rattle.std.specs.List.{AllByRecursion};
-ghost use Rattle.dns_name.specs.Names.{IsName};
+ghost use Rattle.set_reading.specs.Names.{IsName};
 ghost use Rattle.command_codec.specs.Commands.{HasSet, IsCommand};
 
-use batch_model::Change;
-use command_octets::Command;
-use dns_name::Name;
+use command_octets::{Change, Command};
+use set_reading::Name;
 
 /// What every command is, for the premises of laws; it does nothing.
 pub fn well_formed(command: &Command)

@@ -1,7 +1,7 @@
 //! Reading a command from left to right.
 
 ghost use Rattle.std.specs.Prelude.{◌≡◌, ◌≤◌, ℕ, length, take, drop, IfOk, Ok};
-ghost use Rattle.octet_reading.specs.Reading.{Gives, GivesOrStops};
+ghost use Rattle.set_reading.specs.ReadingOfOctetReading.{Gives, GivesOrStops};
 ghost use Rattle.command_octets.specs.declared.commands.Command.{Command};
 ghost use Rattle.command_codec.specs.Commands.{Spells};
 ghost use Rattle.command_codec.specs.Gives.{IsInside, ReadsCommand};
@@ -11,15 +11,13 @@ ghost use Rattle.command_codec.specs.Reading.{check_deleted_at, collection_made_
 ghost use Rattle.command_codec.specs.Reading.{collection_changed_at, collection_deleted_at};
 ghost use Rattle.command_codec.specs.Reading.{command_at, front_at, read};
 
-use batch_model::{Action, Batch, Change, Changes};
 use block_reading::{change_collection_at, create_collection_at, delete_collection_at};
 use check_reading::{create_check_at, delete_check_at, update_check_at};
-use command_octets::Command;
-use dns_name::Name;
-use octet_reading::{Fault, Field, Stop, four_at, list_at, name_at, octet_at};
+use command_octets::{Action, Batch, Change, Changes, Command};
 use octets::behind;
-use record_set::RecordSet;
-use set_reading::{ReadFault, read_set};
+use set_reading::{
+    Fault, Field, Name, ReadFault, RecordSet, Stop, four_at, list_at, name_at, octet_at, read_set,
+};
 use std::alloc::Global;
 
 /// The command that bytes are, as a whole.

@@ -2,13 +2,13 @@
 use Rattle.std.specs.Prelude.{ℕ, ◌≡◌, ◌^◌, ◌<◌, ◌⊎◌, List, ◌∷◌, ◌++◌, length, ⊤}
 use Rattle.std.specs.List.{flat_map, AllByRecursion}
 use Rattle.octets.specs.Numbers.{two_octets, four_octets}
-use Rattle.dns_name.specs.Labels.{wire}
+use Rattle.check_octets.specs.Labels.{wire}
 use Rattle.batch_model.specs.declared.batches.Action.{Action}
 use Rattle.batch_model.specs.declared.batches.Action.TheVariants as action
 use Rattle.batch_model.specs.declared.batches.Batch.{Batch}
 use Rattle.batch_model.specs.declared.batches.Change.{Change}
-use Rattle.set_octets.specs.Octets.{set_octets}
-use Rattle.set_octets.specs.Octets as sets
+use Rattle.batch_model.specs.Octets.{set_octets}
+use Rattle.batch_model.specs.Octets as sets
 use Rattle.check_octets.specs.Octets as checks
 use Rattle.block_octets.specs.Octets as collections
 use Rattle.command_octets.specs.declared.commands.Command.{Command}

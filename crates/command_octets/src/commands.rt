@@ -2,8 +2,7 @@
 
 use batch_model::Batch;
 use block_octets::CidrCommand;
-use check_octets::CheckCommand;
-use dns_name::Name;
+use check_octets::{CheckCommand, Name};
 
 /// What a client asks to be changed.
 #[derive(Drop)]

@@ -8,8 +8,13 @@ mod commands;
 mod spelling;
 mod writing;
 
-pub use batch_model::{Action, Batch, Change, Changes};
-pub use block_octets::{CidrCommand, has_cidr_spelling};
+pub use batch_model::{
+    Action, Batch, BatchRefusal, Change, Changes, key_cmp, keys_are_ordered, one_answer, zones_stay,
+};
+pub use block_octets::{
+    CidrCommand, CidrFault, Ident, commands_keep_sound, commands_keep_used, has_cidr_spelling,
+    write_blocks, write_name,
+};
 pub use check_octets::{CheckCommand, has_check_spelling};
 pub use commands::Command;
 pub use octets::OutOfMemory;

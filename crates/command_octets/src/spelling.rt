@@ -29,7 +29,7 @@ fn have_spellings(changes: &[Change]) -> bool
     ensures { IsTrue result ↔ AllByRecursion HasSpelledSet changes.now }
 {
     for change in changes {
-        if !set_octets::has_spelling(&change.set) {
+        if !batch_model::has_spelling(&change.set) {
             return false;
         }
     }

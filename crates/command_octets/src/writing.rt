@@ -2,16 +2,14 @@
 
 ghost use Rattle.std.specs.Prelude.{◌≡◌, ◌<◌, ◌^◌, ◌∷◌, [], ◌++◌, length, OnOk, IfOk};
 ghost use Rattle.std.specs.List.{AllByRecursion, flat_map};
-ghost use Rattle.dns_name.specs.Labels.{wire};
+ghost use Rattle.check_octets.specs.Labels.{wire};
 ghost use Rattle.command_octets.specs.Octets.{action_number, change_octets, batch_octets, command_octets, HasSpelledSet, IsSpelledBatch, HasSpelling};
 
 use crate::commands::Command;
-use batch_model::{Action, Batch, Change};
+use batch_model::{Action, Batch, Change, write_set};
 use block_octets::write_cidr_command;
-use check_octets::write_check_command;
-use dns_name::Name;
+use check_octets::{Name, write_check_command};
 use octets::{OutOfMemory, append, four_octets, two_octets};
-use set_octets::write_set;
 use std::alloc::Global;
 
 /// The version that is written.

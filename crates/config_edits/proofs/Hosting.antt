@@ -7,19 +7,19 @@ use Rattle.std.specs.declared.cmp.Ordering.TheVariants.{Equal, Less}
 use Rattle.std.proofs.lemmas.Cmp.{tied_itself}
 use Rattle.std.proofs.lemmas.Bool.{cases_eq, eq-eqb, false≢true}
 use Rattle.std.proofs.lemmas.Bool.Decides.{Decides-eqb}
-use Rattle.record_set.specs.Sets.{key_of}
-use Rattle.record_set.specs.declared.sets.RecordSet.{RecordSet}
-use Rattle.record_set.specs.declared.sets.SetKey.{SetKey}
+use Rattle.config_model.specs.Sets.{key_of}
+use Rattle.config_model.specs.RecordSetRecord.{RecordSet}
+use Rattle.config_model.specs.SetKeyRecord.{SetKey}
 use Rattle.zone_table.proofs.Equation.{new_with_all, of_with_all, with_all_rises}
 use Rattle.zone_table.proofs.Listing.{its_placed, one_zone}
 use Rattle.zone_table.proofs.Members.{Sorted, all_in, in_all, same_sets, sorted_same}
 use Rattle.zone_table.specs.Changes.{DifferByKey, with_all, without_all}
 use Rattle.zone_table.specs.Zones.{AreListed, AreZones, IsOne, IsZoneId, Zone, hosted, placed_in}
-use Rattle.zone_model.proofs.Ordered.{keys_total}
-use Rattle.zone_model.specs.Hosted.{HostedZone}
-use Rattle.zone_model.specs.Keys.{key_cmp}
-use Rattle.zone_model.specs.Placed.{Placed, sets_of}
-use Rattle.zone_model.specs.Zones.{IsAmong, IsRising}
+use Rattle.config_model.proofs.Ordered.{keys_total}
+use Rattle.config_model.specs.Hosted.{HostedZone}
+use Rattle.config_model.specs.Keys.{key_cmp}
+use Rattle.config_model.specs.Placed.{Placed, sets_of}
+use Rattle.config_model.specs.Zones.{IsAmong, IsRising}
 use Rattle.zone_table.specs.Edits.{Edits}
 use Rattle.zone_table.specs.Looking.{IsApex}
 use Rattle.zone_table.specs.declared.edits.ZoneEdit.TheVariants.{Change, Close, Open}

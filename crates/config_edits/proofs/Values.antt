@@ -4,9 +4,9 @@ use Rattle.std.specs.Prelude.{Err, IfOk, Ok, Result}
 use Rattle.dns_name.specs.Labels.{wire}
 use Rattle.dns_name.specs.Names.{IsName}
 use Rattle.octets.specs.declared.memory.OutOfMemory.{OutOfMemory}
-use Rattle.rdata.specs.Datum.{Datum}
-use Rattle.rdata_layout.specs.Layout.{IsLayout}
-use Rattle.rdata_layout.specs.declared.types.RType.TheVariants.{Ns, Soa}
+use Rattle.config_model.specs.Datum.{Datum}
+use Rattle.config_model.specs.Layout.{IsLayout}
+use Rattle.config_model.specs.RTypeRecord.TheVariants.{Ns, Soa}
 use Rattle.config_model.proofs.NewParts.{ns_parts, soa_parts}
 use Rattle.config_model.specs.NewZones.{soa_value}
 

@@ -1,12 +1,12 @@
 -- What an edit of zones makes of the zones that definitions see, which have no slots.
 use Rattle.std.specs.Prelude.{◌≡◌, ◌<◌, ◌++◌, ℕ, List, [], ◌∷◌, map}
-use Rattle.record_set.specs.declared.sets.RecordSet.{RecordSet}
-use Rattle.record_set.specs.declared.sets.SetKey.{SetKey}
+use Rattle.config_model.specs.RecordSetRecord.{RecordSet}
+use Rattle.config_model.specs.SetKeyRecord.{SetKey}
 use Rattle.zone_table.specs.Changes.{with_all, without_all}
 use Rattle.zone_table.specs.Zones.{AreZones, IsOne, IsZoneId, Zone, hosted, placed_in}
-use Rattle.zone_model.specs.Hosted.{HostedZone}
-use Rattle.zone_model.specs.Placed.{sets_of}
-use Rattle.zone_model.specs.Zones.{IsRising}
+use Rattle.config_model.specs.Hosted.{HostedZone}
+use Rattle.config_model.specs.Placed.{sets_of}
+use Rattle.config_model.specs.Zones.{IsRising}
 use Rattle.zone_table.specs.Edits.{Edits}
 use Rattle.zone_table.specs.declared.edits.ZoneEdit.TheVariants.{Change, Close, Open}
 use Rattle.zone_table.specs.declared.refs.Delta.{Delta}

@@ -1,14 +1,13 @@
 //! The sets of a new zone (API Reference, CreateHostedZone).
 
 ghost use Rattle.std.specs.Prelude.{◌≡◌, ◌∷◌, [], IfOk, map};
-ghost use Rattle.rdata_layout.specs.Layout.{IsLayout};
+ghost use Rattle.config_model.specs.Layout.{IsLayout};
 ghost use Rattle.config_model.specs.NewZones.{new_ns_set, new_soa_set, server_value};
 ghost use Rattle.config_model.specs.NewZones.{soa_value};
 
+use config_model::{Body, RData, RType, RecordSet, Routing, Values, WireFault};
 use dns_name::Name;
 use octets::OutOfMemory;
-use rdata::{RData, RType, WireFault};
-use record_set::{Body, RecordSet, Routing, Values};
 use std::alloc::Global;
 
 /// What stands behind MNAME in the SOA record of a new zone: RNAME, which is

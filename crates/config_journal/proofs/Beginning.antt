@@ -8,8 +8,8 @@ use Rattle.config_journal.specs.Compacting.{UnlessFaulty}
 use Rattle.config_journal.specs.Holding.{Holds}
 use Rattle.config_journal.specs.Journals.{journal_of, plan_of}
 use Rattle.config_journal.specs.States.{State, config_of}
-use Rattle.config_model.specs.Configs.{Config}
-use Rattle.config_model.specs.Sound.{Sound}
+use Rattle.r53_state.specs.Configs.{Config}
+use Rattle.r53_state.specs.Sound.{Sound}
 use Rattle.engine_model.specs.Compacting.{IsLastGeneration, after_pieces, begun, compacted as pieces_of}
 use Rattle.engine_model.specs.Compacting.{with_plan as with_its}
 use Rattle.engine_model.specs.Engine.{Journal as Its, Plan as ItsPlan}
@@ -18,7 +18,7 @@ use Rattle.engine_model.specs.declared.answers.Compacted.TheVariants as compacte
 use Rattle.file_building.specs.Building.{Plan}
 use Rattle.gate_journal.specs.Layout.{front}
 use Rattle.r53_state.specs.States.{config_in}
-use Rattle.snapshot_octets.specs.Octets.{snapshot}
+use Rattle.r53_state.specs.Octets.{snapshot}
 use Rattle.store_model.specs.Laws.{PlanBegins, StandingPlace}
 use Rattle.store_model.specs.Leaving.{IsPlanFor}
 use Rattle.zone_journal.specs.Compacting.{Begins, with_plan}

@@ -5,7 +5,7 @@ use Rattle.config_journal.specs.Compacting.{HasGoneOn, PiecesGive, UnlessFaulty}
 use Rattle.config_journal.specs.Holding.{Holds}
 use Rattle.config_journal.specs.Journals.{journal_of}
 use Rattle.config_journal.specs.States.{State, config_of}
-use Rattle.config_model.specs.Configs.{Config}
+use Rattle.r53_state.specs.Configs.{Config}
 use Rattle.engine_model.specs.Compacting.{after_piece, after_pieces, told_of}
 use Rattle.engine_model.specs.Engine.{Journal as Told, Plan as ToldPlan}
 use Rattle.engine_model.specs.declared.answers.Compacted.{Compacted}

@@ -2,9 +2,9 @@
 use Rattle.std.proofs.Common.{◌≡◌, ℕ, List, [], ◌∷◌, ◌++◌, Option, Some, Ok, inl, inr, ◌∙◌, sym, subst}
 use Rattle.config_journal.specs.Holding.{Holds}
 use Rattle.config_journal.specs.States.{IsReady, Ready, State, config_of}
-use Rattle.config_model.specs.Applying.{Decides, Outcome}
-use Rattle.config_model.specs.declared.refusals.Made.{Made}
-use Rattle.config_model.specs.Configs.{Config}
+use Rattle.r53_state.specs.Applying.{Decides, Outcome}
+use Rattle.r53_state.specs.MadeRecord.{Made}
+use Rattle.r53_state.specs.Configs.{Config}
 use Rattle.gate_journal.specs.declared.answers.Appended.{Appended}
 use Rattle.gate_journal.specs.declared.answers.Appended.TheVariants as appended
 use Rattle.store_model.proofs.Weakening.{each_pair_weakens}

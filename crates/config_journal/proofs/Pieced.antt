@@ -4,7 +4,7 @@ use Rattle.config_journal.proofs.Told.{Told, holds_of}
 use Rattle.config_journal.specs.Compacting.{UnlessFaulty, told_as}
 use Rattle.config_journal.specs.Holding.{Holds}
 use Rattle.config_journal.specs.States.{State, config_of}
-use Rattle.config_model.specs.Configs.{Config}
+use Rattle.r53_state.specs.Configs.{Config}
 use Rattle.file_building.specs.Building.{Plan}
 use Rattle.gate_journal.specs.Layout.{front}
 use Rattle.r53_state.specs.States.{config_in}

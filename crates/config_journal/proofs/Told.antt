@@ -2,7 +2,7 @@
 use Rattle.std.proofs.Common.{◌≡◌, List, ℕ, Some, sym, subst}
 use Rattle.config_journal.specs.Holding.{Holds}
 use Rattle.config_journal.specs.States.{State, config_of}
-use Rattle.config_model.specs.Configs.{Config}
+use Rattle.r53_state.specs.Configs.{Config}
 use Rattle.file_building.specs.Building.{Plan}
 use Rattle.store_model.specs.Leaving.{IsPlanFor}
 use Rattle.store_model.specs.Opening.{OpensAs}

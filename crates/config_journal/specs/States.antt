@@ -1,7 +1,7 @@
 -- A configuration with its journal, and a command that is ready to be committed.
 use Rattle.std.specs.Prelude.{◌≡◌, ℕ, List}
-use Rattle.command_octets.specs.Octets.{HasSpelling, command_octets}
-use Rattle.config_model.specs.Configs.{Config}
+use Rattle.r53_state.specs.OctetsOfCommandOctets.{HasSpelling, command_octets}
+use Rattle.r53_state.specs.Configs.{Config}
 use Rattle.r53_state.specs.States.{IsReady as IsPrepared, Prepared, State as Kept, config_in}
 use Rattle.zone_journal.specs.Standing.{State as Journal}
 

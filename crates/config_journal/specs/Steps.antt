@@ -1,10 +1,10 @@
 -- What making a command ready, and committing it, comes to.
 use Rattle.std.specs.Prelude.{◌≡◌, ◌≢◌, ◌≤◌, ℕ, ◌+◌, length, Result, Ok, Err}
 use Rattle.config_journal.specs.States.{Ready, State, config_of}
-use Rattle.config_model.specs.Applying.{Decides}
-use Rattle.config_model.specs.declared.refusals.Made.{Made}
-use Rattle.config_model.specs.declared.refusals.Refusal.{Refusal}
-use Rattle.config_model.specs.declared.refusals.Refusal.TheVariants as refusal
+use Rattle.r53_state.specs.Applying.{Decides}
+use Rattle.r53_state.specs.MadeRecord.{Made}
+use Rattle.r53_state.specs.RefusalRecord.{Refusal}
+use Rattle.r53_state.specs.RefusalRecord.TheVariants as refusal
 use Rattle.r53_state.specs.Steps.{TellsSets, checks_of}
 use Rattle.zone_journal.specs.Appending.{Fits, RefusesBy}
 

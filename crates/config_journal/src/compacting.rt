@@ -5,11 +5,11 @@ ghost use Rattle.config_journal.specs.Compacting.{CompactGives, PiecesGive, Unle
 ghost use Rattle.config_journal.specs.Compacting.{WhereNone, told_as};
 ghost use Rattle.config_journal.specs.Holding.{Holds};
 ghost use Rattle.config_journal.specs.States.{config_of};
-ghost use Rattle.config_model.specs.Sound.{Sound};
+ghost use Rattle.r53_state.specs.Sound.{Sound};
 ghost use Rattle.engine_model.specs.declared.answers.Compacted.TheVariants as Compacted;
 ghost use Rattle.octets.specs.Counts.{Rose};
 ghost use Rattle.r53_disk.specs.Disk.{Rests};
-ghost use Rattle.snapshot_octets.specs.Octets.{snapshot};
+ghost use Rattle.r53_state.specs.Octets.{snapshot};
 ghost use Rattle.store_model.specs.Opening.{OpensConfig};
 ghost use Rattle.zone_journal.specs.Compacting.{Begins};
 ghost use Rattle.zone_journal.specs.Pairs.{EachPair, Leaves, active_of};
@@ -20,7 +20,7 @@ use crate::journaled::ConfigJournal;
 use engine_model::Compacted;
 use octets::OutOfMemory;
 use r53_disk::Disk;
-use snapshot_writing::write_snapshot;
+use r53_state::write_snapshot;
 use std::alloc::Global;
 use store_model::{
     pieces_follow, pieces_may_open, pieces_open, plan_begins, plan_makes, standing_opens,

@@ -1,16 +1,16 @@
 //! The configuration with its journal.
 
 ghost use Rattle.std.specs.Prelude.{◌≡◌, ◌≤◌, ◌⊎◌, ℕ, List, [], ◌∷◌, ◌++◌, Some, IfErr, IfOk, Ok, Err};
-ghost use Rattle.command_bounds.specs.Laws.{HasShortLists};
-ghost use Rattle.command_octets.specs.declared.commands.Command.{Command};
+ghost use Rattle.store_model.specs.LawsOfCommandBounds.{HasShortLists};
+ghost use Rattle.r53_state.specs.CommandRecord.{Command};
 ghost use Rattle.config_journal.specs.Holding.{Holds};
 ghost use Rattle.config_journal.specs.States.{IsReady, Ready, State, config_of};
 ghost use Rattle.config_journal.specs.Steps.{CommitGives, OnFull, OnMade, StaysSo, UnlessFault};
-ghost use Rattle.config_model.specs.Applying.{Applies, Decides};
-ghost use Rattle.config_model.specs.Configs.{Config as Configuration};
-ghost use Rattle.config_model.specs.Laws.{IsBounded};
-ghost use Rattle.config_model.specs.declared.refusals.Made.{Made};
-ghost use Rattle.config_model.specs.declared.refusals.Refusal.TheVariants as refusal;
+ghost use Rattle.r53_state.specs.Applying.{Applies, Decides};
+ghost use Rattle.r53_state.specs.Configs.{Config as Configuration};
+ghost use Rattle.r53_state.specs.Laws.{IsBounded};
+ghost use Rattle.r53_state.specs.MadeRecord.{Made};
+ghost use Rattle.r53_state.specs.RefusalRecord.TheVariants as refusal;
 ghost use Rattle.octets.specs.Counts.{Rose};
 ghost use Rattle.r53_disk.specs.Disk.{Rests};
 ghost use Rattle.r53_state.specs.States.{IsReady as IsPrepared};
@@ -19,15 +19,15 @@ ghost use Rattle.zone_journal.specs.Pairs.{EachPair, Leaves, OpensPair, other_of
 ghost use Rattle.zone_journal.specs.Standing.{StandsOn};
 
 use crate::ready::ReadyCommand;
-use command_bounds::{accepted_are_short, accepted_have_spelling};
-use command_octets::{Command, write};
-use config_model::{Made, Refusal};
 use gate_journal::{Appended, Entry};
 use r53_disk::Disk;
-use r53_state::{Config, Prepared};
+use r53_state::{Command, Config, Made, Prepared, Refusal, write};
 use std::alloc::Global;
 use std::marker::Model;
-use store_model::{accepted_are_taken, appends_may_open, appends_open, plan_goes_on};
+use store_model::{
+    accepted_are_short, accepted_are_taken, accepted_have_spelling, appends_may_open, appends_open,
+    plan_goes_on,
+};
 use zone_journal::ZoneJournal;
 
 /// A configuration, and the journal over two files that keeps it.

@@ -10,9 +10,12 @@ mod compacting;
 mod journaled;
 mod ready;
 
-pub use command_octets::Command;
-pub use config_model::{Made, Refusal};
 pub use engine_model::Compacted;
 pub use journaled::ConfigJournal;
-pub use r53_state::Config;
+pub use r53_state::{Command, Config, Made, Refusal, SnapshotFault, read_config};
 pub use ready::ReadyCommand;
+pub use store_model::{
+    ReadFault, baseless_is_no_store, broken_is_no_store, deciding_opens, faulty_is_no_store,
+    one_more_makes, read, refused_are_refused, spelled_are_bounded, standing_opens,
+    unread_are_refused,
+};

@@ -4,16 +4,16 @@ use Rattle.std.proofs.Common.{refl, subst, arith, Option, None, Some}
 use Rattle.std.specs.Prelude.{slice_get, nat_lt, Bool, true, false, Ok}
 use Rattle.std.proofs.lemmas.Bool.{ltb-true, ltb-false}
 use Rattle.std.specs.List.{AllByRecursion}
-use Rattle.batch_model.specs.Batches.{Prepares}
-use Rattle.batch_model.specs.Laws.{ZonesStay}
-use Rattle.batch_model.specs.declared.batches.Batch.{Batch}
-use Rattle.batch_model.specs.declared.batches.Change.{Change}
-use Rattle.record_set.specs.Reasons.{IsFirst}
-use Rattle.record_set.specs.declared.sets.RecordSet.{RecordSet}
-use Rattle.set_octets.specs.Octets.{HasSpelling, most_octets, set_octets}
+use Rattle.command_octets.specs.Batches.{Prepares}
+use Rattle.command_octets.specs.Laws.{ZonesStay}
+use Rattle.command_octets.specs.BatchRecord.{Batch}
+use Rattle.command_octets.specs.ChangeRecord.{Change}
+use Rattle.set_reading.specs.Reasons.{IsFirst}
+use Rattle.set_reading.specs.RecordSetRecord.{RecordSet}
+use Rattle.set_reading.specs.Octets.{HasSpelling, most_octets, set_octets}
 use Rattle.set_reading.specs.Sets.{IsSet}
-use Rattle.zone_model.specs.Hosted.{HostedZone}
-use Rattle.zone_model.specs.Zones.{IsAmong}
+use Rattle.command_octets.specs.Hosted.{HostedZone}
+use Rattle.command_octets.specs.Zones.{IsAmong}
 use Rattle.config_model.specs.Batches.{AppliesBatch, ChangesIn, sets_refusal, store_refusal}
 use Rattle.config_model.specs.Configs.{Config, with_sets, zone_with}
 use Rattle.config_model.specs.Laws.{HasBoundedSet, IsBoundedSet}

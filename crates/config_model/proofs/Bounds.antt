@@ -2,13 +2,13 @@
 use Rattle.std.proofs.Common.{◌≡◌, ℕ, true, false, List, [], ◌∷◌, None, Option, Some, refl}
 use Rattle.std.specs.Prelude.{codes}
 use Rattle.check_model.specs.declared.checks.Check.{Check}
-use Rattle.cidr_blocks.specs.declared.places.Collection.{Collection}
-use Rattle.rdata_layout.specs.declared.types.RType.TheVariants.{A}
-use Rattle.record_set.specs.Sets.{key_of}
-use Rattle.record_set.specs.declared.sets.Body.TheVariants.{Alias, Values}
-use Rattle.record_set.specs.declared.sets.RecordSet.{RecordSet}
-use Rattle.routing.specs.declared.policies.Routing.{Routing}
-use Rattle.routing.specs.declared.policies.Routing.TheVariants.{Cidr, Simple}
+use Rattle.command_octets.specs.CollectionRecord.{Collection}
+use Rattle.set_reading.specs.RTypeRecord.TheVariants.{A}
+use Rattle.set_reading.specs.SetsOfRecordSet.{key_of}
+use Rattle.set_reading.specs.BodyRecord.TheVariants.{Alias, Values}
+use Rattle.set_reading.specs.RecordSetRecord.{RecordSet}
+use Rattle.set_reading.specs.RoutingRecord.{Routing}
+use Rattle.set_reading.specs.RoutingRecord.TheVariants.{Cidr, Simple}
 use Rattle.config_model.specs.Batches.{is_over, is_over_zone, is_too_deep, sets_refusal}
 use Rattle.config_model.specs.NewZones.{are_most}
 use Rattle.config_model.specs.declared.refusals.Refusal.{Refusal}

@@ -14,15 +14,15 @@ use Rattle.check_model.specs.declared.checks.CheckCommand.{CheckCommand}
 use Rattle.check_model.specs.declared.checks.CheckCommand.TheVariants.{Create, Update, Delete}
 use Rattle.check_model.specs.declared.refusals.CheckRefusal.{CheckRefusal}
 use Rattle.check_model.proofs.Members.{further}
-use Rattle.cidr_changes.specs.declared.faults.CidrFault.{CidrFault}
-use Rattle.cidr_commands.specs.Commands.{HasNames, answer as cidr_answer}
-use Rattle.cidr_commands.specs.Kept as cidr
-use Rattle.cidr_commands.specs.Stored.{Stored}
-use Rattle.cidr_commands.specs.declared.command.CidrCommand.{CidrCommand}
-use Rattle.record_set.specs.declared.sets.RecordSet.{RecordSet}
-use Rattle.routing.specs.declared.policies.Routing.TheVariants.{Cidr}
-use Rattle.zone_model.specs.Hosted.{HostedZone}
-use Rattle.zone_model.specs.Zones.{IsAmong}
+use Rattle.command_octets.specs.CidrFaultRecord.{CidrFault}
+use Rattle.command_octets.specs.CommandsOfCidrCommands.{HasNames, answer as cidr_answer}
+use Rattle.command_octets.specs.Kept as cidr
+use Rattle.command_octets.specs.Stored.{Stored}
+use Rattle.command_octets.specs.CidrCommandRecord.{CidrCommand}
+use Rattle.set_reading.specs.RecordSetRecord.{RecordSet}
+use Rattle.set_reading.specs.RoutingRecord.TheVariants.{Cidr}
+use Rattle.command_octets.specs.Hosted.{HostedZone}
+use Rattle.command_octets.specs.Zones.{IsAmong}
 use Rattle.config_model.specs.Configs.{Config, all_sets}
 use Rattle.config_model.specs.Others.{change_checks, change_collections, in_use, is_number}
 use Rattle.config_model.specs.Others.{made_check, made_collection, named_by, used_by}

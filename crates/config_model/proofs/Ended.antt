@@ -5,7 +5,7 @@ use Rattle.std.specs.Prelude.{◌==◌, ◌||◌, nat_lt, not, Ok}
 use Rattle.std.specs.List.{AllByRecursion, filter, sum_by}
 use Rattle.std.proofs.lemmas.Bool.{ltb-false, le-ltb, or_parts}
 use Rattle.std.proofs.lemmas.List.Filters.{length-filter_both, sum_by-filter_both}
-use Rattle.zone_model.specs.Hosted.{HostedZone}
+use Rattle.command_octets.specs.Hosted.{HostedZone}
 use Rattle.config_model.specs.Batches.{is_store_full, store_refusal}
 use Rattle.config_model.specs.Configs.{Config, count_of, octets_of, without_zone, zone_with}
 use Rattle.config_model.specs.NewZones.{delete_zone, end_of, end_refusal}

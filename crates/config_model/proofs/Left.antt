@@ -4,20 +4,20 @@ use Rattle.std.proofs.Common.{ap, ◌∙◌, sym, refl, subst, arith, Less, Equa
 use Rattle.std.specs.List.{AllByRecursion, filter}
 use Rattle.std.specs.Ordering.{is_gt, is_lt}
 use Rattle.std.specs.declared.cmp.Ordering.{Ordering}
-use Rattle.batch_model.specs.Batches.{Leaves}
-use Rattle.batch_model.specs.Changing.{IsProtected, Makes}
-use Rattle.batch_model.specs.declared.batches.Action.{Action}
-use Rattle.batch_model.specs.declared.batches.Action.TheVariants as action
-use Rattle.batch_model.specs.declared.batches.Change.{Change}
-use Rattle.batch_model.specs.Laws.{ZonesStay}
-use Rattle.record_set.specs.Reasons.{IsOfZone}
-use Rattle.record_set.specs.Sets.{key_of}
-use Rattle.record_set.specs.declared.sets.RecordSet.{RecordSet}
-use Rattle.record_set.specs.declared.sets.SetKey.{SetKey}
-use Rattle.zone_model.specs.Keys.{key_cmp}
-use Rattle.zone_model.specs.Placing.{IsThere, comes_before, comes_behind, placed, without}
-use Rattle.zone_model.specs.Zones.{IsAmong, IsZone}
-use Rattle.zone_model.proofs.Ordered.{keys_tie}
+use Rattle.command_octets.specs.Batches.{Leaves}
+use Rattle.command_octets.specs.Changing.{IsProtected, Makes}
+use Rattle.command_octets.specs.ActionRecord.{Action}
+use Rattle.command_octets.specs.ActionRecord.TheVariants as action
+use Rattle.command_octets.specs.ChangeRecord.{Change}
+use Rattle.command_octets.specs.Laws.{ZonesStay}
+use Rattle.set_reading.specs.Reasons.{IsOfZone}
+use Rattle.set_reading.specs.SetsOfRecordSet.{key_of}
+use Rattle.set_reading.specs.RecordSetRecord.{RecordSet}
+use Rattle.set_reading.specs.SetKeyRecord.{SetKey}
+use Rattle.command_octets.specs.Keys.{key_cmp}
+use Rattle.command_octets.specs.Placing.{IsThere, comes_before, comes_behind, placed, without}
+use Rattle.command_octets.specs.Zones.{IsAmong, IsZone}
+use Rattle.command_octets.proofs.Ordered.{keys_tie}
 
 -- ---- lists in two parts
 

@@ -4,7 +4,7 @@ use Rattle.std.proofs.Common.{◌∙◌, sym, refl, subst, arith}
 use Rattle.std.specs.Prelude.{Contains, ◌||◌}
 use Rattle.std.specs.List.{AllByRecursion, filter, list_any}
 use Rattle.std.proofs.lemmas.Bool.{false≢true, or_cases}
-use Rattle.zone_model.specs.Zones.{IsAmong}
+use Rattle.command_octets.specs.Zones.{IsAmong}
 
 module _ {X : Type 0} where
   pub among_of : (xs : List X) (x : X) → Contains xs x → IsAmong xs x

@@ -4,13 +4,13 @@ use Rattle.std.specs.Prelude.{◌&&◌, codes, nat_lt}
 use Rattle.std.specs.List.{AllByRecursion}
 use Rattle.std.proofs.lemmas.Bool.{and_parts, ltb-true}
 use Rattle.std.proofs.lemmas.List.{append-nil, length-append}
-use Rattle.dns_name.specs.Labels.{wire}
-use Rattle.dns_name.specs.Names.{IsName, AreOctets}
+use Rattle.set_reading.specs.Labels.{wire}
+use Rattle.set_reading.specs.Names.{IsName, AreOctets}
 use Rattle.octets.specs.Numbers.{four_octets}
-use Rattle.record_set.specs.Datum.{Datum}
-use Rattle.rdata_layout.specs.Layout.{IsLayout}
-use Rattle.rdata_layout.specs.declared.types.RType.TheVariants.{Ns, Soa}
-use Rattle.record_set.specs.Values.{IsInLayout}
+use Rattle.set_reading.specs.Datum.{Datum}
+use Rattle.set_reading.specs.Layout.{IsLayout}
+use Rattle.set_reading.specs.RTypeRecord.TheVariants.{Ns, Soa}
+use Rattle.set_reading.specs.Values.{IsInLayout}
 use Rattle.set_reading.specs.Sets.{IsSet}
 use Rattle.config_model.specs.NewZones.{first_server, hostmaster, new_ns_set, new_soa_set}
 use Rattle.config_model.specs.NewZones.{server_value, soa_value}

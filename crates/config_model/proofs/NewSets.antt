@@ -10,30 +10,30 @@ use Rattle.std.specs.Str.{bytes_eq}
 use Rattle.std.proofs.lemmas.Bool.{false≢true, or_parts}
 use Rattle.std.proofs.lemmas.List.{length-append, length-map}
 use Rattle.std.proofs.lemmas.Slice.Eq.{bytes_eq-Decides}
-use Rattle.batch_model.specs.Rules.{MeetsAll, OnePolicy, CnameAlone, OwnPlace, GroupSize}
-use Rattle.batch_model.specs.Rules.{NoneBreaksBefore, rules}
+use Rattle.command_octets.specs.Rules.{MeetsAll, OnePolicy, CnameAlone, OwnPlace, GroupSize}
+use Rattle.command_octets.specs.Rules.{NoneBreaksBefore, rules}
 use Rattle.check_model.specs.declared.checks.Check.{Check}
-use Rattle.cidr_blocks.specs.declared.places.Collection.{Collection}
-use Rattle.dns_name.specs.Labels.{wire}
-use Rattle.dns_name.specs.Laws.{OneNameOfAWire}
-use Rattle.dns_name.specs.Names.{IsName}
-use Rattle.dns_name.specs.Order.{same_labels}
-use Rattle.dns_name.specs.OrderLaws.{same_labels-Decides, zone_cmp_total}
-use Rattle.dns_name.specs.Wildcard.{wildcard}
-use Rattle.record_set.specs.Datum.{Datum}
-use Rattle.rdata_layout.specs.Types.{number_of}
-use Rattle.rdata_layout.specs.declared.types.RType.{RType}
-use Rattle.rdata_layout.specs.declared.types.RType.TheVariants.{Ns, Soa, Cname}
-use Rattle.record_set.specs.Reasons.{IsAlias, IsFirst}
-use Rattle.record_set.specs.Sets.{key_of}
-use Rattle.record_set.specs.declared.sets.Body.TheVariants.{Values}
-use Rattle.record_set.specs.declared.sets.RecordSet.{RecordSet}
-use Rattle.routing.specs.declared.policies.Routing.TheVariants.{Simple, Cidr}
+use Rattle.command_octets.specs.CollectionRecord.{Collection}
+use Rattle.set_reading.specs.Labels.{wire}
+use Rattle.set_reading.specs.LawsOfDnsName.{OneNameOfAWire}
+use Rattle.set_reading.specs.Names.{IsName}
+use Rattle.set_reading.specs.Order.{same_labels}
+use Rattle.set_reading.specs.OrderLaws.{same_labels-Decides, zone_cmp_total}
+use Rattle.set_reading.specs.Wildcard.{wildcard}
+use Rattle.set_reading.specs.Datum.{Datum}
+use Rattle.set_reading.specs.Types.{number_of}
+use Rattle.set_reading.specs.RTypeRecord.{RType}
+use Rattle.set_reading.specs.RTypeRecord.TheVariants.{Ns, Soa, Cname}
+use Rattle.set_reading.specs.Reasons.{IsAlias, IsFirst}
+use Rattle.set_reading.specs.SetsOfRecordSet.{key_of}
+use Rattle.set_reading.specs.BodyRecord.TheVariants.{Values}
+use Rattle.set_reading.specs.RecordSetRecord.{RecordSet}
+use Rattle.set_reading.specs.RoutingRecord.TheVariants.{Simple, Cidr}
 use Rattle.octets.specs.Numbers.{four_octets, two_octets}
-use Rattle.set_octets.specs.Octets.{HasSpelling, body_octets, set_octets, value_octets}
-use Rattle.zone_model.specs.Keys.{key_cmp}
-use Rattle.zone_model.specs.Walks.{IsWalk}
-use Rattle.zone_model.specs.Zones.{AreOneGroup, IsAmong, IsZone, is_of_group}
+use Rattle.set_reading.specs.Octets.{HasSpelling, body_octets, set_octets, value_octets}
+use Rattle.command_octets.specs.Keys.{key_cmp}
+use Rattle.command_octets.specs.Walks.{IsWalk}
+use Rattle.command_octets.specs.Zones.{AreOneGroup, IsAmong, IsZone, is_of_group}
 use Rattle.config_model.specs.NewZones.{first_server, hostmaster, is_repeated, is_zone_name}
 use Rattle.config_model.specs.NewZones.{new_ns_set, new_soa_set, new_zone, server_value, soa_value}
 use Rattle.config_model.specs.Sound.{IsSoundZone}

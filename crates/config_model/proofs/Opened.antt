@@ -5,12 +5,12 @@ use Rattle.std.specs.Prelude.{◌==◌, nat_le, not, Ok}
 use Rattle.std.specs.List.{AllByRecursion}
 use Rattle.std.proofs.lemmas.Bool.{eq-eqb, false≢true, leb-false}
 use Rattle.std.proofs.lemmas.List.{length-append}
-use Rattle.dns_name.specs.Laws.{OneNameOfAWire}
-use Rattle.dns_name.specs.Names.{IsName}
-use Rattle.dns_name.specs.Order.{same_labels}
-use Rattle.dns_name.specs.OrderLaws.{same_labels-Decides}
-use Rattle.zone_model.specs.Hosted.{HostedZone}
-use Rattle.zone_model.specs.Zones.{IsAmong}
+use Rattle.set_reading.specs.LawsOfDnsName.{OneNameOfAWire}
+use Rattle.set_reading.specs.Names.{IsName}
+use Rattle.set_reading.specs.Order.{same_labels}
+use Rattle.set_reading.specs.OrderLaws.{same_labels-Decides}
+use Rattle.command_octets.specs.Hosted.{HostedZone}
+use Rattle.command_octets.specs.Zones.{IsAmong}
 use Rattle.config_model.specs.Batches.{store_refusal}
 use Rattle.config_model.specs.Configs.{Config}
 use Rattle.config_model.specs.NewZones.{are_most, create_refusal, create_zone, has_zone}

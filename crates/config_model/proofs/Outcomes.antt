@@ -2,14 +2,14 @@
 use Rattle.std.proofs.Common.{◌≡◌, ◌≢◌, List, inl, inr, ap, ◌∙◌, sym, refl, arith, Option, None}
 use Rattle.std.proofs.Common.{Some}
 use Rattle.std.specs.Prelude.{Ok, Err, Result}
-use Rattle.batch_model.specs.Laws.{OneAnswer}
-use Rattle.batch_model.specs.declared.batches.Batch.{Batch}
-use Rattle.batch_model.specs.declared.refusals.BatchRefusal.{BatchRefusal}
-use Rattle.batch_model.specs.declared.refusals.BatchRefusal.TheVariants as batch
+use Rattle.command_octets.specs.Laws.{OneAnswer}
+use Rattle.command_octets.specs.BatchRecord.{Batch}
+use Rattle.command_octets.specs.BatchRefusalRecord.{BatchRefusal}
+use Rattle.command_octets.specs.BatchRefusalRecord.TheVariants as batch
 use Rattle.command_octets.specs.declared.commands.Command.{Command}
 use Rattle.command_octets.specs.declared.commands.Command.TheVariants as command
-use Rattle.record_set.specs.declared.sets.RecordSet.{RecordSet}
-use Rattle.zone_model.specs.Hosted.{HostedZone}
+use Rattle.set_reading.specs.RecordSetRecord.{RecordSet}
+use Rattle.command_octets.specs.Hosted.{HostedZone}
 use Rattle.config_model.specs.Applying.{Decides, Outcome}
 use Rattle.config_model.specs.Batches.{ChangesIn, changed_zones}
 use Rattle.config_model.specs.Configs.{Config, zone_with}

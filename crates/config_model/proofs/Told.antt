@@ -10,22 +10,22 @@ use Rattle.std.proofs.lemmas.Slice.Eq.{bytes_eq-Decides}
 use Rattle.check_model.specs.Checks.{IsId, check_at}
 use Rattle.check_model.specs.Commands.{is_there}
 use Rattle.check_model.specs.declared.checks.Check.{Check}
-use Rattle.cidr_blocks.specs.Idents.{star}
-use Rattle.cidr_blocks.specs.Places.{names_of}
-use Rattle.cidr_blocks.specs.declared.places.Collection.{Collection}
-use Rattle.cidr_commands.specs.Kept.{IsThere, IsThereIn}
-use Rattle.cidr_commands.specs.Stored.{collection_at}
-use Rattle.record_set.specs.Reasons.{IsAlias}
-use Rattle.record_set.specs.Sets.{key_of}
-use Rattle.routing.specs.declared.policies.Routing.{Routing}
-use Rattle.routing.specs.declared.policies.Routing.TheVariants.{Simple, Weighted, Failover}
-use Rattle.routing.specs.declared.policies.Routing.TheVariants.{Geolocation, Latency, Multivalue}
-use Rattle.routing.specs.declared.policies.Routing.TheVariants.{Cidr}
-use Rattle.record_set.specs.declared.sets.Body.{Body}
-use Rattle.record_set.specs.declared.sets.Body.TheVariants as body
-use Rattle.record_set.specs.declared.sets.RecordSet.{RecordSet}
-use Rattle.zone_model.specs.Walks.{HasNoTarget, IsTooDeep, IsWalk, StartsWalk}
-use Rattle.zone_model.specs.Zones.{IsAmong, is_of_group, target_group, target_group_of}
+use Rattle.command_octets.specs.Idents.{star}
+use Rattle.command_octets.specs.Places.{names_of}
+use Rattle.command_octets.specs.CollectionRecord.{Collection}
+use Rattle.command_octets.specs.Kept.{IsThere, IsThereIn}
+use Rattle.command_octets.specs.Stored.{collection_at}
+use Rattle.set_reading.specs.Reasons.{IsAlias}
+use Rattle.set_reading.specs.SetsOfRecordSet.{key_of}
+use Rattle.set_reading.specs.RoutingRecord.{Routing}
+use Rattle.set_reading.specs.RoutingRecord.TheVariants.{Simple, Weighted, Failover}
+use Rattle.set_reading.specs.RoutingRecord.TheVariants.{Geolocation, Latency, Multivalue}
+use Rattle.set_reading.specs.RoutingRecord.TheVariants.{Cidr}
+use Rattle.set_reading.specs.BodyRecord.{Body}
+use Rattle.set_reading.specs.BodyRecord.TheVariants as body
+use Rattle.set_reading.specs.RecordSetRecord.{RecordSet}
+use Rattle.command_octets.specs.Walks.{HasNoTarget, IsTooDeep, IsWalk, StartsWalk}
+use Rattle.command_octets.specs.Zones.{IsAmong, is_of_group, target_group, target_group_of}
 use Rattle.config_model.specs.Batches.{check_refusal, collection_refusal, depth_refusal}
 use Rattle.config_model.specs.Batches.{first_among, is_alias, is_empty, is_location_in, is_too_deep}
 use Rattle.config_model.specs.Batches.{is_zone_full, leads_on, location_refusal, named_check}

@@ -2,8 +2,8 @@
 -- of several comes first.
 use Rattle.std.proofs.Common.{◌≡◌, ℕ, true, false, List, [], ◌∷◌, Some, refl}
 use Rattle.std.specs.Prelude.{codes}
-use Rattle.rdata_layout.specs.declared.types.RType.TheVariants.{Ns, Soa}
-use Rattle.record_set.specs.declared.sets.Body.TheVariants.{Values}
+use Rattle.set_reading.specs.RTypeRecord.TheVariants.{Ns, Soa}
+use Rattle.set_reading.specs.BodyRecord.TheVariants.{Values}
 use Rattle.config_model.specs.Configs.{empty}
 use Rattle.config_model.specs.NewZones.{create_refusal, is_zone_name, new_ns_set, new_soa_set}
 use Rattle.config_model.specs.Telling.{invalid}

@@ -4,9 +4,9 @@ use Rattle.std.proofs.Common.{inl, inr, ap, ◌∙◌, sym, refl, subst, arith, 
 use Rattle.std.specs.Prelude.{◌==◌, Ok}
 use Rattle.std.specs.List.{AllByRecursion}
 use Rattle.std.proofs.lemmas.Bool.{eqb-true, eq-eqb, false≢true}
-use Rattle.record_set.specs.declared.sets.RecordSet.{RecordSet}
-use Rattle.zone_model.specs.Hosted.{HostedZone}
-use Rattle.zone_model.specs.Zones.{IsAmong}
+use Rattle.set_reading.specs.RecordSetRecord.{RecordSet}
+use Rattle.command_octets.specs.Hosted.{HostedZone}
+use Rattle.command_octets.specs.Zones.{IsAmong}
 use Rattle.config_model.specs.Configs.{with_sets, with_sets_at, zone_with}
 use Rattle.config_model.specs.Sound.{AreListed}
 use Rattle.config_model.specs.Telling.{first_of, unless}

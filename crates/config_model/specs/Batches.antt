@@ -8,24 +8,24 @@ use Rattle.std.specs.Prelude.{◌⊎◌, List, [], ◌∷◌, length, map, Optio
 use Rattle.std.specs.Prelude.{Result, Ok, Err}
 use Rattle.std.specs.List.{list_any, sum_by}
 use Rattle.std.specs.Str.{bytes_eq}
-use Rattle.batch_model.specs.Batches.{Prepares}
-use Rattle.batch_model.specs.declared.batches.Batch.{Batch}
-use Rattle.batch_model.specs.declared.refusals.BatchRefusal.{BatchRefusal}
-use Rattle.batch_model.specs.declared.refusals.BatchRefusal.TheVariants as refused
+use Rattle.command_octets.specs.Batches.{Prepares}
+use Rattle.command_octets.specs.BatchRecord.{Batch}
+use Rattle.command_octets.specs.BatchRefusalRecord.{BatchRefusal}
+use Rattle.command_octets.specs.BatchRefusalRecord.TheVariants as refused
 use Rattle.check_model.specs.Commands.{is_there}
 use Rattle.check_model.specs.declared.checks.Check.{Check}
-use Rattle.cidr_blocks.specs.Idents.{star}
-use Rattle.cidr_blocks.specs.Places.{names_of}
-use Rattle.cidr_blocks.specs.declared.places.Collection.{Collection}
-use Rattle.cidr_commands.specs.Stored.{collection_at}
-use Rattle.record_set.specs.Sets.{key_of}
-use Rattle.record_set.specs.declared.sets.Body.{Body}
-use Rattle.record_set.specs.declared.sets.Body.TheVariants as body
-use Rattle.record_set.specs.declared.sets.RecordSet.{RecordSet}
-use Rattle.routing.specs.declared.policies.Routing.{Routing}
-use Rattle.routing.specs.declared.policies.Routing.TheVariants as routing
-use Rattle.zone_model.specs.Hosted.{HostedZone}
-use Rattle.zone_model.specs.Zones.{target_group}
+use Rattle.command_octets.specs.Idents.{star}
+use Rattle.command_octets.specs.Places.{names_of}
+use Rattle.command_octets.specs.CollectionRecord.{Collection}
+use Rattle.command_octets.specs.Stored.{collection_at}
+use Rattle.set_reading.specs.SetsOfRecordSet.{key_of}
+use Rattle.set_reading.specs.BodyRecord.{Body}
+use Rattle.set_reading.specs.BodyRecord.TheVariants as body
+use Rattle.set_reading.specs.RecordSetRecord.{RecordSet}
+use Rattle.set_reading.specs.RoutingRecord.{Routing}
+use Rattle.set_reading.specs.RoutingRecord.TheVariants as routing
+use Rattle.command_octets.specs.Hosted.{HostedZone}
+use Rattle.command_octets.specs.Zones.{target_group}
 use Rattle.config_model.specs.Configs.{Config, count_of, octets_of, with_sets, zone_with}
 use Rattle.config_model.specs.Telling.{first_of, of_batch, rule, unless}
 use Rattle.config_model.specs.declared.refusals.Made.{Made}

@@ -2,10 +2,10 @@
 use Rattle.std.specs.Prelude.{ℕ, ◌==◌, not, List, [], map, length, Option, if◌then◌else◌}
 use Rattle.std.specs.List.{filter, find, flat_map, sum_by}
 use Rattle.check_model.specs.Checks.{Checks}
-use Rattle.cidr_commands.specs.Stored.{Stored}
-use Rattle.record_set.specs.declared.sets.RecordSet.{RecordSet}
-use Rattle.set_octets.specs.Octets.{set_octets}
-use Rattle.zone_model.specs.Hosted.{HostedZone}
+use Rattle.command_octets.specs.Stored.{Stored}
+use Rattle.set_reading.specs.RecordSetRecord.{RecordSet}
+use Rattle.set_reading.specs.Octets.{set_octets}
+use Rattle.command_octets.specs.Hosted.{HostedZone}
 
 -- The zones by rising numbers and the number that the next one gets; the checks and the collections
 -- likewise.

@@ -1,14 +1,14 @@
 -- What commands on configurations come to.
 use Rattle.std.specs.Prelude.{◌≡◌, ◌≢◌, length, Ok, Err, ⊤}
 use Rattle.std.specs.List.{AllByRecursion}
-use Rattle.batch_model.specs.declared.batches.Change.{Change}
+use Rattle.command_octets.specs.ChangeRecord.{Change}
 use Rattle.check_model.specs.Commands.{IsBoundedCommand}
-use Rattle.cidr_commands.specs.Commands.{HasNames}
+use Rattle.command_octets.specs.CommandsOfCidrCommands.{HasNames}
 use Rattle.command_octets.specs.declared.commands.Command.{Command}
 use Rattle.command_octets.specs.declared.commands.Command.TheVariants as command
-use Rattle.dns_name.specs.Names.{IsName}
-use Rattle.record_set.specs.declared.sets.RecordSet.{RecordSet}
-use Rattle.set_octets.specs.Octets.{AreOfType, IsSpelledBody, IsSpelledRouting}
+use Rattle.set_reading.specs.Names.{IsName}
+use Rattle.set_reading.specs.RecordSetRecord.{RecordSet}
+use Rattle.set_reading.specs.Octets.{AreOfType, IsSpelledBody, IsSpelledRouting}
 use Rattle.set_reading.specs.Sets.{IsSet}
 use Rattle.config_model.specs.Applying.{Applies, Decides, Outcome}
 use Rattle.config_model.specs.Configs.{Config, empty}

@@ -4,17 +4,17 @@ use Rattle.std.specs.Prelude.{◌∷◌, ◌++◌, length, map, codes, Option, N
 use Rattle.std.specs.List.{list_any}
 use Rattle.std.specs.Str.{bytes_eq}
 use Rattle.octets.specs.Numbers.{four_octets}
-use Rattle.dns_name.specs.Labels.{wire}
-use Rattle.dns_name.specs.Order.{same_labels}
-use Rattle.dns_name.specs.Wildcard.{wildcard}
-use Rattle.record_set.specs.Datum.{Datum}
-use Rattle.rdata_layout.specs.Types.{number_of}
-use Rattle.rdata_layout.specs.declared.types.RType.{RType}
-use Rattle.rdata_layout.specs.declared.types.RType.TheVariants.{Ns, Soa}
-use Rattle.record_set.specs.declared.sets.Body.TheVariants.{Values}
-use Rattle.record_set.specs.declared.sets.RecordSet.{RecordSet}
-use Rattle.routing.specs.declared.policies.Routing.TheVariants.{Simple}
-use Rattle.zone_model.specs.Hosted.{HostedZone}
+use Rattle.set_reading.specs.Labels.{wire}
+use Rattle.set_reading.specs.Order.{same_labels}
+use Rattle.set_reading.specs.Wildcard.{wildcard}
+use Rattle.set_reading.specs.Datum.{Datum}
+use Rattle.set_reading.specs.Types.{number_of}
+use Rattle.set_reading.specs.RTypeRecord.{RType}
+use Rattle.set_reading.specs.RTypeRecord.TheVariants.{Ns, Soa}
+use Rattle.set_reading.specs.BodyRecord.TheVariants.{Values}
+use Rattle.set_reading.specs.RecordSetRecord.{RecordSet}
+use Rattle.set_reading.specs.RoutingRecord.TheVariants.{Simple}
+use Rattle.command_octets.specs.Hosted.{HostedZone}
 use Rattle.config_model.specs.Batches.{store_refusal}
 use Rattle.config_model.specs.Configs.{Config, without_zone, zone_with}
 use Rattle.config_model.specs.Telling.{first_of, invalid, rule, unless}

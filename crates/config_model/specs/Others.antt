@@ -8,15 +8,15 @@ use Rattle.check_model.specs.Checks.{Checks}
 use Rattle.check_model.specs.Commands.{checks_after, refusal_of}
 use Rattle.check_model.specs.declared.checks.CheckCommand.{CheckCommand}
 use Rattle.check_model.specs.declared.checks.CheckCommand.TheVariants as check
-use Rattle.cidr_changes.specs.declared.faults.CidrFault.{CidrFault}
-use Rattle.cidr_commands.specs.Commands.{answer}
-use Rattle.cidr_commands.specs.Stored.{Stored}
-use Rattle.cidr_commands.specs.declared.command.CidrCommand.{CidrCommand}
-use Rattle.cidr_commands.specs.declared.command.CidrCommand.TheVariants as cidr
-use Rattle.record_set.specs.declared.sets.RecordSet.{RecordSet}
-use Rattle.routing.specs.declared.policies.Routing.{Routing}
-use Rattle.routing.specs.declared.policies.Routing.TheVariants as routing
-use Rattle.zone_model.specs.Hosted.{HostedZone}
+use Rattle.command_octets.specs.CidrFaultRecord.{CidrFault}
+use Rattle.command_octets.specs.CommandsOfCidrCommands.{answer}
+use Rattle.command_octets.specs.Stored.{Stored}
+use Rattle.command_octets.specs.CidrCommandRecord.{CidrCommand}
+use Rattle.command_octets.specs.CidrCommandRecord.TheVariants as cidr
+use Rattle.set_reading.specs.RecordSetRecord.{RecordSet}
+use Rattle.set_reading.specs.RoutingRecord.{Routing}
+use Rattle.set_reading.specs.RoutingRecord.TheVariants as routing
+use Rattle.command_octets.specs.Hosted.{HostedZone}
 use Rattle.config_model.specs.Configs.{Config, all_sets}
 use Rattle.config_model.specs.Telling.{first_of, of_check, of_fault, rule, unless}
 use Rattle.config_model.specs.declared.refusals.Made.{Made}

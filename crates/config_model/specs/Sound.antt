@@ -1,19 +1,19 @@
 -- When a configuration is sound.
 use Rattle.std.specs.Prelude.{◌≡◌, ◌≢◌, ◌≤◌, ◌<◌, ℕ, List, [], ◌∷◌, length, None, true, ⊤}
 use Rattle.std.specs.List.{AllByRecursion}
-use Rattle.batch_model.specs.Rules.{MeetsAll, rules}
+use Rattle.command_octets.specs.Rules.{MeetsAll, rules}
 use Rattle.check_model.specs.Checks.{IsSound as AreSoundChecks}
 use Rattle.check_model.specs.declared.checks.Check.{Check}
-use Rattle.cidr_blocks.specs.declared.places.Collection.{Collection}
-use Rattle.cidr_commands.specs.Stored.{IsSound as AreSoundCollections}
-use Rattle.rdata_layout.specs.declared.types.RType.TheVariants.{Ns, Soa}
-use Rattle.record_set.specs.Reasons.{IsFirst}
-use Rattle.record_set.specs.declared.sets.SetKey.{SetKey}
-use Rattle.set_octets.specs.Octets.{HasSpelling}
+use Rattle.command_octets.specs.CollectionRecord.{Collection}
+use Rattle.command_octets.specs.Stored.{IsSound as AreSoundCollections}
+use Rattle.set_reading.specs.RTypeRecord.TheVariants.{Ns, Soa}
+use Rattle.set_reading.specs.Reasons.{IsFirst}
+use Rattle.set_reading.specs.SetKeyRecord.{SetKey}
+use Rattle.set_reading.specs.Octets.{HasSpelling}
 use Rattle.set_reading.specs.Sets.{IsSet}
-use Rattle.zone_model.specs.Hosted.{HostedZone}
-use Rattle.zone_model.specs.Placing.{IsThere}
-use Rattle.zone_model.specs.Zones.{IsZone}
+use Rattle.command_octets.specs.Hosted.{HostedZone}
+use Rattle.command_octets.specs.Placing.{IsThere}
+use Rattle.command_octets.specs.Zones.{IsZone}
 use Rattle.config_model.specs.Batches.{sets_refusal, store_refusal}
 use Rattle.config_model.specs.Configs.{Config}
 use Rattle.config_model.specs.NewZones.{is_zone_name}

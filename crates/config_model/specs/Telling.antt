@@ -1,12 +1,12 @@
 -- Refusals of parts of a command, as those of the command; and the first of several.
 use Rattle.std.specs.Prelude.{Bool, List, [], ◌∷◌, if◌then◌else◌, Option, None, Some, Result}
 use Rattle.std.specs.Prelude.{Ok, Err}
-use Rattle.batch_model.specs.declared.refusals.BatchRefusal.{BatchRefusal}
-use Rattle.batch_model.specs.declared.refusals.BatchRefusal.TheVariants as batch
+use Rattle.command_octets.specs.BatchRefusalRecord.{BatchRefusal}
+use Rattle.command_octets.specs.BatchRefusalRecord.TheVariants as batch
 use Rattle.check_model.specs.declared.refusals.CheckRefusal.{CheckRefusal}
 use Rattle.check_model.specs.declared.refusals.CheckRefusal.TheVariants as check
-use Rattle.cidr_changes.specs.declared.faults.CidrFault.{CidrFault}
-use Rattle.cidr_changes.specs.declared.faults.CidrFault.TheVariants as fault
+use Rattle.command_octets.specs.CidrFaultRecord.{CidrFault}
+use Rattle.command_octets.specs.CidrFaultRecord.TheVariants as fault
 use Rattle.config_model.specs.declared.refusals.InputReason.{InputReason}
 use Rattle.config_model.specs.declared.refusals.InputReason.TheVariants as reason
 use Rattle.config_model.specs.declared.refusals.Refusal.{Refusal}

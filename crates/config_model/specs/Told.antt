@@ -4,13 +4,13 @@ use Rattle.std.specs.Prelude.{slice_get}
 use Rattle.std.specs.List.{sum_by}
 use Rattle.check_model.specs.Checks.{IsId}
 use Rattle.check_model.specs.declared.checks.Check.{Check}
-use Rattle.cidr_blocks.specs.declared.places.Collection.{Collection}
-use Rattle.cidr_commands.specs.Kept.{IsThere}
-use Rattle.record_set.specs.declared.sets.RecordSet.{RecordSet}
-use Rattle.routing.specs.declared.policies.Routing.TheVariants.{Cidr}
-use Rattle.zone_model.specs.Hosted.{HostedZone}
-use Rattle.zone_model.specs.Walks.{HasNoTarget, IsTooDeep, StartsWalk}
-use Rattle.zone_model.specs.Zones.{IsAmong}
+use Rattle.command_octets.specs.CollectionRecord.{Collection}
+use Rattle.command_octets.specs.Kept.{IsThere}
+use Rattle.set_reading.specs.RecordSetRecord.{RecordSet}
+use Rattle.set_reading.specs.RoutingRecord.TheVariants.{Cidr}
+use Rattle.command_octets.specs.Hosted.{HostedZone}
+use Rattle.command_octets.specs.Walks.{HasNoTarget, IsTooDeep, StartsWalk}
+use Rattle.command_octets.specs.Zones.{IsAmong}
 use Rattle.config_model.specs.Batches.{first_among, leads_on, sets_refusal, store_refusal}
 use Rattle.config_model.specs.Configs.{count_of, octets_of}
 use Rattle.config_model.specs.declared.refusals.Refusal.{Refusal}

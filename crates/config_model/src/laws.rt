@@ -7,19 +7,19 @@ ghost use Rattle.config_model.specs.Told.{RefusalsAreTold};
 pub fn one_outcome()
     ensures { OneOutcome }
 {
-    batch_model::one_answer();
+    command_octets::one_answer();
 }
 
 /// What a command makes of a sound configuration is sound.
 pub fn commands_keep_sound()
     ensures { KeepsSound }
 {
-    batch_model::zones_stay();
+    command_octets::zones_stay();
     check_model::commands_keep_sound();
     check_model::rest_is_left();
-    cidr_commands::commands_keep_sound();
-    cidr_commands::commands_keep_used();
-    dns_name::one_name_of_a_wire();
+    command_octets::commands_keep_sound();
+    command_octets::commands_keep_used();
+    set_reading::one_name_of_a_wire();
     refusals_are_told();
 }
 

@@ -3,13 +3,9 @@
 ghost use Rattle.std.specs.Prelude.{◌≡◌};
 ghost use Rattle.config_model.specs.Telling.{of_batch, of_check, of_fault};
 
-use batch_model::BatchRefusal;
 use check_model::CheckRefusal;
-use cidr_blocks::Ident;
-use cidr_changes::CidrFault;
-use dns_name::Name;
-use rdata_layout::RType;
-use record_set::{Reason, SetKey};
+use command_octets::{BatchRefusal, CidrFault, Ident};
+use set_reading::{Name, RType, Reason, SetKey};
 
 /// What is wrong with a command by itself, or beside what is there.
 #[derive(Clone, Copy)]

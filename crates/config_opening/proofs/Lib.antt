@@ -1,2 +1,3 @@
 mod Opened
 mod Replayed
+pub use Rattle.config_journal.proofs.Weakening

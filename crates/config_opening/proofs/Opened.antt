@@ -1,11 +1,11 @@
 -- What an opening leaves, behind the reading of entries.
 use Rattle.std.proofs.Common.{◌∙◌, ℕ, List, [], Option, Result, Ok, Err, inl, inr, refl, arith}
 use Rattle.config_journal.specs.States.{State}
-use Rattle.config_model.specs.Configs.{Config}
+use Rattle.config_journal.specs.Configs.{Config}
 use Rattle.config_opening.specs.Opening.{IsAtFirstGate, IsFault, Replays, Syncs}
 use Rattle.r53_disk.specs.Disk.{Rests}
-use Rattle.store_model.specs.Laws.{BaselessIsNoStore, BrokenIsNoStore}
-use Rattle.store_model.specs.Opening.{IsBase, IsNoStore}
+use Rattle.config_journal.specs.Laws.{BaselessIsNoStore, BrokenIsNoStore}
+use Rattle.config_journal.specs.Opening.{IsBase, IsNoStore}
 use Rattle.zone_journal.specs.Opening.{OpenGives}
 use Rattle.zone_journal.specs.Pairs.{BothSynced, Unwritten}
 use Rattle.zone_journal.specs.Standing.{State as Journal}

@@ -1,13 +1,13 @@
 -- What is read at a gate, of files whose configuration is known up to it.
 use Rattle.std.proofs.Common.{◌≡◌, ◌≢◌, ◌≤◌, ◌∙◌, ℕ, ◌+◌, Bool, false, List, [], ◌∷◌, ◌++◌, Option, None, Some, Result, Ok, Err, length, drop, ap, sym, refl, subst, inl, inr}
 use Rattle.std.specs.Prelude.{IfOk}
-use Rattle.command_codec.specs.Commands.{Spells}
-use Rattle.command_octets.specs.declared.commands.Command.{Command}
+use Rattle.config_journal.specs.Commands.{Spells}
+use Rattle.config_journal.specs.CommandRecord.{Command}
 use Rattle.config_journal.specs.Holding.{Holds}
-use Rattle.config_model.specs.Applying.{Applies, Outcome}
-use Rattle.config_model.specs.Configs.{Config}
-use Rattle.config_model.specs.declared.refusals.Refusal.{Refusal}
-use Rattle.config_model.specs.declared.refusals.Refusal.TheVariants as refusal
+use Rattle.config_journal.specs.Applying.{Applies, Outcome}
+use Rattle.config_journal.specs.Configs.{Config}
+use Rattle.config_journal.specs.RefusalRecord.{Refusal}
+use Rattle.config_journal.specs.RefusalRecord.TheVariants as refusal
 use Rattle.config_opening.specs.Opening.{IsFault, Replays}
 use Rattle.file_building.specs.Building.{Plan}
 use Rattle.gate_journal.specs.Layout.{OpensTo}
@@ -15,9 +15,9 @@ use Rattle.gate_journal.specs.Read.{IsBroken, IsRead}
 use Rattle.config_journal.specs.Kept.{State as Kept, config_in}
 use Rattle.octets.specs.declared.memory.OutOfMemory.{OutOfMemory}
 use Rattle.r53_disk.specs.Disk.{Rests}
-use Rattle.store_model.specs.Laws.{DecidingOpens, FaultyIsNoStore, OneMoreMakes}
-use Rattle.store_model.specs.Laws.{RefusedAreRefused}
-use Rattle.store_model.specs.Opening.{IsNoStore, IsRefused, OpensAs, TakesEntry}
+use Rattle.config_journal.specs.Laws.{DecidingOpens, FaultyIsNoStore, OneMoreMakes}
+use Rattle.config_journal.specs.Laws.{RefusedAreRefused}
+use Rattle.config_journal.specs.Opening.{IsNoStore, IsRefused, OpensAs, TakesEntry}
 use Rattle.zone_journal.specs.Opening.{NextGives}
 use Rattle.zone_journal.specs.Pairs.{active_of}
 use Rattle.zone_journal.specs.Standing.{ReadsOn, State as Journal}

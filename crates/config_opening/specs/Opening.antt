@@ -1,8 +1,8 @@
 -- A store that is opened.
 use Rattle.std.specs.Prelude.{◌≡◌, ◌⊎◌, ℕ, List, [], None, Result, Ok, Err, ⊤}
-use Rattle.config_model.specs.Configs.{Config}
+use Rattle.config_journal.specs.Configs.{Config}
 use Rattle.gate_journal.specs.Read.{IsRead}
-use Rattle.store_model.specs.Opening.{MakesConfig}
+use Rattle.config_journal.specs.Opening.{MakesConfig}
 use Rattle.zone_journal.specs.Pairs.{BothSynced, IsActive, NoneSynced, OneSynced, active_of, other_of}
 use Rattle.zone_journal.specs.Standing.{State as Journal}
 use Rattle.zone_journal.specs.declared.answers.OpenFault.{OpenFault}

@@ -8,6 +8,6 @@
 mod opening;
 mod replaying;
 
-pub use config_journal::ConfigJournal;
+pub use config_journal::{ConfigJournal, standing_opens};
 pub use opening::open;
 pub use zone_journal::{OpenFault, Side};

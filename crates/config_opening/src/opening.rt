@@ -2,23 +2,23 @@
 
 ghost use Rattle.std.specs.Prelude.{◌≡◌, ◌≤◌, ◌⊎◌, ℕ, List, IfOk, IsErrOf, Err, None, Some};
 ghost use Rattle.config_journal.specs.Holding.{Holds};
-ghost use Rattle.config_model.specs.Configs.{Config as Configuration};
+ghost use Rattle.config_journal.specs.Configs.{Config as Configuration};
 ghost use Rattle.config_opening.specs.Opening.{IsAtFirstGate, IsFault, Syncs};
 ghost use Rattle.octets.specs.Counts.{Rose};
 ghost use Rattle.r53_disk.specs.Disk.{Rests};
 ghost use Rattle.config_journal.specs.Kept.{config_in};
-ghost use Rattle.snapshot_reading.specs.declared.faults.SnapshotFault.TheVariants.{Bad};
-ghost use Rattle.store_model.specs.Opening.{IsBase, IsNoStore};
+ghost use Rattle.config_journal.specs.SnapshotFaultRecord.TheVariants.{Bad};
+ghost use Rattle.config_journal.specs.Opening.{IsBase, IsNoStore};
 ghost use Rattle.zone_journal.specs.Pairs.{Leaves, Unwritten};
 ghost use Rattle.zone_journal.specs.Standing.{ReadsOn, StandsOn};
 ghost use Rattle.zone_journal.specs.declared.answers.OpenFault.TheVariants as OpenFault;
 
 use crate::replaying::replay;
-use config_journal::{Config, ConfigJournal};
-use config_reading::{SnapshotFault, read_config};
+use config_journal::{
+    Config, ConfigJournal, SnapshotFault, baseless_is_no_store, broken_is_no_store, read_config,
+};
 use r53_disk::Disk;
 use std::alloc::Global;
-use store_model::{baseless_is_no_store, broken_is_no_store};
 use zone_journal::{OpenFault, ZoneJournal};
 
 /// Opens a store: the configuration that the snapshot of the file that decides and the commands of

@@ -3,26 +3,23 @@
 ghost use Rattle.std.specs.Prelude.{◌≡◌, ◌≢◌, ◌≤◌, ◌<◌, ◌⊎◌, ◌^◌, ℕ, List, IfOk, IsErrOf, Ok, Err, None, Some};
 ghost use Rattle.std.specs.Prelude.{true, false};
 ghost use Rattle.config_journal.specs.Holding.{Holds};
-ghost use Rattle.config_model.specs.declared.refusals.Refusal.TheVariants as refusal;
+ghost use Rattle.config_journal.specs.RefusalRecord.TheVariants as refusal;
 ghost use Rattle.config_opening.specs.Opening.{IsFault, Replays};
 ghost use Rattle.octets.specs.Counts.{Rose};
 ghost use Rattle.r53_disk.specs.Disk.{Rests};
 ghost use Rattle.config_journal.specs.Kept.{config_in};
-ghost use Rattle.store_model.specs.Opening.{IsNoStore, IsRefused, TakesEntry};
+ghost use Rattle.config_journal.specs.Opening.{IsNoStore, IsRefused, TakesEntry};
 ghost use Rattle.zone_journal.specs.Pairs.{Leaves};
 ghost use Rattle.zone_journal.specs.Standing.{ReadsOn, StandsOn};
 ghost use Rattle.zone_journal.specs.declared.answers.OpenFault.TheVariants as OpenFault;
 
-use command_bounds::spelled_are_bounded;
-use command_codec::{ReadFault, read};
-use config_journal::Config;
-use config_model::Refusal;
+use config_journal::{
+    Config, ReadFault, Refusal, deciding_opens, faulty_is_no_store, one_more_makes, read,
+    refused_are_refused, spelled_are_bounded, unread_are_refused,
+};
 use octets::OutOfMemory;
 use r53_disk::Disk;
 use std::alloc::Global;
-use store_model::{
-    deciding_opens, faulty_is_no_store, one_more_makes, refused_are_refused, unread_are_refused,
-};
 use zone_journal::{OpenFault, ZoneJournal};
 
 /// Makes the commands of all entries from the gate on that is read next, one after another.

@@ -7,31 +7,31 @@ use Rattle.std.proofs.lemmas.List.{length-append}
 use Rattle.std.proofs.lemmas.List.Sums.{sum_by_push}
 use Rattle.check_model.specs.Checks.{Checks}
 use Rattle.cidr_commands.specs.Stored.{Stored}
-use Rattle.config_edits.specs.Laws.{EditsAreTold, hosted_in}
-use Rattle.config_model.proofs.Left.{all_appended, in_back}
-use Rattle.config_model.proofs.Members.{all_at, all_from}
-use Rattle.config_model.proofs.Told.{told_false}
-use Rattle.config_model.specs.Batches.{is_over, is_store_full, store_refusal}
-use Rattle.config_model.specs.Configs.{Config, count_of, octets_of}
-use Rattle.config_model.specs.Sound.{AreListed, IsSoundZone, Sound}
-use Rattle.config_model.specs.Telling.{rule}
-use Rattle.config_model.specs.declared.refusals.Refusal.TheVariants.{StoreFull}
+use Rattle.config_zones.specs.Edited.{EditsAreTold, hosted_in}
+use Rattle.config_zones.proofs.Left.{all_appended, in_back}
+use Rattle.config_zones.proofs.Members.{all_at, all_from}
+use Rattle.config_zones.proofs.Told.{told_false}
+use Rattle.config_zones.specs.Batches.{is_over, is_store_full, store_refusal}
+use Rattle.config_zones.specs.Configs.{Config, count_of, octets_of}
+use Rattle.config_zones.specs.Sound.{AreListed, IsSoundZone, Sound}
+use Rattle.config_zones.specs.Telling.{rule}
+use Rattle.config_zones.specs.RefusalRecord.TheVariants.{StoreFull}
 use Rattle.config_zones.specs.Configured.{config_of}
 use Rattle.dns_name.specs.Suffix.{EndsWith}
 use Rattle.record_set.specs.declared.sets.RecordSet.{RecordSet}
-use Rattle.set_octets.specs.Octets.{HasSpelling, set_octets}
+use Rattle.config_zones.specs.Octets.{HasSpelling, set_octets}
 use Rattle.zone_allowed.proofs.Rises.{rising_differ}
 use Rattle.zone_allowed.specs.New.{IsNewZone}
-use Rattle.zone_table.specs.Changes.{CanBeAdded}
-use Rattle.zone_table.specs.Zones.{AreZones, CanStand, HasName, IsOne, IsZoneId, Zone, hosted}
+use Rattle.config_zones.specs.Changes.{CanBeAdded}
+use Rattle.config_zones.specs.Zones.{AreZones, CanStand, HasName, IsOne, IsZoneId, Zone, hosted}
 use Rattle.zone_model.specs.Hosted.{HostedZone}
 use Rattle.zone_model.specs.Zones.{IsAmong}
-use Rattle.zone_table.proofs.Naming.{in_map, of_map}
-use Rattle.zone_table.specs.Edits.{Edits, IsAllowed}
-use Rattle.zone_table.specs.Tables.{Table}
-use Rattle.zone_table.specs.declared.edits.ZoneEdit.TheVariants.{Open}
-use Rattle.zone_table.specs.declared.edits.ZoneEdit.{ZoneEdit}
-use Rattle.zone_table.specs.declared.refs.Delta.{Delta}
+use Rattle.config_zones.proofs.Naming.{in_map, of_map}
+use Rattle.config_zones.specs.Edits.{Edits, IsAllowed}
+use Rattle.config_zones.specs.Tables.{Table}
+use Rattle.config_zones.specs.ZoneEditRecord.TheVariants.{Open}
+use Rattle.config_zones.specs.ZoneEditRecord.{ZoneEdit}
+use Rattle.config_zones.specs.DeltaRecord.{Delta}
 use Rattle.config_reading.specs.Reading.{OpensSoundly, with_zone}
 
 abbrev Comes : (first second : HostedZone) → Type 0

@@ -4,10 +4,10 @@ use Rattle.std.specs.Prelude.{◌≢◌}
 use Rattle.std.specs.List.{AllByRecursion, sum_by}
 use Rattle.std.proofs.lemmas.List.{length-append}
 use Rattle.std.proofs.lemmas.List.Sums.{sum_by-append}
-use Rattle.config_model.specs.Batches.{store_refusal}
-use Rattle.config_model.specs.Configs.{Config, count_of, octets_of}
-use Rattle.config_model.specs.Sound.{AreListed, IsSoundZone, Sound}
-use Rattle.config_model.specs.Told.{HaveRoom, RefusalsAreTold}
+use Rattle.config_zones.specs.Batches.{store_refusal}
+use Rattle.config_zones.specs.Configs.{Config, count_of, octets_of}
+use Rattle.config_zones.specs.Sound.{AreListed, IsSoundZone, Sound}
+use Rattle.config_zones.specs.Told.{HaveRoom, RefusalsAreTold}
 use Rattle.zone_model.specs.Hosted.{HostedZone}
 
 pub all_in_front : {X : Type 0} (P : X → Type 0) (xs ys : List X) → AllByRecursion P (xs ++ ys)

@@ -5,13 +5,13 @@ use Rattle.std.proofs.Common.{Err, inl, inr}
 use Rattle.std.specs.Prelude.{◌≢◌, IsErr}
 use Rattle.std.proofs.lemmas.Bool.{cases_eq, false≢true}
 use Rattle.std.proofs.lemmas.List.{append_assoc, length-append, append-nil}
-use Rattle.config_model.specs.Configs.{Config}
-use Rattle.config_model.specs.Sound.{Sound}
-use Rattle.config_model.specs.Told.{RefusalsAreTold}
+use Rattle.config_zones.specs.Configs.{Config}
+use Rattle.config_zones.specs.Sound.{Sound}
+use Rattle.config_zones.specs.Told.{RefusalsAreTold}
 use Rattle.dns_name.specs.Names.{AreOctets}
-use Rattle.snapshot_octets.specs.Laws.{SnapshotsAreTold, SnapshotsReadBack, TellsConfig}
-use Rattle.snapshot_octets.specs.Octets.{IsSnapshot}
-use Rattle.snapshot_octets.specs.Reading.{read, zone_at}
+use Rattle.snapshot_reading.specs.LawsOfSnapshotOctets.{SnapshotsAreTold, SnapshotsReadBack, TellsConfig}
+use Rattle.snapshot_reading.specs.Octets.{IsSnapshot}
+use Rattle.snapshot_reading.specs.Reading.{read, zone_at}
 use Rattle.snapshot_reading.specs.Laws.{IsReadTo, SnapshotsReadInParts}
 use Rattle.snapshot_reading.specs.Parts.{Begun, front_at, with_zones}
 use Rattle.snapshot_reading.specs.Places.{Finds, found_at}

@@ -1,15 +1,15 @@
 -- A sound configuration as it comes to be while a snapshot is read.
 use Rattle.std.specs.Prelude.{◌≤◌, ℕ, List, [], ◌∷◌, ◌++◌, length}
-use Rattle.config_model.specs.Configs.{Config}
-use Rattle.config_model.specs.Sound.{Sound}
-use Rattle.snapshot_octets.specs.Octets.{IsSnapshot}
+use Rattle.config_zones.specs.Configs.{Config}
+use Rattle.config_zones.specs.Sound.{Sound}
+use Rattle.snapshot_reading.specs.Octets.{IsSnapshot}
 use Rattle.snapshot_reading.specs.Laws.{IsReadTo}
 use Rattle.snapshot_reading.specs.Parts.{Begun, begun_of, hosted_of, with_zones}
 use Rattle.snapshot_reading.specs.declared.fronts.Front.{Front}
 use Rattle.snapshot_reading.specs.declared.zones.FoundZone.{FoundZone}
 use Rattle.zone_model.specs.Hosted.{HostedZone}
-use Rattle.zone_table.specs.declared.edits.ZoneEdit.{ZoneEdit}
-use Rattle.zone_table.specs.declared.edits.ZoneEdit.TheVariants as edit
+use Rattle.config_zones.specs.ZoneEditRecord.{ZoneEdit}
+use Rattle.config_zones.specs.ZoneEditRecord.TheVariants as edit
 
 -- The octets are a snapshot of a sound configuration.
 pub record IsOfSound (octets : List ℕ) (config : Config) : Type 0 where

@@ -1,18 +1,18 @@
 //! What stands in front of the zones of a snapshot, made a configuration without zones.
 
 ghost use Rattle.std.specs.Prelude.{◌≡◌, ◌↔◌, Err, IfOk, IsTrue};
-ghost use Rattle.config_model.specs.Sound.{Sound};
+ghost use Rattle.config_zones.specs.Sound.{Sound};
 ghost use Rattle.config_reading.specs.Reading.{config_in_front};
 ghost use Rattle.config_zones.specs.Configured.{config_of};
 ghost use Rattle.snapshot_reading.specs.declared.faults.SnapshotFault.TheVariants.{Bad};
 
 use crate::making::make;
 use cidr_routing::Collections;
+use config_zones::{ZoneEdit, Zones};
 use health_check::CheckTable;
 use octets::OutOfMemory;
 use snapshot_reading::{Front, SnapshotFault};
 use std::alloc::Global;
-use zone_table::{ZoneEdit, Zones};
 
 /// A table without zones, with the collections, the checks, and the number that the next zone gets;
 /// where these are sound.

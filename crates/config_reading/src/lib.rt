@@ -13,4 +13,4 @@ mod soundness;
 mod zones;
 
 pub use reading::read_config;
-pub use snapshot_reading::SnapshotFault;
+pub use snapshot_reading::{SnapshotFault, one_configuration, sound_have_snapshots};

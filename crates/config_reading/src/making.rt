@@ -1,12 +1,12 @@
 //! Edits of the table of zones, made at once.
 
 ghost use Rattle.std.specs.Prelude.{◌≡◌, OnOk};
-ghost use Rattle.zone_table.specs.Edits.{Edits, IsAllowed, collections_after};
-ghost use Rattle.zone_table.specs.declared.refs.Delta.{Delta};
+ghost use Rattle.config_zones.specs.Edits.{Edits, IsAllowed, collections_after};
+ghost use Rattle.config_zones.specs.DeltaRecord.{Delta};
 
+use config_zones::{ZoneEdit, Zones};
 use octets::OutOfMemory;
 use std::alloc::Global;
-use zone_table::{ZoneEdit, Zones};
 
 /// Makes an edit that is allowed, where there is memory.
 pub fn make(alloc: Global, zones: &mut Zones, edit: ZoneEdit) -> Result<(), OutOfMemory>

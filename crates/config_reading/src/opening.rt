@@ -1,19 +1,18 @@
 //! A zone that was read, put into the table behind those before it.
 
 ghost use Rattle.std.specs.Prelude.{◌≡◌, Err, OnOk};
-ghost use Rattle.config_model.specs.Sound.{Sound};
+ghost use Rattle.config_zones.specs.Sound.{Sound};
 ghost use Rattle.config_reading.specs.Reading.{with_zone, zone_found};
 ghost use Rattle.config_zones.specs.Configured.{config_of};
 ghost use Rattle.snapshot_reading.specs.declared.faults.SnapshotFault.TheVariants.{Bad};
 
 use crate::making::make;
 use crate::soundness::opens_soundly;
-use config_zones::edits_are_told;
+use config_zones::{Sets, ZoneEdit, Zones, edits_are_told};
 use health_check::CheckTable;
 use octets::OutOfMemory;
 use snapshot_reading::{FoundZone, SnapshotFault};
 use std::alloc::Global;
-use zone_table::{Sets, ZoneEdit, Zones};
 
 /// Puts a zone into a table whose configuration is sound, where it is sound with the zone too.
 pub fn open(

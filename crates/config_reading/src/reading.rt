@@ -7,12 +7,12 @@ ghost use Rattle.snapshot_reading.specs.declared.faults.SnapshotFault.TheVariant
 
 use crate::fronts::restore;
 use crate::zones::read_zones;
-use config_model::refusals_are_told;
+use config_zones::{Zones, refusals_are_told};
 use health_check::CheckTable;
-use snapshot_octets::{snapshots_are_told, snapshots_read_back};
-use snapshot_reading::{SnapshotFault, read_front, snapshots_read_in_parts};
+use snapshot_reading::{
+    SnapshotFault, read_front, snapshots_are_told, snapshots_read_back, snapshots_read_in_parts,
+};
 use std::alloc::Global;
-use zone_table::Zones;
 
 /// The sound configuration of which octets are a snapshot, in any version: its zones and
 /// collections, its health checks, and the number that the next zone gets.

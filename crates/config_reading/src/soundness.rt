@@ -2,24 +2,22 @@
 
 ghost use Rattle.std.specs.Prelude.{◌≡◌, ◌≤◌, ◌<◌, ◌+◌, ◌↔◌, IfOk, IsTrue, false, length};
 ghost use Rattle.std.specs.List.{AllByRecursion, sum_by};
-ghost use Rattle.config_edits.specs.Laws.{hosted_in};
-ghost use Rattle.config_model.specs.Batches.{is_over};
-ghost use Rattle.config_model.specs.Configs.{count_of, octets_of};
-ghost use Rattle.config_model.specs.Sound.{Sound};
+ghost use Rattle.config_zones.specs.Edited.{hosted_in};
+ghost use Rattle.config_zones.specs.Batches.{is_over};
+ghost use Rattle.config_zones.specs.Configs.{count_of, octets_of};
+ghost use Rattle.config_zones.specs.Sound.{Sound};
 ghost use Rattle.config_reading.specs.Reading.{OpensSoundly};
 ghost use Rattle.config_zones.specs.Configured.{config_of};
-ghost use Rattle.set_octets.specs.Octets.{HasSpelling, set_octets};
-ghost use Rattle.zone_table.specs.Zones.{IsOne, Zone};
+ghost use Rattle.config_zones.specs.Octets.{HasSpelling, set_octets};
+ghost use Rattle.config_zones.specs.Zones.{IsOne, Zone};
 
-use config_model::refusals_are_told;
-use config_zones::{counts_agree, is_over, octets_in};
+use config_zones::{ZoneEdit, Zones, counts_agree, is_over, octets_in, refusals_are_told};
 use health_check::CheckTable;
 use octets::OutOfMemory;
 use record_set::RecordSet;
 use std::alloc::Global;
 use zone_allowed::is_new_zone;
 use zone_soundness::is_sound_zone;
-use zone_table::{ZoneEdit, Zones};
 
 /// The most zones of a configuration (Route 53 quotas).
 const MAX_ZONES: usize = 500;

@@ -1,19 +1,16 @@
 //! The zones of a snapshot, one behind another.
 
 ghost use Rattle.std.specs.Prelude.{◌≡◌, Err, IfOk, length};
-ghost use Rattle.config_edits.specs.Laws.{hosted_in};
+ghost use Rattle.config_zones.specs.Edited.{hosted_in};
 ghost use Rattle.config_reading.specs.Reading.{IsOfNone, IsReadSoundly};
 ghost use Rattle.config_zones.specs.Configured.{config_of};
 ghost use Rattle.snapshot_reading.specs.declared.faults.SnapshotFault.TheVariants.{Bad};
 
 use crate::opening::open;
-use config_model::refusals_are_told;
-use config_zones::counts_agree;
+use config_zones::{Zones, counts_agree, refusals_are_told};
 use health_check::CheckTable;
-use snapshot_octets::snapshots_read_back;
-use snapshot_reading::{SnapshotFault, read_zone, snapshots_read_in_parts};
+use snapshot_reading::{SnapshotFault, read_zone, snapshots_read_back, snapshots_read_in_parts};
 use std::alloc::Global;
-use zone_table::Zones;
 
 /// Reads zones up to so many, and puts each into the table, where the configuration stays sound.
 /// The answer is the place behind the last one.

@@ -4,14 +4,14 @@ use Rattle.std.specs.List.{sum_by}
 use Rattle.std.proofs.lemmas.List.{length-map}
 use Rattle.std.proofs.lemmas.List.Sums.{sum_by-cons}
 use Rattle.config_edits.specs.Laws.{hosted_in}
-use Rattle.config_model.specs.Configs.{count_of, octets_of}
+use Rattle.config_edits.specs.Configs.{count_of, octets_of}
 use Rattle.config_zones.specs.Laws.{CountsAgree}
-use Rattle.record_set.specs.declared.sets.RecordSet.{RecordSet}
-use Rattle.set_octets.specs.Octets.{set_octets}
-use Rattle.zone_table.specs.Sums.{octets_in, octets_of as octets_placed}
-use Rattle.zone_table.specs.Zones.{Zone, hosted}
-use Rattle.zone_model.specs.Placed.{Placed, sets_of}
-use Rattle.zone_table.specs.Counted.{octets_in_all, sets_in_all}
+use Rattle.config_edits.specs.RecordSetRecord.{RecordSet}
+use Rattle.config_edits.specs.Octets.{set_octets}
+use Rattle.config_edits.specs.Sums.{octets_in, octets_of as octets_placed}
+use Rattle.config_edits.specs.Zones.{Zone, hosted}
+use Rattle.config_edits.specs.Placed.{Placed, sets_of}
+use Rattle.config_edits.specs.Counted.{octets_in_all, sets_in_all}
 
 abbrev size : RecordSet → ℕ
 size set = length (set_octets set)

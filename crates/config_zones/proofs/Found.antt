@@ -4,20 +4,20 @@ use Rattle.std.proofs.Common.{subst, arith, inl, inr, Option, None, Some}
 use Rattle.std.specs.Prelude.{◌⊎◌, ◌≢◌, ◌==◌}
 use Rattle.std.proofs.lemmas.Bool.{eq-eqb, eqb-true, false≢true}
 use Rattle.config_edits.specs.Laws.{hosted_in}
-use Rattle.config_model.proofs.Members.{any_from, any_of}
-use Rattle.config_model.specs.Configs.{zone_with}
-use Rattle.config_model.specs.NewZones.{has_zone}
+use Rattle.config_edits.proofs.MembersOfConfigModel.{any_from, any_of}
+use Rattle.config_edits.specs.Configs.{zone_with}
+use Rattle.config_edits.specs.NewZones.{has_zone}
 use Rattle.config_zones.specs.Laws.{ZonesAreFound}
 use Rattle.dns_name.specs.Order.{same_labels}
 use Rattle.dns_name.specs.OrderLaws.{same_labels-Decides}
-use Rattle.zone_table.proofs.Listing.{its_placed}
-use Rattle.zone_table.proofs.Members.{in_all}
-use Rattle.zone_table.specs.Zones.{AreListed, AreZones, HasName, IsOne, IsZoneId, Zone, hosted}
-use Rattle.zone_table.specs.Zones.{placed_in}
-use Rattle.zone_model.specs.Hosted.{HostedZone}
-use Rattle.zone_model.specs.Placed.{Placed, sets_of}
-use Rattle.zone_model.specs.Zones.{IsAmong}
-use Rattle.zone_table.specs.Looking.{IsApex}
+use Rattle.config_edits.proofs.Listing.{its_placed}
+use Rattle.config_edits.proofs.Members.{in_all}
+use Rattle.config_edits.specs.Zones.{AreListed, AreZones, HasName, IsOne, IsZoneId, Zone, hosted}
+use Rattle.config_edits.specs.Zones.{placed_in}
+use Rattle.config_edits.specs.Hosted.{HostedZone}
+use Rattle.config_edits.specs.Placed.{Placed, sets_of}
+use Rattle.config_edits.specs.ZonesOfZoneModel.{IsAmong}
+use Rattle.config_edits.specs.Looking.{IsApex}
 
 -- ---- by number
 

@@ -5,9 +5,9 @@ use Rattle.std.specs.Prelude.{slice_get, ◌||◌}
 use Rattle.std.specs.List.{list_any}
 use Rattle.std.specs.Option.{IfSome}
 use Rattle.std.proofs.lemmas.List.{length-map}
-use Rattle.record_set.specs.declared.sets.RecordSet.{RecordSet}
-use Rattle.zone_table.proofs.Members.{filled, left_at, nothing_left}
-use Rattle.zone_model.specs.Placed.{Placed, sets_of}
+use Rattle.config_edits.specs.RecordSetRecord.{RecordSet}
+use Rattle.config_edits.proofs.Members.{filled, left_at, nothing_left}
+use Rattle.config_edits.specs.Placed.{Placed, sets_of}
 
 module _ {X : Type 0} (f : X → Bool) (xs : List X) (i : ℕ)
     (before : list_any f (drop i xs) ≡ list_any f xs) where

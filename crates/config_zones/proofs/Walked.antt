@@ -5,15 +5,15 @@ use Rattle.std.specs.Prelude.{◌⊎◌, ◌≢◌, nat_lt}
 use Rattle.std.specs.List.{AllByRecursion}
 use Rattle.std.proofs.lemmas.Bool.{ltb-true, ltb-false, le-ltb, lt-ltb}
 use Rattle.config_edits.specs.Laws.{hosted_in}
-use Rattle.config_model.specs.Configs.{all_sets}
+use Rattle.config_edits.specs.Configs.{all_sets}
 use Rattle.config_zones.specs.Laws.{ZonesFollow}
 use Rattle.config_zones.specs.Walks.{above}
-use Rattle.zone_table.proofs.Listing.{its_placed}
-use Rattle.zone_table.proofs.Members.{in_all}
-use Rattle.zone_table.specs.FoundZones.{IsNextZone, NextZoneOrNone}
-use Rattle.zone_table.specs.Zones.{AreListed, AreZones, IsOne, StandsAlone, Zone}
-use Rattle.zone_table.specs.Zones.{placed_in}
-use Rattle.zone_model.specs.Placed.{Placed, sets_of}
+use Rattle.config_edits.proofs.Listing.{its_placed}
+use Rattle.config_edits.proofs.Members.{in_all}
+use Rattle.config_edits.specs.Found.{IsNextZone, NextZoneOrNone}
+use Rattle.config_edits.specs.Zones.{AreListed, AreZones, IsOne, StandsAlone, Zone}
+use Rattle.config_edits.specs.Zones.{placed_in}
+use Rattle.config_edits.specs.Placed.{Placed, sets_of}
 
 -- a zone of a number that isn't above another isn't among those above it
 not_above : (zone : Zone) (zones : List Zone) (id : ℕ) → zone.id ≤ id

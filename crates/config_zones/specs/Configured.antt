@@ -1,23 +1,23 @@
 -- The configuration that a table of zones and its health checks stand for, and the edit of the zones
 -- by which it comes to be another.
 use Rattle.std.specs.Prelude.{◌≡◌, ℕ, List, Result, Ok, Err, ⊤}
-use Rattle.zone_model.specs.Differences.{IsDifference}
+use Rattle.config_edits.specs.Differences.{IsDifference}
 use Rattle.check_model.specs.Checks.{Checks}
-use Rattle.command_octets.specs.declared.commands.Command.{Command}
-use Rattle.command_octets.specs.declared.commands.Command.TheVariants as command
+use Rattle.config_edits.specs.CommandRecord.{Command}
+use Rattle.config_edits.specs.CommandRecord.TheVariants as command
 use Rattle.config_edits.specs.Laws.{changed_in, hosted_in}
-use Rattle.config_model.specs.Applying.{Applies, Decides}
-use Rattle.config_model.specs.Configs.{Config}
-use Rattle.config_model.specs.declared.refusals.Made.{Made}
-use Rattle.config_model.specs.declared.refusals.Refusal.{Refusal}
-use Rattle.zone_table.specs.Zones.{AreZones, Zone, placed_in}
-use Rattle.zone_model.specs.Placed.{sets_of}
-use Rattle.zone_model.specs.Zones.{IsRising}
-use Rattle.zone_table.specs.Edits.{Edits, IsAllowed, collections_after, zone_of}
-use Rattle.zone_table.specs.Tables.{Table}
-use Rattle.zone_table.specs.declared.edits.ZoneEdit.{ZoneEdit}
-use Rattle.zone_table.specs.declared.edits.ZoneEdit.TheVariants as edit
-use Rattle.zone_table.specs.declared.refs.Delta.{Delta}
+use Rattle.config_edits.specs.Applying.{Applies, Decides}
+use Rattle.config_edits.specs.Configs.{Config}
+use Rattle.config_edits.specs.MadeRecord.{Made}
+use Rattle.config_edits.specs.RefusalRecord.{Refusal}
+use Rattle.config_edits.specs.Zones.{AreZones, Zone, placed_in}
+use Rattle.config_edits.specs.Placed.{sets_of}
+use Rattle.config_edits.specs.ZonesOfZoneModel.{IsRising}
+use Rattle.config_edits.specs.Edits.{Edits, IsAllowed, collections_after, zone_of}
+use Rattle.config_edits.specs.Tables.{Table}
+use Rattle.config_edits.specs.ZoneEditRecord.{ZoneEdit}
+use Rattle.config_edits.specs.ZoneEditRecord.TheVariants as edit
+use Rattle.config_edits.specs.DeltaRecord.{Delta}
 
 -- The zones and the collections are the table's, whose zones have no slots for a configuration.
 abbrev pub config_of : Table → Checks → (next_zone : ℕ) → Config

@@ -2,14 +2,14 @@
 use Rattle.std.specs.Prelude.{◌≡◌, ◌↔◌, ℕ, List, [], ◌∷◌, ◌++◌, length, None, Some, true}
 use Rattle.std.specs.List.{sum_by}
 use Rattle.config_edits.specs.Laws.{hosted_in}
-use Rattle.config_model.specs.Configs.{all_sets, count_of, octets_of, zone_with}
-use Rattle.config_model.specs.NewZones.{has_zone}
+use Rattle.config_edits.specs.Configs.{all_sets, count_of, octets_of, zone_with}
+use Rattle.config_edits.specs.NewZones.{has_zone}
 use Rattle.config_zones.specs.Walks.{above}
-use Rattle.zone_table.specs.FoundZones.{IsNextZone, NextZoneOrNone}
-use Rattle.zone_table.specs.Zones.{AreZones, HasName, IsOne, IsZoneId, Zone, placed_in}
-use Rattle.zone_model.specs.Placed.{sets_of}
-use Rattle.zone_table.specs.Counted.{octets_in_all, sets_in_all}
-use Rattle.zone_table.specs.Looking.{IsApex}
+use Rattle.config_edits.specs.Found.{IsNextZone, NextZoneOrNone}
+use Rattle.config_edits.specs.Zones.{AreZones, HasName, IsOne, IsZoneId, Zone, placed_in}
+use Rattle.config_edits.specs.Placed.{sets_of}
+use Rattle.config_edits.specs.Counted.{octets_in_all, sets_in_all}
+use Rattle.config_edits.specs.Looking.{IsApex}
 
 -- Zones are gone through from one number to the next.
 pub record ZonesFollow : Type 0 where

@@ -1,7 +1,7 @@
 -- Zones one after another, by rising number.
 use Rattle.std.specs.Prelude.{ℕ, List, nat_lt}
 use Rattle.std.specs.List.{filter}
-use Rattle.zone_table.specs.Zones.{Zone}
+use Rattle.config_edits.specs.Zones.{Zone}
 
 -- the zones of numbers above one
 abbrev pub above : List Zone → (id : ℕ) → List Zone

@@ -2,11 +2,10 @@
 
 ghost use Rattle.std.specs.Prelude.{◌≡◌, ◌≤◌, length};
 ghost use Rattle.std.specs.List.{AllByRecursion, sum_by};
-ghost use Rattle.config_model.specs.Batches.{is_over};
-ghost use Rattle.set_octets.specs.Octets.{HasSpelling, set_octets};
+ghost use Rattle.config_edits.specs.Batches.{is_over};
+ghost use Rattle.config_edits.specs.Octets.{HasSpelling, set_octets};
 
-use record_set::RecordSet;
-use set_octets::set_len;
+use config_edits::{RecordSet, set_len};
 
 /// The most sets of all zones.
 const MAX_SETS: u64 = 100_000;

@@ -9,7 +9,11 @@ mod counting;
 mod laws;
 mod looking;
 
-pub use config_edits::{edits_are_told, new_sets};
+pub use config_edits::{
+    Command, Delta, InputReason, Made, Ready, Refusal, Scratch, SetRefs, Sets, ZoneEdit, Zones,
+    commands_keep_sound, edits_are_told, empty_is_sound, new_sets, of_batch, of_check, of_fault,
+    one_apex, refusals_are_told, write,
+};
 pub use counting::{is_over, octets_in};
 pub use laws::{counts_agree, zones_are_found, zones_follow};
 pub use looking::{check_at, hold_at};

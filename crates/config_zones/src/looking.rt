@@ -1,13 +1,13 @@
 //! The sets of a zone by their places, one at a time.
 
 ghost use Rattle.std.specs.Prelude.{◌≡◌, ◌<◌, length, slice_get, Some};
-ghost use Rattle.record_set.specs.declared.sets.RecordSet.{RecordSet};
-ghost use Rattle.set_octets.specs.Octets.{HasSpelling};
-ghost use Rattle.set_scratch.specs.Holding.{IsHolding};
-ghost use Rattle.zone_table.specs.Zones.{placed_in};
-ghost use Rattle.zone_model.specs.Placed.{sets_of};
+ghost use Rattle.config_edits.specs.RecordSetRecord.{RecordSet};
+ghost use Rattle.config_edits.specs.Octets.{HasSpelling};
+ghost use Rattle.config_edits.specs.Holding.{IsHolding};
+ghost use Rattle.config_edits.specs.Zones.{placed_in};
+ghost use Rattle.config_edits.specs.Placed.{sets_of};
 
-use zone_table::{Scratch, Zones};
+use config_edits::{Scratch, Zones};
 
 /// Holds the set at a place of a zone.
 pub fn hold_at(zones: &Zones, zone: u32, i: usize, scratch: &mut Scratch)

@@ -11,3 +11,4 @@ pub use Rattle.dns_name.specs.Labels
 pub use Rattle.dns_name.specs.Wire
 pub use Rattle.ecs_option.specs.Grammar
 pub use Rattle.ecs_option.specs.Writing
+pub use Rattle.ecs_option.specs.declared.subnet.ClientSubnet as ClientSubnetRecord

@@ -13,6 +13,7 @@ mod read;
 mod records;
 mod verdict;
 
+pub use ecs_option::ClientSubnet;
 pub use laws::{one_judgement, one_list_of_options, one_record, one_split};
 pub use query::{Edns, Query, QueryRead};
 pub use read::read_query;

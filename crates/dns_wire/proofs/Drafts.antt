@@ -9,7 +9,7 @@ use Rattle.dns_wire.specs.declared.reply.Section.{Section}
 use Rattle.dns_wire.specs.declared.reply.Section.TheVariants.{Answer, Authority, Additional}
 use Rattle.std.specs.Prelude.{Option, None, Some}
 use Rattle.std.specs.List.{flat_map}
-use Rattle.ecs_option.specs.declared.subnet.ClientSubnet.{ClientSubnet}
+use Rattle.dns_message.specs.ClientSubnetRecord.{ClientSubnet}
 use Rattle.dns_message.specs.declared.query.Edns.{Edns}
 use Rattle.dns_wire.specs.Draft.{Draft, Follows, HoldsAll, IsEmptied, StandsFor, opt_of, options_of, size_of, with_record}
 use Rattle.dns_wire.specs.Steps.{closed, counted, emptied, ended, header_of, limited, recorded}

@@ -1,9 +1,9 @@
 -- Fields one after another.
 use Rattle.std.proofs.Common.{◌≡◌, ℕ, ◌+◌, ◌-◌, ◌≤◌, List, [], ◌∷◌, ◌++◌, length, take, drop, get_or, ap, ◌∙◌, sym, refl, subst, append_assoc, append-nil, arith, length-append, length-drop, drop-drop, drop-cons, add-one, ◌<◌}
 use Rattle.std.proofs.lemmas.List.{take-append-drop, length-take-le, drop_at, take_at}
-use Rattle.dns_name.specs.Labels.{wire}
-use Rattle.dns_name.specs.Stored.{labels_of}
-use Rattle.dns_name.proofs.Labels.{labels_of-wire}
+use Rattle.rdata_layout.specs.Labels.{wire}
+use Rattle.rdata_layout.specs.Stored.{labels_of}
+use Rattle.rdata_layout.proofs.Labels.{labels_of-wire}
 use Rattle.rdata_layout.specs.declared.fields.Field.{Field}
 use Rattle.rdata_layout.specs.declared.fields.Field.TheVariants as field
 use Rattle.rdata_layout.specs.declared.fields.Tail.{Tail}
@@ -11,7 +11,7 @@ use Rattle.rdata_layout.specs.declared.fields.Tail.TheVariants as tail
 use Rattle.rdata_layout.specs.Fields.{IsField}
 use Rattle.rdata_layout.specs.Layout.{AreFields}
 use Rattle.std.proofs.Math.Seq.{take-length, drop-length}
-use Rattle.dns_name.specs.Whole.{IsWire}
+use Rattle.rdata_layout.specs.Whole.{IsWire}
 use Rattle.dns_wire.specs.Data.{field_octets, fields_octets}
 use Rattle.dns_wire.specs.Pointers.{name_octets}
 use Rattle.dns_wire.proofs.Names.{name_field}

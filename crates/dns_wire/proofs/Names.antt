@@ -2,13 +2,13 @@
 use Rattle.std.proofs.Common.{◌≡◌, ℕ, ◌+◌, ◌<◌, ◌≤◌, List, [], ◌∷◌, ◌++◌, length, take, drop, get_or, arith, ap, ◌∙◌, sym, refl, subst, append_assoc, add-one, drop-cons, Bool, true, false, Some, None}
 use Rattle.std.proofs.lemmas.List.{take-append-drop}
 use Rattle.std.proofs.Math.Seq.{take-add}
-use Rattle.dns_name.specs.Labels.{frame, wire}
-use Rattle.dns_name.specs.Names.{IsName}
-use Rattle.dns_name.specs.Order.{same_labels}
-use Rattle.dns_name.specs.OrderLaws.{same_labels-Decides}
-use Rattle.dns_name.specs.Stored.{labels_of}
-use Rattle.dns_name.specs.Whole.{IsWire}
-use Rattle.dns_name.proofs.Steps.{step, ended, is_wire}
+use Rattle.rdata_layout.specs.Labels.{frame, wire}
+use Rattle.rdata_layout.specs.Names.{IsName}
+use Rattle.rdata_layout.specs.Order.{same_labels}
+use Rattle.rdata_layout.specs.OrderLaws.{same_labels-Decides}
+use Rattle.rdata_layout.specs.Stored.{labels_of}
+use Rattle.rdata_layout.specs.Whole.{IsWire}
+use Rattle.rdata_layout.proofs.Steps.{step, ended, is_wire}
 use Rattle.rdata_layout.specs.declared.fields.Field.{Field}
 use Rattle.rdata_layout.specs.declared.fields.Field.TheVariants as field
 use Rattle.rdata_layout.specs.Fields.{IsField}

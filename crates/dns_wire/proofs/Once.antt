@@ -4,7 +4,7 @@ use Rattle.std.specs.Prelude.{◌⊎◌, ◌==◌, Option, None, Some, if◌then
 use Rattle.std.specs.Char.{to_ascii_lowercase}
 use Rattle.std.proofs.lemmas.List.{take_at, drop_at}
 use Rattle.octets.specs.Numbers.{number_at}
-use Rattle.dns_name.specs.Labels.{frame, wire as name_wire, IsRawLabel}
+use Rattle.rdata_layout.specs.Labels.{frame, wire as name_wire, IsRawLabel}
 use Rattle.rdata_layout.specs.declared.types.RType.{RType}
 use Rattle.rdata_layout.specs.declared.types.RType.TheVariants.{A, Ns, Cname, Soa, Ptr, Mx, Txt, Aaaa, Srv, Spf, Caa}
 use Rattle.rdata_layout.specs.declared.fields.Field.{Field}

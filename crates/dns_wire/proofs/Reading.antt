@@ -7,11 +7,11 @@ use Rattle.std.proofs.Math.ListN.{get_or-append}
 use Rattle.std.specs.Prelude.{◌==◌}
 use Rattle.std.proofs.lemmas.Grind.{flat_map-append}
 use Rattle.octets.specs.Numbers.{number_at}
-use Rattle.dns_name.specs.Labels.{frame, wire as name_wire, lowered, IsRawLabel}
-use Rattle.dns_name.specs.Order.{same_labels}
-use Rattle.dns_name.specs.OrderLaws.{same_labels-Decides}
-use Rattle.dns_name.specs.Stored.{labels_of, IsLowerLabel}
-use Rattle.dns_name.proofs.Labels.{labels_of-wire}
+use Rattle.rdata_layout.specs.Labels.{frame, wire as name_wire, lowered, IsRawLabel}
+use Rattle.rdata_layout.specs.Order.{same_labels}
+use Rattle.rdata_layout.specs.OrderLaws.{same_labels-Decides}
+use Rattle.rdata_layout.specs.Stored.{labels_of, IsLowerLabel}
+use Rattle.rdata_layout.proofs.Labels.{labels_of-wire}
 use Rattle.rdata_layout.specs.declared.types.RType.{RType}
 use Rattle.rdata_layout.specs.declared.types.RType.TheVariants.{A, Ns, Cname, Soa, Ptr, Mx, Txt, Aaaa, Srv, Spf, Caa}
 use Rattle.rdata_layout.specs.declared.fields.Field.{Field}

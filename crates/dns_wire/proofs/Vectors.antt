@@ -3,7 +3,7 @@ use Rattle.std.proofs.Common.{◌≡◌, ℕ, List, [], ◌∷◌, ◌++◌, ref
 use Rattle.std.specs.Prelude.{codes, Option, None, Some}
 use Rattle.dns_message.specs.declared.query.Edns.{Edns}
 use Rattle.octets.specs.Numbers.{four_octets}
-use Rattle.dns_name.specs.Labels.{wire as name_wire}
+use Rattle.rdata_layout.specs.Labels.{wire as name_wire}
 use Rattle.rdata_layout.specs.declared.types.RType.TheVariants.{A, Ns, Cname, Soa, Ptr, Mx, Srv}
 use Rattle.dns_wire.specs.Header.{short_reply}
 use Rattle.dns_wire.specs.Draft.{opt_of}

@@ -1,6 +1,6 @@
 -- The data of a record as a reply writes it (RFC 1035, 3.3).
 use Rattle.std.specs.Prelude.{◌≡◌, ℕ, List, [], ◌∷◌, ◌++◌, take, drop, Bool, true, false, if◌then◌else◌}
-use Rattle.dns_name.specs.Stored.{labels_of}
+use Rattle.rdata_layout.specs.Stored.{labels_of}
 use Rattle.rdata_layout.specs.declared.types.RType.{RType}
 use Rattle.rdata_layout.specs.declared.types.RType.TheVariants.{A, Ns, Cname, Soa, Ptr, Mx, Txt, Aaaa, Srv, Spf, Caa}
 use Rattle.rdata_layout.specs.declared.fields.Field.{Field}

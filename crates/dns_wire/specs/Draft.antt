@@ -1,7 +1,7 @@
 -- A reply in the making.
 use Rattle.std.specs.Prelude.{◌≡◌, ℕ, ◌+◌, ◌<◌, ◌≤◌, ◌⊎◌, List, [], ◌∷◌, ◌++◌, length, take, replicate, Bool, true, false, Option, None, Some, ⊤}
-use Rattle.ecs_option.specs.Writing.{data_of}
-use Rattle.ecs_option.specs.declared.subnet.ClientSubnet.{ClientSubnet}
+use Rattle.dns_message.specs.Writing.{data_of}
+use Rattle.dns_message.specs.ClientSubnetRecord.{ClientSubnet}
 use Rattle.dns_message.specs.Edns.{EdnsOption}
 use Rattle.dns_message.specs.declared.query.Edns.{Edns}
 use Rattle.dns_message.specs.declared.query.Query.{Query}

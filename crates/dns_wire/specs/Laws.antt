@@ -1,7 +1,7 @@
 -- Laws over the definitions of this crate.
 use Rattle.std.specs.Prelude.{◌≡◌, ℕ, ◌<◌, ◌≤◌, List, [], ◌∷◌, ◌++◌, length, Bool, true, false}
 use Rattle.std.specs.List.{AllByRecursion}
-use Rattle.dns_name.specs.Names.{IsName}
+use Rattle.rdata_layout.specs.Names.{IsName}
 use Rattle.rdata_layout.specs.Layout.{IsLayout}
 use Rattle.dns_message.specs.Question.{IsQuestion}
 use Rattle.dns_wire.specs.declared.reply.Section.{Section}

@@ -1,8 +1,8 @@
 -- Names as a reply writes them (RFC 1035, 4.1.4).
 use Rattle.std.specs.Prelude.{ℕ, ◌+◌, List, [], ◌∷◌, ◌++◌, length, Option, None, Some, if◌then◌else◌}
 use Rattle.octets.specs.Numbers.{two_octets}
-use Rattle.dns_name.specs.Labels.{frame}
-use Rattle.dns_name.specs.Order.{same_labels}
+use Rattle.rdata_layout.specs.Labels.{frame}
+use Rattle.rdata_layout.specs.Order.{same_labels}
 
 -- The place in the message at which these labels end the name in the question, of which what is left begins at `place`.
 abbrev pub place_in : (place : ℕ) → (name labels : List (List ℕ)) → Option ℕ

@@ -2,7 +2,7 @@
 use Rattle.std.specs.Prelude.{◌≡◌, ℕ, ◌+◌, ◌*◌, ◌/◌, ◌%◌, ◌<◌, ◌==◌, List, [], ◌∷◌, ◌++◌, length, map, drop, slice_index, Bool, Option, None, Some}
 use Rattle.std.specs.Char.{to_ascii_lowercase}
 use Rattle.octets.specs.Numbers.{number_at}
-use Rattle.dns_name.specs.Labels.{frame, wire, IsRawLabel}
+use Rattle.rdata_layout.specs.Labels.{frame, wire, IsRawLabel}
 use Rattle.dns_message.specs.Edns.{AreOptions, dnssec_ok_of, version_of}
 use Rattle.dns_message.specs.Records.{AnyRecord, BeginsWithRecord}
 use Rattle.dns_message.specs.Header.{id_of, qr_of, opcode_of, rd_of, qdcount_of, ancount_of, nscount_of, arcount_of}

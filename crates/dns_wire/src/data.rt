@@ -1,8 +1,8 @@
 //! The data of records, with names as names are written.
 
 ghost use Rattle.std.specs.Prelude.{◌≡◌, ◌+◌, ◌≤◌, ◌++◌, ◌∷◌, [], length, take, drop};
-ghost use Rattle.dns_name.specs.Stored.{labels_of};
-ghost use Rattle.dns_name.specs.Whole.{IsWire};
+ghost use Rattle.rdata_layout.specs.Stored.{labels_of};
+ghost use Rattle.rdata_layout.specs.Whole.{IsWire};
 ghost use Rattle.rdata_layout.specs.Fields.{IsField};
 ghost use Rattle.rdata_layout.specs.Layout.{AreFields, IsLayout, tail_of};
 ghost use Rattle.rdata_layout.specs.declared.fields.Field.TheVariants as field;
@@ -12,9 +12,8 @@ ghost use Rattle.dns_wire.specs.Data.{BeginsWith, data_octets, field_octets, fie
 ghost use Rattle.rdata_layout.specs.Fields.{field_size};
 
 use crate::pointers::{add_octets, append};
-use dns_name::Name;
 use octets::{behind, front};
-use rdata_layout::{Field, RType, field_len, fields_of};
+use rdata_layout::{Field, Name, RType, field_len, fields_of};
 
 /// Writes the data of a value, where `asked` is the name in the question, and says where they end.
 pub(crate) fn add_data(

@@ -14,6 +14,7 @@ mod pointers;
 mod record;
 mod reply;
 
+pub use dns_message::one_judgement;
 pub use laws::{one_reading, records_add_up, replies_read};
 pub use limit::limit_of;
 pub use octets::OutOfMemory;

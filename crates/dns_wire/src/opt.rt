@@ -7,8 +7,7 @@ ghost use Rattle.dns_wire.specs.Draft.{opt_of, options_of};
 ghost use Rattle.dns_wire.specs.Header.{FitsRcode};
 ghost use Rattle.dns_wire.specs.Message.{fixed_opt_octets, opt_octets, option_octets};
 
-use dns_message::Edns;
-use ecs_option::ClientSubnet;
+use dns_message::{ClientSubnet, Edns};
 use octets::{front, put_at};
 
 /// The octets of the record before its options.

@@ -1,13 +1,13 @@
 //! Names with the longest suffix that the question's name has too as a pointer (RFC 1035, 4.1.4).
 
 ghost use Rattle.std.specs.Prelude.{◌≡◌, ◌≢◌, ℕ, ◌+◌, ◌<◌, ◌≤◌, List, [], ◌∷◌, ◌++◌, length, take, drop, Option, Some, IfSome, IsTrue, ◌↔◌};
-ghost use Rattle.dns_name.specs.Names.{IsName};
-ghost use Rattle.dns_name.specs.Stored.{labels_of};
-ghost use Rattle.dns_name.specs.Whole.{IsWire};
+ghost use Rattle.rdata_layout.specs.Names.{IsName};
+ghost use Rattle.rdata_layout.specs.Stored.{labels_of};
+ghost use Rattle.rdata_layout.specs.Whole.{IsWire};
 ghost use Rattle.dns_wire.specs.Pointers.{name_octets, place_in, pointer_to};
 
-use dns_name::Name;
 use octets::{behind, front, put_at, two_octets};
+use rdata_layout::Name;
 
 /// Where the name in the question begins, behind the header.
 const QUESTION_NAME: u16 = 12;

@@ -7,9 +7,8 @@ ghost use Rattle.dns_wire.specs.Message.{fixed_octets, record_octets};
 
 use crate::data::add_data;
 use crate::pointers::add_name;
-use dns_name::Name;
 use octets::put_at;
-use rdata_layout::RType;
+use rdata_layout::{Name, RType};
 
 /// The octets of a record between its owner and its data.
 const FIXED_LEN: usize = 10;

@@ -14,9 +14,8 @@ use crate::opt::{MOST_OF_OPT, write_opt};
 use crate::pointers::append;
 use crate::record::add_record;
 use dns_message::{Edns, Query};
-use dns_name::Name;
 use octets::{OutOfMemory, fill_front, front, put_at, zeros};
-use rdata_layout::RType;
+use rdata_layout::{Name, RType};
 use std::alloc::Global;
 use std::marker::Model;
 

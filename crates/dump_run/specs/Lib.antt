@@ -1,1 +1,2 @@
 pub mod Dumping
+pub use Rattle.store_model.specs.Opening

@@ -8,5 +8,6 @@ mod answers;
 mod writing;
 
 pub use answers::Dumped;
+pub use store_model::init_opens;
 pub use writing::dump_store;
 pub use zone_journal::Side;

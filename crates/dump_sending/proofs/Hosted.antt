@@ -1,6 +1,6 @@
 -- The lines of zones, passed on from one number to the next.
 use Rattle.std.proofs.Common.{◌≡◌, ℕ, List, ◌++◌, Option, None, Some, ap, subst, sym, ◌∙◌}
-use Rattle.config_edits.specs.Laws.{hosted_in}
+use Rattle.config_zones.specs.Edited.{hosted_in}
 use Rattle.config_zones.specs.Laws.{ZonesFollow}
 use Rattle.config_zones.specs.Walks.{above}
 use Rattle.dump_sending.specs.Dumps.{hosted_text, zones_text}
@@ -9,12 +9,12 @@ use Rattle.set_octets.specs.Octets.{AreOfType, HasSpelling}
 use Rattle.set_sending.proofs.Passed.{first_next}
 use Rattle.set_sending.specs.Passing.{IsPassed}
 use Rattle.std.proofs.lemmas.Option.{same_Some}
-use Rattle.zone_table.proofs.Listing.{its_placed, one_zone}
-use Rattle.zone_table.specs.FoundZones.{IsNextZone, NextZoneOrNone}
-use Rattle.zone_table.specs.Zones.{AreListed, AreZones, IsOne, Zone, hosted, placed_in}
+use Rattle.config_zones.proofs.Listing.{its_placed, one_zone}
+use Rattle.config_zones.specs.Found.{IsNextZone, NextZoneOrNone}
+use Rattle.config_zones.specs.Zones.{AreListed, AreZones, IsOne, Zone, hosted, placed_in}
 use Rattle.zone_model.specs.Hosted.{HostedZone}
 use Rattle.zone_model.specs.Placed.{Placed, sets_of}
-use Rattle.zone_table.specs.Looking.{IsApex}
+use Rattle.config_zones.specs.Looking.{IsApex}
 
 -- the zone of a number and a name, with the sets of the number
 abbrev pub seen : List Zone → (id : ℕ) (apex : List (List ℕ)) → HostedZone

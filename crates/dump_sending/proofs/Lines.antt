@@ -5,7 +5,7 @@ use Rattle.std.specs.Prelude.{slice_get}
 use Rattle.std.proofs.lemmas.Option.{slice_get_read}
 use Rattle.set_sending.proofs.Passed.{first_next}
 use Rattle.set_sending.specs.Passing.{IsPassed}
-use Rattle.zone_table.proofs.Members.{left_at, nothing_left}
+use Rattle.config_zones.proofs.MembersOfZoneList.{left_at, nothing_left}
 
 -- what stands at a place, by a read of it
 pub item_at : {X : Type 0} (xs : List X) (i : ℕ) (x : X) → i < length xs → x ≡ get_or xs i x

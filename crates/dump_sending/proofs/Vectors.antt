@@ -4,14 +4,14 @@ use Rattle.std.specs.Prelude.{codes}
 use Rattle.std.specs.Fmt.{digits}
 use Rattle.address_text.specs.declared.address.IpAddress.TheVariants.{V4}
 use Rattle.check_model.specs.declared.checks.Check.TheVariants.{Calculated, Endpoint}
-use Rattle.config_model.specs.Configs.{Config}
+use Rattle.config_zones.specs.Configs.{Config}
 use Rattle.dump_sending.specs.Dumps.{dump_text}
 use Rattle.json.specs.Print.{escape_byte}
 use Rattle.rdata_layout.specs.declared.types.RType.TheVariants.{A}
 use Rattle.record_set.specs.declared.sets.Body.TheVariants.{Values}
 use Rattle.record_set.specs.declared.sets.RecordSet.{RecordSet}
-use Rattle.reply_model.specs.Dump.{check_line, collection_line, set_line, zone_line}
-use Rattle.reply_model.specs.Json.{line_of}
+use Rattle.dump_writing.specs.DumpOfReplyModel.{check_line, collection_line, set_line, zone_line}
+use Rattle.dump_writing.specs.Json.{line_of}
 use Rattle.routing.specs.declared.policies.Routing.TheVariants.{Simple}
 
 abbrev example : List (List ℕ)

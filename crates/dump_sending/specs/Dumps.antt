@@ -5,9 +5,9 @@ use Rattle.std.specs.Prelude.{ℕ, List, ◌++◌}
 use Rattle.std.specs.List.{flat_map}
 use Rattle.check_model.specs.declared.checks.Check.{Check}
 use Rattle.cidr_blocks.specs.declared.places.Collection.{Collection}
-use Rattle.config_model.specs.Configs.{Config}
+use Rattle.config_zones.specs.Configs.{Config}
 use Rattle.record_set.specs.declared.sets.RecordSet.{RecordSet}
-use Rattle.reply_model.specs.Dump.{check_line, collection_line, set_line, zone_line}
+use Rattle.dump_writing.specs.DumpOfReplyModel.{check_line, collection_line, set_line, zone_line}
 use Rattle.zone_model.specs.Hosted.{HostedZone}
 
 -- the line of a health check of a number

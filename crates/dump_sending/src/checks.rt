@@ -5,7 +5,7 @@ ghost use Rattle.std.specs.List.{AllByRecursion};
 ghost use Rattle.check_model.specs.Checks.{IsBounded};
 ghost use Rattle.check_model.specs.declared.checks.Check.{Check};
 ghost use Rattle.octets.specs.Counts.{Rose};
-ghost use Rattle.reply_model.specs.Dump.{check_line};
+ghost use Rattle.dump_writing.specs.DumpOfReplyModel.{check_line};
 ghost use Rattle.dump_sending.specs.Dumps.{checks_text};
 ghost use Rattle.set_sending.specs.Passing.{Passes};
 

@@ -5,7 +5,7 @@ ghost use Rattle.std.specs.List.{AllByRecursion};
 ghost use Rattle.cidr_blocks.specs.Places.{IsCollection};
 ghost use Rattle.cidr_blocks.specs.declared.places.Collection.{Collection};
 ghost use Rattle.octets.specs.Counts.{Rose};
-ghost use Rattle.reply_model.specs.Dump.{collection_line};
+ghost use Rattle.dump_writing.specs.DumpOfReplyModel.{collection_line};
 ghost use Rattle.dump_sending.specs.Dumps.{collections_text};
 ghost use Rattle.set_sending.specs.Passing.{Passes};
 

@@ -1,7 +1,7 @@
 //! All lines of a dump, one kind behind another.
 
 ghost use Rattle.std.specs.Prelude.{◌≡◌, ◌≤◌, ◌++◌, ℕ, List, Some, vec_capacity};
-ghost use Rattle.config_edits.specs.Laws.{hosted_in};
+ghost use Rattle.config_zones.specs.Edited.{hosted_in};
 ghost use Rattle.config_zones.specs.Configured.{config_of};
 ghost use Rattle.octets.specs.Counts.{Rose};
 ghost use Rattle.whole_writing.specs.Output.{OutputOf};
@@ -12,10 +12,10 @@ use crate::buffer::ROOM;
 use crate::checks::send_checks;
 use crate::collections::send_collections;
 use crate::zones::send_zones;
+use config_zones::Zones;
 use health_check::CheckTable;
 use r53_io::Sink;
 use set_sending::{Output, Scratch, ValueText, send_last};
-use zone_table::Zones;
 
 /// Writes all lines of a dump of a configuration: those of its health checks, of its collections,
 /// and of its zones with their sets. It takes no memory.

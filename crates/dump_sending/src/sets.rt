@@ -2,22 +2,23 @@
 
 ghost use Rattle.std.specs.Prelude.{◌≡◌, ◌≤◌, ◌<◌, ◌++◌, Some, false, length, slice_get};
 ghost use Rattle.std.specs.Prelude.{vec_capacity};
-ghost use Rattle.list_writing.specs.Pieces.{set_line_front, set_line_rest, set_pieces};
+ghost use Rattle.set_sending.specs.PiecesOfListWriting.{set_line_front, set_line_rest, set_pieces};
 ghost use Rattle.octets.specs.Counts.{Rose};
 ghost use Rattle.record_set.specs.declared.sets.RecordSet.{RecordSet};
-ghost use Rattle.reply_model.specs.Dump.{set_line};
+ghost use Rattle.dump_writing.specs.DumpOfReplyModel.{set_line};
 ghost use Rattle.set_scratch.specs.Holding.{IsHolding};
-ghost use Rattle.zone_table.specs.Zones.{placed_in};
+ghost use Rattle.config_zones.specs.Zones.{placed_in};
 ghost use Rattle.zone_model.specs.Placed.{sets_of};
 ghost use Rattle.dump_sending.specs.Dumps.{sets_text};
 ghost use Rattle.set_sending.specs.Passing.{Passes};
 
 use crate::buffer::ROOM;
-use config_zones::hold_at;
-use list_writing::{begin_set_line, end_set_line, set_lines_are_whole};
+use config_zones::{Zones, hold_at};
 use r53_io::Sink;
-use set_sending::{Output, Scratch, ValueText, make_room, send_set};
-use zone_table::Zones;
+use set_sending::{
+    Output, Scratch, ValueText, begin_set_line, end_set_line, make_room, send_set,
+    set_lines_are_whole,
+};
 
 /// Passes on the lines of the sets of a zone, in zone order.
 pub(crate) fn send_sets<K: Sink>(

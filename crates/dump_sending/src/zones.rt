@@ -1,23 +1,22 @@
 //! The lines of zones, each with those of its sets behind it.
 
 ghost use Rattle.std.specs.Prelude.{◌≡◌, ◌≤◌, ℕ, List, vec_capacity};
-ghost use Rattle.config_edits.specs.Laws.{hosted_in};
+ghost use Rattle.config_zones.specs.Edited.{hosted_in};
 ghost use Rattle.octets.specs.Counts.{Rose};
-ghost use Rattle.reply_model.specs.Dump.{zone_line};
-ghost use Rattle.zone_table.specs.Zones.{IsZoneId, placed_in};
+ghost use Rattle.dump_writing.specs.DumpOfReplyModel.{zone_line};
+ghost use Rattle.config_zones.specs.Zones.{IsZoneId, placed_in};
 ghost use Rattle.zone_model.specs.Placed.{sets_of};
-ghost use Rattle.zone_table.specs.Looking.{IsApex};
+ghost use Rattle.config_zones.specs.Looking.{IsApex};
 ghost use Rattle.dump_sending.specs.Dumps.{hosted_text, zones_text};
 ghost use Rattle.set_sending.specs.Passing.{Passes};
 
 use crate::buffer::ROOM;
 use crate::sets::send_sets;
-use config_zones::zones_follow;
+use config_zones::{Zones, zones_follow};
 use dns_name::Name;
 use dump_writing::write_zone_line;
 use r53_io::Sink;
 use set_sending::{Output, Scratch, ValueText, make_room};
-use zone_table::Zones;
 
 /// Passes on the lines of all zones, by rising number.
 pub(crate) fn send_zones<K: Sink>(

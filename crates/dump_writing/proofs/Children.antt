@@ -4,7 +4,7 @@ use Rattle.std.proofs.Common.{append_assoc, add-one, drop-cons, refl}
 use Rattle.std.specs.Prelude.{map, nat_lt}
 use Rattle.std.proofs.lemmas.Bool.{lt-ltb}
 use Rattle.std.proofs.Common.{arith}
-use Rattle.reply_model.specs.Json.{check_text, items_of}
+use Rattle.reply_words.specs.Json.{check_text, items_of}
 use Rattle.serde_json.specs.Written.{comma_if, compact_text, items_text}
 
 -- what is written and what is left, as one more child is written

@@ -9,8 +9,8 @@ use Rattle.cidr_blocks.specs.Places.{IsCidrLocation, IsCollection, rows_at, rows
 use Rattle.cidr_blocks.specs.declared.places.CidrLocation.{CidrLocation}
 use Rattle.cidr_blocks.specs.declared.places.Collection.{Collection}
 use Rattle.ip_table.specs.Prefixes.{Prefix}
-use Rattle.reply_model.specs.Dump.{block_text, location_object}
-use Rattle.reply_model.specs.Json.{items_of}
+use Rattle.reply_words.specs.Dump.{block_text, location_object}
+use Rattle.reply_words.specs.Json.{items_of}
 use Rattle.dump_writing.specs.Rooms.{room_of}
 use Rattle.serde_json.specs.Data.{Data}
 use Rattle.serde_json.specs.Written.{comma_if, compact_text, items_text}

@@ -4,9 +4,9 @@ ghost use Rattle.std.specs.Prelude.{◌≡◌, ◌+◌, ◌*◌, ◌≤◌, ◌+
 ghost use Rattle.std.specs.Fmt.{decimal};
 ghost use Rattle.std.specs.Prelude.{vec_capacity, vec_len};
 ghost use Rattle.cidr_blocks.specs.Places.{IsCollection};
-ghost use Rattle.reply_model.specs.Dump.{address_text, alone, block_text, collection_line};
-ghost use Rattle.reply_model.specs.Dump.{collection_object, location_object};
-ghost use Rattle.reply_model.specs.Json.{list_of};
+ghost use Rattle.reply_words.specs.Dump.{address_text, alone, block_text, collection_line};
+ghost use Rattle.reply_words.specs.Dump.{collection_object, location_object};
+ghost use Rattle.reply_words.specs.Json.{list_of};
 ghost use Rattle.dump_writing.specs.Rooms.{room_of};
 ghost use Rattle.serde_json.specs.Written.{comma_if, compact_text};
 

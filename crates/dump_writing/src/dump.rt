@@ -3,8 +3,8 @@
 ghost use Rattle.std.specs.Prelude.{◌≡◌, ◌+◌, ◌≤◌, ◌++◌, codes, length, map, vec_capacity, vec_len};
 ghost use Rattle.check_model.specs.Checks.{IsBounded};
 ghost use Rattle.check_model.specs.declared.checks.Check.TheVariants as check;
-ghost use Rattle.reply_model.specs.Dump.{alone, check_line, check_object, zone_line, zone_object};
-ghost use Rattle.reply_model.specs.Json.{check_text, list_of};
+ghost use Rattle.reply_words.specs.Dump.{alone, check_line, check_object, zone_line, zone_object};
+ghost use Rattle.reply_words.specs.Json.{check_text, list_of};
 ghost use Rattle.serde_json.specs.Written.{comma_if, compact_text};
 
 use check_model::Check;

@@ -1,10 +1,10 @@
 -- Written texts, and what they spell.
 use Rattle.std.proofs.Common.{◌≡◌, ℕ, zero, suc, ◌+◌, ◌*◌, ◌/◌, ◌%◌, ◌<◌, List, [], ◌∷◌, length, get_or, drop, arith, ap, sym, ◌∙◌, subst, refl}
 use Rattle.std.proofs.NetLemmas.Texts.{IsDotted-ipv4_text}
-use Rattle.dns_name.specs.Names.{AreOctets}
-use Rattle.dns_name.specs.Text.{name_of_text}
-use Rattle.dns_name.specs.Written.{text_of}
-use Rattle.dns_name.proofs.Written.{reads_back}
+use Rattle.rdata_layout.specs.Names.{AreOctets}
+use Rattle.rdata_layout.specs.Text.{name_of_text}
+use Rattle.rdata_layout.specs.Written.{text_of}
+use Rattle.rdata_layout.proofs.Written.{reads_back}
 use Rattle.rdata_layout.specs.Fields.{IsField, IsTag}
 use Rattle.rdata_layout.specs.declared.fields.Field.{Field}
 use Rattle.rdata_layout.specs.declared.fields.Field.TheVariants as field

@@ -6,9 +6,9 @@ use Rattle.std.proofs.lemmas.Option.{none-some, same_Some, cond_some}
 use Rattle.std.specs.List.{list_all, AllByRecursion}
 use Rattle.octets.specs.Numbers.{two_octets, four_octets}
 use Rattle.address_text.specs.Laws.{Ipv4OfText, Ipv6OfText}
-use Rattle.dns_name.specs.Labels.{wire}
-use Rattle.dns_name.specs.Text.{name_of_text}
-use Rattle.dns_name.specs.declared.fault.NameFault.{NameFault}
+use Rattle.rdata_layout.specs.Labels.{wire}
+use Rattle.rdata_layout.specs.Text.{name_of_text}
+use Rattle.rdata_layout.specs.NameFaultRecord.{NameFault}
 use Rattle.rdata_layout.specs.Fields.{IsTag, is_letter_or_digit}
 use Rattle.rdata_layout.specs.declared.fields.Field.{Field}
 use Rattle.rdata_layout.specs.declared.fields.Field.TheVariants as field

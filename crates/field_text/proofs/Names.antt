@@ -2,12 +2,12 @@
 use Rattle.std.proofs.Common.{◌≡◌, ℕ, ◌+◌, ◌*◌, ◌/◌, ◌%◌, ◌≤◌, List, [], ◌∷◌, length, length-append, append-nil, arith, ap, sym, ◌∙◌, refl}
 use Rattle.std.specs.List.{flat_map, AllByRecursion}
 use Rattle.std.proofs.lemmas.Bool.{cond_both}
-use Rattle.dns_name.specs.Labels.{frame, wire, lowered}
-use Rattle.dns_name.specs.Stored.{labels_of, IsLowerLabel}
-use Rattle.dns_name.specs.Text.{backslash}
-use Rattle.dns_name.specs.Wire.{BeginsWithName}
-use Rattle.dns_name.specs.Written.{is_plain, text_of, text_of_label, text_of_octet}
-use Rattle.dns_name.proofs.Steps.{labels_back}
+use Rattle.rdata_layout.specs.Labels.{frame, wire, lowered}
+use Rattle.rdata_layout.specs.Stored.{labels_of, IsLowerLabel}
+use Rattle.rdata_layout.specs.Text.{backslash}
+use Rattle.rdata_layout.specs.Wire.{BeginsWithName}
+use Rattle.rdata_layout.specs.Written.{is_plain, text_of, text_of_label, text_of_octet}
+use Rattle.rdata_layout.proofs.Steps.{labels_back}
 use Rattle.rdata_layout.specs.Fields.{IsField}
 use Rattle.rdata_layout.specs.declared.fields.Field.TheVariants as field
 

@@ -11,10 +11,10 @@ use Rattle.std.proofs.lemmas.Bool.{cond_both, cond-true, or_cases, or_from, and_
 use Rattle.std.proofs.lemmas.Fmt.{decimal_is_IsNumeral}
 use Rattle.std.proofs.lemmas.List.Elements.{All-head, All-tail}
 use Rattle.std.proofs.NetLemmas.Alphabet.{IsDigitOrDot, IsHexOrColon, All-ipv4_text, All-hex_groups_text}
-use Rattle.dns_name.specs.Names.{AreOctets}
-use Rattle.dns_name.specs.Text.{backslash, dot}
-use Rattle.dns_name.specs.Written.{is_plain, text_of, text_of_label, text_of_octet}
-use Rattle.dns_name.specs.Stored.{labels_of}
+use Rattle.rdata_layout.specs.Names.{AreOctets}
+use Rattle.rdata_layout.specs.Text.{backslash, dot}
+use Rattle.rdata_layout.specs.Written.{is_plain, text_of, text_of_label, text_of_octet}
+use Rattle.rdata_layout.specs.Stored.{labels_of}
 use Rattle.rdata_layout.specs.Fields.{IsField, is_letter_or_digit}
 use Rattle.rdata_layout.specs.declared.fields.Field.{Field}
 use Rattle.rdata_layout.specs.declared.fields.Field.TheVariants as field

@@ -4,9 +4,9 @@ use Rattle.std.proofs.lemmas.List.{length-replicate}
 use Rattle.std.specs.Net.Addr.{octets_of}
 use Rattle.std.specs.Net.Grammar.{IsColonHex}
 use Rattle.octets.specs.Numbers.{two_octets, four_octets}
-use Rattle.dns_name.specs.Labels.{wire}
-use Rattle.dns_name.specs.Text.{name_of_text}
-use Rattle.dns_name.proofs.Texts.{reads_names}
+use Rattle.rdata_layout.specs.Labels.{wire}
+use Rattle.rdata_layout.specs.Text.{name_of_text}
+use Rattle.rdata_layout.proofs.Texts.{reads_names}
 use Rattle.rdata_layout.specs.Fields.{IsField}
 use Rattle.rdata_layout.specs.declared.fields.Field.{Field}
 use Rattle.rdata_layout.specs.declared.fields.Field.TheVariants as field

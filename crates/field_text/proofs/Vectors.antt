@@ -4,9 +4,9 @@ use Rattle.std.proofs.Common.{◌≡◌, ℕ, List, [], ◌∷◌, refl, sym, �
 use Rattle.std.specs.Fmt.{digits}
 use Rattle.std.proofs.lemmas.Bool.{true≢false}
 use Rattle.std.proofs.lemmas.Option.{none-some}
-use Rattle.dns_name.specs.Text.{name_of_text}
-use Rattle.dns_name.specs.declared.fault.NameFault.{NameFault}
-use Rattle.dns_name.specs.declared.fault.NameFault.TheVariants.{EmptyLabel}
+use Rattle.rdata_layout.specs.Text.{name_of_text}
+use Rattle.rdata_layout.specs.NameFaultRecord.{NameFault}
+use Rattle.rdata_layout.specs.NameFaultRecord.TheVariants.{EmptyLabel}
 use Rattle.rdata_layout.specs.declared.fields.Field.{Field}
 use Rattle.rdata_layout.specs.declared.fields.Field.TheVariants as field
 use Rattle.value_text.specs.Numbers.{number}

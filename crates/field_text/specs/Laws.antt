@@ -1,6 +1,6 @@
 -- Laws over the definitions of this crate.
 use Rattle.std.specs.Prelude.{◌≡◌, ℕ, ◌+◌, ◌≤◌, ◌↔◌, List, [], ◌∷◌, ◌++◌, length, true, Some}
-use Rattle.dns_name.specs.Names.{AreOctets}
+use Rattle.rdata_layout.specs.Names.{AreOctets}
 use Rattle.rdata_layout.specs.Fields.{IsField}
 use Rattle.rdata_layout.specs.declared.fields.Field.{Field}
 use Rattle.value_text.specs.Fields.{is_blank, next_field}

@@ -3,8 +3,8 @@ use Rattle.std.specs.Prelude.{ℕ, List, slice_index, drop}
 use Rattle.std.specs.Fmt.{decimal}
 use Rattle.std.specs.Net.Text.{ipv4_text}
 use Rattle.octets.specs.Numbers.{number_at, long_at}
-use Rattle.dns_name.specs.Stored.{labels_of}
-use Rattle.dns_name.specs.Written.{text_of}
+use Rattle.rdata_layout.specs.Stored.{labels_of}
+use Rattle.rdata_layout.specs.Written.{text_of}
 use Rattle.rdata_layout.specs.declared.fields.Field.{Field}
 use Rattle.rdata_layout.specs.declared.fields.Field.TheVariants as field
 use Rattle.address_text.specs.Spelling.{colon_hex}

@@ -13,5 +13,13 @@ pub use laws::{
     octets_of_text, one_reading, spelled_is_field, written_field_is_one_field,
     written_field_reads_back,
 };
+pub use rdata_layout::{
+    Field, Name, RType, Tail, field_len, fields_of, is_layout, octets_cmp, one_name_of_a_wire,
+    tail_of,
+};
 pub use reading::read_field;
+pub use value_text::{
+    fields_go_on, next_field, read_string, string_is_one_field, write_string,
+    written_string_reads_back,
+};
 pub use writing::write_field;

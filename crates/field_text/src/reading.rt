@@ -7,9 +7,8 @@ ghost use Rattle.value_text.specs.Numbers.{number};
 ghost use Rattle.field_text.specs.Spelling.{Spells};
 
 use address_text::{read_ipv4, read_ipv6};
-use dns_name::Name;
 use octets::{fill_front, four_octets, put_at, two_octets};
-use rdata_layout::{Field, is_tag};
+use rdata_layout::{Field, Name, is_tag};
 use value_text::number;
 
 /// Reads the octets of a field's text into the front of the array, and says how many they are.

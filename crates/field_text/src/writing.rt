@@ -2,16 +2,15 @@
 
 ghost use Rattle.std.specs.Prelude.{◌≡◌, ◌+◌, ◌*◌, ◌≤◌, ◌++◌, length, take, drop};
 ghost use Rattle.std.specs.Fmt.{decimal};
-ghost use Rattle.dns_name.specs.Stored.{labels_of};
-ghost use Rattle.dns_name.specs.Written.{text_of};
+ghost use Rattle.rdata_layout.specs.Stored.{labels_of};
+ghost use Rattle.rdata_layout.specs.Written.{text_of};
 ghost use Rattle.rdata_layout.specs.Fields.{IsField};
 ghost use Rattle.field_text.specs.Written.{text_of_field};
 
 use address_text::{write_ipv4, write_ipv6};
-use dns_name::Name;
 use itoa::Buffer;
 use octets::{behind, front, long_at, number_at, put_at};
-use rdata_layout::Field;
+use rdata_layout::{Field, Name};
 
 /// Writes the text of a field's octets at a place, and says where it ends.
 ///

@@ -3,10 +3,10 @@ use Rattle.std.proofs.Common.{◌≡◌, ◌⊎◌, inl, inr, ℕ, zero, suc, �
 use Rattle.byteorder.specs.Endian.{big_bytes, big_from}
 use Rattle.byteorder.specs.Numbers.{big_number-reads_back, length-bytes_high_first}
 use Rattle.std.proofs.lemmas.Bool.{cases_eq}
-use Rattle.r53_disk.specs.Disk.{Torn, Frees, WriteLeaves, Only, written}
-use Rattle.r53_disk.specs.declared.disk.Done.{Done}
-use Rattle.r53_disk.specs.declared.disk.Done.TheVariants as done
-use Rattle.r53_disk.specs.Synced.{Keeps, OldOrTorn}
+use Rattle.gate_journal.specs.Disk.{Torn, Frees, WriteLeaves, Only, written}
+use Rattle.gate_journal.specs.DoneRecord.{Done}
+use Rattle.gate_journal.specs.DoneRecord.TheVariants as done
+use Rattle.gate_journal.specs.Synced.{Keeps, OldOrTorn}
 use Rattle.gate_journal.specs.Layout.{body, opened, inner, front, IsOpen, OpensTo, generation_of}
 use Rattle.gate_journal.proofs.Opening.{length-body}
 use Rattle.file_building.specs.Building.{IsShut}

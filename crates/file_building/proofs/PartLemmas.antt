@@ -3,7 +3,7 @@ use Rattle.std.proofs.Common.{◌≡◌, ℕ, zero, suc, ◌+◌, ◌-◌, ◌�
 use Rattle.std.proofs.lemmas.List.{take_min, drop_all, drop-take}
 use Rattle.byteorder.specs.Endian.{big_bytes}
 use borrow.Rule.Slice.PartMut.{put_mid}
-use Rattle.r53_disk.specs.Disk.{Reaches}
+use Rattle.gate_journal.specs.Disk.{Reaches}
 use Rattle.gate_journal.specs.Layout.{text, body, inner}
 
 pub take_append : (m : ℕ) (u v : List ℕ) → take m (u ++ v) ≡ take m u ++ take (m - length u) v

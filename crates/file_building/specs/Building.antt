@@ -1,6 +1,6 @@
 -- A file that is built: how far it is, and its gate.
 use Rattle.std.specs.Prelude.{◌≡◌, ℕ, List, [], ◌∷◌, drop}
-use Rattle.r53_disk.specs.Disk.{written}
+use Rattle.gate_journal.specs.Disk.{written}
 
 -- A compaction: the new file's snapshot, the place in the active file from which on entries are copied, and the place of
 -- the byte that is written next, which is 0 until the gate is closed.

@@ -2,12 +2,12 @@
 
 ghost use Rattle.std.specs.Prelude.{◌≡◌, ◌⊎◌, ◌≤◌, ◌+◌, ◌-◌, ◌<◌, ◌++◌, ◌^◌, ℕ, List, length, take, drop, Some, None};
 ghost use Rattle.octets.specs.Counts.{Rose};
-ghost use Rattle.r53_disk.specs.Disk.{Reaches, Rests, LeavesOnly, Only, written};
+ghost use Rattle.gate_journal.specs.Disk.{Reaches, Rests, LeavesOnly, Only, written};
 ghost use Rattle.gate_journal.specs.Layout.{inner};
 ghost use Rattle.file_building.specs.Building.{IsShut, gate_opened};
 
 use crate::plan::Compaction;
-use r53_disk::{Disk, Done, write_synced};
+use gate_journal::{Disk, Done, write_synced};
 
 /// Copies the next bytes of the file that is built, and does not sync them.
 pub fn copy<D: Disk>(

@@ -10,4 +10,7 @@ mod parts;
 mod plan;
 
 pub use build::{copy, open_file};
+pub use gate_journal::{
+    Appended, Disk, Done, Entry, Journal, JournalFault, Look, close_file, fits, look, write_synced,
+};
 pub use plan::Compaction;

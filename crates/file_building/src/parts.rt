@@ -2,10 +2,10 @@
 
 ghost use Rattle.std.specs.Prelude.{◌≡◌, ◌≤◌, ◌+◌, ◌-◌, ◌++◌, ℕ, List, length, take, drop, Some};
 ghost use Rattle.octets.specs.Counts.{Rose};
-ghost use Rattle.r53_disk.specs.Disk.{Reaches, Rests};
+ghost use Rattle.gate_journal.specs.Disk.{Reaches, Rests};
 
+use gate_journal::{Disk, Done};
 use octets::{behind, front, put_at};
-use r53_disk::{Disk, Done};
 
 /// Puts what there is room for of a part of a file into a piece of that file, of which so many
 /// bytes are filled.

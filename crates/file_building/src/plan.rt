@@ -2,12 +2,12 @@
 
 ghost use Rattle.std.specs.Prelude.{◌≡◌, ◌≤◌, ◌<◌, ◌+◌, ◌-◌, ◌++◌, ◌^◌, ℕ, List, length, take, drop, Some};
 ghost use Rattle.octets.specs.Counts.{Rose};
-ghost use Rattle.r53_disk.specs.Disk.{Reaches, Rests};
+ghost use Rattle.gate_journal.specs.Disk.{Reaches, Rests};
 ghost use Rattle.gate_journal.specs.Layout.{inner, most};
 
 use crate::parts::{put_part, read_behind};
 use byteorder::{BigEndian, ByteOrder};
-use r53_disk::{Disk, Done};
+use gate_journal::{Disk, Done};
 use std::marker::Model;
 
 /// A file that is built on the disk that does not decide.

@@ -5,3 +5,4 @@ pub mod Lists
 pub mod Opening
 pub mod Reading
 mod Vectors
+pub use Rattle.r53_disk.proofs.Moments

@@ -18,3 +18,4 @@ pub use header::look;
 pub use journal::Journal;
 pub use laws::{opens_to_one, read_to_one};
 pub use octets::OutOfMemory;
+pub use r53_disk::{Disk, Done, write_synced};

@@ -1,6 +1,6 @@
 -- A text at its first mark.
 use Rattle.std.proofs.Common.{◌≡◌, ◌+◌, ◌==◌, ℕ, suc, Bool, true, false, Option, Some, None, List, [], ◌∷◌, take, drop, arith, refl, sym, ap, ◌∙◌, if◌then◌else◌, add-one, subst}
-use Rattle.address_text.specs.AddressOfText.{pieces}
+use Rattle.prefix_text.specs.AddressOfText.{pieces}
 use Rattle.geo_latency.specs.Lines.{parts}
 use Rattle.prefix_text.specs.Marks.{place_from, place_of}
 

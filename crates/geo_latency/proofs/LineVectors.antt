@@ -3,16 +3,16 @@ use Rattle.std.proofs.Common.{◌≡◌, ℕ, true, false, Some, None, List, [],
 use Rattle.std.specs.Prelude.{codes}
 use Rattle.std.specs.Fmt.{digits}
 use Rattle.std.proofs.lemmas.Bool.{and_right, lt-ltb, le-ltb}
-use Rattle.address_text.specs.AddressOfText.{ipv4_of, ipv6_of}
-use Rattle.address_text.specs.declared.address.IpAddress.TheVariants.{V4, V6}
+use Rattle.prefix_text.specs.AddressOfText.{ipv4_of, ipv6_of}
+use Rattle.prefix_text.specs.IpAddressRecord.TheVariants.{V4, V6}
 use Rattle.geo_latency.specs.Lines.{are_latencies, said}
 use Rattle.geo_latency.specs.Tables.{has_prefix, is_free, outcome}
 use Rattle.geo_latency.specs.declared.lines.Line.TheVariants as line
 use Rattle.geo_latency.specs.declared.location.Location.{Location}
 use Rattle.geo_latency.specs.declared.tables.TableLine.TheVariants.{Added, Skipped, Bad}
 use Rattle.geo_latency.specs.declared.tables.Tables.{Tables}
-use Rattle.ip_table.specs.Bits.{number_of}
-use Rattle.ip_table.specs.Prefixes.{Prefix}
+use Rattle.prefix_text.specs.Bits.{number_of}
+use Rattle.prefix_text.specs.PrefixesOfIpTable.{Prefix}
 use Rattle.routing.specs.declared.policies.Continent.TheVariants.{As, Eu, Na}
 
 -- lines that are skipped

@@ -9,7 +9,7 @@ use Rattle.geo_latency.proofs.Cuts.{first_part, one_part}
 use Rattle.geo_latency.specs.Lines.{parts, place_fields, place_row}
 use Rattle.geo_latency.specs.Rows.{behind_continent, continent_of, country_of, in_continent, located, location_of, subdivision_of}
 use Rattle.geo_latency.specs.declared.lines.Line.TheVariants.{Bad}
-use Rattle.ip_table.specs.Prefixes.{Prefix}
+use Rattle.prefix_text.specs.PrefixesOfIpTable.{Prefix}
 use Rattle.prefix_text.specs.Marks.{place_from, place_of}
 use Rattle.prefix_text.specs.Prefixes.{prefix_of}
 use Rattle.routing.specs.declared.policies.Continent.{Continent}

@@ -3,11 +3,11 @@ use Rattle.std.proofs.Common.{◌≡◌, ◌<◌, ◌||◌, ◌==◌, ℕ, zero,
 use Rattle.std.specs.Prelude.{nat_lt, slice_index_or}
 use Rattle.std.proofs.lemmas.Bool.{eq-eqb, eqb-true, and_parts, lt-ltb, ltb-true, not-true}
 use Rattle.std.proofs.lemmas.Slice.Eq.{bytes_eq-Decides}
-use Rattle.address_text.specs.declared.address.IpAddress.{IpAddress}
-use Rattle.address_text.specs.declared.address.IpAddress.TheVariants.{V4, V6}
+use Rattle.prefix_text.specs.IpAddressRecord.{IpAddress}
+use Rattle.prefix_text.specs.IpAddressRecord.TheVariants.{V4, V6}
 use Rattle.geo_latency.specs.Tables.{has_prefix, is_address, is_free, is_prefix}
-use Rattle.ip_table.specs.Prefixes.{Prefix}
-use Rattle.ip_table.specs.Rows.{HasRow}
+use Rattle.prefix_text.specs.PrefixesOfIpTable.{Prefix}
+use Rattle.prefix_text.specs.Rows.{HasRow}
 
 address_itself : (a : IpAddress) → is_address a a ≡ true
 address_itself (V4 octets) = (bytes_eq-Decides octets octets).1 refl

@@ -6,7 +6,7 @@ use Rattle.geo_latency.specs.declared.lines.Line.{Line}
 use Rattle.geo_latency.specs.declared.lines.Line.TheVariants as line
 use Rattle.geo_latency.specs.declared.tables.TableLine.TheVariants.{Added, Bad, OutOfMemory}
 use Rattle.geo_latency.specs.declared.tables.Tables.{Tables}
-use Rattle.ip_table.specs.Prefixes.{Prefix}
+use Rattle.prefix_text.specs.PrefixesOfIpTable.{Prefix}
 
 module _ (tables : Tables) (prefix : Prefix) where
   would_add : (words : Line) → Some prefix ≡ prefix_of_latencies words

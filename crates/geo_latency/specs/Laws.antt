@@ -1,8 +1,8 @@
 -- What the definitions of the tables come to.
 use Rattle.std.specs.Prelude.{◌≡◌, ◌<◌, ◌↔◌, true, List, length}
 use Rattle.geo_latency.specs.Tables.{is_free}
-use Rattle.ip_table.specs.Prefixes.{Prefix}
-use Rattle.ip_table.specs.Rows.{HasRow}
+use Rattle.prefix_text.specs.PrefixesOfIpTable.{Prefix}
+use Rattle.prefix_text.specs.Rows.{HasRow}
 
 -- A prefix is free where no row has it and there are fewer than 100,000 rows.
 abbrev pub FreePrefixes : Type 0 → Type 0

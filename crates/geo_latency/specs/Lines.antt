@@ -3,13 +3,13 @@ use Rattle.std.specs.Prelude.{ℕ, ◌&&◌, ◌==◌, nat_lt, nat_le, not, Bool
 use Rattle.std.specs.Prelude.{length, map, codes, Option, None, Some, if◌then◌else◌}
 use Rattle.std.specs.List.{list_any}
 use Rattle.std.specs.Str.{bytes_eq}
-use Rattle.address_text.specs.AddressOfText.{pieces}
+use Rattle.prefix_text.specs.AddressOfText.{pieces}
 use Rattle.geo_latency.specs.Rows.{continent_of, country_of, subdivision_of, located}
 use Rattle.geo_latency.specs.Rows.{region_latency_of}
 use Rattle.geo_latency.specs.declared.lines.Line.{Line}
 use Rattle.geo_latency.specs.declared.lines.Line.TheVariants.{Skipped, Place, Latency, Bad}
 use Rattle.geo_latency.specs.declared.location.Location.{Location}
-use Rattle.ip_table.specs.Prefixes.{Prefix}
+use Rattle.prefix_text.specs.PrefixesOfIpTable.{Prefix}
 use Rattle.prefix_text.specs.Prefixes.{prefix_of}
 
 -- the pieces of a text with one mark between them

@@ -3,15 +3,15 @@ use Rattle.std.specs.Prelude.{◌≡◌, ℕ, ◌&&◌, ◌==◌, nat_lt, not, B
 use Rattle.std.specs.Prelude.{◌++◌, length, if◌then◌else◌}
 use Rattle.std.specs.List.{list_any}
 use Rattle.std.specs.Str.{bytes_eq}
-use Rattle.address_text.specs.declared.address.IpAddress.{IpAddress}
-use Rattle.address_text.specs.declared.address.IpAddress.TheVariants.{V4, V6}
+use Rattle.prefix_text.specs.IpAddressRecord.{IpAddress}
+use Rattle.prefix_text.specs.IpAddressRecord.TheVariants.{V4, V6}
 use Rattle.geo_latency.specs.Lines.{said}
 use Rattle.geo_latency.specs.declared.lines.Line.{Line}
 use Rattle.geo_latency.specs.declared.lines.Line.TheVariants as line
 use Rattle.geo_latency.specs.declared.tables.TableLine.{TableLine}
 use Rattle.geo_latency.specs.declared.tables.TableLine.TheVariants.{Added, Skipped, Bad, OutOfMemory}
 use Rattle.geo_latency.specs.declared.tables.Tables.{Tables}
-use Rattle.ip_table.specs.Prefixes.{Prefix}
+use Rattle.prefix_text.specs.PrefixesOfIpTable.{Prefix}
 
 -- two addresses are one
 abbrev pub is_address : IpAddress → IpAddress → Bool

@@ -13,8 +13,7 @@ use crate::location::Location;
 use crate::pieces::first_piece;
 use crate::rows::read_location;
 use crate::several::read_latencies;
-use ip_table::IpPrefix;
-use prefix_text::read_prefix;
+use prefix_text::{IpPrefix, read_prefix};
 use std::alloc::Global;
 
 /// The most bytes of a line.

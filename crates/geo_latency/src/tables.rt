@@ -6,7 +6,7 @@ ghost use Rattle.geo_latency.specs.Tables.{Adds, AddsRow, refused};
 use crate::latencies::Latencies;
 use crate::lines::{Line, read_line};
 use crate::location::Location;
-use ip_table::{InsertFault, IpPrefix, IpTable};
+use prefix_text::{InsertFault, IpPrefix, IpTable};
 use std::alloc::Global;
 
 /// What a line of the tables is answered.

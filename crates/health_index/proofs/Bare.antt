@@ -1,15 +1,15 @@
 -- The sets of a group tell whether it has a gate.
 use Rattle.std.proofs.Common.{◌≡◌, ℕ, List, ap, sym, ◌∙◌}
 use mathlib.Core.Path.{subst}
-use Rattle.policy_select.specs.Groups.{members_of, sets_in, sets_in_zone}
+use Rattle.health_planning.specs.Groups.{members_of, sets_in, sets_in_zone}
 use Rattle.rdata_layout.specs.declared.types.RType.{RType}
 use Rattle.record_set.specs.Sets.{key_of}
 use Rattle.record_set.specs.declared.sets.RecordSet.{RecordSet}
-use Rattle.zone_table.proofs.Members.{one_of_key, placed_with, set_in}
-use Rattle.zone_table.specs.Zones.{AreZones, Zone, placed_in}
+use Rattle.health_planning.proofs.MembersOfZoneList.{one_of_key, placed_with, set_in}
+use Rattle.health_planning.specs.Zones.{AreZones, Zone, placed_in}
 use Rattle.zone_model.specs.Placed.{IsHere, Placed, sets_of}
 use Rattle.zone_model.specs.Zones.{IsAmong, group, is_of_group}
-use Rattle.zone_table.specs.declared.refs.Group.{Group}
+use Rattle.health_planning.specs.GroupRecord.{Group}
 use Rattle.health_planning.proofs.Groups.{members_are}
 use Rattle.health_planning.proofs.Wiring.{of_group, passes_it, rising_in}
 use Rattle.health_planning.specs.Wired.{group_seat}

@@ -6,7 +6,7 @@ use Rattle.check_model.specs.Checks.{Checks}
 use Rattle.health_gates.specs.Pass.{CostsCone}
 use Rattle.health_model.specs.Nodes.{CheckNode, InCone, Node}
 use Rattle.health_model.specs.Statuses.{Report}
-use Rattle.zone_table.specs.Zones.{Zone}
+use Rattle.health_planning.specs.Zones.{Zone}
 use Rattle.health_index.specs.Index.{Index, StandsFor}
 use Rattle.health_planning.specs.Wired.{ids_of, place_of, watched_of}
 use Rattle.health_planning.proofs.Ending.{cone_long}

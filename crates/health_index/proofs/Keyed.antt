@@ -7,7 +7,7 @@ use Rattle.rdata_layout.specs.declared.types.RType.{RType}
 use Rattle.record_set.specs.Sets.{key_of}
 use Rattle.record_set.specs.declared.sets.RecordSet.{RecordSet}
 use Rattle.record_set.specs.declared.sets.SetKey.{SetKey}
-use Rattle.zone_table.proofs.Members.{Sorted, sorted_same}
+use Rattle.health_planning.proofs.MembersOfZoneList.{Sorted, sorted_same}
 use Rattle.zone_model.proofs.Ordered.{keys_total}
 use Rattle.zone_model.specs.Keys.{key_cmp}
 use Rattle.zone_model.specs.Placed.{Placed, sets_of}

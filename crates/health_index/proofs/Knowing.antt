@@ -7,7 +7,7 @@ use Rattle.check_model.specs.declared.checks.Check.{Check}
 use Rattle.check_model.specs.declared.checks.Check.TheVariants.{Endpoint, Calculated}
 use Rattle.checker_state.specs.Standing.{Seen}
 use Rattle.health_model.specs.Statuses.{AreReports, Report}
-use Rattle.zone_table.specs.Zones.{Zone}
+use Rattle.health_planning.specs.Zones.{Zone}
 use Rattle.health_planning.specs.Following.{EachFollows, Follows, FollowsAt, Knows}
 use Rattle.health_index.specs.Index.{Index, StandsFor}
 use Rattle.health_planning.specs.Wired.{ids_of, place_of}

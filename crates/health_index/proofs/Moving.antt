@@ -4,21 +4,21 @@ use Rattle.std.specs.Prelude.{slice_get}
 use Rattle.std.proofs.lemmas.Bool.{cases_eq, ne_eqb}
 use Rattle.std.proofs.lemmas.Option.{slice_get_within}
 use mathlib.Core.Path.{subst}
-use Rattle.policy_select.proofs.Members.{one_named}
+use Rattle.health_planning.proofs.Members.{one_named}
 use Rattle.record_set.specs.Sets.{key_of}
 use Rattle.record_set.specs.declared.sets.RecordSet.{RecordSet}
 use Rattle.record_set.specs.declared.sets.SetKey.{SetKey}
-use Rattle.zone_table.proofs.Listing.{its_placed}
-use Rattle.zone_table.proofs.Members.{filled, one_of_key}
-use Rattle.zone_table.specs.Changes.{Changes, ref_in}
-use Rattle.zone_table.specs.Zones.{AreListed, AreZones, IsOne, IsZoneId, Zone, placed_in}
-use Rattle.zone_table.specs.SetRefRecord.{SetRef}
+use Rattle.health_planning.proofs.ListingOfZoneList.{its_placed}
+use Rattle.health_planning.proofs.MembersOfZoneList.{filled, one_of_key}
+use Rattle.health_planning.specs.Changes.{Changes, ref_in}
+use Rattle.health_planning.specs.Zones.{AreListed, AreZones, IsOne, IsZoneId, Zone, placed_in}
+use Rattle.health_planning.specs.SetRefRecord.{SetRef}
 use Rattle.zone_model.proofs.Among.{place_of}
 use Rattle.zone_model.specs.Placed.{IsHere, Placed}
-use Rattle.zone_table.specs.Edits.{Edits, IsAllowed}
-use Rattle.zone_table.specs.declared.edits.ZoneEdit.{ZoneEdit}
-use Rattle.zone_table.specs.declared.edits.ZoneEdit.TheVariants as edit
-use Rattle.zone_table.specs.declared.refs.Delta.{Delta}
+use Rattle.health_planning.specs.Edits.{Edits, IsAllowed}
+use Rattle.health_planning.specs.ZoneEditRecord.{ZoneEdit}
+use Rattle.health_planning.specs.ZoneEditRecord.TheVariants as edit
+use Rattle.health_planning.specs.DeltaRecord.{Delta}
 use Rattle.health_planning.proofs.Wiring.{rising_in}
 use Rattle.health_index.specs.Leaving.{IsOneOf}
 

@@ -5,8 +5,8 @@ use mathlib.Core.Path.{subst}
 use Rattle.check_model.specs.Checks.{Checks}
 use Rattle.health_model.specs.Nodes.{CheckNode, GroupNode, Node, SetNode}
 use Rattle.health_model.specs.Statuses.{Report}
-use Rattle.zone_table.proofs.Members.{one_of_key}
-use Rattle.zone_table.specs.Zones.{Zone, placed_in}
+use Rattle.health_planning.proofs.MembersOfZoneList.{one_of_key}
+use Rattle.health_planning.specs.Zones.{Zone, placed_in}
 use Rattle.zone_model.specs.Placed.{IsHere, Placed}
 use Rattle.health_index.specs.Index.{Index, IsNumberOf, StandsFor}
 use Rattle.health_index.specs.Laws.{NodesAreNumbered}

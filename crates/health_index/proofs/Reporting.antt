@@ -23,7 +23,7 @@ use Rattle.health_model.specs.Statuses.{Report, passing, results_of}
 use Rattle.rdata_layout.specs.declared.types.RType.{RType}
 use Rattle.record_set.specs.declared.sets.Body.{Body}
 use Rattle.record_set.specs.declared.sets.Body.TheVariants as body
-use Rattle.zone_table.specs.Zones.{Zone}
+use Rattle.health_planning.specs.Zones.{Zone}
 use Rattle.zone_model.specs.Placed.{Placed}
 use Rattle.health_index.specs.Index.{Index, IsEndpoint, IsEndpointOf, IsWhole, Space, StandsFor, reported}
 use Rattle.health_planning.specs.Building.{IsSeen}

@@ -5,7 +5,7 @@ use Rattle.check_model.specs.Checks.{Checks}
 use Rattle.health_gates.specs.Gates.{Fits, Net}
 use Rattle.health_gates.specs.Pass.{IsIdle, MeetAll}
 use Rattle.health_model.specs.Statuses.{Report}
-use Rattle.zone_table.specs.Zones.{Zone}
+use Rattle.health_planning.specs.Zones.{Zone}
 use Rattle.health_index.specs.Index.{Index, IsWhole, StandsFor}
 use Rattle.health_index.specs.Room.{Keeps}
 use Rattle.health_planning.specs.Wired.{IsWired}

@@ -11,9 +11,9 @@ use Rattle.health_gates.specs.Plan.{Planned, feeders_in, net_in, own_in}
 use Rattle.health_gates.specs.declared.gates.Gates.{Gates}
 use Rattle.health_model.specs.Sound.{IsSound}
 use Rattle.health_model.specs.Statuses.{AreReports, Report}
-use Rattle.zone_table.specs.Zones.{AreZones, Zone}
-use Rattle.zone_table.specs.SetRefRecord.{SetRef}
-use Rattle.zone_table.specs.Tables.{HaveSlotsApart}
+use Rattle.health_planning.specs.Zones.{AreZones, Zone}
+use Rattle.health_planning.specs.SetRefRecord.{SetRef}
+use Rattle.health_planning.specs.Tables.{HaveSlotsApart}
 use Rattle.health_planning.specs.Building.{AreOfEndpoints, AreSeen, AreShaped, IsBuilt, set_shape}
 use Rattle.health_index.specs.Index.{Index, IsWhole, Space, StandsFor}
 use Rattle.health_planning.specs.Wired.{ids_of, place_of, watched_of}

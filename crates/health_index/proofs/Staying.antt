@@ -13,22 +13,22 @@ use Rattle.health_model.proofs.Members.{of_filter}
 use Rattle.health_model.specs.Nodes.{CheckNode, GroupNode, Node, SetNode}
 use Rattle.health_model.specs.Sound.{IsSound}
 use Rattle.health_model.specs.Statuses.{Report}
-use Rattle.policy_select.proofs.Members.{one_named}
+use Rattle.health_planning.proofs.Members.{one_named}
 use Rattle.rdata_layout.specs.declared.types.RType.{RType}
 use Rattle.record_set.specs.Sets.{key_of}
 use Rattle.record_set.specs.declared.sets.Body.{Body}
 use Rattle.record_set.specs.declared.sets.Body.TheVariants as body
 use Rattle.record_set.specs.declared.sets.RecordSet.{RecordSet}
 use Rattle.record_set.specs.declared.sets.SetKey.{SetKey}
-use Rattle.set_scratch.specs.Telling.{evaluates}
-use Rattle.zone_table.proofs.Members.{all_in, in_all, one_of_key, placed_with, set_in}
-use Rattle.zone_table.specs.Changes.{ref_in}
-use Rattle.zone_table.specs.Zones.{AreZones, Zone, placed_in}
-use Rattle.zone_table.specs.SetRefRecord.{SetRef}
+use Rattle.health_planning.specs.Telling.{evaluates}
+use Rattle.health_planning.proofs.MembersOfZoneList.{all_in, in_all, one_of_key, placed_with, set_in}
+use Rattle.health_planning.specs.Changes.{ref_in}
+use Rattle.health_planning.specs.Zones.{AreZones, Zone, placed_in}
+use Rattle.health_planning.specs.SetRefRecord.{SetRef}
 use Rattle.zone_model.specs.Keys.{key_cmp}
 use Rattle.zone_model.specs.Placed.{IsHere, Placed, sets_of}
 use Rattle.zone_model.specs.Zones.{IsAmong, IsRising, is_of_group}
-use Rattle.zone_table.specs.declared.refs.Delta.{Delta}
+use Rattle.health_planning.specs.DeltaRecord.{Delta}
 use Rattle.health_planning.specs.Following.{Follows, FollowsAt, HasThreshold}
 use Rattle.health_planning.specs.Wired.{AreMembers, IsGateFor, IsGroupGate, IsSeated, IsTarget, TellGroup, check_or_none, check_seat, group_seat, ids_of, is_watched, only_check, place_of, seat_of, set_rule, watched_of}
 use Rattle.health_planning.specs.declared.seats.Seat.{Seat}

@@ -12,7 +12,7 @@ use Rattle.checker_state.specs.View.{view_of}
 use Rattle.health_gates.specs.Gates.{count, value_of}
 use Rattle.health_model.proofs.Members.{filter_same}
 use Rattle.health_model.specs.Statuses.{Report, number_told, passing, results_of, status, status_told}
-use Rattle.zone_table.specs.Zones.{Zone}
+use Rattle.health_planning.specs.Zones.{Zone}
 use Rattle.zone_model.specs.Zones.{IsAmong}
 use Rattle.health_index.specs.Index.{Index, StandsFor, Tells}
 use Rattle.health_planning.specs.Wired.{check_own, ids_of, place_of}

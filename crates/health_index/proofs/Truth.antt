@@ -14,18 +14,18 @@ use Rattle.health_model.specs.Healthy.{Watched, by_check, by_target, group_value
 use Rattle.health_model.specs.Laws.{OneHealth}
 use Rattle.health_model.specs.Nodes.{CheckNode, GroupNode, IsNode, Meets, Node, SetNode}
 use Rattle.health_model.specs.Statuses.{Report, check_value, passing, value_there}
-use Rattle.policy_select.specs.Groups.{Agrees, ViewsAgree, by_key}
+use Rattle.health_planning.specs.Groups.{Agrees, ViewsAgree, by_key}
 use Rattle.rdata_layout.specs.declared.types.RType.{RType}
 use Rattle.record_set.specs.declared.sets.Body.{Body}
 use Rattle.record_set.specs.declared.sets.Body.TheVariants as body
 use Rattle.record_set.specs.declared.sets.RecordSet.{RecordSet}
 use Rattle.record_set.specs.Sets.{key_of}
-use Rattle.set_scratch.specs.Telling.{evaluates}
-use Rattle.zone_table.specs.Zones.{Zone, placed_in}
-use Rattle.zone_table.specs.SetRefRecord.{SetRef}
+use Rattle.health_planning.specs.Telling.{evaluates}
+use Rattle.health_planning.specs.Zones.{Zone, placed_in}
+use Rattle.health_planning.specs.SetRefRecord.{SetRef}
 use Rattle.zone_model.specs.Placed.{IsHere, Placed, sets_of}
 use Rattle.zone_model.specs.Zones.{IsAmong, is_of_group}
-use Rattle.zone_table.specs.Looking.{Names}
+use Rattle.health_planning.specs.Looking.{Names}
 use Rattle.health_index.specs.Index.{Index, StandsFor, healthy_in}
 use Rattle.health_index.specs.Laws.{IndexTells}
 use Rattle.health_planning.proofs.Places.{found}

@@ -13,10 +13,10 @@ use Rattle.health_model.specs.Nodes.{CheckNode, GroupNode, Node, SetNode}
 use Rattle.health_model.specs.Sound.{IsSound}
 use Rattle.health_model.specs.Statuses.{AreReports, Report, status}
 use Rattle.record_set.specs.declared.sets.RecordSet.{RecordSet}
-use Rattle.zone_table.specs.Zones.{AreZones, Zone, placed_in}
-use Rattle.zone_table.specs.SetRefRecord.{SetRef}
+use Rattle.health_planning.specs.Zones.{AreZones, Zone, placed_in}
+use Rattle.health_planning.specs.SetRefRecord.{SetRef}
 use Rattle.zone_model.specs.Placed.{IsHere, Placed}
-use Rattle.zone_table.specs.Looking.{Names}
+use Rattle.health_planning.specs.Looking.{Names}
 use Rattle.health_planning.specs.Building.{IsSeen}
 use Rattle.health_planning.specs.Wired.{AreMembers, IsGroupSeat, IsWired, ids_of, open_in, place_of, seat_of, watched_of}
 use Rattle.health_planning.specs.declared.seats.Seat.{Seat}

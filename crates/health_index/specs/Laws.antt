@@ -4,7 +4,7 @@ use Rattle.check_model.specs.Checks.{Checks}
 use Rattle.check_model.specs.Commands.{checks_after}
 use Rattle.check_model.specs.declared.checks.CheckCommand.{CheckCommand}
 use Rattle.health_model.specs.Statuses.{Report}
-use Rattle.zone_table.specs.Zones.{Zone}
+use Rattle.health_planning.specs.Zones.{Zone}
 use Rattle.health_planning.specs.Following.{Follows}
 use Rattle.health_index.specs.Index.{AreNumbered, Index, StandsFor, Tells}
 

@@ -4,13 +4,13 @@ use Rattle.std.specs.Prelude.{◌≡◌, ◌≢◌, ◌⊎◌, ℕ, false, List,
 use Rattle.check_model.specs.Checks.{Checks}
 use Rattle.rdata_layout.specs.declared.types.RType.{RType}
 use Rattle.record_set.specs.declared.sets.RecordSet.{RecordSet}
-use Rattle.zone_table.specs.Zones.{Zone, placed_in}
-use Rattle.zone_table.specs.SetRefRecord.{SetRef}
+use Rattle.health_planning.specs.Zones.{Zone, placed_in}
+use Rattle.health_planning.specs.SetRefRecord.{SetRef}
 use Rattle.zone_model.specs.Placed.{IsHere, Placed}
-use Rattle.zone_table.specs.Edits.{Edits, IsAllowed}
-use Rattle.zone_table.specs.Looking.{Names}
-use Rattle.zone_table.specs.declared.edits.ZoneEdit.{ZoneEdit}
-use Rattle.zone_table.specs.declared.refs.Delta.{Delta}
+use Rattle.health_planning.specs.Edits.{Edits, IsAllowed}
+use Rattle.health_planning.specs.Looking.{Names}
+use Rattle.health_planning.specs.ZoneEditRecord.{ZoneEdit}
+use Rattle.health_planning.specs.DeltaRecord.{Delta}
 use Rattle.health_planning.specs.Following.{Follows}
 use Rattle.health_planning.specs.Wired.{check_seat, group_seat, is_watched, only_check, seat_of}
 use Rattle.health_planning.specs.declared.seats.Seat.{Seat}

@@ -12,6 +12,6 @@ pub use Rattle.health_model.specs.Sound
 pub use Rattle.health_model.specs.Statuses
 pub use Rattle.health_planning.specs.Following
 pub use Rattle.health_planning.specs.Wired
-pub use Rattle.policy_select.specs.Groups
-pub use Rattle.zone_table.specs.Edits
-pub use Rattle.zone_table.specs.Looking
+pub use Rattle.health_planning.specs.Groups
+pub use Rattle.health_planning.specs.Edits
+pub use Rattle.health_planning.specs.Looking

@@ -8,16 +8,16 @@ ghost use Rattle.health_index.specs.Leaving.{LeavesGates, WentLeavesGates};
 ghost use Rattle.health_planning.specs.Building.{IsSeatAt};
 ghost use Rattle.health_planning.specs.Wired.{group_seat};
 ghost use Rattle.health_planning.specs.declared.seats.Seat.{Seat};
-ghost use Rattle.policy_select.specs.Groups.{members_of};
+ghost use Rattle.health_planning.specs.Groups.{members_of};
 ghost use Rattle.record_set.specs.declared.sets.RecordSet.{RecordSet};
-ghost use Rattle.set_scratch.specs.Telling.{watch_of};
+ghost use Rattle.health_planning.specs.Telling.{watch_of};
 ghost use Rattle.zone_model.specs.Placed.{IsHere, Placed};
-ghost use Rattle.zone_table.specs.Looking.{IsGroupNow, Names};
+ghost use Rattle.health_planning.specs.Looking.{IsGroupNow, Names};
 
 use crate::finding::find_seat;
-use health_planning::{Seat, is_watched, only_check};
-use policy_select::find_group;
-use zone_table::{Delta, Group, Scratch, SetRef, Watch, Zones};
+use health_planning::{
+    Delta, Group, Scratch, Seat, SetRef, Watch, Zones, find_group, is_watched, only_check,
+};
 
 /// Whether one of some references is this one.
 fn is_one_of(refs: &[SetRef], set: SetRef) -> bool

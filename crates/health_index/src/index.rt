@@ -15,7 +15,7 @@ ghost use Rattle.health_planning.specs.Wired.{watched_of};
 ghost use Rattle.health_model.specs.Nodes.{CheckNode, InCone, Node};
 ghost use Rattle.health_model.specs.Sound.{IsSound};
 ghost use Rattle.health_model.specs.Statuses.{Report, status, status_told};
-ghost use Rattle.zone_table.specs.Zones.{Zone};
+ghost use Rattle.health_planning.specs.Zones.{Zone};
 
 use crate::finding::gate_of;
 use crate::gate_leaving::leaves_gates;
@@ -25,14 +25,15 @@ use checker_state::{CHECKERS, Checkers, fifty_alone};
 use health_check::CheckTable;
 use health_gates::{Gates, Plan, Steps};
 use health_model::{one_health, one_more_report};
-use health_planning::{Seat, lay_seats, list_ids, list_seen, place_in, plan_gates, seen_at};
+use health_planning::{
+    Delta, HealthView, Scratch, Seat, SetRef, Zones, lay_seats, list_ids, list_seen, place_in,
+    plan_gates, seen_at, views_agree,
+};
 use octets::OutOfMemory;
-use policy_select::{HealthView, views_agree};
 use std::alloc::Global;
 use std::marker::Model;
 use std::mem;
 use std::sync::ledger::Ledger;
-use zone_table::{Delta, Scratch, SetRef, Zones};
 
 /// The health of a configuration's checks, sets and groups.
 #[derive(Drop)]

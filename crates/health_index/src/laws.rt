@@ -3,7 +3,7 @@
 ghost use Rattle.health_index.specs.Laws.{CommandsFollow, IndexTells, NodesAreNumbered};
 
 use health_model::one_health;
-use policy_select::views_agree;
+use health_planning::views_agree;
 
 /// An index tells the health of that for which it stands.
 pub fn index_tells_health()

@@ -7,9 +7,8 @@ ghost use Rattle.health_gates.specs.Pass.{IsIdle, MeetAll};
 
 use checker_state::Checkers;
 use health_gates::{Gates, Plan, make_room};
-use health_planning::Seat;
+use health_planning::{Seat, SetRef};
 use octets::OutOfMemory;
-use zone_table::SetRef;
 
 /// The most slots, so that gates and links have numbers.
 const MOST_SLOTS: usize = 1 << 29;

@@ -4,7 +4,7 @@ use Rattle.std.specs.Prelude.{nat_eq, ◌&&◌}
 use Rattle.std.specs.List.{list_any}
 use Rattle.std.proofs.lemmas.Bool.{ne_eqb}
 use Rattle.check_model.specs.declared.checks.Check.{Check}
-use Rattle.record_set.specs.declared.sets.RecordSet.{RecordSet}
+use Rattle.zone_model.specs.RecordSetRecord.{RecordSet}
 use Rattle.health_model.specs.Laws.{NewCheckHasNone, OneCheckChanges, OnlyGroupsChange}
 use Rattle.health_model.specs.Nodes.{CheckNode, GroupNode, SetNode}
 use Rattle.health_model.specs.Statuses.{passing, results_of, value_there}

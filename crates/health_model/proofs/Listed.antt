@@ -5,9 +5,9 @@ use Rattle.std.specs.List.{AllByRecursion, filter}
 use Rattle.std.specs.Map.{lookup}
 use Rattle.std.proofs.lemmas.Bool.{eq-eqb, eqb-true, false≢true, ne_eqb}
 use Rattle.check_model.specs.Checks.{AreDistinct}
-use Rattle.record_set.specs.declared.sets.RecordSet.{RecordSet}
-use Rattle.record_set.specs.declared.sets.SetKey.{SetKey}
-use Rattle.record_set.specs.Sets.{key_of}
+use Rattle.zone_model.specs.RecordSetRecord.{RecordSet}
+use Rattle.zone_model.specs.SetKeyRecord.{SetKey}
+use Rattle.zone_model.specs.Sets.{key_of}
 use Rattle.zone_model.specs.Zones.{IsAmong}
 use Rattle.health_model.specs.Healthy.{Watched, healthy, healthy_among, healthy_of, sets_of, sets_there}
 use Rattle.health_model.specs.Laws.{HealthyAreListed}

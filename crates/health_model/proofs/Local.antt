@@ -7,10 +7,10 @@ use Rattle.check_model.specs.declared.checks.Check.{Check}
 use Rattle.check_model.specs.declared.checks.Check.TheVariants.{Endpoint, Calculated}
 use Rattle.check_model.specs.Checks.{check_at, children_of}
 use Rattle.check_model.specs.Commands.{children_there}
-use Rattle.rdata_layout.specs.declared.types.RType.{RType}
-use Rattle.record_set.specs.declared.sets.Body.{Body}
-use Rattle.record_set.specs.declared.sets.Body.TheVariants as body
-use Rattle.record_set.specs.declared.sets.RecordSet.{RecordSet}
+use Rattle.zone_model.specs.RTypeRecord.{RType}
+use Rattle.zone_model.specs.BodyRecord.{Body}
+use Rattle.zone_model.specs.BodyRecord.TheVariants as body
+use Rattle.zone_model.specs.RecordSetRecord.{RecordSet}
 use Rattle.zone_model.specs.Zones.{IsAmong, group}
 use Rattle.health_model.specs.Healthy.{Watched, by_check, by_target, set_value, sets_of}
 use Rattle.health_model.specs.Nodes.{CheckNode, GroupNode, Node, SetNode, feeders, its_check, its_target, local}

@@ -4,10 +4,10 @@ use Rattle.std.specs.Prelude.{Contains}
 use Rattle.std.proofs.lemmas.List.Elements.{Contains-append_cases}
 use Rattle.check_model.specs.Checks.{check_at}
 use Rattle.check_model.specs.Commands.{children_there, starts_walk}
-use Rattle.rdata_layout.specs.declared.types.RType.{RType}
-use Rattle.record_set.specs.declared.sets.Body.{Body}
-use Rattle.record_set.specs.declared.sets.Body.TheVariants as body
-use Rattle.record_set.specs.declared.sets.RecordSet.{RecordSet}
+use Rattle.zone_model.specs.RTypeRecord.{RType}
+use Rattle.zone_model.specs.BodyRecord.{Body}
+use Rattle.zone_model.specs.BodyRecord.TheVariants as body
+use Rattle.zone_model.specs.RecordSetRecord.{RecordSet}
 use Rattle.zone_model.specs.Zones.{IsAmong, group}
 use Rattle.health_model.specs.Healthy.{Watched, sets_of}
 use Rattle.health_model.specs.Laws.{PathsEnd}

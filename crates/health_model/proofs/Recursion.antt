@@ -8,11 +8,11 @@ use Rattle.check_model.specs.Checks.{AreChildren, IsId, IsWalk, check_at, childr
 use Rattle.check_model.specs.Commands.{children_there, is_calculated_there, starts_walk}
 use Rattle.check_model.proofs.Members.{all_at}
 use Rattle.check_model.proofs.Walks.{stands_there, walks_told}
-use Rattle.rdata_layout.specs.declared.types.RType.{RType}
-use Rattle.record_set.specs.Reasons.{IsAlias}
-use Rattle.record_set.specs.declared.sets.Body.{Body}
-use Rattle.record_set.specs.declared.sets.Body.TheVariants as body
-use Rattle.record_set.specs.declared.sets.RecordSet.{RecordSet}
+use Rattle.zone_model.specs.RTypeRecord.{RType}
+use Rattle.zone_model.specs.Reasons.{IsAlias}
+use Rattle.zone_model.specs.BodyRecord.{Body}
+use Rattle.zone_model.specs.BodyRecord.TheVariants as body
+use Rattle.zone_model.specs.RecordSetRecord.{RecordSet}
 use Rattle.zone_model.specs.Walks as alias
 use Rattle.zone_model.specs.Zones.{IsAmong, group, is_of_group, target_group_of}
 use Rattle.health_model.specs.Healthy.{Watched, group_value, healthy, healthy_within, no_group, sets_of}

@@ -2,11 +2,11 @@
 use Rattle.std.specs.Prelude.{◌≡◌, ◌≢◌, ℕ, ◌≤◌, Bool, true, List, [], ◌∷◌, map, Contains}
 use Rattle.check_model.specs.Checks.{AreDistinct, check_at}
 use Rattle.check_model.specs.declared.checks.Check.{Check}
-use Rattle.rdata_layout.specs.declared.types.RType.{RType}
+use Rattle.zone_model.specs.RTypeRecord.{RType}
 use Rattle.checker_state.specs.Standing.{with_result}
-use Rattle.record_set.specs.declared.sets.RecordSet.{RecordSet}
-use Rattle.record_set.specs.declared.sets.SetKey.{SetKey}
-use Rattle.record_set.specs.Sets.{key_of}
+use Rattle.zone_model.specs.RecordSetRecord.{RecordSet}
+use Rattle.zone_model.specs.SetKeyRecord.{SetKey}
+use Rattle.zone_model.specs.Sets.{key_of}
 use Rattle.zone_model.specs.Zones.{IsAmong, group}
 use Rattle.health_model.specs.Healthy.{Watched, healthy, healthy_sets, sets_of}
 use Rattle.health_model.specs.Nodes.{CheckNode, Evaluates, GroupNode, InCone, IsConeOf, IsNode, Meets, Node, Passes, Reaches, feeders, local, truth}

@@ -8,6 +8,6 @@ pub use Rattle.check_model.specs.Checks
 pub use Rattle.check_model.specs.Commands
 pub use Rattle.checker_state.specs.Standing
 pub use Rattle.checker_state.specs.View
-pub use Rattle.record_set.specs.Sets
+pub use Rattle.zone_model.specs.Sets
 pub use Rattle.zone_model.specs.Walks
 pub use Rattle.zone_model.specs.Zones

@@ -1,9 +1,9 @@
 -- Nodes of health, what feeds each of them, and the equation of each.
 use Rattle.std.specs.Prelude.{◌≡◌, ◌≢◌, ℕ, zero, suc, Bool, if◌then◌else◌, List, [], ◌∷◌, ◌++◌, map, Option, None, Some, Contains, ◌↔◌, ⊤}
-use Rattle.rdata_layout.specs.declared.types.RType.{RType}
-use Rattle.record_set.specs.declared.sets.Body.{Body}
-use Rattle.record_set.specs.declared.sets.Body.TheVariants as body
-use Rattle.record_set.specs.declared.sets.RecordSet.{RecordSet}
+use Rattle.zone_model.specs.RTypeRecord.{RType}
+use Rattle.zone_model.specs.BodyRecord.{Body}
+use Rattle.zone_model.specs.BodyRecord.TheVariants as body
+use Rattle.zone_model.specs.RecordSetRecord.{RecordSet}
 use Rattle.check_model.specs.Checks.{IsId, check_at}
 use Rattle.check_model.specs.Commands.{children_there}
 use Rattle.zone_model.specs.Zones.{IsAmong, group}

@@ -1,7 +1,7 @@
 -- What health asks of the sets and checks of a sound configuration.
 use Rattle.std.specs.Prelude.{◌≡◌, ◌≢◌, ℕ, List, length, Some}
 use Rattle.std.specs.List.{AllByRecursion}
-use Rattle.record_set.specs.declared.sets.RecordSet.{RecordSet}
+use Rattle.zone_model.specs.RecordSetRecord.{RecordSet}
 use Rattle.check_model.specs.Checks.{AreChildren, IsId, IsWalk, children_of}
 use Rattle.zone_model.specs.Walks.{HasNoTarget, IsTooDeep}
 use Rattle.zone_model.specs.Zones.{IsAmong}

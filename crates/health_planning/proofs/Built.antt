@@ -17,14 +17,14 @@ use Rattle.health_model.specs.Sound.{IsSound}
 use Rattle.health_model.specs.Statuses.{Report}
 use Rattle.record_set.specs.declared.sets.Body.TheVariants.{Alias}
 use Rattle.record_set.specs.declared.sets.RecordSet.{RecordSet}
-use Rattle.zone_table.proofs.Members.{filled, set_in}
-use Rattle.zone_table.specs.Changes.{ref_in}
-use Rattle.zone_table.specs.Zones.{Zone, placed_in}
-use Rattle.zone_table.specs.SetRefRecord.{SetRef}
+use Rattle.policy_select.proofs.MembersOfZoneList.{filled, set_in}
+use Rattle.policy_select.specs.Changes.{ref_in}
+use Rattle.policy_select.specs.Zones.{Zone, placed_in}
+use Rattle.policy_select.specs.SetRefRecord.{SetRef}
 use Rattle.zone_model.specs.Placed.{IsHere, Placed, sets_of}
 use Rattle.zone_model.specs.Walks.{HasNoTarget}
 use Rattle.zone_model.specs.Zones.{IsAmong}
-use Rattle.zone_table.specs.Looking.{Names}
+use Rattle.policy_select.specs.Looking.{Names}
 use Rattle.health_planning.specs.Building.{AreBelow, AreGrouped, AreListed, AreShaped, AreThere, AreWithin, FeedsSet, HasTarget, IsBuilt, IsListed, IsSmallAt, SameSets, check_links, check_shape, check_shapes, group_shape, no_seat, set_shape}
 use Rattle.health_planning.specs.Wired.{group_seat, ids_of, is_watched, place_of, plain_among, watched_of}
 use Rattle.health_planning.specs.declared.seats.Seat.{Seat}

@@ -25,8 +25,8 @@ use Rattle.record_set.specs.Sets.{key_of}
 use Rattle.record_set.specs.declared.sets.Body.{Body}
 use Rattle.record_set.specs.declared.sets.Body.TheVariants as body
 use Rattle.record_set.specs.declared.sets.RecordSet.{RecordSet}
-use Rattle.zone_table.proofs.Members.{one_of_key, put_or_in, set_in}
-use Rattle.zone_table.specs.Zones.{AreZones, Zone, placed_in}
+use Rattle.policy_select.proofs.MembersOfZoneList.{one_of_key, put_or_in, set_in}
+use Rattle.policy_select.specs.Zones.{AreZones, Zone, placed_in}
 use Rattle.zone_model.specs.Placed.{IsHere, Placed}
 use Rattle.zone_model.specs.Zones.{IsAmong, group}
 use Rattle.health_planning.specs.Wired.{AreMembers, IsGateFor, IsGroupGate, IsSeated, IsSetGate, IsTarget, gates_of, group_seat, ids_of, is_watched, place_of, seat_of, watched_of, with_gate}

@@ -13,7 +13,7 @@ use Rattle.rdata_layout.specs.declared.types.RType.{RType}
 use Rattle.record_set.specs.declared.sets.Body.{Body}
 use Rattle.record_set.specs.declared.sets.Body.TheVariants as body
 use Rattle.record_set.specs.declared.sets.RecordSet.{RecordSet}
-use Rattle.zone_table.specs.Zones.{Zone}
+use Rattle.policy_select.specs.Zones.{Zone}
 use Rattle.health_planning.specs.Building.{AreThere, AreWithin, FeedsSet, HasTargetGate, check_links, links_to}
 use Rattle.health_planning.specs.Wired.{group_seat, place_of, with_gate}
 use Rattle.health_planning.specs.declared.seats.Seat.{Seat}

@@ -13,9 +13,9 @@ use Rattle.health_gates.specs.Walk.{EachOnce}
 use Rattle.health_gates.specs.declared.plan.Shape.{Shape}
 use Rattle.health_gates.specs.declared.plan.Link.{Link}
 use Rattle.health_model.proofs.Members.{first_or_rest, nothing_in}
-use Rattle.zone_table.proofs.Members.{filled, in_all}
-use Rattle.zone_table.specs.Zones.{StandsAlone, Zone, placed_in}
-use Rattle.zone_table.specs.SetRefRecord.{SetRef}
+use Rattle.policy_select.proofs.MembersOfZoneList.{filled, in_all}
+use Rattle.policy_select.specs.Zones.{StandsAlone, Zone, placed_in}
+use Rattle.policy_select.specs.SetRefRecord.{SetRef}
 use Rattle.zone_model.specs.Placed.{HaveOwnSlots, IsHere, Placed}
 use Rattle.zone_model.specs.Zones.{IsAmong}
 use Rattle.health_planning.specs.Building.{AreGrouped, AreListed, check_links, links_to}

@@ -9,7 +9,7 @@ use Rattle.health_gates.specs.Plan.{feeders_in}
 use Rattle.health_gates.specs.declared.plan.Link.{Link}
 use Rattle.health_gates.specs.declared.plan.Shape.{Shape}
 use Rattle.rdata_layout.specs.declared.types.RType.{RType}
-use Rattle.zone_table.specs.Zones.{Zone}
+use Rattle.policy_select.specs.Zones.{Zone}
 use Rattle.zone_model.specs.Placed.{IsHere, Placed}
 use Rattle.health_planning.specs.Building.{AreBelow, AreGrouped, AreSeated, AreWithin, HasGroupGate, HasTarget, SameSets, group_shape, links_to}
 use Rattle.health_planning.specs.Wired.{AreMembers, HasSlot, TellGroup, gates_of, group_seat, check_seat, plain, plain_among, seat_of, with_gate}

@@ -7,14 +7,14 @@ use Rattle.policy_select.specs.Groups.{members_of, sets_in, sets_in_zone}
 use Rattle.rdata_layout.specs.declared.types.RType.{RType}
 use Rattle.record_set.specs.declared.sets.Body.TheVariants.{Alias}
 use Rattle.record_set.specs.declared.sets.RecordSet.{RecordSet}
-use Rattle.set_scratch.specs.Telling.{target_in, target_of}
-use Rattle.zone_table.specs.Zones.{Zone, placed_in}
-use Rattle.zone_table.specs.SetRefRecord.{SetRef}
+use Rattle.policy_select.specs.Telling.{target_in, target_of}
+use Rattle.policy_select.specs.Zones.{Zone, placed_in}
+use Rattle.policy_select.specs.SetRefRecord.{SetRef}
 use Rattle.zone_model.proofs.Among.{among_at}
 use Rattle.zone_model.specs.Placed.{IsHere, Placed}
 use Rattle.zone_model.specs.Zones.{IsAmong, group}
-use Rattle.zone_table.specs.Looking.{IsMember, Names}
-use Rattle.zone_table.specs.declared.refs.Group.{Group}
+use Rattle.policy_select.specs.Looking.{IsMember, Names}
+use Rattle.policy_select.specs.GroupRecord.{Group}
 use Rattle.health_planning.specs.Building.{links_to}
 use Rattle.health_planning.specs.Wired.{AreMembers, gates_of, plain, plain_among, seat_of, with_gate}
 use Rattle.health_planning.specs.declared.seats.Seat.{Seat}

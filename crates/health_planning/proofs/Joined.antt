@@ -5,8 +5,8 @@ use Rattle.std.proofs.lemmas.Bool.{false≢true}
 use Rattle.rdata_layout.specs.declared.types.RType.{RType}
 use Rattle.record_set.specs.declared.sets.Body.{Body}
 use Rattle.record_set.specs.declared.sets.Body.TheVariants as body
-use Rattle.set_scratch.specs.Telling.{evaluates, target_in}
-use Rattle.zone_table.specs.Zones.{Zone}
+use Rattle.policy_select.specs.Telling.{evaluates, target_in}
+use Rattle.policy_select.specs.Zones.{Zone}
 use Rattle.zone_model.specs.Placed.{Placed}
 use Rattle.health_planning.specs.Building.{HasTargetGate}
 use Rattle.health_planning.specs.Wired.{AreMembers, IsFirstIn, group_seat, with_gate}

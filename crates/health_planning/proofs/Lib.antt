@@ -12,3 +12,7 @@ pub mod Roomy
 pub mod Seeing
 pub mod Watching
 pub mod Wiring
+pub use Rattle.policy_select.proofs.Members
+pub use Rattle.policy_select.proofs.Noted
+pub use Rattle.policy_select.proofs.Listing as ListingOfZoneList
+pub use Rattle.policy_select.proofs.MembersOfZoneList

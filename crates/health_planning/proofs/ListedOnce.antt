@@ -7,13 +7,13 @@ use mathlib.Core.Path.{subst}
 use Rattle.health_gates.proofs.Runs.{in_more}
 use Rattle.health_gates.specs.declared.plan.Shape.{Shape}
 use Rattle.record_set.specs.declared.sets.RecordSet.{RecordSet}
-use Rattle.zone_table.specs.Changes.{ref_in}
-use Rattle.zone_table.specs.Zones.{Zone, IsOne, placed_in}
-use Rattle.zone_table.specs.SetRefRecord.{SetRef}
+use Rattle.policy_select.specs.Changes.{ref_in}
+use Rattle.policy_select.specs.Zones.{Zone, IsOne, placed_in}
+use Rattle.policy_select.specs.SetRefRecord.{SetRef}
 use Rattle.zone_model.proofs.Among.{among_at}
 use Rattle.zone_model.specs.Placed.{IsHere, Placed}
-use Rattle.zone_table.specs.Looking.{IsSetAt, Names}
-use Rattle.zone_table.specs.Tables.{HaveSlotsApart, HaveSlotsBelow}
+use Rattle.policy_select.specs.Looking.{IsSetAt, Names}
+use Rattle.policy_select.specs.Tables.{HaveSlotsApart, HaveSlotsBelow}
 use Rattle.health_planning.specs.Building.{AreListed, HasSetGate, IsListed, set_shape}
 use Rattle.health_planning.specs.Wired.{check_seat, group_seat, is_watched, only_check, seat_of}
 use Rattle.health_planning.specs.declared.seats.Seat.{Seat}

@@ -12,9 +12,9 @@ use Rattle.health_gates.specs.declared.plan.Shape.{Shape}
 use Rattle.health_model.proofs.Members.{nothing_in}
 use Rattle.health_model.specs.Laws.{PathsEnd}
 use Rattle.health_model.specs.Sound.{IsSound}
-use Rattle.zone_table.specs.Zones.{AreZones, Zone}
-use Rattle.zone_table.specs.SetRefRecord.{SetRef}
-use Rattle.zone_table.specs.Tables.{HaveSlotsApart}
+use Rattle.policy_select.specs.Zones.{AreZones, Zone}
+use Rattle.policy_select.specs.SetRefRecord.{SetRef}
+use Rattle.policy_select.specs.Tables.{HaveSlotsApart}
 use Rattle.health_planning.specs.Building.{IsBuilt}
 use Rattle.health_planning.specs.Wired.{watched_of}
 use Rattle.health_planning.specs.declared.seats.Seat.{Seat}

@@ -17,13 +17,13 @@ use Rattle.health_model.proofs.Members.{nothing_in}
 use Rattle.policy_select.specs.Groups.{members_of}
 use Rattle.rdata_layout.specs.declared.types.RType.{RType}
 use Rattle.record_set.specs.declared.sets.RecordSet.{RecordSet}
-use Rattle.zone_table.specs.Changes.{ref_in}
-use Rattle.zone_table.specs.Zones.{AreZones, Zone, placed_in}
-use Rattle.zone_table.specs.SetRefRecord.{SetRef}
+use Rattle.policy_select.specs.Changes.{ref_in}
+use Rattle.policy_select.specs.Zones.{AreZones, Zone, placed_in}
+use Rattle.policy_select.specs.SetRefRecord.{SetRef}
 use Rattle.zone_model.specs.Placed.{HaveOwnSlots, IsHere, Placed}
-use Rattle.zone_table.specs.Looking.{Names}
-use Rattle.zone_table.specs.declared.refs.Group.{Group}
-use Rattle.zone_table.specs.Tables.{HaveSlotsApart, HaveSlotsBelow}
+use Rattle.policy_select.specs.Looking.{Names}
+use Rattle.policy_select.specs.GroupRecord.{Group}
+use Rattle.policy_select.specs.Tables.{HaveSlotsApart, HaveSlotsBelow}
 use Rattle.health_planning.specs.Building.{AreBelow, AreListed, AreSeated, AreWithin, group_shape, links_to}
 use Rattle.health_planning.specs.Rooms.{AreJoined, CanGroup, HasListRoom, HaveGatesApart}
 use Rattle.health_planning.specs.Wired.{AreMembers, check_seat, gates_of, group_seat, is_watched, only_check, plain_among, seat_of}

@@ -11,7 +11,7 @@ use Rattle.check_model.specs.declared.checks.Check.TheVariants.{Endpoint, Calcul
 use Rattle.checker_state.specs.Standing.{Seen, kept, nothing, numbers}
 use Rattle.checker_state.specs.Standing.{StandsFor as HasSeen}
 use Rattle.health_model.specs.Statuses.{AreReports, Report, results_of}
-use Rattle.zone_table.proofs.Members.{filled}
+use Rattle.policy_select.proofs.MembersOfZoneList.{filled}
 use Rattle.zone_model.proofs.Lists.{take_more}
 use Rattle.health_planning.specs.Building.{check_shape, check_shapes}
 use Rattle.health_planning.specs.Following.{FollowsAt, HasThreshold, Knows}

@@ -21,17 +21,17 @@ use Rattle.record_set.specs.Sets.{key_of}
 use Rattle.record_set.specs.declared.sets.Body.{Body}
 use Rattle.record_set.specs.declared.sets.Body.TheVariants as body
 use Rattle.record_set.specs.declared.sets.RecordSet.{RecordSet}
-use Rattle.set_scratch.specs.Telling.{evaluates}
-use Rattle.zone_table.proofs.Members.{filled, one_of_key, placed_with, set_in}
-use Rattle.zone_table.specs.Changes.{ref_in}
-use Rattle.zone_table.specs.Zones.{AreZones, StandsAlone, Zone, placed_in}
-use Rattle.zone_table.specs.SetRefRecord.{SetRef}
+use Rattle.policy_select.specs.Telling.{evaluates}
+use Rattle.policy_select.proofs.MembersOfZoneList.{filled, one_of_key, placed_with, set_in}
+use Rattle.policy_select.specs.Changes.{ref_in}
+use Rattle.policy_select.specs.Zones.{AreZones, StandsAlone, Zone, placed_in}
+use Rattle.policy_select.specs.SetRefRecord.{SetRef}
 use Rattle.zone_model.proofs.Among.{among_at}
 use Rattle.zone_model.proofs.Ordered.{one_number}
 use Rattle.zone_model.specs.Placed.{IsHere, Placed, sets_of}
 use Rattle.zone_model.specs.Zones.{IsAmong, IsRising, group, is_of_group}
-use Rattle.zone_table.specs.Looking.{Names}
-use Rattle.zone_table.specs.Tables.{HaveSlotsApart}
+use Rattle.policy_select.specs.Looking.{Names}
+use Rattle.policy_select.specs.Tables.{HaveSlotsApart}
 use Rattle.health_planning.specs.Building.{AreShaped, HasTarget, HasTargetGate, IsBuilt, check_shape, group_shape, number, set_shape}
 use Rattle.health_planning.specs.Wired.{AreMembers, HasSlot, IsFirstIn, IsGateFor, IsGroupGate, IsSeated, IsSetGate, IsTarget, IsWired, TellGroup, check_seat, gates_of, group_seat, ids_of, is_watched, only_check, place_of, plain_among, seat_of, with_gate}
 use Rattle.health_planning.specs.declared.seats.Seat.{Seat}

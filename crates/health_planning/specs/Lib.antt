@@ -11,3 +11,13 @@ pub use Rattle.health_model.specs.Nodes
 pub use Rattle.health_model.specs.Sound
 pub use Rattle.health_model.specs.Statuses
 pub use Rattle.policy_select.specs.Groups
+pub use Rattle.policy_select.specs.Changes
+pub use Rattle.policy_select.specs.Edits
+pub use Rattle.policy_select.specs.Looking
+pub use Rattle.policy_select.specs.SetRefRecord
+pub use Rattle.policy_select.specs.Tables
+pub use Rattle.policy_select.specs.Zones
+pub use Rattle.policy_select.specs.ZoneEditRecord
+pub use Rattle.policy_select.specs.DeltaRecord
+pub use Rattle.policy_select.specs.GroupRecord
+pub use Rattle.policy_select.specs.Telling

@@ -10,8 +10,8 @@ use Rattle.health_gates.specs.declared.plan.Link.{Link}
 use Rattle.health_planning.specs.Building.{AreBelow, AreGrouped}
 use Rattle.health_planning.specs.Wired.{group_seat, seat_of}
 use Rattle.health_planning.specs.declared.seats.Seat.{Seat}
-use Rattle.zone_table.specs.Zones.{Zone}
-use Rattle.zone_table.specs.SetRefRecord.{SetRef}
+use Rattle.policy_select.specs.Zones.{Zone}
+use Rattle.policy_select.specs.SetRefRecord.{SetRef}
 
 -- how many children there are in all
 abbrev pub children_among : List (ℕ × Check) → ℕ

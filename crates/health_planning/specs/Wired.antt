@@ -12,8 +12,8 @@ use Rattle.rdata_layout.specs.declared.types.RType.{RType}
 use Rattle.record_set.specs.declared.sets.Body.{Body}
 use Rattle.record_set.specs.declared.sets.Body.TheVariants as body
 use Rattle.record_set.specs.declared.sets.RecordSet.{RecordSet}
-use Rattle.set_scratch.specs.Telling.{evaluates}
-use Rattle.zone_table.specs.Zones.{Zone, placed_in}
+use Rattle.policy_select.specs.Telling.{evaluates}
+use Rattle.policy_select.specs.Zones.{Zone, placed_in}
 use Rattle.zone_model.specs.Placed.{IsHere, Placed, sets_of}
 use Rattle.zone_model.specs.Zones.{group}
 use Rattle.health_planning.specs.declared.seats.Seat.{Seat}

@@ -5,22 +5,21 @@ ghost use Rattle.health_gates.specs.Plan.{KeepsRoom, feeders_in};
 ghost use Rattle.health_gates.specs.declared.plan.Shape.{Shape};
 ghost use Rattle.record_set.specs.declared.sets.Body.TheVariants.{Alias};
 ghost use Rattle.record_set.specs.declared.sets.RecordSet.{RecordSet};
-ghost use Rattle.zone_table.specs.Zones.{placed_in};
+ghost use Rattle.policy_select.specs.Zones.{placed_in};
 ghost use Rattle.zone_model.specs.Placed.{sets_of};
 ghost use Rattle.zone_model.specs.Walks.{HasNoTarget};
-ghost use Rattle.zone_table.specs.Looking.{Names};
+ghost use Rattle.policy_select.specs.Looking.{Names};
 ghost use Rattle.health_planning.specs.Building.{IsSeatAt};
 ghost use Rattle.health_planning.specs.Building.{AreBelow, AreSeated, AreWithin, HasTarget};
 ghost use Rattle.health_planning.specs.Building.{SameSets, links_to};
 ghost use Rattle.health_planning.specs.Rooms.{CanGroup, HaveGatesApart};
 ghost use Rattle.health_planning.specs.Wired.{gates_of, group_seat, plain, plain_among, with_gate};
 ghost use Rattle.policy_select.specs.Groups.{members_of};
-ghost use Rattle.zone_table.specs.Looking.{IsGroupNow};
+ghost use Rattle.policy_select.specs.Looking.{IsGroupNow};
 
 use crate::seats::Seat;
 use health_gates::{Link, Plan, Shape};
-use policy_select::find_group;
-use zone_table::{Group, SetRef, Zones};
+use policy_select::{Group, SetRef, Zones, find_group};
 
 /// The seat in a slot.
 pub fn seat_at(seats: &[Seat], slot: u32) -> Seat

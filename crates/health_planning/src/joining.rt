@@ -8,18 +8,17 @@ ghost use Rattle.health_planning.specs.Building.{AreWithin, FeedsSet, HasTargetG
 ghost use Rattle.health_planning.specs.Building.{links_to};
 ghost use Rattle.health_planning.specs.Wired.{group_seat, place_of, with_gate};
 ghost use Rattle.record_set.specs.declared.sets.RecordSet.{RecordSet};
-ghost use Rattle.zone_table.specs.Zones.{placed_in};
-ghost use Rattle.zone_table.specs.SetRefRecord.{SetRef};
+ghost use Rattle.policy_select.specs.Zones.{placed_in};
+ghost use Rattle.policy_select.specs.SetRefRecord.{SetRef};
 ghost use Rattle.zone_model.specs.Placed.{sets_of};
 ghost use Rattle.zone_model.specs.Walks.{HasNoTarget};
-ghost use Rattle.zone_table.specs.Looking.{Names};
+ghost use Rattle.policy_select.specs.Looking.{Names};
 
 use crate::finding::place_in;
 use crate::grouping::{join_seat, seat_at};
 use crate::seats::Seat;
 use health_gates::{Link, Plan};
-use policy_select::find_group;
-use zone_table::{SetRef, Zones};
+use policy_select::{SetRef, Zones, find_group};
 
 /// The gate of the target group of a set, plus one, where its health counts, and else 0.
 fn target_seat(zones: &Zones, set: SetRef, seats: &[Seat]) -> u32

@@ -19,4 +19,7 @@ pub use building::{lay_seats, list_ids, list_seen};
 pub use finding::{place_in, seen_at};
 pub use listing::{is_watched, only_check};
 pub use planning::plan_gates;
+pub use policy_select::{
+    Delta, Group, HealthView, Scratch, SetRef, Watch, Zones, find_group, views_agree,
+};
 pub use seats::Seat;

@@ -7,16 +7,16 @@ ghost use Rattle.health_planning.specs.Building.{AreListed, IsListed, set_shape}
 ghost use Rattle.health_planning.specs.Rooms.{HasListRoom};
 ghost use Rattle.health_planning.specs.Wired.{is_watched, only_check};
 ghost use Rattle.record_set.specs.declared.sets.RecordSet.{RecordSet};
-ghost use Rattle.set_scratch.specs.Telling.{watch_of};
-ghost use Rattle.zone_table.specs.Changes.{ref_in};
-ghost use Rattle.zone_table.specs.Zones.{placed_in};
-ghost use Rattle.zone_table.specs.SetRefRecord.{SetRef};
+ghost use Rattle.policy_select.specs.Telling.{watch_of};
+ghost use Rattle.policy_select.specs.Changes.{ref_in};
+ghost use Rattle.policy_select.specs.Zones.{placed_in};
+ghost use Rattle.policy_select.specs.SetRefRecord.{SetRef};
 ghost use Rattle.zone_model.specs.Placed.{IsHere, Placed};
-ghost use Rattle.zone_table.specs.Looking.{Names};
+ghost use Rattle.policy_select.specs.Looking.{Names};
 
 use crate::seats::Seat;
 use health_gates::{Plan, Shape};
-use zone_table::{SetRef, Watch, Zones};
+use policy_select::{SetRef, Watch, Zones};
 
 /// Whether something decides the health of a set.
 pub fn is_watched(watch: Watch) -> bool

@@ -20,7 +20,7 @@ use checker_state::Checkers;
 use health_check::CheckTable;
 use health_gates::Plan;
 use health_model::paths_end;
-use zone_table::{SetRef, Zones};
+use policy_select::{SetRef, Zones};
 
 /// Plans all gates and what feeds them, one kind after another.
 fn plan_all(

@@ -5,3 +5,7 @@ pub mod Prefixes
 pub mod Rows
 pub mod Tables
 pub mod Trees
+pub use Rattle.address_text.specs.AddressOfText
+pub use Rattle.address_text.specs.Laws as LawsOfAddressText
+pub use Rattle.address_text.specs.Spelling
+pub use Rattle.address_text.specs.declared.address.IpAddress as IpAddressRecord

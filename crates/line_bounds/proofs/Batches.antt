@@ -3,15 +3,15 @@ use Rattle.std.proofs.Common.{◌≡◌, ℕ, List, Ok, subst}
 use Rattle.std.specs.List.{AllByRecursion}
 use Rattle.batch_model.specs.declared.batches.Batch.{Batch}
 use Rattle.batch_model.specs.declared.batches.Change.{Change}
-use Rattle.config_model.specs.Laws.{HasBoundedSet, IsBoundedSet}
+use Rattle.command_bounds.specs.LawsOfConfigModel.{HasBoundedSet, IsBoundedSet}
 use Rattle.dns_name.specs.Laws.{TextsReadAsNames}
 use Rattle.serde_json.specs.Data.{Data}
 use Rattle.line_faults.specs.declared.member.Member.{Member}
 use Rattle.line_faults.specs.declared.member.Member.TheVariants as m
 use Rattle.line_reading.specs.Kinds.{list, text, word}
 use Rattle.line_reading.specs.Reading.{in_change, required}
-use Rattle.set_lines.specs.ChangeLines.{action_of, change, change_batch, change_sets, changes}
-use Rattle.set_lines.specs.Sets.{resource_record_set}
+use Rattle.batch_json.specs.ChangeLines.{action_of, change, change_batch, change_sets, changes}
+use Rattle.batch_json.specs.Sets.{resource_record_set}
 use Rattle.line_bounds.proofs.Sets.{set_is}
 use Rattle.line_bounds.proofs.Steps.{after_object, each_has, in_its_change, required_has, same_ok, steps}
 use Rattle.line_bounds.specs.Laws.{TextsAreValues}

@@ -6,8 +6,8 @@ use Rattle.cidr_changes.specs.Laws.{HasName, HaveNames}
 use Rattle.cidr_changes.specs.declared.changes.CidrChange.{CidrChange}
 use Rattle.cidr_commands.specs.Commands.{HasNames}
 use Rattle.cidr_commands.specs.declared.command.CidrCommand.{CidrCommand}
-use Rattle.cidr_lines.specs.Collections.{block, blocks, change, change_collection, changes, collection_name, create_collection, delete_collection, is_put}
-use Rattle.cidr_lines.specs.Collections.{location_name}
+use Rattle.batch_json.specs.Collections.{block, blocks, change, change_collection, changes, collection_name, create_collection, delete_collection, is_put}
+use Rattle.batch_json.specs.Collections.{location_name}
 use Rattle.command_bounds.specs.Laws.{AreShortLists, IsShortChange}
 use Rattle.ip_table.specs.Prefixes.{IsPrefix, Prefix}
 use Rattle.prefix_text.specs.Prefixes.{prefix_of}

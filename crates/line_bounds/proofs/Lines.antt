@@ -10,10 +10,10 @@ use Rattle.batch_json.specs.declared.asking.Line.{Line}
 use Rattle.batch_json.specs.declared.asking.Line.TheVariants as line
 use Rattle.check_lines.specs.Checks.{create_health_check, delete_health_check, get_health_check_status, observe, update_health_check}
 use Rattle.check_model.specs.declared.checks.CheckCommand.TheVariants.{Delete}
-use Rattle.cidr_lines.specs.Collections.{change_collection, create_collection, delete_collection}
+use Rattle.batch_json.specs.Collections.{change_collection, create_collection, delete_collection}
 use Rattle.command_bounds.specs.Laws.{HasShortLists}
-use Rattle.command_octets.specs.declared.commands.Command.TheVariants as command
-use Rattle.config_model.specs.Laws.{IsBounded}
+use Rattle.batch_json.specs.CommandRecord.TheVariants as command
+use Rattle.command_bounds.specs.LawsOfConfigModel.{IsBounded}
 use Rattle.dns_name.specs.Laws.{TextsReadAsNames}
 use Rattle.line_faults.specs.Texts.{text_of}
 use Rattle.line_faults.specs.declared.fault.LineFault.{LineFault}
@@ -25,7 +25,7 @@ use Rattle.query_lines.specs.Queries.{bind, compact, query, serve}
 use Rattle.serde_json.specs.Data.{Data}
 use Rattle.serde_json.specs.Find.{as_object, get}
 use Rattle.serde_json.specs.Read.{read}
-use Rattle.set_lines.specs.ChangeLines.{change_sets}
+use Rattle.batch_json.specs.ChangeLines.{change_sets}
 use Rattle.zone_lines.specs.Zones.{create_hosted_zone, delete_hosted_zone, list_sets}
 use Rattle.line_bounds.proofs.Batches.{batch_is}
 use Rattle.line_bounds.proofs.Checks.{check_is, update_is}

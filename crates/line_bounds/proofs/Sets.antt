@@ -18,11 +18,11 @@ use Rattle.rdata.specs.declared.faults.ValueFault.{ValueFault}
 use Rattle.rdata_layout.specs.declared.types.RType.{RType}
 use Rattle.record_set.specs.Values.{IsInLayout}
 use Rattle.record_set.specs.declared.sets.Body.{Body}
-use Rattle.set_lines.specs.Sets.{body_with, content_members, resource_record_set}
-use Rattle.set_lines.specs.Values.{alias_target, or_bad_value, record_value, records, same_zone, value, values_in}
+use Rattle.batch_json.specs.Sets.{body_with, content_members, resource_record_set}
+use Rattle.batch_json.specs.Values.{alias_target, or_bad_value, record_value, records, same_zone, value, values_in}
 use Rattle.set_octets.specs.Octets.{AreOfType, IsSpelledBody}
 use Rattle.set_reading.specs.Sets.{IsBody}
-use Rattle.config_model.specs.Laws.{IsBoundedSet}
+use Rattle.command_bounds.specs.LawsOfConfigModel.{IsBoundedSet}
 use Rattle.line_bounds.proofs.Names.{name_is}
 use Rattle.line_bounds.proofs.Policies.{policy_is}
 use Rattle.line_bounds.proofs.Steps.{after_object, each_has, list_within, number_within, optional_has, required_has, same_ok, steps}

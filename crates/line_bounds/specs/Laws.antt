@@ -4,8 +4,8 @@ use Rattle.batch_json.specs.Lines.{IsJson, line_of}
 use Rattle.batch_json.specs.declared.asking.Line.{Line}
 use Rattle.batch_json.specs.declared.asking.Line.TheVariants as line
 use Rattle.command_bounds.specs.Laws.{HasShortLists}
-use Rattle.command_octets.specs.declared.commands.Command.{Command}
-use Rattle.config_model.specs.Laws.{IsBounded}
+use Rattle.batch_json.specs.CommandRecord.{Command}
+use Rattle.command_bounds.specs.LawsOfConfigModel.{IsBounded}
 use Rattle.ip_table.specs.Prefixes.{IsPrefix, Prefix}
 use Rattle.line_faults.specs.declared.fault.LineFault.{LineFault}
 use Rattle.line_faults.specs.declared.fault.LineReason.TheVariants.{NotJson}
@@ -16,7 +16,7 @@ use Rattle.prefix_text.specs.Prefixes.{prefix_of}
 use Rattle.rdata.specs.ValueOfText.{value_of_text}
 use Rattle.rdata_layout.specs.Layout.{IsLayout}
 use Rattle.rdata_layout.specs.declared.types.RType.{RType}
-use Rattle.reply_model.specs.Paging.{Start}
+use Rattle.page_laws.specs.Paging.{Start}
 use Rattle.serde_json.specs.Data.{Data}
 use Rattle.zone_lines.specs.declared.lists.ListOfSets.{ListOfSets}
 

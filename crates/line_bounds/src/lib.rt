@@ -7,7 +7,12 @@
 
 mod laws;
 
+pub use batch_json::{Line, read_line};
+pub use command_bounds::Command;
 pub use laws::{
     lines_are_bounded, read_counts_are_some, read_lines_are_bounded, read_lists_are_asked,
     texts_are_prefixes, texts_are_values,
 };
+pub use page_laws::Outcome;
+pub use query_lines::{Ports, QueryLine};
+pub use zone_lines::ListOfSets;

@@ -1,11 +1,11 @@
 -- What comes of lines that ask.
 use Rattle.std.proofs.Common.{◌≡◌, ◌⊎◌, inl, inr, ℕ, List, Option, subst}
 use Rattle.std.specs.Prelude.{⊤}
-use Rattle.engine_model.specs.Engine.{Engine}
+use Rattle.serve_turns.specs.Engine.{Engine}
 use Rattle.line_server.proofs.Commands.{written}
 use Rattle.line_server.specs.Leaving.{Replies, RepliesOr, taken_of}
 use Rattle.line_server.specs.declared.answers.Taken.{Taken}
-use Rattle.session_model.specs.Replies.{memory_text}
+use Rattle.serve_turns.specs.Replies.{memory_text}
 use Rattle.whole_writing.specs.Output.{OutputOf}
 use Rattle.whole_writing.specs.declared.output.Output.{Output}
 

@@ -2,22 +2,22 @@
 use Rattle.std.proofs.Common.{◌≡◌, ◌≢◌, ◌≤◌, ◌⊎◌, inl, inr, ℕ, List, Option, Result, Ok, Err, sym, refl, subst}
 use Rattle.serve_turns.specs.Holding.{Holds}
 use Rattle.serve_turns.specs.Journaled.{config_of}
-use Rattle.command_octets.specs.declared.commands.Command.{Command}
-use Rattle.config_model.specs.Applying.{Decides, Outcome as Applied}
-use Rattle.config_model.specs.Configs.{Config}
-use Rattle.config_model.specs.Laws.{OneOutcome}
-use Rattle.config_model.specs.declared.refusals.Made.{Made}
-use Rattle.config_model.specs.declared.refusals.Refusal.{Refusal}
-use Rattle.config_model.specs.declared.refusals.Refusal.TheVariants as refusal
-use Rattle.engine_model.specs.Engine.{Engine, Fits, grown, size_of}
+use Rattle.reply_sending.specs.CommandRecord.{Command}
+use Rattle.reply_sending.specs.Applying.{Decides, Outcome as Applied}
+use Rattle.reply_sending.specs.Configs.{Config}
+use Rattle.reply_sending.specs.Laws.{OneOutcome}
+use Rattle.reply_sending.specs.MadeRecord.{Made}
+use Rattle.reply_sending.specs.RefusalRecord.{Refusal}
+use Rattle.reply_sending.specs.RefusalRecord.TheVariants as refusal
+use Rattle.serve_turns.specs.Engine.{Engine, Fits, grown, size_of}
 use Rattle.line_server.specs.Leaving.{Makes, RepliesOr, StoreLeaves, Torn, Written, taken_of}
 use Rattle.line_server.specs.Replying.{Commanded}
 use Rattle.serve_turns.specs.Stores.{CommandGives, StandsFor, State as Store, Untouched}
 use Rattle.serve_turns.specs.Kept.{IsAccepted}
-use Rattle.reply_model.specs.Outcomes.{text_of}
-use Rattle.session_model.specs.Replies.{command_outcome, memory_text}
-use Rattle.store_model.specs.Laws.{StandingOpens}
-use Rattle.store_model.specs.Leaving.{OpensEither}
+use Rattle.reply_sending.specs.Outcomes.{text_of}
+use Rattle.serve_turns.specs.Replies.{command_outcome, memory_text}
+use Rattle.serve_turns.specs.Laws.{StandingOpens}
+use Rattle.serve_turns.specs.Leaving.{OpensEither}
 use Rattle.whole_writing.specs.Output.{OutputOf}
 use Rattle.whole_writing.specs.declared.output.Output.{Output}
 use Rattle.whole_writing.specs.declared.output.Output.TheVariants as output

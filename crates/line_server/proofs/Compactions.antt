@@ -1,20 +1,20 @@
 -- What comes of pieces of a compaction.
 use Rattle.std.proofs.Common.{◌≡◌, ◌⊎◌, inl, inr, ℕ, ◌+◌, ◌^◌, List, Option, Some, None, ◌∙◌, sym, refl, subst}
 use Rattle.std.proofs.lemmas.Bool.{cases_eq}
-use Rattle.config_model.specs.Configs.{Config}
+use Rattle.reply_sending.specs.Configs.{Config}
 use Rattle.serve_turns.specs.Journaled.{config_of}
-use Rattle.engine_model.specs.Compacting.{CompactionSteps, IsLastGeneration}
-use Rattle.engine_model.specs.Compacting.{compacted as after_all, told_of}
-use Rattle.engine_model.specs.Engine.{Engine, Journal, Plan}
-use Rattle.engine_model.specs.declared.answers.Compacted.{Compacted}
-use Rattle.engine_model.specs.declared.answers.Compacted.TheVariants as compacted
+use Rattle.serve_turns.specs.Compacting.{CompactionSteps, IsLastGeneration}
+use Rattle.serve_turns.specs.Compacting.{compacted as after_all, told_of}
+use Rattle.serve_turns.specs.Engine.{Engine, Journal, Plan}
+use Rattle.serve_turns.specs.CompactedRecord.{Compacted}
+use Rattle.serve_turns.specs.CompactedRecord.TheVariants as compacted
 use Rattle.line_server.proofs.Commands.{written}
 use Rattle.line_server.specs.Leaving.{Makes, RepliesOr, Torn, taken_of}
 use Rattle.line_server.specs.Replying.{Compacts}
 use Rattle.serve_turns.specs.Stores.{CompactionGives, StandsFor, State as Store}
-use Rattle.reply_model.specs.Outcomes.{text_of}
-use Rattle.session_model.specs.Replies.{compact_outcome, memory_text}
-use Rattle.store_model.specs.Opening.{OpensConfig}
+use Rattle.reply_sending.specs.Outcomes.{text_of}
+use Rattle.serve_turns.specs.Replies.{compact_outcome, memory_text}
+use Rattle.serve_turns.specs.Opening.{OpensConfig}
 use Rattle.whole_writing.specs.Output.{OutputOf}
 use Rattle.whole_writing.specs.declared.output.Output.{Output}
 

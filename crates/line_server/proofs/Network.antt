@@ -1,7 +1,7 @@
 -- What comes of lines on the network.
 use Rattle.std.proofs.Common.{◌≡◌, inl, inr, ℕ, List, [], ◌++◌, true, false, Option, Some, ap, ◌∙◌, sym, refl, subst, append-nil}
-use Rattle.batch_json.specs.declared.asking.Line.TheVariants as line
-use Rattle.engine_model.specs.Engine.{Engine}
+use Rattle.serve_turns.specs.LineRecord.TheVariants as line
+use Rattle.serve_turns.specs.Engine.{Engine}
 use Rattle.geo_latency.specs.declared.tables.Tables.{Tables}
 use Rattle.line_server.specs.Leaving.{CameTo, StepLeaves, TurnsInPart, taken_of}
 use Rattle.line_server.specs.Standing.{IsBound, IsServed}
@@ -10,15 +10,15 @@ use Rattle.query_lines.specs.declared.serving.Ports.{Ports}
 use Rattle.serve_turns.specs.Stores.{StandsFor, State as Store}
 use Rattle.r53_io.specs.Network.{Incoming}
 use Rattle.rand_core.specs.Stream.{Stream}
-use Rattle.reply_model.specs.Outcomes.{text_of}
-use Rattle.reply_model.specs.declared.outcomes.Outcome.TheVariants as outcome
-use Rattle.reply_model.specs.declared.outcomes.Turns.{Turns}
+use Rattle.reply_sending.specs.Outcomes.{text_of}
+use Rattle.reply_sending.specs.OutcomeRecord.TheVariants as outcome
+use Rattle.reply_sending.specs.TurnsRecord.{Turns}
 use Rattle.serve_turns.specs.Turning.{Standing, TurnsLeave, first}
 use Rattle.serve_turns.specs.declared.serving.Served.{Served as Answer}
 use Rattle.serve_turns.specs.declared.serving.Served.TheVariants as answer
-use Rattle.session_model.specs.Serving.{Datagram, none}
-use Rattle.session_model.specs.Steps.{LineSteps, State, Step, Surroundings, after_turns}
-use Rattle.session_model.specs.Steps.{given_for, replied}
+use Rattle.serve_turns.specs.ServingOfSessionModel.{Datagram, none}
+use Rattle.serve_turns.specs.Steps.{LineSteps, State, Step, Surroundings, after_turns}
+use Rattle.serve_turns.specs.Steps.{given_for, replied}
 use Rattle.whole_writing.specs.Output.{OutputOf}
 use Rattle.whole_writing.specs.declared.output.Output.{Output}
 use Rattle.whole_writing.specs.declared.output.Output.TheVariants as output

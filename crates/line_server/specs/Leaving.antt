@@ -1,16 +1,16 @@
 -- What a line leaves, by the answer of the call that takes it.
 use Rattle.std.specs.Prelude.{◌≡◌, ◌≢◌, ◌⊎◌, ◌<◌, ℕ, List, ◌++◌, Option, Some, ⊤}
-use Rattle.config_model.specs.Configs.{Config}
-use Rattle.engine_model.specs.Engine.{Engine, Journal}
+use Rattle.reply_sending.specs.Configs.{Config}
+use Rattle.serve_turns.specs.Engine.{Engine, Journal}
 use Rattle.line_server.specs.declared.answers.Taken.{Taken}
 use Rattle.line_server.specs.declared.answers.Taken.TheVariants as taken
 use Rattle.octets.specs.Counts.{Rose}
 use Rattle.r53_io.specs.Network.{Incoming}
-use Rattle.session_model.specs.Replies.{memory_text}
-use Rattle.session_model.specs.Serving.{Datagram, Served, TakesTurns}
+use Rattle.serve_turns.specs.Replies.{memory_text}
+use Rattle.serve_turns.specs.ServingOfSessionModel.{Datagram, Served, TakesTurns}
 use Rattle.serve_turns.specs.Turning.{IsInHand}
-use Rattle.session_model.specs.Steps.{State, Step, Surroundings, at_first_turn}
-use Rattle.store_model.specs.Leaving.{OpensEither}
+use Rattle.serve_turns.specs.Steps.{State, Step, Surroundings, at_first_turn}
+use Rattle.serve_turns.specs.Leaving.{OpensEither}
 use Rattle.whole_writing.specs.Output.{OutputOf}
 use Rattle.whole_writing.specs.declared.output.Output.{Output}
 use Rattle.whole_writing.specs.declared.output.Output.TheVariants as output

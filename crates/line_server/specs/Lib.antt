@@ -5,3 +5,5 @@ pub mod Standing
 pub use Rattle.serve_turns.specs.Holding
 pub use Rattle.serve_turns.specs.Journaled
 pub use Rattle.serve_turns.specs.Stores
+pub use Rattle.serve_turns.specs.Laws
+pub use Rattle.serve_turns.specs.Opening

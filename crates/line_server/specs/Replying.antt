@@ -2,19 +2,19 @@
 -- definitions, from a store to the one after and the reply line.
 use Rattle.std.specs.Prelude.{◌≡◌, ℕ, List, Option, Result}
 use Rattle.check_lines.specs.declared.observing.Observation.{Observation}
-use Rattle.command_octets.specs.declared.commands.Command.{Command}
-use Rattle.config_model.specs.declared.refusals.Made.{Made}
-use Rattle.config_model.specs.declared.refusals.Refusal.{Refusal}
-use Rattle.engine_model.specs.Compacting.{CompactionSteps}
-use Rattle.engine_model.specs.Engine.{CommandSteps, Engine, QueryGives, ReportSteps}
-use Rattle.engine_model.specs.declared.answers.Compacted.{Compacted}
-use Rattle.engine_model.specs.declared.answers.Reported.{Reported}
+use Rattle.reply_sending.specs.CommandRecord.{Command}
+use Rattle.reply_sending.specs.MadeRecord.{Made}
+use Rattle.reply_sending.specs.RefusalRecord.{Refusal}
+use Rattle.serve_turns.specs.Compacting.{CompactionSteps}
+use Rattle.serve_turns.specs.Engine.{CommandSteps, Engine, QueryGives, ReportSteps}
+use Rattle.serve_turns.specs.CompactedRecord.{Compacted}
+use Rattle.serve_turns.specs.ReportedRecord.{Reported}
 use Rattle.geo_latency.specs.declared.tables.Tables.{Tables}
 use Rattle.health_model.specs.Statuses.{status_told}
 use Rattle.query_lines.specs.declared.queries.QueryLine.{QueryLine}
-use Rattle.reply_model.specs.Outcomes.{text_of}
-use Rattle.session_model.specs.Replies.{command_outcome, compact_outcome, query_text}
-use Rattle.session_model.specs.Replies.{report_outcome, status_outcome}
+use Rattle.reply_sending.specs.Outcomes.{text_of}
+use Rattle.serve_turns.specs.Replies.{command_outcome, compact_outcome, query_text}
+use Rattle.serve_turns.specs.Replies.{report_outcome, status_outcome}
 
 abbrev pub Commanded : Command → (old after : Engine) → (reply : List ℕ) → Type 0
 Commanded given old after reply =

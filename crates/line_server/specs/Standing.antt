@@ -4,7 +4,7 @@ use Rattle.geo_latency.specs.declared.tables.Tables.{Tables}
 use Rattle.serve_turns.specs.Stores.{State as Store, StandsFor as StoreStandsFor}
 use Rattle.r53_io.specs.Network.{Incoming}
 use Rattle.rand_core.specs.Stream.{Stream}
-use Rattle.session_model.specs.Steps.{State}
+use Rattle.serve_turns.specs.Steps.{State}
 
 -- The store, the tables, and whether ports are bound.
 pub record Server : Type 0 where

@@ -1,26 +1,24 @@
 //! Lines that ask for a status, tell what a checker saw, or ask for the reply to a packet.
 
 ghost use Rattle.std.specs.Prelude.{◌≡◌, ◌≤◌, ◌<◌, ◌⊎◌, ℕ, List, Some, vec_capacity, ⊤};
-ghost use Rattle.engine_model.specs.Engine.{Engine, ReportSteps};
+ghost use Rattle.serve_turns.specs.Engine.{Engine, ReportSteps};
 ghost use Rattle.line_server.specs.Leaving.{HasCause, Replies, RepliesOr};
 ghost use Rattle.line_server.specs.Replying.{Answered, Observed, Told};
 ghost use Rattle.serve_turns.specs.Stores.{StandsFor};
 ghost use Rattle.octets.specs.Counts.{Rose};
-ghost use Rattle.session_model.specs.Replies.{memory_text, query_text, report_outcome};
-ghost use Rattle.session_model.specs.Replies.{status_outcome};
+ghost use Rattle.serve_turns.specs.Replies.{memory_text, query_text, report_outcome};
+ghost use Rattle.serve_turns.specs.Replies.{status_outcome};
 ghost use Rattle.whole_writing.specs.Output.{OutputOf};
 
 use crate::answers::Taken;
 use crate::sending::sent;
 use check_lines::Observation;
-use config_model::Refusal;
 use dns_wire::Reply;
 use geo_latency::Tables;
 use line_faults::Member;
 use query_lines::QueryLine;
 use r53_io::Sink;
-use reply_model::Outcome;
-use reply_sending::{Output, ROOM, send_answer, send_outcome, send_silence};
+use reply_sending::{Outcome, Output, ROOM, Refusal, send_answer, send_outcome, send_silence};
 use serve_turns::{Reported, Steps, Store};
 use std::marker::Brand;
 use std::sync::ledger::{Blank, Ledger};

@@ -1,13 +1,13 @@
 //! Ports, and turns on them.
 
 ghost use Rattle.std.specs.Prelude.{◌≡◌, ◌≤◌, ℕ, List, Some, length, vec_capacity};
-ghost use Rattle.batch_json.specs.declared.asking.Line.TheVariants as line;
+ghost use Rattle.serve_turns.specs.LineRecord.TheVariants as line;
 ghost use Rattle.line_server.specs.Leaving.{HasCause, StepLeaves, TurnsInPart};
 ghost use Rattle.line_server.specs.Standing.{IsBound, IsServed};
 ghost use Rattle.serve_turns.specs.Stores.{StandsFor};
 ghost use Rattle.serve_turns.specs.Turning.{GoesOn};
-ghost use Rattle.session_model.specs.Serving.{Datagram};
-ghost use Rattle.session_model.specs.Steps.{LineSteps, State, Surroundings};
+ghost use Rattle.serve_turns.specs.ServingOfSessionModel.{Datagram};
+ghost use Rattle.serve_turns.specs.Steps.{LineSteps, State, Surroundings};
 
 use crate::answers::Taken;
 use crate::sending::sent;
@@ -16,8 +16,7 @@ use geo_latency::Tables;
 use query_lines::Ports;
 use r53_io::{Bound, Link, Sink};
 use rand_core::Rng;
-use reply_model::Outcome;
-use reply_sending::{ROOM, send_outcome};
+use reply_sending::{Outcome, ROOM, send_outcome};
 use serve_turns::{Served, Store, serve};
 
 /// Binds ports, and writes the reply. After an Ok bind another is AlreadyBound.

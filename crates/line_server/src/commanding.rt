@@ -1,18 +1,18 @@
 //! Commands.
 
 ghost use Rattle.std.specs.Prelude.{◌≡◌, ◌≢◌, ◌≤◌, ℕ, List, Some, Err, IsTrue, ◌↔◌, vec_capacity};
-ghost use Rattle.command_bounds.specs.Laws.{HasShortLists};
-ghost use Rattle.command_octets.specs.declared.commands.Command.{Command};
+ghost use Rattle.serve_turns.specs.LawsOfCommandBounds.{HasShortLists};
+ghost use Rattle.reply_sending.specs.CommandRecord.{Command};
 ghost use Rattle.serve_turns.specs.Holding.{Holds};
-ghost use Rattle.config_model.specs.Laws.{IsBounded};
-ghost use Rattle.config_model.specs.declared.refusals.Refusal.TheVariants as refusal;
-ghost use Rattle.engine_model.specs.Engine.{Engine};
+ghost use Rattle.reply_sending.specs.Laws.{IsBounded};
+ghost use Rattle.reply_sending.specs.RefusalRecord.TheVariants as refusal;
+ghost use Rattle.serve_turns.specs.Engine.{Engine};
 ghost use Rattle.line_server.specs.Leaving.{HasCause, Makes, StoreLeaves, Torn, UnlessTorn};
 ghost use Rattle.line_server.specs.Replying.{Commanded};
 ghost use Rattle.octets.specs.Counts.{Rose};
 ghost use Rattle.serve_turns.specs.Stores.{StandsFor};
-ghost use Rattle.session_model.specs.Replies.{check_line, cidr_line, command_line, command_outcome};
-ghost use Rattle.session_model.specs.Replies.{zone_name};
+ghost use Rattle.serve_turns.specs.Replies.{check_line, cidr_line, command_line, command_outcome};
+ghost use Rattle.serve_turns.specs.Replies.{zone_name};
 ghost use Rattle.zone_journal.specs.Pairs.{Leaves};
 ghost use Rattle.zone_journal.specs.Standing.{StandsOn};
 
@@ -20,17 +20,13 @@ use crate::answers::Taken;
 use crate::sending::sent;
 use check_model::CheckCommand;
 use cidr_commands::CidrCommand;
-use command_octets::Command;
-use config_model::{Made, Refusal, one_outcome};
 use dns_name::Name;
 use line_faults::Member;
 use r53_disk::Disk;
 use r53_io::Sink;
-use reply_model::Outcome;
-use reply_sending::{ROOM, send_outcome};
-use serve_turns::Store;
+use reply_sending::{Command, Made, Outcome, ROOM, Refusal, one_outcome, send_outcome};
+use serve_turns::{Store, standing_opens};
 use std::alloc::Global;
-use store_model::standing_opens;
 
 /// Takes a command, and writes its reply.
 ///

@@ -2,24 +2,21 @@
 
 ghost use Rattle.std.specs.Prelude.{◌≡◌, ◌≤◌, ℕ, List, None, Some, IsTrue, ◌↔◌, vec_capacity};
 ghost use Rattle.serve_turns.specs.Holding.{Holds};
-ghost use Rattle.engine_model.specs.Engine.{Engine};
-ghost use Rattle.engine_model.specs.declared.answers.Compacted.TheVariants as Compacted;
+ghost use Rattle.serve_turns.specs.Engine.{Engine};
+ghost use Rattle.serve_turns.specs.CompactedRecord.TheVariants as Compacted;
 ghost use Rattle.line_server.specs.Leaving.{HasCause, Makes, StoreLeaves, Torn, UnlessTorn};
 ghost use Rattle.line_server.specs.Replying.{Compacts};
 ghost use Rattle.serve_turns.specs.Stores.{StandsFor};
-ghost use Rattle.session_model.specs.Replies.{compact_outcome};
+ghost use Rattle.serve_turns.specs.Replies.{compact_outcome};
 ghost use Rattle.zone_journal.specs.Pairs.{Leaves};
 ghost use Rattle.zone_journal.specs.Standing.{StandsOn};
 
 use crate::answers::Taken;
 use crate::sending::sent;
-use config_model::Refusal;
-use engine_model::Compacted;
 use r53_disk::Disk;
 use r53_io::Sink;
-use reply_model::Outcome;
-use reply_sending::{ROOM, send_outcome};
-use serve_turns::Store;
+use reply_sending::{Outcome, ROOM, Refusal, send_outcome};
+use serve_turns::{Compacted, Store};
 use std::alloc::Global;
 
 /// Makes pieces of a compaction, and writes the reply.

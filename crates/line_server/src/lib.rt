@@ -19,4 +19,4 @@ pub use binding::{bind_ports, take_turns};
 pub use commanding::control;
 pub use compacting::compact;
 pub use sending::sent;
-pub use serve_turns::Store;
+pub use serve_turns::{Store, standing_opens};

@@ -1,9 +1,9 @@
 -- The next of the sets of a page.
 use Rattle.std.proofs.Common.{◌≡◌, ℕ, zero, suc, ◌+◌, ◌<◌, ◌≤◌, List, [], ◌∷◌, ◌++◌, length, drop, take, Bool, true, Some, ap, ◌∙◌, arith, refl}
 use Rattle.std.specs.Prelude.{slice_get}
-use Rattle.list_writing.specs.Pieces.{set_pieces, sets_pieces}
+use Rattle.set_sending.specs.PiecesOfListWriting.{set_pieces, sets_pieces}
 use Rattle.record_set.specs.declared.sets.RecordSet.{RecordSet}
-use Rattle.zone_table.proofs.Members.{filled, left_at}
+use Rattle.config_zones.proofs.MembersOfZoneList.{filled, left_at}
 
 pub next_set : (later : Bool) (zone : ℕ) (sets : List RecordSet) (place : ℕ) (set : RecordSet)
     → slice_get sets place ≡ Some set

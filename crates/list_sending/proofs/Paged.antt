@@ -7,22 +7,22 @@ use Rattle.std.specs.Option.{option_map}
 use Rattle.std.proofs.lemmas.List.{drop-take, length-drop, take_all}
 use Rattle.std.proofs.lemmas.Option.{slice_get_past}
 use Rattle.std.proofs.Math.Seq.{take-length}
-use Rattle.list_writing.specs.Laws.{ListsAreWhole}
-use Rattle.list_writing.specs.Pieces.{list_front, list_rest, sets_pieces}
+use Rattle.set_sending.specs.Laws.{ListsAreWhole}
+use Rattle.set_sending.specs.PiecesOfListWriting.{list_front, list_rest, sets_pieces}
 use Rattle.page_laws.specs.Laws.{IsAsked, IsPlace, StartsArePlaces, place_of}
 use Rattle.rdata_layout.specs.declared.types.RType.{RType}
 use Rattle.record_set.specs.Sets.{key_of}
 use Rattle.record_set.specs.declared.sets.RecordSet.{RecordSet}
 use Rattle.record_set.specs.declared.sets.SetKey.{SetKey}
-use Rattle.reply_model.specs.Json.{line_of}
-use Rattle.reply_model.specs.Paging.{Start, is_before, next_of, page, page_reply}
+use Rattle.page_laws.specs.Json.{line_of}
+use Rattle.page_laws.specs.Paging.{Start, is_before, next_of, page, page_reply}
 use Rattle.set_octets.specs.Octets.{AreOfType}
 use Rattle.set_search.specs.Found.{IsCount}
 use Rattle.set_search.specs.declared.bounds.Bound.TheVariants.{From}
-use Rattle.zone_table.specs.Zones.{AreZones, Zone}
+use Rattle.config_zones.specs.Zones.{AreZones, Zone}
 use Rattle.zone_model.specs.Placed.{Placed, sets_of}
 use Rattle.zone_model.specs.Zones.{IsAmong}
-use Rattle.zone_table.proofs.Holding.{kept_in}
+use Rattle.config_zones.proofs.Holding.{kept_in}
 use Rattle.list_sending.specs.Pages.{IsFirst, IsPage, sets_in}
 
 -- ---- the first set

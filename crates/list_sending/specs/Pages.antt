@@ -1,9 +1,9 @@
 -- The page of a zone's sets that a list gives, by places.
 use Rattle.std.specs.Prelude.{◌≡◌, ◌≤◌, ℕ, List, drop, length, slice_get, take}
 use Rattle.record_set.specs.declared.sets.RecordSet.{RecordSet}
-use Rattle.reply_model.specs.Paging.{Start, from_start, next_of, page}
+use Rattle.page_laws.specs.Paging.{Start, from_start, next_of, page}
 use Rattle.zone_lines.specs.declared.lists.ListOfSets.{ListOfSets}
-use Rattle.zone_table.specs.Zones.{Zone, placed_in}
+use Rattle.config_zones.specs.Zones.{Zone, placed_in}
 use Rattle.zone_model.specs.Placed.{sets_of}
 
 -- where a list starts

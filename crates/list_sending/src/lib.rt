@@ -9,5 +9,6 @@ mod pages;
 mod places;
 mod sending;
 
+pub use reply_sending::send_outcome;
 pub use sending::send_list;
 pub use set_sending::{Output, ROOM, Scratch, ValueText};

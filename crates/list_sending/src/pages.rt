@@ -2,24 +2,25 @@
 
 ghost use Rattle.std.specs.Prelude.{◌≡◌, ◌≤◌, ◌<◌, ◌+◌, ◌++◌, ℕ, List, [], Some, false, length};
 ghost use Rattle.std.specs.Prelude.{drop, slice_get, take, vec_capacity};
-ghost use Rattle.list_writing.specs.Pieces.{list_rest, set_pieces, sets_pieces};
+ghost use Rattle.set_sending.specs.PiecesOfListWriting.{list_rest, set_pieces, sets_pieces};
 ghost use Rattle.octets.specs.Counts.{Rose};
 ghost use Rattle.page_laws.specs.Laws.{IsAsked};
 ghost use Rattle.record_set.specs.declared.sets.RecordSet.{RecordSet};
-ghost use Rattle.reply_model.specs.Json.{line_of};
-ghost use Rattle.reply_model.specs.Paging.{page_reply};
+ghost use Rattle.page_laws.specs.Json.{line_of};
+ghost use Rattle.page_laws.specs.Paging.{page_reply};
 ghost use Rattle.whole_writing.specs.Output.{OutputOf};
-ghost use Rattle.zone_table.specs.Zones.{placed_in};
+ghost use Rattle.config_zones.specs.Zones.{placed_in};
 ghost use Rattle.list_sending.specs.Pages.{sets_in, start_of};
 ghost use Rattle.set_sending.specs.Passing.{IsPassed, Passes};
 
 use crate::places::{key_at, page_of};
-use config_zones::hold_at;
-use list_writing::{begin_list, end_list, lists_are_whole};
+use config_zones::{Zones, hold_at};
 use r53_io::Sink;
-use set_sending::{Output, ROOM, Scratch, ValueText, make_room, send_last, send_set};
+use set_sending::{
+    Output, ROOM, Scratch, ValueText, begin_list, end_list, lists_are_whole, make_room, send_last,
+    send_set,
+};
 use zone_lines::ListOfSets;
-use zone_table::Zones;
 
 /// Writes the page of a list: its head, its sets, and its end.
 pub(crate) fn send_page<K: Sink>(

@@ -8,18 +8,17 @@ ghost use Rattle.record_set.specs.declared.sets.RecordSet.{RecordSet};
 ghost use Rattle.set_scratch.specs.Holding.{IsHolding};
 ghost use Rattle.set_search.specs.Found.{IsBracket, IsCount};
 ghost use Rattle.set_search.specs.declared.bounds.Bound.TheVariants.{From};
-ghost use Rattle.zone_table.specs.Zones.{placed_in};
+ghost use Rattle.config_zones.specs.Zones.{placed_in};
 ghost use Rattle.zone_model.specs.Placing.{comes_before};
 ghost use Rattle.list_sending.specs.Pages.{IsFirst, IsPage, sets_in, start_of};
 
-use config_zones::hold_at;
+use config_zones::{Scratch, Zones, hold_at};
 use page_laws::starts_are_places;
 use rdata_layout::RType;
 use record_set::SetKey;
 use routing::{Ident, Routing};
 use zone_lines::ListOfSets;
 use zone_model::key_cmp;
-use zone_table::{Scratch, Zones};
 
 /// The place of the first set that a list gives, and the one behind the last.
 pub(crate) fn page_of(zones: &Zones, asked: &ListOfSets, scratch: &mut Scratch) -> (usize, usize)

@@ -1,8 +1,8 @@
 //! The reply to a line that asks for the sets of a zone.
 
 ghost use Rattle.std.specs.Prelude.{◌≡◌, ◌≤◌, ℕ, List, Some, vec_capacity};
-ghost use Rattle.config_edits.specs.Laws.{hosted_in};
-ghost use Rattle.config_model.specs.Configs.{zone_with};
+ghost use Rattle.config_zones.specs.Edited.{hosted_in};
+ghost use Rattle.config_zones.specs.Configs.{zone_with};
 ghost use Rattle.octets.specs.Counts.{Rose};
 ghost use Rattle.page_laws.specs.Laws.{IsAsked};
 ghost use Rattle.session_model.specs.Replies.{list_text_of};
@@ -10,14 +10,12 @@ ghost use Rattle.whole_writing.specs.Output.{OutputOf};
 ghost use Rattle.list_sending.specs.Pages.{start_of};
 
 use crate::pages::send_page;
-use config_model::Refusal;
-use config_zones::zones_are_found;
+use config_zones::{Refusal, Zones, zones_are_found};
+use page_laws::Outcome;
 use r53_io::Sink;
-use reply_model::Outcome;
 use reply_sending::send_outcome;
 use set_sending::{Output, ROOM, Scratch, ValueText};
 use zone_lines::ListOfSets;
-use zone_table::Zones;
 
 /// Writes the reply to a line that asks for the sets of a zone. It takes no memory.
 ///

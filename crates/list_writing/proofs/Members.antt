@@ -13,8 +13,8 @@ use Rattle.record_set.specs.Sets.{ident_of}
 use Rattle.record_set.specs.declared.sets.Body.{Body}
 use Rattle.record_set.specs.declared.sets.Body.TheVariants as body
 use Rattle.record_set.specs.declared.sets.RecordSet.{RecordSet}
-use Rattle.reply_model.specs.Json.{items_of, list_of, name_text, type_text}
-use Rattle.reply_model.specs.Sets.{set_object, value_object}
+use Rattle.reply_words.specs.Json.{items_of, list_of, name_text, type_text}
+use Rattle.reply_words.specs.Sets.{set_object, value_object}
 use Rattle.list_writing.specs.Pieces.{alias_data, check_data, cidr_data}
 use Rattle.list_writing.specs.Pieces.{failover_data, front_text, ident_data, led, list_closing}
 use Rattle.list_writing.specs.Pieces.{list_opening, multivalue_data, place_data, region_data}

@@ -9,9 +9,9 @@ use Rattle.rdata_layout.specs.Types as types
 use Rattle.rdata_layout.specs.declared.types.RType.{RType}
 use Rattle.record_set.specs.Sets.{ident_of, key_of}
 use Rattle.record_set.specs.declared.sets.RecordSet.{RecordSet}
-use Rattle.reply_model.specs.Json.{done, items_of, line_of, list_of, name_text, type_text}
-use Rattle.reply_model.specs.Lists.{list_reply, next_ident}
-use Rattle.reply_model.specs.Sets.{set_object}
+use Rattle.reply_words.specs.Json.{done, items_of, line_of, list_of, name_text, type_text}
+use Rattle.reply_words.specs.Lists.{list_reply, next_ident}
+use Rattle.reply_words.specs.Sets.{set_object}
 use Rattle.list_writing.specs.Pieces.{list_front, list_rest, set_pieces}
 use Rattle.list_writing.specs.Pieces.{sets_pieces}
 use Rattle.list_writing.proofs.Members.{set_is_whole}

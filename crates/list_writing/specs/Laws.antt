@@ -3,10 +3,10 @@ use Rattle.std.specs.Prelude.{◌≡◌, ℕ, List, ◌++◌, Bool, Option, fals
 use Rattle.std.specs.List.{AllByRecursion}
 use Rattle.record_set.specs.Sets.{key_of}
 use Rattle.record_set.specs.declared.sets.RecordSet.{RecordSet}
-use Rattle.reply_model.specs.Dump.{set_line}
-use Rattle.reply_model.specs.Json.{line_of}
-use Rattle.reply_model.specs.Lists.{list_reply}
-use Rattle.reply_model.specs.Sets.{set_object}
+use Rattle.reply_words.specs.Dump.{set_line}
+use Rattle.reply_words.specs.Json.{line_of}
+use Rattle.reply_words.specs.Lists.{list_reply}
+use Rattle.reply_words.specs.Sets.{set_object}
 use Rattle.list_writing.specs.Pieces.{list_front, list_rest, set_line_front, set_line_rest}
 use Rattle.list_writing.specs.Pieces.{set_pieces, sets_pieces}
 use Rattle.serde_json.specs.Written.{comma_if, compact_text}

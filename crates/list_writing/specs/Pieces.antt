@@ -9,9 +9,9 @@ use Rattle.rdata_layout.specs.declared.types.RType.{RType}
 use Rattle.record_set.specs.Sets.{ident_of}
 use Rattle.record_set.specs.declared.sets.RecordSet.{RecordSet}
 use Rattle.record_set.specs.declared.sets.SetKey.{SetKey}
-use Rattle.reply_model.specs.Json.{check_text, collection_text, count, field, name_text}
-use Rattle.reply_model.specs.Json.{object_of, zone_text}
-use Rattle.reply_model.specs.Sets.{place_fields, role_text, value_object}
+use Rattle.reply_words.specs.Json.{check_text, collection_text, count, field, name_text}
+use Rattle.reply_words.specs.Json.{object_of, zone_text}
+use Rattle.reply_words.specs.Sets.{place_fields, role_text, value_object}
 use Rattle.routing.specs.declared.policies.Routing.{Routing}
 use Rattle.routing.specs.declared.policies.Routing.TheVariants as routing
 use Rattle.serde_json.specs.Data.{Data, boolean, string}

@@ -12,4 +12,5 @@ mod sets;
 
 pub use laws::{lists_are_whole, set_lines_are_whole, sets_are_whole};
 pub use lists::{begin_list, begin_set_line, end_list, end_set_line};
+pub use set_scratch::Scratch;
 pub use sets::{MOST_OF_SET, MOST_OF_VALUE, ValueText, begin_set, end_set, write_value};

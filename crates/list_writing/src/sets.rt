@@ -7,7 +7,7 @@ ghost use Rattle.line_faults.specs.Texts.{text_of};
 ghost use Rattle.line_faults.specs.declared.member.Member.TheVariants as m;
 ghost use Rattle.rdata.specs.Written as value;
 ghost use Rattle.rdata_layout.specs.Layout.{IsLayout};
-ghost use Rattle.reply_model.specs.Json.{check_text, count};
+ghost use Rattle.reply_words.specs.Json.{check_text, count};
 ghost use Rattle.list_writing.specs.Pieces.{alias_data, alias_object, check_data, front_text};
 ghost use Rattle.list_writing.specs.Pieces.{led, list_closing, list_opening, rest_text};
 ghost use Rattle.list_writing.specs.Pieces.{set_front, set_rest, trailed, ttl_data, value_piece};

@@ -5,9 +5,9 @@ use Rattle.std.specs.Char.{to_ascii_lowercase}
 use Rattle.std.proofs.lemmas.Bool.{true_from_ne_false, and_from}
 use Rattle.std.proofs.lemmas.Str.Ascii.{lowercase_is}
 use Rattle.std.proofs.Math.Seq.{take-append_seam, drop-append_seam}
-use Rattle.dns_name.specs.Labels.{frame, wire, IsRawLabel}
-use Rattle.dns_name.specs.Names.{IsName}
-use Rattle.dns_name.specs.Stored.{IsLowerLabel}
+use Rattle.rdata_layout.specs.Labels.{frame, wire, IsRawLabel}
+use Rattle.rdata_layout.specs.Names.{IsName}
+use Rattle.rdata_layout.specs.Stored.{IsLowerLabel}
 use Rattle.octet_reading.specs.declared.names.Front.TheVariants.{Whole}
 use Rattle.octet_reading.specs.Names.{is_lower, front_from, front_of}
 use Rattle.octet_reading.proofs.Fronts.{begin_label, pass_label}

@@ -3,8 +3,8 @@ use Rattle.std.proofs.Common.{◌≡◌, ℕ, zero, suc, ◌+◌, ◌*◌, ◌<�
 use Rattle.std.proofs.Common.{ap, refl, subst, Result, Ok, Err}
 use Rattle.std.specs.Prelude.{⊤}
 use Rattle.octets.specs.Numbers.{two_octets, four_octets}
-use Rattle.dns_name.specs.Labels.{wire}
-use Rattle.dns_name.specs.Names.{IsName}
+use Rattle.rdata_layout.specs.Labels.{wire}
+use Rattle.rdata_layout.specs.Names.{IsName}
 use Rattle.octet_reading.specs.Names.{name_at}
 use Rattle.octet_reading.specs.Readers.{Reader}
 use Rattle.octet_reading.specs.Reading.{octet_at, two_at, four_at, flag_at}

@@ -8,9 +8,9 @@ use Rattle.std.proofs.lemmas.Bool.{ltb-true, leb-true, and_parts, cases_lt}
 use Rattle.std.proofs.lemmas.Str.Ascii.{lowercase_is}
 use Rattle.std.proofs.lemmas.List.{get_or-drop, get_or-take, get_or_past, length-take}
 use Rattle.std.proofs.Math.Seq.{drop-append_seam}
-use Rattle.dns_name.specs.Labels.{frame, wire, IsRawLabel}
-use Rattle.dns_name.specs.Names.{AreOctets}
-use Rattle.dns_name.specs.Stored.{IsLowerLabel}
+use Rattle.rdata_layout.specs.Labels.{frame, wire, IsRawLabel}
+use Rattle.rdata_layout.specs.Names.{AreOctets}
+use Rattle.rdata_layout.specs.Stored.{IsLowerLabel}
 use Rattle.octet_reading.specs.declared.names.Front.{Front}
 use Rattle.octet_reading.specs.declared.names.Front.TheVariants.{Whole, Broken}
 use Rattle.octet_reading.specs.Names.{is_lower, front_from}

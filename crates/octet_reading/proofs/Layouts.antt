@@ -6,8 +6,8 @@ use Rattle.std.specs.List.{list_all, AllByRecursion, flat_map}
 use Rattle.std.proofs.lemmas.Bool.{ltb-true, ltb-false, leb-true, lt-ltb, le-ltb, le-leb, eqb-true, and_parts, and_from}
 use Rattle.std.proofs.lemmas.List.{take-append-drop, length-take-le, nil_from_length}
 use Rattle.std.proofs.Math.Seq.{take-append_seam, drop-append_seam}
-use Rattle.dns_name.specs.Labels.{wire}
-use Rattle.dns_name.specs.Names.{IsName}
+use Rattle.rdata_layout.specs.Labels.{wire}
+use Rattle.rdata_layout.specs.Names.{IsName}
 use Rattle.rdata_layout.specs.declared.types.RType.{RType}
 use Rattle.rdata_layout.specs.declared.fields.Field.{Field}
 use Rattle.rdata_layout.specs.declared.fields.Field.TheVariants as field

@@ -2,11 +2,11 @@
 use Rattle.std.proofs.Common.{◌≡◌, ℕ, ◌-◌, List, ◌++◌, length, drop, arith, ap, ◌∙◌, sym, refl, subst, length-append, Ok, Err}
 use Rattle.std.proofs.lemmas.List.{nil_from_length}
 use Rattle.std.proofs.Math.Seq.{drop-append_seam}
-use Rattle.dns_name.specs.Labels.{wire}
-use Rattle.dns_name.specs.Names.{IsName}
-use Rattle.dns_name.specs.Stored.{labels_of}
-use Rattle.dns_name.specs.Wire.{BeginsWithName, BeginsWithNone}
-use Rattle.dns_name.proofs.Labels.{labels_of-wire, one_name}
+use Rattle.rdata_layout.specs.Labels.{wire}
+use Rattle.rdata_layout.specs.Names.{IsName}
+use Rattle.rdata_layout.specs.Stored.{labels_of}
+use Rattle.rdata_layout.specs.Wire.{BeginsWithName, BeginsWithNone}
+use Rattle.rdata_layout.proofs.Labels.{labels_of-wire, one_name}
 use Rattle.rdata_layout.proofs.Fronts.{begins}
 use Rattle.octet_reading.specs.declared.names.Front.{Front}
 use Rattle.octet_reading.specs.declared.names.Front.TheVariants.{Whole, Short, Broken}

@@ -4,7 +4,7 @@ use Rattle.std.proofs.Common.{subst, eqb, Result, Ok, Err, cond}
 use Rattle.std.specs.Prelude.{◌||◌}
 use Rattle.std.specs.List.{AllByRecursion}
 use Rattle.std.proofs.lemmas.Bool.{eqb-true}
-use Rattle.dns_name.specs.Names.{AreOctets}
+use Rattle.rdata_layout.specs.Names.{AreOctets}
 use Rattle.octet_reading.specs.Readers.{Reader, of_kind, has_kind, kinds}
 use Rattle.octet_reading.specs.Reading.{octet_at}
 use Rattle.octet_reading.specs.Rules.{IsReadAs}

@@ -1,6 +1,6 @@
 -- Readers that are built from readers read what is built of their values.
 use Rattle.std.proofs.Common.{◌≡◌, ℕ, ◌≤◌, ◌⊎◌, inl, inr, List, [], ◌∷◌, ◌++◌, length, arith, ap, ◌∙◌, sym, refl, subst, append_assoc, Result, Ok, Err}
-use Rattle.dns_name.specs.Names.{AreOctets}
+use Rattle.rdata_layout.specs.Names.{AreOctets}
 use Rattle.octet_reading.specs.Readers.{Reader, seen}
 use Rattle.octet_reading.specs.Reading.{◌>>=◌}
 use Rattle.octet_reading.specs.Rules.{IsReadAs, Tells, OneSpelling}

@@ -2,8 +2,8 @@
 use Rattle.std.proofs.Common.{◌≡◌, ℕ, zero, suc, ◌+◌, ◌-◌, ◌<◌, inl, inr, Bool, true, false, List, [], ◌∷◌, ◌++◌, length, arith, ap, ◌∙◌, sym, refl, cond}
 use Rattle.std.specs.Prelude.{◌&&◌, nat_le, nat_lt}
 use Rattle.std.proofs.lemmas.List.{nil_from_length}
-use Rattle.dns_name.specs.Labels.{wire}
-use Rattle.dns_name.specs.Names.{AreOctets}
+use Rattle.rdata_layout.specs.Labels.{wire}
+use Rattle.rdata_layout.specs.Names.{AreOctets}
 use Rattle.octet_reading.specs.declared.names.Front.{Front}
 use Rattle.octet_reading.specs.declared.names.Front.TheVariants.{Whole, Short, Broken}
 use Rattle.octet_reading.specs.Laws.{CanGoOn, CanBeNoName, TellsName, NamesAreTold, LayoutsAreTold}

@@ -4,7 +4,7 @@ use Rattle.std.proofs.Common.{◌∙◌, sym, refl, subst, eqb, length-append, a
 use Rattle.std.specs.Prelude.{nat_lt}
 use Rattle.std.proofs.lemmas.Bool.{eqb-true, ltb-false, le-ltb}
 use Rattle.std.proofs.lemmas.List.{nil_from_length}
-use Rattle.dns_name.specs.Names.{AreOctets}
+use Rattle.rdata_layout.specs.Names.{AreOctets}
 use Rattle.octet_reading.specs.Readers.{Reader, limited, alone, placed, whole}
 use Rattle.octet_reading.specs.Reading.{◌>>=◌}
 use Rattle.octet_reading.specs.Rules.{IsReadAs, TellsWhole}

@@ -1,7 +1,7 @@
 -- What the tests of this crate tell.
 use Rattle.std.specs.Prelude.{◌≡◌, ◌↔◌, ◌⊎◌, ℕ, List, [], ◌++◌, length, true, Result, Ok, Err}
-use Rattle.dns_name.specs.Labels.{wire}
-use Rattle.dns_name.specs.Names.{IsName, AreOctets}
+use Rattle.rdata_layout.specs.Labels.{wire}
+use Rattle.rdata_layout.specs.Names.{IsName, AreOctets}
 use Rattle.rdata_layout.specs.declared.types.RType.{RType}
 use Rattle.rdata_layout.specs.Layout.{IsLayout}
 use Rattle.octet_reading.specs.Layouts.{is_layout}

@@ -1,7 +1,7 @@
 -- The name at the front of octets, in lower case and without pointers (RFC 1035, 2.3.4 and 3.1).
 use Rattle.std.specs.Prelude.{ℕ, zero, suc, ◌+◌, ◌-◌, List, [], ◌∷◌, length, drop, Bool, ◌&&◌}
 use Rattle.std.specs.Prelude.{not, nat_le, nat_lt, Result, Ok, Err, if◌then◌else◌}
-use Rattle.dns_name.specs.Stored.{labels_of}
+use Rattle.rdata_layout.specs.Stored.{labels_of}
 use Rattle.octet_reading.specs.declared.names.Front.{Front}
 use Rattle.octet_reading.specs.declared.names.Front.TheVariants.{Whole, Short, Broken}
 

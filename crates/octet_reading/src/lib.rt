@@ -19,5 +19,6 @@ pub use laws::{base_fields_are_read, layouts_are_told, names_are_told};
 pub use lists::{Field, list_at, so_many};
 pub use names::name_at;
 pub use numbers::{flag_at, four_at, octet_at, parts, two_at};
+pub use rdata_layout::{Name, RType, one_name_of_a_wire};
 pub use stop::{Fault, Stop};
 pub use text::{Alphabet, text_at};

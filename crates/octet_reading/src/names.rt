@@ -7,8 +7,8 @@ ghost use Rattle.octet_reading.specs.Names.{is_lower, front_of, name_at};
 
 use crate::numbers::parts;
 use crate::stop::Fault;
-use dns_name::Name;
 use octets::behind;
+use rdata_layout::Name;
 
 /// What octets are for a name that is read from their front.
 #[derive(Clone, Copy)]

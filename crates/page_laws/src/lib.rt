@@ -7,3 +7,4 @@
 mod laws;
 
 pub use laws::{pages_follow, starts_are_places};
+pub use reply_model::Outcome;

@@ -8,4 +8,5 @@
 mod places;
 mod policies;
 
+pub use line_words::record_type;
 pub use policies::{Policies, policy_members, routing_of};

@@ -9,16 +9,16 @@ use Rattle.std.proofs.Math.Seq.{take-append_seam}
 use Rattle.answer_model.specs.Clients.{Client}
 use Rattle.answer_model.specs.Descent.{group_uses, uses}
 use Rattle.answer_model.specs.declared.used.Used.{Used}
-use Rattle.choice_model.specs.Choice.{ClientRows, chosen, chosen_by, each}
-use Rattle.choice_model.specs.Laws.{ChosenAreOfGroup}
-use Rattle.choice_model.specs.Policies.{weight_of}
-use Rattle.record_set.specs.declared.sets.RecordSet.{RecordSet}
+use Rattle.answer_model.specs.Choice.{ClientRows, chosen, chosen_by, each}
+use Rattle.answer_model.specs.LawsOfChoiceModel.{ChosenAreOfGroup}
+use Rattle.answer_model.specs.Policies.{weight_of}
+use Rattle.zone_table.specs.RecordSetRecord.{RecordSet}
 use Rattle.routing.specs.declared.policies.Routing.{Routing}
 use Rattle.routing.specs.declared.policies.Routing.TheVariants as routing
 use Rattle.weighted.specs.Choice as weighted
 use Rattle.zone_table.specs.Zones.{Zone}
 use Rattle.zone_table.specs.SetRefRecord.{SetRef}
-use Rattle.zone_model.specs.Placed.{Placed}
+use Rattle.zone_table.specs.Placed.{Placed}
 use Rattle.zone_table.specs.Looking.{IsGroupNow}
 use Rattle.zone_table.specs.declared.refs.Group.{Group}
 use Rattle.policy_select.specs.declared.selection.Selected.{Selected}

@@ -5,17 +5,17 @@ use Rattle.std.proofs.Common.{length, take, drop, replicate, refl, sym, ap, â—Œâ
 use Rattle.std.proofs.Common.{arith}
 use Rattle.std.specs.Prelude.{map, slice_get}
 use Rattle.std.proofs.Math.Seq.{take-append_seam}
-use Rattle.choice_model.specs.Choice.{chosen}
-use Rattle.record_set.specs.Reasons.{IsAlias}
-use Rattle.record_set.specs.Sets.{key_of}
-use Rattle.record_set.specs.declared.sets.Body.{Body}
-use Rattle.record_set.specs.declared.sets.Body.TheVariants as body
-use Rattle.record_set.specs.declared.sets.RecordSet.{RecordSet}
-use Rattle.record_set.specs.declared.sets.SetKey.{SetKey}
+use Rattle.answer_model.specs.Choice.{chosen}
+use Rattle.zone_table.specs.Reasons.{IsAlias}
+use Rattle.zone_table.specs.SetsOfRecordSet.{key_of}
+use Rattle.zone_table.specs.BodyRecord.{Body}
+use Rattle.zone_table.specs.BodyRecord.TheVariants as body
+use Rattle.zone_table.specs.RecordSetRecord.{RecordSet}
+use Rattle.zone_table.specs.SetKeyRecord.{SetKey}
 use Rattle.zone_table.specs.Zones.{Zone, placed_in}
 use Rattle.zone_table.specs.SetRefRecord.{SetRef}
-use Rattle.zone_model.specs.Zones.{IsAmong, target_group}
-use Rattle.zone_model.specs.Placed.{Placed}
+use Rattle.zone_table.specs.Sets.{IsAmong, target_group}
+use Rattle.zone_table.specs.Placed.{Placed}
 use Rattle.zone_table.specs.declared.refs.Group.{Group}
 use Rattle.answer_model.specs.declared.used.Used.{Used}
 use Rattle.answer_model.specs.Clients.{Client}

@@ -9,14 +9,14 @@ use Rattle.dns_name.specs.Order.{same_labels}
 use Rattle.dns_name.specs.OrderLaws.{same_labels-Decides}
 use Rattle.rdata_layout.specs.Types.{number_of}
 use Rattle.rdata_layout.specs.declared.types.RType.{RType}
-use Rattle.record_set.specs.declared.sets.RecordSet.{RecordSet}
-use Rattle.zone_model.proofs.Among.{place_of}
-use Rattle.zone_model.proofs.Lists.{take_more}
+use Rattle.zone_table.specs.RecordSetRecord.{RecordSet}
+use Rattle.zone_table.proofs.Among.{place_of}
+use Rattle.zone_table.proofs.Lists.{take_more}
 use Rattle.std.proofs.lemmas.Bool.{cases_lt}
 use Rattle.std.proofs.lemmas.Option.{slice_get_within}
 use Rattle.std.proofs.lemmas.List.{length-append}
 use Rattle.std.proofs.lemmas.List.Elements.{filter-append}
-use Rattle.zone_model.specs.Zones.{IsAmong, group, is_of_group}
+use Rattle.zone_table.specs.Sets.{IsAmong, group, is_of_group}
 use Rattle.policy_select.specs.Groups.{FewByEachSet, FewInGroups}
 
 -- a set of a name and a type: its own group is that one

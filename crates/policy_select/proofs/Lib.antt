@@ -4,3 +4,10 @@ pub mod GroupSizes
 pub mod Members
 pub mod Noted
 pub mod Targets
+pub use Rattle.zone_table.proofs.Listing
+pub use Rattle.zone_table.proofs.Looked
+pub use Rattle.zone_table.proofs.Members as MembersOfZoneList
+pub use Rattle.zone_table.proofs.Naming
+pub use Rattle.zone_table.proofs.Below
+pub use Rattle.answer_model.proofs.Among
+pub use Rattle.answer_model.proofs.Lists as ListsOfZoneModel

@@ -11,17 +11,17 @@ use Rattle.std.specs.List.{find}
 use Rattle.std.specs.Ordering.{is_eq}
 use Rattle.std.specs.declared.cmp.Ordering.{Ordering}
 use Rattle.std.specs.declared.cmp.Ordering.TheVariants.{Less, Equal, Greater}
-use Rattle.record_set.specs.Sets.{key_of}
-use Rattle.record_set.specs.declared.sets.RecordSet.{RecordSet}
-use Rattle.set_octets.specs.Octets.{HasSpelling}
+use Rattle.zone_table.specs.SetsOfRecordSet.{key_of}
+use Rattle.zone_table.specs.RecordSetRecord.{RecordSet}
+use Rattle.zone_table.specs.Octets.{HasSpelling}
 use Rattle.zone_table.proofs.Members.{in_all, one_of_key}
 use Rattle.zone_table.specs.Zones.{AreZones, CanStand, StandsAlone, Zone, placed_in}
 use Rattle.zone_table.specs.SetRefRecord.{SetRef}
-use Rattle.zone_model.proofs.Among.{among_at}
-use Rattle.zone_model.proofs.Ordered.{keys_tie, keys_total}
-use Rattle.zone_model.specs.Keys.{key_cmp}
-use Rattle.zone_model.specs.Zones.{IsAmong, IsRising}
-use Rattle.zone_model.specs.Placed.{HaveOwnSlots, Placed, sets_of}
+use Rattle.zone_table.proofs.Among.{among_at}
+use Rattle.zone_table.proofs.Ordered.{keys_tie, keys_total}
+use Rattle.zone_table.specs.Keys.{key_cmp}
+use Rattle.zone_table.specs.Sets.{IsAmong, IsRising}
+use Rattle.zone_table.specs.Placed.{HaveOwnSlots, Placed, sets_of}
 use Rattle.zone_table.specs.Looking.{IsMember, Names}
 use Rattle.zone_table.specs.declared.refs.Group.{Group}
 use Rattle.policy_select.specs.Groups.{ViewsAgree, members_of, said_of, sets_in}

@@ -6,12 +6,12 @@ use Rattle.std.specs.Option.{option_map, unwrap_or}
 use Rattle.std.proofs.lemmas.List.{length-map, length-take, take_all}
 use Rattle.std.proofs.lemmas.Option.{slice_get-map}
 use Rattle.std.proofs.Math.Seq.{take-suc-set}
-use Rattle.choice_model.specs.Choice.{each}
-use Rattle.record_set.specs.declared.sets.RecordSet.{RecordSet}
+use Rattle.answer_model.specs.Choice.{each}
+use Rattle.zone_table.specs.RecordSetRecord.{RecordSet}
 use Rattle.routing.specs.declared.policies.Routing.{Routing}
 use Rattle.zone_table.specs.Zones.{Zone, placed_in}
-use Rattle.zone_model.proofs.Lists.{take_more}
-use Rattle.zone_model.specs.Placed.{Placed}
+use Rattle.zone_table.proofs.Lists.{take_more}
+use Rattle.zone_table.specs.Placed.{Placed}
 use Rattle.zone_table.specs.declared.refs.Group.{Group}
 use Rattle.policy_select.specs.Groups.{members_of, sets_in}
 

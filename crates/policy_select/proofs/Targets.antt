@@ -11,15 +11,15 @@ use Rattle.std.specs.List.{cons_option, drop-map, take-map}
 use Rattle.std.specs.Option.{option_map, unwrap_or}
 use Rattle.multivalue.specs.declared.choice.Picked.{Picked}
 use Rattle.rdata_layout.specs.declared.types.RType.{RType}
-use Rattle.record_set.specs.Reasons.{IsAlias}
-use Rattle.record_set.specs.declared.sets.Body.{Body}
-use Rattle.record_set.specs.declared.sets.Body.TheVariants as body
-use Rattle.record_set.specs.declared.sets.RecordSet.{RecordSet}
-use Rattle.set_scratch.specs.Bodies.{alias_of}
-use Rattle.set_search.specs.Found.{IsGroupAt}
+use Rattle.zone_table.specs.Reasons.{IsAlias}
+use Rattle.zone_table.specs.BodyRecord.{Body}
+use Rattle.zone_table.specs.BodyRecord.TheVariants as body
+use Rattle.zone_table.specs.RecordSetRecord.{RecordSet}
+use Rattle.zone_table.specs.Bodies.{alias_of}
+use Rattle.zone_table.specs.Found.{IsGroupAt}
 use Rattle.zone_table.specs.Zones.{Zone, placed_in}
-use Rattle.zone_model.specs.Zones.{IsAmong, group, is_of_group, target_group_of}
-use Rattle.zone_model.specs.Placed.{Placed}
+use Rattle.zone_table.specs.Sets.{IsAmong, group, is_of_group, target_group_of}
+use Rattle.zone_table.specs.Placed.{Placed}
 use Rattle.zone_table.specs.Looking.{IsGroup, IsGroupNow}
 use Rattle.zone_table.specs.declared.refs.Group.{Group}
 use Rattle.answer_model.specs.Descent.{sets_at}

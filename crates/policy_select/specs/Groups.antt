@@ -4,14 +4,14 @@ use Rattle.std.specs.Prelude.{length}
 use Rattle.std.specs.List.{find}
 use Rattle.std.specs.Ordering.{is_eq}
 use Rattle.rdata_layout.specs.declared.types.RType.{RType}
-use Rattle.record_set.specs.declared.sets.RecordSet.{RecordSet}
-use Rattle.record_set.specs.declared.sets.SetKey.{SetKey}
-use Rattle.record_set.specs.Sets.{key_of}
+use Rattle.zone_table.specs.RecordSetRecord.{RecordSet}
+use Rattle.zone_table.specs.SetKeyRecord.{SetKey}
+use Rattle.zone_table.specs.SetsOfRecordSet.{key_of}
 use Rattle.zone_table.specs.Zones.{AreZones, Zone, placed_in}
 use Rattle.zone_table.specs.SetRefRecord.{SetRef}
-use Rattle.zone_model.specs.Keys.{key_cmp}
-use Rattle.zone_model.specs.Placed.{Placed, sets_of}
-use Rattle.zone_model.specs.Zones.{IsAmong, group}
+use Rattle.zone_table.specs.Keys.{key_cmp}
+use Rattle.zone_table.specs.Placed.{Placed, sets_of}
+use Rattle.zone_table.specs.Sets.{IsAmong, group}
 use Rattle.zone_table.specs.Looking.{Names}
 use Rattle.zone_table.specs.declared.refs.Group.{Group}
 

@@ -4,17 +4,17 @@ use Rattle.std.specs.Prelude.{None, Some, ⊤}
 use Rattle.std.specs.List.{All}
 use Rattle.multivalue.specs.Answer.{picked}
 use Rattle.multivalue.specs.declared.choice.Picked.{Picked}
-use Rattle.record_set.specs.Reasons.{IsAlias}
-use Rattle.record_set.specs.declared.sets.RecordSet.{RecordSet}
-use Rattle.record_set.specs.declared.sets.SetKey.{SetKey}
+use Rattle.zone_table.specs.Reasons.{IsAlias}
+use Rattle.zone_table.specs.RecordSetRecord.{RecordSet}
+use Rattle.zone_table.specs.SetKeyRecord.{SetKey}
 use Rattle.zone_table.specs.Zones.{Zone}
-use Rattle.zone_model.specs.Zones.{target_group}
+use Rattle.zone_table.specs.Sets.{target_group}
 use Rattle.zone_table.specs.Looking.{IsGroupNow}
 use Rattle.zone_table.specs.declared.refs.Group.{Group}
 use Rattle.answer_model.specs.declared.used.Used.{Used}
 use Rattle.answer_model.specs.Clients.{Client}
 use Rattle.answer_model.specs.Descent.{Choices, Descended, Means, sets_at}
-use Rattle.choice_model.specs.Choice.{chosen}
+use Rattle.answer_model.specs.Choice.{chosen}
 use Rattle.zone_table.specs.SetRefRecord.{SetRef}
 use Rattle.policy_select.specs.declared.selection.Selected.{Selected}
 use Rattle.policy_select.specs.declared.selection.Selected.TheVariants.{Nothing, Sets}

@@ -4,12 +4,11 @@ ghost use Rattle.std.specs.Prelude.{◌≡◌};
 ghost use Rattle.std.specs.Option.{option_copied};
 ghost use Rattle.answer_model.specs.Clients.{blocks_scope, location_in};
 ghost use Rattle.answer_model.specs.Location.{told_in};
-ghost use Rattle.cidr_commands.specs.Stored.{collection_at};
+ghost use Rattle.answer_model.specs.Stored.{collection_at};
 
 use address_text::IpAddress;
-use answer_model::{locates_as_told, told_in_collections};
-use cidr_routing::{Collections, Ident};
-use geo_latency::{Latencies, Location, Tables};
+use answer_model::{Latencies, Location, Tables, locates_as_told, told_in_collections};
+use zone_table::{Collections, Ident};
 
 /// Where a client is, by the table of places.
 pub(crate) fn location_of(tables: &Tables, client: IpAddress) -> Option<&Location>

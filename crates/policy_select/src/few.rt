@@ -1,12 +1,12 @@
 //! The bound on the sets of a group, and its test.
 
 ghost use Rattle.std.specs.Prelude.{◌≡◌, ◌↔◌, IsTrue, length};
-ghost use Rattle.zone_model.specs.Zones.{group, is_of_group};
+ghost use Rattle.zone_table.specs.Sets.{group, is_of_group};
 ghost use Rattle.policy_select.specs.Groups.{FewByEachSet, FewInGroups};
 
 use dns_name::Name;
 use rdata_layout::RType;
-use record_set::RecordSet;
+use zone_table::RecordSet;
 
 /// The most sets of a group (Route 53 quotas).
 const MOST: usize = 100;

@@ -2,13 +2,13 @@
 
 ghost use Rattle.std.specs.Prelude.{◌≡◌, ◌<◌, length, slice_get, IfSome, Some};
 ghost use Rattle.std.specs.Option.{unwrap_or};
-ghost use Rattle.choice_model.specs.Policies.{place_of, region_of, role_of, weight_of};
-ghost use Rattle.record_set.specs.declared.sets.RecordSet.{RecordSet};
-ghost use Rattle.set_octets.specs.Octets.{HasSpelling};
-ghost use Rattle.set_scratch.specs.Holding.{IsHolding};
+ghost use Rattle.answer_model.specs.Policies.{place_of, region_of, role_of, weight_of};
+ghost use Rattle.zone_table.specs.RecordSetRecord.{RecordSet};
+ghost use Rattle.zone_table.specs.Octets.{HasSpelling};
+ghost use Rattle.zone_table.specs.Holding.{IsHolding};
 ghost use Rattle.zone_table.specs.Looking.{IsGroupNow};
 ghost use Rattle.policy_select.specs.Groups.{flags_in, sets_in, sets_in_zone};
-ghost use Rattle.zone_model.specs.Zones.{group};
+ghost use Rattle.zone_table.specs.Sets.{group};
 
 use crate::parts::{place_in, region_in, role_in, weight_in};
 use crate::view::HealthView;

@@ -2,13 +2,13 @@
 
 ghost use Rattle.std.specs.Prelude.{◌≡◌, ◌<◌, ◌≤◌};
 ghost use Rattle.std.specs.Option.{option_copied};
-ghost use Rattle.choice_model.specs.Choice.{each};
-ghost use Rattle.choice_model.specs.Policies.{location_of, place_of, region_of, role_of, weight_of};
+ghost use Rattle.answer_model.specs.Choice.{each};
+ghost use Rattle.answer_model.specs.Policies.{location_of, place_of, region_of, role_of, weight_of};
 ghost use Rattle.answer_model.specs.Location.{told_in};
-ghost use Rattle.cidr_routing.specs.Choice.{chosen as block_chosen};
+ghost use Rattle.zone_table.specs.Choice.{chosen as block_chosen};
 ghost use Rattle.failover.specs.Choice.{chosen as role_chosen};
-ghost use Rattle.geo_latency.specs.Places.{chosen as place_chosen};
-ghost use Rattle.geo_latency.specs.Regions.{chosen as region_chosen};
+ghost use Rattle.answer_model.specs.Places.{chosen as place_chosen};
+ghost use Rattle.answer_model.specs.Regions.{chosen as region_chosen};
 ghost use Rattle.multivalue.specs.Answer.{picked};
 ghost use Rattle.multivalue.specs.Choice.{chosen as several_chosen};
 ghost use Rattle.weighted.specs.Choice.{chosen as weight_chosen};
@@ -21,11 +21,10 @@ use crate::lists::{
 };
 use crate::view::HealthView;
 use address_text::IpAddress;
-use cidr_routing::Ident;
-use geo_latency::Tables;
+use answer_model::Tables;
 use multivalue::Picked;
 use routing::{Place, Region, Role};
-use zone_table::{Group, Scratch, Zones};
+use zone_table::{Group, Ident, Scratch, Zones};
 
 /// The most sets of a group (Route 53 quotas).
 const GROUP: usize = 100;
@@ -95,7 +94,7 @@ pub(crate) fn choose_place<V: HealthView>(
     note_healthy(zones, group, view, &mut healthy);
     let mut places = [*first; GROUP];
     note_places(zones, group, first, scratch, &mut places);
-    geo_latency::choose_place(
+    answer_model::choose_place(
         &places[..group.length],
         &healthy[..group.length],
         location_of(tables, client),
@@ -124,7 +123,7 @@ pub(crate) fn choose_region<V: HealthView>(
     note_healthy(zones, group, view, &mut healthy);
     let mut regions = [*first; GROUP];
     note_regions(zones, group, first, scratch, &mut regions);
-    geo_latency::choose_region(
+    answer_model::choose_region(
         &regions[..group.length],
         &healthy[..group.length],
         latencies_of(tables, client),
@@ -168,5 +167,5 @@ pub(crate) fn choose_block<V: HealthView>(
     note_healthy(zones, group, view, &mut healthy);
     let mut locations = [*first; GROUP];
     note_locations(zones, group, first, scratch, &mut locations);
-    cidr_routing::choose_block(&locations[..group.length], &healthy[..group.length], client)
+    zone_table::choose_block(&locations[..group.length], &healthy[..group.length], client)
 }

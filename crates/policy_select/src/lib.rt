@@ -14,7 +14,10 @@ mod places;
 mod selection;
 mod view;
 
-pub use answer_model::Used;
+pub use answer_model::{
+    Used, asked_groups, cuts_are_nearest, enclosers_are_closest, locates_as_told, names_exist,
+    zones_are_longest,
+};
 pub use descent::descend;
 pub use few::{few_by_each_set, groups_are_few};
 pub use group::{find_group, load_member, routing_at};
@@ -22,3 +25,4 @@ pub use multivalue::Picked;
 pub use places::places_of;
 pub use selection::{Selected, select};
 pub use view::{AllHealthy, HealthView, views_agree};
+pub use zone_table::{Delta, Group, Scratch, SetRef, Watch, Zones};

@@ -1,17 +1,16 @@
 //! What the sets of a group say, set by set, as lists for the choices.
 
 ghost use Rattle.std.specs.Prelude.{◌≡◌, ◌≤◌, length, take};
-ghost use Rattle.choice_model.specs.Choice.{each};
-ghost use Rattle.choice_model.specs.Policies.{location_of, place_of, region_of, role_of, weight_of};
+ghost use Rattle.answer_model.specs.Choice.{each};
+ghost use Rattle.answer_model.specs.Policies.{location_of, place_of, region_of, role_of, weight_of};
 ghost use Rattle.zone_table.specs.Looking.{IsGroupNow};
 ghost use Rattle.policy_select.specs.Groups.{flags_in, sets_in};
 
 use crate::group::{is_member_healthy, place_at, region_at, role_at, routing_at, weight_at};
 use crate::parts::location_or;
 use crate::view::HealthView;
-use cidr_routing::Ident;
 use routing::{Place, Region, Role};
-use zone_table::{Group, Scratch, Zones};
+use zone_table::{Group, Ident, Scratch, Zones};
 
 /// Notes which sets of a group are healthy.
 pub(crate) fn note_healthy<V: HealthView>(

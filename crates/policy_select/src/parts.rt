@@ -4,7 +4,7 @@
 
 ghost use Rattle.std.specs.Prelude.{◌≡◌, ◌∷◌, ◌++◌, ℕ, IsTrue, List};
 ghost use Rattle.std.specs.Option.{unwrap_or};
-ghost use Rattle.choice_model.specs.Policies.{location_of, place_of, region_of, role_of, weight_of};
+ghost use Rattle.answer_model.specs.Policies.{location_of, place_of, region_of, role_of, weight_of};
 ghost use Rattle.routing.specs.Texts.{IsLocation, IsRegion, IsSubdivision};
 ghost use Rattle.routing.specs.declared.policies.Continent.{Continent};
 ghost use Rattle.routing.specs.declared.policies.Place.{Place};
@@ -12,15 +12,13 @@ ghost use Rattle.routing.specs.declared.policies.Place.TheVariants.{Subdivision}
 ghost use Rattle.routing.specs.declared.policies.Role.{Role};
 ghost use Rattle.routing.specs.declared.policies.Routing.{Routing};
 ghost use Rattle.routing.specs.declared.policies.Routing.TheVariants as policy;
-ghost use Rattle.set_octets.specs.Octets.{IsSpelledRouting, continent_number, place_octets};
-ghost use Rattle.set_octets.specs.Octets.{role_number, routing_octets, text_octets};
-ghost use Rattle.set_reading.specs.Sets.{IsPlace, IsRouting};
+ghost use Rattle.zone_table.specs.Octets.{IsSpelledRouting, continent_number, place_octets};
+ghost use Rattle.zone_table.specs.Octets.{role_number, routing_octets, text_octets};
+ghost use Rattle.zone_table.specs.SetsOfSetReading.{IsPlace, IsRouting};
 
-use cidr_blocks::locations_are_names;
-use cidr_routing::Ident;
+use answer_model::locations_are_names;
 use routing::{Continent, Place, Region, Role, Routing};
-use set_fields::{fields_are_read, region_at, sub_at};
-use set_parts::behind_text;
+use zone_table::{Ident, behind_text, fields_are_read, region_at, sub_at};
 
 /// Whether a policy at the front is the simple one.
 pub(crate) fn is_simple_in(octets: &[u8]) -> bool

@@ -1,10 +1,10 @@
 -- The address of a text, by the version whose text it is.
 use Rattle.std.proofs.Common.{◌≡◌, ℕ, Option, Some, None, List, refl, sym, ap, ◌∙◌}
 use Rattle.std.specs.Net.Grammar.{IsDotted}
-use Rattle.address_text.specs.AddressOfText.{ipv4_of, ipv6_of}
-use Rattle.address_text.specs.Laws.{Ipv4OfText, Ipv6OfText}
-use Rattle.address_text.specs.Spelling.{SpellsIpv6}
-use Rattle.address_text.specs.declared.address.IpAddress.TheVariants.{V4, V6}
+use Rattle.ip_table.specs.AddressOfText.{ipv4_of, ipv6_of}
+use Rattle.ip_table.specs.LawsOfAddressText.{Ipv4OfText, Ipv6OfText}
+use Rattle.ip_table.specs.Spelling.{SpellsIpv6}
+use Rattle.ip_table.specs.IpAddressRecord.TheVariants.{V4, V6}
 use Rattle.prefix_text.specs.Prefixes.{address_of, known}
 
 none_is : (o : Option (List ℕ)) → ((octets : List ℕ) → o ≡ Some octets → ⊥) → o ≡ None

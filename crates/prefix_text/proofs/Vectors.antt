@@ -1,7 +1,7 @@
 -- The definitions at values from outside.
 use Rattle.std.proofs.Common.{◌≡◌, Some, None, [], ◌∷◌, refl}
 use Rattle.std.specs.Prelude.{codes}
-use Rattle.address_text.specs.declared.address.IpAddress.TheVariants.{V4}
+use Rattle.ip_table.specs.IpAddressRecord.TheVariants.{V4}
 use Rattle.ip_table.specs.Bits as bits
 use Rattle.prefix_text.specs.Prefixes.{plain_number, block_of, prefix_of}
 

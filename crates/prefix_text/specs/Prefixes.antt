@@ -1,9 +1,9 @@
 -- The texts of prefixes of addresses (RFC 4632, 3.1; RFC 4291, 2.3).
 use Rattle.std.specs.Prelude.{ℕ, ◌+◌, ◌-◌, ◌%◌, ◌^◌, ◌==◌, ◌&&◌, nat_le, List, [], ◌∷◌, take, drop}
 use Rattle.std.specs.Prelude.{Option, None, Some, if◌then◌else◌}
-use Rattle.address_text.specs.AddressOfText.{ipv4_of, ipv6_of}
-use Rattle.address_text.specs.declared.address.IpAddress.{IpAddress}
-use Rattle.address_text.specs.declared.address.IpAddress.TheVariants.{V4, V6}
+use Rattle.ip_table.specs.AddressOfText.{ipv4_of, ipv6_of}
+use Rattle.ip_table.specs.IpAddressRecord.{IpAddress}
+use Rattle.ip_table.specs.IpAddressRecord.TheVariants.{V4, V6}
 use Rattle.ip_table.specs.Bits.{width_of, number_of}
 use Rattle.ip_table.specs.Prefixes.{Prefix}
 use Rattle.prefix_text.specs.Marks.{place_of}

@@ -6,5 +6,6 @@
 mod marks;
 mod reading;
 
+pub use ip_table::{InsertFault, IpAddress, IpPrefix, IpTable};
 pub use marks::place_of;
 pub use reading::{read_address, read_number, read_prefix};

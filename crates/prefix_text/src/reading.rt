@@ -4,8 +4,7 @@ ghost use Rattle.std.specs.Prelude.{◌≡◌, ◌≤◌, IfSome};
 ghost use Rattle.prefix_text.specs.Prefixes.{address_of, block_of, plain_number, prefix_of};
 
 use crate::marks::place_of;
-use address_text::{IpAddress, ipv4_of_text, ipv6_of_text, read_ipv4, read_ipv6};
-use ip_table::IpPrefix;
+use ip_table::{IpAddress, IpPrefix, ipv4_of_text, ipv6_of_text, read_ipv4, read_ipv6};
 use octets::{behind, front};
 use value_text::number;
 

@@ -6,8 +6,8 @@ use Rattle.dns_wire.specs.Draft.{Draft, StandsFor, with_records}
 use Rattle.dns_wire.specs.Message.{Message, Record}
 use Rattle.dns_wire.specs.declared.reply.Section.TheVariants.{Additional, Answer, Authority}
 use Rattle.reply_records.specs.Writing.{IsOpen, Writes}
-use Rattle.answer_model.specs.Sections.{Sections, ends, with_cname}
-use Rattle.answer_model.specs.declared.used.Used.{Used}
+use Rattle.zone_lookup.specs.Sections.{Sections, ends, with_cname}
+use Rattle.zone_lookup.specs.UsedRecord.{Used}
 use Rattle.query_engine.specs.Adding.{Adds}
 
 pub open_authority : (d : Draft) → IsOpen Answer d → IsOpen Authority d

@@ -7,11 +7,11 @@ use Rattle.dns_wire.specs.Draft.{opt_of, reply_to}
 use Rattle.dns_wire.specs.Limit.{refusal_of}
 use Rattle.dns_wire.specs.Message.{wire}
 use Rattle.std.specs.Prelude.{cond}
-use Rattle.zone_table.specs.Zones.{Zone}
-use Rattle.answer_model.specs.Laws.{ZoneOrNone, ZonesAreLongest}
-use Rattle.answer_model.specs.Reply.{Asker, Served, is_refused, query_reply, zone_reply}
-use Rattle.answer_model.specs.Sections.{Sections}
-use Rattle.answer_model.specs.Zones.{zone_for}
+use Rattle.zone_lookup.specs.ZonesOfZoneList.{Zone}
+use Rattle.zone_lookup.specs.Laws.{ZoneOrNone, ZonesAreLongest}
+use Rattle.zone_lookup.specs.Reply.{Asker, Served, is_refused, query_reply, zone_reply}
+use Rattle.zone_lookup.specs.Sections.{Sections}
+use Rattle.zone_lookup.specs.Zones.{zone_for}
 use Rattle.zone_lookup.specs.Served.{IsFound, hosted_of, zone_of}
 use Rattle.query_engine.specs.Adding.{with_sections}
 use Rattle.query_engine.specs.Asking.{zone_reply_of}

@@ -7,12 +7,12 @@ use Rattle.dns_name.specs.Stored.{labels_of}
 use Rattle.dns_wire.specs.Draft.{Draft}
 use Rattle.dns_wire.specs.Message.{Record}
 use Rattle.dns_wire.specs.declared.reply.Section.TheVariants.{Answer}
-use Rattle.answer_model.specs.declared.used.Used.{Used}
-use Rattle.answer_model.specs.Descent.{Choices}
-use Rattle.answer_model.specs.Sections.{Lookup, Sections, ended, ends, followed, is_zone}
-use Rattle.answer_model.specs.Sections.{look_up, step, with_cname}
-use Rattle.answer_model.specs.Sections.Step.{Ends, Follows}
-use Rattle.answer_model.specs.Zones.{zone_for}
+use Rattle.zone_lookup.specs.UsedRecord.{Used}
+use Rattle.zone_lookup.specs.Descent.{Choices}
+use Rattle.zone_lookup.specs.Sections.{Lookup, Sections, ended, ends, followed, is_zone}
+use Rattle.zone_lookup.specs.Sections.{look_up, step, with_cname}
+use Rattle.zone_lookup.specs.Sections.Step.{Ends, Follows}
+use Rattle.zone_lookup.specs.Zones.{zone_for}
 use Rattle.reply_records.specs.Writing.{Writes}
 use Rattle.query_engine.specs.Adding.{Adds}
 use Rattle.query_engine.specs.Asking.{Leaves}

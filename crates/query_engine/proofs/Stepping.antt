@@ -11,31 +11,31 @@ use Rattle.rdata_layout.specs.Types.{number_of}
 use Rattle.rdata_layout.specs.declared.types.RType.TheVariants as rtype
 use Rattle.record_set.specs.declared.sets.RecordSet.{RecordSet}
 use Rattle.record_set.specs.declared.sets.SetKey.{SetKey}
-use Rattle.zone_table.specs.Zones.{Zone}
-use Rattle.zone_table.specs.SetRefRecord.{SetRef}
+use Rattle.zone_lookup.specs.ZonesOfZoneList.{Zone}
+use Rattle.zone_lookup.specs.SetRefRecord.{SetRef}
 use Rattle.zone_model.specs.Hosted.{HostedZone}
 use Rattle.zone_model.specs.Zones.{IsAmong}
-use Rattle.zone_table.specs.declared.refs.Group.{Group}
-use Rattle.answer_model.specs.declared.used.Used.{Used}
-use Rattle.answer_model.specs.Clients.{Client}
-use Rattle.answer_model.specs.Descent.{Choices, Descended, descend}
-use Rattle.answer_model.specs.Laws.{CutOrNone as NearestOrNone, CutsAreNearest, NamesExist}
-use Rattle.answer_model.specs.Names.{closest, if_exists, source}
-use Rattle.answer_model.specs.Records.{answer_records, data_of}
-use Rattle.answer_model.specs.Sections.{Lookup, asked, asked_group, asked_step}
-use Rattle.answer_model.specs.Sections.{canonical, cname_step, cut_above, ends, no_data, step_of}
-use Rattle.answer_model.specs.Sections.Step.{Ends, Follows}
-use Rattle.policy_select.specs.Groups.{Agrees, sets_in, sets_in_zone}
-use Rattle.policy_select.specs.Selecting.{Gives, GivesDescent, means_of, selected_sets}
-use Rattle.policy_select.proofs.Targets.{as_many}
+use Rattle.zone_lookup.specs.GroupRecord.{Group}
+use Rattle.zone_lookup.specs.UsedRecord.{Used}
+use Rattle.zone_lookup.specs.Clients.{Client}
+use Rattle.zone_lookup.specs.Descent.{Choices, Descended, descend}
+use Rattle.zone_lookup.specs.Laws.{CutOrNone as NearestOrNone, CutsAreNearest, NamesExist}
+use Rattle.zone_lookup.specs.Names.{closest, if_exists, source}
+use Rattle.zone_lookup.specs.Records.{answer_records, data_of}
+use Rattle.zone_lookup.specs.Sections.{Lookup, asked, asked_group, asked_step}
+use Rattle.zone_lookup.specs.Sections.{canonical, cname_step, cut_above, ends, no_data, step_of}
+use Rattle.zone_lookup.specs.Sections.Step.{Ends, Follows}
+use Rattle.reply_records.specs.Groups.{Agrees, sets_in, sets_in_zone}
+use Rattle.reply_records.specs.Selecting.{Gives, GivesDescent, means_of, selected_sets}
+use Rattle.reply_records.proofs.Targets.{as_many}
 use Rattle.rdata_layout.specs.Layout.{IsLayout}
 use Rattle.rdata_layout.specs.declared.types.RType.{RType}
-use Rattle.set_scratch.specs.Bodies.{wires_of}
+use Rattle.zone_lookup.specs.Bodies.{wires_of}
 use Rattle.zone_model.proofs.Lists.{some_one}
-use Rattle.zone_table.specs.Looking.{IsGroupNow}
+use Rattle.zone_lookup.specs.Looking.{IsGroupNow}
 use Rattle.reply_records.proofs.Shown.{its_data, of_held}
 use Rattle.query_engine.proofs.Typed.{answer_type}
-use Rattle.policy_select.specs.declared.selection.Selected.{Selected}
+use Rattle.reply_records.specs.SelectedRecord.{Selected}
 
 -- a descent by the number of the zone
 pub zone_gives : (zones : List Zone) (view : SetRef → Bool) (client : Client) (words : List ℕ)

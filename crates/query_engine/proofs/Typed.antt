@@ -6,9 +6,9 @@ use Rattle.record_set.specs.declared.sets.Body.{Body}
 use Rattle.record_set.specs.declared.sets.Body.TheVariants as body
 use Rattle.record_set.specs.declared.sets.RecordSet.{RecordSet}
 use Rattle.zone_model.specs.Zones.{IsAmong, target_group, target_group_of}
-use Rattle.answer_model.specs.Descent.{Choices, Descended, Means, by_body, by_choice, descend}
-use Rattle.answer_model.specs.Descent.{descends, selected, with_choice, word_of}
-use Rattle.policy_select.proofs.Targets.{of_its_type}
+use Rattle.zone_lookup.specs.Descent.{Choices, Descended, Means, by_body, by_choice, descend}
+use Rattle.zone_lookup.specs.Descent.{descends, selected, with_choice, word_of}
+use Rattle.reply_records.proofs.Targets.{of_its_type}
 use Rattle.reply_records.proofs.Joined.{sets_among}
 
 abbrev AreOfType : RType → List RecordSet → Type 0

@@ -3,7 +3,7 @@ use Rattle.std.specs.Prelude.{◌≡◌, ◌++◌}
 use Rattle.dns_wire.specs.Draft.{Draft, Follows, StandsFor}
 use Rattle.dns_wire.specs.Message.{Message}
 use Rattle.dns_wire.specs.declared.reply.Section.TheVariants.{Answer}
-use Rattle.answer_model.specs.Sections.{Sections}
+use Rattle.zone_lookup.specs.Sections.{Sections}
 
 -- the reply with the records of these sections
 abbrev pub with_sections : Sections → Message → Message

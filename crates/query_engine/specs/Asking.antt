@@ -11,14 +11,14 @@ use Rattle.geo_latency.specs.declared.tables.Tables.{Tables}
 use Rattle.rdata_layout.specs.declared.types.RType.TheVariants as rtype
 use Rattle.record_set.specs.declared.sets.RecordSet.{RecordSet}
 use Rattle.record_set.specs.declared.sets.SetKey.{SetKey}
-use Rattle.zone_table.specs.Zones.{Zone}
-use Rattle.answer_model.specs.declared.used.Used.{Used}
-use Rattle.answer_model.specs.Clients.{client_at}
-use Rattle.answer_model.specs.Descent.{Choices}
-use Rattle.answer_model.specs.Records.{data_of}
-use Rattle.answer_model.specs.Reply.{Asker, Served, zone_reply}
-use Rattle.answer_model.specs.Sections.{Lookup, Sections, Step}
-use Rattle.answer_model.specs.Sections.Step.{Ends, Follows}
+use Rattle.zone_lookup.specs.ZonesOfZoneList.{Zone}
+use Rattle.zone_lookup.specs.UsedRecord.{Used}
+use Rattle.zone_lookup.specs.Clients.{client_at}
+use Rattle.zone_lookup.specs.Descent.{Choices}
+use Rattle.zone_lookup.specs.Records.{data_of}
+use Rattle.zone_lookup.specs.Reply.{Asker, Served, zone_reply}
+use Rattle.zone_lookup.specs.Sections.{Lookup, Sections, Step}
+use Rattle.zone_lookup.specs.Sections.Step.{Ends, Follows}
 use Rattle.zone_lookup.specs.Served.{hosted_of, zone_of}
 use Rattle.query_engine.specs.Adding.{Adds}
 use Rattle.query_engine.specs.declared.asking.Asked.{Asked}

@@ -1,8 +1,8 @@
 //! What is asked, how far its choices have come, and how its answer ends.
 
 use address_text::IpAddress;
-use answer_model::Used;
 use dns_name::Name;
+use zone_lookup::Used;
 
 /// What a query asks of a zone, and what its choices are made by.
 #[derive(Clone, Copy)]

@@ -1,17 +1,16 @@
 //! The client's address, and how far an answer reaches (RFC 7871, 7.2.1).
 
 ghost use Rattle.std.specs.Prelude.{◌≡◌, Some, take};
-ghost use Rattle.answer_model.specs.Clients.{client_address, client_at};
-ghost use Rattle.answer_model.specs.Location.{scope_in};
-ghost use Rattle.answer_model.specs.Reply.{if_used, told_scope};
+ghost use Rattle.zone_lookup.specs.Clients.{client_address, client_at};
+ghost use Rattle.zone_lookup.specs.Location.{scope_in};
+ghost use Rattle.zone_lookup.specs.Reply.{if_used, told_scope};
 ghost use Rattle.dns_message.specs.Whole.{subnet_of};
 
 use address_text::IpAddress;
-use answer_model::{Used, locates_as_told};
 use dns_message::Edns;
 use ecs_option::ClientSubnet;
 use geo_latency::{Latencies, Location, Tables};
-use zone_table::Zones;
+use zone_lookup::{Used, Zones, locates_as_told};
 
 /// The client's address: that of the client subnet where its source length is above 0, else the one
 /// from which the packet came.

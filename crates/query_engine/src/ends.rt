@@ -1,21 +1,21 @@
 //! The ends of an answer, one rule each.
 
 ghost use Rattle.std.specs.Prelude.{◌≡◌, ◌<◌, slice_get, Some};
-ghost use Rattle.answer_model.specs.Sections.{ends, no_data, nxdomain, referral};
-ghost use Rattle.answer_model.specs.declared.used.Used.{Used};
+ghost use Rattle.zone_lookup.specs.Sections.{ends, no_data, nxdomain, referral};
+ghost use Rattle.zone_lookup.specs.UsedRecord.{Used};
 ghost use Rattle.dns_wire.specs.declared.reply.Section.TheVariants.{Answer};
-ghost use Rattle.policy_select.specs.Groups.{sets_in, sets_in_zone};
+ghost use Rattle.reply_records.specs.Groups.{sets_in, sets_in_zone};
 ghost use Rattle.rdata_layout.specs.declared.types.RType.TheVariants as rtype;
 ghost use Rattle.record_set.specs.declared.sets.RecordSet.{RecordSet};
 ghost use Rattle.reply_records.specs.Writing.{IsOpen};
 ghost use Rattle.zone_lookup.specs.Served.{zone_of};
-ghost use Rattle.zone_table.specs.Looking.{IsGroupNow};
+ghost use Rattle.zone_lookup.specs.Looking.{IsGroupNow};
 ghost use Rattle.query_engine.specs.Asking.{Leaves};
 
 use crate::asking::{Asked, End};
 use dns_wire::{Reply, records_add_up};
 use reply_records::{write_delegation, write_soa};
-use zone_table::{Group, Scratch, Zones};
+use zone_lookup::{Group, Scratch, Zones};
 
 /// NXDOMAIN (RFC 1035, 4.1.1).
 const NXDOMAIN: u16 = 3;

@@ -10,3 +10,4 @@ mod replies;
 mod steps;
 
 pub use replies::answer;
+pub use zone_lookup::{HealthView, Scratch, SetRef, Zones};

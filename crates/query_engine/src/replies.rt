@@ -1,14 +1,14 @@
 //! The reply to a packet.
 
 ghost use Rattle.std.specs.Prelude.{◌≡◌, ◌<◌, ◌≤◌, ℕ, Bool, None, IfSome, length};
-ghost use Rattle.answer_model.specs.Reply.{Answers, is_refused, query_reply};
-ghost use Rattle.answer_model.specs.Sections.{sections};
+ghost use Rattle.zone_lookup.specs.Reply.{Answers, is_refused, query_reply};
+ghost use Rattle.zone_lookup.specs.Sections.{sections};
 ghost use Rattle.dns_message.specs.Whole.{IsWhole};
 ghost use Rattle.dns_wire.specs.Draft.{reply_to};
 ghost use Rattle.dns_wire.specs.Header.{FitsRcode};
 ghost use Rattle.dns_wire.specs.Limit.{limit_of as most_of};
 ghost use Rattle.dns_wire.specs.Message.{wire};
-ghost use Rattle.policy_select.specs.Groups.{Agrees};
+ghost use Rattle.reply_records.specs.Groups.{Agrees};
 ghost use Rattle.record_set.specs.declared.sets.SetKey.{SetKey};
 ghost use Rattle.zone_lookup.specs.Served.{AreServed, IsFound};
 ghost use Rattle.query_engine.specs.Asking.{answer_of, asker_of, served_by, zone_reply_of};
@@ -17,14 +17,12 @@ use crate::asking::{Asked, Progress};
 use crate::client::{client_address, told_scope};
 use crate::steps::look_up;
 use address_text::IpAddress;
-use answer_model::{Used, zones_are_longest};
 use dns_message::{Query, QueryRead, read_query};
 use dns_name::Name;
 use dns_wire::{Reply, limit_of};
 use geo_latency::Tables;
-use policy_select::{HealthView, views_agree};
-use zone_lookup::find_zone;
-use zone_table::{Scratch, Zones};
+use reply_records::{HealthView, views_agree};
+use zone_lookup::{Scratch, Used, Zones, find_zone, zones_are_longest};
 
 /// REFUSED (RFC 1035, 4.1.1).
 const REFUSED: u16 = 5;

@@ -2,42 +2,43 @@
 
 ghost use Rattle.std.specs.Prelude.{◌≡◌, ◌≢◌, ◌<◌, ◌≤◌, ◌+◌, ◌*◌, ◌∷◌, [], ℕ, Bool, List, Some};
 ghost use Rattle.std.specs.Prelude.{slice_get};
-ghost use Rattle.answer_model.specs.Descent.{descend as descended};
-ghost use Rattle.answer_model.specs.Records.{answer_records, data_of};
-ghost use Rattle.answer_model.specs.Sections.{asked as answered, asked_group, canonical, ends};
-ghost use Rattle.answer_model.specs.Sections.{look_up as found, step as step_at};
-ghost use Rattle.answer_model.specs.Sections.{step_of};
-ghost use Rattle.answer_model.specs.declared.used.Used.{Used};
+ghost use Rattle.zone_lookup.specs.Descent.{descend as descended};
+ghost use Rattle.zone_lookup.specs.Records.{answer_records, data_of};
+ghost use Rattle.zone_lookup.specs.Sections.{asked as answered, asked_group, canonical, ends};
+ghost use Rattle.zone_lookup.specs.Sections.{look_up as found, step as step_at};
+ghost use Rattle.zone_lookup.specs.Sections.{step_of};
+ghost use Rattle.zone_lookup.specs.UsedRecord.{Used};
 ghost use Rattle.dns_name.specs.Suffix.{EndsWith};
 ghost use Rattle.dns_wire.specs.declared.reply.Section.TheVariants.{Answer};
-ghost use Rattle.policy_select.specs.Groups.{Agrees, FewInGroups, sets_in, sets_in_zone};
-ghost use Rattle.policy_select.specs.Selecting.{AreOfGroup, HoldsFirst, selected_sets};
+ghost use Rattle.reply_records.specs.Groups.{Agrees, FewInGroups, sets_in, sets_in_zone};
+ghost use Rattle.reply_records.specs.Selecting.{AreOfGroup, HoldsFirst, selected_sets};
 ghost use Rattle.rdata_layout.specs.declared.types.RType.TheVariants as rtype;
 ghost use Rattle.record_set.specs.declared.sets.RecordSet.{RecordSet};
 ghost use Rattle.record_set.specs.declared.sets.SetKey.{SetKey};
 ghost use Rattle.reply_records.specs.Writing.{IsOpen, Writes};
 ghost use Rattle.set_search.specs.Found.{IsFirstNamed};
-ghost use Rattle.zone_table.specs.Zones.{placed_in};
+ghost use Rattle.zone_lookup.specs.ZonesOfZoneList.{placed_in};
 ghost use Rattle.zone_lookup.specs.Cuts.{HasSets};
 ghost use Rattle.zone_lookup.specs.Served.{AreServed};
 ghost use Rattle.zone_model.specs.Zones.{IsAmong, group};
-ghost use Rattle.zone_table.specs.Looking.{IsApex, IsGroupNow};
+ghost use Rattle.zone_lookup.specs.Looking.{IsApex, IsGroupNow};
 ghost use Rattle.query_engine.specs.Asking.{Comes, EndsWell, HoldsCname, HoldsNext, IsEnd};
 ghost use Rattle.query_engine.specs.Asking.{Leaves, asked_of, choices_of};
 
 use crate::asking::{Asked, End, Next, Progress};
 use crate::ends::{answer_nodata, answer_nxdomain, answer_referral};
-use answer_model::{cuts_are_nearest, names_exist};
 use dns_name::Name;
 use dns_wire::{Reply, Section, records_add_up};
 use geo_latency::Tables;
-use policy_select::{HealthView, Selected, descend, find_group, views_agree};
 use rdata_layout::{RType, types_have_their_own_number};
-use reply_records::{first_record, name_in, write_chosen, write_one};
-use zone_lookup::{
-    Found, Standing, asked_group, cut_above, find_asked, is_held_by, known_few, standing_of,
+use reply_records::{
+    HealthView, Selected, descend, find_group, first_record, name_in, views_agree, write_chosen,
+    write_one,
 };
-use zone_table::{Group, Scratch, Zones};
+use zone_lookup::{
+    Found, Group, Scratch, Standing, Zones, asked_group, cut_above, cuts_are_nearest, find_asked,
+    is_held_by, known_few, names_exist, standing_of,
+};
 
 /// The records of a group of the asked type answer a name. Where nothing is chosen it is no data.
 fn answer_group<V: HealthView>(

@@ -1,6 +1,6 @@
 -- The lines that ask, serve and compact: Query, Bind, Serve and Compact (own).
 use Rattle.std.specs.Prelude.{ℕ, ◌-◌, ◌^◌, List, [], ◌∷◌, length, nat_le, if◌then◌else◌, unwrap_or, Result, Ok, Err}
-use Rattle.address_text.specs.declared.address.IpAddress.{IpAddress}
+use Rattle.prefix_text.specs.IpAddressRecord.{IpAddress}
 use Rattle.prefix_text.specs.Prefixes.{address_of}
 use Rattle.hex.specs.Hex.{decode_of}
 use Rattle.hex.specs.declared.error.FromHexError.{FromHexError}

@@ -8,9 +8,8 @@ ghost use Rattle.line_reading.specs.Kinds.{number};
 ghost use Rattle.query_lines.specs.Queries.{query, address, words};
 
 use crate::packets::{Packet, read_packet};
-use address_text::IpAddress;
 use line_reading::{LineFault, LineReason, Member, list, number, object, optional, required};
-use prefix_text::read_address;
+use prefix_text::{IpAddress, read_address};
 use serde_json::Value;
 use std::alloc::Global;
 

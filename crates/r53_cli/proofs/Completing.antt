@@ -13,7 +13,7 @@ use Rattle.r53_cli.specs.Run.{IsServed}
 use Rattle.r53_cli.specs.Sessions.{Counts, Dumps, Makes, Runs, of_dumped, of_ended, of_init, of_ran}
 use Rattle.r53_cli.specs.declared.status.Status.{Status}
 use Rattle.r53_cli.specs.declared.status.Status.TheVariants as status
-use Rattle.session_model.specs.Steps.{State}
+use Rattle.session_run.specs.Steps.{State}
 use Rattle.session_run.specs.Ended.{Ended}
 use Rattle.session_run.specs.Ended.TheVariants as ended
 use Rattle.session_run.specs.Laws.{NoStoreOrBeginning}

@@ -11,7 +11,7 @@ use Rattle.r53_cli.specs.declared.form.Form.TheVariants as form
 use Rattle.r53_cli.specs.declared.status.Status.TheVariants as status
 use Rattle.r53_io.specs.Network.{Incoming}
 use Rattle.rand_core.specs.Stream.{Stream}
-use Rattle.session_model.specs.Serving.{Datagram}
+use Rattle.session_run.specs.Serving.{Datagram}
 use Rattle.session_run.specs.Running.{UnlessEnded}
 use Rattle.session_run.specs.declared.ran.Ran.{Ran}
 use Rattle.session_run.specs.declared.ran.Ran.TheVariants as ran

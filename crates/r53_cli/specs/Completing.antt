@@ -9,9 +9,9 @@ use Rattle.r53_cli.specs.Run.{IsServed}
 use Rattle.r53_cli.specs.Sessions.{Counts, Dumps, Makes, Runs, Seen}
 use Rattle.r53_cli.specs.declared.status.Status.{Status}
 use Rattle.r53_cli.specs.declared.status.Status.TheVariants as status
-use Rattle.session_model.specs.Steps.{State}
+use Rattle.session_run.specs.Steps.{State}
 use Rattle.session_run.specs.Running.{Given, IsBeginning, IsTold}
-use Rattle.store_model.specs.Opening.{OpensConfig}
+use Rattle.dump_run.specs.Opening.{OpensConfig}
 use Rattle.table_lines.specs.Input.{tables_of}
 
 -- No count rose.

@@ -13,7 +13,7 @@ use Rattle.r53_cli.specs.declared.status.Status.{Status}
 use Rattle.r53_cli.specs.declared.status.Status.TheVariants as status
 use Rattle.r53_io.specs.Network.{Incoming}
 use Rattle.rand_core.specs.Stream.{Stream}
-use Rattle.session_model.specs.Serving.{Datagram}
+use Rattle.session_run.specs.Serving.{Datagram}
 use Rattle.session_run.specs.Ended.{Ended}
 use Rattle.session_run.specs.Ended.TheVariants as ended
 use Rattle.session_run.specs.Ending.{FilesOpen}
@@ -21,7 +21,7 @@ use Rattle.session_run.specs.Running.{FilesSay, Given, HasCauseOf, IfUntabled, I
 use Rattle.session_run.specs.Running.{TablesSay, UnlessEnded}
 use Rattle.session_run.specs.declared.ran.Ran.{Ran}
 use Rattle.session_run.specs.declared.ran.Ran.TheVariants as ran
-use Rattle.store_model.specs.Opening.{OpensConfig}
+use Rattle.dump_run.specs.Opening.{OpensConfig}
 use Rattle.zone_journal.specs.Making.{InitGives, InitLeaves}
 use Rattle.zone_journal.specs.Pairs.{Unwritten}
 use Rattle.zone_journal.specs.declared.answers.Init.{Init}

@@ -5,13 +5,12 @@ ghost use Rattle.r53_cli.specs.Sessions.{Dumps, Makes, Runs, of_dumped, of_ended
 ghost use Rattle.r53_cli.specs.declared.status.Status.TheVariants as Status;
 
 use crate::status::Status;
-use dump_run::{Dumped, dump_store};
+use dump_run::{Dumped, dump_store, init_opens};
 use r53_disk::Disk;
 use r53_io::{Link, Sink, Source};
 use rand_core::Rng;
 use session_run::{Ended, Ran, run_session};
 use std::alloc::Global;
-use store_model::init_opens;
 use zone_journal::{Init, init};
 
 /// Makes a store with nothing in it.

@@ -1,8 +1,8 @@
 -- A command that is ready is accepted.
 use Rattle.std.proofs.Common.{Option, None, Some}
-use Rattle.command_octets.specs.declared.commands.Command.{Command}
+use Rattle.sound_configs.specs.CommandRecord.{Command}
 use Rattle.config_opening.specs.Kept.{IsAccepted, IsReady, IsWorkReady, Prepared, State, config_in}
-use Rattle.zone_table.specs.Edits.{Prepared as ReadyEdit}
+use Rattle.query_engine.specs.Edits.{Prepared as ReadyEdit}
 
 by_work : (state : State) (command : Command) (edit : Option ReadyEdit)
     → IsWorkReady state command edit → IsAccepted (config_in state) command

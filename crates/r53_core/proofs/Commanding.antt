@@ -3,24 +3,24 @@ use Rattle.std.proofs.Common.{◌≡◌, ℕ, ◌+◌, ◌≤◌, List, Option, 
 use Rattle.std.specs.Prelude.{[], ◌∷◌, Bool, IsTrue, option_map}
 use Rattle.std.specs.List.{AllByRecursion}
 use Rattle.check_model.specs.Checks.{Checks}
-use Rattle.command_octets.specs.Octets.{command_octets}
-use Rattle.command_octets.specs.declared.commands.Command.{Command}
-use Rattle.command_octets.specs.declared.commands.Command.TheVariants as command
+use Rattle.sound_configs.specs.OctetsOfCommandOctets.{command_octets}
+use Rattle.sound_configs.specs.CommandRecord.{Command}
+use Rattle.sound_configs.specs.CommandRecord.TheVariants as command
 use Rattle.r53_core.proofs.Accepted.{accepted}
 use Rattle.config_opening.specs.States.{IsReady, Ready, State as Kept, config_of}
 use Rattle.config_opening.specs.Steps.{CommitGives, IsCommitted, StaysSo}
-use Rattle.config_model.specs.Applying.{Decides}
-use Rattle.config_model.specs.Configs.{Config}
-use Rattle.config_model.specs.declared.refusals.Made.{Made}
-use Rattle.config_model.specs.declared.refusals.Refusal.{Refusal}
-use Rattle.config_model.specs.declared.refusals.Refusal.TheVariants as refusal
-use Rattle.engine_model.specs.Engine.{Engine, Fits, IsFull, Journal, Plan as ToldPlan, grown, longer, size_of}
+use Rattle.sound_configs.specs.Applying.{Decides}
+use Rattle.sound_configs.specs.Configs.{Config}
+use Rattle.sound_configs.specs.MadeRecord.{Made}
+use Rattle.sound_configs.specs.RefusalRecord.{Refusal}
+use Rattle.sound_configs.specs.RefusalRecord.TheVariants as refusal
+use Rattle.sound_configs.specs.Engine.{Engine, Fits, IsFull, Journal, Plan as ToldPlan, grown, longer, size_of}
 use Rattle.file_building.specs.Building.{Plan}
 use Rattle.zone_journal.specs.Layout.{most}
-use Rattle.health_index.specs.Following.{Follows}
-use Rattle.health_index.specs.Index.{Index, StandsFor as HasHealth}
-use Rattle.health_index.specs.Laws.{CommandsFollow}
-use Rattle.health_index.specs.Leaving.{AreLeft}
+use Rattle.sound_configs.specs.Following.{Follows}
+use Rattle.sound_configs.specs.Index.{Index, StandsFor as HasHealth}
+use Rattle.sound_configs.specs.LawsOfHealthIndex.{CommandsFollow}
+use Rattle.sound_configs.specs.Leaving.{AreLeft}
 use Rattle.health_model.specs.Statuses.{Report}
 use Rattle.config_opening.specs.Journals.{journal_of, plan_of}
 use Rattle.r53_core.specs.Kinds.{IsOnCollections}
@@ -29,12 +29,12 @@ use Rattle.config_opening.specs.Kept.{IsOnChecks, IsWorkReady, State as Held}
 use Rattle.config_opening.specs.Installing.{TellsSets, checks_of}
 use Rattle.zone_journal.specs.Appending.{Fits as JournalFits, RefusesBy}
 use Rattle.zone_journal.specs.Standing.{PlanFits, State as Kept_journal, planned_length}
-use Rattle.zone_table.specs.Edits.{Edits, IsAllowed, Prepared as ReadyEdit, zone_of}
-use Rattle.zone_table.specs.Tables.{Table}
-use Rattle.zone_table.specs.Zones.{AreZones, IsZoneId, StandsAlone, Zone}
-use Rattle.zone_table.specs.declared.edits.ZoneEdit.{ZoneEdit}
-use Rattle.zone_table.specs.declared.edits.ZoneEdit.TheVariants as zone_edit
-use Rattle.zone_table.specs.declared.refs.Delta.{Delta}
+use Rattle.query_engine.specs.Edits.{Edits, IsAllowed, Prepared as ReadyEdit, zone_of}
+use Rattle.query_engine.specs.Tables.{Table}
+use Rattle.query_engine.specs.Zones.{AreZones, IsZoneId, StandsAlone, Zone}
+use Rattle.query_engine.specs.ZoneEditRecord.{ZoneEdit}
+use Rattle.query_engine.specs.ZoneEditRecord.TheVariants as zone_edit
+use Rattle.query_engine.specs.DeltaRecord.{Delta}
 
 -- ---- journals
 

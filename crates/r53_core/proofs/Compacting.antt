@@ -4,12 +4,12 @@ use Rattle.std.specs.Prelude.{option_map}
 use Rattle.config_opening.specs.Compacting.{CompactGives, IsCompacted}
 use Rattle.config_opening.specs.Journals.{journal_of, plan_of}
 use Rattle.config_opening.specs.States.{State as Kept, config_of}
-use Rattle.config_model.specs.Configs.{Config}
-use Rattle.engine_model.specs.Compacting.{IsLastGeneration, compacted as pieces_of, told_of}
-use Rattle.engine_model.specs.Engine.{Engine, Journal}
-use Rattle.engine_model.specs.declared.answers.Compacted.{Compacted}
-use Rattle.engine_model.specs.declared.answers.Compacted.TheVariants as compacted
-use Rattle.health_index.specs.Index.{Index, StandsFor as HasHealth}
+use Rattle.sound_configs.specs.Configs.{Config}
+use Rattle.sound_configs.specs.Compacting.{IsLastGeneration, compacted as pieces_of, told_of}
+use Rattle.sound_configs.specs.Engine.{Engine, Journal}
+use Rattle.sound_configs.specs.CompactedRecord.{Compacted}
+use Rattle.sound_configs.specs.CompactedRecord.TheVariants as compacted
+use Rattle.sound_configs.specs.Index.{Index, StandsFor as HasHealth}
 use Rattle.r53_core.specs.Stores.{CompactionGives, StandsFor, State}
 use Rattle.config_opening.specs.Kept.{State as Config_kept, config_in}
 

@@ -4,9 +4,9 @@ use Rattle.std.proofs.lemmas.Bool.{false≢true}
 use Rattle.std.specs.Prelude.{map, option_map, not, is_some, ◌&&◌, ◌||◌, ◌==◌, length, ⊤}
 use Rattle.std.specs.List.{AllByRecursion, list_any}
 use Rattle.std.specs.Str.{bytes_eq}
-use Rattle.batch_model.specs.declared.batches.Batch.{Batch}
-use Rattle.batch_model.specs.declared.refusals.BatchRefusal.{BatchRefusal}
-use Rattle.batch_model.specs.declared.refusals.BatchRefusal.TheVariants as batch
+use Rattle.sound_configs.specs.BatchRecord.{Batch}
+use Rattle.sound_configs.specs.BatchRefusalRecord.{BatchRefusal}
+use Rattle.sound_configs.specs.BatchRefusalRecord.TheVariants as batch
 use Rattle.check_model.specs.Commands.{checks_after, is_there, refusal_of}
 use Rattle.check_model.specs.declared.checks.Check.{Check}
 use Rattle.check_model.specs.declared.checks.CheckCommand.{CheckCommand}
@@ -19,25 +19,25 @@ use Rattle.cidr_changes.specs.declared.faults.CidrFault.{CidrFault}
 use Rattle.cidr_changes.specs.declared.faults.CidrFault.TheVariants as fault
 use Rattle.cidr_commands.specs.Commands.{answer}
 use Rattle.cidr_commands.specs.Stored.{Stored, collection_at}
-use Rattle.command_octets.specs.declared.commands.Command.{Command}
-use Rattle.command_octets.specs.declared.commands.Command.TheVariants as command
-use Rattle.config_model.specs.Applying.{Applies, Decides, Outcome}
-use Rattle.config_model.specs.Batches.{ChangesIn, check_refusal, collection_refusal, depth_refusal}
-use Rattle.config_model.specs.Batches.{first_among, is_alias, is_empty, is_location_in, is_store_full}
-use Rattle.config_model.specs.Batches.{is_too_deep, is_zone_full, location_refusal, named_check}
-use Rattle.config_model.specs.Batches.{named_collection, named_location, sets_refusal, store_refusal}
-use Rattle.config_model.specs.Batches.{target_refusal}
-use Rattle.config_model.specs.Configs.{Config, all_sets, with_sets, without_zone, zone_with}
-use Rattle.config_model.specs.NewZones.{are_most, create_refusal, end_of, end_refusal, has_zone}
-use Rattle.config_model.specs.NewZones.{is_another, is_repeated, is_zone_name, with_zone}
-use Rattle.config_model.specs.Others.{in_use, is_check_named, made_check, made_collection, used_by}
-use Rattle.config_model.specs.Others.{with_collections}
-use Rattle.config_model.specs.Telling.{first_of, invalid, of_batch, of_check, of_fault, rule, unless}
-use Rattle.config_model.specs.declared.refusals.InputReason.TheVariants as reason
-use Rattle.config_model.specs.declared.refusals.Made.{Made}
-use Rattle.config_model.specs.declared.refusals.Made.TheVariants as made
-use Rattle.config_model.specs.declared.refusals.Refusal.{Refusal}
-use Rattle.config_model.specs.declared.refusals.Refusal.TheVariants as refusal
+use Rattle.sound_configs.specs.CommandRecord.{Command}
+use Rattle.sound_configs.specs.CommandRecord.TheVariants as command
+use Rattle.sound_configs.specs.Applying.{Applies, Decides, Outcome}
+use Rattle.sound_configs.specs.Batches.{ChangesIn, check_refusal, collection_refusal, depth_refusal}
+use Rattle.sound_configs.specs.Batches.{first_among, is_alias, is_empty, is_location_in, is_store_full}
+use Rattle.sound_configs.specs.Batches.{is_too_deep, is_zone_full, location_refusal, named_check}
+use Rattle.sound_configs.specs.Batches.{named_collection, named_location, sets_refusal, store_refusal}
+use Rattle.sound_configs.specs.Batches.{target_refusal}
+use Rattle.sound_configs.specs.Configs.{Config, all_sets, with_sets, without_zone, zone_with}
+use Rattle.sound_configs.specs.NewZones.{are_most, create_refusal, end_of, end_refusal, has_zone}
+use Rattle.sound_configs.specs.NewZones.{is_another, is_repeated, is_zone_name, with_zone}
+use Rattle.sound_configs.specs.Others.{in_use, is_check_named, made_check, made_collection, used_by}
+use Rattle.sound_configs.specs.Others.{with_collections}
+use Rattle.sound_configs.specs.Telling.{first_of, invalid, of_batch, of_check, of_fault, rule, unless}
+use Rattle.sound_configs.specs.InputReasonRecord.TheVariants as reason
+use Rattle.sound_configs.specs.MadeRecord.{Made}
+use Rattle.sound_configs.specs.MadeRecord.TheVariants as made
+use Rattle.sound_configs.specs.RefusalRecord.{Refusal}
+use Rattle.sound_configs.specs.RefusalRecord.TheVariants as refusal
 use Rattle.record_set.specs.Sets.{key_of}
 use Rattle.record_set.specs.declared.sets.RecordSet.{RecordSet}
 use Rattle.routing.specs.declared.policies.Routing.{Routing}

@@ -3,7 +3,7 @@ use Rattle.std.proofs.Common.{◌≡◌, ◌≢◌, ◌≤◌, ◌+◌, ℕ, Boo
 use Rattle.std.specs.Prelude.{◌⊎◌, ◌↔◌, IsTrue, if◌then◌else◌}
 use Rattle.check_model.specs.declared.checks.Check.{Check}
 use Rattle.check_model.specs.declared.checks.Check.TheVariants.{Endpoint, Calculated}
-use Rattle.health_index.specs.Index.{IsEndpoint}
+use Rattle.sound_configs.specs.Index.{IsEndpoint}
 
 pub decided : (found : Option Check) → IsEndpoint found ⊎ (IsEndpoint found → ⊥)
 decided None = inr (λ is. is)

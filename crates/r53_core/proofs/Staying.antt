@@ -4,7 +4,7 @@ use Rattle.r53_core.proofs.Told.{holds_of, to_told}
 use Rattle.config_opening.specs.Holding.{Holds}
 use Rattle.config_opening.specs.States.{State, config_of}
 use Rattle.config_opening.specs.Steps.{StaysSo}
-use Rattle.store_model.proofs.Weakening.{leaves_weaken}
+use Rattle.config_opening.proofs.Weakening.{leaves_weaken}
 use Rattle.zone_journal.specs.Pairs.{Leaves}
 
 pub holds_on : (old new : State) → StaysSo old new → (x y : List ℕ) → Holds old x y → Holds new x y

@@ -2,10 +2,10 @@
 use Rattle.std.proofs.Common.{◌≡◌, List, ℕ, Some, sym, subst}
 use Rattle.config_opening.specs.Holding.{Holds}
 use Rattle.config_opening.specs.States.{State, config_of}
-use Rattle.config_model.specs.Configs.{Config}
+use Rattle.sound_configs.specs.Configs.{Config}
 use Rattle.file_building.specs.Building.{Plan}
-use Rattle.store_model.specs.Leaving.{IsPlanFor}
-use Rattle.store_model.specs.Opening.{OpensAs}
+use Rattle.config_opening.specs.Leaving.{IsPlanFor}
+use Rattle.config_opening.specs.OpeningOfStoreModel.{OpensAs}
 use Rattle.zone_journal.specs.Standing.{State as Journal}
 
 pub record Told (journal : Journal) (config : Config) (x y : List ℕ) : Type 0 where

@@ -1,16 +1,16 @@
 -- When a store stands for what the definitions have, and what a command and a compaction make of it.
 use Rattle.std.specs.Prelude.{◌≡◌, ◌≢◌, ◌⊎◌, ℕ, [], None, Result, Err}
-use Rattle.command_octets.specs.declared.commands.Command.{Command}
+use Rattle.sound_configs.specs.CommandRecord.{Command}
 use Rattle.config_opening.specs.Journals.{journal_of}
 use Rattle.config_opening.specs.States.{State as Kept, config_of}
-use Rattle.config_model.specs.declared.refusals.Made.{Made}
-use Rattle.config_model.specs.declared.refusals.Refusal.{Refusal}
-use Rattle.config_model.specs.declared.refusals.Refusal.TheVariants as refusal
-use Rattle.engine_model.specs.Compacting.{CompactionSteps}
-use Rattle.engine_model.specs.Engine.{CommandSteps, Engine, Fits, Journal, size_of}
-use Rattle.engine_model.specs.declared.answers.Compacted.{Compacted}
-use Rattle.engine_model.specs.declared.answers.Compacted.TheVariants as compacted
-use Rattle.health_index.specs.Index.{Index, StandsFor as HasHealth}
+use Rattle.sound_configs.specs.MadeRecord.{Made}
+use Rattle.sound_configs.specs.RefusalRecord.{Refusal}
+use Rattle.sound_configs.specs.RefusalRecord.TheVariants as refusal
+use Rattle.sound_configs.specs.Compacting.{CompactionSteps}
+use Rattle.sound_configs.specs.Engine.{CommandSteps, Engine, Fits, Journal, size_of}
+use Rattle.sound_configs.specs.CompactedRecord.{Compacted}
+use Rattle.sound_configs.specs.CompactedRecord.TheVariants as compacted
+use Rattle.sound_configs.specs.Index.{Index, StandsFor as HasHealth}
 use Rattle.config_opening.specs.Kept.{IsAccepted}
 
 -- What is kept of the configuration with its journal, and the index of health.

@@ -7,9 +7,7 @@
 
 mod store;
 
-pub use command_octets::Command;
-pub use config_model::{Made, Refusal};
-pub use engine_model::{Compacted, Reported};
-pub use health_index::Steps;
+pub use config_opening::standing_opens;
+pub use sound_configs::{Command, Compacted, Made, Refusal, Reported, Steps};
 pub use store::Store;
 pub use zone_journal::OpenFault;

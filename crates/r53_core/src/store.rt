@@ -2,31 +2,31 @@
 
 ghost use Rattle.std.specs.Prelude.{◌≡◌, ◌≢◌, ◌≤◌, ◌+◌, ◌⊎◌, ℕ, List, [], ◌∷◌, ◌++◌, length, Contains};
 ghost use Rattle.std.specs.Prelude.{◌↔◌, IfOk, IfSome, IsErrOf, IsTrue, Ok, Err, None, Some};
-ghost use Rattle.command_bounds.specs.Laws.{HasShortLists};
-ghost use Rattle.command_octets.specs.Octets.{command_octets};
+ghost use Rattle.config_opening.specs.Laws.{HasShortLists};
+ghost use Rattle.sound_configs.specs.OctetsOfCommandOctets.{command_octets};
 ghost use Rattle.config_opening.specs.Compacting.{UnlessFaulty, WhereNone};
 ghost use Rattle.config_opening.specs.Holding.{Holds};
 ghost use Rattle.config_opening.specs.States.{config_of};
 ghost use Rattle.config_opening.specs.Steps.{OnMade, UnlessFault};
-ghost use Rattle.store_model.specs.Leaving.{OpensEither};
-ghost use Rattle.store_model.specs.Opening.{IsNoStore, OpensConfig};
-ghost use Rattle.config_model.specs.Applying.{Decides};
-ghost use Rattle.config_model.specs.Configs.{Config};
-ghost use Rattle.config_model.specs.Laws.{IsBounded};
-ghost use Rattle.config_model.specs.declared.refusals.Made.{Made};
-ghost use Rattle.config_model.specs.declared.refusals.Refusal.TheVariants as refusal;
+ghost use Rattle.config_opening.specs.Leaving.{OpensEither};
+ghost use Rattle.config_opening.specs.OpeningOfStoreModel.{IsNoStore, OpensConfig};
+ghost use Rattle.sound_configs.specs.Applying.{Decides};
+ghost use Rattle.sound_configs.specs.Configs.{Config};
+ghost use Rattle.sound_configs.specs.LawsOfConfigModel.{IsBounded};
+ghost use Rattle.sound_configs.specs.MadeRecord.{Made};
+ghost use Rattle.sound_configs.specs.RefusalRecord.TheVariants as refusal;
 ghost use Rattle.config_opening.specs.Opening.{IsFault, Syncs};
-ghost use Rattle.engine_model.specs.Engine.{Engine, QueryGives, ReportSteps, is_healthy, watched_in};
-ghost use Rattle.engine_model.specs.declared.answers.Compacted.TheVariants as Compacted;
-ghost use Rattle.engine_model.specs.declared.answers.Reported.TheVariants as Reported;
+ghost use Rattle.sound_configs.specs.Engine.{Engine, QueryGives, ReportSteps, is_healthy, watched_in};
+ghost use Rattle.sound_configs.specs.CompactedRecord.TheVariants as Compacted;
+ghost use Rattle.sound_configs.specs.ReportedRecord.TheVariants as Reported;
 ghost use Rattle.check_model.specs.Checks.{Checks};
-ghost use Rattle.health_index.specs.Index.{StandsFor as HasHealth, reported};
-ghost use Rattle.health_index.specs.Leaving.{AreLeft};
-ghost use Rattle.health_index.specs.Room.{HasRoom};
+ghost use Rattle.sound_configs.specs.Index.{StandsFor as HasHealth, reported};
+ghost use Rattle.sound_configs.specs.Leaving.{AreLeft};
+ghost use Rattle.sound_configs.specs.Room.{HasRoom};
 ghost use Rattle.health_model.specs.Nodes.{CheckNode, InCone, Node};
 ghost use Rattle.health_model.specs.Statuses.{Report, status};
 ghost use Rattle.octets.specs.Counts.{Rose};
-ghost use Rattle.zone_table.specs.Zones.{Zone};
+ghost use Rattle.query_engine.specs.Zones.{Zone};
 ghost use Rattle.query_engine.specs.Asking.{answer_of, asker_of};
 ghost use Rattle.health_model.specs.Statuses.{status_told};
 ghost use Rattle.r53_core.specs.Kinds.{IsOnCollections};
@@ -34,33 +34,30 @@ ghost use Rattle.r53_core.specs.Stores.{CommandGives, CompactionGives, StandsFor
 ghost use Rattle.r53_core.specs.Stores.{opened};
 ghost use Rattle.config_opening.specs.Kept.{IsAccepted};
 ghost use Rattle.record_set.specs.Sets.{key_of};
-ghost use Rattle.snapshot_octets.specs.Octets.{snapshot};
+ghost use Rattle.sound_configs.specs.Octets.{snapshot};
 ghost use Rattle.record_set.specs.declared.sets.RecordSet.{RecordSet};
-ghost use Rattle.zone_table.specs.Looking.{Names};
+ghost use Rattle.query_engine.specs.Looking.{Names};
 ghost use Rattle.zone_journal.specs.Pairs.{EachPair, Leaves, OpensPair, Unwritten};
 ghost use Rattle.zone_journal.specs.Standing.{StandsOn};
 ghost use Rattle.zone_journal.specs.declared.answers.OpenFault.TheVariants as OpenFault;
 
 use address_text::IpAddress;
 use check_model::Check;
-use command_octets::Command;
-use config_model::{Made, Refusal};
 use config_opening::{ConfigJournal, open};
 use dns_wire::Reply;
-use engine_model::{Compacted, Reported};
 use geo_latency::Tables;
 use health_check::CheckTable;
-use health_index::{HealthIndex, Steps, commands_follow};
 use octets::OutOfMemory;
-use policy_select::HealthView;
-use query_engine::answer;
+use query_engine::{HealthView, Scratch, SetRef, Zones, answer};
 use r53_disk::Disk;
-use sound_configs::{index_serves, sound_is_served, sound_is_watched};
+use sound_configs::{
+    Command, Compacted, HealthIndex, Made, Refusal, Reported, Steps, commands_follow, index_serves,
+    sound_is_served, sound_is_watched,
+};
 use std::alloc::Global;
 use std::marker::Model;
 use std::sync::ledger::Ledger;
 use zone_journal::OpenFault;
-use zone_table::{Scratch, SetRef, Zones};
 
 /// The store of a server: its configuration with the journal that keeps it, and the health of each
 /// check and set by all reports since it was opened.

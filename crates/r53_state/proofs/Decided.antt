@@ -4,29 +4,29 @@ use Rattle.std.proofs.Common.{◌∙◌}
 use Rattle.std.proofs.Common.{sym, refl, subst, arith, inl, inr, Option, None, Some}
 use Rattle.std.specs.Prelude.{◌==◌, not, option_map, Result, Ok, Err}
 use Rattle.std.proofs.lemmas.Bool.{eq-eqb, false≢true}
-use Rattle.batch_model.specs.declared.batches.Batch.{Batch}
+use Rattle.zone_commands.specs.BatchRecord.{Batch}
 use Rattle.check_model.specs.Commands.{checks_after, refusal_of}
 use Rattle.check_model.specs.declared.checks.CheckCommand.{CheckCommand}
 use Rattle.cidr_changes.specs.declared.faults.CidrFault.{CidrFault}
 use Rattle.cidr_commands.specs.Commands.{answer}
 use Rattle.cidr_commands.specs.Stored.{Stored}
-use Rattle.command_octets.specs.declared.commands.Command.{Command}
-use Rattle.command_octets.specs.declared.commands.Command.TheVariants as command
-use Rattle.config_model.proofs.Told.{parts, told_false}
-use Rattle.config_model.proofs.Zoning.{accepted}
-use Rattle.config_model.specs.Applying.{Decides}
-use Rattle.config_model.specs.Batches.{ChangesIn, sets_refusal, store_refusal}
-use Rattle.config_model.specs.Configs.{Config, with_sets, without_zone, zone_with}
-use Rattle.config_model.specs.NewZones.{are_most, create_refusal, end_of, end_refusal, has_zone}
-use Rattle.config_model.specs.NewZones.{is_repeated, is_zone_name, with_zone}
-use Rattle.config_model.specs.Others.{change_checks, in_use, made_check, made_collection, used_by}
-use Rattle.config_model.specs.Others.{with_collections}
-use Rattle.config_model.specs.Telling.{first_of, invalid, of_check, rule}
-use Rattle.config_model.specs.declared.refusals.InputReason.TheVariants as reason
-use Rattle.config_model.specs.declared.refusals.Made.{Made}
-use Rattle.config_model.specs.declared.refusals.Made.TheVariants as made
-use Rattle.config_model.specs.declared.refusals.Refusal.{Refusal}
-use Rattle.config_model.specs.declared.refusals.Refusal.TheVariants as refusal
+use Rattle.zone_commands.specs.CommandRecord.{Command}
+use Rattle.zone_commands.specs.CommandRecord.TheVariants as command
+use Rattle.check_commands.proofs.Told.{parts, told_false}
+use Rattle.check_commands.proofs.Zoning.{accepted}
+use Rattle.check_commands.specs.Applying.{Decides}
+use Rattle.check_commands.specs.Batches.{ChangesIn, sets_refusal, store_refusal}
+use Rattle.check_commands.specs.Configs.{Config, with_sets, without_zone, zone_with}
+use Rattle.check_commands.specs.NewZones.{are_most, create_refusal, end_of, end_refusal, has_zone}
+use Rattle.check_commands.specs.NewZones.{is_repeated, is_zone_name, with_zone}
+use Rattle.check_commands.specs.Others.{change_checks, in_use, made_check, made_collection, used_by}
+use Rattle.check_commands.specs.Others.{with_collections}
+use Rattle.check_commands.specs.Telling.{first_of, invalid, of_check, rule}
+use Rattle.check_commands.specs.InputReasonRecord.TheVariants as reason
+use Rattle.check_commands.specs.MadeRecord.{Made}
+use Rattle.check_commands.specs.MadeRecord.TheVariants as made
+use Rattle.check_commands.specs.RefusalRecord.{Refusal}
+use Rattle.check_commands.specs.RefusalRecord.TheVariants as refusal
 use Rattle.r53_state.specs.Steps.{OpensZone, checks_of, made_of, next_after}
 use Rattle.zone_model.specs.Hosted.{HostedZone}
 

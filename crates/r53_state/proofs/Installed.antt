@@ -5,26 +5,26 @@ use Rattle.std.proofs.lemmas.Bool.{cases_lt}
 use Rattle.std.specs.Prelude.{Ok}
 use Rattle.check_model.specs.Checks.{Checks}
 use Rattle.cidr_commands.specs.Stored.{Stored}
-use Rattle.command_octets.specs.declared.commands.Command.{Command}
-use Rattle.command_octets.specs.declared.commands.Command.TheVariants as command
-use Rattle.config_zones.specs.Edited.{hosted_in}
-use Rattle.config_model.specs.Applying.{Decides}
-use Rattle.config_model.specs.Configs.{Config}
-use Rattle.config_model.specs.Laws.{IsBounded}
-use Rattle.config_model.specs.Others.{made_check}
-use Rattle.config_model.specs.Sound.{Sound}
-use Rattle.config_model.specs.declared.refusals.Made.{Made}
-use Rattle.config_zones.specs.Configured.{IsEditFor, config_of}
+use Rattle.zone_commands.specs.CommandRecord.{Command}
+use Rattle.zone_commands.specs.CommandRecord.TheVariants as command
+use Rattle.zone_commands.specs.Laws.{hosted_in}
+use Rattle.check_commands.specs.Applying.{Decides}
+use Rattle.check_commands.specs.Configs.{Config}
+use Rattle.check_commands.specs.Laws.{IsBounded}
+use Rattle.check_commands.specs.Others.{made_check}
+use Rattle.check_commands.specs.Sound.{Sound}
+use Rattle.check_commands.specs.MadeRecord.{Made}
+use Rattle.zone_commands.specs.Configured.{IsEditFor, config_of}
 use Rattle.health_check.specs.Stored.{Kept}
 use Rattle.r53_state.specs.States.{IsAccepted, IsOnChecks, State, config_in}
 use Rattle.r53_state.specs.Steps.{CanApply, OpensZone, checks_of, made_of, next_after}
 use Rattle.r53_state.proofs.Decided.{check_becomes, decided, not_refused}
-use Rattle.zone_table.specs.Zones.{AreZones}
+use Rattle.zone_commands.specs.Zones.{AreZones}
 use Rattle.zone_model.specs.Hosted.{HostedZone}
-use Rattle.zone_table.specs.Edits.{Edits, collections_after}
-use Rattle.zone_table.specs.Tables.{Table}
-use Rattle.zone_table.specs.declared.edits.ZoneEdit.{ZoneEdit}
-use Rattle.zone_table.specs.declared.refs.Delta.{Delta}
+use Rattle.zone_commands.specs.Edits.{Edits, collections_after}
+use Rattle.zone_commands.specs.Tables.{Table}
+use Rattle.zone_commands.specs.ZoneEditRecord.{ZoneEdit}
+use Rattle.zone_commands.specs.DeltaRecord.{Delta}
 
 -- a configuration is told by its four parts
 by_parts : (config : Config) (zones : List HostedZone) (next : ℕ) (checks : Checks)

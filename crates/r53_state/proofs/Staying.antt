@@ -4,21 +4,21 @@ use Rattle.std.proofs.Common.{Option, None, Some}
 use Rattle.std.specs.Prelude.{Ok}
 use Rattle.check_model.specs.Checks.{Checks}
 use Rattle.cidr_commands.specs.Stored.{Stored}
-use Rattle.command_octets.specs.declared.commands.Command.{Command}
-use Rattle.config_zones.specs.Edited.{hosted_in}
-use Rattle.config_model.specs.Applying.{Decides}
-use Rattle.config_model.specs.Configs.{Config}
-use Rattle.config_model.specs.Laws.{IsBounded}
-use Rattle.config_zones.specs.Configured.{IsEditFor, IsLeast, zone_asked}
+use Rattle.zone_commands.specs.CommandRecord.{Command}
+use Rattle.zone_commands.specs.Laws.{hosted_in}
+use Rattle.check_commands.specs.Applying.{Decides}
+use Rattle.check_commands.specs.Configs.{Config}
+use Rattle.check_commands.specs.Laws.{IsBounded}
+use Rattle.zone_commands.specs.Configured.{IsEditFor, IsLeast, zone_asked}
 use Rattle.health_check.specs.Stored.{Kept}
 use Rattle.r53_state.specs.States.{IsAccepted, IsReady, IsWorkReady, State, StayReady}
 use Rattle.r53_state.specs.States.{IsOnChecks, config_in}
-use Rattle.zone_table.specs.Zones.{AreZones, Zone}
-use Rattle.zone_table.specs.Edits.{Edits, IsAllowed, IsReady as IsEditReady, Prepared as ReadyEdit}
-use Rattle.zone_table.specs.Edits.{collections_after, zone_of}
-use Rattle.zone_table.specs.Tables.{Table}
-use Rattle.zone_table.specs.declared.edits.ZoneEdit.{ZoneEdit}
-use Rattle.zone_table.specs.declared.refs.Delta.{Delta}
+use Rattle.zone_commands.specs.Zones.{AreZones, Zone}
+use Rattle.zone_commands.specs.Edits.{Edits, IsAllowed, IsReady as IsEditReady, Prepared as ReadyEdit}
+use Rattle.zone_commands.specs.Edits.{collections_after, zone_of}
+use Rattle.zone_commands.specs.Tables.{Table}
+use Rattle.zone_commands.specs.ZoneEditRecord.{ZoneEdit}
+use Rattle.zone_commands.specs.DeltaRecord.{Delta}
 
 module _ (before after : State) (zones : after.table.zones ≡ before.table.zones)
     (collections : after.table.collections ≡ before.table.collections)

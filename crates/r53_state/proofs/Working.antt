@@ -4,19 +4,19 @@ use Rattle.std.proofs.Common.{Option, None, Some}
 use Rattle.std.specs.Prelude.{option_map, Result, Ok, Err, ⊤}
 use Rattle.check_model.specs.Commands.{checks_after, refusal_of}
 use Rattle.check_model.specs.declared.checks.CheckCommand.{CheckCommand}
-use Rattle.command_octets.specs.declared.commands.Command.{Command}
-use Rattle.command_octets.specs.declared.commands.Command.TheVariants as command
-use Rattle.config_model.specs.Applying.{Outcome}
-use Rattle.config_model.specs.Configs.{Config}
-use Rattle.config_model.specs.Others.{in_use, made_check}
-use Rattle.config_model.specs.Telling.{first_of, of_check, unless}
-use Rattle.config_model.specs.declared.refusals.Made.{Made}
-use Rattle.config_model.specs.declared.refusals.Refusal.{Refusal}
-use Rattle.config_zones.specs.Configured.{TellsEdit, TellsEditOnly}
+use Rattle.zone_commands.specs.CommandRecord.{Command}
+use Rattle.zone_commands.specs.CommandRecord.TheVariants as command
+use Rattle.check_commands.specs.Applying.{Outcome}
+use Rattle.check_commands.specs.Configs.{Config}
+use Rattle.check_commands.specs.Others.{in_use, made_check}
+use Rattle.check_commands.specs.Telling.{first_of, of_check, unless}
+use Rattle.check_commands.specs.MadeRecord.{Made}
+use Rattle.check_commands.specs.RefusalRecord.{Refusal}
+use Rattle.zone_commands.specs.Configured.{TellsEdit, TellsEditOnly}
 use Rattle.r53_state.specs.States.{IsAccepted, IsOnChecks}
 use Rattle.r53_state.specs.Steps.{TellsWork, some_edit}
-use Rattle.zone_table.specs.Tables.{Table}
-use Rattle.zone_table.specs.declared.edits.ZoneEdit.{ZoneEdit}
+use Rattle.zone_commands.specs.Tables.{Table}
+use Rattle.zone_commands.specs.ZoneEditRecord.{ZoneEdit}
 
 -- ---- an edit of the zones
 

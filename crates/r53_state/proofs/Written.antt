@@ -1,11 +1,11 @@
 -- What is written of a sound configuration is a snapshot of it.
 use Rattle.std.proofs.Common.{◌≡◌, ◌∙◌, ℕ, List, ap, subst, sym}
 use Rattle.std.specs.Prelude.{IfOk, Result, Ok, Err}
-use Rattle.config_model.specs.Configs.{Config}
-use Rattle.config_model.specs.Sound.{Sound}
+use Rattle.check_commands.specs.Configs.{Config}
+use Rattle.check_commands.specs.Sound.{Sound}
 use Rattle.config_reading.specs.Reading.{IsOfSound}
-use Rattle.snapshot_octets.specs.Laws.{SoundHaveSnapshots}
-use Rattle.snapshot_octets.specs.Octets.{IsSnapshot, snapshot}
+use Rattle.config_reading.specs.Laws.{SoundHaveSnapshots}
+use Rattle.config_reading.specs.Octets.{IsSnapshot, snapshot}
 
 module _ (law : SoundHaveSnapshots) (config other : Config) (sound : Sound config)
     (same : other ≡ config) where

@@ -1,10 +1,10 @@
 -- What is read of a snapshot.
 use Rattle.std.specs.Prelude.{◌≡◌, ℕ, List, Result, Ok, Err, ⊤}
-use Rattle.config_model.specs.Configs.{Config}
+use Rattle.check_commands.specs.Configs.{Config}
 use Rattle.config_reading.specs.Reading.{IsOfNone, IsOfSound}
 use Rattle.r53_state.specs.States.{State, config_in, nothing_told}
-use Rattle.snapshot_reading.specs.declared.faults.SnapshotFault.{SnapshotFault}
-use Rattle.snapshot_reading.specs.declared.faults.SnapshotFault.TheVariants as fault
+use Rattle.config_reading.specs.SnapshotFaultRecord.{SnapshotFault}
+use Rattle.config_reading.specs.SnapshotFaultRecord.TheVariants as fault
 
 -- Octets are a snapshot of a sound configuration, which is read, with nothing told of sets; or they
 -- are one of none; or memory is wanted.

@@ -1,16 +1,16 @@
 -- What is kept of a configuration, and a command that is ready to be installed.
 use Rattle.std.specs.Prelude.{ℕ, [], Option, None, Some, Ok, ⊤}
-use Rattle.command_octets.specs.declared.commands.Command.{Command}
-use Rattle.command_octets.specs.declared.commands.Command.TheVariants as command
-use Rattle.config_model.specs.Applying.{Decides}
-use Rattle.config_model.specs.Configs.{Config}
-use Rattle.config_model.specs.Laws.{IsBounded}
-use Rattle.config_model.specs.declared.refusals.Made.{Made}
-use Rattle.config_zones.specs.Configured.{IsEditFor, config_of}
+use Rattle.zone_commands.specs.CommandRecord.{Command}
+use Rattle.zone_commands.specs.CommandRecord.TheVariants as command
+use Rattle.check_commands.specs.Applying.{Decides}
+use Rattle.check_commands.specs.Configs.{Config}
+use Rattle.check_commands.specs.Laws.{IsBounded}
+use Rattle.check_commands.specs.MadeRecord.{Made}
+use Rattle.zone_commands.specs.Configured.{IsEditFor, config_of}
 use Rattle.health_check.specs.Stored.{HasRoom, Kept}
-use Rattle.zone_table.specs.Edits.{IsReady as IsEditReady, Prepared as ReadyEdit}
-use Rattle.zone_table.specs.Tables.{Table}
-use Rattle.zone_table.specs.declared.refs.Delta.{Delta}
+use Rattle.zone_commands.specs.Edits.{IsReady as IsEditReady, Prepared as ReadyEdit}
+use Rattle.zone_commands.specs.Tables.{Table}
+use Rattle.zone_commands.specs.DeltaRecord.{Delta}
 
 -- The table of zones with the collections, the health checks, the number that the next zone gets,
 -- and the sets that the last command took away and put.

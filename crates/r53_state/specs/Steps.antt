@@ -2,19 +2,19 @@
 use Rattle.std.specs.Prelude.{◌≡◌, ◌+◌, ℕ, Option, None, Some, Result, Ok, Err, ⊤}
 use Rattle.check_model.specs.Checks.{Checks}
 use Rattle.check_model.specs.Commands.{IsBoundedCommand, checks_after, refusal_of}
-use Rattle.command_octets.specs.declared.commands.Command.{Command}
-use Rattle.command_octets.specs.declared.commands.Command.TheVariants as command
-use Rattle.config_model.specs.Applying.{Applies}
-use Rattle.config_model.specs.Configs.{Config}
-use Rattle.config_model.specs.Others.{made_check, made_collection}
-use Rattle.config_model.specs.declared.refusals.Made.{Made}
-use Rattle.config_model.specs.declared.refusals.Made.TheVariants as made
-use Rattle.config_model.specs.declared.refusals.Refusal.{Refusal}
-use Rattle.config_zones.specs.Configured.{IsEditFor}
+use Rattle.zone_commands.specs.CommandRecord.{Command}
+use Rattle.zone_commands.specs.CommandRecord.TheVariants as command
+use Rattle.check_commands.specs.Applying.{Applies}
+use Rattle.check_commands.specs.Configs.{Config}
+use Rattle.check_commands.specs.Others.{made_check, made_collection}
+use Rattle.check_commands.specs.MadeRecord.{Made}
+use Rattle.check_commands.specs.MadeRecord.TheVariants as made
+use Rattle.check_commands.specs.RefusalRecord.{Refusal}
+use Rattle.zone_commands.specs.Configured.{IsEditFor}
 use Rattle.r53_state.specs.States.{IsAccepted, IsOnChecks, State, nothing_told}
-use Rattle.zone_table.specs.Edits.{Edits, Prepared as ReadyEdit}
-use Rattle.zone_table.specs.Tables.{Table}
-use Rattle.zone_table.specs.declared.edits.ZoneEdit.{ZoneEdit}
+use Rattle.zone_commands.specs.Edits.{Edits, Prepared as ReadyEdit}
+use Rattle.zone_commands.specs.Tables.{Table}
+use Rattle.zone_commands.specs.ZoneEditRecord.{ZoneEdit}
 
 -- A command is accepted, with the edit of the zones that it makes unless it is on health checks; or
 -- it is refused, where memory may be wanted.

@@ -1,29 +1,28 @@
 //! The configuration of a server.
 
 ghost use Rattle.std.specs.Prelude.{◌≡◌, ◌≤◌, IfErr, IfOk, Err, Ok};
-ghost use Rattle.command_octets.specs.declared.commands.Command.{Command};
-ghost use Rattle.config_model.specs.Applying.{Applies, Decides};
-ghost use Rattle.config_model.specs.Configs.{Config, empty};
-ghost use Rattle.config_model.specs.Laws.{IsBounded};
-ghost use Rattle.config_model.specs.Sound.{Sound};
-ghost use Rattle.config_model.specs.declared.refusals.Refusal.TheVariants as refusal;
-ghost use Rattle.config_zones.specs.Configured.{IsEditFor, config_of};
+ghost use Rattle.zone_commands.specs.CommandRecord.{Command};
+ghost use Rattle.check_commands.specs.Applying.{Applies, Decides};
+ghost use Rattle.check_commands.specs.Configs.{Config, empty};
+ghost use Rattle.check_commands.specs.Laws.{IsBounded};
+ghost use Rattle.check_commands.specs.Sound.{Sound};
+ghost use Rattle.check_commands.specs.RefusalRecord.TheVariants as refusal;
+ghost use Rattle.zone_commands.specs.Configured.{IsEditFor, config_of};
 ghost use Rattle.health_check.specs.Stored.{HasRoom};
 ghost use Rattle.r53_state.specs.States.{IsAccepted, IsOnChecks, IsReady, StayReady, config_in};
 ghost use Rattle.r53_state.specs.States.{nothing_told};
 ghost use Rattle.r53_state.specs.Steps.{TellsSets, checks_of};
-ghost use Rattle.zone_table.specs.Edits.{Edits, IsReady as IsEditReady};
+ghost use Rattle.zone_commands.specs.Edits.{Edits, IsReady as IsEditReady};
 
 use crate::editing::work_for;
 use crate::installing::{apply, made_by, next_after};
 use crate::prepared::Prepared;
-use command_octets::Command;
-use config_model::{Made, Refusal, commands_keep_sound, empty_is_sound};
+use check_commands::{Made, Refusal, commands_keep_sound, empty_is_sound};
 use health_check::CheckTable;
 use octets::OutOfMemory;
 use std::alloc::Global;
 use std::marker::Model;
-use zone_table::{Delta, Ready, Scratch, SetRefs, ZoneEdit, Zones};
+use zone_commands::{Command, Delta, Ready, Scratch, SetRefs, ZoneEdit, Zones};
 
 /// The hosted zones, health checks and collections of a server, which are sound.
 #[derive(Drop)]
@@ -37,8 +36,8 @@ pub struct Config {
 }
 
 impl Model for Config {
-    ghost use Rattle.config_model.specs.Sound.{Sound};
-    ghost use Rattle.config_zones.specs.Configured.{config_of};
+    ghost use Rattle.check_commands.specs.Sound.{Sound};
+    ghost use Rattle.zone_commands.specs.Configured.{config_of};
     ghost use Rattle.r53_state.specs.States.{State};
 
     ghost Value = { State };

@@ -1,20 +1,17 @@
 //! What a command asks for: an edit of the zones, or a change of the health checks.
 
 ghost use Rattle.std.specs.Prelude.{◌≡◌};
-ghost use Rattle.config_model.specs.Laws.{IsBounded};
-ghost use Rattle.config_model.specs.Sound.{Sound};
-ghost use Rattle.config_zones.specs.Configured.{config_of};
+ghost use Rattle.check_commands.specs.Laws.{IsBounded};
+ghost use Rattle.check_commands.specs.Sound.{Sound};
+ghost use Rattle.zone_commands.specs.Configured.{config_of};
 ghost use Rattle.r53_state.specs.Steps.{TellsWork};
 
 use batch_commands::change_zone;
-use check_commands::judge_checks;
+use check_commands::{Refusal, judge_checks};
 use collection_commands::change_collections;
-use command_octets::Command;
-use config_model::Refusal;
 use health_check::CheckTable;
 use std::alloc::Global;
-use zone_commands::{create_zone, delete_zone};
-use zone_table::{Scratch, ZoneEdit, Zones};
+use zone_commands::{Command, Scratch, ZoneEdit, Zones, create_zone, delete_zone};
 
 /// The edit of the zones that a command makes, none where it is on health checks; or why it is
 /// refused.

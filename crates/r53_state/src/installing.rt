@@ -1,15 +1,14 @@
 //! What a command that is ready makes.
 
 ghost use Rattle.std.specs.Prelude.{◌≡◌, ◌<◌};
-ghost use Rattle.config_zones.specs.Configured.{config_of};
+ghost use Rattle.zone_commands.specs.Configured.{config_of};
 ghost use Rattle.health_check.specs.Stored.{HasRoom};
 ghost use Rattle.r53_state.specs.Steps.{CanApply, checks_of, OpensZone, made_of, next_after};
 
+use check_commands::Made;
 use cidr_routing::CidrCommand;
-use command_octets::Command;
-use config_model::Made;
 use health_check::{CheckCommand, CheckTable};
-use zone_table::Zones;
+use zone_commands::{Command, Zones};
 
 /// What a command makes of a configuration, by its number.
 pub fn made_by(zones: &Zones, checks: &CheckTable, next: u32, command: &Command) -> Made

@@ -12,9 +12,10 @@ mod installing;
 mod prepared;
 mod snapshots;
 
-pub use command_octets::Command;
+pub use check_commands::{InputReason, Made, Refusal};
 pub use config::Config;
-pub use config_model::{InputReason, Made, Refusal};
-pub use config_reading::SnapshotFault;
+pub use config_reading::{SnapshotFault, read_config};
 pub use octets::OutOfMemory;
 pub use prepared::Prepared;
+pub use snapshot_writing::write_snapshot;
+pub use zone_commands::{Command, write};

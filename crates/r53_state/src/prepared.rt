@@ -2,9 +2,8 @@
 
 ghost use Rattle.std.specs.Prelude.{◌≡◌};
 
-use command_octets::Command;
 use std::marker::Model;
-use zone_table::{Delta, Ready};
+use zone_commands::{Command, Delta, Ready};
 
 /// A command that is accepted, and all the memory that it needs. Contracts see beside the command
 /// the edit of the zones that is ready, which one on health checks doesn't have.

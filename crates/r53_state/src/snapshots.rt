@@ -1,16 +1,15 @@
 //! A configuration written as a snapshot, and read from one.
 
 ghost use Rattle.std.specs.Prelude.{◌≡◌, ◌≤◌, IfOk, length};
-ghost use Rattle.config_model.specs.Configs.{Config as Configuration};
+ghost use Rattle.check_commands.specs.Configs.{Config as Configuration};
 ghost use Rattle.config_reading.specs.Reading.{IsOfSound};
 ghost use Rattle.r53_state.specs.Snapshots.{ComesBack, ReadsSnapshot};
 ghost use Rattle.r53_state.specs.States.{config_in};
-ghost use Rattle.snapshot_octets.specs.Octets.{snapshot};
+ghost use Rattle.config_reading.specs.Octets.{snapshot};
 
 use crate::config::Config;
-use config_reading::{SnapshotFault, read_config};
+use config_reading::{SnapshotFault, one_configuration, read_config, sound_have_snapshots};
 use octets::OutOfMemory;
-use snapshot_octets::{one_configuration, sound_have_snapshots};
 use snapshot_writing::write_snapshot;
 use std::alloc::Global;
 

@@ -3,17 +3,17 @@ use Rattle.std.proofs.Common.{◌≡◌, ℕ, ◌+◌, ◌-◌, ◌<◌, ◌≤�
 use Rattle.std.specs.List.{flat_map, AllByRecursion}
 use Rattle.std.proofs.lemmas.List.Elements.{All-from_recursion}
 use Rattle.std.proofs.Math.Seq.{take-append_seam, drop-append_seam}
-use Rattle.dns_name.specs.Names.{AreOctets}
-use Rattle.value_text.specs.declared.fields.Field as text_field
-use Rattle.value_text.specs.Fields.{next_field}
-use Rattle.value_text.specs.Strings.{string_of_text, string_text}
-use Rattle.value_text.specs.Laws.{StringIsOneField, WrittenStringReadsBack}
-use Rattle.rdata_layout.specs.declared.types.RType.{RType}
-use Rattle.rdata_layout.specs.declared.fields.Field.{Field}
-use Rattle.rdata_layout.specs.declared.fields.Tail.{Tail}
-use Rattle.rdata_layout.specs.declared.fields.Tail.TheVariants as tail
-use Rattle.rdata_layout.specs.Fields.{IsField}
-use Rattle.rdata_layout.specs.Layout.{fields_of, tail_of, string_octets, IsShort, IsTail, AreFields, IsLayout}
+use Rattle.field_text.specs.Names.{AreOctets}
+use Rattle.field_text.specs.FieldRecordOfValueText as text_field
+use Rattle.field_text.specs.FieldsOfValueText.{next_field}
+use Rattle.field_text.specs.Strings.{string_of_text, string_text}
+use Rattle.field_text.specs.LawsOfValueText.{StringIsOneField, WrittenStringReadsBack}
+use Rattle.field_text.specs.RTypeRecord.{RType}
+use Rattle.field_text.specs.FieldRecord.{Field}
+use Rattle.field_text.specs.TailRecord.{Tail}
+use Rattle.field_text.specs.TailRecord.TheVariants as tail
+use Rattle.field_text.specs.Fields.{IsField}
+use Rattle.field_text.specs.Layout.{fields_of, tail_of, string_octets, IsShort, IsTail, AreFields, IsLayout}
 use Rattle.field_text.specs.Spelling.{Spells}
 use Rattle.field_text.specs.Written.{text_of_field}
 use Rattle.field_text.specs.Laws.{EndsField, WrittenFieldIsOneField, WrittenFieldReadsBack}
@@ -21,7 +21,7 @@ use Rattle.rdata.specs.TextFields.{AreTheFields, bytes_of}
 use Rattle.rdata.specs.Reading as reading
 use Rattle.rdata.specs.Reading.{Reads, ReadsFields, IsRead, tail_gives, string_first, in_front, most_text}
 use Rattle.rdata.specs.Written.{strings_of, tail_texts, field_texts, joined_from, text_of}
-use Rattle.rdata_layout.specs.Fields.{field_size}
+use Rattle.field_text.specs.Fields.{field_size}
 use Rattle.rdata.specs.declared.faults.ValueFault.{ValueFault}
 use Rattle.rdata.proofs.Fronts.{field_front, first_string}
 

@@ -1,8 +1,8 @@
 -- The fields of a text from a place on.
 use Rattle.std.proofs.Common.{◌≡◌, ℕ, zero, suc, ◌+◌, ◌≤◌, List, [], ◌∷◌, length, drop, arith, ap, sym, ◌∙◌, refl, Option, None, Some, length-drop, subst}
-use Rattle.value_text.specs.declared.fields.Field.{Field}
-use Rattle.value_text.specs.Fields.{next_field}
-use Rattle.value_text.specs.Laws.{FieldsGoOn}
+use Rattle.field_text.specs.FieldRecordOfValueText.{Field}
+use Rattle.field_text.specs.FieldsOfValueText.{next_field}
+use Rattle.field_text.specs.LawsOfValueText.{FieldsGoOn}
 use Rattle.rdata.specs.TextFields.{AreTheFields}
 
 -- a text's fields from a place on, where the next one is this

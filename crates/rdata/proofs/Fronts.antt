@@ -4,17 +4,17 @@ use Rattle.std.specs.Prelude.{slice_index}
 use Rattle.std.specs.List.{flat_map, AllByRecursion}
 use Rattle.std.proofs.lemmas.List.{get_or-drop}
 use Rattle.std.proofs.Math.Seq.{take-append_seam, drop-append_seam, drop-cons}
-use Rattle.dns_name.specs.Labels.{wire}
-use Rattle.dns_name.specs.Stored.{labels_of}
-use Rattle.dns_name.proofs.Labels.{labels_of-wire}
-use Rattle.rdata_layout.specs.declared.fields.Field.{Field}
-use Rattle.rdata_layout.specs.declared.fields.Field.TheVariants.{Ipv4, Ipv6, Name, Number8, Number16, Number32, Tag}
-use Rattle.rdata_layout.specs.declared.fields.Tail.{Tail}
+use Rattle.field_text.specs.Labels.{wire}
+use Rattle.field_text.specs.Stored.{labels_of}
+use Rattle.field_text.proofs.Labels.{labels_of-wire}
+use Rattle.field_text.specs.FieldRecord.{Field}
+use Rattle.field_text.specs.FieldRecord.TheVariants.{Ipv4, Ipv6, Name, Number8, Number16, Number32, Tag}
+use Rattle.field_text.specs.TailRecord.{Tail}
 use Rattle.field_text.specs.Written.{text_of_field}
-use Rattle.rdata_layout.specs.Fields.{IsField}
-use Rattle.rdata_layout.specs.Layout.{string_octets, IsShort, AreStrings, AreFields}
+use Rattle.field_text.specs.Fields.{IsField}
+use Rattle.field_text.specs.Layout.{string_octets, IsShort, AreStrings, AreFields}
 use Rattle.rdata.specs.Written.{cut_strings, strings_of, field_texts}
-use Rattle.rdata_layout.specs.Fields.{field_size}
+use Rattle.field_text.specs.Fields.{field_size}
 
 -- how long a field at the front is
 pub field_front : (kind : Field) (piece rest octets : List ℕ) → IsField kind piece

@@ -3,12 +3,12 @@ use Rattle.std.proofs.Common.{Ok, ◌≡◌, ℕ, zero, suc, pred, ◌+◌, inl,
 use Rattle.std.specs.Prelude.{◌↔◌}
 use Rattle.std.proofs.Math.Seq.{drop-nil}
 use Rattle.std.proofs.lemmas.Option.{none-some}
-use Rattle.value_text.specs.declared.fields.Field.{Field}
-use Rattle.value_text.specs.Fields.{is_blank, field_len, next_field, plain_len, quoted_len, quote}
-use Rattle.rdata_layout.specs.declared.types.RType.{RType}
-use Rattle.rdata_layout.specs.declared.fields.Field as kind
-use Rattle.rdata_layout.specs.declared.fields.Tail.{Tail}
-use Rattle.rdata_layout.specs.Layout.{fields_of, tail_of}
+use Rattle.field_text.specs.FieldRecordOfValueText.{Field}
+use Rattle.field_text.specs.FieldsOfValueText.{is_blank, field_len, next_field, plain_len, quoted_len, quote}
+use Rattle.field_text.specs.RTypeRecord.{RType}
+use Rattle.field_text.specs.FieldRecord as kind
+use Rattle.field_text.specs.TailRecord.{Tail}
+use Rattle.field_text.specs.Layout.{fields_of, tail_of}
 use Rattle.field_text.specs.Laws as fields
 use Rattle.field_text.specs.OctetsOfText.{octets_of_text}
 use Rattle.rdata.specs.Datum.{Datum}

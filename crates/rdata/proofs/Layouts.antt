@@ -2,15 +2,15 @@
 use Rattle.std.proofs.Common.{◌≡◌, ℕ, ◌*◌, ◌<◌, ◌≤◌, inl, inr, List, [], ◌∷◌, ◌++◌, length, arith, ap, sym, ◌∙◌, refl, length-append, Bool, true, false, cond, Option, None, Some, Result, Ok, Err, subst}
 use Rattle.std.specs.Prelude.{nat_le}
 use Rattle.std.proofs.lemmas.Bool.{leb-true}
-use Rattle.value_text.specs.declared.fields.Field as text_field
-use Rattle.value_text.specs.Strings.{string_of_text, at_the_end, read_from, Progress}
-use Rattle.value_text.specs.Strings.Progress.{Opening, Reading, Closed, Broken}
-use Rattle.rdata_layout.specs.declared.types.RType.{RType}
-use Rattle.rdata_layout.specs.declared.types.RType.TheVariants.{A, Ns, Cname, Soa, Ptr, Mx, Txt, Aaaa, Srv, Spf, Caa}
-use Rattle.rdata_layout.specs.declared.fields.Field.{Field}
-use Rattle.rdata_layout.specs.declared.fields.Tail.{Tail}
-use Rattle.rdata_layout.specs.declared.fields.Tail.TheVariants as tail
-use Rattle.rdata_layout.specs.Layout.{fields_of, tail_of, string_octets, AreStrings, IsTail, AreFields, most_octets}
+use Rattle.field_text.specs.FieldRecordOfValueText as text_field
+use Rattle.field_text.specs.Strings.{string_of_text, at_the_end, read_from, Progress}
+use Rattle.field_text.specs.Strings.Progress.{Opening, Reading, Closed, Broken}
+use Rattle.field_text.specs.RTypeRecord.{RType}
+use Rattle.field_text.specs.RTypeRecord.TheVariants.{A, Ns, Cname, Soa, Ptr, Mx, Txt, Aaaa, Srv, Spf, Caa}
+use Rattle.field_text.specs.FieldRecord.{Field}
+use Rattle.field_text.specs.TailRecord.{Tail}
+use Rattle.field_text.specs.TailRecord.TheVariants as tail
+use Rattle.field_text.specs.Layout.{fields_of, tail_of, string_octets, AreStrings, IsTail, AreFields, most_octets}
 use Rattle.field_text.specs.Laws.{SpelledIsField}
 use Rattle.rdata.specs.TextFields.{bytes_of}
 use Rattle.rdata.specs.Reading as reading

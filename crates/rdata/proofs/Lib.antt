@@ -9,3 +9,5 @@ pub mod Whole
 pub mod Octets
 pub mod One
 pub mod Backs
+pub use Rattle.field_text.proofs.Depth
+pub use Rattle.field_text.proofs.Labels

@@ -1,6 +1,6 @@
 -- The bytes of a slice are octets.
 use Rattle.std.proofs.Common.{ℕ, suc, ◌<◌, List, [], ◌∷◌, get_or}
-use Rattle.dns_name.specs.Names.{AreOctets}
+use Rattle.field_text.specs.Names.{AreOctets}
 
 pub are_octets : (octets : List ℕ) → ((i : ℕ) → get_or octets i 0 < 256) → AreOctets octets
 are_octets [] small = tt

@@ -1,10 +1,10 @@
 -- A text gives one value, or one fault.
 use Rattle.std.proofs.Common.{◌≡◌, ℕ, inl, inr, List, [], ◌∷◌, arith, ap, sym, ◌∙◌, subst, Result}
-use Rattle.value_text.specs.declared.fields.Field as text_field
-use Rattle.rdata_layout.specs.declared.types.RType.{RType}
-use Rattle.rdata_layout.specs.declared.fields.Field.{Field}
-use Rattle.rdata_layout.specs.declared.fields.Tail.{Tail}
-use Rattle.rdata_layout.specs.Layout.{fields_of, tail_of}
+use Rattle.field_text.specs.FieldRecordOfValueText as text_field
+use Rattle.field_text.specs.RTypeRecord.{RType}
+use Rattle.field_text.specs.FieldRecord.{Field}
+use Rattle.field_text.specs.TailRecord.{Tail}
+use Rattle.field_text.specs.Layout.{fields_of, tail_of}
 use Rattle.field_text.specs.Laws as fields
 use Rattle.rdata.specs.TextFields.{AreTheFields, bytes_of}
 use Rattle.rdata.specs.Reading.{Reads, ReadsFields, in_front}

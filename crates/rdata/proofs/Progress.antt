@@ -1,12 +1,12 @@
 -- What is left of a text as it is read.
 use Rattle.std.proofs.Common.{◌≡◌, ℕ, ◌+◌, ◌<◌, ◌≤◌, inl, inr, List, [], ◌∷◌, ◌++◌, length, drop, get_or, arith, ap, sym, ◌∙◌, refl, append_assoc, append-nil, length-append, length-drop, add-one, subst, None, Some, Result, Ok, Err}
 use Rattle.std.proofs.Math.Seq.{drop-cons}
-use Rattle.value_text.specs.declared.fields.Field as text_field
-use Rattle.value_text.specs.Fields.{next_field}
-use Rattle.value_text.specs.Strings.{string_of_text}
-use Rattle.rdata_layout.specs.declared.fields.Field.{Field}
-use Rattle.rdata_layout.specs.declared.fields.Tail.TheVariants as tail
-use Rattle.rdata_layout.specs.Layout.{string_octets}
+use Rattle.field_text.specs.FieldRecordOfValueText as text_field
+use Rattle.field_text.specs.FieldsOfValueText.{next_field}
+use Rattle.field_text.specs.Strings.{string_of_text}
+use Rattle.field_text.specs.FieldRecord.{Field}
+use Rattle.field_text.specs.TailRecord.TheVariants as tail
+use Rattle.field_text.specs.Layout.{string_octets}
 use Rattle.field_text.specs.Spelling.{Spells}
 use Rattle.rdata.specs.TextFields.{bytes_of}
 use Rattle.rdata.specs.Reading.{ReadsFields, tail_gives, strings_of, string_first, in_front, at_the_end}

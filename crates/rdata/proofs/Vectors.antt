@@ -2,7 +2,7 @@
 use Rattle.std.proofs.Common.{◌≡◌, [], ◌∷◌, ◌++◌, replicate, refl, codes, Ok, Err}
 use Rattle.std.specs.Fmt.{digits}
 use Rattle.field_text.specs.AddressOfText.{ipv4_of, ipv6_of}
-use Rattle.rdata_layout.specs.declared.types.RType.TheVariants.{A, Mx, Txt, Aaaa, Caa}
+use Rattle.field_text.specs.RTypeRecord.TheVariants.{A, Mx, Txt, Aaaa, Caa}
 use Rattle.rdata.specs.ValueOfText.{value_of_text}
 use Rattle.rdata.specs.declared.faults.ValueFault.TheVariants.{BadField, MissingField, SurplusField, TooLong}
 

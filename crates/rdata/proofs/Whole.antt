@@ -1,12 +1,12 @@
 -- A whole text.
 use Rattle.std.proofs.Common.{◌≡◌, ℕ, ◌*◌, ◌≤◌, List, [], length, arith, sym, Result, Ok, Err, subst}
-use Rattle.value_text.specs.Laws.{FieldsGoOn}
-use Rattle.rdata_layout.specs.declared.types.RType.{RType}
-use Rattle.rdata_layout.specs.declared.fields.Field.{Field}
-use Rattle.rdata_layout.specs.declared.fields.Tail.{Tail}
-use Rattle.rdata_layout.specs.Layout.{fields_of, tail_of, IsLayout}
+use Rattle.field_text.specs.LawsOfValueText.{FieldsGoOn}
+use Rattle.field_text.specs.RTypeRecord.{RType}
+use Rattle.field_text.specs.FieldRecord.{Field}
+use Rattle.field_text.specs.TailRecord.{Tail}
+use Rattle.field_text.specs.Layout.{fields_of, tail_of, IsLayout}
 use Rattle.field_text.specs.Laws.{SpelledIsField}
-use Rattle.value_text.specs.declared.fields.Field as text_field
+use Rattle.field_text.specs.FieldRecordOfValueText as text_field
 use Rattle.rdata.specs.TextFields.{AreTheFields}
 use Rattle.rdata.specs.Reading.{ReadsFields, IsRead, in_front, most_text}
 use Rattle.rdata.specs.Steps.{FailsWith, Passes, ReadsAll, ReadsTail, AppendsTail, tail_most}

@@ -1,7 +1,7 @@
 -- What reading octets gives.
 use Rattle.std.specs.Prelude.{◌≡◌, ℕ, List, Result, Ok, Err, ⊤}
-use Rattle.rdata_layout.specs.declared.types.RType.{RType}
-use Rattle.rdata_layout.specs.Layout.{IsLayout}
+use Rattle.field_text.specs.RTypeRecord.{RType}
+use Rattle.field_text.specs.Layout.{IsLayout}
 use Rattle.rdata.specs.Datum.{Datum}
 use Rattle.rdata.specs.Reading.{Reads}
 use Rattle.rdata.specs.Steps.{FailsWith}

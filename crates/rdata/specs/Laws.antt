@@ -1,8 +1,8 @@
 -- Laws over the definitions of this crate.
 use Rattle.std.specs.Prelude.{◌≡◌, ◌≤◌, ◌⊎◌, ◌↔◌, ℕ, List, length, Result, Ok, Err}
-use Rattle.dns_name.specs.Names.{AreOctets}
-use Rattle.rdata_layout.specs.declared.types.RType.{RType}
-use Rattle.rdata_layout.specs.Layout.{IsLayout}
+use Rattle.field_text.specs.Names.{AreOctets}
+use Rattle.field_text.specs.RTypeRecord.{RType}
+use Rattle.field_text.specs.Layout.{IsLayout}
 use Rattle.rdata.specs.Datum.{Datum}
 use Rattle.rdata.specs.Gives.{IsValueOfText, ReadsText, ReadsWire}
 use Rattle.rdata.specs.Reading.{Reads, most_text}

@@ -8,6 +8,14 @@ pub mod ValueOfText
 pub mod Written
 pub use Rattle.field_text.specs.AddressOfText
 pub use Rattle.field_text.specs.OctetsOfText
-pub use Rattle.rdata_layout.specs.Fields
-pub use Rattle.rdata_layout.specs.Layout
-pub use Rattle.rdata_layout.specs.Types
+pub use Rattle.field_text.specs.Fields
+pub use Rattle.field_text.specs.Layout
+pub use Rattle.field_text.specs.Types
+pub use Rattle.field_text.specs.RTypeRecord
+pub use Rattle.field_text.specs.Wildcard
+pub use Rattle.field_text.specs.Labels
+pub use Rattle.field_text.specs.Order
+pub use Rattle.field_text.specs.OrderLaws
+pub use Rattle.field_text.specs.Suffix
+pub use Rattle.field_text.specs.Names
+pub use Rattle.field_text.specs.Stored

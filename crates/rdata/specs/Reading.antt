@@ -1,13 +1,13 @@
 -- What a text gives as a value of a type: its octets, or the first fault from the left (FORMATS,
 -- Texts of values).
 use Rattle.std.specs.Prelude.{◌≡◌, ℕ, ◌<◌, ◌≤◌, ◌⊎◌, List, [], ◌∷◌, ◌++◌, length, Option, Some, None, Result, Ok, Err}
-use Rattle.value_text.specs.declared.fields.Field.{Field}
-use Rattle.value_text.specs.Strings.{string_of_text}
-use Rattle.rdata_layout.specs.declared.types.RType.{RType}
-use Rattle.rdata_layout.specs.declared.fields.Field as kind
-use Rattle.rdata_layout.specs.declared.fields.Tail.{Tail}
-use Rattle.rdata_layout.specs.declared.fields.Tail.TheVariants as tail
-use Rattle.rdata_layout.specs.Layout.{fields_of, tail_of, string_octets}
+use Rattle.field_text.specs.FieldRecordOfValueText.{Field}
+use Rattle.field_text.specs.Strings.{string_of_text}
+use Rattle.field_text.specs.RTypeRecord.{RType}
+use Rattle.field_text.specs.FieldRecord as kind
+use Rattle.field_text.specs.TailRecord.{Tail}
+use Rattle.field_text.specs.TailRecord.TheVariants as tail
+use Rattle.field_text.specs.Layout.{fields_of, tail_of, string_octets}
 use Rattle.field_text.specs.Spelling.{Spells}
 use Rattle.rdata.specs.TextFields.{bytes_of, AreTheFields}
 use Rattle.rdata.specs.declared.faults.ValueFault.{ValueFault}

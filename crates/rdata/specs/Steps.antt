@@ -1,9 +1,9 @@
 -- The steps in which a text is read.
 use Rattle.std.specs.Prelude.{◌≡◌, ℕ, ◌+◌, ◌≤◌, List, ◌++◌, length, Result, Ok, Err, ⊤}
-use Rattle.value_text.specs.declared.fields.Field as text_field
-use Rattle.rdata_layout.specs.declared.fields.Field.{Field}
-use Rattle.rdata_layout.specs.declared.fields.Tail.{Tail}
-use Rattle.rdata_layout.specs.declared.fields.Tail.TheVariants as tail
+use Rattle.field_text.specs.FieldRecordOfValueText as text_field
+use Rattle.field_text.specs.FieldRecord.{Field}
+use Rattle.field_text.specs.TailRecord.{Tail}
+use Rattle.field_text.specs.TailRecord.TheVariants as tail
 use Rattle.rdata.specs.TextFields.{AreTheFields}
 use Rattle.rdata.specs.Reading.{ReadsFields, tail_gives, strings_of, in_front}
 use Rattle.rdata.specs.declared.faults.ValueFault.{ValueFault}

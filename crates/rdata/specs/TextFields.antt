@@ -1,7 +1,7 @@
 -- The fields of a value's text, in their order (RFC 1035, 5.1; FORMATS, Texts of values).
 use Rattle.std.specs.Prelude.{◌≡◌, ℕ, ◌-◌, List, [], ◌∷◌, take, drop, None, Some}
-use Rattle.value_text.specs.declared.fields.Field.{Field}
-use Rattle.value_text.specs.Fields.{next_field}
+use Rattle.field_text.specs.FieldRecordOfValueText.{Field}
+use Rattle.field_text.specs.FieldsOfValueText.{next_field}
 
 -- the bytes of a field
 abbrev pub bytes_of : (text : List ℕ) → Field → List ℕ

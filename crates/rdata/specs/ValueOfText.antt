@@ -1,11 +1,11 @@
 -- The value of a text as a function of it (FORMATS, Texts of values; RFC 1035, 5.1).
 use Rattle.std.specs.Prelude.{ℕ, zero, suc, pred, ◌+◌, List, [], ◌∷◌, length, nat_lt, if◌then◌else◌, Result, Err}
-use Rattle.value_text.specs.declared.fields.Field.{Field}
-use Rattle.value_text.specs.Fields.{is_blank, field_len}
-use Rattle.rdata_layout.specs.declared.types.RType.{RType}
-use Rattle.rdata_layout.specs.declared.fields.Field as kind
-use Rattle.rdata_layout.specs.declared.fields.Tail.{Tail}
-use Rattle.rdata_layout.specs.Layout.{fields_of, tail_of}
+use Rattle.field_text.specs.FieldRecordOfValueText.{Field}
+use Rattle.field_text.specs.FieldsOfValueText.{is_blank, field_len}
+use Rattle.field_text.specs.RTypeRecord.{RType}
+use Rattle.field_text.specs.FieldRecord as kind
+use Rattle.field_text.specs.TailRecord.{Tail}
+use Rattle.field_text.specs.Layout.{fields_of, tail_of}
 use Rattle.field_text.specs.OctetsOfText.{octets_of_text}
 use Rattle.rdata.specs.TextFields.{bytes_of}
 use Rattle.rdata.specs.Reading.{string_first, tail_gives, most_text}

@@ -1,12 +1,12 @@
 -- The written text of a value: its fields with a space between (FORMATS, Texts of values).
 use Rattle.std.specs.Prelude.{ℕ, zero, suc, List, [], ◌∷◌, ◌++◌, map, take, drop}
-use Rattle.value_text.specs.Strings.{string_text}
-use Rattle.rdata_layout.specs.declared.types.RType.{RType}
-use Rattle.rdata_layout.specs.declared.fields.Field.{Field}
-use Rattle.rdata_layout.specs.declared.fields.Tail.{Tail}
-use Rattle.rdata_layout.specs.declared.fields.Tail.TheVariants as tail
-use Rattle.rdata_layout.specs.Fields.{field_size}
-use Rattle.rdata_layout.specs.Layout.{fields_of, tail_of}
+use Rattle.field_text.specs.Strings.{string_text}
+use Rattle.field_text.specs.RTypeRecord.{RType}
+use Rattle.field_text.specs.FieldRecord.{Field}
+use Rattle.field_text.specs.TailRecord.{Tail}
+use Rattle.field_text.specs.TailRecord.TheVariants as tail
+use Rattle.field_text.specs.Fields.{field_size}
+use Rattle.field_text.specs.Layout.{fields_of, tail_of}
 use Rattle.field_text.specs.Written.{text_of_field}
 
 -- The strings of octets, where `need` octets of the first are still to come: that string, and those

@@ -3,9 +3,9 @@
 ghost use Rattle.rdata.specs.Laws.{OneReading, TextsReadAsValues, ValueOfText, WireReadsBack, WrittenTextReadsBack};
 
 use field_text::{
-    octets_of_text, one_reading as one_field, written_field_is_one_field, written_field_reads_back,
+    octets_of_text, one_reading as one_field, string_is_one_field, written_field_is_one_field,
+    written_field_reads_back, written_string_reads_back,
 };
-use value_text::{string_is_one_field, written_string_reads_back};
 
 /// A text gives one value, or one fault.
 pub fn one_reading()

@@ -11,10 +11,10 @@ mod value;
 mod writing;
 
 pub use faults::{ValueFault, WireFault};
+pub use field_text::{Name, RType, octets_cmp, one_name_of_a_wire};
 pub use laws::{
     one_reading, texts_read_as_values, value_of_text, wire_reads_back, written_text_reads_back,
 };
 pub use octets::OutOfMemory;
-pub use rdata_layout::RType;
 pub use value::RData;
 pub use writing::write_text;

@@ -1,17 +1,15 @@
 //! The text of a value, field by field.
 
 ghost use Rattle.std.specs.Prelude.{◌≡◌, ℕ, ◌+◌, ◌-◌, ◌*◌, ◌≤◌, ◌<◌, List, [], ◌++◌, length, take, drop, None, Some, Ok, IfOk, OnOk, IfErr, IfSome, IfNone};
-ghost use Rattle.value_text.specs.Strings.{string_of_text};
+ghost use Rattle.field_text.specs.Strings.{string_of_text};
 ghost use Rattle.field_text.specs.Spelling.{Spells};
-ghost use Rattle.rdata_layout.specs.declared.fields.Tail.TheVariants as tail;
+ghost use Rattle.field_text.specs.TailRecord.TheVariants as tail;
 ghost use Rattle.rdata.specs.TextFields.{bytes_of};
 ghost use Rattle.rdata.specs.Steps.{FailsWith, Passes, ReadsAll, ReadsTail, ReadsStrings, PassesStrings, AppendsTail};
 
 use crate::faults::ValueFault;
-use field_text::read_field;
+use field_text::{Field, Tail, next_field, read_field, read_string};
 use octets::{behind, front};
-use rdata_layout::{Field, Tail};
-use value_text::{next_field, read_string};
 
 /// Reads fields of these kinds from the front of the text, and says where the last one ends. Their
 /// octets are appended.

@@ -5,18 +5,16 @@ ghost use Rattle.rdata.specs.Reading.{IsRead, most_text};
 ghost use Rattle.rdata.specs.Steps.{FailsWith};
 ghost use Rattle.rdata.specs.Written.{text_of};
 ghost use Rattle.rdata.specs.Gives.{ReadsWire, ReadsText};
-ghost use Rattle.rdata_layout.specs.Layout.{IsLayout};
-ghost use Rattle.dns_name.specs.Names.{AreOctets};
+ghost use Rattle.field_text.specs.Layout.{IsLayout};
+ghost use Rattle.field_text.specs.Names.{AreOctets};
 
 use crate::faults::{ValueFault, WireFault};
 use crate::reading::{read_fields, read_tail};
 use crate::writing::write_text;
-use field_text::spelled_is_field;
+use field_text::{RType, fields_go_on, fields_of, is_layout, spelled_is_field, tail_of};
 use octets::{OutOfMemory, append};
-use rdata_layout::{RType, fields_of, is_layout, tail_of};
 use std::alloc::Global;
 use std::marker::Model;
-use value_text::fields_go_on;
 
 /// A value of a record: its type, and its octets on the wire with names uncompressed and in lower
 /// case.
@@ -28,7 +26,7 @@ pub struct RData {
 
 impl Model for RData {
     ghost use Rattle.rdata.specs.Datum.{Datum};
-    ghost use Rattle.rdata_layout.specs.Layout.{IsLayout};
+    ghost use Rattle.field_text.specs.Layout.{IsLayout};
 
     ghost Value = { Datum };
 

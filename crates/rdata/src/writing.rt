@@ -1,17 +1,15 @@
 //! The text of a value, field by field, with a space between, written from its octets.
 
 ghost use Rattle.std.specs.Prelude.{◌≡◌, ℕ, ◌+◌, ◌*◌, ◌≤◌, ◌<◌, List, [], ◌++◌, length, take, drop, map};
-ghost use Rattle.value_text.specs.Strings.{string_text};
-ghost use Rattle.rdata_layout.specs.Fields.{IsField};
-ghost use Rattle.rdata_layout.specs.Layout.{AreFields, AreStrings, IsLayout, IsTail};
+ghost use Rattle.field_text.specs.Strings.{string_text};
+ghost use Rattle.field_text.specs.Fields.{IsField};
+ghost use Rattle.field_text.specs.Layout.{AreFields, AreStrings, IsLayout, IsTail};
 ghost use Rattle.field_text.specs.Written.{text_of_field};
 ghost use Rattle.rdata.specs.Written.{strings_of, tail_texts, field_texts, separated, joined_from, text_of};
-ghost use Rattle.rdata_layout.specs.Fields.{field_size};
+ghost use Rattle.field_text.specs.Fields.{field_size};
 
-use field_text::write_field;
+use field_text::{Field, RType, Tail, field_len, fields_of, tail_of, write_field, write_string};
 use octets::{behind, front};
-use rdata_layout::{Field, RType, Tail, field_len, fields_of, tail_of};
-use value_text::write_string;
 
 /// Writes the text of octets in the type's layout to the front, and says how long it is (FORMATS,
 /// Texts of values).

@@ -11,6 +11,7 @@ mod layout;
 mod scan;
 mod types;
 
+pub use dns_name::{Name, octets_cmp, one_name_of_a_wire};
 pub use fields::{Field, Tail};
 pub use laws::{types_have_their_own_number, types_have_their_own_text};
 pub use layout::{MOST_OCTETS, fields_of, is_layout, tail_of};

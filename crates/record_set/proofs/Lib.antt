@@ -1,2 +1,4 @@
 pub mod Firsts
 pub mod Times
+pub use Rattle.rdata.proofs.Depth
+pub use Rattle.rdata.proofs.Labels

@@ -1,9 +1,9 @@
 -- Why a set is refused, by itself (API Reference, ResourceRecordSet; Developer Guide, Choosing a routing policy).
 use Rattle.std.specs.Prelude.{◌≡◌, ◌≢◌, ◌<◌, ◌⊎◌, ℕ, List, [], ◌∷◌, length, Option, Some, None, slice_get, ⊤}
-use Rattle.dns_name.specs.Wildcard.{wildcard}
+use Rattle.rdata.specs.Wildcard.{wildcard}
 use Rattle.rdata.specs.Datum.{Datum}
-use Rattle.rdata_layout.specs.declared.types.RType.{RType}
-use Rattle.rdata_layout.specs.declared.types.RType.TheVariants as rtype
+use Rattle.rdata.specs.RTypeRecord.{RType}
+use Rattle.rdata.specs.RTypeRecord.TheVariants as rtype
 use Rattle.routing.specs.declared.policies.Routing.{Routing}
 use Rattle.routing.specs.declared.policies.Routing.TheVariants as routing
 use Rattle.record_set.specs.declared.sets.RecordSet.{RecordSet}

@@ -11,6 +11,9 @@ mod sets;
 mod values;
 
 pub use laws::{one_first_reason, same_both_ways};
+pub use rdata::{
+    Name, RData, RType, ValueFault, WireFault, octets_cmp, one_name_of_a_wire, texts_read_as_values,
+};
 pub use reasons::{Reason, check_set};
 pub use routing::{
     Continent, Ident, Place, Region, Role, Routing, Sub, is_location, is_location_byte,

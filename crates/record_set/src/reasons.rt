@@ -1,15 +1,14 @@
 //! The rules that one set meets by itself, and the first one that it breaks.
 
 ghost use Rattle.std.specs.Prelude.{◌≡◌, ◌<◌, [], ◌∷◌, ℕ, List, length, IsTrue, ◌↔◌};
-ghost use Rattle.dns_name.specs.Wildcard.{wildcard};
+ghost use Rattle.rdata.specs.Wildcard.{wildcard};
 ghost use Rattle.routing.specs.declared.policies.Routing.TheVariants as policy;
 ghost use Rattle.record_set.specs.Reasons.{HasRepeated, WithValues, IsAlias, IsMultivalue};
 ghost use Rattle.record_set.specs.Reasons.{HasOneValue, IsOfZone, RoutesZone, AnswersSeveral};
 ghost use Rattle.record_set.specs.Reasons.{IsFirst};
 
 use crate::sets::{Body, RecordSet};
-use dns_name::Name;
-use rdata::{RData, RType};
+use rdata::{Name, RData, RType};
 use routing::Routing;
 
 /// The most values of a set.

@@ -4,8 +4,7 @@ ghost use Rattle.std.specs.Prelude.{◌≡◌, IfOk};
 ghost use Rattle.record_set.specs.Sets.{ident_of, key_of};
 
 use crate::values::Values;
-use dns_name::Name;
-use rdata::{OutOfMemory, RType};
+use rdata::{Name, OutOfMemory, RType};
 use routing::{Ident, Routing};
 use std::alloc::Global;
 

@@ -6,8 +6,8 @@ use Rattle.std.specs.Net.Text.{hex, hex_groups_text}
 use Rattle.address_text.specs.declared.address.IpAddress.TheVariants.{V4, V6}
 use Rattle.check_model.specs.declared.checks.Check.TheVariants.{Calculated, Endpoint}
 use Rattle.json.specs.Print.{escape_byte}
-use Rattle.rdata_layout.specs.declared.types.RType.TheVariants.{A}
-use Rattle.record_set.specs.declared.sets.Body.TheVariants.{Values}
+use Rattle.config_model.specs.RTypeRecord.TheVariants.{A}
+use Rattle.config_model.specs.BodyRecord.TheVariants.{Values}
 use Rattle.routing.specs.declared.policies.Routing.TheVariants.{Simple}
 use Rattle.reply_model.specs.Dump.{check_line, collection_line, set_line, zone_line}
 use Rattle.reply_model.specs.Json.{line_of}

@@ -1,10 +1,10 @@
 -- Pages of a small zone: from its front, from a name, from a type, and from a key.
 use Rattle.std.proofs.Common.{◌≡◌, ℕ, List, [], ◌∷◌, Option, None, Some, refl}
 use Rattle.std.specs.Prelude.{codes}
-use Rattle.rdata_layout.specs.declared.types.RType.{RType}
-use Rattle.rdata_layout.specs.declared.types.RType.TheVariants.{A, Aaaa}
-use Rattle.record_set.specs.declared.sets.Body.TheVariants.{Values}
-use Rattle.record_set.specs.declared.sets.RecordSet.{RecordSet}
+use Rattle.config_model.specs.RTypeRecord.{RType}
+use Rattle.config_model.specs.RTypeRecord.TheVariants.{A, Aaaa}
+use Rattle.config_model.specs.BodyRecord.TheVariants.{Values}
+use Rattle.config_model.specs.RecordSetRecord.{RecordSet}
 use Rattle.routing.specs.declared.policies.Routing.{Routing}
 use Rattle.routing.specs.declared.policies.Routing.TheVariants as routing
 use Rattle.reply_model.specs.Paging.{Start, next_of, page}

@@ -6,9 +6,9 @@ use Rattle.json.specs.Print.{escape_byte}
 use Rattle.config_model.specs.declared.refusals.InputReason.TheVariants as input
 use Rattle.config_model.specs.declared.refusals.Refusal.{Refusal}
 use Rattle.config_model.specs.declared.refusals.Refusal.TheVariants as refusal
-use Rattle.rdata_layout.specs.declared.types.RType.TheVariants.{A}
-use Rattle.record_set.specs.declared.reasons.Reason.TheVariants as reason
-use Rattle.record_set.specs.declared.sets.SetKey.{SetKey}
+use Rattle.config_model.specs.RTypeRecord.TheVariants.{A}
+use Rattle.config_model.specs.ReasonRecord.TheVariants as reason
+use Rattle.config_model.specs.SetKeyRecord.{SetKey}
 use Rattle.reply_model.specs.Json.{line_of}
 use Rattle.reply_model.specs.Outcomes.{reply_of, text_of}
 use Rattle.reply_model.specs.declared.outcomes.Outcome.TheVariants as outcome

@@ -3,8 +3,8 @@ use Rattle.std.proofs.Common.{◌≡◌, ℕ, List, [], ◌∷◌, ◌++◌, tru
 use Rattle.std.specs.Prelude.{codes}
 use Rattle.std.specs.Fmt.{digits}
 use Rattle.json.specs.Print.{escape_byte}
-use Rattle.rdata_layout.specs.declared.types.RType.TheVariants.{A, Txt}
-use Rattle.record_set.specs.declared.sets.Body.TheVariants.{Alias, Values}
+use Rattle.config_model.specs.RTypeRecord.TheVariants.{A, Txt}
+use Rattle.config_model.specs.BodyRecord.TheVariants.{Alias, Values}
 use Rattle.routing.specs.declared.policies.Continent.TheVariants as continent
 use Rattle.routing.specs.declared.policies.Place.TheVariants as place
 use Rattle.routing.specs.declared.policies.Role.TheVariants as role

@@ -8,9 +8,9 @@ use Rattle.config_model.specs.declared.refusals.Refusal.TheVariants as refusal
 use Rattle.line_faults.specs.declared.fault.LineFault.TheVariants.{BadLine, Unsupported}
 use Rattle.line_faults.specs.declared.fault.LineReason.TheVariants.{UnknownLine}
 use Rattle.line_faults.specs.declared.member.Member.TheVariants as m
-use Rattle.rdata_layout.specs.declared.types.RType.TheVariants.{A}
-use Rattle.record_set.specs.declared.sets.Body.TheVariants.{Alias}
-use Rattle.record_set.specs.declared.sets.RecordSet.{RecordSet}
+use Rattle.config_model.specs.RTypeRecord.TheVariants.{A}
+use Rattle.config_model.specs.BodyRecord.TheVariants.{Alias}
+use Rattle.config_model.specs.RecordSetRecord.{RecordSet}
 use Rattle.routing.specs.declared.policies.Place.TheVariants.{Subdivision}
 use Rattle.routing.specs.declared.policies.Routing.TheVariants.{Geolocation}
 use Rattle.reply_model.specs.Json.{line_of}

@@ -7,11 +7,11 @@ use Rattle.address_text.specs.declared.address.IpAddress.{IpAddress}
 use Rattle.address_text.specs.declared.address.IpAddress.TheVariants as ip
 use Rattle.check_model.specs.declared.checks.Check.{Check}
 use Rattle.check_model.specs.declared.checks.Check.TheVariants as check
-use Rattle.cidr_blocks.specs.declared.places.CidrLocation.{CidrLocation}
-use Rattle.cidr_blocks.specs.declared.places.Collection.{Collection}
+use Rattle.config_model.specs.CidrLocationRecord.{CidrLocation}
+use Rattle.config_model.specs.CollectionRecord.{Collection}
 use Rattle.ip_table.specs.Prefixes.{Prefix}
 use Rattle.line_faults.specs.declared.member.Member.TheVariants as m
-use Rattle.record_set.specs.declared.sets.RecordSet.{RecordSet}
+use Rattle.config_model.specs.RecordSetRecord.{RecordSet}
 use Rattle.reply_model.specs.Json.{check_text, collection_text, count, field, line_of, list_of}
 use Rattle.reply_model.specs.Json.{name_text, object_of, zone_text}
 use Rattle.reply_model.specs.Sets.{set_object}

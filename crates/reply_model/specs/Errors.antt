@@ -9,9 +9,9 @@ use Rattle.line_faults.specs.Texts.{reason_text, text_of}
 use Rattle.line_faults.specs.declared.fault.LineFault.{LineFault}
 use Rattle.line_faults.specs.declared.fault.LineFault.TheVariants as line
 use Rattle.line_faults.specs.declared.member.Member.TheVariants as m
-use Rattle.record_set.specs.declared.reasons.Reason.{Reason}
-use Rattle.record_set.specs.declared.reasons.Reason.TheVariants as reason
-use Rattle.record_set.specs.declared.sets.SetKey.{SetKey}
+use Rattle.config_model.specs.ReasonRecord.{Reason}
+use Rattle.config_model.specs.ReasonRecord.TheVariants as reason
+use Rattle.config_model.specs.SetKeyRecord.{SetKey}
 use Rattle.reply_model.specs.Json.{Field, check_text, collection_text, count, field, name_text}
 use Rattle.reply_model.specs.Json.{object_of, type_text}
 use Rattle.reply_model.specs.Sets.{ident_fields}

@@ -6,8 +6,8 @@ use Rattle.serde_json.specs.Written.{compact_text}
 use Rattle.dns_name.specs.Written as names
 use Rattle.line_faults.specs.Texts.{text_of}
 use Rattle.line_faults.specs.declared.member.Member.{Member}
-use Rattle.rdata_layout.specs.Types as types
-use Rattle.rdata_layout.specs.declared.types.RType.{RType}
+use Rattle.config_model.specs.Types as types
+use Rattle.config_model.specs.RTypeRecord.{RType}
 
 -- a member of an object: its name, and its value
 abbrev pub Field : Type 0

@@ -4,8 +4,8 @@ use Rattle.std.specs.Prelude.{Some}
 use Rattle.hex.specs.Hex.{encode_lower}
 use Rattle.serde_json.specs.Data.{Data, boolean, null, string}
 use Rattle.line_faults.specs.declared.member.Member.TheVariants as m
-use Rattle.record_set.specs.Sets.{ident_of}
-use Rattle.record_set.specs.declared.sets.RecordSet.{RecordSet}
+use Rattle.config_model.specs.Sets.{ident_of}
+use Rattle.config_model.specs.RecordSetRecord.{RecordSet}
 use Rattle.reply_model.specs.Json.{Field, done, list_of, name_text, type_text}
 use Rattle.reply_model.specs.Sets.{set_object}
 

@@ -7,11 +7,11 @@ use Rattle.std.specs.Ordering.{match_ordering, nat_cmp, ordering_then}
 use Rattle.std.specs.declared.cmp.Ordering.{Ordering}
 use Rattle.std.specs.declared.cmp.Ordering.TheVariants.{Equal}
 use Rattle.dns_name.specs.Order.{zone_cmp}
-use Rattle.rdata_layout.specs.Types.{number_of}
-use Rattle.rdata_layout.specs.declared.types.RType.{RType}
-use Rattle.record_set.specs.Sets.{ident_of}
-use Rattle.record_set.specs.declared.sets.RecordSet.{RecordSet}
-use Rattle.zone_model.specs.Keys.{ident_cmp}
+use Rattle.config_model.specs.Types.{number_of}
+use Rattle.config_model.specs.RTypeRecord.{RType}
+use Rattle.config_model.specs.Sets.{ident_of}
+use Rattle.config_model.specs.RecordSetRecord.{RecordSet}
+use Rattle.config_model.specs.Keys.{ident_cmp}
 use Rattle.serde_json.specs.Data.{Data}
 use Rattle.reply_model.specs.Lists.{list_reply}
 

@@ -4,12 +4,12 @@ use Rattle.std.specs.Prelude.{ℕ, List, [], ◌∷◌, ◌++◌, map, true, cod
 use Rattle.serde_json.specs.Data.{Data, boolean, string}
 use Rattle.line_faults.specs.declared.member.Member.TheVariants as m
 use Rattle.line_words.specs.Words.{code_of}
-use Rattle.rdata.specs.Datum.{Datum}
-use Rattle.rdata.specs.Written.{text_of}
-use Rattle.record_set.specs.Sets.{ident_of}
-use Rattle.record_set.specs.declared.sets.Body.{Body}
-use Rattle.record_set.specs.declared.sets.Body.TheVariants.{Values, Alias}
-use Rattle.record_set.specs.declared.sets.RecordSet.{RecordSet}
+use Rattle.config_model.specs.Datum.{Datum}
+use Rattle.config_model.specs.Written.{text_of}
+use Rattle.config_model.specs.Sets.{ident_of}
+use Rattle.config_model.specs.BodyRecord.{Body}
+use Rattle.config_model.specs.BodyRecord.TheVariants.{Values, Alias}
+use Rattle.config_model.specs.RecordSetRecord.{RecordSet}
 use Rattle.routing.specs.declared.policies.Place.{Place}
 use Rattle.routing.specs.declared.policies.Place.TheVariants as place
 use Rattle.routing.specs.declared.policies.Role.{Role}

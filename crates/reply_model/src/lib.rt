@@ -7,4 +7,5 @@
 
 mod outcomes;
 
+pub use config_model::{Command, InputReason, Made, Refusal, one_outcome};
 pub use outcomes::{Outcome, Turns};

@@ -4,10 +4,10 @@ use Rattle.std.specs.List.{flat_map}
 use Rattle.dns_wire.specs.Message.{Record}
 use Rattle.rdata_layout.specs.declared.types.RType.{RType}
 use Rattle.rdata_layout.specs.declared.types.RType.TheVariants as rtype
-use Rattle.zone_table.specs.Zones.{Zone}
+use Rattle.policy_select.specs.Zones.{Zone}
 use Rattle.zone_model.specs.Zones.{group}
-use Rattle.zone_table.specs.declared.refs.Group.{Group}
-use Rattle.answer_model.specs.Records.{glue_of, simple_records}
+use Rattle.policy_select.specs.GroupRecord.{Group}
+use Rattle.policy_select.specs.Records.{glue_of, simple_records}
 use Rattle.policy_select.specs.Groups.{sets_in, sets_in_zone}
 use Rattle.reply_records.proofs.Joined.{simple_parts}
 use Rattle.reply_records.specs.Delegating.{AreAddresses, AreOf, simple_part}

@@ -11,11 +11,11 @@ use Rattle.std.proofs.lemmas.List.Elements.{filter-append, filter_map-append}
 use Rattle.dns_wire.specs.Message.{Record}
 use Rattle.rdata_layout.specs.declared.types.RType.{RType}
 use Rattle.record_set.specs.declared.sets.RecordSet.{RecordSet}
-use Rattle.zone_table.proofs.Members.{left_at, nothing_left}
+use Rattle.policy_select.proofs.MembersOfZoneList.{left_at, nothing_left}
 use Rattle.zone_model.proofs.Lists.{in_itself, split, take_more}
-use Rattle.answer_model.specs.Descent.{sets_at}
-use Rattle.answer_model.specs.Records.{answer_records, data_of, is_among, is_simple, joint_data}
-use Rattle.answer_model.specs.Records.{least_ttl, records, set_records, ttl_of}
+use Rattle.policy_select.specs.Descent.{sets_at}
+use Rattle.policy_select.specs.Records.{answer_records, data_of, is_among, is_simple, joint_data}
+use Rattle.policy_select.specs.Records.{least_ttl, records, set_records, ttl_of}
 use Rattle.zone_model.specs.Zones.{IsAmong}
 use Rattle.reply_records.specs.Chosen.{IsValued, StartsWith, all_data, new_data}
 use Rattle.reply_records.specs.Delegating.{simple_part}

@@ -7,7 +7,7 @@ use Rattle.std.proofs.lemmas.Slice.Eq.{bytes_eq-Decides}
 use Rattle.std.specs.Prelude.{replicate, slice_get, slice_set, ◌||◌, ◌⊎◌}
 use Rattle.std.specs.Str.{bytes_eq}
 use Rattle.zone_model.specs.Zones.{IsAmong}
-use Rattle.answer_model.specs.Records.{is_among}
+use Rattle.policy_select.specs.Records.{is_among}
 use Rattle.reply_records.specs.Seeing.{Sees, short_of}
 use Rattle.reply_records.specs.declared.seen.Seen.{Seen}
 use Rattle.reply_records.specs.declared.seen.Short.{Short}

@@ -6,9 +6,9 @@ use Rattle.record_set.specs.Datum.{Datum}
 use Rattle.record_set.specs.declared.sets.Body.{Body}
 use Rattle.record_set.specs.declared.sets.Body.TheVariants as body
 use Rattle.record_set.specs.declared.sets.RecordSet.{RecordSet}
-use Rattle.set_scratch.specs.Bodies as held
-use Rattle.set_scratch.specs.Holding.{HasValue, IsHolding}
-use Rattle.answer_model.specs.Records.{data_of, ttl_of}
+use Rattle.policy_select.specs.Bodies as held
+use Rattle.policy_select.specs.Holding.{HasValue, IsHolding}
+use Rattle.policy_select.specs.Records.{data_of, ttl_of}
 
 -- what is said of the held set is said of this one
 pub of_held : {X : Type 0} (P : X → Type 0) (o : Option X) (x : X) → o ≡ Some x → IfSome o P → P x

@@ -15,8 +15,8 @@ use Rattle.dns_wire.specs.Pointers.{name_octets}
 use Rattle.octets.specs.Numbers.{four_octets, two_octets}
 use Rattle.rdata_layout.specs.Types.{number_of}
 use Rattle.rdata_layout.specs.declared.types.RType.{RType}
-use Rattle.answer_model.specs.Descent.{sets_at}
-use Rattle.answer_model.specs.Records.{is_among, joint_data, records}
+use Rattle.policy_select.specs.Descent.{sets_at}
+use Rattle.policy_select.specs.Records.{is_among, joint_data, records}
 use Rattle.record_set.specs.declared.sets.RecordSet.{RecordSet}
 use Rattle.std.proofs.lemmas.List.Elements.{filter-append}
 use Rattle.reply_records.proofs.Joined.{joint_behind}

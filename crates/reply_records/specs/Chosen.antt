@@ -3,11 +3,11 @@ use Rattle.std.specs.Prelude.{◌≡◌, ◌<◌, ℕ, List, [], ◌∷◌, Bool
 use Rattle.std.specs.List.{All, filter, flat_map}
 use Rattle.dns_wire.specs.Message.{Record}
 use Rattle.record_set.specs.declared.sets.RecordSet.{RecordSet}
-use Rattle.zone_table.specs.Zones.{Zone}
+use Rattle.policy_select.specs.Zones.{Zone}
 use Rattle.zone_model.specs.Zones.{IsAmong}
-use Rattle.zone_table.specs.declared.refs.Group.{Group}
-use Rattle.answer_model.specs.Descent.{sets_at}
-use Rattle.answer_model.specs.Records.{answer_records, data_of, is_among, joint_data}
+use Rattle.policy_select.specs.GroupRecord.{Group}
+use Rattle.policy_select.specs.Descent.{sets_at}
+use Rattle.policy_select.specs.Records.{answer_records, data_of, is_among, joint_data}
 use Rattle.policy_select.specs.Groups.{sets_in}
 
 -- these are places of the group

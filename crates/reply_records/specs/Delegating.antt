@@ -8,12 +8,12 @@ use Rattle.dns_wire.specs.declared.reply.Section.TheVariants.{Additional, Author
 use Rattle.rdata_layout.specs.declared.types.RType.{RType}
 use Rattle.rdata_layout.specs.declared.types.RType.TheVariants as rtype
 use Rattle.record_set.specs.declared.sets.RecordSet.{RecordSet}
-use Rattle.zone_table.specs.Zones.{Zone}
+use Rattle.policy_select.specs.Zones.{Zone}
 use Rattle.zone_model.specs.Zones.{group}
-use Rattle.zone_table.specs.Looking.{IsGroupNow}
-use Rattle.zone_table.specs.declared.refs.Group.{Group}
+use Rattle.policy_select.specs.Looking.{IsGroupNow}
+use Rattle.policy_select.specs.GroupRecord.{Group}
 use Rattle.policy_select.specs.Groups.{sets_in, sets_in_zone}
-use Rattle.answer_model.specs.Records.{data_of, glue_of, is_simple, set_records}
+use Rattle.policy_select.specs.Records.{data_of, glue_of, is_simple, set_records}
 use Rattle.reply_records.specs.declared.delegation.Addresses.{Addresses}
 use Rattle.reply_records.specs.Writing.{Writes}
 

@@ -1,12 +1,12 @@
 //! The records with which chosen sets answer a name.
 
 ghost use Rattle.std.specs.Prelude.{◌≡◌, ◌<◌, ◌∷◌, [], length, Some};
-ghost use Rattle.answer_model.specs.Records.{answer_records};
+ghost use Rattle.policy_select.specs.Records.{answer_records};
 ghost use Rattle.dns_wire.specs.declared.reply.Section.TheVariants.{Answer};
 ghost use Rattle.policy_select.specs.Selecting.{AreOfGroup, HoldsFirst, selected_sets};
 ghost use Rattle.record_set.specs.declared.sets.RecordSet.{RecordSet};
-ghost use Rattle.set_scratch.specs.Holding.{IsHolding};
-ghost use Rattle.zone_table.specs.Looking.{IsGroupNow};
+ghost use Rattle.policy_select.specs.Holding.{IsHolding};
+ghost use Rattle.policy_select.specs.Looking.{IsGroupNow};
 ghost use Rattle.reply_records.specs.Chosen.{ArePlaces, HoldsValued, StartsOrNone, sets_of_places};
 ghost use Rattle.reply_records.specs.Writing.{IsOpen, Writes};
 
@@ -15,9 +15,8 @@ use crate::joint::{least_ttl, write_joint};
 use crate::seen::NONE;
 use dns_name::Name;
 use dns_wire::{Reply, Section, records_add_up};
-use policy_select::{Selected, load_member, places_of};
+use policy_select::{Group, Scratch, Selected, Zones, load_member, places_of};
 use rdata_layout::types_have_their_own_number;
-use zone_table::{Group, Scratch, Zones};
 
 /// Where the first of several sets has no more values, room for few is made, which is filled sooner.
 const FEW_VALUES: usize = 8;

@@ -2,15 +2,15 @@
 
 ghost use Rattle.std.specs.Prelude.{◌≡◌, ◌<◌, ◌++◌, ℕ, IsTrue, map, slice_get, Some, take, true};
 ghost use Rattle.std.specs.List.{flat_map};
-ghost use Rattle.answer_model.specs.Records.{data_of, glue_of, set_records};
+ghost use Rattle.policy_select.specs.Records.{data_of, glue_of, set_records};
 ghost use Rattle.dns_name.specs.Stored.{labels_of};
 ghost use Rattle.dns_wire.specs.declared.reply.Section.TheVariants.{Additional, Authority};
 ghost use Rattle.policy_select.specs.Groups.{sets_in, sets_in_zone};
 ghost use Rattle.rdata_layout.specs.Layout.{IsLayout};
 ghost use Rattle.rdata_layout.specs.declared.types.RType.TheVariants as rtype;
 ghost use Rattle.record_set.specs.declared.sets.RecordSet.{RecordSet};
-ghost use Rattle.set_scratch.specs.Holding.{HasValue, IsHolding};
-ghost use Rattle.zone_table.specs.Looking.{IsGroupNow};
+ghost use Rattle.policy_select.specs.Holding.{HasValue, IsHolding};
+ghost use Rattle.policy_select.specs.Looking.{IsGroupNow};
 ghost use Rattle.reply_records.specs.Delegating.{AreAddresses, Delegates, servers_glue};
 ghost use Rattle.reply_records.specs.Delegating.{simple_part};
 ghost use Rattle.reply_records.specs.Writing.{IsOpen, Writes};
@@ -18,10 +18,9 @@ ghost use Rattle.reply_records.specs.Writing.{IsOpen, Writes};
 use crate::held::{count_of, rdata_at, ttl_of, write_until_cut};
 use dns_name::Name;
 use dns_wire::{Reply, Section, records_add_up};
-use policy_select::{find_group, load_member};
+use policy_select::{Group, Scratch, Zones, find_group, load_member};
 use rdata_layout::RType;
 use routing::Routing;
-use zone_table::{Group, Scratch, Zones};
 
 /// Writes the NS records of a zone cut into the authority section, and then for each of its name
 /// servers the addresses that the zone has of it into the additional section.

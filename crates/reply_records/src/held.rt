@@ -1,17 +1,17 @@
 //! Records of the set that a scratch holds.
 
 ghost use Rattle.std.specs.Prelude.{◌≡◌, ◌<◌, ◌∷◌, [], ℕ, IsTrue, length, slice_get, Some, true};
-ghost use Rattle.answer_model.specs.Records.{data_of, records, ttl_of};
+ghost use Rattle.policy_select.specs.Records.{data_of, records, ttl_of};
 ghost use Rattle.dns_wire.specs.Message.{Record};
 ghost use Rattle.rdata_layout.specs.Layout.{IsLayout};
 ghost use Rattle.record_set.specs.declared.sets.RecordSet.{RecordSet};
-ghost use Rattle.set_scratch.specs.Holding.{HasValue, IsHolding};
+ghost use Rattle.policy_select.specs.Holding.{HasValue, IsHolding};
 ghost use Rattle.reply_records.specs.Writing.{IsOpen, Writes};
 
 use dns_name::Name;
 use dns_wire::{Reply, Section, records_add_up};
+use policy_select::Scratch;
 use rdata_layout::RType;
-use zone_table::Scratch;
 
 /// Writes one record.
 pub fn write_one(

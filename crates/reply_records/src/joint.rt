@@ -3,13 +3,13 @@
 ghost use Rattle.std.specs.Prelude.{◌≡◌, ◌<◌, ◌≤◌, ◌∷◌, ◌++◌, [], ℕ, IsTrue, List, length};
 ghost use Rattle.std.specs.Prelude.{Some, false, slice_get, take, true};
 ghost use Rattle.std.specs.Str.{bytes_eq};
-ghost use Rattle.answer_model.specs.Records.{data_of, is_among, joint_data, least_ttl, records};
+ghost use Rattle.policy_select.specs.Records.{data_of, is_among, joint_data, least_ttl, records};
 ghost use Rattle.dns_wire.specs.declared.reply.Section.TheVariants.{Answer};
 ghost use Rattle.policy_select.specs.Groups.{sets_in};
 ghost use Rattle.rdata_layout.specs.Layout.{IsLayout};
 ghost use Rattle.record_set.specs.declared.sets.RecordSet.{RecordSet};
-ghost use Rattle.set_scratch.specs.Holding.{HasValue, IsHolding};
-ghost use Rattle.zone_table.specs.Looking.{IsGroupNow};
+ghost use Rattle.policy_select.specs.Holding.{HasValue, IsHolding};
+ghost use Rattle.policy_select.specs.Looking.{IsGroupNow};
 ghost use Rattle.reply_records.specs.Chosen.{ArePlaces, all_data, new_data, sets_of_places};
 ghost use Rattle.reply_records.specs.Seeing.{Sees};
 ghost use Rattle.reply_records.specs.Writing.{IsOpen, Writes};
@@ -19,9 +19,8 @@ use crate::seen::{Seen, Short, is_seen, note_held};
 use dns_name::Name;
 use dns_wire::{Reply, Section, records_add_up};
 use octets::{fill_front, front};
-use policy_select::load_member;
+use policy_select::{Group, Scratch, Zones, load_member};
 use rdata_layout::RType;
-use zone_table::{Group, Scratch, Zones};
 
 /// The most octets of a value (own).
 const MOST_OCTETS: usize = 4000;

@@ -1,22 +1,21 @@
 //! The start of authority in a negative answer (RFC 2308, 3).
 
 ghost use Rattle.std.specs.Prelude.{◌≡◌, ◌≤◌, length, map, min, Some};
-ghost use Rattle.answer_model.specs.Records.{data_of, minimum_of, soa_record, soa_records, ttl_of};
+ghost use Rattle.policy_select.specs.Records.{data_of, minimum_of, soa_record, soa_records, ttl_of};
 ghost use Rattle.dns_wire.specs.declared.reply.Section.TheVariants.{Authority};
 ghost use Rattle.policy_select.specs.Groups.{sets_in_zone};
 ghost use Rattle.rdata_layout.specs.Layout.{IsLayout};
 ghost use Rattle.rdata_layout.specs.declared.types.RType.TheVariants as rtype;
 ghost use Rattle.record_set.specs.declared.sets.RecordSet.{RecordSet};
-ghost use Rattle.set_scratch.specs.Holding.{IsHolding};
+ghost use Rattle.policy_select.specs.Holding.{IsHolding};
 ghost use Rattle.reply_records.specs.Writing.{IsOpen, Writes};
 
 use crate::held::{count_of, rdata_at, ttl_of, write_one};
 use dns_name::Name;
 use dns_wire::{Reply, Section, records_add_up};
 use octets::long_at;
-use policy_select::{find_group, load_member};
+use policy_select::{Scratch, Zones, find_group, load_member};
 use rdata_layout::{RType, types_have_their_own_number};
-use zone_table::{Scratch, Zones};
 
 /// Writes the SOA of a zone into the authority section, with the lesser of its TTL and MINIMUM.
 pub fn write_soa(zones: &Zones, zone: u32, apex: &Name, reply: &mut Reply, scratch: &mut Scratch)

@@ -3,15 +3,15 @@
 
 ghost use Rattle.std.specs.Prelude.{◌≡◌, ◌≤◌, ◌<◌, ◌++◌, ◌∷◌, [], ℕ, IfSome, IsTrue, ◌↔◌, List};
 ghost use Rattle.std.specs.Prelude.{Some, length, slice_get, take};
-ghost use Rattle.answer_model.specs.Records.{data_of, is_among};
+ghost use Rattle.policy_select.specs.Records.{data_of, is_among};
 ghost use Rattle.record_set.specs.declared.sets.RecordSet.{RecordSet};
-ghost use Rattle.set_scratch.specs.Holding.{HasValue, IsHolding};
+ghost use Rattle.policy_select.specs.Holding.{HasValue, IsHolding};
 ghost use Rattle.zone_model.specs.Zones.{IsAmong};
 ghost use Rattle.reply_records.specs.Seeing.{Sees, short_of};
 
 use crate::held::count_of;
 use octets::fill_front;
-use zone_table::Scratch;
+use policy_select::Scratch;
 
 /// The most octets of a value that is kept: addresses have 4 and 16.
 const MOST_SHORT: usize = 19;

@@ -5,5 +5,6 @@
 
 mod sending;
 
+pub use reply_writing::{Command, Made, Outcome, Refusal, one_outcome};
 pub use sending::{ROOM, send_answer, send_outcome, send_silence};
 pub use whole_writing::Output;

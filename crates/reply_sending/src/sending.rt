@@ -2,14 +2,13 @@
 
 ghost use Rattle.std.specs.Prelude.{◌≡◌, ◌≤◌, ℕ, List, None, Some, length, vec_capacity};
 ghost use Rattle.octets.specs.Counts.{Rose};
-ghost use Rattle.reply_model.specs.Json.{line_of};
-ghost use Rattle.reply_model.specs.Lists.{query_reply};
-ghost use Rattle.reply_model.specs.Outcomes.{text_of};
+ghost use Rattle.reply_writing.specs.Json.{line_of};
+ghost use Rattle.reply_writing.specs.Lists.{query_reply};
+ghost use Rattle.reply_writing.specs.OutcomesOfReplyModel.{text_of};
 ghost use Rattle.whole_writing.specs.Output.{OutputOf};
 
 use r53_io::Sink;
-use reply_model::Outcome;
-use reply_writing::{write_answer, write_outcome, write_silence};
+use reply_writing::{Outcome, write_answer, write_outcome, write_silence};
 use whole_writing::{Output, write_whole};
 
 /// The octets for which a buffer has room: a reply of 4,096 octets in hexadecimal digits, and what

@@ -4,4 +4,5 @@
 
 mod words;
 
+pub use reply_model::{Command, InputReason, Made, Outcome, Refusal, Turns, one_outcome};
 pub use words::{put_comma, put_id, put_id_object, put_member, put_name, put_type, put_zone};

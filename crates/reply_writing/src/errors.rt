@@ -4,9 +4,9 @@ ghost use Rattle.std.specs.Prelude.{◌≡◌, ◌+◌, ◌≤◌, ◌++◌, ◌
 ghost use Rattle.std.specs.Prelude.{vec_capacity, vec_len};
 ghost use Rattle.line_faults.specs.Texts.{text_of};
 ghost use Rattle.line_faults.specs.declared.member.Member.TheVariants as m;
-ghost use Rattle.reply_model.specs.Errors.{error, if_in_change, in_change, told_check, told_key};
-ghost use Rattle.reply_model.specs.Errors.{told_location, told_name, told_reason};
-ghost use Rattle.reply_model.specs.Json.{collection_text, count, field};
+ghost use Rattle.reply_words.specs.Errors.{error, if_in_change, in_change, told_check, told_key};
+ghost use Rattle.reply_words.specs.Errors.{told_location, told_name, told_reason};
+ghost use Rattle.reply_words.specs.Json.{collection_text, count, field};
 ghost use Rattle.serde_json.specs.Data.{string};
 ghost use Rattle.serde_json.specs.Written.{compact_text};
 

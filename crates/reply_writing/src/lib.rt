@@ -8,3 +8,4 @@ mod outcomes;
 mod refusals;
 
 pub use outcomes::{MOST_REPLY, write_answer, write_outcome, write_silence};
+pub use reply_words::{Command, Made, Outcome, Refusal, one_outcome};

@@ -4,11 +4,11 @@ ghost use Rattle.std.specs.Prelude.{◌≡◌, ◌+◌, ◌*◌, ◌≤◌, ◌+
 ghost use Rattle.std.specs.Prelude.{vec_capacity, vec_len};
 ghost use Rattle.hex.specs.Hex.{encode_lower};
 ghost use Rattle.line_faults.specs.declared.member.Member.TheVariants as m;
-ghost use Rattle.reply_model.specs.Json.{check_text, collection_text, count, done, field, line_of};
-ghost use Rattle.reply_model.specs.Dump.{zone_object};
+ghost use Rattle.reply_words.specs.Json.{check_text, collection_text, count, done, field, line_of};
+ghost use Rattle.reply_words.specs.Dump.{zone_object};
 ghost use Rattle.reply_words.specs.Pieces.{id_object};
-ghost use Rattle.reply_model.specs.Lists.{query_reply};
-ghost use Rattle.reply_model.specs.Outcomes.{reply_of, text_of};
+ghost use Rattle.reply_words.specs.Lists.{query_reply};
+ghost use Rattle.reply_words.specs.Outcomes.{reply_of, text_of};
 ghost use Rattle.serde_json.specs.Data.{boolean, string};
 ghost use Rattle.serde_json.specs.Written.{compact_text};
 
@@ -18,8 +18,7 @@ use dns_name::Name;
 use json_text::{put, put_flag, put_hex, put_number};
 use line_faults::Member;
 use query_lines::Ports;
-use reply_model::{Outcome, Turns};
-use reply_words::{put_id_object, put_member, put_zone};
+use reply_words::{Outcome, Turns, put_id_object, put_member, put_zone};
 
 /// The room that any reply takes but a list of sets and the reply to a packet, in octets.
 pub const MOST_REPLY: usize = 8192;

@@ -2,7 +2,7 @@
 
 ghost use Rattle.std.specs.Prelude.{◌≡◌, ◌+◌, ◌≤◌, ◌++◌, length, vec_capacity, vec_len};
 ghost use Rattle.line_faults.specs.Texts.{reason_text};
-ghost use Rattle.reply_model.specs.Errors.{input_reason, line_error, refusal_error, set_reason};
+ghost use Rattle.reply_words.specs.Errors.{input_reason, line_error, refusal_error, set_reason};
 ghost use Rattle.serde_json.specs.Written.{compact_text};
 
 use crate::errors::{
@@ -10,9 +10,9 @@ use crate::errors::{
     write_error_of_key, write_error_of_location, write_error_of_name, write_invalid,
     write_invalid_in_change, write_journal_full, write_no_collection, write_unsupported,
 };
-use config_model::{InputReason, Refusal};
 use line_faults::{LineFault, LineReason};
 use record_set::Reason;
+use reply_words::{InputReason, Refusal};
 
 /// Why the set of a change is refused by itself, as it stands in replies.
 fn set_reason(why: Reason) -> &'static [u8]

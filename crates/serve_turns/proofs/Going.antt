@@ -1,8 +1,8 @@
 -- Stores that stand for more and more reports.
 use Rattle.std.proofs.Common.{◌≡◌, List, [], ◌∷◌, ◌++◌, ap, sym, ◌∙◌, refl, subst, append_assoc}
-use Rattle.engine_model.specs.Engine.{Engine, ReportSteps}
-use Rattle.engine_model.specs.declared.answers.Reported.{Reported}
-use Rattle.engine_model.specs.declared.answers.Reported.TheVariants as reported
+use Rattle.session_model.specs.Engine.{Engine, ReportSteps}
+use Rattle.session_model.specs.ReportedRecord.{Reported}
+use Rattle.session_model.specs.ReportedRecord.TheVariants as reported
 use Rattle.check_lines.specs.declared.observing.Observation.{Observation}
 use Rattle.health_model.specs.Statuses.{Report}
 use Rattle.r53_core.specs.Stores.{StandsFor, State as Store}

@@ -1,10 +1,10 @@
 -- The turn of a packet.
 use Rattle.std.proofs.Common.{◌≡◌, ℕ, List, [], ◌∷◌, ◌++◌, Option, None, Some, ap, ◌∙◌, sym, refl, subst, append_assoc, inr}
-use Rattle.engine_model.specs.Engine.{Engine, QueryGives}
+use Rattle.session_model.specs.Engine.{Engine, QueryGives}
 use Rattle.geo_latency.specs.declared.tables.Tables.{Tables}
 use Rattle.r53_io.specs.Network.{Dns, Incoming}
 use Rattle.r53_io.specs.declared.network.Peer.{Peer}
-use Rattle.reply_model.specs.declared.outcomes.Turns.{Turns}
+use Rattle.session_model.specs.TurnsRecord.{Turns}
 use Rattle.serve_turns.specs.Turning.{PacketLeaves, Standing, Stands, TurnLeaves}
 use Rattle.serve_turns.specs.declared.turning.Turn.{Turn}
 use Rattle.serve_turns.specs.declared.turning.Turn.TheVariants as turn

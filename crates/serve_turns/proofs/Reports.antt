@@ -2,13 +2,13 @@
 use Rattle.std.proofs.Common.{◌≡◌, ◌≤◌, ◌<◌, ℕ, List, ◌∷◌, Bool, true, false, Option, None, Some, sym, ◌∙◌, ap, subst, refl, inl, inr, arith}
 use Rattle.std.specs.Prelude.{if◌then◌else◌}
 use Rattle.check_lines.specs.declared.observing.Observation.{Observation}
-use Rattle.engine_model.specs.Engine.{Engine, IsEndpoint, ReportSteps}
-use Rattle.engine_model.specs.declared.answers.Reported.TheVariants as reported
+use Rattle.session_model.specs.Engine.{Engine, IsEndpoint, ReportSteps}
+use Rattle.session_model.specs.ReportedRecord.TheVariants as reported
 use Rattle.geo_latency.specs.declared.tables.Tables.{Tables}
 use Rattle.r53_core.specs.Stores.{StandsFor, State as Store}
 use Rattle.r53_io.specs.Network.{Incoming, Report}
 use Rattle.report_lines.specs.Reports.{report_of}
-use Rattle.reply_model.specs.declared.outcomes.Turns.{Turns}
+use Rattle.session_model.specs.TurnsRecord.{Turns}
 use Rattle.serve_turns.specs.Turning.{IsTaken, Standing, Stands, TurnLeaves}
 use Rattle.serve_turns.specs.declared.turning.Turn.TheVariants as turn
 use Rattle.session_model.specs.Serving.{Datagram, IsKnown, Served, TakesTurn, after_report}

@@ -1,11 +1,11 @@
 -- Turns, one after another.
 use Rattle.std.proofs.Common.{◌≡◌, ◌≤◌, ◌<◌, ℕ, zero, suc, ◌+◌, ◌-◌, List, [], ◌∷◌, ◌++◌, Option, Some, ap, ◌∙◌, sym, refl, subst, arith, append-nil}
-use Rattle.engine_model.specs.Engine.{Engine}
+use Rattle.session_model.specs.Engine.{Engine}
 use Rattle.geo_latency.specs.declared.tables.Tables.{Tables}
 use Rattle.r53_core.specs.Stores.{StandsFor, State as Store}
 use Rattle.r53_io.specs.Network.{Incoming}
 use Rattle.rand_core.specs.Stream.{Stream}
-use Rattle.reply_model.specs.declared.outcomes.Turns.{Turns}
+use Rattle.session_model.specs.TurnsRecord.{Turns}
 use Rattle.serve_turns.specs.Turning.{AreWithin, Counts, Standing, Stands, TurnLeaves, TurnsLeave}
 use Rattle.serve_turns.specs.Turning.{first, with_turns}
 use Rattle.serve_turns.specs.declared.serving.Served.{Served as Answer}

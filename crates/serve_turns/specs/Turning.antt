@@ -1,14 +1,14 @@
 -- What turns leave of a network that tells what is to come and what was sent, by their answer.
 use Rattle.std.specs.Prelude.{◌≡◌, ◌<◌, ◌≤◌, ◌+◌, ◌⊎◌, ℕ, List, [], ◌∷◌, ◌++◌, Bool, true, false, Option, Some}
 use Rattle.check_lines.specs.declared.observing.Observation.{Observation}
-use Rattle.engine_model.specs.Engine.{Engine}
+use Rattle.session_model.specs.Engine.{Engine}
 use Rattle.geo_latency.specs.declared.tables.Tables.{Tables}
 use Rattle.health_model.specs.Statuses.{Report}
 use Rattle.r53_core.specs.Stores.{StandsFor, State as Store}
 use Rattle.r53_io.specs.Network.{Dns, Incoming}
 use Rattle.r53_io.specs.declared.network.Peer.{Peer}
 use Rattle.rand_core.specs.Stream.{Stream}
-use Rattle.reply_model.specs.declared.outcomes.Turns.{Turns}
+use Rattle.session_model.specs.TurnsRecord.{Turns}
 use Rattle.serve_turns.specs.declared.serving.Served.{Served as Answer}
 use Rattle.serve_turns.specs.declared.serving.Served.TheVariants as answer
 use Rattle.serve_turns.specs.declared.turning.Turn.{Turn}

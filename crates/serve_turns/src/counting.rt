@@ -5,7 +5,7 @@ ghost use Rattle.serve_turns.specs.Turning.{AreWithin};
 ghost use Rattle.session_model.specs.Serving.{answered_too, none, quiet_too, reported_too};
 ghost use Rattle.session_model.specs.Serving.{silent_too, unknown_too};
 
-use reply_model::Turns;
+use session_model::Turns;
 
 /// No turn yet.
 pub(crate) fn no_turns() -> Turns

@@ -11,5 +11,6 @@ mod observing;
 mod serving;
 mod turning;
 
-pub use r53_core::{Reported, Steps, Store};
+pub use r53_core::{Reported, Steps, Store, standing_opens};
 pub use serving::{Served, serve};
+pub use session_model::Compacted;

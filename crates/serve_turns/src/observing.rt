@@ -1,7 +1,7 @@
 //! Reports of health checkers.
 
 ghost use Rattle.std.specs.Prelude.{◌≡◌, ◌<◌};
-ghost use Rattle.engine_model.specs.Engine.{Engine, ReportSteps};
+ghost use Rattle.session_model.specs.Engine.{Engine, ReportSteps};
 ghost use Rattle.r53_core.specs.Stores.{StandsFor};
 ghost use Rattle.serve_turns.specs.Turning.{GoesOn, IsTaken};
 

@@ -1,7 +1,7 @@
 //! Turns, one after another.
 
 ghost use Rattle.std.specs.Prelude.{◌≡◌, ◌≤◌, List, Some, length};
-ghost use Rattle.engine_model.specs.Engine.{Engine};
+ghost use Rattle.session_model.specs.Engine.{Engine};
 ghost use Rattle.octets.specs.Counts.{Rose};
 ghost use Rattle.r53_core.specs.Stores.{StandsFor};
 ghost use Rattle.r53_io.specs.Network.{Incoming};
@@ -15,7 +15,7 @@ use geo_latency::Tables;
 use r53_core::Store;
 use r53_io::Link;
 use rand_core::Rng;
-use reply_model::Turns;
+use session_model::Turns;
 
 /// What came of turns.
 #[derive(Clone, Copy, Debug, PartialEq, Eq)]

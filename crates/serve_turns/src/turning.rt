@@ -16,7 +16,7 @@ use octets::front;
 use r53_core::Store;
 use r53_io::{Arrival, Link, Peer, Sent};
 use rand_core::Rng;
-use reply_model::Turns;
+use session_model::Turns;
 
 /// What a turn came to.
 #[derive(Clone, Copy, Debug, PartialEq, Eq)]

@@ -1,10 +1,10 @@
 -- What the files of a server open to.
 use Rattle.std.proofs.Common.{◌≡◌, ℕ, List, Option, subst, sym}
-use Rattle.config_model.specs.Configs.{Config}
+use Rattle.session_server.specs.Configs.{Config}
 use Rattle.session_loop.specs.Ending.{FilesOpen}
 use Rattle.session_server.specs.Holding.{Holds}
 use Rattle.session_server.specs.Journaled.{State as Kept, config_of}
-use Rattle.store_model.specs.Laws.{StandingOpens}
+use Rattle.session_server.specs.LawsOfStoreModel.{StandingOpens}
 use Rattle.zone_journal.specs.Pairs.{Leaves}
 use Rattle.zone_journal.specs.Standing.{StandsOn}
 

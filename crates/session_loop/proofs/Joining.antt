@@ -8,10 +8,10 @@ use Rattle.session_loop.specs.Ending.{AllTold, Ends, First, IsAll, IsCut, IsBrok
 use Rattle.session_loop.specs.Turning.{GoesOn, beyond, input_of}
 use Rattle.session_loop.specs.declared.ended.Ended.{Ended}
 use Rattle.session_loop.specs.declared.ended.Ended.TheVariants as ended
-use Rattle.session_model.specs.Replies.{too_long_text}
-use Rattle.session_model.specs.Serving.{Datagram}
-use Rattle.session_model.specs.Sessions.{Comes, Session, begun, joined, told_alone}
-use Rattle.session_model.specs.Steps.{State, Step, Surroundings}
+use Rattle.session_server.specs.Replies.{too_long_text}
+use Rattle.session_server.specs.Serving.{Datagram}
+use Rattle.session_server.specs.Sessions.{Comes, Session, begun, joined, told_alone}
+use Rattle.session_server.specs.Steps.{State, Step, Surroundings}
 use Rattle.session_server.specs.Standing.{Server}
 use Rattle.session_server.specs.Taking.{PartOfOctets}
 use Rattle.whole_writing.specs.Output.{OutputOf}

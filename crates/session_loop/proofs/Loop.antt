@@ -4,9 +4,9 @@ use Rattle.line_splitting.specs.Reading.{Reader, events}
 use Rattle.r53_io.specs.Network.{Incoming}
 use Rattle.rand_core.specs.Stream.{Stream}
 use Rattle.session_loop.specs.Turning.{GoesOn}
-use Rattle.session_model.specs.Serving.{Datagram}
-use Rattle.session_model.specs.Sessions.{begun}
-use Rattle.session_model.specs.Steps.{State, Surroundings}
+use Rattle.session_server.specs.Serving.{Datagram}
+use Rattle.session_server.specs.Sessions.{begun}
+use Rattle.session_server.specs.Steps.{State, Surroundings}
 use Rattle.session_server.specs.Holding.{Holds}
 use Rattle.session_server.specs.Standing.{Server, StandsFor}
 use Rattle.zone_journal.specs.Pairs.{Leaves}

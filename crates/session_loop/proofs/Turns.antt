@@ -4,7 +4,7 @@ use Rattle.std.proofs.Math.Dec.{leb-zero}
 use Rattle.std.proofs.Math.Seq.{drop-nil}
 use Rattle.std.proofs.lemmas.List.{drop-drop, take-append-drop}
 use Rattle.std.specs.Prelude.{◌&&◌, ◌+◌, ◌-◌, ◌≤◌, ◌↔◌, IfSome, IsTrue, drop, if◌then◌else◌, nat_le, not, length, take}
-use Rattle.config_model.specs.Configs.{Config}
+use Rattle.session_server.specs.Configs.{Config}
 use Rattle.line_splitting.specs.Lines.{Event, Line, TooLong, ended_pieces}
 use Rattle.line_splitting.specs.Reading.{Gives, IsOver, Reader, ReadsOn, Took, TookNothing, begun as begun_with, events, is_cut, ready, whole}
 use Rattle.r53_io.specs.Network.{Incoming}
@@ -14,10 +14,10 @@ use Rattle.session_loop.specs.Ending.{AllTold, EventComes, FilesOpen, First, Has
 use Rattle.session_loop.specs.Turning.{GoesOn, TurnLeaves, beyond, ended_of, input_of}
 use Rattle.session_loop.specs.declared.ended.Ended.{Ended}
 use Rattle.session_loop.specs.declared.ended.Ended.TheVariants as ended
-use Rattle.session_model.specs.Replies.{memory_text, too_long_text}
-use Rattle.session_model.specs.Serving.{Datagram}
-use Rattle.session_model.specs.Sessions.{Comes, Session, begun, joined, told_alone}
-use Rattle.session_model.specs.Steps.{OctetsStep, State, Step, Surroundings}
+use Rattle.session_server.specs.Replies.{memory_text, too_long_text}
+use Rattle.session_server.specs.Serving.{Datagram}
+use Rattle.session_server.specs.Sessions.{Comes, Session, begun, joined, told_alone}
+use Rattle.session_server.specs.Steps.{OctetsStep, State, Step, Surroundings}
 use Rattle.session_server.specs.Leaving.{HasCause as LineCause, ImagesOpen, Written}
 use Rattle.session_server.specs.Standing.{Server, StandsFor}
 use Rattle.session_server.specs.Taken.{Taken}

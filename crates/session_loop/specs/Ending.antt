@@ -5,20 +5,20 @@
 -- session over them stands, they hold each command that was acknowledged, and besides at most the one
 -- in hand.
 use Rattle.std.specs.Prelude.{◌≡◌, ◌⊎◌, ℕ, List, [], ◌∷◌, ◌++◌, Bool, true, false, Option, Some, ⊤}
-use Rattle.config_model.specs.Configs.{Config}
+use Rattle.session_server.specs.Configs.{Config}
 use Rattle.line_splitting.specs.Lines.{Event, Line, TooLong}
 use Rattle.octets.specs.Counts.{Rose}
 use Rattle.r53_io.specs.Network.{Incoming}
 use Rattle.rand_core.specs.Stream.{Stream}
 use Rattle.session_loop.specs.declared.ended.Ended.{Ended}
 use Rattle.session_loop.specs.declared.ended.Ended.TheVariants as ended
-use Rattle.session_model.specs.Replies.{too_long_text}
-use Rattle.session_model.specs.Serving.{Datagram}
-use Rattle.session_model.specs.Sessions.{Comes, LineComes, Session, told_alone}
-use Rattle.session_model.specs.Steps.{OctetsStep, State, Step, Surroundings}
+use Rattle.session_server.specs.Replies.{too_long_text}
+use Rattle.session_server.specs.Serving.{Datagram}
+use Rattle.session_server.specs.Sessions.{Comes, LineComes, Session, told_alone}
+use Rattle.session_server.specs.Steps.{OctetsStep, State, Step, Surroundings}
 use Rattle.session_server.specs.Leaving.{ImagesOpen}
 use Rattle.session_server.specs.Taking.{PartOfOctets}
-use Rattle.store_model.specs.Opening.{OpensConfig}
+use Rattle.session_server.specs.Opening.{OpensConfig}
 use Rattle.whole_writing.specs.Output.{OutputOf}
 use Rattle.whole_writing.specs.declared.output.Output.TheVariants as output
 

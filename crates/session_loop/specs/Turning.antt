@@ -6,9 +6,9 @@ use Rattle.rand_core.specs.Stream.{Stream}
 use Rattle.session_loop.specs.Ending.{AllTold, Ends, First, Input}
 use Rattle.session_loop.specs.declared.ended.Ended.{Ended}
 use Rattle.session_loop.specs.declared.ended.Ended.TheVariants as ended
-use Rattle.session_model.specs.Serving.{Datagram}
-use Rattle.session_model.specs.Sessions.{Session}
-use Rattle.session_model.specs.Steps.{State, Surroundings}
+use Rattle.session_server.specs.Serving.{Datagram}
+use Rattle.session_server.specs.Sessions.{Session}
+use Rattle.session_server.specs.Steps.{State, Surroundings}
 use Rattle.session_server.specs.Standing.{Server, StandsFor}
 use Rattle.session_server.specs.Taken.{Taken}
 use Rattle.session_server.specs.Taken.TheVariants as taken

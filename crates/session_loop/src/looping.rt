@@ -3,8 +3,8 @@
 ghost use Rattle.std.specs.Prelude.{◌≡◌, ◌≤◌, ℕ, List, Some};
 ghost use Rattle.session_loop.specs.Ending.{Ends, HasCause};
 ghost use Rattle.session_loop.specs.Turning.{input_of};
-ghost use Rattle.session_model.specs.Serving.{Datagram};
-ghost use Rattle.session_model.specs.Steps.{State, Surroundings};
+ghost use Rattle.session_server.specs.Serving.{Datagram};
+ghost use Rattle.session_server.specs.Steps.{State, Surroundings};
 ghost use Rattle.session_server.specs.Holding.{Holds};
 ghost use Rattle.session_server.specs.Standing.{StandsFor};
 ghost use Rattle.zone_journal.specs.Pairs.{Leaves};

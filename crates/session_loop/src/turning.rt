@@ -4,8 +4,8 @@ ghost use Rattle.std.specs.Prelude.{◌≡◌, ◌≤◌, ◌<◌, ℕ, List, If
 ghost use Rattle.line_splitting.specs.Reading.{steps};
 ghost use Rattle.session_loop.specs.Ending.{HasCause};
 ghost use Rattle.session_loop.specs.Turning.{TurnLeaves, ended_of};
-ghost use Rattle.session_model.specs.Serving.{Datagram};
-ghost use Rattle.session_model.specs.Steps.{State, Surroundings};
+ghost use Rattle.session_server.specs.Serving.{Datagram};
+ghost use Rattle.session_server.specs.Steps.{State, Surroundings};
 ghost use Rattle.session_server.specs.Holding.{Holds};
 ghost use Rattle.session_server.specs.Standing.{StandsFor};
 ghost use Rattle.zone_journal.specs.Pairs.{Leaves};
@@ -16,9 +16,8 @@ use line_splitting::{LineReader, Next};
 use r53_disk::Disk;
 use r53_io::{Link, Sink, Source};
 use rand_core::Rng;
-use session_server::{Server, Taken};
+use session_server::{Server, Taken, standing_opens};
 use std::alloc::Global;
-use store_model::standing_opens;
 
 /// Takes the next line, or reads once; and tells how the lines ended, where they did.
 pub(crate) fn take_next<S: Source, D: Disk, L: Link, R: Rng, K: Sink>(

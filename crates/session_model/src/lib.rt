@@ -6,4 +6,6 @@
 
 mod laws;
 
+pub use engine_model::Compacted;
 pub use laws::{one_asked, one_session, one_step};
+pub use reply_model::Turns;

@@ -1,11 +1,11 @@
 -- What each kind of line leaves, from what its call leaves.
 use Rattle.std.proofs.Common.{◌≡◌, ◌⊎◌, ◌∙◌, inl, inr, ℕ, Bool, List, Option, Some, ap, refl, subst, sym}
 use Rattle.std.specs.Prelude.{⊤}
-use Rattle.batch_json.specs.declared.asking.Line.TheVariants as line
+use Rattle.line_bounds.specs.LineRecord.TheVariants as line
 use Rattle.check_lines.specs.declared.observing.Observation.{Observation}
-use Rattle.command_octets.specs.declared.commands.Command.{Command}
-use Rattle.config_model.specs.Configs.{Config, zone_with}
-use Rattle.engine_model.specs.Engine.{Engine, QueryGives}
+use Rattle.line_bounds.specs.CommandRecord.{Command}
+use Rattle.line_bounds.specs.Configs.{Config, zone_with}
+use Rattle.list_sending.specs.Engine.{Engine, QueryGives}
 use Rattle.geo_latency.specs.declared.tables.Tables.{Tables}
 use Rattle.line_server.specs.Leaving.{Replies, RepliesOr, StoreLeaves, taken_of}
 use Rattle.line_server.specs.Replying.{Answered, Commanded, Compacts, Observed, Told}
@@ -16,9 +16,9 @@ use Rattle.line_server.specs.declared.answers.Taken.TheVariants as taken
 use Rattle.query_lines.specs.declared.queries.QueryLine.{QueryLine}
 use Rattle.r53_io.specs.Network.{Incoming}
 use Rattle.rand_core.specs.Stream.{Stream}
-use Rattle.session_model.specs.Replies.{list_text_of}
-use Rattle.session_model.specs.Serving.{Datagram}
-use Rattle.session_model.specs.Steps.{LineSteps, State, Surroundings, replied}
+use Rattle.list_sending.specs.Replies.{list_text_of}
+use Rattle.list_sending.specs.Serving.{Datagram}
+use Rattle.list_sending.specs.Steps.{LineSteps, State, Surroundings, replied}
 use Rattle.session_server.proofs.Lines.{by_output, of_replies, of_store, stepped}
 use Rattle.session_server.specs.Taking.{LineLeaves}
 use Rattle.whole_writing.specs.Output.{OutputOf}

@@ -4,9 +4,9 @@ use Rattle.std.specs.Prelude.{IfOk}
 use Rattle.std.specs.Str.{is_utf8}
 use Rattle.std.proofs.lemmas.Option.{none-some}
 use Rattle.std.proofs.lemmas.Str.{IsUtf8-from_is_utf8, is_utf8-from_IsUtf8}
-use Rattle.batch_json.specs.Lines.{IsJson, line_of}
-use Rattle.batch_json.specs.declared.asking.Line.{Line}
-use Rattle.batch_json.specs.declared.asking.Line.TheVariants as line
+use Rattle.line_bounds.specs.Lines.{IsJson, line_of}
+use Rattle.line_bounds.specs.LineRecord.{Line}
+use Rattle.line_bounds.specs.LineRecord.TheVariants as line
 use Rattle.line_bounds.specs.Laws.{ReadCountsAreSome, ReadLinesAreBounded, ReadListsAreAsked}
 use Rattle.line_bounds.specs.Laws.{ReadsJson, ReadsOthers}
 use Rattle.line_faults.specs.declared.fault.LineFault.{LineFault}
@@ -16,7 +16,7 @@ use Rattle.line_faults.specs.declared.member.Member.TheVariants as m
 use Rattle.line_reading.specs.Reading.{Reads, bad}
 use Rattle.serde_json.specs.Data.{Data}
 use Rattle.serde_json.specs.Read.{read}
-use Rattle.session_model.specs.Asking.{Asks}
+use Rattle.list_sending.specs.Asking.{Asks}
 use Rattle.session_server.specs.Laws.{ReadLinesAsk}
 use Rattle.session_server.specs.Taking.{IsWithin}
 

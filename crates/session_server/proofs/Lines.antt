@@ -1,9 +1,9 @@
 -- What each kind of line leaves, as what a line leaves in a session.
 use Rattle.std.proofs.Common.{◌≡◌, ◌≢◌, ◌⊎◌, ◌∙◌, inl, inr, ℕ, List, [], ◌++◌, Option, Some, Result, Ok, Err, ap, append-nil, arith, refl, subst, sym}
 use Rattle.std.specs.Prelude.{⊤}
-use Rattle.batch_json.specs.declared.asking.Line.{Line}
-use Rattle.config_model.specs.Configs.{Config}
-use Rattle.engine_model.specs.Engine.{Engine}
+use Rattle.line_bounds.specs.LineRecord.{Line}
+use Rattle.line_bounds.specs.Configs.{Config}
+use Rattle.list_sending.specs.Engine.{Engine}
 use Rattle.line_faults.specs.declared.fault.LineFault.{LineFault}
 use Rattle.line_faults.specs.declared.fault.LineFault.TheVariants.{BadLine, OutOfMemory, Unsupported}
 use Rattle.line_server.specs.Leaving.{CameTo, HasCause, Replies, RepliesOr, StepLeaves, StoreLeaves, Written, taken_of}
@@ -13,13 +13,13 @@ use Rattle.line_server.specs.declared.answers.Taken.{Taken}
 use Rattle.line_server.specs.declared.answers.Taken.TheVariants as taken
 use Rattle.r53_io.specs.Network.{Incoming}
 use Rattle.rand_core.specs.Stream.{Stream}
-use Rattle.reply_model.specs.Outcomes.{reply_of, text_of}
-use Rattle.reply_model.specs.declared.outcomes.Outcome.TheVariants as outcome
-use Rattle.session_model.specs.Asking.{Asks}
-use Rattle.session_model.specs.Replies.{memory_text}
-use Rattle.session_model.specs.Serving.{Datagram}
-use Rattle.session_model.specs.Sessions.{told_alone}
-use Rattle.session_model.specs.Steps.{LineSteps, OctetsStep, State, Step, Surroundings, replied}
+use Rattle.line_bounds.specs.Outcomes.{reply_of, text_of}
+use Rattle.line_bounds.specs.OutcomeRecord.TheVariants as outcome
+use Rattle.list_sending.specs.Asking.{Asks}
+use Rattle.list_sending.specs.Replies.{memory_text}
+use Rattle.list_sending.specs.Serving.{Datagram}
+use Rattle.list_sending.specs.Sessions.{told_alone}
+use Rattle.list_sending.specs.Steps.{LineSteps, OctetsStep, State, Step, Surroundings, replied}
 use Rattle.session_server.specs.Taking.{LineLeaves, OrMemory, PartOf, PartOfOctets}
 use Rattle.whole_writing.specs.Output.{OutputOf}
 use Rattle.whole_writing.specs.declared.output.Output.{Output}

@@ -1,10 +1,10 @@
 -- Reading a line, and what it asks for.
 use Rattle.std.specs.Prelude.{◌≢◌, ℕ, List, Result, Err}
-use Rattle.batch_json.specs.declared.asking.Line.{Line}
+use Rattle.line_bounds.specs.LineRecord.{Line}
 use Rattle.line_bounds.specs.Laws.{ReadsJson, ReadsOthers}
 use Rattle.line_faults.specs.declared.fault.LineFault.{LineFault}
 use Rattle.line_faults.specs.declared.fault.LineFault.TheVariants.{OutOfMemory}
-use Rattle.session_model.specs.Asking.{Asks}
+use Rattle.list_sending.specs.Asking.{Asks}
 
 -- What `read_line` promises of octets is what they ask for, or their first fault, but for want of
 -- memory.

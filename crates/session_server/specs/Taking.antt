@@ -1,21 +1,21 @@
 -- What a line leaves in a session, by the answer of the call that takes it.
 use Rattle.std.specs.Prelude.{◌≡◌, ◌≤◌, ◌⊎◌, ℕ, List, Option, Some, Ok, ⊤}
-use Rattle.batch_json.specs.declared.asking.Line.{Line}
-use Rattle.batch_json.specs.declared.asking.Line.TheVariants as line
-use Rattle.command_bounds.specs.Laws.{HasShortLists}
-use Rattle.config_model.specs.Configs.{Config}
-use Rattle.config_model.specs.Laws.{IsBounded}
+use Rattle.line_bounds.specs.LineRecord.{Line}
+use Rattle.line_bounds.specs.LineRecord.TheVariants as line
+use Rattle.line_bounds.specs.LawsOfCommandBounds.{HasShortLists}
+use Rattle.line_bounds.specs.Configs.{Config}
+use Rattle.line_bounds.specs.LawsOfConfigModel.{IsBounded}
 use Rattle.line_bounds.specs.Laws.{start_of}
 use Rattle.line_server.specs.Leaving.{CameTo, TurnsInPart}
 use Rattle.line_server.specs.declared.answers.Taken.{Taken}
 use Rattle.line_server.specs.declared.answers.Taken.TheVariants as taken
-use Rattle.page_laws.specs.Laws.{IsAsked}
+use Rattle.line_bounds.specs.LawsOfPageLaws.{IsAsked}
 use Rattle.r53_io.specs.Network.{Incoming}
-use Rattle.session_model.specs.Asking.{Asks}
-use Rattle.session_model.specs.Replies.{memory_text}
-use Rattle.session_model.specs.Serving.{Datagram}
-use Rattle.session_model.specs.Sessions.{told_alone}
-use Rattle.session_model.specs.Steps.{State, Step, Surroundings}
+use Rattle.list_sending.specs.Asking.{Asks}
+use Rattle.list_sending.specs.Replies.{memory_text}
+use Rattle.list_sending.specs.Serving.{Datagram}
+use Rattle.list_sending.specs.Sessions.{told_alone}
+use Rattle.list_sending.specs.Steps.{State, Step, Surroundings}
 use Rattle.whole_writing.specs.declared.output.Output.TheVariants as output
 
 -- What a line that was read asks for is within the bounds of lines.

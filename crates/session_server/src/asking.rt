@@ -2,12 +2,13 @@
 
 ghost use Rattle.std.specs.Prelude.{◌≢◌, Err, IfOk};
 ghost use Rattle.line_faults.specs.declared.fault.LineFault.TheVariants.{OutOfMemory};
-ghost use Rattle.session_model.specs.Asking.{Asks};
+ghost use Rattle.list_sending.specs.Asking.{Asks};
 ghost use Rattle.session_server.specs.Taking.{IsWithin};
 
 use crate::laws::read_lines_ask;
-use batch_json::{Line, read_line};
-use line_bounds::{read_counts_are_some, read_lines_are_bounded, read_lists_are_asked};
+use line_bounds::{
+    Line, read_counts_are_some, read_line, read_lines_are_bounded, read_lists_are_asked,
+};
 use line_faults::LineFault;
 use std::alloc::Global;
 

@@ -11,5 +11,5 @@ mod laws;
 mod server;
 
 pub use laws::read_lines_ask;
-pub use line_server::{Store, Taken};
+pub use line_server::{Store, Taken, standing_opens};
 pub use server::Server;

@@ -1,42 +1,40 @@
 //! The server, and the calls for a line.
 
 ghost use Rattle.std.specs.Prelude.{◌≡◌, ◌≤◌, ℕ, List, IfOk, Option, Some, false, ⊤};
-ghost use Rattle.batch_json.specs.declared.asking.Line.TheVariants as line;
-ghost use Rattle.command_bounds.specs.Laws.{HasShortLists};
-ghost use Rattle.config_model.specs.Laws.{IsBounded};
+ghost use Rattle.line_bounds.specs.LineRecord.TheVariants as line;
+ghost use Rattle.line_bounds.specs.LawsOfCommandBounds.{HasShortLists};
+ghost use Rattle.line_bounds.specs.LawsOfConfigModel.{IsBounded};
 ghost use Rattle.line_bounds.specs.Laws.{start_of};
 ghost use Rattle.line_server.specs.Holding.{Holds};
 ghost use Rattle.line_server.specs.Leaving.{HasCause, ImagesOpen, UnlessTorn, Written};
 ghost use Rattle.line_server.specs.Standing.{StandsFor};
 ghost use Rattle.line_server.specs.declared.answers.Taken.TheVariants as Taken;
-ghost use Rattle.page_laws.specs.Laws.{IsAsked};
+ghost use Rattle.line_bounds.specs.LawsOfPageLaws.{IsAsked};
 ghost use Rattle.r53_io.specs.Network.{Incoming};
 ghost use Rattle.rand_core.specs.Stream.{Stream};
-ghost use Rattle.reply_model.specs.Outcomes.{text_of};
-ghost use Rattle.reply_model.specs.declared.outcomes.Outcome.TheVariants as outcome;
-ghost use Rattle.session_model.specs.Replies.{too_long_text};
-ghost use Rattle.session_model.specs.Serving.{Datagram};
-ghost use Rattle.session_model.specs.Steps.{LineSteps, OctetsStep, State, Surroundings};
+ghost use Rattle.line_bounds.specs.Outcomes.{text_of};
+ghost use Rattle.line_bounds.specs.OutcomeRecord.TheVariants as outcome;
+ghost use Rattle.list_sending.specs.Replies.{too_long_text};
+ghost use Rattle.list_sending.specs.Serving.{Datagram};
+ghost use Rattle.list_sending.specs.Steps.{LineSteps, OctetsStep, State, Surroundings};
 ghost use Rattle.session_server.specs.Taking.{IsWithin, LineLeaves, PartOf, PartOfOctets};
 ghost use Rattle.zone_journal.specs.Pairs.{Leaves};
 ghost use Rattle.zone_journal.specs.Standing.{StandsOn};
 
 use crate::asking::ask;
 use crate::buffers::Buffers;
-use batch_json::{Command, Line, ListOfSets, Ports, QueryLine};
 use check_lines::Observation;
 use geo_latency::Tables;
+use line_bounds::{Command, Line, ListOfSets, Outcome, Ports, QueryLine};
 use line_faults::LineFault;
 use line_server::{
     Store, Taken, bind_ports, compact, control, observe, query, sent, status, take_turns,
 };
-use list_sending::send_list;
+use list_sending::{send_list, send_outcome};
 use octets::OutOfMemory;
 use r53_disk::Disk;
 use r53_io::{Link, Sink};
 use rand_core::Rng;
-use reply_model::Outcome;
-use reply_sending::send_outcome;
 use std::alloc::Global;
 use std::marker::Model;
 

@@ -1,5 +1,5 @@
 -- Each field is read as it is written.
-use Rattle.routing.specs.Texts.{is_printable, is_region_byte, is_subdivision_byte}
+use Rattle.set_octets.specs.Texts.{is_printable, is_region_byte, is_subdivision_byte}
 use Rattle.set_fields.specs.Laws.{FieldsAreRead}
 use Rattle.set_fields.proofs.Numbered.{type_read, continent_read, role_read, ttl_read}
 use Rattle.set_fields.proofs.Textual.{texts_read, country_read, location_read}

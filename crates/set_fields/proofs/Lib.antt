@@ -1,3 +1,14 @@
 pub mod Fields
 pub mod Numbered
 pub mod Textual
+pub use Rattle.octet_reading.proofs.Base
+pub use Rattle.octet_reading.proofs.Composed
+pub use Rattle.octet_reading.proofs.Digits
+pub use Rattle.octet_reading.proofs.Found
+pub use Rattle.octet_reading.proofs.Layouts
+pub use Rattle.octet_reading.proofs.OfKind
+pub use Rattle.octet_reading.proofs.Optional
+pub use Rattle.octet_reading.proofs.Rules
+pub use Rattle.octet_reading.proofs.Within
+pub use Rattle.set_octets.proofs.Counted
+pub use Rattle.octet_reading.proofs.Whole

@@ -8,13 +8,13 @@ use Rattle.octet_reading.proofs.Base.{octet_read, two_read, four_read}
 use Rattle.octet_reading.proofs.Composed.{tested_read}
 use Rattle.octet_reading.proofs.Optional.{meaning_read, numbered_is}
 use Rattle.octet_reading.proofs.Rules.{alike}
-use Rattle.rdata_layout.specs.declared.types.RType.{RType}
-use Rattle.rdata_layout.specs.declared.types.RType.TheVariants as rtype
-use Rattle.rdata_layout.specs.Types.{number_of}
-use Rattle.routing.specs.declared.policies.Continent.{Continent}
-use Rattle.routing.specs.declared.policies.Continent.TheVariants as continent
-use Rattle.routing.specs.declared.policies.Role.{Role}
-use Rattle.routing.specs.declared.policies.Role.TheVariants as role
+use Rattle.octet_reading.specs.RTypeRecord.{RType}
+use Rattle.octet_reading.specs.RTypeRecord.TheVariants as rtype
+use Rattle.octet_reading.specs.Types.{number_of}
+use Rattle.set_octets.specs.ContinentRecord.{Continent}
+use Rattle.set_octets.specs.ContinentRecord.TheVariants as continent
+use Rattle.set_octets.specs.RoleRecord.{Role}
+use Rattle.set_octets.specs.RoleRecord.TheVariants as role
 use Rattle.set_octets.specs.Octets.{continent_number, role_number}
 use Rattle.set_fields.specs.Numbers.{types, type_of, type_at, continents, continent_of, continent_at, roles, role_of, role_at, ttl_at}
 

@@ -10,11 +10,11 @@ use Rattle.octet_reading.specs.Rules.{IsReadAs}
 use Rattle.octet_reading.proofs.Base.{read_as}
 use Rattle.octet_reading.proofs.Digits.{ok_is}
 use Rattle.octet_reading.proofs.Found.{IsBytes}
-use Rattle.dns_name.specs.Names.{AreOctets}
+use Rattle.octet_reading.specs.NamesOfDnsName.{AreOctets}
 use Rattle.octet_reading.proofs.Plain.{text_read}
 use Rattle.octet_reading.proofs.Rules.{alike}
 use Rattle.octet_reading.proofs.Within.{Within, ok_within, err_within, cond_within, drop_within}
-use Rattle.routing.specs.Texts.{IsText, IsIdent, IsLocation, is_printable, is_location_byte}
+use Rattle.set_octets.specs.Texts.{IsText, IsIdent, IsLocation, is_printable, is_location_byte}
 use Rattle.set_octets.specs.Octets.{text_octets, is_capital, AreCapitals}
 use Rattle.set_fields.specs.Laws.{IsCountry}
 use Rattle.set_fields.specs.Texts.{begins_with_star, location_at, country_at}

@@ -2,8 +2,8 @@
 use Rattle.std.specs.Prelude.{◌≡◌, ℕ, ◌<◌, ◌^◌, List, [], ◌∷◌, length, ⊤}
 use Rattle.octets.specs.Numbers.{two_octets, four_octets}
 use Rattle.octet_reading.specs.Rules.{IsReadAs}
-use Rattle.rdata_layout.specs.Types.{number_of}
-use Rattle.routing.specs.Texts.{IsIdent, IsRegion, IsSubdivision, IsLocation}
+use Rattle.octet_reading.specs.Types.{number_of}
+use Rattle.set_octets.specs.Texts.{IsIdent, IsRegion, IsSubdivision, IsLocation}
 use Rattle.set_octets.specs.Octets.{text_octets, continent_number, role_number, AreCapitals}
 use Rattle.set_fields.specs.Numbers.{type_at, continent_at, role_at, ttl_at}
 use Rattle.set_fields.specs.Texts.{country_at, ident_at, region_at, sub_at, location_at}

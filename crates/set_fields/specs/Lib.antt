@@ -1,3 +1,37 @@
 pub mod Laws
 pub mod Numbers
 pub mod Texts
+pub use Rattle.set_octets.specs.Octets
+pub use Rattle.set_octets.specs.Values
+pub use Rattle.set_octets.specs.BodyRecord
+pub use Rattle.set_octets.specs.RecordSetRecord
+pub use Rattle.set_octets.specs.Datum
+pub use Rattle.set_octets.specs.Gives
+pub use Rattle.set_octets.specs.WireFaultRecord
+pub use Rattle.octet_reading.specs.Layouts
+pub use Rattle.octet_reading.specs.Names
+pub use Rattle.octet_reading.specs.Readers
+pub use Rattle.octet_reading.specs.Reading
+pub use Rattle.octet_reading.specs.Rules
+pub use Rattle.octet_reading.specs.declared.stop.Stop as StopRecord
+pub use Rattle.octet_reading.specs.Layout
+pub use Rattle.octet_reading.specs.RTypeRecord
+pub use Rattle.octet_reading.specs.NamesOfDnsName
+pub use Rattle.set_octets.specs.Texts as TextsOfRouting
+pub use Rattle.set_octets.specs.ContinentRecord
+pub use Rattle.set_octets.specs.PlaceRecord
+pub use Rattle.set_octets.specs.RoleRecord
+pub use Rattle.set_octets.specs.RoutingRecord
+pub use Rattle.set_octets.specs.Sets
+pub use Rattle.octet_reading.specs.Types
+pub use Rattle.octet_reading.specs.Labels
+pub use Rattle.octet_reading.specs.Stored
+pub use Rattle.octet_reading.specs.Wire
+pub use Rattle.set_octets.specs.Reasons
+pub use Rattle.set_octets.specs.SetKeyRecord
+pub use Rattle.octet_reading.specs.LawsOfDnsName
+pub use Rattle.octet_reading.specs.Order
+pub use Rattle.octet_reading.specs.OrderLaws
+pub use Rattle.octet_reading.specs.Wildcard
+pub use Rattle.set_octets.specs.ReasonRecord
+pub use Rattle.set_octets.specs.Written

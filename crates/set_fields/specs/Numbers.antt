@@ -2,13 +2,13 @@
 use Rattle.std.specs.Prelude.{ℕ, ◌^◌, List, [], ◌∷◌, nat_lt, Option, Result}
 use Rattle.octet_reading.specs.Readers.{meaning, numbered, tested}
 use Rattle.octet_reading.specs.Reading.{octet_at, two_at, four_at}
-use Rattle.rdata_layout.specs.declared.types.RType.{RType}
-use Rattle.rdata_layout.specs.declared.types.RType.TheVariants as rtype
-use Rattle.rdata_layout.specs.Types.{number_of}
-use Rattle.routing.specs.declared.policies.Continent.{Continent}
-use Rattle.routing.specs.declared.policies.Continent.TheVariants as continent
-use Rattle.routing.specs.declared.policies.Role.{Role}
-use Rattle.routing.specs.declared.policies.Role.TheVariants as role
+use Rattle.octet_reading.specs.RTypeRecord.{RType}
+use Rattle.octet_reading.specs.RTypeRecord.TheVariants as rtype
+use Rattle.octet_reading.specs.Types.{number_of}
+use Rattle.set_octets.specs.ContinentRecord.{Continent}
+use Rattle.set_octets.specs.ContinentRecord.TheVariants as continent
+use Rattle.set_octets.specs.RoleRecord.{Role}
+use Rattle.set_octets.specs.RoleRecord.TheVariants as role
 use Rattle.set_octets.specs.Octets.{continent_number, role_number}
 
 -- the types, the continents and the roles that have numbers

@@ -1,7 +1,7 @@
 -- The fields of sets that are letters and texts (FORMATS, Octets of sets).
 use Rattle.std.specs.Prelude.{ℕ, ◌+◌, List, [], ◌∷◌, length, drop, Bool, false, ◌==◌, ◌&&◌, Result, Ok, Err, if◌then◌else◌}
 use Rattle.octet_reading.specs.Readers.{text_at}
-use Rattle.routing.specs.Texts.{is_printable, is_region_byte, is_subdivision_byte, is_location_byte}
+use Rattle.set_octets.specs.Texts.{is_printable, is_region_byte, is_subdivision_byte, is_location_byte}
 use Rattle.set_octets.specs.Octets.{is_capital}
 
 -- two of A to Z are one field

@@ -1,13 +1,13 @@
 //! The bytes that the texts of sets are made of.
 
 use octet_reading::Alphabet;
-use record_set::{is_location_byte, is_printable, is_region_byte, is_subdivision_byte};
+use set_octets::{is_location_byte, is_printable, is_region_byte, is_subdivision_byte};
 
 /// Printable ASCII with the space.
 pub(crate) struct Printable;
 
 impl Alphabet for Printable {
-    ghost use Rattle.routing.specs.Texts.{is_printable};
+    ghost use Rattle.set_octets.specs.Texts.{is_printable};
 
     ghost is_plain = { λ b. is_printable b };
 
@@ -20,7 +20,7 @@ impl Alphabet for Printable {
 pub(crate) struct OfRegions;
 
 impl Alphabet for OfRegions {
-    ghost use Rattle.routing.specs.Texts.{is_region_byte};
+    ghost use Rattle.set_octets.specs.Texts.{is_region_byte};
 
     ghost is_plain = { λ b. is_region_byte b };
 
@@ -33,7 +33,7 @@ impl Alphabet for OfRegions {
 pub(crate) struct OfSubdivisions;
 
 impl Alphabet for OfSubdivisions {
-    ghost use Rattle.routing.specs.Texts.{is_subdivision_byte};
+    ghost use Rattle.set_octets.specs.Texts.{is_subdivision_byte};
 
     ghost is_plain = { λ b. is_subdivision_byte b };
 
@@ -46,7 +46,7 @@ impl Alphabet for OfSubdivisions {
 pub(crate) struct OfLocations;
 
 impl Alphabet for OfLocations {
-    ghost use Rattle.routing.specs.Texts.{is_location_byte};
+    ghost use Rattle.set_octets.specs.Texts.{is_location_byte};
 
     ghost is_plain = { λ b. is_location_byte b };
 

@@ -5,9 +5,8 @@ ghost use Rattle.octet_reading.specs.Reading.{Gives};
 ghost use Rattle.set_fields.specs.Numbers.{type_of, type_at, continent_of, continent_at, role_of};
 ghost use Rattle.set_fields.specs.Numbers.{role_at, ttl_at};
 
-use octet_reading::{Fault, four_at, octet_at, two_at};
-use rdata_layout::RType;
-use record_set::{Continent, Role};
+use octet_reading::{Fault, RType, four_at, octet_at, two_at};
+use set_octets::{Continent, Role};
 
 /// A type, by its number, and what stands behind it.
 #[tactic(auto, unfolding(crate::specs::Numbers::type_at))]

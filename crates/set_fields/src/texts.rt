@@ -9,7 +9,7 @@ ghost use Rattle.set_fields.specs.Texts.{location_at, country_at};
 use crate::alphabets::{OfLocations, OfRegions, OfSubdivisions, Printable};
 use octet_reading::{Fault, parts, text_at};
 use octets::behind;
-use record_set::{Ident, Region, Sub};
+use set_octets::{Ident, Region, Sub};
 
 /// The two capital letters of a country, and what stands behind them.
 #[tactic(auto, unfolding(crate::specs::Texts::country_at))]

@@ -7,12 +7,12 @@ use Rattle.std.specs.Prelude.{if◌then◌else◌}
 use Rattle.std.proofs.lemmas.Bool.{lt-ltb}
 use Rattle.rdata_layout.specs.declared.types.RType.{RType}
 use Rattle.rdata_layout.specs.Layout.{fields_of, tail_of}
-use Rattle.rdata.specs.ValueOfText.{value_of_text, fields_give, fields_from}
-use Rattle.rdata.specs.declared.faults.ValueFault.TheVariants.{TooLong}
+use Rattle.batch_model.specs.ValueOfText.{value_of_text, fields_give, fields_from}
+use Rattle.batch_model.specs.ValueFaultRecord.TheVariants.{TooLong}
 use Rattle.line_reading.specs.Reading.{bad}
 use Rattle.line_faults.specs.declared.member.Member.{Member}
 use Rattle.line_faults.specs.declared.fault.LineReason.TheVariants.{BadValue}
-use Rattle.rdata.specs.Datum.{Datum}
+use Rattle.batch_model.specs.Datum.{Datum}
 use Rattle.set_lines.specs.Values.{value_of, or_bad_value, together}
 use Rattle.set_lines.specs.declared.values.Counted.{Counted}
 use Rattle.set_lines.specs.declared.values.Valued.{Valued}

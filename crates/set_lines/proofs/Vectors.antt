@@ -2,7 +2,7 @@
 use Rattle.std.proofs.Common.{◌≡◌, true, [], ◌∷◌, Some, None, Ok, refl}
 use Rattle.std.specs.Prelude.{codes}
 use Rattle.batch_model.specs.declared.batches.Action.TheVariants.{Upsert}
-use Rattle.record_set.specs.declared.sets.Body.TheVariants.{Alias}
+use Rattle.batch_model.specs.BodyRecord.TheVariants.{Alias}
 use Rattle.line_reading.specs.Reading.{bad}
 use Rattle.line_faults.specs.declared.member.Member.TheVariants as m
 use Rattle.line_faults.specs.declared.fault.LineReason.TheVariants.{Both, Missing}

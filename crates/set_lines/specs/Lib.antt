@@ -1,5 +1,5 @@
 pub mod ChangeLines
 pub mod Sets
 pub mod Values
-pub use Rattle.rdata.specs.Gives
-pub use Rattle.rdata.specs.ValueOfText
+pub use Rattle.batch_model.specs.Gives
+pub use Rattle.batch_model.specs.ValueOfText

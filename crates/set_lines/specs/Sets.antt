@@ -1,11 +1,11 @@
 -- The object ResourceRecordSet, of a batch whose zone has this text (API Reference).
 use Rattle.std.specs.Prelude.{ℕ, List, [], ◌∷◌, Option, None, Some, Result, Ok}
 use Rattle.rdata_layout.specs.declared.types.RType.{RType}
-use Rattle.record_set.specs.declared.sets.Body.TheVariants as body
+use Rattle.batch_model.specs.BodyRecord.TheVariants as body
 use Rattle.serde_json.specs.Data.{Data}
 use Rattle.line_reading.specs.Reading.{◌>>=◌, object, required, optional, bad}
 use Rattle.line_reading.specs.Kinds.{name, number, check_id}
-use Rattle.line_words.specs.Words.{record_type}
+use Rattle.policy_lines.specs.Words.{record_type}
 use Rattle.policy_lines.specs.Policies.{policy_members, routing_of}
 use Rattle.line_faults.specs.declared.member.Member.{Member}
 use Rattle.line_faults.specs.declared.member.Member.TheVariants as m

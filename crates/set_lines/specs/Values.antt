@@ -3,8 +3,8 @@ use Rattle.std.specs.Prelude.{ℕ, List, [], ◌∷◌, length, map, if◌then�
 use Rattle.std.specs.List.{sum_by}
 use Rattle.std.specs.Str.{bytes_eq}
 use Rattle.rdata_layout.specs.declared.types.RType.{RType}
-use Rattle.rdata.specs.ValueOfText.{value_of_text}
-use Rattle.rdata.specs.declared.faults.ValueFault.{ValueFault}
+use Rattle.batch_model.specs.ValueOfText.{value_of_text}
+use Rattle.batch_model.specs.ValueFaultRecord.{ValueFault}
 use Rattle.serde_json.specs.Data.{Data, Items}
 use Rattle.line_reading.specs.Reading.{◌>>=◌, object, required, bad, unsupported, each}
 use Rattle.line_reading.specs.Kinds.{text, list, name, flag, without_prefix}

@@ -7,14 +7,12 @@ ghost use Rattle.set_lines.specs.Sets.{content_members, body_with, resource_reco
 
 use crate::aliases::{Alias, alias_target};
 use crate::values::{Valued, records};
+use batch_model::{Body, RType, RecordSet};
 use line_reading::{
     LineFault, LineReason, Member, check_id, name, object, optional, optional_owned, optional_u32,
     required,
 };
-use line_words::record_type;
-use policy_lines::{policy_members, routing_of};
-use rdata::RType;
-use record_set::{Body, RecordSet};
+use policy_lines::{policy_members, record_type, routing_of};
 use serde_json::Value;
 use std::alloc::Global;
 

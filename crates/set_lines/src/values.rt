@@ -2,15 +2,14 @@
 
 ghost use Rattle.std.specs.Prelude.{◌≡◌, ◌≤◌, length, IfOk};
 ghost use Rattle.serde_json.specs.View.{view, items_view};
-ghost use Rattle.rdata.specs.Gives.{IsValueOfText};
+ghost use Rattle.batch_model.specs.Gives.{IsValueOfText};
 ghost use Rattle.line_reading.specs.Reading.{Reads};
 ghost use Rattle.set_lines.specs.Values.{value_of, value, record_value, together, values_in};
 ghost use Rattle.set_lines.specs.Values.{records};
 
+use batch_model::{RData, RType, ValueFault, Values, texts_read_as_values};
 use line_reading::{LineFault, LineReason, Member, each, list, object, required};
 use octets::OutOfMemory;
-use rdata::{RData, RType, ValueFault, texts_read_as_values};
-use record_set::Values;
 use serde_json::Value;
 use std::alloc::Global;
 

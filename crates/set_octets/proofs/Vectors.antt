@@ -1,10 +1,10 @@
 -- Policies by hand, each part of them, and what has no spelling.
 use Rattle.std.proofs.Common.{◌≡◌, ℕ, List, [], ◌∷◌, refl, map, None}
-use Rattle.rdata_layout.specs.declared.types.RType.TheVariants as rtype
-use Rattle.routing.specs.declared.policies.Continent.TheVariants as continent
-use Rattle.routing.specs.declared.policies.Place.TheVariants as place
-use Rattle.routing.specs.declared.policies.Role.TheVariants as role
-use Rattle.routing.specs.declared.policies.Routing.TheVariants as routing
+use Rattle.record_set.specs.RTypeRecord.TheVariants as rtype
+use Rattle.record_set.specs.ContinentRecord.TheVariants as continent
+use Rattle.record_set.specs.PlaceRecord.TheVariants as place
+use Rattle.record_set.specs.RoleRecord.TheVariants as role
+use Rattle.record_set.specs.RoutingRecord.TheVariants as routing
 use Rattle.record_set.specs.declared.sets.RecordSet.{RecordSet}
 use Rattle.record_set.specs.declared.sets.Body.TheVariants as body
 use Rattle.set_octets.specs.Octets.{place_octets, routing_octets, HasSpelling}

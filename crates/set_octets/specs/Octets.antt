@@ -2,19 +2,19 @@
 use Rattle.std.specs.Prelude.{◌≡◌, ℕ, ◌^◌, ◌<◌, ◌≤◌, List, [], ◌∷◌, ◌++◌, length, Bool, true, false, nat_le, ◌&&◌, Option, None, Some, ⊤}
 use Rattle.std.specs.List.{flat_map, AllByRecursion}
 use Rattle.octets.specs.Numbers.{two_octets, four_octets}
-use Rattle.dns_name.specs.Labels.{wire}
-use Rattle.rdata.specs.Datum.{Datum}
-use Rattle.rdata_layout.specs.Types.{number_of}
-use Rattle.rdata_layout.specs.declared.types.RType.{RType}
-use Rattle.routing.specs.Texts.{IsLocation}
-use Rattle.routing.specs.declared.policies.Continent.{Continent}
-use Rattle.routing.specs.declared.policies.Continent.TheVariants as continent
-use Rattle.routing.specs.declared.policies.Place.{Place}
-use Rattle.routing.specs.declared.policies.Place.TheVariants as place
-use Rattle.routing.specs.declared.policies.Role.{Role}
-use Rattle.routing.specs.declared.policies.Role.TheVariants as role
-use Rattle.routing.specs.declared.policies.Routing.{Routing}
-use Rattle.routing.specs.declared.policies.Routing.TheVariants as routing
+use Rattle.record_set.specs.Labels.{wire}
+use Rattle.record_set.specs.Datum.{Datum}
+use Rattle.record_set.specs.Types.{number_of}
+use Rattle.record_set.specs.RTypeRecord.{RType}
+use Rattle.record_set.specs.Texts.{IsLocation}
+use Rattle.record_set.specs.ContinentRecord.{Continent}
+use Rattle.record_set.specs.ContinentRecord.TheVariants as continent
+use Rattle.record_set.specs.PlaceRecord.{Place}
+use Rattle.record_set.specs.PlaceRecord.TheVariants as place
+use Rattle.record_set.specs.RoleRecord.{Role}
+use Rattle.record_set.specs.RoleRecord.TheVariants as role
+use Rattle.record_set.specs.RoutingRecord.{Routing}
+use Rattle.record_set.specs.RoutingRecord.TheVariants as routing
 use Rattle.record_set.specs.declared.sets.RecordSet.{RecordSet}
 use Rattle.record_set.specs.declared.sets.Body.{Body}
 use Rattle.record_set.specs.declared.sets.Body.TheVariants as body

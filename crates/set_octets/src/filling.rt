@@ -3,16 +3,14 @@
 ghost use Rattle.std.specs.Prelude.{◌≡◌, ◌+◌, ◌<◌, ◌≤◌, ◌^◌, ◌∷◌, [], ◌++◌, length, take, drop};
 ghost use Rattle.std.specs.List.{flat_map};
 ghost use Rattle.octets.specs.Numbers.{two_octets, four_octets};
-ghost use Rattle.dns_name.specs.Labels.{wire};
+ghost use Rattle.record_set.specs.Labels.{wire};
 ghost use Rattle.set_octets.specs.Octets.{text_octets, continent_number, place_octets, role_number};
 ghost use Rattle.set_octets.specs.Octets.{routing_octets, value_octets, head_octets, body_octets};
 ghost use Rattle.set_octets.specs.Octets.{check_octets, set_octets, most_octets};
 
 use crate::lengths::set_len;
-use dns_name::Name;
 use octets::{four_octets, put_at, two_octets};
-use rdata::RData;
-use record_set::{Body, Continent, Place, RecordSet, Role, Routing};
+use record_set::{Body, Continent, Name, Place, RData, RecordSet, Role, Routing};
 
 /// Fills a set's octets into a place, and says where they end. All else stays.
 pub fn fill_set(set: &RecordSet, into: &mut [u8], at: usize) -> usize

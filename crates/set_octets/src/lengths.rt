@@ -2,13 +2,11 @@
 
 ghost use Rattle.std.specs.Prelude.{◌≡◌, ◌<◌, ◌≤◌, length, IsTrue, ◌↔◌};
 ghost use Rattle.std.specs.List.{flat_map};
-ghost use Rattle.dns_name.specs.Labels.{wire};
+ghost use Rattle.record_set.specs.Labels.{wire};
 ghost use Rattle.set_octets.specs.Octets.{place_octets, routing_octets, value_octets, head_octets};
 ghost use Rattle.set_octets.specs.Octets.{body_octets, check_octets, set_octets, most_octets};
 
-use dns_name::Name;
-use rdata::RData;
-use record_set::{Body, Place, RecordSet, Routing};
+use record_set::{Body, Name, Place, RData, RecordSet, Routing};
 
 /// The most octets of a set.
 pub const MOST_OCTETS: usize = 65_536;

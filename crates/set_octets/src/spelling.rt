@@ -6,8 +6,7 @@ ghost use Rattle.set_octets.specs.Octets.{AreCapitals, AreOfType, IsSpelledBody,
 ghost use Rattle.set_octets.specs.Octets.{IsSpelledRouting, HasSpelling};
 
 use crate::lengths::is_long;
-use rdata::{RData, RType};
-use record_set::{Body, Place, RecordSet, Routing, is_location};
+use record_set::{Body, Place, RData, RType, RecordSet, Routing, is_location};
 
 /// Whether a set has a spelling: its letters, its location, its time to live and its size are
 /// within their bounds, and each value is of its type.

@@ -1,12 +1,12 @@
 -- The octets that tell a set's key stand in front of its octets.
 use Rattle.std.proofs.Common.{◌≡◌, ℕ, ◌+◌, ◌≤◌, List, [], ◌∷◌, ◌++◌, length, arith, ap, ◌∙◌, sym, refl, append_assoc, length-append}
 use Rattle.octets.specs.Numbers.{two_octets, four_octets}
-use Rattle.dns_name.specs.Labels.{wire}
-use Rattle.rdata_layout.specs.Types.{number_of}
-use Rattle.routing.specs.declared.policies.Routing.{Routing}
-use Rattle.routing.specs.declared.policies.Routing.TheVariants as routing
-use Rattle.record_set.specs.declared.sets.RecordSet.{RecordSet}
-use Rattle.set_octets.specs.Octets.{body_octets, check_octets, place_octets, role_number, routing_octets, text_octets}
+use Rattle.set_reading.specs.Labels.{wire}
+use Rattle.set_reading.specs.Types.{number_of}
+use Rattle.set_reading.specs.RoutingRecord.{Routing}
+use Rattle.set_reading.specs.RoutingRecord.TheVariants as routing
+use Rattle.set_reading.specs.RecordSetRecord.{RecordSet}
+use Rattle.set_reading.specs.Octets.{body_octets, check_octets, place_octets, role_number, routing_octets, text_octets}
 use Rattle.set_parts.specs.Heads.{policy_front, key_octets}
 use Rattle.set_parts.specs.Laws.{KeyIsInFront, KeysAreInFront}
 use Rattle.set_reading.specs.Sets.{IsRouting}

@@ -2,9 +2,9 @@
 use Rattle.std.proofs.Common.{◌≡◌, ℕ, ◌<◌, List, [], ◌∷◌, ◌++◌, length, drop, arith, ap, ◌∙◌, sym, refl, append_assoc, Result, Ok, Err}
 use Rattle.std.specs.List.{AllByRecursion, flat_map}
 use Rattle.std.proofs.Math.Seq.{drop-append_seam}
-use Rattle.octet_reading.specs.Reading.{octet_at}
-use Rattle.octet_reading.proofs.Digits.{ok_is}
-use Rattle.dns_name.specs.Labels.{frame, wire, IsRawLabel}
+use Rattle.set_reading.specs.ReadingOfOctetReading.{octet_at}
+use Rattle.set_reading.proofs.Digits.{ok_is}
+use Rattle.set_reading.specs.Labels.{frame, wire, IsRawLabel}
 
 abbrev Read : Type 0
 Read = Result (ℕ × List ℕ) ℕ

@@ -2,13 +2,13 @@
 use Rattle.std.specs.Prelude.{◌≡◌, ℕ, zero, suc, List, [], ◌∷◌, ◌++◌, take, Option, None, Some, ⊤}
 use Rattle.std.specs.Borrow.{Bor}
 use Rattle.octets.specs.Numbers.{two_octets}
-use Rattle.dns_name.specs.Labels.{wire}
-use Rattle.rdata_layout.specs.Types.{number_of}
-use Rattle.routing.specs.declared.policies.Routing.{Routing}
-use Rattle.routing.specs.declared.policies.Routing.TheVariants as routing
-use Rattle.record_set.specs.Sets.{ident_of}
-use Rattle.record_set.specs.declared.sets.RecordSet.{RecordSet}
-use Rattle.set_octets.specs.Octets.{text_octets}
+use Rattle.set_reading.specs.Labels.{wire}
+use Rattle.set_reading.specs.Types.{number_of}
+use Rattle.set_reading.specs.RoutingRecord.{Routing}
+use Rattle.set_reading.specs.RoutingRecord.TheVariants as routing
+use Rattle.set_reading.specs.SetsOfRecordSet.{ident_of}
+use Rattle.set_reading.specs.RecordSetRecord.{RecordSet}
+use Rattle.set_reading.specs.Octets.{text_octets}
 use Rattle.set_parts.specs.declared.heads.Head.{Head}
 
 -- the kind of a policy and the identifier, with which its octets begin

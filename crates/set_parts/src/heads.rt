@@ -1,22 +1,21 @@
 //! The key of a set, and what stands behind it.
 
 ghost use Rattle.std.specs.Prelude.{◌≡◌, ◌≤◌, ℕ, List, ◌++◌, length, take};
-ghost use Rattle.dns_name.specs.Labels.{wire};
-ghost use Rattle.dns_name.specs.Names.{IsName};
-ghost use Rattle.rdata_layout.specs.Types.{number_of};
-ghost use Rattle.rdata_layout.specs.declared.types.RType.{RType};
-ghost use Rattle.record_set.specs.Sets.{ident_of};
-ghost use Rattle.record_set.specs.declared.sets.RecordSet.{RecordSet};
-ghost use Rattle.routing.specs.declared.policies.Routing.{Routing};
+ghost use Rattle.set_reading.specs.Labels.{wire};
+ghost use Rattle.set_reading.specs.Names.{IsName};
+ghost use Rattle.set_reading.specs.Types.{number_of};
+ghost use Rattle.set_reading.specs.RTypeRecord.{RType};
+ghost use Rattle.set_reading.specs.SetsOfRecordSet.{ident_of};
+ghost use Rattle.set_reading.specs.RecordSetRecord.{RecordSet};
+ghost use Rattle.set_reading.specs.RoutingRecord.{Routing};
 ghost use Rattle.octets.specs.Numbers.{two_octets};
-ghost use Rattle.set_octets.specs.Octets.{body_octets, check_octets, routing_octets, set_octets};
+ghost use Rattle.set_reading.specs.Octets.{body_octets, check_octets, routing_octets, set_octets};
 ghost use Rattle.set_parts.specs.Heads.{IsHeadOf, Tells, key_octets, policy_front, text_of};
 ghost use Rattle.set_parts.specs.Heads.{told_ident};
 ghost use Rattle.set_reading.specs.Sets.{IsSet};
 
 use crate::passing::{behind_name, behind_policy, past};
-use rdata_layout::RType;
-use set_fields::{fields_are_read, type_at};
+use set_reading::{RType, fields_are_read, type_at};
 
 /// What a set's key is told by.
 #[derive(Clone, Copy)]

@@ -1,15 +1,15 @@
 //! Parts passed over: what stands behind a name, a text, a place, a policy.
 
 ghost use Rattle.std.specs.Prelude.{◌≡◌, ◌≤◌, ℕ, List, Option, ◌++◌, drop, length};
-ghost use Rattle.dns_name.specs.Labels.{wire};
-ghost use Rattle.dns_name.specs.Names.{IsName};
-ghost use Rattle.routing.specs.declared.policies.Place.{Place};
-ghost use Rattle.routing.specs.declared.policies.Routing.{Routing};
-ghost use Rattle.set_octets.specs.Octets.{check_octets, place_octets, routing_octets, text_octets};
+ghost use Rattle.set_reading.specs.Labels.{wire};
+ghost use Rattle.set_reading.specs.Names.{IsName};
+ghost use Rattle.set_reading.specs.PlaceRecord.{Place};
+ghost use Rattle.set_reading.specs.RoutingRecord.{Routing};
+ghost use Rattle.set_reading.specs.Octets.{check_octets, place_octets, routing_octets, text_octets};
 ghost use Rattle.set_reading.specs.Sets.{IsPlace, IsRouting};
 ghost use Rattle.set_parts.specs.Passing.{past_check, past_place, past_policy, past_text};
 
-use octet_reading::octet_at;
+use set_reading::octet_at;
 
 /// What stands behind the first octets, which is nothing where there are no more.
 pub fn past(octets: &[u8], count: usize) -> &[u8]

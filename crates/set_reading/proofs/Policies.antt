@@ -2,23 +2,23 @@
 use Rattle.std.proofs.Common.{◌≡◌, ℕ, List, [], ◌∷◌, refl, true}
 use Rattle.std.specs.Prelude.{⊤}
 use Rattle.octets.specs.Numbers.{four_octets}
-use Rattle.octet_reading.specs.Readers.{has_kind}
-use Rattle.octet_reading.specs.Reading.{octet_at, four_at}
-use Rattle.octet_reading.specs.Rules.{IsReadAs}
-use Rattle.octet_reading.proofs.Base.{read_as}
-use Rattle.octet_reading.proofs.Composed.{in_turn_read}
-use Rattle.octet_reading.proofs.Digits.{octet_is, four_is, four_again}
-use Rattle.octet_reading.proofs.OfKind.{kinds_read}
-use Rattle.octet_reading.proofs.Rules.{alike, nothing_read, seen_read}
-use Rattle.octet_reading.proofs.Within.{octet_within, four_within}
-use Rattle.routing.specs.Texts.{IsIdent, IsRegion, IsSubdivision, IsLocation}
-use Rattle.routing.specs.declared.policies.Continent.{Continent}
-use Rattle.routing.specs.declared.policies.Place.{Place}
-use Rattle.routing.specs.declared.policies.Place.TheVariants as place
-use Rattle.routing.specs.declared.policies.Role.{Role}
-use Rattle.routing.specs.declared.policies.Routing.{Routing}
-use Rattle.routing.specs.declared.policies.Routing.TheVariants as routing
-use Rattle.set_octets.specs.Octets.{place_octets, routing_octets, IsSpelledPlace, IsSpelledRouting}
+use Rattle.set_fields.specs.Readers.{has_kind}
+use Rattle.set_fields.specs.Reading.{octet_at, four_at}
+use Rattle.set_fields.specs.Rules.{IsReadAs}
+use Rattle.set_fields.proofs.Base.{read_as}
+use Rattle.set_fields.proofs.Composed.{in_turn_read}
+use Rattle.set_fields.proofs.Digits.{octet_is, four_is, four_again}
+use Rattle.set_fields.proofs.OfKind.{kinds_read}
+use Rattle.set_fields.proofs.Rules.{alike, nothing_read, seen_read}
+use Rattle.set_fields.proofs.Within.{octet_within, four_within}
+use Rattle.set_fields.specs.TextsOfRouting.{IsIdent, IsRegion, IsSubdivision, IsLocation}
+use Rattle.set_fields.specs.ContinentRecord.{Continent}
+use Rattle.set_fields.specs.PlaceRecord.{Place}
+use Rattle.set_fields.specs.PlaceRecord.TheVariants as place
+use Rattle.set_fields.specs.RoleRecord.{Role}
+use Rattle.set_fields.specs.RoutingRecord.{Routing}
+use Rattle.set_fields.specs.RoutingRecord.TheVariants as routing
+use Rattle.set_fields.specs.Octets.{place_octets, routing_octets, IsSpelledPlace, IsSpelledRouting}
 use Rattle.set_fields.specs.Laws.{FieldsAreRead, IsCountry}
 use Rattle.set_fields.proofs.Textual.{location_ident}
 use Rattle.set_reading.specs.Reading.{subdivision_at, places, place_at, weighted_at, failover_at}

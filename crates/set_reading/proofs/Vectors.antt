@@ -1,18 +1,18 @@
 -- Sets by hand, and each kind of fault.
 use Rattle.std.proofs.Common.{◌≡◌, ℕ, List, [], ◌∷◌, ◌++◌, take, map, refl, true, None, Some, Result, Ok, Err}
-use Rattle.rdata_layout.specs.declared.types.RType.TheVariants as rtype
-use Rattle.routing.specs.declared.policies.Continent.TheVariants as continent
-use Rattle.routing.specs.declared.policies.Place.TheVariants as place
-use Rattle.routing.specs.declared.policies.Role.TheVariants as role
-use Rattle.routing.specs.declared.policies.Routing.{Routing}
-use Rattle.routing.specs.declared.policies.Routing.TheVariants as routing
-use Rattle.record_set.specs.declared.sets.RecordSet.{RecordSet}
-use Rattle.record_set.specs.declared.sets.Body.TheVariants as body
-use Rattle.octet_reading.specs.Layouts.{is_layout}
-use Rattle.octet_reading.specs.Names.{name_at}
-use Rattle.set_octets.specs.Octets.{set_octets}
+use Rattle.set_fields.specs.RTypeRecord.TheVariants as rtype
+use Rattle.set_fields.specs.ContinentRecord.TheVariants as continent
+use Rattle.set_fields.specs.PlaceRecord.TheVariants as place
+use Rattle.set_fields.specs.RoleRecord.TheVariants as role
+use Rattle.set_fields.specs.RoutingRecord.{Routing}
+use Rattle.set_fields.specs.RoutingRecord.TheVariants as routing
+use Rattle.set_fields.specs.RecordSetRecord.{RecordSet}
+use Rattle.set_fields.specs.BodyRecord.TheVariants as body
+use Rattle.set_fields.specs.Layouts.{is_layout}
+use Rattle.set_fields.specs.Names.{name_at}
+use Rattle.set_fields.specs.Octets.{set_octets}
 use Rattle.set_fields.specs.Numbers.{type_of, type_at, continent_at, role_at, ttl_at}
-use Rattle.octet_reading.specs.Readers.{text_at}
+use Rattle.set_fields.specs.Readers.{text_at}
 use Rattle.set_fields.specs.Texts.{location_at, country_at}
 use Rattle.set_reading.specs.Reading.{subdivision_at, place_at, weighted_at, failover_at, geolocation_at}
 use Rattle.set_reading.specs.Reading.{latency_at, multivalue_at, cidr_at, routing_at, value_at, records_at}

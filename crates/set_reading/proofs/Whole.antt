@@ -3,20 +3,20 @@ use Rattle.std.proofs.Common.{◌≡◌, ℕ, ◌-◌, ◌≤◌, Bool, true, fa
 use Rattle.std.proofs.Common.{refl, subst, cond, length-append, Result, Ok, Err}
 use Rattle.std.specs.Prelude.{nat_lt, IfOk}
 use Rattle.std.proofs.lemmas.Bool.{ltb-false, le-ltb}
-use Rattle.octet_reading.proofs.Digits.{ok_is}
-use Rattle.dns_name.specs.Names.{AreOctets}
-use Rattle.octet_reading.specs.declared.stop.Stop.{Stop}
-use Rattle.octet_reading.specs.declared.stop.Stop.TheVariants as stop
-use Rattle.octet_reading.specs.Reading.{Stops}
-use Rattle.record_set.specs.declared.sets.RecordSet.{RecordSet}
+use Rattle.set_fields.proofs.Digits.{ok_is}
+use Rattle.set_fields.specs.NamesOfDnsName.{AreOctets}
+use Rattle.set_fields.specs.StopRecord.{Stop}
+use Rattle.set_fields.specs.StopRecord.TheVariants as stop
+use Rattle.set_fields.specs.Reading.{Stops}
+use Rattle.set_fields.specs.RecordSetRecord.{RecordSet}
 use Rattle.set_reading.specs.declared.faults.ReadFault.{ReadFault}
 use Rattle.set_reading.specs.Gives.{ReadsSet}
 use Rattle.set_reading.specs.Laws.{OneSpelling, WrittenReadsBack, TellsSet, SetsAreTold}
-use Rattle.set_octets.specs.Octets.{set_octets, most_octets}
+use Rattle.set_fields.specs.Octets.{set_octets, most_octets}
 use Rattle.set_fields.specs.Laws.{FieldsAreRead}
 use Rattle.set_reading.specs.Reading.{set_at, placed, read}
 use Rattle.set_reading.specs.Sets.{BeginsWithSet}
-use Rattle.set_reading.proofs.Parts.{set_read}
+use Rattle.set_reading.proofs.Answering.{set_read}
 
 -- a test that refuses
 guard_ok : {A : Type 0} (b : Bool) (left : ℕ) (read : Result A ℕ) (y : A)

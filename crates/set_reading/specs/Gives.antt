@@ -1,11 +1,11 @@
 -- What reading a set gives.
 use Rattle.std.specs.Prelude.{◌≡◌, ℕ, ◌≤◌, List, true, false, Result, Ok, Err, ⊤}
-use Rattle.octet_reading.specs.Layouts.{is_layout}
-use Rattle.rdata.specs.Datum.{Datum}
-use Rattle.rdata.specs.declared.faults.WireFault.{WireFault}
-use Rattle.rdata.specs.declared.faults.WireFault.TheVariants as wire
-use Rattle.rdata_layout.specs.declared.types.RType.{RType}
-use Rattle.record_set.specs.declared.sets.RecordSet.{RecordSet}
+use Rattle.set_fields.specs.Layouts.{is_layout}
+use Rattle.set_fields.specs.Datum.{Datum}
+use Rattle.set_fields.specs.WireFaultRecord.{WireFault}
+use Rattle.set_fields.specs.WireFaultRecord.TheVariants as wire
+use Rattle.set_fields.specs.RTypeRecord.{RType}
+use Rattle.set_fields.specs.RecordSetRecord.{RecordSet}
 use Rattle.set_reading.specs.declared.faults.ReadFault.{ReadFault}
 use Rattle.set_reading.specs.declared.faults.ReadFault.TheVariants as fault
 

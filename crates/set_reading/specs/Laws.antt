@@ -1,9 +1,9 @@
 -- Laws over the definitions of this crate.
 use Rattle.std.specs.Prelude.{◌≡◌, ◌≤◌, ℕ, List, ◌++◌, length, Result, Ok, Err, ⊤}
-use Rattle.dns_name.specs.Names.{AreOctets}
-use Rattle.octet_reading.specs.Rules.{IsReadAs}
-use Rattle.record_set.specs.declared.sets.RecordSet.{RecordSet}
-use Rattle.set_octets.specs.Octets.{check_octets, routing_octets, set_octets, HasSpelling, IsSpelledRouting}
+use Rattle.set_fields.specs.NamesOfDnsName.{AreOctets}
+use Rattle.set_fields.specs.Rules.{IsReadAs}
+use Rattle.set_fields.specs.RecordSetRecord.{RecordSet}
+use Rattle.set_fields.specs.Octets.{check_octets, routing_octets, set_octets, HasSpelling, IsSpelledRouting}
 use Rattle.set_reading.specs.Reading.{check_at, read, routing_at}
 use Rattle.set_reading.specs.Sets.{IsRouting, IsSet, BeginsWithSet}
 

@@ -1,19 +1,19 @@
 -- Reading the octets of sets from left to right, with the first fault that is met (FORMATS, Octets of sets).
 use Rattle.std.specs.Prelude.{ℕ, ◌-◌, List, [], ◌∷◌, length, take, drop, nat_lt, Option, Result, Ok, Err, if◌then◌else◌}
-use Rattle.octet_reading.specs.Readers.{seen, in_turn, in_turn_by, list_at, optional_at, kinds}
-use Rattle.octet_reading.specs.Reading.{◌>>=◌, octet_at, two_at, four_at, flag_at}
-use Rattle.octet_reading.specs.Names.{name_at}
-use Rattle.octet_reading.specs.Layouts.{is_layout}
-use Rattle.rdata.specs.Datum.{Datum}
-use Rattle.rdata_layout.specs.declared.types.RType.{RType}
-use Rattle.routing.specs.declared.policies.Place.{Place}
-use Rattle.routing.specs.declared.policies.Place.TheVariants as place
-use Rattle.routing.specs.declared.policies.Routing.{Routing}
-use Rattle.routing.specs.declared.policies.Routing.TheVariants as routing
-use Rattle.record_set.specs.declared.sets.RecordSet.{RecordSet}
-use Rattle.record_set.specs.declared.sets.Body.{Body}
-use Rattle.record_set.specs.declared.sets.Body.TheVariants as body
-use Rattle.set_octets.specs.Octets.{most_octets}
+use Rattle.set_fields.specs.Readers.{seen, in_turn, in_turn_by, list_at, optional_at, kinds}
+use Rattle.set_fields.specs.Reading.{◌>>=◌, octet_at, two_at, four_at, flag_at}
+use Rattle.set_fields.specs.Names.{name_at}
+use Rattle.set_fields.specs.Layouts.{is_layout}
+use Rattle.set_fields.specs.Datum.{Datum}
+use Rattle.set_fields.specs.RTypeRecord.{RType}
+use Rattle.set_fields.specs.PlaceRecord.{Place}
+use Rattle.set_fields.specs.PlaceRecord.TheVariants as place
+use Rattle.set_fields.specs.RoutingRecord.{Routing}
+use Rattle.set_fields.specs.RoutingRecord.TheVariants as routing
+use Rattle.set_fields.specs.RecordSetRecord.{RecordSet}
+use Rattle.set_fields.specs.BodyRecord.{Body}
+use Rattle.set_fields.specs.BodyRecord.TheVariants as body
+use Rattle.set_fields.specs.Octets.{most_octets}
 use Rattle.set_fields.specs.Numbers.{type_at, continent_at, role_at, ttl_at}
 use Rattle.set_fields.specs.Texts.{country_at, ident_at, region_at, sub_at, location_at}
 

@@ -1,17 +1,17 @@
 -- What the parts of a set are.
 use Rattle.std.specs.Prelude.{◌≡◌, ℕ, List, ◌++◌, length, ⊤}
 use Rattle.std.specs.List.{AllByRecursion}
-use Rattle.dns_name.specs.Names.{IsName}
-use Rattle.record_set.specs.Values.{IsInLayout}
-use Rattle.routing.specs.Texts.{IsIdent, IsRegion, IsSubdivision}
-use Rattle.routing.specs.declared.policies.Place.{Place}
-use Rattle.routing.specs.declared.policies.Place.TheVariants as place
-use Rattle.routing.specs.declared.policies.Routing.{Routing}
-use Rattle.routing.specs.declared.policies.Routing.TheVariants as routing
-use Rattle.record_set.specs.declared.sets.RecordSet.{RecordSet}
-use Rattle.record_set.specs.declared.sets.Body.{Body}
-use Rattle.record_set.specs.declared.sets.Body.TheVariants as body
-use Rattle.set_octets.specs.Octets.{set_octets, HasSpelling}
+use Rattle.set_fields.specs.NamesOfDnsName.{IsName}
+use Rattle.set_fields.specs.Values.{IsInLayout}
+use Rattle.set_fields.specs.TextsOfRouting.{IsIdent, IsRegion, IsSubdivision}
+use Rattle.set_fields.specs.PlaceRecord.{Place}
+use Rattle.set_fields.specs.PlaceRecord.TheVariants as place
+use Rattle.set_fields.specs.RoutingRecord.{Routing}
+use Rattle.set_fields.specs.RoutingRecord.TheVariants as routing
+use Rattle.set_fields.specs.RecordSetRecord.{RecordSet}
+use Rattle.set_fields.specs.BodyRecord.{Body}
+use Rattle.set_fields.specs.BodyRecord.TheVariants as body
+use Rattle.set_fields.specs.Octets.{set_octets, HasSpelling}
 
 -- the codes of places
 abbrev pub IsPlace : Place → Type 0

@@ -12,4 +12,10 @@ mod sets;
 pub use faults::ReadFault;
 pub use laws::{one_spelling, parts_are_read, sets_are_told, written_reads_back};
 pub use reading::{check_at, read_set, routing_at};
+pub use set_fields::{
+    Body, Fault, Field, MOST_OCTETS, Name, RData, RType, Reason, RecordSet, Routing, SetKey, Stop,
+    Values, WireFault, base_fields_are_read, fields_are_read, fill_set, flag_at, four_at,
+    has_spelling, list_at, name_at, octet_at, one_name_of_a_wire, parts, region_at, set_len,
+    sub_at, two_at, type_at,
+};
 pub use sets::well_formed;

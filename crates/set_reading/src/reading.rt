@@ -1,9 +1,9 @@
 //! Reading sets from left to right.
 
 ghost use Rattle.std.specs.Prelude.{◌≡◌, ℕ, length, take, drop, IfOk, Ok};
-ghost use Rattle.record_set.specs.declared.sets.RecordSet.{RecordSet};
+ghost use Rattle.set_fields.specs.RecordSetRecord.{RecordSet};
 ghost use Rattle.set_reading.specs.Sets.{BeginsWithSet};
-ghost use Rattle.octet_reading.specs.Reading.{Gives, GivesOrStops};
+ghost use Rattle.set_fields.specs.Reading.{Gives, GivesOrStops};
 ghost use Rattle.set_reading.specs.Gives.{IsInside, ReadsSet, ReadsValue};
 ghost use Rattle.set_reading.specs.Reading.{place_at, subdivision_at, weighted_at, failover_at};
 ghost use Rattle.set_reading.specs.Reading.{geolocation_at, latency_at, multivalue_at, cidr_at};
@@ -11,17 +11,11 @@ ghost use Rattle.set_reading.specs.Reading.{routing_at, value_at, records_at, al
 ghost use Rattle.set_reading.specs.Reading.{check_at, set_at, read};
 
 use crate::faults::ReadFault;
-use octet_reading::{
-    Fault, Field, Stop, flag_at, four_at, list_at, name_at, octet_at, parts, two_at,
-};
-use rdata::{RData, WireFault};
-use rdata_layout::RType;
-use record_set::{Body, Place, RecordSet, Routing, Values};
 use set_fields::{
-    continent_at, country_at, fields_are_read, ident_at, location_at, region_at, role_at, sub_at,
-    ttl_at, type_at,
+    Body, Fault, Field, MOST_OCTETS, Place, RData, RType, RecordSet, Routing, Stop, Values,
+    WireFault, continent_at, country_at, fields_are_read, flag_at, four_at, ident_at, list_at,
+    location_at, name_at, octet_at, parts, region_at, role_at, sub_at, ttl_at, two_at, type_at,
 };
-use set_octets::MOST_OCTETS;
 use std::alloc::Global;
 
 /// The set that bytes begin with, and how many bytes it has.

@@ -2,11 +2,10 @@
 
 ghost use Rattle.std.specs.Prelude.{◌≡◌, length};
 ghost use Rattle.std.specs.List.{AllByRecursion};
-ghost use Rattle.record_set.specs.Values.{IsInLayout};
+ghost use Rattle.set_fields.specs.Values.{IsInLayout};
 ghost use Rattle.set_reading.specs.Sets.{IsBody, IsPlace, IsRouting, IsSet};
 
-use rdata::RData;
-use record_set::{Body, Place, RecordSet, Routing};
+use set_fields::{Body, Place, RData, RecordSet, Routing};
 
 /// What every set is, for the premises of laws; it does nothing.
 pub fn well_formed(set: &RecordSet)

@@ -2,11 +2,11 @@
 use Rattle.std.proofs.Common.{◌≡◌, ℕ, ◌+◌, ◌≤◌, List, ◌++◌, length, drop, arith, ap, ◌∙◌, sym}
 use Rattle.std.proofs.Common.{length-append, length-drop, drop-drop, Some}
 use Rattle.std.specs.List.{flat_map}
-use Rattle.rdata.specs.Datum.{Datum}
-use Rattle.record_set.specs.declared.sets.Body.{Body}
-use Rattle.record_set.specs.declared.sets.Body.TheVariants as body
-use Rattle.set_octets.specs.Octets.{body_octets, most_octets, value_octets}
-use Rattle.set_octets.proofs.Counted.{two_each}
+use Rattle.set_parts.specs.Datum.{Datum}
+use Rattle.set_parts.specs.BodyRecord.{Body}
+use Rattle.set_parts.specs.BodyRecord.TheVariants as body
+use Rattle.set_parts.specs.Octets.{body_octets, most_octets, value_octets}
+use Rattle.set_parts.proofs.Counted.{two_each}
 use Rattle.set_scratch.specs.Bodies.{count_of, values_of}
 use Rattle.set_scratch.specs.Kept.{most_values, starts_of}
 

@@ -4,16 +4,16 @@ use Rattle.std.proofs.Common.{arith, ap, ◌∙◌, sym, subst, append_assoc, le
 use Rattle.std.proofs.lemmas.List.{append-nil, length-take-le}
 use Rattle.std.proofs.Math.Seq.{drop-append_seam, take-append_seam}
 use Rattle.octets.specs.Numbers.{two_octets}
-use Rattle.dns_name.specs.Labels.{wire}
-use Rattle.dns_name.specs.Names.{IsName}
-use Rattle.rdata_layout.specs.Types.{number_of}
-use Rattle.routing.specs.declared.policies.Routing.{Routing}
-use Rattle.record_set.specs.declared.sets.RecordSet.{RecordSet}
-use Rattle.set_octets.specs.Octets.{body_octets, check_octets, head_octets, most_octets, routing_octets}
-use Rattle.set_octets.specs.Octets.{set_octets, HasSpelling}
-use Rattle.set_reading.specs.Laws.{WrittenReadsBack}
-use Rattle.set_reading.specs.Reading.{read}
-use Rattle.set_reading.specs.Sets.{IsRouting, IsSet}
+use Rattle.set_parts.specs.Labels.{wire}
+use Rattle.set_parts.specs.Names.{IsName}
+use Rattle.set_parts.specs.Types.{number_of}
+use Rattle.set_parts.specs.RoutingRecord.{Routing}
+use Rattle.set_parts.specs.RecordSetRecord.{RecordSet}
+use Rattle.set_parts.specs.Octets.{body_octets, check_octets, head_octets, most_octets, routing_octets}
+use Rattle.set_parts.specs.Octets.{set_octets, HasSpelling}
+use Rattle.set_parts.specs.LawsOfSetReading.{WrittenReadsBack}
+use Rattle.set_parts.specs.Reading.{read}
+use Rattle.set_parts.specs.Sets.{IsRouting, IsSet}
 use Rattle.set_scratch.specs.Kept.{AreAt, AreOf, IsKept, most_values}
 use Rattle.set_scratch.specs.Spelling.{Spells, from_body, from_type, held_of, set_of, set_read}
 use Rattle.set_scratch.specs.declared.places.Places.{Places}

@@ -4,15 +4,15 @@ use Rattle.std.proofs.Common.{arith, ap, ◌∙◌, sym, refl, subst, drop-drop,
 use Rattle.std.specs.Prelude.{IfSome, slice_get}
 use Rattle.std.specs.List.{AllByRecursion, flat_map}
 use Rattle.std.proofs.Math.Seq.{drop-append_seam}
-use Rattle.rdata.specs.Datum.{Datum}
-use Rattle.rdata_layout.specs.Layout.{IsLayout}
-use Rattle.rdata_layout.specs.declared.types.RType.{RType}
-use Rattle.record_set.specs.Values.{IsInLayout}
-use Rattle.record_set.specs.declared.sets.RecordSet.{RecordSet}
-use Rattle.record_set.specs.declared.sets.Body.{Body}
-use Rattle.record_set.specs.declared.sets.Body.TheVariants as body
-use Rattle.set_octets.specs.Octets.{body_octets, check_octets, head_octets, value_octets, AreOfType}
-use Rattle.set_reading.specs.Sets.{IsBody}
+use Rattle.set_parts.specs.Datum.{Datum}
+use Rattle.set_parts.specs.Layout.{IsLayout}
+use Rattle.set_parts.specs.RTypeRecord.{RType}
+use Rattle.set_parts.specs.Values.{IsInLayout}
+use Rattle.set_parts.specs.RecordSetRecord.{RecordSet}
+use Rattle.set_parts.specs.BodyRecord.{Body}
+use Rattle.set_parts.specs.BodyRecord.TheVariants as body
+use Rattle.set_parts.specs.Octets.{body_octets, check_octets, head_octets, value_octets, AreOfType}
+use Rattle.set_parts.specs.Sets.{IsBody}
 use Rattle.set_scratch.specs.Bodies.{values_of, wires_of}
 use Rattle.set_scratch.specs.Holding.{HasValue}
 use Rattle.set_scratch.specs.Kept.{AreAt, AreOf, starts_of}

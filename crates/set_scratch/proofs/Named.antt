@@ -1,10 +1,10 @@
 -- The name with which octets begin.
 use Rattle.std.proofs.Common.{◌≡◌, ℕ, List, [], ◌∷◌, ◌++◌, length, ap, ◌∙◌, sym, refl}
 use Rattle.std.specs.List.{AllByRecursion}
-use Rattle.dns_name.specs.Labels.{wire, lowered}
-use Rattle.dns_name.specs.Names.{IsName}
-use Rattle.dns_name.specs.Stored.{IsLowerLabel}
-use Rattle.dns_name.specs.Wire.{BeginsWithName}
+use Rattle.set_parts.specs.Labels.{wire, lowered}
+use Rattle.set_parts.specs.Names.{IsName}
+use Rattle.set_parts.specs.Stored.{IsLowerLabel}
+use Rattle.set_parts.specs.Wire.{BeginsWithName}
 
 lower_same : (labels : List (List ℕ)) → AllByRecursion IsLowerLabel labels → lowered labels ≡ labels
 lower_same [] are = refl

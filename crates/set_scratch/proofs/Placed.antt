@@ -7,8 +7,8 @@ use Rattle.std.proofs.lemmas.List.{get_or-drop}
 use Rattle.octets.specs.Numbers.{number_at}
 use Rattle.std.specs.List.{flat_map}
 use Rattle.std.proofs.Math.Seq.{drop-append_seam}
-use Rattle.rdata.specs.Datum.{Datum}
-use Rattle.set_octets.specs.Octets.{value_octets}
+use Rattle.set_parts.specs.Datum.{Datum}
+use Rattle.set_parts.specs.Octets.{value_octets}
 use Rattle.set_scratch.specs.Kept.{starts_of}
 
 -- Octets from a place on begin with these values, of which the others stand behind the first.

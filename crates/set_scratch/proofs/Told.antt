@@ -3,12 +3,12 @@ use Rattle.std.proofs.Common.{◌≡◌, ℕ, zero, suc, ◌+◌, ◌<◌, ◌�
 use Rattle.std.proofs.Common.{arith, ap, sym, ◌∙◌, refl, append_assoc}
 use Rattle.std.specs.List.{flat_map}
 use Rattle.std.proofs.lemmas.List.{append-nil}
-use Rattle.rdata.specs.Datum.{Datum}
-use Rattle.rdata_layout.specs.declared.types.RType.{RType}
-use Rattle.record_set.specs.declared.sets.Body.{Body}
-use Rattle.record_set.specs.declared.sets.Body.TheVariants as body
-use Rattle.record_set.specs.declared.sets.RecordSet.{RecordSet}
-use Rattle.set_octets.specs.Octets.{set_octets, value_octets}
+use Rattle.set_parts.specs.Datum.{Datum}
+use Rattle.set_parts.specs.RTypeRecord.{RType}
+use Rattle.set_parts.specs.BodyRecord.{Body}
+use Rattle.set_parts.specs.BodyRecord.TheVariants as body
+use Rattle.set_parts.specs.RecordSetRecord.{RecordSet}
+use Rattle.set_parts.specs.Octets.{set_octets, value_octets}
 use Rattle.set_scratch.specs.Bodies.{alias_of}
 use Rattle.set_scratch.specs.Spelling.{Spells}
 use Rattle.set_scratch.specs.Telling.{target_in}

@@ -1,8 +1,8 @@
 -- What a set answers, one thing at a time.
 use Rattle.std.specs.Prelude.{ℕ, List, [], Bool, Option, None, Some, length, map}
-use Rattle.rdata.specs.Datum.{Datum}
-use Rattle.record_set.specs.declared.sets.Body.{Body}
-use Rattle.record_set.specs.declared.sets.Body.TheVariants as body
+use Rattle.set_parts.specs.Datum.{Datum}
+use Rattle.set_parts.specs.BodyRecord.{Body}
+use Rattle.set_parts.specs.BodyRecord.TheVariants as body
 
 -- the time to live; an alias has none of its own, and 0 stands for it
 abbrev pub ttl_of : Body → ℕ

@@ -1,6 +1,6 @@
 -- What a scratch holds: a set, or none.
 use Rattle.std.specs.Prelude.{ℕ, ◌<◌, length, Option, None, Some, ⊤}
-use Rattle.record_set.specs.declared.sets.RecordSet.{RecordSet}
+use Rattle.set_parts.specs.RecordSetRecord.{RecordSet}
 use Rattle.set_scratch.specs.Bodies.{values_of}
 
 -- a set is held

@@ -1,9 +1,9 @@
 -- How a scratch keeps a set: its octets, and where its parts stand among them.
 use Rattle.std.specs.Prelude.{◌≡◌, ℕ, ◌+◌, ◌≤◌, List, [], ◌∷◌, length, take, Option, None, Some, ⊤}
-use Rattle.dns_name.specs.Labels.{wire}
-use Rattle.rdata.specs.Datum.{Datum}
-use Rattle.record_set.specs.declared.sets.RecordSet.{RecordSet}
-use Rattle.set_octets.specs.Octets.{body_octets, head_octets, most_octets, set_octets}
+use Rattle.set_parts.specs.Labels.{wire}
+use Rattle.set_parts.specs.Datum.{Datum}
+use Rattle.set_parts.specs.RecordSetRecord.{RecordSet}
+use Rattle.set_parts.specs.Octets.{body_octets, head_octets, most_octets, set_octets}
 use Rattle.set_scratch.specs.Bodies.{values_of}
 use Rattle.set_scratch.specs.Spelling.{Spells, held_of}
 use Rattle.set_scratch.specs.declared.places.Places.{Places}

@@ -1,14 +1,14 @@
 -- Octets that are a set's, and the set that octets are.
 use Rattle.std.specs.Prelude.{◌≡◌, ℕ, zero, suc, List, [], ◌++◌, take, Option, None, Some, Result, Ok, Err}
 use Rattle.octets.specs.Numbers.{two_octets}
-use Rattle.rdata_layout.specs.Types.{number_of}
-use Rattle.rdata_layout.specs.declared.types.RType.TheVariants as rtype
-use Rattle.routing.specs.declared.policies.Routing.TheVariants as routing
-use Rattle.record_set.specs.declared.sets.RecordSet.{RecordSet}
-use Rattle.record_set.specs.declared.sets.Body.TheVariants as body
-use Rattle.set_octets.specs.Octets.{body_octets, check_octets, routing_octets, set_octets, HasSpelling}
-use Rattle.set_reading.specs.Reading.{read}
-use Rattle.set_reading.specs.Sets.{IsSet}
+use Rattle.set_parts.specs.Types.{number_of}
+use Rattle.set_parts.specs.RTypeRecord.TheVariants as rtype
+use Rattle.set_parts.specs.RoutingRecord.TheVariants as routing
+use Rattle.set_parts.specs.RecordSetRecord.{RecordSet}
+use Rattle.set_parts.specs.BodyRecord.TheVariants as body
+use Rattle.set_parts.specs.Octets.{body_octets, check_octets, routing_octets, set_octets, HasSpelling}
+use Rattle.set_parts.specs.Reading.{read}
+use Rattle.set_parts.specs.Sets.{IsSet}
 
 -- These octets are the set's, all of them.
 pub record Spells (octets : List ℕ) (set : RecordSet) : Type 0 where

@@ -1,9 +1,9 @@
 -- What is told of a set without holding it.
 use Rattle.std.specs.Prelude.{ℕ, List, Bool, true, false, Option, None, Some}
-use Rattle.rdata_layout.specs.declared.types.RType.{RType}
-use Rattle.record_set.specs.declared.sets.Body.{Body}
-use Rattle.record_set.specs.declared.sets.Body.TheVariants as body
-use Rattle.record_set.specs.declared.sets.RecordSet.{RecordSet}
+use Rattle.set_parts.specs.RTypeRecord.{RType}
+use Rattle.set_parts.specs.BodyRecord.{Body}
+use Rattle.set_parts.specs.BodyRecord.TheVariants as body
+use Rattle.set_parts.specs.RecordSetRecord.{RecordSet}
 use Rattle.set_scratch.specs.declared.telling.Watch.{Watch}
 
 abbrev pub is_alias : Body → Bool

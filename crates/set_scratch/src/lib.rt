@@ -9,8 +9,12 @@ mod places;
 mod scratch;
 mod telling;
 
-pub use octet_region::{Handle, Region};
+pub use octet_region::{Handle, Region, cells_for};
 pub use octets::OutOfMemory;
 pub use scratch::Scratch;
-pub use set_parts::{ident_in_front, keys_are_in_front, name_and_rest, type_and_rest};
+pub use set_parts::{
+    ReadFault, base_fields_are_read, behind_text, fields_are_read, fill_set, has_spelling,
+    ident_in_front, keys_are_in_front, name_and_rest, name_at, one_spelling, read_set, region_at,
+    set_len, sub_at, type_and_rest, well_formed, written_reads_back,
+};
 pub use telling::{Watch, is_alias_in, target_in, watch_in};

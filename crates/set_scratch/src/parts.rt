@@ -3,29 +3,27 @@
 ghost use Rattle.std.specs.Prelude.{◌≡◌, ◌+◌, ◌<◌, ◌++◌, ℕ, List, Option, Some, drop, length};
 ghost use Rattle.std.specs.Prelude.{map, slice_get};
 ghost use Rattle.std.specs.List.{flat_map};
-ghost use Rattle.dns_name.specs.Labels.{wire};
-ghost use Rattle.dns_name.specs.Names.{IsName};
+ghost use Rattle.set_parts.specs.Labels.{wire};
+ghost use Rattle.set_parts.specs.Names.{IsName};
 ghost use Rattle.octets.specs.Numbers.{two_octets};
-ghost use Rattle.rdata.specs.Datum.{Datum};
-ghost use Rattle.rdata_layout.specs.Types.{number_of};
-ghost use Rattle.rdata_layout.specs.declared.types.RType.{RType};
-ghost use Rattle.record_set.specs.declared.sets.Body.{Body};
-ghost use Rattle.record_set.specs.declared.sets.RecordSet.{RecordSet};
-ghost use Rattle.routing.specs.declared.policies.Routing.{Routing};
-ghost use Rattle.set_octets.specs.Octets.{IsSpelledRouting, body_octets, check_octets};
-ghost use Rattle.set_octets.specs.Octets.{routing_octets, value_octets};
-ghost use Rattle.set_reading.specs.Sets.{IsBody, IsRouting};
+ghost use Rattle.set_parts.specs.Datum.{Datum};
+ghost use Rattle.set_parts.specs.Types.{number_of};
+ghost use Rattle.set_parts.specs.RTypeRecord.{RType};
+ghost use Rattle.set_parts.specs.BodyRecord.{Body};
+ghost use Rattle.set_parts.specs.RecordSetRecord.{RecordSet};
+ghost use Rattle.set_parts.specs.RoutingRecord.{Routing};
+ghost use Rattle.set_parts.specs.Octets.{IsSpelledRouting, body_octets, check_octets};
+ghost use Rattle.set_parts.specs.Octets.{routing_octets, value_octets};
+ghost use Rattle.set_parts.specs.Sets.{IsBody, IsRouting};
 ghost use Rattle.set_scratch.specs.Bodies.{alias_of, ttl_of};
 ghost use Rattle.set_scratch.specs.Kept.{starts_of};
 ghost use Rattle.set_scratch.specs.Spelling.{Spells};
 
-use dns_name::Name;
-use octet_reading::{base_fields_are_read, flag_at, name_at, parts, two_at};
 use octets::long_at;
-use rdata::RType;
-use record_set::Routing;
-use set_parts::{past, type_and_rest};
-use set_reading::{check_at, parts_are_read, routing_at};
+use set_parts::{
+    Name, RType, Routing, base_fields_are_read, check_at, flag_at, name_at, parts, parts_are_read,
+    past, routing_at, two_at, type_and_rest,
+};
 
 /// The name of a set.
 pub(crate) fn name_of(octets: &[u8]) -> Name

@@ -3,10 +3,10 @@
 ghost use Rattle.std.specs.Prelude.{◌≡◌, ◌≤◌, ◌++◌, ℕ, List, length, None, Some, IfOk, IfSome};
 ghost use Rattle.std.specs.Prelude.{slice_get, take, vec_capacity};
 ghost use Rattle.std.specs.FinMap as map;
-ghost use Rattle.dns_name.specs.Names.{AreOctets};
-ghost use Rattle.rdata_layout.specs.Layout.{IsLayout};
-ghost use Rattle.record_set.specs.declared.sets.RecordSet.{RecordSet};
-ghost use Rattle.set_octets.specs.Octets.{HasSpelling, check_octets, most_octets, set_octets};
+ghost use Rattle.set_parts.specs.Names.{AreOctets};
+ghost use Rattle.set_parts.specs.Layout.{IsLayout};
+ghost use Rattle.set_parts.specs.RecordSetRecord.{RecordSet};
+ghost use Rattle.set_parts.specs.Octets.{HasSpelling, check_octets, most_octets, set_octets};
 ghost use Rattle.set_scratch.specs.Bodies.{alias_of, ttl_of, values_of, wires_of};
 ghost use Rattle.set_scratch.specs.Holding.{HasValue, IsHolding};
 ghost use Rattle.set_scratch.specs.Kept.{IsKept, most_values};
@@ -15,13 +15,11 @@ ghost use Rattle.set_scratch.specs.Spelling.{held_of};
 
 use crate::parts::{alias_in, check_in, name_of, routing_in, ttl_in, type_in, value_at};
 use crate::places::{Places, find_parts};
-use dns_name::Name;
 use octet_region::{Handle, Region};
 use octets::{OutOfMemory, behind, front, zeros};
-use rdata::RType;
-use record_set::{RecordSet, Routing};
-use set_octets::{MOST_OCTETS, fill_set};
-use set_reading::{well_formed, written_reads_back};
+use set_parts::{
+    MOST_OCTETS, Name, RType, RecordSet, Routing, fill_set, well_formed, written_reads_back,
+};
 use std::alloc::Global;
 use std::marker::Model;
 
@@ -43,7 +41,7 @@ pub struct Scratch {
 
 impl Model for Scratch {
     ghost use Rattle.std.specs.Prelude.{Option, vec_capacity};
-    ghost use Rattle.record_set.specs.declared.sets.RecordSet.{RecordSet};
+    ghost use Rattle.set_parts.specs.RecordSetRecord.{RecordSet};
     ghost use Rattle.set_scratch.specs.Kept.{IsKept};
     ghost use Rattle.set_scratch.specs.Spelling.{held_of};
 

@@ -2,20 +2,17 @@
 
 ghost use Rattle.std.specs.Prelude.{◌≡◌, ◌++◌, ℕ, List, length};
 ghost use Rattle.std.specs.List.{flat_map};
-ghost use Rattle.rdata.specs.Datum.{Datum};
-ghost use Rattle.record_set.specs.declared.sets.Body.{Body};
-ghost use Rattle.record_set.specs.declared.sets.RecordSet.{RecordSet};
-ghost use Rattle.set_octets.specs.Octets.{body_octets, value_octets};
-ghost use Rattle.set_reading.specs.Sets.{IsBody};
+ghost use Rattle.set_parts.specs.Datum.{Datum};
+ghost use Rattle.set_parts.specs.BodyRecord.{Body};
+ghost use Rattle.set_parts.specs.RecordSetRecord.{RecordSet};
+ghost use Rattle.set_parts.specs.Octets.{body_octets, value_octets};
+ghost use Rattle.set_parts.specs.Sets.{IsBody};
 ghost use Rattle.set_scratch.specs.Spelling.{Spells};
 ghost use Rattle.set_scratch.specs.Telling.{is_alias, evaluates, target_of, watch_of};
 
 use crate::parts::{alias_in, check_in, type_in};
 use crate::places::{BEFORE_VALUES, behind_alias, count_in};
-use dns_name::Name;
-use octet_reading::two_at;
-use rdata::RType;
-use set_parts::{behind_name, body_of, past};
+use set_parts::{Name, RType, behind_name, body_of, past, two_at};
 
 /// What decides the health of a set.
 #[derive(Clone, Copy, Debug, PartialEq, Eq)]

@@ -9,10 +9,10 @@ use Rattle.std.proofs.lemmas.Cmp.{nat_list_cmp_total}
 use Rattle.std.proofs.lemmas.List.{reverse-reverse, reverse-append, append_assoc, length-append}
 use Rattle.std.proofs.lemmas.Option.{slice_get_within}
 use Rattle.std.proofs.lemmas.Slice.Eq.{slice_eq-Decides}
-use Rattle.dns_name.specs.Order.{zone_cmp}
-use Rattle.dns_name.specs.OrderLaws.{zone_cmp_total}
-use Rattle.dns_name.specs.Suffix.{EndsWith}
-use Rattle.record_set.specs.declared.sets.RecordSet.{RecordSet}
+use Rattle.zone_model.specs.OrderOfDnsName.{zone_cmp}
+use Rattle.zone_model.specs.OrderLaws.{zone_cmp_total}
+use Rattle.zone_model.specs.Suffix.{EndsWith}
+use Rattle.zone_model.specs.RecordSetRecord.{RecordSet}
 use Rattle.zone_model.specs.Existing.{Exists, IsAncestor, IsClosest}
 use Rattle.zone_model.specs.Zones.{IsRising}
 use Rattle.zone_model.proofs.Among.{among_at, place_of}

@@ -6,11 +6,11 @@ use Rattle.std.specs.declared.cmp.Ordering.{Ordering}
 use Rattle.std.specs.Ordering.{is_gt, is_lt, is_eq}
 use Rattle.std.proofs.lemmas.Bool.Decides.{Decides-eqb, Decides-and}
 use Rattle.std.proofs.lemmas.Option.{slice_get_within}
-use Rattle.dns_name.specs.Order.{same_labels}
-use Rattle.dns_name.specs.OrderLaws.{same_labels-Decides}
-use Rattle.rdata_layout.specs.Types.{number_of}
-use Rattle.rdata_layout.specs.declared.types.RType.{RType}
-use Rattle.record_set.specs.declared.sets.RecordSet.{RecordSet}
+use Rattle.zone_model.specs.OrderOfDnsName.{same_labels}
+use Rattle.zone_model.specs.OrderLaws.{same_labels-Decides}
+use Rattle.zone_model.specs.Types.{number_of}
+use Rattle.zone_model.specs.RTypeRecord.{RType}
+use Rattle.zone_model.specs.RecordSetRecord.{RecordSet}
 use Rattle.zone_model.specs.Zones.{IsRising, is_of_group}
 use Rattle.zone_model.proofs.Ordered.{one_number}
 use Rattle.set_search.specs.declared.bounds.Bound.{Bound}

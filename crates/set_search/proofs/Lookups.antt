@@ -6,12 +6,12 @@ use Rattle.std.specs.Ordering.{ordering_reverse, ordering_then, nat_cmp, is_gt, 
 use Rattle.std.specs.Cmp.{IsTotalOrder}
 use Rattle.std.proofs.lemmas.Cmp.{on_total, then_total, nat_cmp_total, tied_itself}
 use Rattle.std.proofs.lemmas.Option.{slice_get_within}
-use Rattle.record_set.specs.declared.sets.RecordSet.{RecordSet}
-use Rattle.record_set.specs.declared.sets.SetKey.{SetKey}
-use Rattle.record_set.specs.Sets.{key_of}
-use Rattle.dns_name.specs.Order.{zone_cmp}
-use Rattle.dns_name.specs.OrderLaws.{zone_cmp_total}
-use Rattle.rdata_layout.specs.Types.{number_of}
+use Rattle.zone_model.specs.RecordSetRecord.{RecordSet}
+use Rattle.zone_model.specs.SetKeyRecord.{SetKey}
+use Rattle.zone_model.specs.Sets.{key_of}
+use Rattle.zone_model.specs.OrderOfDnsName.{zone_cmp}
+use Rattle.zone_model.specs.OrderLaws.{zone_cmp_total}
+use Rattle.zone_model.specs.Types.{number_of}
 use Rattle.zone_model.specs.Keys.{ident_cmp, key_cmp}
 use Rattle.zone_model.specs.Zones.{IsRising}
 use Rattle.zone_model.specs.Placing.{comes_before, comes_behind, IsThere}

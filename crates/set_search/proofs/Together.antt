@@ -6,13 +6,13 @@ use Rattle.std.specs.declared.cmp.Ordering.{Ordering}
 use Rattle.std.specs.Ordering.{is_gt, is_lt, is_eq, nat_cmp, ordering_then, ordering_reverse}
 use Rattle.std.specs.Cmp.{unsigned_ties}
 use Rattle.std.proofs.lemmas.Cmp.{nat_cmp_total}
-use Rattle.dns_name.specs.Order.{zone_cmp, same_labels}
-use Rattle.dns_name.specs.OrderLaws.{zone_cmp_total, zone_cmp_ties}
-use Rattle.rdata_layout.specs.Types.{number_of}
-use Rattle.rdata_layout.specs.declared.types.RType.{RType}
-use Rattle.record_set.specs.declared.sets.RecordSet.{RecordSet}
-use Rattle.record_set.specs.declared.sets.SetKey.{SetKey}
-use Rattle.record_set.specs.Sets.{key_of}
+use Rattle.zone_model.specs.OrderOfDnsName.{zone_cmp, same_labels}
+use Rattle.zone_model.specs.OrderLaws.{zone_cmp_total, zone_cmp_ties}
+use Rattle.zone_model.specs.Types.{number_of}
+use Rattle.zone_model.specs.RTypeRecord.{RType}
+use Rattle.zone_model.specs.RecordSetRecord.{RecordSet}
+use Rattle.zone_model.specs.SetKeyRecord.{SetKey}
+use Rattle.zone_model.specs.Sets.{key_of}
 use Rattle.zone_model.specs.Keys.{ident_cmp}
 use Rattle.zone_model.specs.Zones.{is_of_group}
 use Rattle.set_search.specs.declared.bounds.Bound.TheVariants as bound

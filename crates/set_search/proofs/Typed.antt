@@ -6,12 +6,12 @@ use Rattle.std.specs.Ordering.{is_lt, nat_cmp, ordering_reverse, ordering_then}
 use Rattle.std.specs.Cmp.{nat_cmp_is}
 use Rattle.std.proofs.lemmas.Cmp.{tied_itself}
 use Rattle.std.proofs.lemmas.Option.{slice_get_within}
-use Rattle.dns_name.specs.Order.{zone_cmp}
-use Rattle.dns_name.specs.OrderLaws.{zone_cmp_total}
-use Rattle.rdata_layout.specs.Types.{number_of}
-use Rattle.rdata_layout.specs.declared.types.RType.{RType}
-use Rattle.record_set.specs.declared.sets.RecordSet.{RecordSet}
-use Rattle.record_set.specs.Sets.{key_of}
+use Rattle.zone_model.specs.OrderOfDnsName.{zone_cmp}
+use Rattle.zone_model.specs.OrderLaws.{zone_cmp_total}
+use Rattle.zone_model.specs.Types.{number_of}
+use Rattle.zone_model.specs.RTypeRecord.{RType}
+use Rattle.zone_model.specs.RecordSetRecord.{RecordSet}
+use Rattle.zone_model.specs.Sets.{key_of}
 use Rattle.zone_model.specs.Keys.{ident_cmp}
 use Rattle.zone_model.specs.Zones.{IsRising}
 use Rattle.zone_model.proofs.Ordered.{names_tie, one_number}

@@ -2,11 +2,11 @@
 use Rattle.std.specs.Prelude.{ℕ, List, Bool, not}
 use Rattle.std.specs.declared.cmp.Ordering.{Ordering}
 use Rattle.std.specs.Ordering.{is_lt, is_gt, nat_cmp, ordering_then}
-use Rattle.dns_name.specs.Order.{zone_cmp}
-use Rattle.rdata_layout.specs.Types.{number_of}
-use Rattle.rdata_layout.specs.declared.types.RType.{RType}
-use Rattle.record_set.specs.declared.sets.RecordSet.{RecordSet}
-use Rattle.record_set.specs.Sets.{key_of}
+use Rattle.zone_model.specs.OrderOfDnsName.{zone_cmp}
+use Rattle.zone_model.specs.Types.{number_of}
+use Rattle.zone_model.specs.RTypeRecord.{RType}
+use Rattle.zone_model.specs.RecordSetRecord.{RecordSet}
+use Rattle.zone_model.specs.Sets.{key_of}
 use Rattle.zone_model.specs.Keys.{key_cmp}
 use Rattle.set_search.specs.declared.bounds.Bound.{Bound}
 use Rattle.set_search.specs.declared.bounds.Bound.TheVariants as bound

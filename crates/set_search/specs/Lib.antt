@@ -4,3 +4,23 @@ pub mod Stops
 pub use Rattle.zone_model.specs.Placing
 pub use Rattle.zone_model.specs.Existing
 pub use Rattle.zone_model.specs.Zones
+pub use Rattle.zone_model.specs.Walks
+pub use Rattle.zone_model.specs.Reasons
+pub use Rattle.zone_model.specs.BodyRecord
+pub use Rattle.zone_model.specs.RecordSetRecord
+pub use Rattle.zone_model.specs.Sameness
+pub use Rattle.zone_model.specs.Sets
+pub use Rattle.zone_model.specs.SetKeyRecord
+pub use Rattle.zone_model.specs.Keys
+pub use Rattle.zone_model.specs.Types
+pub use Rattle.zone_model.specs.RTypeRecord
+pub use Rattle.zone_model.specs.Labels
+pub use Rattle.zone_model.specs.Names as NamesOfDnsName
+pub use Rattle.zone_model.specs.OrderOfDnsName
+pub use Rattle.zone_model.specs.OrderLaws
+pub use Rattle.zone_model.specs.Stored
+pub use Rattle.zone_model.specs.Suffix
+pub use Rattle.zone_model.specs.RoutingRecord
+pub use Rattle.zone_model.specs.Laws
+pub use Rattle.zone_model.specs.Placed
+pub use Rattle.zone_model.specs.Hosted

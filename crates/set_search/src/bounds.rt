@@ -4,9 +4,7 @@ ghost use Rattle.std.specs.Prelude.{◌≡◌};
 ghost use Rattle.set_search.specs.Stops.{bound_of};
 ghost use Rattle.set_search.specs.declared.bounds.Bound.TheVariants.{From, Past};
 
-use dns_name::Name;
-use rdata_layout::RType;
-use record_set::{Ident, SetKey};
+use zone_model::{Ident, Name, RType, SetKey};
 
 /// A place in zone order at which a search stops, as contracts tell it.
 #[derive(Clone, Copy)]

@@ -1,7 +1,7 @@
 //! The sets of one name and type: all that stands between two bounds.
 
 ghost use Rattle.std.specs.Prelude.{◌≡◌, ◌<◌, ℕ, length, None};
-ghost use Rattle.rdata_layout.specs.Types.{number_of};
+ghost use Rattle.zone_model.specs.Types.{number_of};
 ghost use Rattle.zone_model.specs.Zones.{IsRising};
 ghost use Rattle.set_search.specs.Found.{IsBracket, IsCount, IsGroupAt, IsMemberAt, IsTypedAt};
 ghost use Rattle.set_search.specs.declared.bounds.Bound.TheVariants.{From, PastGroup};
@@ -9,8 +9,7 @@ ghost use Rattle.set_search.specs.declared.bounds.Bound.TheVariants.{From, PastG
 use crate::bounds::Stop;
 use crate::lists::SetList;
 use crate::searching::count_before;
-use dns_name::Name;
-use rdata_layout::RType;
+use zone_model::{Name, RType};
 
 /// Where the sets of a name and type stand, which is side by side: the place of the first one, and
 /// how many they are.

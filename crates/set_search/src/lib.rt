@@ -17,3 +17,7 @@ pub use lists::{SetList, type_under};
 pub use names::{closest_in, exists_in};
 pub use order::set_is_before;
 pub use searching::{count_before, find, find_near};
+pub use zone_model::{
+    Body, Ident, Name, RType, RecordSet, SetKey, key_cmp, keys_are_ordered, octets_cmp,
+    one_name_of_a_wire, placed_rise, same,
+};

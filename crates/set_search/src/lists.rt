@@ -1,17 +1,15 @@
 //! Sets that are looked at by place, wherever they are stored.
 
 ghost use Rattle.std.specs.Prelude.{◌≡◌, ◌<◌, ℕ, List, length, slice_get, Some, IsTrue, ◌↔◌};
-ghost use Rattle.dns_name.specs.Suffix.{EndsWith};
-ghost use Rattle.record_set.specs.declared.sets.RecordSet.{RecordSet};
+ghost use Rattle.zone_model.specs.Suffix.{EndsWith};
+ghost use Rattle.zone_model.specs.RecordSetRecord.{RecordSet};
 ghost use Rattle.set_search.specs.Bounds.{is_before};
 ghost use Rattle.set_search.specs.Found.{IsOf, TypeOrNone};
 ghost use Rattle.set_search.specs.Stops.{bound_of};
 
 use crate::bounds::Stop;
 use crate::order::set_is_before;
-use dns_name::Name;
-use rdata_layout::RType;
-use record_set::RecordSet;
+use zone_model::{Name, RType, RecordSet};
 
 /// Sets that are looked at by their places.
 pub trait SetList {

@@ -1,7 +1,7 @@
 //! Names that exist, since a set has them or a name below them.
 
 ghost use Rattle.std.specs.Prelude.{◌≡◌, ◌<◌, ◌+◌, ◌-◌, ℕ, List, length, IsTrue, ◌↔◌};
-ghost use Rattle.dns_name.specs.Suffix.{EndsWith};
+ghost use Rattle.zone_model.specs.Suffix.{EndsWith};
 ghost use Rattle.zone_model.specs.Existing.{Exists, IsAncestor, IsClosest};
 ghost use Rattle.zone_model.specs.Zones.{IsRising};
 ghost use Rattle.set_search.specs.Found.{IsBelowAt, IsFirstNamed};
@@ -9,8 +9,7 @@ ghost use Rattle.set_search.specs.Found.{IsBelowAt, IsFirstNamed};
 use crate::bounds::Stop;
 use crate::lists::SetList;
 use crate::searching::count_before;
-use dns_name::Name;
-use rdata_layout::RType;
+use zone_model::{Name, RType};
 
 /// Whether a set has the name, or a name below it.
 pub fn exists_in<S: SetList>(sets: &S, name: &Name, hint: Option<usize>) -> bool

@@ -4,16 +4,14 @@ ghost use Rattle.std.specs.Prelude.{◌≡◌};
 ghost use Rattle.std.specs.Cmp.Lexicographic.{slice_cmp};
 ghost use Rattle.std.specs.Option.{option_copied};
 ghost use Rattle.std.specs.Ordering.{nat_cmp};
-ghost use Rattle.record_set.specs.Sets.{ident_of, key_of};
+ghost use Rattle.zone_model.specs.Sets.{ident_of, key_of};
 ghost use Rattle.zone_model.specs.Keys.{ident_cmp, key_cmp};
 ghost use Rattle.set_search.specs.Bounds.{group_cmp, is_before};
 ghost use Rattle.set_search.specs.Stops.{bound_of};
 
 use crate::bounds::Stop;
-use dns_name::Name;
-use rdata_layout::RType;
-use record_set::{Ident, RecordSet, Routing};
 use std::cmp::Ordering;
+use zone_model::{Ident, Name, RType, RecordSet, Routing};
 
 /// Whether a set stands before a bound.
 pub fn set_is_before(set: &RecordSet, stop: &Stop) -> bool

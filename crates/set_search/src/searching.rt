@@ -1,8 +1,8 @@
 //! Searches that look round a place first, and then halve what is left.
 
 ghost use Rattle.std.specs.Prelude.{◌≡◌, ◌≤◌, ◌<◌, ◌-◌, length, slice_get, Some, IsTrue, ◌↔◌};
-ghost use Rattle.record_set.specs.Sets.{key_of};
-ghost use Rattle.record_set.specs.declared.sets.RecordSet.{RecordSet};
+ghost use Rattle.zone_model.specs.Sets.{key_of};
+ghost use Rattle.zone_model.specs.RecordSetRecord.{RecordSet};
 ghost use Rattle.zone_model.specs.Zones.{IsRising};
 ghost use Rattle.set_search.specs.declared.bounds.Bound.TheVariants.{From};
 ghost use Rattle.set_search.specs.Found.{IsBracket, IsCount, Finds};
@@ -10,7 +10,7 @@ ghost use Rattle.set_search.specs.Stops.{bound_of};
 
 use crate::bounds::{Stop, before_key, behind_key};
 use crate::lists::SetList;
-use record_set::SetKey;
+use zone_model::SetKey;
 
 /// How many sets stand before a bound, which is the place of the first one behind it.
 ///

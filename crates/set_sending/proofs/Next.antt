@@ -6,7 +6,7 @@ use Rattle.std.proofs.lemmas.List.{length-map}
 use Rattle.list_writing.specs.Pieces.{value_piece, value_pieces}
 use Rattle.rdata_layout.specs.declared.types.RType.{RType}
 use Rattle.record_set.specs.declared.sets.RecordSet.{RecordSet}
-use Rattle.set_scratch.specs.Bodies.{values_of, wires_of}
+use Rattle.list_writing.specs.Bodies.{values_of, wires_of}
 
 -- what stands at a place below the end
 filled : {X : Type 0} (xs : List X) (i : ℕ) → i < length xs → (x : X) × (slice_get xs i ≡ Some x)

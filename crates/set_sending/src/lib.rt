@@ -8,8 +8,10 @@
 mod passing;
 mod pieces;
 
-pub use list_writing::ValueText;
+pub use list_writing::{
+    Scratch, ValueText, begin_list, begin_set_line, end_list, end_set_line, lists_are_whole,
+    set_lines_are_whole,
+};
 pub use passing::{ROOM, make_room, send_last};
 pub use pieces::send_set;
-pub use set_scratch::Scratch;
 pub use whole_writing::Output;

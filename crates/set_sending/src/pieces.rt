@@ -6,14 +6,15 @@ ghost use Rattle.list_writing.specs.Pieces.{set_front, set_pieces, set_rest, val
 ghost use Rattle.list_writing.specs.Pieces.{value_pieces};
 ghost use Rattle.octets.specs.Counts.{Rose};
 ghost use Rattle.record_set.specs.declared.sets.RecordSet.{RecordSet};
-ghost use Rattle.set_scratch.specs.Bodies.{wires_of};
-ghost use Rattle.set_scratch.specs.Holding.{HasValue, IsHolding};
+ghost use Rattle.list_writing.specs.Bodies.{wires_of};
+ghost use Rattle.list_writing.specs.Holding.{HasValue, IsHolding};
 ghost use Rattle.set_sending.specs.Passing.{Passes};
 
 use crate::passing::{ROOM, make_room};
-use list_writing::{MOST_OF_SET, MOST_OF_VALUE, ValueText, begin_set, end_set, write_value};
+use list_writing::{
+    MOST_OF_SET, MOST_OF_VALUE, Scratch, ValueText, begin_set, end_set, write_value,
+};
 use r53_io::Sink;
-use set_scratch::Scratch;
 use whole_writing::Output;
 
 /// Passes on the set that is held. A later one of a list has a comma in front.

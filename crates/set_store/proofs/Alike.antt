@@ -8,19 +8,19 @@ use Rattle.std.specs.Ordering.{is_gt, is_lt, nat_cmp, ordering_then}
 use Rattle.std.proofs.lemmas.List.{length-append}
 use Rattle.std.proofs.Math.Seq.{drop-append_seam}
 use Rattle.octets.specs.Numbers.{number_at, two_octets}
-use Rattle.dns_name.specs.Labels.{wire}
-use Rattle.dns_name.specs.Names.{IsName}
-use Rattle.dns_name.specs.Order.{zone_cmp}
-use Rattle.rdata_layout.specs.Types.{number_of}
-use Rattle.rdata_layout.specs.declared.types.RType.{RType}
-use Rattle.record_set.specs.declared.sets.RecordSet.{RecordSet}
-use Rattle.record_set.specs.declared.sets.SetKey.{SetKey}
-use Rattle.record_set.specs.Sets.{ident_of}
+use Rattle.set_search.specs.Labels.{wire}
+use Rattle.set_search.specs.NamesOfDnsName.{IsName}
+use Rattle.set_search.specs.OrderOfDnsName.{zone_cmp}
+use Rattle.set_search.specs.Types.{number_of}
+use Rattle.set_search.specs.RTypeRecord.{RType}
+use Rattle.set_search.specs.RecordSetRecord.{RecordSet}
+use Rattle.set_search.specs.SetKeyRecord.{SetKey}
+use Rattle.set_search.specs.Sets.{ident_of}
 use Rattle.set_scratch.specs.Laws.{KeysAreInFront}
 use Rattle.set_scratch.specs.Spelling.{Spells}
 use Rattle.set_search.specs.Bounds.{is_before}
 use Rattle.set_search.specs.declared.bounds.Bound.TheVariants as bound
-use Rattle.zone_model.specs.Keys.{ident_cmp}
+use Rattle.set_search.specs.Keys.{ident_cmp}
 use Rattle.set_store.proofs.Fronts.{fronted, its_name}
 use Rattle.set_store.proofs.Named.{as_itself}
 

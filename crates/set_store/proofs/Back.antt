@@ -1,8 +1,8 @@
 -- Cells that come back.
 use Rattle.std.proofs.Common.{◌≡◌, ℕ, ◌+◌, List, Option, None, Some, Bool, length, ap, ◌∙◌, ◌-◌, ◌≤◌, arith}
 use Rattle.set_store.specs.declared.slots.Slot.{Slot}
-use Rattle.octet_region.specs.Cells.{cells_for}
-use Rattle.octet_region.specs.Stored.{Frees, Stored}
+use Rattle.set_scratch.specs.Cells.{cells_for}
+use Rattle.set_scratch.specs.Stored.{Frees, Stored}
 
 pub come_back : (known : Option (List ℕ)) (octets : List ℕ) → known ≡ Some octets → (old new : Stored)
     (handle : ℕ) (answer : Bool) → Frees known old handle answer new

@@ -2,10 +2,10 @@
 use Rattle.std.proofs.Common.{◌≡◌, ℕ, ◌+◌, ◌-◌, ◌≤◌, List, take, drop, length, min, length-take, ap, ◌∙◌, sym, subst, arith, Option, None, Some}
 use Rattle.std.proofs.lemmas.List.{take-take, drop-take}
 use Rattle.octets.specs.Numbers.{number_at}
-use Rattle.dns_name.specs.Labels.{wire}
-use Rattle.dns_name.specs.Names.{IsName}
-use Rattle.rdata_layout.specs.Types.{number_of}
-use Rattle.record_set.specs.declared.sets.RecordSet.{RecordSet}
+use Rattle.set_search.specs.Labels.{wire}
+use Rattle.set_search.specs.NamesOfDnsName.{IsName}
+use Rattle.set_search.specs.Types.{number_of}
+use Rattle.set_search.specs.RecordSetRecord.{RecordSet}
 use Rattle.set_scratch.specs.Laws.{KeysAreInFront}
 use Rattle.set_scratch.specs.Spelling.{Spells}
 use Rattle.set_search.specs.Found.{TypeOrNone}

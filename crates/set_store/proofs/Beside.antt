@@ -7,13 +7,13 @@ use Rattle.std.specs.Cmp.Lexicographic.{slice_cmp}
 use Rattle.std.specs.Ordering.{is_gt, is_lt, nat_cmp, ordering_then}
 use Rattle.std.proofs.lemmas.List.{append-nil, length-append, length-take}
 use Rattle.std.proofs.Math.Seq.{drop-append_seam, take-append_seam}
-use Rattle.dns_name.specs.Labels.{IsRawLabel, frame, wire}
-use Rattle.dns_name.specs.Names.{IsName}
-use Rattle.dns_name.specs.Order.{zone_cmp}
-use Rattle.dns_name.proofs.Depth.{deeper}
-use Rattle.record_set.specs.declared.sets.RecordSet.{RecordSet}
-use Rattle.record_set.specs.declared.sets.SetKey.{SetKey}
-use Rattle.rdata_layout.specs.declared.types.RType.{RType}
+use Rattle.set_search.specs.Labels.{IsRawLabel, frame, wire}
+use Rattle.set_search.specs.NamesOfDnsName.{IsName}
+use Rattle.set_search.specs.OrderOfDnsName.{zone_cmp}
+use Rattle.set_search.proofs.Depth.{deeper}
+use Rattle.set_search.specs.RecordSetRecord.{RecordSet}
+use Rattle.set_search.specs.SetKeyRecord.{SetKey}
+use Rattle.set_search.specs.RTypeRecord.{RType}
 use Rattle.set_search.specs.declared.bounds.Bound.TheVariants as bound
 use Rattle.set_search.specs.Bounds.{is_before}
 use Rattle.set_store.proofs.Fronts.{above_alike}

@@ -5,17 +5,17 @@ use Rattle.std.specs.List.{AllByRecursion}
 use Rattle.std.proofs.lemmas.List.{take-append-drop}
 use Rattle.std.proofs.Math.Seq.{take-append_seam, drop-append_seam}
 use Rattle.octets.specs.Numbers.{two_octets}
-use Rattle.dns_name.specs.Labels.{IsRawLabel, wire}
-use Rattle.dns_name.specs.Names.{IsName}
-use Rattle.dns_name.specs.Stored.{labels_of}
-use Rattle.dns_name.proofs.Labels.{labels_of-wire}
-use Rattle.rdata_layout.specs.Types.{number_of}
-use Rattle.rdata_layout.specs.declared.types.RType.{RType}
-use Rattle.record_set.specs.declared.sets.RecordSet.{RecordSet}
+use Rattle.set_search.specs.Labels.{IsRawLabel, wire}
+use Rattle.set_search.specs.NamesOfDnsName.{IsName}
+use Rattle.set_search.specs.Stored.{labels_of}
+use Rattle.set_search.proofs.Labels.{labels_of-wire}
+use Rattle.set_search.specs.Types.{number_of}
+use Rattle.set_search.specs.RTypeRecord.{RType}
+use Rattle.set_search.specs.RecordSetRecord.{RecordSet}
 use Rattle.set_scratch.specs.Heads.{policy_front}
 use Rattle.set_scratch.specs.Laws.{KeysAreInFront}
 use Rattle.set_scratch.specs.Spelling.{Spells}
-use Rattle.zone_model.proofs.Ordered.{one_number}
+use Rattle.set_search.proofs.Ordered.{one_number}
 
 -- octets that begin with two names begin with one
 one_front : (octets rest more : List ℕ) (labels others : List (List ℕ)) → IsName labels → IsName others

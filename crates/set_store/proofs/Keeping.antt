@@ -6,11 +6,11 @@ use Rattle.std.proofs.lemmas.Bool.{eq-eqb}
 use Rattle.std.proofs.lemmas.Bool.Decides.{eqb_tells}
 use Rattle.std.proofs.lemmas.List.{append-nil, map-set, length-set}
 use Rattle.std.proofs.lemmas.Option.{slice_get-map}
-use Rattle.octet_region.specs.Stored.{Held}
-use Rattle.record_set.specs.declared.sets.RecordSet.{RecordSet}
-use Rattle.set_octets.specs.Octets.{set_octets}
-use Rattle.set_reading.specs.Laws.{WrittenReadsBack}
-use Rattle.set_reading.specs.Reading.{read}
+use Rattle.set_scratch.specs.Stored.{Held}
+use Rattle.set_search.specs.RecordSetRecord.{RecordSet}
+use Rattle.set_scratch.specs.Octets.{set_octets}
+use Rattle.set_scratch.specs.LawsOfSetReading.{WrittenReadsBack}
+use Rattle.set_scratch.specs.Reading.{read}
 use Rattle.set_store.specs.declared.slots.Slot.{Slot}
 use Rattle.set_store.specs.Index.{IsIndex, IsLive, kept_in, no_cell, octets_in, set_of, set_read}
 use Rattle.set_store.specs.Stored.{IsSpelling, IsTaken, Kept, Spells}

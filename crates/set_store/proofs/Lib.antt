@@ -14,3 +14,10 @@ pub mod Takes
 pub mod Back
 pub mod Replaces
 pub mod Whole
+pub use Rattle.set_search.proofs.Among
+pub use Rattle.set_search.proofs.ListsOfZoneModel
+pub use Rattle.set_search.proofs.Below
+pub use Rattle.set_search.proofs.Lookups
+pub use Rattle.set_search.proofs.Ordered
+pub use Rattle.set_search.proofs.Staying
+pub use Rattle.set_search.proofs.Places

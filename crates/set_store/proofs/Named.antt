@@ -3,15 +3,15 @@ use Rattle.std.proofs.Common.{◌≡◌, Less, Equal, Greater, ◌++◌, ℕ, Li
 use Rattle.std.specs.declared.cmp.Ordering.{Ordering}
 use Rattle.std.specs.Ordering.{ordering_reverse}
 use Rattle.octets.specs.Numbers.{two_octets}
-use Rattle.dns_name.specs.Order.{zone_cmp}
-use Rattle.dns_name.specs.OrderLaws.{zone_cmp_total}
-use Rattle.dns_name.specs.Labels.{wire}
-use Rattle.octet_reading.specs.Names.{name_at}
-use Rattle.octet_reading.specs.Rules.{BaseFieldsAreRead}
-use Rattle.rdata_layout.specs.Types.{number_of}
-use Rattle.record_set.specs.declared.sets.RecordSet.{RecordSet}
+use Rattle.set_search.specs.OrderOfDnsName.{zone_cmp}
+use Rattle.set_search.specs.OrderLaws.{zone_cmp_total}
+use Rattle.set_search.specs.Labels.{wire}
+use Rattle.set_scratch.specs.Names.{name_at}
+use Rattle.set_scratch.specs.Rules.{BaseFieldsAreRead}
+use Rattle.set_search.specs.Types.{number_of}
+use Rattle.set_search.specs.RecordSetRecord.{RecordSet}
 use Rattle.set_scratch.specs.Heads.{key_octets, policy_front}
-use Rattle.set_reading.specs.Sets.{IsSet}
+use Rattle.set_scratch.specs.Sets.{IsSet}
 
 pub name_of_head : BaseFieldsAreRead → (set : RecordSet) (rest octets : List ℕ) → IsSet set
     → octets ≡ key_octets set ++ rest

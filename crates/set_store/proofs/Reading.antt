@@ -4,11 +4,11 @@ use Rattle.std.specs.Prelude.{slice_get, option_map, ◌⊎◌}
 use Rattle.std.proofs.lemmas.List.{take_all}
 use Rattle.std.proofs.Math.Seq.{take-append-add, take-append_seam}
 use Rattle.std.proofs.lemmas.Option.{slice_get-map}
-use Rattle.octet_region.specs.Stored.{Held}
-use Rattle.record_set.specs.declared.sets.RecordSet.{RecordSet}
+use Rattle.set_scratch.specs.Stored.{Held}
+use Rattle.set_search.specs.RecordSetRecord.{RecordSet}
 use Rattle.set_scratch.specs.Heads.{key_octets}
 use Rattle.set_scratch.specs.Laws.{KeysAreInFront}
-use Rattle.set_reading.specs.Laws.{WrittenReadsBack}
+use Rattle.set_scratch.specs.LawsOfSetReading.{WrittenReadsBack}
 use Rattle.set_store.specs.declared.slots.Slot.{Slot}
 use Rattle.set_store.specs.Index.{HoldsAt, IsIndex, kept_in, set_of}
 use Rattle.set_store.specs.Stored.{IsKept, Kept, Spells}

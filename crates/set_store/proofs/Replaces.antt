@@ -4,9 +4,9 @@ use Rattle.std.specs.Prelude.{slice_get}
 use Rattle.std.specs.FinMap as finmap
 use Rattle.std.proofs.lemmas.List.{length-set}
 use Rattle.std.proofs.lemmas.Option.{slice_get_within}
-use Rattle.octet_region.specs.Stored.{Held}
-use Rattle.record_set.specs.declared.sets.RecordSet.{RecordSet}
-use Rattle.set_reading.specs.Laws.{WrittenReadsBack}
+use Rattle.set_scratch.specs.Stored.{Held}
+use Rattle.set_search.specs.RecordSetRecord.{RecordSet}
+use Rattle.set_scratch.specs.LawsOfSetReading.{WrittenReadsBack}
 use Rattle.set_store.specs.declared.slots.Slot.{Slot}
 use Rattle.set_store.specs.Index.{IsIndex, IsLive, kept_in, no_cell, set_of}
 use Rattle.set_store.specs.Stored.{IsSpelling, Spells}

@@ -6,7 +6,7 @@ use Rattle.std.proofs.lemmas.Bool.{eq-eqb}
 use Rattle.std.proofs.lemmas.Bool.Decides.{eqb_tells}
 use Rattle.std.proofs.lemmas.List.{length-set}
 use Rattle.std.proofs.lemmas.Option.{slice_get_within}
-use Rattle.octet_region.specs.Stored.{Held}
+use Rattle.set_scratch.specs.Stored.{Held}
 use Rattle.set_store.specs.declared.slots.Slot.{Slot}
 use Rattle.set_store.specs.Index.{IsChain, IsIndex, IsLive, kept_in, no_cell}
 use Rattle.set_store.proofs.Chains.{moved}

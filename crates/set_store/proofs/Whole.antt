@@ -3,14 +3,14 @@ use Rattle.std.proofs.Common.{◌≡◌, ◌≤◌, ℕ, List, [], ◌++◌, Opt
 use Rattle.std.specs.FinMap as finmap
 use Rattle.std.specs.Prelude.{IfOk, slice_get}
 use Rattle.std.proofs.lemmas.List.{append-nil, take_all}
-use Rattle.octet_region.specs.Stored.{Held}
+use Rattle.set_scratch.specs.Stored.{Held}
 use Rattle.std.proofs.Math.Seq.{take-append_seam, take-length}
-use Rattle.record_set.specs.declared.sets.RecordSet.{RecordSet}
-use Rattle.set_octets.specs.Octets.{set_octets}
-use Rattle.set_reading.specs.declared.faults.ReadFault.{ReadFault}
-use Rattle.set_reading.specs.declared.faults.ReadFault.TheVariants as fault
-use Rattle.set_reading.specs.Gives.{ReadsSet}
-use Rattle.set_reading.specs.Sets.{BeginsWithSet}
+use Rattle.set_search.specs.RecordSetRecord.{RecordSet}
+use Rattle.set_scratch.specs.Octets.{set_octets}
+use Rattle.set_scratch.specs.ReadFaultRecord.{ReadFault}
+use Rattle.set_scratch.specs.ReadFaultRecord.TheVariants as fault
+use Rattle.set_scratch.specs.Gives.{ReadsSet}
+use Rattle.set_scratch.specs.Sets.{BeginsWithSet}
 use Rattle.set_store.specs.declared.slots.Slot.{Slot}
 use Rattle.set_store.specs.Index.{HoldsAt}
 use Rattle.set_store.specs.Stored.{Spells}

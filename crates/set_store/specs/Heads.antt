@@ -5,10 +5,10 @@ use Rattle.std.specs.Borrow.{Bor}
 use Rattle.std.specs.declared.cmp.Ordering.{Ordering}
 use Rattle.std.specs.declared.cmp.Ordering.TheVariants.{Equal}
 use Rattle.octets.specs.Numbers.{number_at}
-use Rattle.rdata_layout.specs.declared.types.RType.{RType}
-use Rattle.record_set.specs.declared.sets.RecordSet.{RecordSet}
+use Rattle.set_search.specs.RTypeRecord.{RType}
+use Rattle.set_search.specs.RecordSetRecord.{RecordSet}
 use Rattle.set_scratch.specs.Heads.{key_octets, policy_front}
-use Rattle.set_reading.specs.Sets.{IsSet}
+use Rattle.set_scratch.specs.Sets.{IsSet}
 use Rattle.set_search.specs.Bounds.{group_cmp}
 
 -- the octets begin with those that tell the key of a set

@@ -3,12 +3,12 @@ use Rattle.std.specs.Prelude.{◌≡◌, ◌≢◌, ◌<◌, ◌^◌, ℕ, zero,
 use Rattle.std.specs.Prelude.{None, Some, Result, Ok, Err, ◌==◌, if◌then◌else◌, length, slice_get}
 use Rattle.std.specs.Prelude.{unwrap_or}
 use Rattle.std.specs.FinMap as finmap
-use Rattle.octet_region.specs.Stored.{Held}
-use Rattle.rdata_layout.specs.declared.types.RType.TheVariants as rtype
-use Rattle.routing.specs.declared.policies.Routing.TheVariants as routing
-use Rattle.record_set.specs.declared.sets.RecordSet.{RecordSet}
-use Rattle.record_set.specs.declared.sets.Body.TheVariants as body
-use Rattle.set_reading.specs.Reading.{read}
+use Rattle.set_scratch.specs.Stored.{Held}
+use Rattle.set_search.specs.RTypeRecord.TheVariants as rtype
+use Rattle.set_search.specs.RoutingRecord.TheVariants as routing
+use Rattle.set_search.specs.RecordSetRecord.{RecordSet}
+use Rattle.set_search.specs.BodyRecord.TheVariants as body
+use Rattle.set_scratch.specs.Reading.{read}
 use Rattle.set_store.specs.declared.slots.Slot.{Slot}
 use Rattle.set_store.specs.Stored.{Kept, IsSpelling}
 

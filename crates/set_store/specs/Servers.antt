@@ -1,7 +1,7 @@
 -- NS sets, as they are counted.
 use Rattle.std.specs.Prelude.{ℕ, ◌==◌, if◌then◌else◌, length, Option, None, Some}
-use Rattle.rdata_layout.specs.Types.{number_of}
-use Rattle.record_set.specs.declared.sets.RecordSet.{RecordSet}
+use Rattle.set_search.specs.Types.{number_of}
+use Rattle.set_search.specs.RecordSetRecord.{RecordSet}
 
 -- how many labels the name of an NS set has, whose type has the number 2; nothing of another set
 abbrev pub server_labels : RecordSet → Option ℕ

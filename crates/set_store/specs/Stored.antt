@@ -1,6 +1,6 @@
 -- What a store of sets holds.
 use Rattle.std.specs.Prelude.{◌≡◌, ℕ, zero, suc, List, [], ◌∷◌, Option, None, Some, slice_get}
-use Rattle.record_set.specs.declared.sets.RecordSet.{RecordSet}
+use Rattle.set_search.specs.RecordSetRecord.{RecordSet}
 pub use Rattle.set_scratch.specs.Spelling.{Spells}
 
 -- A set, and the number of the zone that it is of.

@@ -2,7 +2,7 @@
 
 ghost use Rattle.std.specs.Prelude.{◌≡◌, ◌≤◌, ◌<◌, ◌+◌, ◌^◌, ◌++◌, ◌∷◌, [], ℕ, length, IsTrue};
 ghost use Rattle.std.specs.Prelude.{None, map, vec_len, vec_capacity};
-ghost use Rattle.octet_region.specs.Stored.{Held};
+ghost use Rattle.set_scratch.specs.Stored.{Held};
 ghost use Rattle.set_store.specs.Index.{IsIndex, kept_in, new_slot};
 ghost use Rattle.set_store.specs.Stored.{nothing};
 

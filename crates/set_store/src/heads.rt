@@ -3,27 +3,23 @@
 ghost use Rattle.std.specs.Prelude.{◌≡◌, ◌++◌, ℕ, List, length, Ok, Err, IsTrue, ◌↔◌};
 ghost use Rattle.std.specs.Option.{option_copied};
 ghost use Rattle.std.specs.Ordering.{nat_cmp};
-ghost use Rattle.dns_name.specs.Labels.{wire};
-ghost use Rattle.dns_name.specs.Names.{IsName};
-ghost use Rattle.dns_name.specs.Order.{zone_cmp};
-ghost use Rattle.dns_name.specs.Suffix.{EndsWith};
-ghost use Rattle.rdata_layout.specs.Types.{number_of};
-ghost use Rattle.record_set.specs.Sets.{ident_of, key_of};
-ghost use Rattle.record_set.specs.declared.sets.RecordSet.{RecordSet};
+ghost use Rattle.set_search.specs.Labels.{wire};
+ghost use Rattle.set_search.specs.NamesOfDnsName.{IsName};
+ghost use Rattle.set_search.specs.OrderOfDnsName.{zone_cmp};
+ghost use Rattle.set_search.specs.Suffix.{EndsWith};
+ghost use Rattle.set_search.specs.Types.{number_of};
+ghost use Rattle.set_search.specs.Sets.{ident_of, key_of};
+ghost use Rattle.set_search.specs.RecordSetRecord.{RecordSet};
 ghost use Rattle.set_scratch.specs.Heads.{Tells, key_octets, policy_front};
-ghost use Rattle.set_reading.specs.Sets.{IsSet};
-ghost use Rattle.zone_model.specs.Keys.{ident_cmp, key_cmp};
+ghost use Rattle.set_scratch.specs.Sets.{IsSet};
+ghost use Rattle.set_search.specs.Keys.{ident_cmp, key_cmp};
 ghost use Rattle.set_search.specs.Bounds.{group_cmp, is_before};
 ghost use Rattle.set_search.specs.Stops.{bound_of};
 ghost use Rattle.set_store.specs.Heads.{IsHead, IsPartedBy};
 ghost use Rattle.set_store.specs.Servers.{server_labels};
 
-use dns_name::{Name, octets_cmp, one_name_of_a_wire};
-use octet_reading::{base_fields_are_read, name_at};
-use rdata_layout::RType;
-use record_set::Ident;
-use set_scratch::{ident_in_front, name_and_rest, type_and_rest};
-use set_search::Stop;
+use set_scratch::{base_fields_are_read, ident_in_front, name_and_rest, name_at, type_and_rest};
+use set_search::{Ident, Name, RType, Stop, octets_cmp, one_name_of_a_wire};
 use std::cmp::Ordering;
 
 /// Whether a set stands before a bound, from octets that begin with all that tells its key.

@@ -15,5 +15,12 @@ mod typed;
 
 pub use hashes::hash_of;
 pub use octets::OutOfMemory;
-pub use set_scratch::{Scratch, Watch};
+pub use set_scratch::{
+    Scratch, Watch, behind_text, cells_for, fields_are_read, fill_set, has_spelling, one_spelling,
+    region_at, set_len, sub_at, well_formed,
+};
+pub use set_search::{
+    Body, Name, RType, RecordSet, SetKey, SetList, Stop, before_key, behind_key, closest_in,
+    count_before, exists_in, find, find_near, group_in, key_cmp, keys_are_ordered, placed_rise,
+};
 pub use store::SetStore;

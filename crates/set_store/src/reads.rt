@@ -2,9 +2,9 @@
 
 ghost use Rattle.std.specs.Prelude.{◌≡◌, ◌≤◌, ◌<◌, ◌+◌, ◌++◌, ℕ, List, drop, length, take, min};
 ghost use Rattle.std.specs.Prelude.{slice_get, Some, IfOk, IsTrue, ◌↔◌};
-ghost use Rattle.dns_name.specs.Suffix.{EndsWith};
-ghost use Rattle.record_set.specs.declared.sets.RecordSet.{RecordSet};
-ghost use Rattle.set_octets.specs.Octets.{most_octets, set_octets};
+ghost use Rattle.set_search.specs.Suffix.{EndsWith};
+ghost use Rattle.set_search.specs.RecordSetRecord.{RecordSet};
+ghost use Rattle.set_scratch.specs.Octets.{most_octets, set_octets};
 ghost use Rattle.set_scratch.specs.Telling.{is_alias, target_of, watch_of};
 ghost use Rattle.set_search.specs.Bounds.{is_before};
 ghost use Rattle.set_search.specs.Found.{IsOf, TypeOrNone};
@@ -20,16 +20,12 @@ use crate::siblings::is_before_beside;
 use crate::slots::{NO_CELL, Slot};
 use crate::store::SetStore;
 use crate::typed::{is_of_at, type_under};
-use dns_name::Name;
-use octet_region::{Handle, Region};
 use octets::{OutOfMemory, front, zeros};
-use rdata_layout::RType;
-use record_set::RecordSet;
-use set_reading::{ReadFault, read_set, written_reads_back};
 use set_scratch::{
-    Scratch, Watch, is_alias_in, keys_are_in_front, name_and_rest, target_in, watch_in,
+    Handle, ReadFault, Region, Scratch, Watch, is_alias_in, keys_are_in_front, name_and_rest,
+    read_set, target_in, watch_in, written_reads_back,
 };
-use set_search::Stop;
+use set_search::{Name, RType, RecordSet, Stop};
 use std::alloc::Global;
 
 /// Sets of so many octets or fewer are copied whole to be compared.

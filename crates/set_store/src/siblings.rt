@@ -7,9 +7,9 @@ ghost use Rattle.std.specs.Prelude.{IfSome};
 ghost use Rattle.std.specs.Cmp.Lexicographic.{slice_cmp};
 ghost use Rattle.std.specs.Ordering.{nat_cmp};
 ghost use Rattle.std.specs.declared.cmp.Ordering.TheVariants.{Greater, Less};
-ghost use Rattle.dns_name.specs.Order.{zone_cmp};
-ghost use Rattle.rdata_layout.specs.Types.{number_of};
-ghost use Rattle.record_set.specs.declared.sets.RecordSet.{RecordSet};
+ghost use Rattle.set_search.specs.OrderOfDnsName.{zone_cmp};
+ghost use Rattle.set_search.specs.Types.{number_of};
+ghost use Rattle.set_search.specs.RecordSetRecord.{RecordSet};
 ghost use Rattle.set_search.specs.Bounds.{is_before};
 ghost use Rattle.set_search.specs.Stops.{bound_of};
 ghost use Rattle.set_store.specs.Index.{HoldsAt};
@@ -18,11 +18,9 @@ ghost use Rattle.set_store.specs.Stored.{IsSpelling, Spells};
 use crate::reads::{front_at, stands_at};
 use crate::slots::Slot;
 use crate::typed::type_under;
-use dns_name::Name;
-use octet_region::Region;
 use octets::behind;
-use rdata_layout::RType;
-use set_search::Stop;
+use set_scratch::Region;
+use set_search::{Name, RType, Stop};
 use std::cmp::Ordering;
 
 /// Whether the set of a slot stands before a bound, where its name or its type tells that. None

@@ -2,18 +2,17 @@
 
 ghost use Rattle.std.specs.Prelude.{◌≡◌, ◌≢◌, ◌≤◌, ◌<◌, ◌+◌, ◌-◌, ◌^◌, ◌++◌, ℕ, [], length, Some};
 ghost use Rattle.std.specs.Prelude.{None, slice_get, slice_set, IsOk, MatchResult, max};
-ghost use Rattle.octet_region.specs.Cells.{cells_for};
-ghost use Rattle.record_set.specs.declared.sets.RecordSet.{RecordSet};
-ghost use Rattle.set_octets.specs.Octets.{set_octets};
+ghost use Rattle.set_scratch.specs.Cells.{cells_for};
+ghost use Rattle.set_search.specs.RecordSetRecord.{RecordSet};
+ghost use Rattle.set_scratch.specs.Octets.{set_octets};
 ghost use Rattle.set_store.specs.declared.slots.Slot.{Slot};
 ghost use Rattle.set_store.specs.Stored.{IsKept, IsSpelling, IsTaken, IsVacant, Kept, Spells};
 ghost use Rattle.set_store.specs.Stored.{nothing};
 
 use crate::growth::{give_slots, make_room};
 use crate::slots::{NO_CELL, Slot};
-use octet_region::{Handle, Region};
 use octets::OutOfMemory;
-use set_reading::written_reads_back;
+use set_scratch::{Handle, Region, written_reads_back};
 use std::alloc::Global;
 use std::marker::Model;
 

@@ -2,7 +2,7 @@
 //! of its first cell alone.
 
 ghost use Rattle.std.specs.Prelude.{◌≡◌, ◌≤◌, ◌+◌, ℕ, List, drop, length, take, IsTrue, ◌↔◌};
-ghost use Rattle.record_set.specs.declared.sets.RecordSet.{RecordSet};
+ghost use Rattle.set_search.specs.RecordSetRecord.{RecordSet};
 ghost use Rattle.set_search.specs.Found.{IsOf, TypeOrNone};
 ghost use Rattle.set_store.specs.Heads.{IsTypeBehind};
 ghost use Rattle.set_store.specs.Index.{HoldsAt};
@@ -11,10 +11,9 @@ ghost use Rattle.set_store.specs.Stored.{IsSpelling, Spells};
 use crate::heads::is_same;
 use crate::reads::{front_at, stands_at, two_at};
 use crate::slots::Slot;
-use dns_name::Name;
-use octet_region::Region;
 use octets::{front, number_at};
-use rdata_layout::RType;
+use set_scratch::Region;
+use set_search::{Name, RType};
 
 /// Whether the set of a slot has the name and the type.
 pub(crate) fn is_of_at(

@@ -3,22 +3,22 @@ use Rattle.std.proofs.Common.{◌≡◌, ℕ, ◌<◌, ◌≤◌, ◌^◌, inl, 
 use Rattle.std.proofs.lemmas.Bool.{leb-true, le-leb}
 use Rattle.std.specs.List.{AllByRecursion}
 use Rattle.octets.specs.Numbers.{four_octets}
-use Rattle.octet_reading.specs.Readers.{Reader}
-use Rattle.octet_reading.specs.Reading.{four_at}
-use Rattle.octet_reading.specs.Rules.{AreListed, IsReadAs, list_octets}
-use Rattle.octet_reading.proofs.Base.{name_read, octet_read}
-use Rattle.octet_reading.proofs.Composed.{in_turn_by_read, in_turn_read, so_many_read, tested_read}
-use Rattle.octet_reading.proofs.Optional.{list_read}
-use Rattle.octet_reading.proofs.Rules.{alike, nothing_read, seen_read, then_read}
-use Rattle.block_reading.proofs.Prefixes.{block_read}
-use Rattle.block_reading.proofs.Texts as texts
-use Rattle.check_octets.specs.Octets.{where_told}
-use Rattle.check_reading.proofs.Commands.{check_read}
-use Rattle.check_reading.proofs.Parts.{number_read}
-use Rattle.check_reading.specs.Fields.{counted_at, told_at}
+use Rattle.config_model.specs.Readers.{Reader}
+use Rattle.config_model.specs.Reading.{four_at}
+use Rattle.config_model.specs.RulesOfOctetReading.{AreListed, IsReadAs, list_octets}
+use Rattle.config_model.proofs.Base.{name_read, octet_read}
+use Rattle.config_model.proofs.Composed.{in_turn_by_read, in_turn_read, so_many_read, tested_read}
+use Rattle.config_model.proofs.Optional.{list_read}
+use Rattle.config_model.proofs.Rules.{alike, nothing_read, seen_read, then_read}
+use Rattle.command_codec.proofs.Prefixes.{block_read}
+use Rattle.command_codec.proofs.Texts as texts
+use Rattle.config_model.specs.OctetsOfCheckOctets.{where_told}
+use Rattle.command_codec.proofs.CommandsOfCheckReading.{check_read}
+use Rattle.command_codec.proofs.PartsOfCheckReading.{number_read}
+use Rattle.command_codec.specs.Fields.{counted_at, told_at}
 use Rattle.command_codec.proofs.Fields.{set_read}
 use Rattle.config_model.specs.Configs.{Config}
-use Rattle.set_reading.specs.Laws as set_laws
+use Rattle.config_model.specs.LawsOfSetReading as set_laws
 use Rattle.snapshot_octets.specs.Octets.{HasSnapshot, IsHeldCheck, IsHeldCollection}
 use Rattle.snapshot_octets.specs.Octets.{IsSpelledCollection, IsSpelledLocation}
 use Rattle.snapshot_octets.specs.Octets.{IsSpelledZone, IsVersion, IsWhereTold, collection_octets}

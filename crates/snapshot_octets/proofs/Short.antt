@@ -7,31 +7,31 @@ use Rattle.std.proofs.lemmas.List.Concat.{length-flat_map}
 use Rattle.std.proofs.lemmas.List.Sums.{sum_by-cons}
 use Rattle.octets.specs.Numbers.{four_octets}
 use Rattle.dns_name.specs.Labels.{wire}
-use Rattle.octet_reading.specs.Rules.{list_octets, text_octets}
+use Rattle.config_model.specs.RulesOfOctetReading.{list_octets, text_octets}
 use Rattle.address_text.specs.declared.address.IpAddress.{IpAddress}
 use Rattle.address_text.specs.declared.address.IpAddress.TheVariants.{V4, V6}
-use Rattle.block_octets.specs.Octets.{block_octets, family_of}
+use Rattle.config_model.specs.Octets.{block_octets, family_of}
 use Rattle.check_model.specs.Checks.{IsBounded}
 use Rattle.check_model.specs.declared.checks.Check.{Check}
 use Rattle.check_model.specs.declared.checks.Check.TheVariants.{Calculated, Endpoint}
-use Rattle.check_octets.specs.Octets.{check_octets, disabled_octets, flag_octets, tells_disabled}
-use Rattle.check_octets.specs.Octets.{where_told}
-use Rattle.cidr_blocks.specs.Places.{IsBlock, IsCidrLocation, IsCollection, octets_of, rows_of}
-use Rattle.cidr_blocks.specs.declared.places.CidrLocation.{CidrLocation}
-use Rattle.cidr_blocks.specs.declared.places.Collection.{Collection}
+use Rattle.config_model.specs.OctetsOfCheckOctets.{check_octets, disabled_octets, flag_octets, tells_disabled}
+use Rattle.config_model.specs.OctetsOfCheckOctets.{where_told}
+use Rattle.config_model.specs.Places.{IsBlock, IsCidrLocation, IsCollection, octets_of, rows_of}
+use Rattle.config_model.specs.CidrLocationRecord.{CidrLocation}
+use Rattle.config_model.specs.CollectionRecord.{Collection}
 use Rattle.config_model.specs.Configs as configs
 use Rattle.config_model.specs.Configs.{Config}
 use Rattle.config_model.specs.Sound.{Sound}
 use Rattle.config_model.specs.Told.{RefusalsAreTold}
-use Rattle.ip_table.specs.Prefixes.{IsPrefix, Prefix}
-use Rattle.set_octets.specs.Octets.{set_octets}
+use Rattle.config_model.specs.Prefixes.{IsPrefix, Prefix}
+use Rattle.config_model.specs.OctetsOfSetOctets.{set_octets}
 use Rattle.snapshot_octets.specs.Laws.{SoundAreShort}
 use Rattle.snapshot_octets.specs.Octets.{IsSpelledZone, collection_octets, counted_octets}
 use Rattle.snapshot_octets.specs.Octets.{held_check_octets, held_collection_octets}
 use Rattle.snapshot_octets.specs.Octets.{location_octets, snapshot_octets, tells_collections}
 use Rattle.snapshot_octets.specs.Octets.{version_of, zone_octets}
 use Rattle.snapshot_octets.proofs.Sound.{rows_are, sound_have_snapshots}
-use Rattle.zone_model.specs.Hosted.{HostedZone}
+use Rattle.config_model.specs.Hosted.{HostedZone}
 
 -- ---- lists
 

@@ -5,27 +5,27 @@ use Rattle.std.proofs.lemmas.List.{length-append, length-map}
 use Rattle.std.specs.Prelude.{nat_lt, if◌then◌else◌}
 use Rattle.std.specs.List.{AllByRecursion}
 use Rattle.dns_name.specs.Names.{IsName}
-use Rattle.octet_reading.specs.Rules.{AreListed}
+use Rattle.config_model.specs.RulesOfOctetReading.{AreListed}
 use Rattle.check_model.specs.Checks.{Checks}
 use Rattle.check_model.specs.Checks as checks
 use Rattle.check_model.specs.declared.checks.Check.{Check}
-use Rattle.check_octets.specs.Octets.{disabled_of, tells_disabled}
-use Rattle.cidr_blocks.specs.Places.{IsBlock, IsCidrLocation, IsCollection, rows_at, rows_of}
-use Rattle.cidr_blocks.specs.declared.places.CidrLocation.{CidrLocation}
-use Rattle.cidr_blocks.specs.declared.places.Collection.{Collection}
+use Rattle.config_model.specs.OctetsOfCheckOctets.{disabled_of, tells_disabled}
+use Rattle.config_model.specs.Places.{IsBlock, IsCidrLocation, IsCollection, rows_at, rows_of}
+use Rattle.config_model.specs.CidrLocationRecord.{CidrLocation}
+use Rattle.config_model.specs.CollectionRecord.{Collection}
 use Rattle.config_model.specs.Configs.{Config}
 use Rattle.config_model.specs.Sound.{IsSoundZone, Sound}
-use Rattle.record_set.specs.declared.sets.RecordSet.{RecordSet}
-use Rattle.record_set.specs.declared.sets.SetKey.{SetKey}
-use Rattle.set_octets.specs.Octets as sets
-use Rattle.set_reading.specs.Sets.{IsSet}
+use Rattle.config_model.specs.RecordSetRecord.{RecordSet}
+use Rattle.config_model.specs.SetKeyRecord.{SetKey}
+use Rattle.config_model.specs.OctetsOfSetOctets as sets
+use Rattle.config_model.specs.SetsOfSetReading.{IsSet}
 use Rattle.snapshot_octets.specs.Laws.{SoundHaveSnapshots}
 use Rattle.snapshot_octets.specs.Octets.{HasSnapshot, IsHeldCheck, IsHeldCollection, IsPrefixed}
 use Rattle.snapshot_octets.specs.Octets.{IsSpelledCollection, IsSpelledLocation}
 use Rattle.snapshot_octets.specs.Octets.{IsSpelledSet, IsSpelledZone}
 use Rattle.snapshot_octets.specs.Octets.{version_of}
-use Rattle.zone_model.specs.Hosted.{HostedZone}
-use Rattle.zone_model.specs.Zones.{IsAmong}
+use Rattle.config_model.specs.Hosted.{HostedZone}
+use Rattle.config_model.specs.Zones.{IsAmong}
 
 each : {A : Type 0} (is other : A → Type 0) → ((x : A) → is x → other x)
     → (xs : List A) → AllByRecursion is xs → AllByRecursion other xs

@@ -1,10 +1,10 @@
 -- What is told of the configuration of which octets are a snapshot.
 use Rattle.std.proofs.Common.{◌≡◌, ℕ, List, ap, ◌∙◌, sym, Result, Ok, Err}
-use Rattle.octet_reading.specs.Readers.{whole}
-use Rattle.octet_reading.specs.Rules.{IsReadAs, TellsWhole}
-use Rattle.octet_reading.proofs.Whole.{whole_again, tells_whole}
+use Rattle.config_model.specs.Readers.{whole}
+use Rattle.config_model.specs.RulesOfOctetReading.{IsReadAs, TellsWhole}
+use Rattle.config_model.proofs.Whole.{whole_again, tells_whole}
 use Rattle.config_model.specs.Configs.{Config}
-use Rattle.set_reading.specs.Laws as set_laws
+use Rattle.config_model.specs.LawsOfSetReading as set_laws
 use Rattle.snapshot_octets.specs.Laws as laws
 use Rattle.snapshot_octets.specs.Octets.{IsSnapshot}
 use Rattle.snapshot_octets.specs.Reading.{front_at, read, unversioned}

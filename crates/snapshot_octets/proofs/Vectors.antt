@@ -3,8 +3,8 @@ use Rattle.std.proofs.Common.{◌≡◌, refl, true, false, [], ◌∷◌, None,
 use Rattle.address_text.specs.declared.address.IpAddress.TheVariants.{V4}
 use Rattle.check_model.specs.declared.checks.Check.TheVariants.{Calculated, Endpoint}
 use Rattle.config_model.specs.Configs.{empty}
-use Rattle.rdata_layout.specs.declared.types.RType.TheVariants as rtype
-use Rattle.record_set.specs.declared.sets.Body.TheVariants as body
+use Rattle.config_model.specs.RTypeRecord.TheVariants as rtype
+use Rattle.config_model.specs.BodyRecord.TheVariants as body
 use Rattle.routing.specs.declared.policies.Routing.TheVariants as routing
 use Rattle.snapshot_octets.specs.Octets.{snapshot, snapshot_octets}
 use Rattle.snapshot_octets.specs.Reading.{config_at, front_at, later_at, read, version_at}

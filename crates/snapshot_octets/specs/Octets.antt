@@ -6,21 +6,21 @@ use Rattle.std.specs.List.{AllByRecursion, flat_map}
 use Rattle.octets.specs.Numbers.{four_octets}
 use Rattle.dns_name.specs.Labels.{wire}
 use Rattle.dns_name.specs.Names.{IsName}
-use Rattle.octet_reading.specs.Rules.{AreListed, list_octets, text_octets}
+use Rattle.config_model.specs.RulesOfOctetReading.{AreListed, list_octets, text_octets}
 use Rattle.routing.specs.Texts.{IsLocationName}
-use Rattle.block_octets.specs.Octets.{block_octets}
+use Rattle.config_model.specs.Octets.{block_octets}
 use Rattle.check_model.specs.declared.checks.Check.{Check}
-use Rattle.check_octets.specs.Octets.{check_octets, where_told, IsSpelledCheck}
-use Rattle.cidr_blocks.specs.Idents.{IsCollectionName}
-use Rattle.cidr_blocks.specs.declared.places.CidrLocation.{CidrLocation}
-use Rattle.cidr_blocks.specs.declared.places.Collection.{Collection}
+use Rattle.config_model.specs.OctetsOfCheckOctets.{check_octets, where_told, IsSpelledCheck}
+use Rattle.config_model.specs.Idents.{IsCollectionName}
+use Rattle.config_model.specs.CidrLocationRecord.{CidrLocation}
+use Rattle.config_model.specs.CollectionRecord.{Collection}
 use Rattle.config_model.specs.Configs.{Config}
-use Rattle.ip_table.specs.Prefixes.{IsPrefix, Prefix}
-use Rattle.record_set.specs.declared.sets.RecordSet.{RecordSet}
-use Rattle.set_octets.specs.Octets.{set_octets}
-use Rattle.set_octets.specs.Octets as sets
-use Rattle.set_reading.specs.Sets.{IsSet}
-use Rattle.zone_model.specs.Hosted.{HostedZone}
+use Rattle.config_model.specs.Prefixes.{IsPrefix, Prefix}
+use Rattle.config_model.specs.RecordSetRecord.{RecordSet}
+use Rattle.config_model.specs.OctetsOfSetOctets.{set_octets}
+use Rattle.config_model.specs.OctetsOfSetOctets as sets
+use Rattle.config_model.specs.SetsOfSetReading.{IsSet}
+use Rattle.config_model.specs.Hosted.{HostedZone}
 
 -- The versions. The first says nothing of disabled checks, the first two nothing of collections.
 abbrev pub IsVersion : ℕ → Type 0

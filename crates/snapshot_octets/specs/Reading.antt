@@ -1,22 +1,22 @@
 -- Reading a snapshot from left to right, with the first fault that is met (FORMATS, Octets of
 -- snapshots).
 use Rattle.std.specs.Prelude.{◌==◌, ◌||◌, ℕ, List, [], Bool, nat_le, Result, Ok, Err}
-use Rattle.octet_reading.specs.Names.{name_at}
-use Rattle.octet_reading.specs.Reading.{octet_at, four_at}
-use Rattle.octet_reading.specs.Readers.{seen, in_turn, in_turn_by, list_at, tested, whole}
-use Rattle.block_reading.specs.Blocks.{block_at}
-use Rattle.block_reading.specs.Reading as collections
+use Rattle.config_model.specs.Names.{name_at}
+use Rattle.config_model.specs.Reading.{octet_at, four_at}
+use Rattle.config_model.specs.Readers.{seen, in_turn, in_turn_by, list_at, tested, whole}
+use Rattle.command_codec.specs.Blocks.{block_at}
+use Rattle.command_codec.specs.ReadingOfBlockReading as collections
 use Rattle.check_model.specs.declared.checks.Check.{Check}
-use Rattle.check_reading.specs.Fields.{counted_at, told_at}
-use Rattle.check_reading.specs.Reading.{check_at}
-use Rattle.cidr_blocks.specs.declared.places.CidrLocation.{CidrLocation}
-use Rattle.cidr_blocks.specs.declared.places.Collection.{Collection}
+use Rattle.command_codec.specs.Fields.{counted_at, told_at}
+use Rattle.command_codec.specs.ReadingOfCheckReading.{check_at}
+use Rattle.config_model.specs.CidrLocationRecord.{CidrLocation}
+use Rattle.config_model.specs.CollectionRecord.{Collection}
 use Rattle.command_codec.specs.Reading.{set_at}
 use Rattle.config_model.specs.Configs.{Config}
-use Rattle.ip_table.specs.Prefixes.{Prefix}
-use Rattle.record_set.specs.declared.sets.RecordSet.{RecordSet}
+use Rattle.config_model.specs.Prefixes.{Prefix}
+use Rattle.config_model.specs.RecordSetRecord.{RecordSet}
 use Rattle.snapshot_octets.specs.Octets.{tells_collections}
-use Rattle.zone_model.specs.Hosted.{HostedZone}
+use Rattle.config_model.specs.Hosted.{HostedZone}
 
 -- the versions 1, 2 and 3
 abbrev pub is_version : ℕ → Bool

@@ -8,24 +8,24 @@ ghost use Rattle.snapshot_octets.specs.Laws.{SoundHaveSnapshots};
 pub fn one_configuration()
     ensures { OneConfiguration }
 {
-    set_reading::written_reads_back();
-    set_reading::sets_are_told();
+    config_model::written_reads_back();
+    config_model::sets_are_told();
 }
 
 /// In each version a configuration has one snapshot, which is read as that configuration.
 pub fn snapshots_read_back()
     ensures { SnapshotsReadBack }
 {
-    set_reading::written_reads_back();
-    set_reading::sets_are_told();
+    config_model::written_reads_back();
+    config_model::sets_are_told();
 }
 
 /// Reading tells the configuration of which octets are a snapshot, or that they are one of none.
 pub fn snapshots_are_told()
     ensures { SnapshotsAreTold }
 {
-    set_reading::written_reads_back();
-    set_reading::sets_are_told();
+    config_model::written_reads_back();
+    config_model::sets_are_told();
 }
 
 /// What is written of a sound configuration is a snapshot of it.

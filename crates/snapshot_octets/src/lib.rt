@@ -6,6 +6,9 @@
 
 mod laws;
 
+pub use config_model::{
+    ReadFault, RecordSet, read_set, sets_are_told, write_blocks, write_name, written_reads_back,
+};
 pub use laws::{
     one_configuration, snapshots_are_told, snapshots_read_back, sound_are_short,
     sound_have_snapshots,

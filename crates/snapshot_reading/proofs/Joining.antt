@@ -6,7 +6,7 @@ use Rattle.octet_reading.specs.Reading.{◌>>=◌, four_at, two_at}
 use Rattle.check_model.specs.declared.checks.Check.{Check}
 use Rattle.check_reading.specs.Fields.{told_at}
 use Rattle.cidr_blocks.specs.declared.places.Collection.{Collection}
-use Rattle.config_model.specs.Configs.{Config}
+use Rattle.snapshot_octets.specs.Configs.{Config}
 use Rattle.snapshot_octets.specs.Octets.{tells_collections}
 use Rattle.snapshot_octets.specs.Reading.{config_at, configured, held_check_at}
 use Rattle.snapshot_octets.specs.Reading.{held_collection_at, later_at, read, unversioned}
@@ -15,7 +15,7 @@ use Rattle.snapshot_octets.specs.Reading.{zone_at}
 use Rattle.snapshot_octets.specs.Reading as snapshots
 use Rattle.snapshot_reading.specs.Parts.{Begun, begun, begun_at, checks_at, collections_at}
 use Rattle.snapshot_reading.specs.Parts.{front_at, next_collection_at, with_zones}
-use Rattle.zone_model.specs.Hosted.{HostedZone}
+use Rattle.snapshot_octets.specs.Hosted.{HostedZone}
 
 -- the configuration of these zones, and what stands behind them, where so many follow
 abbrev pub with_these : Begun → List HostedZone × List ℕ → Result (Config × List ℕ) ℕ

@@ -13,7 +13,7 @@ use Rattle.octet_reading.proofs.Digits.{bind_ok, joined, ok_is}
 use Rattle.octet_reading.proofs.Optional.{list_read}
 use Rattle.octet_reading.proofs.Rules.{behind_octets}
 use Rattle.check_reading.specs.Fields.{told_at}
-use Rattle.set_reading.specs.Laws as set_laws
+use Rattle.snapshot_octets.specs.LawsOfSetReading as set_laws
 use Rattle.snapshot_octets.specs.Octets.{tells_collections}
 use Rattle.snapshot_octets.specs.Reading.{is_later, later_at, zone_at}
 use Rattle.snapshot_octets.proofs.Fields.{held_check_read, held_collection_read, version_read}

@@ -9,8 +9,8 @@ use Rattle.std.specs.Prelude.{◌≢◌, IsErr}
 use Rattle.dns_name.specs.Names.{AreOctets}
 use Rattle.octet_reading.specs.Readers.{alone, placed, so_many}
 use Rattle.octet_reading.specs.Reading.{◌>>=◌}
-use Rattle.config_model.specs.Configs.{Config}
-use Rattle.set_reading.specs.Laws as set_laws
+use Rattle.snapshot_octets.specs.Configs.{Config}
+use Rattle.snapshot_octets.specs.LawsOfSetReading as set_laws
 use Rattle.snapshot_octets.specs.Reading.{read, zone_at}
 use Rattle.snapshot_reading.specs.Laws.{AreZones, IsReadTo, SnapshotsReadInParts}
 use Rattle.snapshot_reading.specs.Parts.{Begun, front_at, with_zones}
@@ -18,7 +18,7 @@ use Rattle.snapshot_reading.specs.Places.{found_at}
 use Rattle.snapshot_reading.proofs.Joining.{in_parts, with_these, zones_behind}
 use Rattle.snapshot_reading.proofs.Leaving.{front_leaves, zone_leaves}
 use Rattle.snapshot_reading.proofs.Finding.{place_within, read_there, refused_there}
-use Rattle.zone_model.specs.Hosted.{HostedZone}
+use Rattle.snapshot_octets.specs.Hosted.{HostedZone}
 
 -- ---- zones one behind another
 

@@ -4,7 +4,7 @@ use Rattle.dns_name.specs.Names.{AreOctets}
 use Rattle.snapshot_octets.specs.Reading.{read, zone_at}
 use Rattle.snapshot_reading.specs.Parts.{Begun, front_at, with_zones}
 use Rattle.snapshot_reading.specs.Places.{found_at}
-use Rattle.zone_model.specs.Hosted.{HostedZone}
+use Rattle.snapshot_octets.specs.Hosted.{HostedZone}
 
 -- These zones stand one behind another, from a place on up to the place behind the last.
 abbrev pub AreZones : (octets : List ℕ) → (at : ℕ) → List HostedZone → (end : ℕ) → Type 0

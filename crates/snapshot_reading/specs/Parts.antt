@@ -8,14 +8,14 @@ use Rattle.check_model.specs.declared.checks.Check.{Check}
 use Rattle.check_reading.specs.Fields.{counted_at, told_at}
 use Rattle.cidr_blocks.specs.declared.places.Collection.{Collection}
 use Rattle.cidr_commands.specs.Stored.{Stored}
-use Rattle.command_codec.specs.Reading.{set_at}
-use Rattle.config_model.specs.Configs.{Config}
-use Rattle.record_set.specs.declared.sets.RecordSet.{RecordSet}
+use Rattle.snapshot_octets.specs.ReadingOfCommandCodec.{set_at}
+use Rattle.snapshot_octets.specs.Configs.{Config}
+use Rattle.snapshot_octets.specs.RecordSetRecord.{RecordSet}
 use Rattle.snapshot_octets.specs.Octets.{tells_collections}
 use Rattle.snapshot_octets.specs.Reading.{held_check_at, held_collection_at, later_at, version_at}
 use Rattle.snapshot_reading.specs.declared.fronts.Front.{Front}
 use Rattle.snapshot_reading.specs.declared.zones.FoundZone.{FoundZone}
-use Rattle.zone_model.specs.Hosted.{HostedZone}
+use Rattle.snapshot_octets.specs.Hosted.{HostedZone}
 
 -- What stands in front of the zones, and how many of these follow.
 pub record Begun : Type 0 where

@@ -7,6 +7,6 @@ ghost use Rattle.snapshot_reading.specs.Laws.{SnapshotsReadInParts};
 pub fn snapshots_read_in_parts()
     ensures { SnapshotsReadInParts }
 {
-    set_reading::written_reads_back();
-    set_reading::sets_are_told();
+    snapshot_octets::written_reads_back();
+    snapshot_octets::sets_are_told();
 }

@@ -17,4 +17,7 @@ mod zones;
 pub use faults::SnapshotFault;
 pub use fronts::{Front, read_front};
 pub use laws::snapshots_read_in_parts;
+pub use snapshot_octets::{
+    one_configuration, snapshots_are_told, snapshots_read_back, sound_have_snapshots,
+};
 pub use zones::{FoundZone, read_zone};

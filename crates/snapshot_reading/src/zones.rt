@@ -1,7 +1,7 @@
 //! The zones of a snapshot, one by one.
 
 ghost use Rattle.octet_reading.specs.Reading.{GivesOrStops};
-ghost use Rattle.command_codec.specs.Reading.{set_at};
+ghost use Rattle.snapshot_octets.specs.ReadingOfCommandCodec.{set_at};
 ghost use Rattle.snapshot_octets.specs.Reading.{zone_at};
 ghost use Rattle.snapshot_reading.specs.Parts.{hosted_of, sets_at};
 ghost use Rattle.snapshot_reading.specs.Places.{Finds, found_at};
@@ -11,8 +11,7 @@ use crate::places::{from_place, place_of};
 use dns_name::Name;
 use octet_reading::{Fault, Field, Stop, four_at, name_at, so_many};
 use octets::behind;
-use record_set::RecordSet;
-use set_reading::{ReadFault, read_set};
+use snapshot_octets::{ReadFault, RecordSet, read_set};
 use std::alloc::Global;
 
 /// A zone as it is read: its number, its name, and its sets.
@@ -31,8 +30,8 @@ pub fn read_zone(
 ) -> Result<(FoundZone, usize), SnapshotFault>
     ensures { Finds hosted_of result (found_at zone_at octets.now at) }
 {
-    set_reading::written_reads_back();
-    set_reading::sets_are_told();
+    snapshot_octets::written_reads_back();
+    snapshot_octets::sets_are_told();
     match zone_at(alloc, from_place(octets, at)) {
         Ok((zone, rest)) => Ok((zone, place_of(octets, rest))),
         Err(Stop::Bad(_)) => Err(SnapshotFault::Bad),
@@ -72,7 +71,7 @@ struct OneSet;
 impl Field for OneSet {
     type Value = RecordSet;
 
-    ghost use Rattle.command_codec.specs.Reading.{set_at};
+    ghost use Rattle.snapshot_octets.specs.ReadingOfCommandCodec.{set_at};
 
     ghost reading = { λ _. set_at };
 

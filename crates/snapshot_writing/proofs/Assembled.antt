@@ -9,8 +9,8 @@ use Rattle.check_model.specs.Checks.{IsBounded}
 use Rattle.check_model.specs.declared.checks.Check.{Check}
 use Rattle.check_octets.specs.Octets.{where_told}
 use Rattle.cidr_blocks.specs.declared.places.Collection.{Collection}
-use Rattle.config_model.specs.Configs.{Config}
-use Rattle.config_model.specs.Sound.{Sound}
+use Rattle.config_zones.specs.Configs.{Config}
+use Rattle.config_zones.specs.Sound.{Sound}
 use Rattle.snapshot_octets.specs.Laws.{SoundAreShort, SoundHaveSnapshots}
 use Rattle.snapshot_octets.specs.Octets.{IsHeldCheck, IsHeldCollection, IsWhereTold}
 use Rattle.snapshot_octets.specs.Octets.{held_check_octets, held_collection_octets, snapshot}

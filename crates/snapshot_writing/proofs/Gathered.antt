@@ -9,16 +9,16 @@ use Rattle.config_zones.specs.Edited.{hosted_in}
 use Rattle.config_zones.specs.Laws.{ZonesFollow}
 use Rattle.config_zones.specs.Walks.{above}
 use Rattle.record_set.specs.declared.sets.RecordSet.{RecordSet}
-use Rattle.set_octets.specs.Octets.{set_octets}
+use Rattle.config_zones.specs.Octets.{set_octets}
 use Rattle.snapshot_octets.specs.Octets.{zone_octets}
-use Rattle.zone_table.proofs.Listing.{its_placed, one_zone}
-use Rattle.zone_table.proofs.Members.{left_at, nothing_left}
-use Rattle.zone_table.specs.FoundZones.{IsNextZone, NextZoneOrNone}
-use Rattle.zone_table.specs.Zones.{AreListed, AreZones, IsOne, Zone, hosted, placed_in}
+use Rattle.config_zones.proofs.Listing.{its_placed, one_zone}
+use Rattle.config_zones.proofs.MembersOfZoneList.{left_at, nothing_left}
+use Rattle.config_zones.specs.Found.{IsNextZone, NextZoneOrNone}
+use Rattle.config_zones.specs.Zones.{AreListed, AreZones, IsOne, Zone, hosted, placed_in}
 use Rattle.zone_model.specs.Hosted.{HostedZone}
 use Rattle.zone_model.specs.Placed.{Placed, sets_of}
-use Rattle.zone_table.specs.Counted.{sets_in_all}
-use Rattle.zone_table.specs.Looking.{IsApex}
+use Rattle.config_zones.specs.Counted.{sets_in_all}
+use Rattle.config_zones.specs.Looking.{IsApex}
 
 -- ---- the sets of a zone
 

@@ -9,9 +9,9 @@ ghost use Rattle.snapshot_octets.specs.Octets.{IsHeldCollection, IsSpelledCollec
 ghost use Rattle.snapshot_octets.specs.Octets.{IsSpelledLocation, collection_octets};
 ghost use Rattle.snapshot_octets.specs.Octets.{held_collection_octets, location_octets};
 
-use block_octets::{write_blocks, write_name};
 use cidr_blocks::{CidrLocation, Collection};
 use octets::{OutOfMemory, append, four_octets, two_octets};
+use snapshot_octets::{write_blocks, write_name};
 
 /// Appends the number of collections, and these, each behind its own number, where they are told.
 pub fn append_told_collections(

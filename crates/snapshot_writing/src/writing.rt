@@ -1,7 +1,7 @@
 //! The snapshot of a configuration.
 
 ghost use Rattle.std.specs.Prelude.{◌≡◌, ◌≤◌, IfOk, length};
-ghost use Rattle.config_model.specs.Sound.{Sound};
+ghost use Rattle.config_zones.specs.Sound.{Sound};
 ghost use Rattle.config_zones.specs.Configured.{config_of};
 ghost use Rattle.snapshot_octets.specs.Octets.{snapshot};
 ghost use Rattle.snapshot_writing.specs.Versions.{version_told};
@@ -9,12 +9,11 @@ ghost use Rattle.snapshot_writing.specs.Versions.{version_told};
 use crate::collections::append_told_collections;
 use crate::numbers::{append_checks, append_told_number};
 use crate::zones::append_zones;
-use config_zones::counts_agree;
+use config_zones::{Scratch, Zones, counts_agree};
 use health_check::CheckTable;
 use octets::{OutOfMemory, append, four_octets};
 use snapshot_octets::{sound_are_short, sound_have_snapshots};
 use std::alloc::Global;
-use zone_table::{Scratch, Zones};
 
 /// The snapshot of the configuration that zones, with their collections, and checks stand for, with
 /// the number that the next zone gets. A compaction takes it.

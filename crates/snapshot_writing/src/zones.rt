@@ -4,17 +4,16 @@ ghost use Rattle.std.specs.Prelude.{◌≡◌, ◌<◌, ◌^◌, ◌++◌, ℕ, 
 ghost use Rattle.std.specs.List.{flat_map};
 ghost use Rattle.octet_reading.specs.Rules.{list_octets};
 ghost use Rattle.config_zones.specs.Edited.{hosted_in};
-ghost use Rattle.set_octets.specs.Octets.{set_octets};
-ghost use Rattle.set_scratch.specs.Holding.{IsHolding};
+ghost use Rattle.config_zones.specs.Octets.{set_octets};
+ghost use Rattle.config_zones.specs.Holding.{IsHolding};
 ghost use Rattle.snapshot_octets.specs.Octets.{counted_octets, zone_octets};
-ghost use Rattle.zone_table.specs.Zones.{IsZoneId, placed_in};
+ghost use Rattle.config_zones.specs.Zones.{IsZoneId, placed_in};
 ghost use Rattle.zone_model.specs.Placed.{sets_of};
-ghost use Rattle.zone_table.specs.Counted.{sets_in_all};
-ghost use Rattle.zone_table.specs.Looking.{IsApex};
+ghost use Rattle.config_zones.specs.Counted.{sets_in_all};
+ghost use Rattle.config_zones.specs.Looking.{IsApex};
 
-use config_zones::{hold_at, zones_follow};
+use config_zones::{Scratch, Zones, hold_at, zones_follow};
 use octets::{OutOfMemory, append, four_octets, two_octets};
-use zone_table::{Scratch, Zones};
 
 /// Appends the number of zones, and these by rising number.
 pub fn append_zones(

@@ -3,21 +3,21 @@ use Rattle.std.proofs.Common.{◌≡◌, ◌≢◌, ◌≤◌, ℕ, List, [], �
 use Rattle.std.proofs.Common.{ap, sym, refl, subst, ◌∙◌, inl, inr, arith}
 use Rattle.std.proofs.lemmas.Bool.{cases_eq, cases_lt, eq-eqb, ne_eqb}
 use Rattle.std.proofs.lemmas.Option.{slice_get_within}
-use Rattle.batch_model.specs.Rules.{MeetsAll, rules}
+use Rattle.config_edits.specs.Rules.{MeetsAll, rules}
 use Rattle.config_edits.specs.Laws.{hosted_in}
-use Rattle.config_model.proofs.Told as told
-use Rattle.config_model.specs.Configs.{Config}
-use Rattle.config_model.specs.Sound.{IsSoundZone, Sound}
-use Rattle.config_model.specs.Told.{AreInOrder}
+use Rattle.config_edits.proofs.Told as told
+use Rattle.config_edits.specs.Configs.{Config}
+use Rattle.config_edits.specs.Sound.{IsSoundZone, Sound}
+use Rattle.config_edits.specs.Told.{AreInOrder}
 use Rattle.health_index.proofs.Truth.{zone_sets}
 use Rattle.health_index.specs.Wired.{watched_of}
 use Rattle.health_model.specs.Healthy.{sets_of as sets_at}
 use Rattle.health_model.specs.Sound.{IsSound}
-use Rattle.policy_select.proofs.GroupSizes.{few_by_each_set}
-use Rattle.policy_select.specs.Groups.{FewInGroups}
+use Rattle.zone_lookup.proofs.GroupSizes.{few_by_each_set}
+use Rattle.zone_lookup.specs.Groups.{FewInGroups}
 use Rattle.record_set.specs.declared.sets.RecordSet.{RecordSet}
-use Rattle.zone_table.proofs.Members.{in_all}
-use Rattle.zone_table.specs.Zones.{IsOne, Zone, hosted, placed_in}
+use Rattle.config_edits.proofs.Members.{in_all}
+use Rattle.config_edits.specs.Zones.{IsOne, Zone, hosted, placed_in}
 use Rattle.zone_lookup.specs.Served.{AreServed, CanAnswer}
 use Rattle.zone_model.proofs.Among.{place_of}
 use Rattle.zone_model.specs.Hosted.{HostedZone}

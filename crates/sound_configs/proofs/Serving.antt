@@ -11,7 +11,7 @@ use Rattle.check_model.specs.Checks.{Checks, check_at}
 use Rattle.check_model.specs.declared.checks.Check.{Check}
 use Rattle.check_model.specs.declared.checks.Check.TheVariants.{Endpoint, Calculated}
 use Rattle.config_edits.specs.Laws.{hosted_in}
-use Rattle.config_model.specs.Configs.{Config}
+use Rattle.config_edits.specs.Configs.{Config}
 use Rattle.engine_model.specs.Engine.{is_healthy, watched_in}
 use Rattle.health_index.proofs.Truth.{zone_sets}
 use Rattle.health_index.specs.Following.{FollowsAt, HasThreshold}
@@ -22,15 +22,15 @@ use Rattle.health_model.specs.Statuses.{Report}
 use Rattle.record_set.specs.Sets.{key_of}
 use Rattle.record_set.specs.declared.sets.RecordSet.{RecordSet}
 use Rattle.sound_configs.specs.Laws.{IndexServes, SameFollow}
-use Rattle.zone_table.specs.Zones.{AreZones, Zone, placed_in}
-use Rattle.zone_table.specs.SetRefRecord.{SetRef}
+use Rattle.config_edits.specs.Zones.{AreZones, Zone, placed_in}
+use Rattle.config_edits.specs.SetRefRecord.{SetRef}
 use Rattle.zone_model.proofs.Ordered.{keys_tie, keys_total}
 use Rattle.zone_model.specs.Hosted.{HostedZone}
 use Rattle.zone_model.specs.Keys.{key_cmp}
 use Rattle.zone_model.specs.Placed.{Placed, sets_of}
 use Rattle.zone_model.specs.Zones.{IsAmong, IsRising}
-use Rattle.zone_table.proofs.Holding.{kept_in}
-use Rattle.zone_table.specs.Looking.{Names}
+use Rattle.config_edits.proofs.Holding.{kept_in}
+use Rattle.config_edits.specs.Looking.{Names}
 
 -- ---- one set has a key
 

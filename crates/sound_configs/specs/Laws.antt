@@ -3,16 +3,16 @@
 use Rattle.std.specs.Prelude.{◌≡◌, List}
 use Rattle.check_model.specs.Checks.{Checks}
 use Rattle.config_edits.specs.Laws.{hosted_in}
-use Rattle.config_model.specs.Configs.{Config}
-use Rattle.config_model.specs.Sound.{Sound}
+use Rattle.config_edits.specs.Configs.{Config}
+use Rattle.config_edits.specs.Sound.{Sound}
 use Rattle.engine_model.specs.Engine.{is_healthy}
 use Rattle.health_index.specs.Following.{Follows}
 use Rattle.health_index.specs.Index.{Index, StandsFor, healthy_in}
 use Rattle.health_index.specs.Wired.{watched_of}
 use Rattle.health_model.specs.Sound.{IsSound}
 use Rattle.health_model.specs.Statuses.{Report}
-use Rattle.policy_select.specs.Groups.{Agrees}
-use Rattle.zone_table.specs.Zones.{Zone}
+use Rattle.zone_lookup.specs.Groups.{Agrees}
+use Rattle.config_edits.specs.Zones.{Zone}
 use Rattle.zone_lookup.specs.Served.{AreServed}
 
 -- Each zone has a set, and no group has more than 100.

@@ -8,6 +8,9 @@
 mod keeping;
 mod laws;
 
+pub use command_bounds::{accepted_are_short, accepted_have_spelling, spelled_are_bounded};
+pub use command_codec::read;
+pub use config_model::ReadFault;
 pub use keeping::{
     appends_keep_store, images_make_store, init_keeps_store, opening_keeps_store, pieces_keep_store,
 };

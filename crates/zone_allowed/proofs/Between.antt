@@ -9,22 +9,22 @@ use Rattle.std.specs.List.{AllByRecursion}
 use Rattle.std.proofs.lemmas.Cmp.{tied_itself}
 use Rattle.std.proofs.lemmas.Bool.{cases_eq}
 use Rattle.std.proofs.lemmas.Option.{slice_get-map, slice_get_within}
-use Rattle.record_set.specs.Sets.{key_of}
-use Rattle.record_set.specs.declared.sets.RecordSet.{RecordSet}
-use Rattle.record_set.specs.declared.sets.SetKey.{SetKey}
-use Rattle.set_search.proofs.Lookups.{below_or_not, filled, key_between, past_itself}
-use Rattle.set_search.specs.Bounds.{is_before}
-use Rattle.set_search.specs.Found.{IsCount}
-use Rattle.set_search.specs.declared.bounds.Bound.{Bound}
-use Rattle.set_search.specs.declared.bounds.Bound.TheVariants as bound
+use Rattle.zone_table.specs.SetsOfRecordSet.{key_of}
+use Rattle.zone_table.specs.RecordSetRecord.{RecordSet}
+use Rattle.zone_table.specs.SetKeyRecord.{SetKey}
+use Rattle.zone_table.proofs.Lookups.{below_or_not, filled, key_between, past_itself}
+use Rattle.zone_table.specs.Bounds.{is_before}
+use Rattle.zone_table.specs.Found.{IsCount}
+use Rattle.zone_table.specs.BoundRecord.{Bound}
+use Rattle.zone_table.specs.BoundRecord.TheVariants as bound
 use Rattle.zone_table.proofs.Members.{in_all}
 use Rattle.zone_table.specs.Zones.{AreZones, StandsAlone, Zone, placed_in}
 use Rattle.zone_table.specs.SetRefRecord.{SetRef}
-use Rattle.zone_model.proofs.Among.{among_at, place_of}
-use Rattle.zone_model.proofs.Ordered.{keys_total}
-use Rattle.zone_model.specs.Keys.{key_cmp}
-use Rattle.zone_model.specs.Placed.{HaveOwnSlots, Placed, sets_of}
-use Rattle.zone_model.specs.Placing.{IsThere}
+use Rattle.zone_table.proofs.Among.{among_at, place_of}
+use Rattle.zone_table.proofs.Ordered.{keys_total}
+use Rattle.zone_table.specs.Keys.{key_cmp}
+use Rattle.zone_table.specs.Placed.{HaveOwnSlots, Placed, sets_of}
+use Rattle.zone_table.specs.Placing.{IsThere}
 use Rattle.zone_table.specs.Looking.{IsNextSet}
 
 -- ---- slots

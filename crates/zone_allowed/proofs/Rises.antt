@@ -4,14 +4,14 @@ use Rattle.std.proofs.Common.{arith}
 use Rattle.std.specs.Prelude.{◌↔◌, slice_get}
 use Rattle.std.specs.List.{AllByRecursion}
 use Rattle.std.proofs.lemmas.Cmp.{tied_itself}
-use Rattle.record_set.specs.Sets.{key_of}
-use Rattle.record_set.specs.declared.sets.RecordSet.{RecordSet}
-use Rattle.record_set.specs.declared.sets.SetKey.{SetKey}
+use Rattle.zone_table.specs.SetsOfRecordSet.{key_of}
+use Rattle.zone_table.specs.RecordSetRecord.{RecordSet}
+use Rattle.zone_table.specs.SetKeyRecord.{SetKey}
 use Rattle.zone_table.specs.Changes.{AreThere, DifferByKey}
-use Rattle.zone_model.proofs.Ordered.{keys_total}
-use Rattle.zone_model.specs.Keys.{key_cmp}
-use Rattle.zone_model.specs.Placing.{IsThere}
-use Rattle.zone_model.specs.Zones.{IsRising}
+use Rattle.zone_table.proofs.Ordered.{keys_total}
+use Rattle.zone_table.specs.Keys.{key_cmp}
+use Rattle.zone_table.specs.Placing.{IsThere}
+use Rattle.zone_table.specs.Sets.{IsRising}
 use Rattle.zone_allowed.specs.Apart.{AreApart}
 
 -- a key before the first of rising ones is before all

@@ -1,7 +1,7 @@
 -- Keys of which no two are one.
 use Rattle.std.specs.Prelude.{◌≢◌, List, [], ◌∷◌, ⊤}
 use Rattle.std.specs.List.{AllByRecursion}
-use Rattle.record_set.specs.declared.sets.SetKey.{SetKey}
+use Rattle.zone_table.specs.SetKeyRecord.{SetKey}
 
 abbrev pub AreApart : List SetKey → Type 0
 AreApart [] = ⊤

@@ -2,22 +2,20 @@
 
 ghost use Rattle.std.specs.Prelude.{◌≡◌, ◌<◌, IsTrue, ◌↔◌};
 ghost use Rattle.std.specs.List.{AllByRecursion};
-ghost use Rattle.record_set.specs.Sets.{key_of};
-ghost use Rattle.record_set.specs.declared.sets.RecordSet.{RecordSet};
+ghost use Rattle.zone_table.specs.SetsOfRecordSet.{key_of};
+ghost use Rattle.zone_table.specs.RecordSetRecord.{RecordSet};
 ghost use Rattle.zone_allowed.specs.New.{IsNewZone};
 ghost use Rattle.zone_table.specs.Changes.{CanBeAdded, IsKeyOf};
 ghost use Rattle.zone_table.specs.Zones.{CanStand, HasName, IsZoneId, placed_in};
-ghost use Rattle.zone_model.specs.Placing.{IsThere};
-ghost use Rattle.zone_model.specs.Placed.{sets_of};
+ghost use Rattle.zone_table.specs.Placing.{IsThere};
+ghost use Rattle.zone_table.specs.Placed.{sets_of};
 ghost use Rattle.zone_table.specs.Edits.{IsAllowed};
 ghost use Rattle.zone_table.specs.declared.edits.ZoneEdit.TheVariants.{Change, Open};
 
 use crate::apart::sets_are_apart;
 use crate::there::{are_there, has_key, is_key_of};
 use dns_name::Name;
-use record_set::{RecordSet, SetKey};
-use set_octets::has_spelling;
-use zone_table::{ZoneEdit, Zones, one_apex};
+use zone_table::{RecordSet, SetKey, ZoneEdit, Zones, has_spelling, one_apex};
 
 /// Whether an edit is allowed. Keys that rise are compared once each, others with one another.
 pub fn is_allowed(zones: &Zones, edit: &ZoneEdit) -> bool

@@ -3,16 +3,15 @@
 ghost use Rattle.std.specs.Prelude.{◌≡◌, ◌≢◌, IsTrue, ◌↔◌, slice_get, Some};
 ghost use Rattle.std.specs.declared.cmp.Ordering.TheVariants.{Less};
 ghost use Rattle.std.specs.List.{AllByRecursion};
-ghost use Rattle.record_set.specs.Sets.{key_of};
-ghost use Rattle.record_set.specs.declared.sets.RecordSet.{RecordSet};
+ghost use Rattle.zone_table.specs.SetsOfRecordSet.{key_of};
+ghost use Rattle.zone_table.specs.RecordSetRecord.{RecordSet};
 ghost use Rattle.zone_allowed.specs.Apart.{AreApart};
 ghost use Rattle.zone_table.specs.Changes.{DifferByKey};
-ghost use Rattle.zone_model.specs.Keys.{key_cmp};
-ghost use Rattle.zone_model.specs.Zones.{IsRising};
+ghost use Rattle.zone_table.specs.Keys.{key_cmp};
+ghost use Rattle.zone_table.specs.Sets.{IsRising};
 
 use crate::there::is_same_key;
-use record_set::{RecordSet, SetKey};
-use zone_model::{key_cmp, keys_are_ordered};
+use zone_table::{RecordSet, SetKey, key_cmp, keys_are_ordered};
 
 /// Whether the keys of the sets differ.
 pub fn sets_are_apart(sets: &[RecordSet]) -> bool

@@ -4,13 +4,11 @@ ghost use Rattle.std.specs.Prelude.{◌≡◌, IsTrue, ◌↔◌};
 ghost use Rattle.std.specs.List.{AllByRecursion};
 ghost use Rattle.zone_table.specs.Changes.{AreThere, IsKeyOf};
 ghost use Rattle.zone_table.specs.Zones.{placed_in};
-ghost use Rattle.zone_model.specs.Placing.{IsThere};
-ghost use Rattle.zone_model.specs.Placed.{sets_of};
+ghost use Rattle.zone_table.specs.Placing.{IsThere};
+ghost use Rattle.zone_table.specs.Placed.{sets_of};
 
 use crate::apart::keys_are_apart;
-use record_set::SetKey;
-use zone_model::{key_cmp, keys_are_ordered};
-use zone_table::{SetRef, Zones};
+use zone_table::{SetKey, SetRef, Zones, key_cmp, keys_are_ordered};
 
 /// Whether these keys are there, and none is named twice.
 pub fn are_there(zones: &Zones, zone: u32, keys: &[SetKey]) -> bool

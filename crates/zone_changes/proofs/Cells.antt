@@ -4,8 +4,8 @@ use Rattle.std.proofs.Common.{ap, ◌∙◌, arith, inl, inr}
 use Rattle.std.specs.Prelude.{slice_get}
 use Rattle.std.specs.List.{insert, remove, sum_by}
 use Rattle.std.proofs.lemmas.List.Sums.{sum_by-append, sum_by-cons}
-use Rattle.zone_model.specs.Placed.{Placed, IsPut, IsTakenAt}
-use Rattle.zone_model.proofs.Lists.{split, split_at}
+use Rattle.zone_order.specs.Placed.{Placed, IsPut, IsTakenAt}
+use Rattle.zone_order.proofs.ListsOfZoneModel.{split, split_at}
 use Rattle.zone_changes.specs.Coming.{cells_in, cells_of, Comes}
 
 -- ---- sums over lists, where one element comes or goes

@@ -3,13 +3,13 @@ use Rattle.std.proofs.Common.{◌≡◌, ℕ, List, [], ◌++◌, Option, Some, 
 use Rattle.std.specs.Prelude.{slice_get, option_map}
 use Rattle.std.specs.List.{AllByRecursion}
 use Rattle.std.proofs.lemmas.Option.{slice_get-map}
-use Rattle.record_set.specs.declared.sets.RecordSet.{RecordSet}
-use Rattle.record_set.specs.declared.sets.SetKey.{SetKey}
-use Rattle.record_set.specs.Sets.{key_of}
-use Rattle.set_reading.specs.Laws.{OneSpelling}
-use Rattle.set_search.specs.Found.{FindsAt}
+use Rattle.zone_order.specs.RecordSetRecord.{RecordSet}
+use Rattle.zone_order.specs.SetKeyRecord.{SetKey}
+use Rattle.zone_order.specs.Sets.{key_of}
+use Rattle.zone_order.specs.Laws.{OneSpelling}
+use Rattle.zone_order.specs.Found.{FindsAt}
 use Rattle.zone_order.specs.Stored.{Spells}
-use Rattle.zone_model.specs.Placed.{IsTaken, IsTakenAt, Placed, sets_of}
+use Rattle.zone_order.specs.Placed.{IsTaken, IsTakenAt, Placed, sets_of}
 use Rattle.zone_order.specs.Orders.{HasSet, placed_by}
 use Rattle.zone_order.proofs.Orders.{at_place}
 use Rattle.zone_changes.specs.Coming.{IsReplaced}

@@ -2,7 +2,7 @@
 use Rattle.std.proofs.Common.{◌≡◌, ℕ, ◌+◌, ◌%◌, ◌^◌, ◌<◌, List, Some, set, ap, ◌∙◌, sym, arith}
 use Rattle.std.specs.Prelude.{slice_get}
 use Rattle.std.specs.List.{sum_by}
-use Rattle.zone_model.specs.Placed.{Placed, IsPut, IsTakenAt}
+use Rattle.zone_order.specs.Placed.{Placed, IsPut, IsTakenAt}
 use Rattle.zone_changes.specs.declared.sums.Sums.{Sums}
 use Rattle.zone_changes.specs.Sums.{AreSmall, aliases_in, labels_in, octets_in, plus, servers_in, sums_of}
 use Rattle.zone_changes.proofs.Cells.{sum_insert, sum_remove, sum_set}

@@ -5,3 +5,10 @@ pub use Rattle.zone_order.proofs.Lists
 pub use Rattle.zone_order.proofs.Orders
 pub use Rattle.zone_order.proofs.Rising
 pub use Rattle.zone_order.proofs.Slots
+pub use Rattle.zone_order.proofs.Below
+pub use Rattle.zone_order.proofs.Lookups
+pub use Rattle.zone_order.proofs.Among
+pub use Rattle.zone_order.proofs.ListsOfZoneModel
+pub use Rattle.zone_order.proofs.Ordered
+pub use Rattle.zone_order.proofs.Staying
+pub use Rattle.zone_order.proofs.Places

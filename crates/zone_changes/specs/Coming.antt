@@ -1,11 +1,11 @@
 -- A set that comes into a zone.
 use Rattle.std.specs.Prelude.{◌≡◌, ◌⊎◌, ℕ, List, length, Some, slice_get, slice_set}
 use Rattle.std.specs.List.{sum_by}
-use Rattle.octet_region.specs.Cells.{cells_for}
-use Rattle.record_set.specs.declared.sets.RecordSet.{RecordSet}
-use Rattle.record_set.specs.Sets.{key_of}
-use Rattle.set_octets.specs.Octets.{set_octets}
-use Rattle.zone_model.specs.Placed.{Placed, IsPut}
+use Rattle.zone_order.specs.Cells.{cells_for}
+use Rattle.zone_order.specs.RecordSetRecord.{RecordSet}
+use Rattle.zone_order.specs.Sets.{key_of}
+use Rattle.zone_order.specs.Octets.{set_octets}
+use Rattle.zone_order.specs.Placed.{Placed, IsPut}
 
 -- The set with its key gives way to a set, which stands in its slot. All others stay, each in its slot.
 pub record IsReplaced (before : List Placed) (given : Placed) (after : List Placed) : Type 0 where

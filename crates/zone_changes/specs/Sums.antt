@@ -3,11 +3,11 @@
 use Rattle.std.specs.Prelude.{ℕ, ◌<◌, ◌+◌, ◌%◌, ◌^◌, List, Bool, true, false, is_some, length}
 use Rattle.std.specs.Option.{unwrap_or}
 use Rattle.std.specs.List.{sum_by}
-use Rattle.set_octets.specs.Octets.{set_octets}
+use Rattle.zone_order.specs.Octets.{set_octets}
 use Rattle.zone_order.specs.Servers.{server_labels}
 use Rattle.zone_order.specs.Telling.{is_alias}
 use Rattle.zone_changes.specs.declared.sums.Sums.{Sums}
-use Rattle.zone_model.specs.Placed.{Placed}
+use Rattle.zone_order.specs.Placed.{Placed}
 
 abbrev pub octets_in : Placed → ℕ
 octets_in placed = length (set_octets placed.set)

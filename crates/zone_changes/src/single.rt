@@ -1,24 +1,23 @@
 //! One set that comes, one that goes, and the slot of a key.
 
 ghost use Rattle.std.specs.Prelude.{◌≡◌, ◌≤◌, ◌<◌, ◌+◌, length, vec_len, vec_capacity};
-ghost use Rattle.octet_region.specs.Cells.{cells_for};
-ghost use Rattle.record_set.specs.declared.sets.RecordSet.{RecordSet};
-ghost use Rattle.set_octets.specs.Octets.{HasSpelling, set_octets};
-ghost use Rattle.set_search.specs.Found.{Finds};
+ghost use Rattle.zone_order.specs.Cells.{cells_for};
+ghost use Rattle.zone_order.specs.RecordSetRecord.{RecordSet};
+ghost use Rattle.zone_order.specs.Octets.{HasSpelling, set_octets};
+ghost use Rattle.zone_order.specs.Found.{Finds};
 ghost use Rattle.zone_order.specs.Stored.{Spells};
 ghost use Rattle.zone_changes.specs.Coming.{Comes, cells_of};
 ghost use Rattle.zone_changes.specs.Sums.{sums_of};
-ghost use Rattle.zone_model.specs.Placing.{IsThere};
+ghost use Rattle.zone_order.specs.Placing.{IsThere};
 ghost use Rattle.zone_order.specs.Orders.{IsOrder, OthersStay, placed_of};
-ghost use Rattle.zone_model.specs.Placed.{IsSlotAt, IsTaken, sets_of};
+ghost use Rattle.zone_order.specs.Placed.{IsSlotAt, IsTaken, sets_of};
 
 use crate::sums::{Sums, with_set, without_at};
 use octets::front;
-use record_set::{RecordSet, SetKey};
-use set_octets::fill_set;
-use set_reading::{one_spelling, well_formed};
-use set_search::{find, find_near};
-use zone_order::{SetStore, put_at, replace_at, take_at, view_of};
+use zone_order::{
+    RecordSet, SetKey, SetStore, fill_set, find, find_near, one_spelling, put_at, replace_at,
+    take_at, view_of, well_formed,
+};
 
 /// A set comes into a zone, and its slot is told. The buffer has room for its octets.
 ///

@@ -4,13 +4,11 @@
 
 ghost use Rattle.std.specs.Prelude.{◌≡◌, ◌<◌, [], length, slice_get, Some};
 ghost use Rattle.zone_changes.specs.Sums.{AreSmall, aliases_in, octets_in, one_of, plus, sums_of};
-ghost use Rattle.zone_model.specs.Placed.{Placed};
+ghost use Rattle.zone_order.specs.Placed.{Placed};
 ghost use Rattle.zone_order.specs.Orders.{IsOrder, placed_of};
 ghost use Rattle.zone_order.specs.Servers.{server_labels};
 
-use rdata_layout::RType;
-use record_set::{Body, RecordSet};
-use zone_order::SetStore;
+use zone_order::{Body, RType, RecordSet, SetStore};
 
 /// How many octets sets have, how many of them are aliases, how many are NS sets, and how many
 /// labels the names of these have in all, each modulo 2^64.

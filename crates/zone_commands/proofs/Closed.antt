@@ -4,21 +4,21 @@ use Rattle.std.proofs.Common.{Option, None, Some}
 use Rattle.std.specs.Prelude.{Ok, Err}
 use Rattle.std.specs.List.{list_any}
 use Rattle.check_model.specs.Checks.{Checks}
-use Rattle.command_octets.specs.declared.commands.Command.TheVariants.{DeleteZone}
+use Rattle.config_zones.specs.CommandRecord.TheVariants.{DeleteZone}
 use Rattle.config_zones.specs.Edited.{EditsAreTold, hosted_in}
-use Rattle.config_model.specs.Configs.{Config, without_zone, zone_with}
-use Rattle.config_model.specs.NewZones.{end_of, is_another}
-use Rattle.config_model.specs.Telling.{first_of, rule, unless}
-use Rattle.config_model.specs.declared.refusals.Made.TheVariants as made
-use Rattle.config_model.specs.declared.refusals.Refusal.TheVariants as refusal
+use Rattle.config_zones.specs.Configs.{Config, without_zone, zone_with}
+use Rattle.config_zones.specs.NewZones.{end_of, is_another}
+use Rattle.config_zones.specs.Telling.{first_of, rule, unless}
+use Rattle.config_zones.specs.MadeRecord.TheVariants as made
+use Rattle.config_zones.specs.RefusalRecord.TheVariants as refusal
 use Rattle.config_zones.specs.Configured.{IsEditFor, LeadsTo, TellsEditOnly, config_of}
 use Rattle.config_zones.specs.Laws.{ZonesAreFound}
-use Rattle.zone_table.specs.Zones.{AreZones, IsZoneId, placed_in}
+use Rattle.config_zones.specs.Zones.{AreZones, IsZoneId, placed_in}
 use Rattle.zone_model.specs.Hosted.{HostedZone}
 use Rattle.zone_model.specs.Placed.{sets_of}
-use Rattle.zone_table.specs.Looking.{IsApex}
-use Rattle.zone_table.specs.Tables.{Table}
-use Rattle.zone_table.specs.declared.edits.ZoneEdit.TheVariants.{Close}
+use Rattle.config_zones.specs.Looking.{IsApex}
+use Rattle.config_zones.specs.Tables.{Table}
+use Rattle.config_zones.specs.ZoneEditRecord.TheVariants.{Close}
 
 module _ (table : Table) (id : ℕ) (checks : Checks) (next : ℕ) (found : ZonesAreFound) where
   abbrev config : Config

@@ -5,12 +5,12 @@ use Rattle.std.specs.Prelude.{Bool, IsTrue, ◌↔◌}
 use Rattle.std.proofs.lemmas.Bool.{false≢true}
 use Rattle.std.proofs.lemmas.List.{length-append}
 use Rattle.config_zones.specs.Edited.{hosted_in}
-use Rattle.config_model.specs.NewZones.{has_zone}
+use Rattle.config_zones.specs.NewZones.{has_zone}
 use Rattle.config_zones.specs.Laws.{ZonesAreFound}
 use Rattle.dns_name.specs.Suffix.{EndsWith}
-use Rattle.zone_table.specs.Zones.{AreZones, HasName, IsOne, Zone}
-use Rattle.zone_table.specs.Laws.{OneApex}
-use Rattle.zone_table.specs.Looking.{Holds, IsApex}
+use Rattle.config_zones.specs.Zones.{AreZones, HasName, IsOne, Zone}
+use Rattle.config_zones.specs.LawsOfZoneTable.{OneApex}
+use Rattle.config_zones.specs.Looking.{Holds, IsApex}
 
 ends_with_itself : (name : List (List ℕ)) → EndsWith name name
 ends_with_itself name = ([], refl)

@@ -5,25 +5,25 @@ use Rattle.std.specs.Prelude.{◌==◌, not, Ok, Err}
 use Rattle.std.specs.List.{AllByRecursion, sum_by}
 use Rattle.std.proofs.lemmas.List.Sums.{sum_by-cons, sum_by_push}
 use Rattle.check_model.specs.Checks.{Checks}
-use Rattle.command_octets.specs.declared.commands.Command.TheVariants.{CreateZone}
+use Rattle.config_zones.specs.CommandRecord.TheVariants.{CreateZone}
 use Rattle.config_zones.specs.Edited.{EditsAreTold, hosted_in}
-use Rattle.config_model.proofs.Ended.{not_full}
-use Rattle.config_model.proofs.Members.{all_at}
-use Rattle.config_model.proofs.NewSets.{sound_zone}
-use Rattle.config_model.proofs.Told.{parts, told_false, told_not}
-use Rattle.config_model.specs.Batches.{is_over, is_store_full, store_refusal}
-use Rattle.config_model.specs.Configs.{Config, count_of, octets_of}
-use Rattle.config_model.specs.NewZones.{are_most, create_refusal, create_zone, has_zone}
-use Rattle.config_model.specs.NewZones.{is_repeated, is_zone_name, new_ns_set, new_soa_set}
-use Rattle.config_model.specs.NewZones.{new_zone, with_zone}
-use Rattle.config_model.specs.Sound.{IsSoundZone, Sound}
-use Rattle.config_model.specs.Telling.{first_of, invalid, rule, unless}
-use Rattle.config_model.specs.Told.{RefusalsAreTold}
-use Rattle.config_model.specs.declared.refusals.InputReason.TheVariants as reason
-use Rattle.config_model.specs.declared.refusals.Made.{Made}
-use Rattle.config_model.specs.declared.refusals.Made.TheVariants as made
-use Rattle.config_model.specs.declared.refusals.Refusal.{Refusal}
-use Rattle.config_model.specs.declared.refusals.Refusal.TheVariants as refusal
+use Rattle.config_zones.proofs.Ended.{not_full}
+use Rattle.config_zones.proofs.Members.{all_at}
+use Rattle.config_zones.proofs.NewSets.{sound_zone}
+use Rattle.config_zones.proofs.Told.{parts, told_false, told_not}
+use Rattle.config_zones.specs.Batches.{is_over, is_store_full, store_refusal}
+use Rattle.config_zones.specs.Configs.{Config, count_of, octets_of}
+use Rattle.config_zones.specs.NewZones.{are_most, create_refusal, create_zone, has_zone}
+use Rattle.config_zones.specs.NewZones.{is_repeated, is_zone_name, new_ns_set, new_soa_set}
+use Rattle.config_zones.specs.NewZones.{new_zone, with_zone}
+use Rattle.config_zones.specs.Sound.{IsSoundZone, Sound}
+use Rattle.config_zones.specs.Telling.{first_of, invalid, rule, unless}
+use Rattle.config_zones.specs.Told.{RefusalsAreTold}
+use Rattle.config_zones.specs.InputReasonRecord.TheVariants as reason
+use Rattle.config_zones.specs.MadeRecord.{Made}
+use Rattle.config_zones.specs.MadeRecord.TheVariants as made
+use Rattle.config_zones.specs.RefusalRecord.{Refusal}
+use Rattle.config_zones.specs.RefusalRecord.TheVariants as refusal
 use Rattle.config_zones.proofs.Found.{in_hosted}
 use Rattle.config_zones.specs.Configured.{IsEditFor, LeadsTo, TellsEdit, config_of}
 use Rattle.config_zones.specs.Laws.{CountsAgree, ZonesAreFound}
@@ -31,15 +31,15 @@ use Rattle.dns_name.specs.Laws.{OneNameOfAWire}
 use Rattle.dns_name.specs.Names.{IsName}
 use Rattle.record_set.specs.Sets.{key_of}
 use Rattle.record_set.specs.declared.sets.RecordSet.{RecordSet}
-use Rattle.set_octets.specs.Octets.{HasSpelling, set_octets}
-use Rattle.zone_table.specs.Changes.{CanBeAdded}
-use Rattle.zone_table.specs.Zones.{AreZones, HasName, IsOne, IsZoneId, Zone, hosted}
+use Rattle.config_zones.specs.Octets.{HasSpelling, set_octets}
+use Rattle.config_zones.specs.Changes.{CanBeAdded}
+use Rattle.config_zones.specs.Zones.{AreZones, HasName, IsOne, IsZoneId, Zone, hosted}
 use Rattle.zone_model.specs.Hosted.{HostedZone}
-use Rattle.zone_table.specs.Counted.{octets_in_all, sets_in_all}
-use Rattle.zone_table.specs.Edits.{Edits, IsAllowed}
-use Rattle.zone_table.specs.Tables.{Table}
-use Rattle.zone_table.specs.declared.edits.ZoneEdit.TheVariants.{Open}
-use Rattle.zone_table.specs.declared.refs.Delta.{Delta}
+use Rattle.config_zones.specs.Counted.{octets_in_all, sets_in_all}
+use Rattle.config_zones.specs.Edits.{Edits, IsAllowed}
+use Rattle.config_zones.specs.Tables.{Table}
+use Rattle.config_zones.specs.ZoneEditRecord.TheVariants.{Open}
+use Rattle.config_zones.specs.DeltaRecord.{Delta}
 
 -- ---- the first of several rules
 

@@ -3,18 +3,16 @@
 ghost use Rattle.std.specs.Prelude.{◌≡◌, ℕ, IfSome};
 ghost use Rattle.std.specs.List.{list_any};
 ghost use Rattle.check_model.specs.Checks.{Checks};
-ghost use Rattle.command_octets.specs.declared.commands.Command.TheVariants.{DeleteZone};
-ghost use Rattle.config_model.specs.NewZones.{is_another, is_of_zone};
+ghost use Rattle.config_zones.specs.CommandRecord.TheVariants.{DeleteZone};
+ghost use Rattle.config_zones.specs.NewZones.{is_another, is_of_zone};
 ghost use Rattle.config_zones.specs.Configured.{TellsEditOnly, config_of};
-ghost use Rattle.set_scratch.specs.Holding.{IsHolding};
-ghost use Rattle.zone_table.specs.Zones.{placed_in};
+ghost use Rattle.config_zones.specs.Holding.{IsHolding};
+ghost use Rattle.config_zones.specs.Zones.{placed_in};
 ghost use Rattle.zone_model.specs.Placed.{sets_of};
 
-use config_model::Refusal;
-use config_zones::{edits_are_told, hold_at, zones_are_found};
+use config_zones::{Refusal, Scratch, ZoneEdit, Zones, edits_are_told, hold_at, zones_are_found};
 use dns_name::Name;
 use rdata_layout::RType;
-use zone_table::{Scratch, ZoneEdit, Zones};
 
 /// The edit by which a zone goes, or why it is refused: no zone has the number, or it has a set
 /// other than the NS and SOA sets of its apex. What the scratch holds afterwards is left open.

@@ -8,4 +8,5 @@ mod closing;
 mod opening;
 
 pub use closing::delete_zone;
+pub use config_zones::{Command, Delta, Ready, Scratch, SetRefs, ZoneEdit, Zones, write};
 pub use opening::create_zone;

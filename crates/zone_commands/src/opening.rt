@@ -3,28 +3,29 @@
 ghost use Rattle.std.specs.Prelude.{◌≡◌, ◌≤◌, ◌+◌, ◌==◌, ◌∷◌, [], ℕ, drop, length, not};
 ghost use Rattle.std.specs.List.{AllByRecursion, list_any, sum_by};
 ghost use Rattle.check_model.specs.Checks.{Checks};
-ghost use Rattle.command_octets.specs.declared.commands.Command.TheVariants.{CreateZone};
+ghost use Rattle.config_zones.specs.CommandRecord.TheVariants.{CreateZone};
 ghost use Rattle.config_zones.specs.Edited.{hosted_in};
-ghost use Rattle.config_model.specs.Batches.{is_over};
-ghost use Rattle.config_model.specs.Laws.{IsBounded};
-ghost use Rattle.config_model.specs.NewZones.{are_most, has_zone, is_repeated, is_zone_name};
-ghost use Rattle.config_model.specs.Sound.{Sound};
-ghost use Rattle.config_model.specs.Telling.{first_of, invalid, rule};
-ghost use Rattle.config_model.specs.declared.refusals.InputReason.TheVariants as reason;
-ghost use Rattle.config_model.specs.declared.refusals.Refusal.TheVariants as refusal;
+ghost use Rattle.config_zones.specs.Batches.{is_over};
+ghost use Rattle.config_zones.specs.LawsOfConfigModel.{IsBounded};
+ghost use Rattle.config_zones.specs.NewZones.{are_most, has_zone, is_repeated, is_zone_name};
+ghost use Rattle.config_zones.specs.Sound.{Sound};
+ghost use Rattle.config_zones.specs.Telling.{first_of, invalid, rule};
+ghost use Rattle.config_zones.specs.InputReasonRecord.TheVariants as reason;
+ghost use Rattle.config_zones.specs.RefusalRecord.TheVariants as refusal;
 ghost use Rattle.config_zones.specs.Configured.{TellsEdit, config_of};
 ghost use Rattle.dns_name.specs.Names.{IsName};
 ghost use Rattle.dns_name.specs.Order.{same_labels};
-ghost use Rattle.set_octets.specs.Octets.{HasSpelling, set_octets};
-ghost use Rattle.zone_table.specs.Counted.{octets_in_all, sets_in_all};
+ghost use Rattle.config_zones.specs.Octets.{HasSpelling, set_octets};
+ghost use Rattle.config_zones.specs.Counted.{octets_in_all, sets_in_all};
 
-use config_model::{InputReason, Refusal, refusals_are_told};
-use config_zones::{counts_agree, edits_are_told, is_over, new_sets, octets_in, zones_are_found};
+use config_zones::{
+    InputReason, Refusal, Sets, ZoneEdit, Zones, counts_agree, edits_are_told, is_over, new_sets,
+    octets_in, one_apex, refusals_are_told, zones_are_found,
+};
 use dns_name::{Name, one_name_of_a_wire};
 use octets::OutOfMemory;
 use record_set::RecordSet;
 use std::alloc::Global;
-use zone_table::{Sets, ZoneEdit, Zones, one_apex};
 
 /// The most zones.
 const MAX_ZONES: usize = 500;

@@ -3,12 +3,12 @@ use Rattle.std.proofs.Common.{◌≡◌, inl, inr, ⊎_elim, ℕ, ◌+◌, ◌-�
 use Rattle.std.proofs.lemmas.List.{take-append-le}
 use Rattle.byteorder.specs.Endian.{big_bytes}
 use Rattle.byteorder.specs.Numbers.{length-bytes_high_first}
-use Rattle.gate_journal.specs.Layout.{body, inner, front, opened, IsOpen, OpensTo, generation_of}
-use Rattle.gate_journal.specs.Append.{EndsAt, StandsOn as EndsOn, UnlessFault, HasCause as FileCause, AppendLeaves as FileLeaves, MayLeave as FileMayLeave, MovesOn as FileMoves}
-use Rattle.gate_journal.specs.declared.answers.Appended.{Appended}
-use Rattle.gate_journal.specs.declared.answers.Appended.TheVariants as appended
-use Rattle.gate_journal.proofs.Opening.{opens_to_one, opened-push, length-body}
-use Rattle.gate_journal.proofs.AppendLemmas.{was_told}
+use Rattle.file_building.specs.Layout.{body, inner, front, opened, IsOpen, OpensTo, generation_of}
+use Rattle.file_building.specs.Append.{EndsAt, StandsOn as EndsOn, UnlessFault, HasCause as FileCause, AppendLeaves as FileLeaves, MayLeave as FileMayLeave, MovesOn as FileMoves}
+use Rattle.file_building.specs.AppendedRecord.{Appended}
+use Rattle.file_building.specs.AppendedRecord.TheVariants as appended
+use Rattle.file_building.proofs.Opening.{opens_to_one, opened-push, length-body}
+use Rattle.file_building.proofs.AppendLemmas.{was_told}
 use Rattle.zone_journal.specs.Pairs.{Yields}
 use Rattle.zone_journal.specs.declared.answers.Side.TheVariants.{A, B}
 use Rattle.file_building.specs.Building.{Plan}

@@ -1,12 +1,12 @@
 -- What the calls that open a store give, by the side that decides.
 use Rattle.std.proofs.Common.{◌≡◌, ◌⊎◌, inr, ⊎_elim, ℕ, List, [], Option, Some, None, Result, Ok, Err, Vec, refl, sym, ◌∙◌, ap, subst}
 use Rattle.std.specs.declared.alloc.Global.{Global}
-use Rattle.gate_journal.specs.Append.{StandsOn as EndsOn}
-use Rattle.gate_journal.specs.Read.{IsRead, ReadsOn as ReadsFile, NextGives as NextOfFile, OnNone as FileOnNone, UnlessSome as FileUnlessSome, IsNoMore as FileIsNoMore}
-use Rattle.r53_disk.specs.Disk.{Rests}
-use Rattle.r53_disk.proofs.Moments.{only_still}
-use Rattle.gate_journal.specs.declared.answers.JournalFault.{JournalFault}
-use Rattle.gate_journal.specs.declared.answers.JournalFault.TheVariants as journal
+use Rattle.file_building.specs.Append.{StandsOn as EndsOn}
+use Rattle.file_building.specs.Read.{IsRead, ReadsOn as ReadsFile, NextGives as NextOfFile, OnNone as FileOnNone, UnlessSome as FileUnlessSome, IsNoMore as FileIsNoMore}
+use Rattle.file_building.specs.Disk.{Rests}
+use Rattle.file_building.proofs.Moments.{only_still}
+use Rattle.file_building.specs.JournalFaultRecord.{JournalFault}
+use Rattle.file_building.specs.JournalFaultRecord.TheVariants as journal
 use Rattle.zone_journal.specs.Pairs.{IsActive, Yields, active_of, other_of}
 use Rattle.file_building.specs.Building.{Plan}
 use Rattle.zone_journal.specs.Standing.{State, Reads, Stands}

@@ -1,8 +1,8 @@
 -- What a pair of files opens to.
 use Rattle.std.proofs.Common.{◌≡◌, inl, inr, ⊎_elim, ℕ, ◌≤◌, List, arith}
-use Rattle.r53_disk.specs.Disk.{LeavesOnly}
-use Rattle.gate_journal.specs.Layout.{IsOpen, OpensTo, generation_of}
-use Rattle.gate_journal.proofs.Opening.{opens_to_one}
+use Rattle.file_building.specs.Disk.{LeavesOnly}
+use Rattle.file_building.specs.Layout.{IsOpen, OpensTo, generation_of}
+use Rattle.file_building.proofs.Opening.{opens_to_one}
 use Rattle.zone_journal.specs.Pairs.{OpensPair, OpensBy, Yields, EachPair}
 use Rattle.zone_journal.specs.declared.answers.Side.TheVariants.{A, B}
 use Rattle.file_building.proofs.Gates.{is_open, has_generation}

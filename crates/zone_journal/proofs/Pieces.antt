@@ -2,13 +2,13 @@
 use Rattle.std.proofs.Common.{◌≡◌, inl, inr, ℕ, zero, suc, ◌+◌, ◌-◌, ◌<◌, ◌≤◌, ◌^◌, List, [], ◌∷◌, ◌++◌, length, take, drop, Option, Some, None, refl, sym, ◌∙◌, ap, subst, arith, append_assoc, append-nil, length-append, length-take-le, take-take, take-append-drop}
 use Rattle.std.proofs.lemmas.List.{take_at, drop_at, take_all, drop-take}
 use Rattle.std.proofs.Math.Seq.{take-append-add}
-use Rattle.r53_disk.specs.Disk.{Only, Rests, written}
-use Rattle.r53_disk.proofs.Moments.{only_still}
-use Rattle.gate_journal.specs.Layout.{front, inner, opened, body, AreShort, OpensTo, generation_of}
-use Rattle.gate_journal.specs.Append.{EndsAt, StandsOn as EndsOn}
-use Rattle.gate_journal.specs.Closing.{closed_file, IsWholeOrShut}
-use Rattle.gate_journal.proofs.Opening.{opens_to_one}
-use Rattle.gate_journal.proofs.AppendLemmas.{was_told}
+use Rattle.file_building.specs.Disk.{Only, Rests, written}
+use Rattle.file_building.proofs.Moments.{only_still}
+use Rattle.file_building.specs.Layout.{front, inner, opened, body, AreShort, OpensTo, generation_of}
+use Rattle.file_building.specs.Append.{EndsAt, StandsOn as EndsOn}
+use Rattle.file_building.specs.Closing.{closed_file, IsWholeOrShut}
+use Rattle.file_building.proofs.Opening.{opens_to_one}
+use Rattle.file_building.proofs.AppendLemmas.{was_told}
 use Rattle.zone_journal.specs.Pairs.{Yields, IsBelow, OpensPair, opposite}
 use Rattle.zone_journal.specs.declared.answers.Side.{Side}
 use Rattle.zone_journal.specs.declared.answers.Side.TheVariants.{A, B}

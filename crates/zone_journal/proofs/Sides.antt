@@ -1,6 +1,6 @@
 -- A journal that stands on two disks, by the side that decides.
 use Rattle.std.proofs.Common.{◌≡◌, ℕ, List, Option, Some, sym, ◌∙◌, subst}
-use Rattle.gate_journal.specs.Layout.{OpensTo}
+use Rattle.file_building.specs.Layout.{OpensTo}
 use Rattle.zone_journal.specs.Pairs.{OpensPair, Yields, active_of, other_of}
 use Rattle.zone_journal.specs.declared.answers.Side.{Side}
 use Rattle.zone_journal.specs.declared.answers.Side.TheVariants.{A, B}

@@ -1,14 +1,14 @@
 -- The making of a store.
 use Rattle.std.proofs.Common.{◌≡◌, inl, inr, ⊎_elim, ℕ, ◌≤◌, List, [], ◌∷◌, ◌++◌, drop, Option, Some, refl, sym, ◌∙◌, ap, subst, arith, if◌then◌else◌, ◌==◌}
 use Rattle.std.proofs.lemmas.Bool.{cases_eq}
-use Rattle.r53_disk.specs.Disk.{Torn, Only, Rests, LeavesOnly, written}
-use Rattle.r53_disk.proofs.Moments.{only_still}
+use Rattle.file_building.specs.Disk.{Torn, Only, Rests, LeavesOnly, written}
+use Rattle.file_building.proofs.Moments.{only_still}
 use Rattle.zone_journal.specs.Pairs.{Unwritten}
-use Rattle.r53_disk.specs.Synced.{OldOrTorn, Keeps}
-use Rattle.r53_disk.specs.declared.disk.Done.{Done}
-use Rattle.r53_disk.specs.declared.disk.Done.TheVariants as done
-use Rattle.gate_journal.specs.Layout.{IsOpen, OpensTo}
-use Rattle.gate_journal.specs.Closing.{closed_file, IsWholeOrShut}
+use Rattle.file_building.specs.Synced.{OldOrTorn, Keeps}
+use Rattle.file_building.specs.DoneRecord.{Done}
+use Rattle.file_building.specs.DoneRecord.TheVariants as done
+use Rattle.file_building.specs.Layout.{IsOpen, OpensTo}
+use Rattle.file_building.specs.Closing.{closed_file, IsWholeOrShut}
 use Rattle.file_building.specs.Building.{IsShut}
 use Rattle.zone_journal.specs.Making.{empty_snapshot, empty_store, store_over, IsNoneOrEmpty, Makes, MakesFrom}
 use Rattle.file_building.proofs.Gates.{not_open, torn_first}

@@ -1,7 +1,7 @@
 -- What is left by the first syncs of two files.
 use Rattle.std.proofs.Common.{inr, ℕ, List, Result, Ok, Err, Vec}
 use Rattle.std.specs.declared.alloc.Global.{Global}
-use Rattle.r53_disk.specs.Disk.{Same}
+use Rattle.file_building.specs.Disk.{Same}
 use Rattle.zone_journal.specs.Pairs.{BothSynced}
 use Rattle.zone_journal.specs.Standing.{State}
 use Rattle.zone_journal.specs.Opening.{OpenSyncs}

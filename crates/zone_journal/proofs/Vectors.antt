@@ -1,7 +1,7 @@
 -- The files of a store with nothing in it, and of that store after an entry and a compaction, byte
 -- by byte.
 use Rattle.std.proofs.Common.{◌≡◌, [], ◌∷◌, ◌++◌, refl}
-use Rattle.gate_journal.specs.Layout.{front}
+use Rattle.file_building.specs.Layout.{front}
 use Rattle.zone_journal.specs.Compacting.{next_place}
 use Rattle.zone_journal.specs.Making.{empty_snapshot, store_over}
 

@@ -1,8 +1,8 @@
 -- What an append on two disks leaves.
 use Rattle.std.specs.Prelude.{◌≡◌, ◌⊎◌, ℕ, ◌+◌, ◌<◌, ◌≤◌, List, [], ◌∷◌, ◌++◌, Some}
-use Rattle.gate_journal.specs.Layout.{most}
-use Rattle.gate_journal.specs.declared.answers.Appended.{Appended}
-use Rattle.gate_journal.specs.declared.answers.Appended.TheVariants as appended
+use Rattle.file_building.specs.Layout.{most}
+use Rattle.file_building.specs.AppendedRecord.{Appended}
+use Rattle.file_building.specs.AppendedRecord.TheVariants as appended
 use Rattle.zone_journal.specs.Pairs.{OpensPair}
 use Rattle.file_building.specs.Building.{Plan}
 use Rattle.zone_journal.specs.Standing.{State, planned_length}

@@ -1,6 +1,6 @@
 -- What a compaction leaves, piece by piece.
 use Rattle.std.specs.Prelude.{◌≡◌, ◌⊎◌, ℕ, ◌+◌, ◌-◌, ◌<◌, ◌≤◌, ◌^◌, min, List, ◌++◌, length, Option, Some, None, ⊤}
-use Rattle.gate_journal.specs.Layout.{front, OpensTo}
+use Rattle.file_building.specs.Layout.{front, OpensTo}
 use Rattle.zone_journal.specs.Pairs.{OpensPair, Yields, opposite}
 use Rattle.file_building.specs.Building.{Plan}
 use Rattle.zone_journal.specs.Standing.{State, Stands, planned_length, left_of}

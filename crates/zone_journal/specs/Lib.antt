@@ -5,8 +5,8 @@ pub mod Opening
 pub mod Pairs
 pub mod Standing
 pub use Rattle.octets.specs.Counts
-pub use Rattle.r53_disk.specs.Disk
-pub use Rattle.gate_journal.specs.Append
-pub use Rattle.gate_journal.specs.Layout
-pub use Rattle.gate_journal.specs.Read
+pub use Rattle.file_building.specs.Disk
+pub use Rattle.file_building.specs.Append
+pub use Rattle.file_building.specs.Layout
+pub use Rattle.file_building.specs.Read
 pub use Rattle.file_building.specs.Building

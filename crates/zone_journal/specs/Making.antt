@@ -1,9 +1,9 @@
 -- What the making of a store leaves.
 use Rattle.std.specs.Prelude.{◌≡◌, ◌⊎◌, ℕ, ◌≤◌, List, [], ◌∷◌, ◌++◌, drop, Option, Some, ⊤}
-use Rattle.r53_disk.specs.Disk.{Only}
-use Rattle.r53_disk.specs.declared.disk.Done.{Done}
-use Rattle.r53_disk.specs.declared.disk.Done.TheVariants as done
-use Rattle.gate_journal.specs.Layout.{IsOpen, inner, OpensTo}
+use Rattle.file_building.specs.Disk.{Only}
+use Rattle.file_building.specs.DoneRecord.{Done}
+use Rattle.file_building.specs.DoneRecord.TheVariants as done
+use Rattle.file_building.specs.Layout.{IsOpen, inner, OpensTo}
 use Rattle.zone_journal.specs.Pairs.{Unwritten, NoneSynced, OneSynced, BothSynced}
 use Rattle.zone_journal.specs.declared.answers.Side.TheVariants.{A, B}
 use Rattle.zone_journal.specs.declared.answers.Init.{Init}

@@ -2,10 +2,10 @@
 use Rattle.std.specs.Prelude.{◌≡◌, ◌⊎◌, ℕ, ◌+◌, ◌<◌, List, [], ◌∷◌, ◌++◌, length, drop, Option, Some, None, Result, Ok, Err, ⊤, Vec}
 use Rattle.std.specs.declared.alloc.Global.{Global}
 use Rattle.byteorder.specs.Endian.{big_number}
-use Rattle.gate_journal.specs.Layout.{IsOpen, OpensTo, generation_of}
-use Rattle.gate_journal.specs.Read.{IsRead, IsBroken}
-use Rattle.gate_journal.specs.declared.answers.JournalFault.{JournalFault}
-use Rattle.gate_journal.specs.declared.answers.JournalFault.TheVariants as journal
+use Rattle.file_building.specs.Layout.{IsOpen, OpensTo, generation_of}
+use Rattle.file_building.specs.Read.{IsRead, IsBroken}
+use Rattle.file_building.specs.JournalFaultRecord.{JournalFault}
+use Rattle.file_building.specs.JournalFaultRecord.TheVariants as journal
 use Rattle.zone_journal.specs.Pairs.{active_of, other_of, IsActive, Yields, NoneSynced, OneSynced, BothSynced}
 use Rattle.zone_journal.specs.Standing.{State}
 use Rattle.zone_journal.specs.declared.answers.Side.{Side}

@@ -1,7 +1,7 @@
 -- What a pair of files opens to, and what a crash leaves of a pair.
 use Rattle.std.specs.Prelude.{◌≡◌, ◌⊎◌, ℕ, ◌<◌, ◌≤◌, List, Option, Some}
-use Rattle.r53_disk.specs.Disk.{Only, Same}
-use Rattle.gate_journal.specs.Layout.{IsOpen, OpensTo, generation_of}
+use Rattle.file_building.specs.Disk.{Only, Same}
+use Rattle.file_building.specs.Layout.{IsOpen, OpensTo, generation_of}
 use Rattle.zone_journal.specs.declared.answers.Side.{Side}
 use Rattle.zone_journal.specs.declared.answers.Side.TheVariants.{A, B}
 

@@ -1,9 +1,9 @@
 -- What a journal over two disks stands on.
 use Rattle.std.specs.Prelude.{◌≡◌, ◌⊎◌, ℕ, ◌+◌, ◌-◌, ◌<◌, ◌≤◌, ◌^◌, List, ◌++◌, length, take, drop, Option, Some, None}
-use Rattle.r53_disk.specs.Disk.{Only}
-use Rattle.gate_journal.specs.Layout.{front, inner, opened, OpensTo, generation_of, most}
-use Rattle.gate_journal.specs.Append.{StandsOn as EndsOn}
-use Rattle.gate_journal.specs.Read.{ReadsOn as ReadsFile}
+use Rattle.file_building.specs.Disk.{Only}
+use Rattle.file_building.specs.Layout.{front, inner, opened, OpensTo, generation_of, most}
+use Rattle.file_building.specs.Append.{StandsOn as EndsOn}
+use Rattle.file_building.specs.Read.{ReadsOn as ReadsFile}
 use Rattle.file_building.specs.Building.{Plan, IsShut}
 use Rattle.zone_journal.specs.Pairs.{active_of, other_of, Yields}
 use Rattle.zone_journal.specs.declared.answers.Progress.{Progress}

@@ -2,15 +2,14 @@
 
 ghost use Rattle.std.specs.Prelude.{◌≡◌, ◌⊎◌, ◌≤◌, ℕ, List, length, Some, None};
 ghost use Rattle.octets.specs.Counts.{Rose};
-ghost use Rattle.r53_disk.specs.Disk.{Only, LeavesOnly};
-ghost use Rattle.gate_journal.specs.Layout.{IsOpen};
+ghost use Rattle.file_building.specs.Disk.{Only, LeavesOnly};
+ghost use Rattle.file_building.specs.Layout.{IsOpen};
 ghost use Rattle.zone_journal.specs.Pairs.{Unwritten};
 ghost use Rattle.zone_journal.specs.Making.{Makes, InitGives, InitLeaves, IsNoneOrEmpty};
 
 use crate::start::settle;
 use crate::{Init, Side};
-use gate_journal::{Look, close_file, look};
-use r53_disk::{Disk, Done, write_synced};
+use file_building::{Disk, Done, Look, close_file, look, write_synced};
 
 /// A store with nothing in it, from byte 1 to its closed gate.
 const EMPTY_STORE: [u8; 33] = [

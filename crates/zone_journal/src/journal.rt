@@ -2,10 +2,10 @@
 
 ghost use Rattle.std.specs.Prelude.{◌≡◌, ◌⊎◌, ◌≤◌, ◌+◌, ◌<◌, ◌++◌, ◌∷◌, [], List, ℕ, length, Some, None, IfOk, IsErrOf, IsSome, MatchOption, ◌^◌};
 ghost use Rattle.octets.specs.Counts.{Rose};
-ghost use Rattle.r53_disk.specs.Disk.{Only, LeavesOnly, Rests};
-ghost use Rattle.gate_journal.specs.Append.{UnlessFault as UnlessAppendFault, OnFull, AppendLeaves as FileLeaves, MayLeave as FileMayLeave};
-ghost use Rattle.gate_journal.specs.Layout.{OpensTo, front};
-ghost use Rattle.gate_journal.specs.Read.{IsRead};
+ghost use Rattle.file_building.specs.Disk.{Only, LeavesOnly, Rests};
+ghost use Rattle.file_building.specs.Append.{UnlessFault as UnlessAppendFault, OnFull, AppendLeaves as FileLeaves, MayLeave as FileMayLeave};
+ghost use Rattle.file_building.specs.Layout.{OpensTo, front};
+ghost use Rattle.file_building.specs.Read.{IsRead};
 ghost use Rattle.zone_journal.specs.Pairs.{OpensPair, EachPair, Leaves, Unwritten, active_of, other_of, opposite};
 ghost use Rattle.file_building.specs.Building.{Plan};
 ghost use Rattle.zone_journal.specs.Standing.{PlanFits, left_of, progress_of, StandsOn, ReadsOn, IsOn, Stands, Reads};
@@ -15,10 +15,11 @@ ghost use Rattle.zone_journal.specs.Opening.{OpenGives, OpenSyncs, BeginGives, N
 
 use crate::start::{Chosen, choose, settle};
 use crate::{Begun, OpenFault, Piece, Progress, Side};
-use file_building::{Compaction, copy, open_file};
-use gate_journal::{Appended, Entry, Journal, JournalFault, close_file, fits};
+use file_building::{
+    Appended, Compaction, Disk, Done, Entry, Journal, JournalFault, close_file, copy, fits,
+    open_file,
+};
 use octets::zeros;
-use r53_disk::{Disk, Done};
 use std::alloc::Global;
 use std::marker::Model;
 

@@ -6,7 +6,7 @@ ghost use Rattle.zone_journal.specs.Standing.{State, StandsOn};
 ghost use Rattle.zone_journal.specs.Compacting.{Begins};
 ghost use Rattle.zone_journal.specs.declared.answers.Begun.TheVariants as begun;
 
-use r53_disk::Disk;
+use file_building::Disk;
 
 /// Two files open to one generation, one snapshot and one list of entries.
 pub fn pair_opens_to_one()

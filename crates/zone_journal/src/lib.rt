@@ -12,7 +12,7 @@ mod start;
 
 pub use answers::{Begun, Init, OpenFault, Piece, Progress, Side};
 pub use empty::init;
-pub use gate_journal::{Appended, Entry};
+pub use file_building::{Appended, Entry};
 pub use journal::ZoneJournal;
 pub use laws::{begins_in_place, pair_opens_to_one};
 pub use octets::OutOfMemory;

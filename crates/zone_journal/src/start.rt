@@ -2,13 +2,12 @@
 
 ghost use Rattle.std.specs.Prelude.{◌≡◌, ◌⊎◌, ◌≤◌, ℕ, List, Some};
 ghost use Rattle.octets.specs.Counts.{Rose};
-ghost use Rattle.r53_disk.specs.Disk.{Only, Rests, Settles};
+ghost use Rattle.file_building.specs.Disk.{Only, Rests, Settles};
 ghost use Rattle.zone_journal.specs.Pairs.{Unwritten};
 ghost use Rattle.zone_journal.specs.Opening.{Chooses};
 
 use crate::Side;
-use gate_journal::{Look, look};
-use r53_disk::{Disk, Done};
+use file_building::{Disk, Done, Look, look};
 
 /// Which file decides.
 #[derive(Clone, Copy, PartialEq, Eq)]

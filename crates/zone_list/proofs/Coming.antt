@@ -4,14 +4,14 @@ use Rattle.std.specs.Prelude.{◌⊎◌, slice_get, slice_set}
 use Rattle.std.specs.List.{AllByRecursion}
 use Rattle.std.proofs.lemmas.List.{append_assoc}
 use Rattle.std.proofs.lemmas.Option.{slice_get_within}
-use Rattle.record_set.specs.declared.sets.RecordSet.{RecordSet}
-use Rattle.record_set.specs.declared.sets.SetKey.{SetKey}
-use Rattle.record_set.specs.Sets.{key_of}
+use Rattle.zone_changes.specs.RecordSetRecord.{RecordSet}
+use Rattle.zone_changes.specs.SetKeyRecord.{SetKey}
+use Rattle.zone_changes.specs.Sets.{key_of}
 use Rattle.zone_changes.specs.Coming.{Comes}
-use Rattle.zone_model.specs.Placing.{IsThere}
-use Rattle.zone_model.specs.Zones.{IsAmong, IsRising}
-use Rattle.zone_model.specs.Placed.{Placed, AreOfZone, sets_of}
-use Rattle.zone_model.proofs.Lists.{in_put, in_itself, split, split_at}
+use Rattle.zone_changes.specs.Placing.{IsThere}
+use Rattle.zone_changes.specs.Zones.{IsAmong, IsRising}
+use Rattle.zone_changes.specs.Placed.{Placed, AreOfZone, sets_of}
+use Rattle.zone_changes.proofs.ListsOfZoneModel.{in_put, in_itself, split, split_at}
 use Rattle.zone_list.specs.declared.refs.SetRef.{SetRef}
 use Rattle.zone_list.specs.Changes.{DifferByKey, ref_in}
 use Rattle.zone_list.specs.Steps.{Comings}

@@ -5,17 +5,17 @@ use Rattle.std.specs.List.{filter}
 use Rattle.std.specs.Ordering.{is_gt, is_lt}
 use Rattle.std.specs.declared.cmp.Ordering.{Ordering}
 use Rattle.std.proofs.lemmas.Cmp.{tied_itself}
-use Rattle.rdata_layout.specs.declared.types.RType.{RType}
-use Rattle.routing.specs.declared.policies.Routing.TheVariants as routing
-use Rattle.record_set.specs.declared.sets.Body.TheVariants as body
-use Rattle.record_set.specs.declared.sets.RecordSet.{RecordSet}
-use Rattle.record_set.specs.declared.sets.SetKey.{SetKey}
-use Rattle.record_set.specs.Sets.{key_of}
-use Rattle.zone_model.specs.Keys.{key_cmp}
-use Rattle.zone_model.specs.Placing.{comes_before, comes_behind, IsThere, placed, without}
-use Rattle.zone_model.specs.Zones.{IsAmong, IsRising}
-use Rattle.zone_model.proofs.Ordered.{keys_tie, keys_total}
-use Rattle.zone_model.proofs.Staying.{placed_rising, without_rising}
+use Rattle.zone_changes.specs.RTypeRecord.{RType}
+use Rattle.zone_changes.specs.RoutingRecord.TheVariants as routing
+use Rattle.zone_changes.specs.BodyRecord.TheVariants as body
+use Rattle.zone_changes.specs.RecordSetRecord.{RecordSet}
+use Rattle.zone_changes.specs.SetKeyRecord.{SetKey}
+use Rattle.zone_changes.specs.Sets.{key_of}
+use Rattle.zone_changes.specs.Keys.{key_cmp}
+use Rattle.zone_changes.specs.Placing.{comes_before, comes_behind, IsThere, placed, without}
+use Rattle.zone_changes.specs.Zones.{IsAmong, IsRising}
+use Rattle.zone_changes.proofs.Ordered.{keys_tie, keys_total}
+use Rattle.zone_changes.proofs.Staying.{placed_rising, without_rising}
 use Rattle.zone_list.specs.Changes.{DifferByKey, IsKeyOf, with_all, without_all}
 use Rattle.zone_list.proofs.Coming.{first_there, later_there, none_of, not_first}
 

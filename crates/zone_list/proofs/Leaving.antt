@@ -3,14 +3,14 @@ use Rattle.std.proofs.Common.{◌≡◌, ◌≢◌, ℕ, zero, suc, List, [], �
 use Rattle.std.specs.Prelude.{◌⊎◌, slice_get}
 use Rattle.std.specs.List.{AllByRecursion}
 use Rattle.std.proofs.lemmas.List.{append_assoc, map-append}
-use Rattle.record_set.specs.declared.sets.RecordSet.{RecordSet}
-use Rattle.record_set.specs.declared.sets.SetKey.{SetKey}
-use Rattle.record_set.specs.Sets.{key_of}
-use Rattle.zone_model.specs.Placing.{IsThere}
-use Rattle.zone_model.specs.Zones.{IsAmong, IsRising}
-use Rattle.zone_model.specs.Placed.{Placed, IsTaken, sets_of}
-use Rattle.zone_model.proofs.Among.{among_at}
-use Rattle.zone_model.proofs.Lists.{split_at}
+use Rattle.zone_changes.specs.RecordSetRecord.{RecordSet}
+use Rattle.zone_changes.specs.SetKeyRecord.{SetKey}
+use Rattle.zone_changes.specs.Sets.{key_of}
+use Rattle.zone_changes.specs.Placing.{IsThere}
+use Rattle.zone_changes.specs.Zones.{IsAmong, IsRising}
+use Rattle.zone_changes.specs.Placed.{Placed, IsTaken, sets_of}
+use Rattle.zone_changes.proofs.Among.{among_at}
+use Rattle.zone_changes.proofs.ListsOfZoneModel.{split_at}
 use Rattle.zone_changes.proofs.Rising.{rising_taken}
 use Rattle.zone_list.specs.declared.refs.SetRef.{SetRef}
 use Rattle.zone_list.specs.Changes.{AreThere, IsKeyOf}

@@ -10,3 +10,9 @@ pub use Rattle.zone_changes.proofs.Cells
 pub use Rattle.zone_changes.proofs.Lists
 pub use Rattle.zone_changes.proofs.Orders
 pub use Rattle.zone_changes.proofs.Slots
+pub use Rattle.zone_changes.proofs.Among
+pub use Rattle.zone_changes.proofs.ListsOfZoneModel
+pub use Rattle.zone_changes.proofs.Lookups
+pub use Rattle.zone_changes.proofs.Ordered
+pub use Rattle.zone_changes.proofs.Places
+pub use Rattle.zone_changes.proofs.Below

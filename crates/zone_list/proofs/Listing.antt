@@ -4,11 +4,11 @@ use Rattle.std.specs.Prelude.{◌⊎◌, ◌==◌, slice_get, option_map}
 use Rattle.std.proofs.lemmas.Bool.{cases_eq, eqb-true, eq-eqb}
 use Rattle.std.proofs.lemmas.List.{length-map}
 use Rattle.std.proofs.lemmas.Option.{slice_get_read, slice_get_within, slice_get-map}
-use Rattle.dns_name.specs.Suffix.{EndsWith}
+use Rattle.zone_changes.specs.Suffix.{EndsWith}
 use Rattle.zone_list.specs.Kept.{Listed, named, named_of}
 use Rattle.zone_list.specs.Found.{IsSplit, IsPast, LongestOrNone, IsAsLong, IsNextZone}
 use Rattle.zone_list.specs.Zones.{Zone, AreListed, IsOne, IsZoneId, placed_in}
-use Rattle.zone_model.proofs.Among.{among_at, place_of}
+use Rattle.zone_changes.proofs.Among.{among_at, place_of}
 use Rattle.zone_list.proofs.Members.{filled, in_all}
 
 -- the zone at a place

@@ -2,9 +2,9 @@
 use Rattle.std.proofs.Common.{◌≤◌, ◌<◌, ℕ, zero, suc, List, length, Option, None, Some, arith, inl, inr}
 use Rattle.std.specs.Prelude.{◌⊎◌}
 use Rattle.std.proofs.lemmas.Option.{slice_get_within}
-use Rattle.record_set.specs.declared.sets.RecordSet.{RecordSet}
-use Rattle.record_set.specs.declared.sets.SetKey.{SetKey}
-use Rattle.zone_model.proofs.Among.{place_of}
+use Rattle.zone_changes.specs.RecordSetRecord.{RecordSet}
+use Rattle.zone_changes.specs.SetKeyRecord.{SetKey}
+use Rattle.zone_changes.proofs.Among.{place_of}
 use Rattle.zone_list.specs.Steps.{FoundBetween, PlaceOrNone}
 
 low_or_high : (a b : ℕ) → (a < b) ⊎ (b ≤ a)

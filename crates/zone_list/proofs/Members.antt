@@ -4,17 +4,17 @@ use Rattle.std.specs.Prelude.{◌⊎◌, slice_get, ⊤}
 use Rattle.std.specs.Ordering.{ordering_reverse}
 use Rattle.std.specs.List.{AllByRecursion}
 use Rattle.std.proofs.lemmas.Cmp.{tied_itself}
-use Rattle.record_set.specs.declared.sets.RecordSet.{RecordSet}
-use Rattle.record_set.specs.declared.sets.SetKey.{SetKey}
-use Rattle.record_set.specs.Sets.{key_of}
-use Rattle.zone_model.specs.Placing.{IsThere}
-use Rattle.zone_model.specs.Existing.{Exists}
-use Rattle.zone_model.specs.Keys.{key_cmp}
-use Rattle.zone_model.specs.Zones.{IsAmong, IsRising}
-use Rattle.zone_model.proofs.Ordered.{keys_total}
-use Rattle.zone_model.specs.Placed.{Placed, IsTaken, sets_of}
+use Rattle.zone_changes.specs.RecordSetRecord.{RecordSet}
+use Rattle.zone_changes.specs.SetKeyRecord.{SetKey}
+use Rattle.zone_changes.specs.Sets.{key_of}
+use Rattle.zone_changes.specs.Placing.{IsThere}
+use Rattle.zone_changes.specs.Existing.{Exists}
+use Rattle.zone_changes.specs.Keys.{key_cmp}
+use Rattle.zone_changes.specs.Zones.{IsAmong, IsRising}
+use Rattle.zone_changes.proofs.Ordered.{keys_total}
+use Rattle.zone_changes.specs.Placed.{Placed, IsTaken, sets_of}
 use Rattle.zone_list.specs.Zones.{Zone, CanStand}
-use Rattle.zone_model.proofs.Lists.{in_put, in_itself, in_taken, split_at}
+use Rattle.zone_changes.proofs.ListsOfZoneModel.{in_put, in_itself, in_taken, split_at}
 
 module _ {X : Type 0} where
   pub put_or_in : (front back : List X) (x y : X) → IsAmong (front ++ x ∷ back) y

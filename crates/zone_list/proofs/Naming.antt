@@ -5,15 +5,15 @@ use Rattle.std.specs.List.{AllByRecursion, insert, remove}
 use Rattle.std.specs.declared.cmp.Ordering.{Ordering}
 use Rattle.std.specs.Ordering.{is_eq, is_gt, ordering_reverse}
 use Rattle.std.proofs.lemmas.Option.{slice_get_within}
-use Rattle.dns_name.specs.Order.{zone_cmp}
-use Rattle.dns_name.specs.OrderLaws.{same_labels-Decides, zone_cmp_ties, zone_cmp_total}
-use Rattle.dns_name.specs.Suffix.{EndsWith}
-use Rattle.zone_model.specs.Existing.{IsAncestor}
-use Rattle.zone_model.specs.Zones.{IsAmong}
-use Rattle.zone_model.proofs.Among.{among_at, place_of}
-use Rattle.zone_model.proofs.Lists.{all_put, all_taken, split, split_at}
-use Rattle.set_search.proofs.Below.{below_between, ends_further, ends_itself, no_longer, not_behind, parent_or_above}
-use Rattle.set_search.proofs.Lookups.{below_or_not, up_or_tied}
+use Rattle.zone_changes.specs.Order.{zone_cmp}
+use Rattle.zone_changes.specs.OrderLaws.{same_labels-Decides, zone_cmp_ties, zone_cmp_total}
+use Rattle.zone_changes.specs.Suffix.{EndsWith}
+use Rattle.zone_changes.specs.Existing.{IsAncestor}
+use Rattle.zone_changes.specs.Zones.{IsAmong}
+use Rattle.zone_changes.proofs.Among.{among_at, place_of}
+use Rattle.zone_changes.proofs.ListsOfZoneModel.{all_put, all_taken, split, split_at}
+use Rattle.zone_changes.proofs.Below.{below_between, ends_further, ends_itself, no_longer, not_behind, parent_or_above}
+use Rattle.zone_changes.proofs.Lookups.{below_or_not, up_or_tied}
 use Rattle.zone_list.specs.declared.apexes.Apex.{Apex}
 use Rattle.zone_list.specs.Apexes.{AreAllAbove, AreInOrder, IsLongestName, IsParted, IsWith}
 

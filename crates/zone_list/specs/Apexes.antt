@@ -4,10 +4,10 @@ use Rattle.std.specs.Prelude.{false, Option, None, Some, ⊤}
 use Rattle.std.specs.List.{AllByRecursion}
 use Rattle.std.specs.Ordering.{is_gt}
 use Rattle.std.specs.declared.cmp.Ordering.TheVariants.{Less}
-use Rattle.dns_name.specs.Order.{zone_cmp}
-use Rattle.dns_name.specs.Suffix.{EndsWith}
-use Rattle.zone_model.specs.Existing.{IsAncestor}
-use Rattle.zone_model.specs.Zones.{IsAmong}
+use Rattle.zone_changes.specs.Order.{zone_cmp}
+use Rattle.zone_changes.specs.Suffix.{EndsWith}
+use Rattle.zone_changes.specs.Existing.{IsAncestor}
+use Rattle.zone_changes.specs.Zones.{IsAmong}
 use Rattle.zone_list.specs.declared.apexes.Apex.{Apex}
 
 -- Each name comes before all that stand behind it.

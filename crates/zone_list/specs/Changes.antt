@@ -1,12 +1,12 @@
 -- Changes of the sets of one zone.
 use Rattle.std.specs.Prelude.{◌≡◌, ◌≢◌, ◌⊎◌, ◌↔◌, ℕ, List, [], ◌∷◌, length, slice_get, Some, ⊤}
 use Rattle.std.specs.List.{AllByRecursion}
-use Rattle.record_set.specs.declared.sets.RecordSet.{RecordSet}
-use Rattle.record_set.specs.declared.sets.SetKey.{SetKey}
-use Rattle.record_set.specs.Sets.{key_of}
-use Rattle.zone_model.specs.Placing.{IsThere, placed, without}
-use Rattle.zone_model.specs.Zones.{IsAmong}
-use Rattle.zone_model.specs.Placed.{Placed, IsHere, AreOfZone, sets_of}
+use Rattle.zone_changes.specs.RecordSetRecord.{RecordSet}
+use Rattle.zone_changes.specs.SetKeyRecord.{SetKey}
+use Rattle.zone_changes.specs.Sets.{key_of}
+use Rattle.zone_changes.specs.Placing.{IsThere, placed, without}
+use Rattle.zone_changes.specs.Zones.{IsAmong}
+use Rattle.zone_changes.specs.Placed.{Placed, IsHere, AreOfZone, sets_of}
 use Rattle.zone_list.specs.declared.refs.SetRef.{SetRef}
 use Rattle.zone_list.specs.Zones.{CanStand}
 

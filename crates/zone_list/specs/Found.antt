@@ -1,7 +1,7 @@
 -- What is found in a list of zones by rising number.
 use Rattle.std.specs.Prelude.{◌≡◌, ◌≤◌, ◌<◌, ℕ, List, [], ◌∷◌, ◌++◌, length, slice_get, Option}
 use Rattle.std.specs.Prelude.{None, Some}
-use Rattle.dns_name.specs.Suffix.{EndsWith}
+use Rattle.zone_changes.specs.Suffix.{EndsWith}
 use Rattle.zone_list.specs.Zones.{Zone, IsOne, IsZoneId}
 
 -- The zones before place `low` have smaller numbers, and those from `high` on don't.

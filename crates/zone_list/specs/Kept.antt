@@ -1,11 +1,11 @@
 -- How zones are kept: each with the slots of its sets in a store that all zones share.
 use Rattle.std.specs.Prelude.{◌≡◌, ◌<◌, ℕ, List, [], map, Option, Some}
 use Rattle.std.specs.List.{AllByRecursion}
-use Rattle.record_set.specs.declared.sets.RecordSet.{RecordSet}
+use Rattle.zone_changes.specs.RecordSetRecord.{RecordSet}
 use Rattle.zone_changes.specs.Stored.{Kept}
 use Rattle.zone_changes.specs.declared.sums.Sums.{Sums}
 use Rattle.zone_changes.specs.Sums.{sums_of}
-use Rattle.zone_model.specs.Zones.{IsAmong}
+use Rattle.zone_changes.specs.Zones.{IsAmong}
 use Rattle.zone_changes.specs.Orders.{IsOrder, placed_of, set_in}
 use Rattle.zone_list.specs.Zones.{AreListed, CanStand, Zone}
 

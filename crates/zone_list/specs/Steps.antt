@@ -2,14 +2,14 @@
 use Rattle.std.specs.Prelude.{◌≡◌, ◌≢◌, ◌≤◌, ◌<◌, ◌⊎◌, ℕ, List, [], ◌∷◌, Option, None, Some, length}
 use Rattle.std.specs.Prelude.{slice_get}
 use Rattle.std.specs.List.{sum_by}
-use Rattle.octet_region.specs.Cells.{cells_for}
-use Rattle.record_set.specs.declared.sets.RecordSet.{RecordSet}
-use Rattle.record_set.specs.declared.sets.SetKey.{SetKey}
-use Rattle.record_set.specs.Sets.{key_of}
-use Rattle.set_octets.specs.Octets.{set_octets}
+use Rattle.zone_changes.specs.Cells.{cells_for}
+use Rattle.zone_changes.specs.RecordSetRecord.{RecordSet}
+use Rattle.zone_changes.specs.SetKeyRecord.{SetKey}
+use Rattle.zone_changes.specs.Sets.{key_of}
+use Rattle.zone_changes.specs.Octets.{set_octets}
 use Rattle.zone_changes.specs.Coming.{Comes}
-use Rattle.zone_model.specs.Placing.{IsThere}
-use Rattle.zone_model.specs.Placed.{AreOfZone, IsTaken, Placed}
+use Rattle.zone_changes.specs.Placing.{IsThere}
+use Rattle.zone_changes.specs.Placed.{AreOfZone, IsTaken, Placed}
 use Rattle.zone_list.specs.declared.refs.SetRef.{SetRef}
 
 -- how many cells the octets of the sets take

@@ -1,12 +1,12 @@
 -- Zones, and lists of them.
 use Rattle.std.specs.Prelude.{◌≡◌, ◌≢◌, ◌<◌, ◌==◌, ℕ, List, [], ◌∷◌, if◌then◌else◌, ⊤}
 use Rattle.std.specs.List.{AllByRecursion}
-use Rattle.dns_name.specs.Suffix.{EndsWith}
-use Rattle.record_set.specs.declared.sets.RecordSet.{RecordSet}
-use Rattle.set_octets.specs.Octets.{HasSpelling}
-use Rattle.zone_model.specs.Hosted.{HostedZone}
-use Rattle.zone_model.specs.Zones.{IsAmong}
-use Rattle.zone_model.specs.Placed.{Placed, AreOfZone, sets_of}
+use Rattle.zone_changes.specs.Suffix.{EndsWith}
+use Rattle.zone_changes.specs.RecordSetRecord.{RecordSet}
+use Rattle.zone_changes.specs.Octets.{HasSpelling}
+use Rattle.zone_changes.specs.Hosted.{HostedZone}
+use Rattle.zone_changes.specs.Zones.{IsAmong}
+use Rattle.zone_changes.specs.Placed.{Placed, AreOfZone, sets_of}
 
 -- A zone: its number, the name of its apex, and its sets in zone order, each with its slot.
 pub record Zone : Type 0 where

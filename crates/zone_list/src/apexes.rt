@@ -5,16 +5,16 @@
 ghost use Rattle.std.specs.Prelude.{◌≡◌, ◌≢◌, ◌≤◌, ◌<◌, ◌-◌, ℕ, List, [], length, None, Some};
 ghost use Rattle.std.specs.Prelude.{IfSome, IsTrue, ◌↔◌, slice_get, vec_capacity};
 ghost use Rattle.std.specs.List.{insert};
-ghost use Rattle.dns_name.specs.Suffix.{EndsWith};
+ghost use Rattle.zone_changes.specs.Suffix.{EndsWith};
 ghost use Rattle.zone_list.specs.Apexes.{AreInOrder, Comes, FindsNumber, Goes, IsLongestName};
 ghost use Rattle.zone_list.specs.Apexes.{IsParted, IsWith, IsWithout, LongestName, LongestOrNot};
 ghost use Rattle.zone_list.specs.declared.apexes.Apex.{Apex};
 
 use crate::hints::Hints;
-use dns_name::Name;
 use octets::{OutOfMemory, behind};
 use std::alloc::Global;
 use std::marker::Model;
+use zone_changes::Name;
 
 /// The number of a zone, and its name.
 #[derive(Clone, Copy)]

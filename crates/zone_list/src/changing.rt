@@ -3,20 +3,20 @@
 ghost use Rattle.std.specs.Prelude.{◌≡◌, ◌≤◌, ◌<◌, ◌+◌, [], length, map, slice_get, Some};
 ghost use Rattle.std.specs.Prelude.{IsTrue, ◌↔◌, vec_len, vec_capacity};
 ghost use Rattle.std.specs.List.{AllByRecursion};
-ghost use Rattle.record_set.specs.Sets.{key_of};
-ghost use Rattle.set_octets.specs.Octets.{HasSpelling, set_octets};
+ghost use Rattle.zone_changes.specs.Sets.{key_of};
+ghost use Rattle.zone_changes.specs.Octets.{HasSpelling, set_octets};
 ghost use Rattle.zone_changes.specs.Sums.{sums_of};
-ghost use Rattle.zone_model.specs.Placing.{IsThere};
-ghost use Rattle.zone_model.specs.Placed.{sets_of};
+ghost use Rattle.zone_changes.specs.Placing.{IsThere};
+ghost use Rattle.zone_changes.specs.Placed.{sets_of};
 ghost use Rattle.zone_list.specs.Changes.{AreThere, ref_in};
 ghost use Rattle.zone_list.specs.Steps.{cells_in_all, Comings, FoundBetween};
 ghost use Rattle.zone_list.specs.Steps.{Leaves, Leavings, PlaceOrNone};
 ghost use Rattle.zone_changes.specs.Orders.{IsOrder, OthersStay, placed_of};
 
 use crate::refs::SetRef;
-use record_set::{RecordSet, SetKey};
-use zone_changes::{SetStore, Sums, come, go, of_zone, take_at};
-use zone_model::{key_cmp, keys_are_ordered};
+use zone_changes::{
+    RecordSet, SetKey, SetStore, Sums, come, go, key_cmp, keys_are_ordered, of_zone, take_at,
+};
 
 /// These sets come into a zone, and their references are told. The hint is where the first of them
 /// may stand; where they come in zone order, each other one is looked for behind the one before.

@@ -7,7 +7,7 @@ ghost use Rattle.zone_list.specs.Kept.{named, named_of};
 ghost use Rattle.zone_list.specs.Zones.{AreListed};
 
 use crate::stored::StoredZone;
-use dns_name::Name;
+use zone_changes::Name;
 
 /// The place of the zone with this number.
 pub fn find_zone(list: &[StoredZone], id: u32) -> Option<usize>

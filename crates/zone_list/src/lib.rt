@@ -17,4 +17,9 @@ pub use hints::Hints;
 pub use octets::OutOfMemory;
 pub use refs::{SetRef, SetRefs};
 pub use stored::StoredZone;
-pub use zone_changes::{Scratch, SetStore, Sums, Watch, ZoneView, make_room, no_sums, view_of};
+pub use zone_changes::{
+    Name, RType, RecordSet, Scratch, SetKey, SetList, SetStore, Stop, Sums, Watch, ZoneView,
+    before_key, behind_key, behind_text, cells_for, closest_in, count_before, exists_in,
+    fields_are_read, find, group_in, has_spelling, key_cmp, keys_are_ordered, make_room, no_sums,
+    region_at, set_len, sub_at, view_of,
+};

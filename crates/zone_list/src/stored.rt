@@ -3,7 +3,7 @@
 ghost use Rattle.std.specs.Prelude.{◌≡◌, ◌≤◌, ◌+◌, [], length, map, IsOk, OnOk, vec_len};
 ghost use Rattle.std.specs.Prelude.{vec_capacity};
 ghost use Rattle.std.specs.List.{AllByRecursion};
-ghost use Rattle.set_octets.specs.Octets.{set_octets};
+ghost use Rattle.zone_changes.specs.Octets.{set_octets};
 ghost use Rattle.zone_changes.specs.Sums.{sums_of};
 ghost use Rattle.zone_list.specs.Changes.{CanChange, Changes, ref_in};
 ghost use Rattle.zone_list.specs.Steps.{cells_in_all};
@@ -12,11 +12,9 @@ ghost use Rattle.zone_changes.specs.Orders.{IsOrder, OthersStay, placed_of};
 use crate::changing::{clear, come_all, leave_all, tell_all};
 use crate::hints::Hints;
 use crate::refs::SetRef;
-use dns_name::Name;
 use octets::OutOfMemory;
-use record_set::{RecordSet, SetKey};
 use std::marker::Model;
-use zone_changes::{SetStore, Sums, no_sums};
+use zone_changes::{Name, RecordSet, SetKey, SetStore, Sums, no_sums};
 
 /// A zone. Contracts see its number, its name, the slots of its sets in zone order, how many more
 /// of them it can take without memory, and what is counted of them.

@@ -12,17 +12,17 @@ use Rattle.dns_name.specs.Suffix.{EndsWith}
 use Rattle.rdata_layout.specs.Types.{number_of}
 use Rattle.rdata_layout.specs.declared.types.RType.{RType}
 use Rattle.rdata_layout.specs.declared.types.RType.TheVariants as rtype
-use Rattle.record_set.specs.Sets.{ident_of}
-use Rattle.record_set.specs.declared.sets.RecordSet.{RecordSet}
-use Rattle.set_search.proofs.Below.{beside, ends_itself, exists_at, no_longer}
-use Rattle.set_search.specs.Found.{IsBelowAt, IsCount, IsFirstNamed}
-use Rattle.set_search.specs.declared.bounds.Bound.TheVariants as bound
-use Rattle.zone_table.specs.Zones.{StandsAlone, Zone, placed_in}
-use Rattle.zone_model.proofs.Lists.{some_one}
-use Rattle.zone_model.specs.Existing.{Exists}
-use Rattle.zone_model.specs.Keys.{ident_cmp}
-use Rattle.zone_model.specs.Placed.{sets_of}
-use Rattle.zone_model.specs.Zones.{IsRising}
+use Rattle.policy_select.specs.Sets.{ident_of}
+use Rattle.policy_select.specs.RecordSetRecord.{RecordSet}
+use Rattle.policy_select.proofs.Below.{beside, ends_itself, exists_at, no_longer}
+use Rattle.policy_select.specs.FoundOfSetSearch.{IsBelowAt, IsCount, IsFirstNamed}
+use Rattle.policy_select.specs.BoundRecord.TheVariants as bound
+use Rattle.policy_select.specs.Zones.{StandsAlone, Zone, placed_in}
+use Rattle.policy_select.proofs.ListsOfZoneModel.{some_one}
+use Rattle.policy_select.specs.Existing.{Exists}
+use Rattle.policy_select.specs.Keys.{ident_cmp}
+use Rattle.policy_select.specs.Placed.{sets_of}
+use Rattle.policy_select.specs.ZonesOfZoneModel.{IsRising}
 use Rattle.policy_select.specs.Groups.{sets_in_zone}
 use Rattle.zone_lookup.specs.Standing.{AreBeside, IsNearest, IsUnder, NamedAt, NamedBefore}
 use Rattle.zone_lookup.specs.Standing.{SomeExists}

@@ -5,18 +5,18 @@ use Rattle.std.specs.Prelude.{cond, slice_get}
 use Rattle.std.proofs.lemmas.List.{length-append}
 use Rattle.dns_name.specs.Suffix.{EndsWith}
 use Rattle.rdata_layout.specs.declared.types.RType.TheVariants as rtype
-use Rattle.record_set.specs.declared.sets.RecordSet.{RecordSet}
-use Rattle.zone_table.specs.Zones.{Zone}
-use Rattle.zone_model.specs.Hosted.{HostedZone}
-use Rattle.zone_model.specs.Zones.{group}
-use Rattle.zone_table.specs.declared.refs.Group.{Group}
-use Rattle.answer_model.specs.Laws.{CutOrNone as NearestOrNone, CutsAreNearest, NamesBelow}
-use Rattle.answer_model.specs.Names.{is_below}
-use Rattle.answer_model.specs.Sections.{cut_above, cut_at}
-use Rattle.answer_model.specs.Zones.{or_else}
+use Rattle.policy_select.specs.RecordSetRecord.{RecordSet}
+use Rattle.policy_select.specs.Zones.{Zone}
+use Rattle.policy_select.specs.Hosted.{HostedZone}
+use Rattle.policy_select.specs.ZonesOfZoneModel.{group}
+use Rattle.policy_select.specs.GroupRecord.{Group}
+use Rattle.policy_select.specs.Laws.{CutOrNone as NearestOrNone, CutsAreNearest, NamesBelow}
+use Rattle.policy_select.specs.Names.{is_below}
+use Rattle.policy_select.specs.Sections.{cut_above, cut_at}
+use Rattle.policy_select.specs.ZonesOfAnswerModel.{or_else}
 use Rattle.policy_select.proofs.Targets.{as_many}
 use Rattle.policy_select.specs.Groups.{sets_in}
-use Rattle.zone_table.specs.Looking.{ServersAreAt}
+use Rattle.policy_select.specs.Looking.{ServersAreAt}
 use Rattle.zone_lookup.specs.Cuts.{CutOrNone, GroupOrNone, IsCut}
 use Rattle.zone_lookup.specs.Served.{zone_of}
 

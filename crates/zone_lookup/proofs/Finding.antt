@@ -5,16 +5,16 @@ use Rattle.std.proofs.Common.{refl, sym, ap, ◌∙◌, subst, inl, inr, arith, 
 use Rattle.std.specs.Prelude.{◌==◌}
 use Rattle.std.proofs.lemmas.Bool.Decides.{nat_tests}
 use Rattle.dns_name.specs.Suffix.{EndsWith}
-use Rattle.zone_table.proofs.Listing.{its_placed, one_zone}
-use Rattle.zone_table.proofs.Members.{in_all}
-use Rattle.zone_table.specs.Zones.{AreListed, AreZones, IsOne, Zone, hosted, placed_in}
-use Rattle.zone_model.specs.Hosted.{HostedZone}
-use Rattle.zone_model.specs.Placed.{Placed, sets_of}
-use Rattle.zone_table.proofs.Naming.{in_map, of_map}
-use Rattle.zone_table.specs.Looking.{Holds, IsApex}
-use Rattle.answer_model.specs.Laws.{ZoneOrNone, ZonesAreLongest}
-use Rattle.answer_model.specs.Sections.{is_zone}
-use Rattle.answer_model.specs.Zones.{zone_for}
+use Rattle.policy_select.proofs.Listing.{its_placed, one_zone}
+use Rattle.policy_select.proofs.MembersOfZoneList.{in_all}
+use Rattle.policy_select.specs.Zones.{AreListed, AreZones, IsOne, Zone, hosted, placed_in}
+use Rattle.policy_select.specs.Hosted.{HostedZone}
+use Rattle.policy_select.specs.Placed.{Placed, sets_of}
+use Rattle.policy_select.proofs.Naming.{in_map, of_map}
+use Rattle.policy_select.specs.Looking.{Holds, IsApex}
+use Rattle.policy_select.specs.Laws.{ZoneOrNone, ZonesAreLongest}
+use Rattle.policy_select.specs.Sections.{is_zone}
+use Rattle.policy_select.specs.ZonesOfAnswerModel.{zone_for}
 use Rattle.policy_select.specs.Groups.{FewInGroups, sets_in_zone}
 use Rattle.zone_lookup.proofs.Cutting.{counts}
 use Rattle.zone_lookup.specs.Served.{AreServed, hosted_of, zone_of}

@@ -4,3 +4,4 @@ pub mod Finding
 pub mod Nearest
 pub mod Serving
 pub mod Sourcing
+pub use Rattle.policy_select.proofs.GroupSizes

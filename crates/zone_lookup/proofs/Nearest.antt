@@ -11,17 +11,17 @@ use Rattle.dns_name.specs.Wildcard.{wildcard}
 use Rattle.rdata_layout.specs.Types.{number_of}
 use Rattle.rdata_layout.specs.declared.types.RType.{RType}
 use Rattle.rdata_layout.specs.declared.types.RType.TheVariants as rtype
-use Rattle.record_set.specs.declared.sets.RecordSet.{RecordSet}
-use Rattle.set_search.proofs.Below.{ends_itself, no_longer, parent_or_above}
-use Rattle.zone_table.specs.Zones.{Zone}
-use Rattle.zone_model.specs.Existing.{Exists, IsAncestor, IsClosest}
-use Rattle.zone_model.specs.Hosted.{HostedZone}
-use Rattle.zone_model.specs.Zones.{IsAmong, group, is_of_group}
-use Rattle.zone_table.specs.declared.refs.Group.{Group}
-use Rattle.answer_model.specs.Laws.{EnclosersAreClosest, NamesExist}
-use Rattle.answer_model.specs.Names.{if_exists, is_below, source}
-use Rattle.answer_model.specs.Sections.{cut_above, cut_at}
-use Rattle.answer_model.specs.Zones.{or_else}
+use Rattle.policy_select.specs.RecordSetRecord.{RecordSet}
+use Rattle.policy_select.proofs.Below.{ends_itself, no_longer, parent_or_above}
+use Rattle.policy_select.specs.Zones.{Zone}
+use Rattle.policy_select.specs.Existing.{Exists, IsAncestor, IsClosest}
+use Rattle.policy_select.specs.Hosted.{HostedZone}
+use Rattle.policy_select.specs.ZonesOfZoneModel.{IsAmong, group, is_of_group}
+use Rattle.policy_select.specs.GroupRecord.{Group}
+use Rattle.policy_select.specs.Laws.{EnclosersAreClosest, NamesExist}
+use Rattle.policy_select.specs.Names.{if_exists, is_below, source}
+use Rattle.policy_select.specs.Sections.{cut_above, cut_at}
+use Rattle.policy_select.specs.ZonesOfAnswerModel.{or_else}
 use Rattle.zone_lookup.proofs.Cutting.{counts}
 use Rattle.zone_lookup.proofs.Sourcing.{from_wildcard, itself, no_room, one_closest, there}
 use Rattle.zone_lookup.specs.Cuts.{IsCut}

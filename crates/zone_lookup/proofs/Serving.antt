@@ -7,16 +7,16 @@ use Rattle.std.proofs.lemmas.Bool.{cases_lt}
 use Rattle.std.proofs.lemmas.List.{length-map}
 use Rattle.std.proofs.lemmas.Option.{slice_get-map}
 use Rattle.policy_select.specs.Groups.{FewInGroups, sets_in_zone}
-use Rattle.record_set.specs.declared.sets.RecordSet.{RecordSet}
-use Rattle.zone_table.proofs.Listing.{its_placed}
-use Rattle.zone_table.proofs.Members.{in_all}
-use Rattle.zone_table.specs.FoundZones.{IsNextZone}
-use Rattle.zone_table.specs.Zones.{AreZones, IsOne, StandsAlone, Zone, placed_in}
-use Rattle.zone_table.specs.SetRefRecord.{SetRef}
-use Rattle.zone_model.proofs.Among.{among_at}
-use Rattle.zone_model.specs.Placed.{Placed, sets_of}
-use Rattle.zone_model.specs.Zones.{IsAmong}
-use Rattle.zone_table.specs.Looking.{IsSetAt, Names}
+use Rattle.policy_select.specs.RecordSetRecord.{RecordSet}
+use Rattle.policy_select.proofs.Listing.{its_placed}
+use Rattle.policy_select.proofs.MembersOfZoneList.{in_all}
+use Rattle.policy_select.specs.Found.{IsNextZone}
+use Rattle.policy_select.specs.Zones.{AreZones, IsOne, StandsAlone, Zone, placed_in}
+use Rattle.policy_select.specs.SetRefRecord.{SetRef}
+use Rattle.policy_select.proofs.Among.{among_at}
+use Rattle.policy_select.specs.Placed.{Placed, sets_of}
+use Rattle.policy_select.specs.ZonesOfZoneModel.{IsAmong}
+use Rattle.policy_select.specs.Looking.{IsSetAt, Names}
 use Rattle.zone_lookup.specs.Served.{AreServed, CanAnswer}
 
 -- the set that the reference of a place names stands there

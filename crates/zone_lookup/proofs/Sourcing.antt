@@ -6,13 +6,13 @@ use Rattle.std.specs.Prelude.{IsTrue, ◌↔◌, ◌&&◌, cond}
 use Rattle.std.specs.Bool.{Decides}
 use Rattle.dns_name.specs.Labels.{wire}
 use Rattle.dns_name.specs.Wildcard.{wildcard}
-use Rattle.record_set.specs.declared.sets.RecordSet.{RecordSet}
-use Rattle.zone_table.specs.Zones.{AreZones, Zone, placed_in}
-use Rattle.zone_model.specs.Existing.{Exists, IsClosest}
-use Rattle.zone_table.proofs.Looked.{apex_there}
-use Rattle.zone_table.specs.Looking.{IsApex}
-use Rattle.answer_model.specs.Laws.{EnclosersAreClosest, NamesExist}
-use Rattle.answer_model.specs.Names.{closest, exists, fits, if_exists, source}
+use Rattle.policy_select.specs.RecordSetRecord.{RecordSet}
+use Rattle.policy_select.specs.Zones.{AreZones, Zone, placed_in}
+use Rattle.policy_select.specs.Existing.{Exists, IsClosest}
+use Rattle.policy_select.proofs.Looked.{apex_there}
+use Rattle.policy_select.specs.Looking.{IsApex}
+use Rattle.policy_select.specs.Laws.{EnclosersAreClosest, NamesExist}
+use Rattle.policy_select.specs.Names.{closest, exists, fits, if_exists, source}
 use Rattle.policy_select.specs.Groups.{sets_in_zone}
 use Rattle.zone_lookup.proofs.Finding.{one_end}
 

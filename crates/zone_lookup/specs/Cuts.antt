@@ -1,11 +1,11 @@
 -- Zone cuts as groups of NS sets.
 use Rattle.std.specs.Prelude.{◌≡◌, ◌<◌, ℕ, List, [], Option, None, Some, slice_get}
-use Rattle.record_set.specs.declared.sets.RecordSet.{RecordSet}
-use Rattle.zone_table.specs.Zones.{Zone}
-use Rattle.zone_model.specs.Hosted.{HostedZone}
-use Rattle.zone_table.specs.Looking.{IsGroupNow}
-use Rattle.zone_table.specs.declared.refs.Group.{Group}
-use Rattle.answer_model.specs.Sections.{cut_above}
+use Rattle.policy_select.specs.RecordSetRecord.{RecordSet}
+use Rattle.policy_select.specs.Zones.{Zone}
+use Rattle.policy_select.specs.Hosted.{HostedZone}
+use Rattle.policy_select.specs.Looking.{IsGroupNow}
+use Rattle.policy_select.specs.GroupRecord.{Group}
+use Rattle.policy_select.specs.Sections.{cut_above}
 use Rattle.policy_select.specs.Groups.{sets_in}
 
 -- These are the sets of the group, and there is one at least.

@@ -1,10 +1,10 @@
 -- The zones from which queries are answered.
 use Rattle.std.specs.Prelude.{◌≡◌, ◌≢◌, ℕ, List, [], map, Option, None, Some}
-use Rattle.zone_table.specs.Zones.{Zone, IsOne, hosted}
-use Rattle.zone_model.specs.Hosted.{HostedZone}
-use Rattle.zone_model.specs.Placed.{sets_of}
-use Rattle.zone_table.specs.Looking.{IsApex}
-use Rattle.answer_model.specs.Zones.{zone_for}
+use Rattle.policy_select.specs.Zones.{Zone, IsOne, hosted}
+use Rattle.policy_select.specs.Hosted.{HostedZone}
+use Rattle.policy_select.specs.Placed.{sets_of}
+use Rattle.policy_select.specs.Looking.{IsApex}
+use Rattle.policy_select.specs.ZonesOfAnswerModel.{zone_for}
 use Rattle.policy_select.specs.Groups.{FewInGroups, sets_in_zone}
 
 -- A zone can be answered from: it has a set, and no group of it has more than 100 (Route 53

@@ -2,15 +2,15 @@
 use Rattle.std.specs.Prelude.{◌≡◌, ◌≤◌, ◌<◌, ◌-◌, ◌⊎◌, ℕ, List, [], length, Option, None, Some}
 use Rattle.std.specs.Prelude.{slice_get}
 use Rattle.dns_name.specs.Suffix.{EndsWith}
-use Rattle.record_set.specs.declared.sets.RecordSet.{RecordSet}
+use Rattle.policy_select.specs.RecordSetRecord.{RecordSet}
 use Rattle.rdata_layout.specs.declared.types.RType.{RType}
-use Rattle.set_search.specs.Found.{IsFirstNamed}
-use Rattle.zone_table.specs.Zones.{Zone}
-use Rattle.zone_model.specs.Existing.{Exists}
-use Rattle.zone_model.specs.Hosted.{HostedZone}
-use Rattle.zone_model.specs.Zones.{group}
-use Rattle.answer_model.specs.Names.{source}
-use Rattle.answer_model.specs.Sections.{asked_group, cut_above}
+use Rattle.policy_select.specs.FoundOfSetSearch.{IsFirstNamed}
+use Rattle.policy_select.specs.Zones.{Zone}
+use Rattle.policy_select.specs.Existing.{Exists}
+use Rattle.policy_select.specs.Hosted.{HostedZone}
+use Rattle.policy_select.specs.ZonesOfZoneModel.{group}
+use Rattle.policy_select.specs.Names.{source}
+use Rattle.policy_select.specs.Sections.{asked_group, cut_above}
 use Rattle.policy_select.specs.Groups.{sets_in_zone}
 use Rattle.zone_lookup.specs.Cuts.{HasSets, IsCut}
 use Rattle.zone_lookup.specs.declared.standing.Found.{Found}

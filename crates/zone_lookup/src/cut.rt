@@ -6,10 +6,9 @@ ghost use Rattle.zone_lookup.specs.Cuts.{CutOrNone};
 ghost use Rattle.zone_lookup.specs.Served.{zone_of};
 
 use crate::groups::group_of;
-use answer_model::{cuts_are_nearest, names_exist};
 use dns_name::Name;
+use policy_select::{Group, Zones, cuts_are_nearest, names_exist};
 use rdata_layout::RType;
-use zone_table::{Group, Zones};
 
 /// The NS sets of the zone cut above or at a name of a zone: of those below the apex it is the one
 /// nearest the apex. Most zones have none, and no name is looked up then.

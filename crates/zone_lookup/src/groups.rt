@@ -1,15 +1,13 @@
 //! The sets of a name by their type.
 
-ghost use Rattle.answer_model.specs.Sections.{asked_group};
+ghost use Rattle.policy_select.specs.Sections.{asked_group};
 ghost use Rattle.policy_select.specs.Groups.{sets_in_zone};
-ghost use Rattle.zone_model.specs.Zones.{group};
+ghost use Rattle.policy_select.specs.ZonesOfZoneModel.{group};
 ghost use Rattle.zone_lookup.specs.Cuts.{GroupOrNone};
 
-use answer_model::asked_groups;
 use dns_name::Name;
-use policy_select::find_group;
+use policy_select::{Group, Zones, asked_groups, find_group};
 use rdata_layout::RType;
-use zone_table::{Group, Zones};
 
 /// The sets of a name and type of a zone, or none where there are none.
 pub fn group_of(zones: &Zones, zone: u32, name: &Name, rtype: RType) -> Option<Group>

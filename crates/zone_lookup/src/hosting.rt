@@ -1,17 +1,16 @@
 //! The zone that holds a name, as definitions see it.
 
 ghost use Rattle.std.specs.Prelude.{◌≡◌, ◌≢◌, [], ℕ, List, IsTrue};
-ghost use Rattle.answer_model.specs.Sections.{is_zone};
-ghost use Rattle.answer_model.specs.Zones.{zone_for};
+ghost use Rattle.policy_select.specs.Sections.{is_zone};
+ghost use Rattle.policy_select.specs.ZonesOfAnswerModel.{zone_for};
 ghost use Rattle.dns_name.specs.Suffix.{EndsWith};
 ghost use Rattle.policy_select.specs.Groups.{FewInGroups, sets_in_zone};
-ghost use Rattle.zone_table.specs.Zones.{placed_in};
-ghost use Rattle.zone_table.specs.Looking.{IsApex};
+ghost use Rattle.policy_select.specs.Zones.{placed_in};
+ghost use Rattle.policy_select.specs.Looking.{IsApex};
 ghost use Rattle.zone_lookup.specs.Served.{AreServed, FoundOrNone, hosted_of, zone_of};
 
-use answer_model::zones_are_longest;
 use dns_name::Name;
-use zone_table::Zones;
+use policy_select::{Zones, zones_are_longest};
 
 /// The zone that holds a name, by its number and the name of its apex: that of the longest name
 /// (RFC 1034, 4.3.2, step 2).

@@ -2,13 +2,12 @@
 
 ghost use Rattle.std.specs.Prelude.{◌≡◌, ◌≢◌, ◌≤◌, ◌<◌, ◌↔◌, ℕ, [], IsTrue, length, slice_get, Some};
 ghost use Rattle.policy_select.specs.Groups.{FewInGroups, sets_in_zone};
-ghost use Rattle.record_set.specs.declared.sets.RecordSet.{RecordSet};
-ghost use Rattle.zone_table.specs.Zones.{placed_in};
-ghost use Rattle.zone_model.specs.Zones.{group};
+ghost use Rattle.policy_select.specs.RecordSetRecord.{RecordSet};
+ghost use Rattle.policy_select.specs.Zones.{placed_in};
+ghost use Rattle.policy_select.specs.ZonesOfZoneModel.{group};
 ghost use Rattle.zone_lookup.specs.Served.{AreServed};
 
-use policy_select::{few_by_each_set, find_group};
-use zone_table::{Scratch, Zones};
+use policy_select::{Scratch, Zones, few_by_each_set, find_group};
 
 /// The most sets of a group (Route 53 quotas).
 const MOST: usize = 100;

@@ -1,16 +1,15 @@
 //! The name whose sets are taken for a name (RFC 4592, 3.3.1).
 
 ghost use Rattle.std.specs.Prelude.{◌≡◌, ◌≢◌, []};
-ghost use Rattle.answer_model.specs.Names.{source};
+ghost use Rattle.policy_select.specs.Names.{source};
 ghost use Rattle.dns_name.specs.Suffix.{EndsWith};
 ghost use Rattle.policy_select.specs.Groups.{sets_in_zone};
-ghost use Rattle.zone_table.specs.Zones.{placed_in};
-ghost use Rattle.zone_table.specs.Looking.{IsApex};
+ghost use Rattle.policy_select.specs.Zones.{placed_in};
+ghost use Rattle.policy_select.specs.Looking.{IsApex};
 ghost use Rattle.zone_lookup.specs.Standing.{IsNearest};
 
-use answer_model::{enclosers_are_closest, names_exist};
 use dns_name::Name;
-use zone_table::Zones;
+use policy_select::{Zones, enclosers_are_closest, names_exist};
 
 /// The name whose sets are taken for a name of a zone: itself where it exists, else the wildcard
 /// below its closest encloser where that exists. There is none else.

@@ -6,10 +6,10 @@
 ghost use Rattle.std.specs.Prelude.{◌≡◌, ◌≢◌, [], ℕ, IsTrue, ◌↔◌, List};
 ghost use Rattle.dns_name.specs.Suffix.{EndsWith};
 ghost use Rattle.policy_select.specs.Groups.{sets_in_zone};
-ghost use Rattle.record_set.specs.declared.sets.RecordSet.{RecordSet};
-ghost use Rattle.set_search.specs.Found.{IsFirstNamed};
-ghost use Rattle.zone_table.specs.Zones.{placed_in};
-ghost use Rattle.zone_table.specs.Looking.{IsApex};
+ghost use Rattle.policy_select.specs.RecordSetRecord.{RecordSet};
+ghost use Rattle.policy_select.specs.FoundOfSetSearch.{IsFirstNamed};
+ghost use Rattle.policy_select.specs.Zones.{placed_in};
+ghost use Rattle.policy_select.specs.Looking.{IsApex};
 ghost use Rattle.zone_lookup.specs.Served.{zone_of};
 ghost use Rattle.zone_lookup.specs.Standing.{AreBeside, FindsAsked, FindsTyped, IsNearest};
 ghost use Rattle.zone_lookup.specs.Standing.{IsUnder, NamedAt, NamedBefore, SomeExists, Stands};
@@ -17,10 +17,9 @@ ghost use Rattle.zone_lookup.specs.Standing.{IsUnder, NamedAt, NamedBefore, Some
 use crate::cut::cut_above;
 use crate::served::hold_at;
 use crate::source::source_from;
-use answer_model::{asked_groups, cuts_are_nearest, names_exist};
 use dns_name::Name;
+use policy_select::{Group, Scratch, Zones, asked_groups, cuts_are_nearest, names_exist};
 use rdata_layout::RType;
-use zone_table::{Group, Scratch, Zones};
 
 /// What is found of a name and a type.
 #[derive(Clone, Copy)]

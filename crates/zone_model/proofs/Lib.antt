@@ -4,3 +4,6 @@ pub mod Ordered
 pub mod Places
 pub mod Staying
 pub mod Vectors
+pub use Rattle.record_set.proofs.Firsts
+pub use Rattle.record_set.proofs.Depth
+pub use Rattle.record_set.proofs.Labels

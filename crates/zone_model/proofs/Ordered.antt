@@ -8,11 +8,11 @@ use Rattle.std.specs.Cmp.Lexicographic.{slice_cmp, pointwise, texts_ties}
 use Rattle.std.proofs.lemmas.Bool.Decides.{Decides-eqb}
 use Rattle.std.proofs.lemmas.Slice.Eq.{slice_eq-Decides}
 use Rattle.std.proofs.lemmas.Cmp.{on_total, then_total, nat_cmp_total, nat_list_cmp_total, ranked}
-use Rattle.dns_name.specs.Order.{zone_cmp}
-use Rattle.dns_name.specs.OrderLaws.{zone_cmp_total, zone_cmp_ties, same_labels-Decides}
-use Rattle.rdata_layout.specs.Types.{number_of}
-use Rattle.rdata_layout.specs.declared.types.RType.{RType}
-use Rattle.rdata_layout.specs.declared.types.RType.TheVariants.{A, Ns, Cname, Soa, Ptr, Mx, Txt, Aaaa, Srv, Spf, Caa}
+use Rattle.record_set.specs.Order.{zone_cmp}
+use Rattle.record_set.specs.OrderLaws.{zone_cmp_total, zone_cmp_ties, same_labels-Decides}
+use Rattle.record_set.specs.Types.{number_of}
+use Rattle.record_set.specs.RTypeRecord.{RType}
+use Rattle.record_set.specs.RTypeRecord.TheVariants.{A, Ns, Cname, Soa, Ptr, Mx, Txt, Aaaa, Srv, Spf, Caa}
 use Rattle.record_set.specs.declared.sets.SetKey.{SetKey}
 use Rattle.zone_model.specs.Keys.{ident_cmp, key_cmp}
 use Rattle.zone_model.specs.KeyLaws.{KeysAreOrdered}

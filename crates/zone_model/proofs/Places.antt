@@ -6,9 +6,9 @@ use Rattle.std.specs.declared.cmp.Ordering.{Ordering}
 use Rattle.std.specs.Ordering.{nat_cmp, ordering_then, ordering_reverse, is_gt}
 use Rattle.std.specs.Cmp.{IsTotalOrder}
 use Rattle.std.proofs.lemmas.Cmp.{on_total, then_total, nat_cmp_total, tied_itself}
-use Rattle.dns_name.specs.Order.{zone_cmp}
-use Rattle.dns_name.specs.OrderLaws.{zone_cmp_total}
-use Rattle.rdata_layout.specs.Types.{number_of}
+use Rattle.record_set.specs.Order.{zone_cmp}
+use Rattle.record_set.specs.OrderLaws.{zone_cmp_total}
+use Rattle.record_set.specs.Types.{number_of}
 use Rattle.record_set.specs.declared.sets.RecordSet.{RecordSet}
 use Rattle.record_set.specs.Sets.{key_of}
 use Rattle.zone_model.specs.Keys.{ident_cmp, key_cmp}

@@ -1,8 +1,8 @@
 -- The definitions at values from outside.
 use Rattle.std.proofs.Common.{◌≡◌, ℕ, List, [], ◌∷◌, codes, inl, inr, Some, None, Less, Greater, refl, replicate, true}
-use Rattle.rdata_layout.specs.declared.types.RType.{RType}
-use Rattle.rdata_layout.specs.declared.types.RType.TheVariants as rtype
-use Rattle.routing.specs.declared.policies.Routing.TheVariants as routing
+use Rattle.record_set.specs.RTypeRecord.{RType}
+use Rattle.record_set.specs.RTypeRecord.TheVariants as rtype
+use Rattle.record_set.specs.RoutingRecord.TheVariants as routing
 use Rattle.record_set.specs.declared.sets.RecordSet.{RecordSet}
 use Rattle.record_set.specs.declared.sets.Body.TheVariants as body
 use Rattle.record_set.specs.declared.sets.SetKey.{SetKey}

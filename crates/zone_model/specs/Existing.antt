@@ -1,6 +1,6 @@
 -- Names that exist in a zone, and the closest ones (RFC 4592, 2.2.2 and 3.3.1).
 use Rattle.std.specs.Prelude.{◌≢◌, ◌≤◌, ℕ, List, length}
-use Rattle.dns_name.specs.Suffix.{EndsWith}
+use Rattle.record_set.specs.Suffix.{EndsWith}
 use Rattle.record_set.specs.declared.sets.RecordSet.{RecordSet}
 use Rattle.zone_model.specs.Zones.{IsAmong}
 

@@ -4,8 +4,8 @@ use Rattle.std.specs.declared.cmp.Ordering.{Ordering}
 use Rattle.std.specs.declared.cmp.Ordering.TheVariants.{Less, Equal, Greater}
 use Rattle.std.specs.Cmp.Lexicographic.{slice_cmp}
 use Rattle.std.specs.Ordering.{nat_cmp, ordering_then}
-use Rattle.dns_name.specs.Order.{zone_cmp}
-use Rattle.rdata_layout.specs.Types.{number_of}
+use Rattle.record_set.specs.Order.{zone_cmp}
+use Rattle.record_set.specs.Types.{number_of}
 use Rattle.record_set.specs.declared.sets.SetKey.{SetKey}
 
 -- Identifiers by their bytes; a set without one comes first (own).

@@ -2,10 +2,10 @@
 use Rattle.std.specs.Prelude.{◌≡◌, ℕ, List, [], ◌∷◌, Bool, ◌&&◌, ◌==◌, ◌⊎◌, ⊤}
 use Rattle.std.specs.List.{AllByRecursion, filter}
 use Rattle.std.specs.declared.cmp.Ordering.TheVariants.{Less}
-use Rattle.dns_name.specs.Order.{same_labels}
-use Rattle.dns_name.specs.Suffix.{EndsWith}
-use Rattle.rdata_layout.specs.Types.{number_of}
-use Rattle.rdata_layout.specs.declared.types.RType.{RType}
+use Rattle.record_set.specs.Order.{same_labels}
+use Rattle.record_set.specs.Suffix.{EndsWith}
+use Rattle.record_set.specs.Types.{number_of}
+use Rattle.record_set.specs.RTypeRecord.{RType}
 use Rattle.record_set.specs.declared.sets.RecordSet.{RecordSet}
 use Rattle.record_set.specs.declared.sets.Body.{Body}
 use Rattle.record_set.specs.declared.sets.Body.TheVariants as body

@@ -8,3 +8,7 @@ mod order;
 
 pub use laws::{keys_are_ordered, placed_rise};
 pub use order::key_cmp;
+pub use record_set::{
+    Body, Ident, Name, RType, Reason, RecordSet, Routing, SetKey, octets_cmp, one_name_of_a_wire,
+    same,
+};

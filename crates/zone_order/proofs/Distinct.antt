@@ -1,7 +1,7 @@
 -- Lists in which none stands twice.
 use Rattle.std.proofs.Common.{◌≢◌, ℕ, List, [], ◌∷◌, ◌++◌, sym}
 use Rattle.std.specs.List.{AllByRecursion}
-use Rattle.zone_model.proofs.Lists.{all_at, all_put, all_taken}
+use Rattle.set_store.proofs.ListsOfZoneModel.{all_at, all_put, all_taken}
 use Rattle.zone_order.specs.Orders.{AreDistinct}
 
 pub distinct_put : (front back : List ℕ) (k : ℕ) → AreDistinct (front ++ back)

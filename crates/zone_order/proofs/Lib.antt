@@ -5,3 +5,10 @@ pub mod Replaced
 pub mod Vacant
 pub mod Rising
 pub use Rattle.set_store.proofs.Lists
+pub use Rattle.set_store.proofs.ListsOfZoneModel
+pub use Rattle.set_store.proofs.Below
+pub use Rattle.set_store.proofs.Lookups
+pub use Rattle.set_store.proofs.Among
+pub use Rattle.set_store.proofs.Ordered
+pub use Rattle.set_store.proofs.Staying
+pub use Rattle.set_store.proofs.Places

@@ -6,16 +6,16 @@ use Rattle.std.specs.List.{AllByRecursion, insert, remove}
 use Rattle.std.proofs.lemmas.List.{map-append, length-map}
 use Rattle.std.proofs.lemmas.Bool.{cases_eq}
 use Rattle.std.proofs.lemmas.Option.{slice_get-map}
-use Rattle.record_set.specs.declared.sets.RecordSet.{RecordSet}
-use Rattle.record_set.specs.Sets.{key_of}
-use Rattle.zone_model.specs.Laws.{PlacedRise}
-use Rattle.zone_model.specs.Zones.{IsAmong, IsRising}
-use Rattle.set_search.specs.Found.{FindsNone}
+use Rattle.set_store.specs.RecordSetRecord.{RecordSet}
+use Rattle.set_store.specs.SetsOfRecordSet.{key_of}
+use Rattle.set_store.specs.Laws.{PlacedRise}
+use Rattle.set_store.specs.Zones.{IsAmong, IsRising}
+use Rattle.set_store.specs.Found.{FindsNone}
 use Rattle.set_store.specs.Index.{no_set}
-use Rattle.zone_model.specs.Placed.{Placed, IsHere, sets_of, HaveOwnSlots, AreOfZone, IsPut, IsTakenAt}
+use Rattle.set_store.specs.Placed.{Placed, IsHere, sets_of, HaveOwnSlots, AreOfZone, IsPut, IsTakenAt}
 use Rattle.zone_order.proofs.Rising.{put_rises, rising_taken}
-use Rattle.zone_model.proofs.Lists.{all_put, all_taken, all_found, split, split_at, map_insert, map_remove}
-use Rattle.zone_model.proofs.Lists.{in_put, in_itself, in_taken}
+use Rattle.set_store.proofs.ListsOfZoneModel.{all_put, all_taken, all_found, split, split_at, map_insert, map_remove}
+use Rattle.set_store.proofs.ListsOfZoneModel.{in_put, in_itself, in_taken}
 use Rattle.zone_order.specs.Orders.{AreDistinct, HasSet, IsOrderBy, placed_at, placed_by}
 use Rattle.zone_order.proofs.Distinct.{apart, distinct_put, distinct_taken}
 

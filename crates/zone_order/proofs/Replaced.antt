@@ -4,17 +4,17 @@ use Rattle.std.proofs.Common.{Option, Some, subst, Less, inl, inr}
 use Rattle.std.specs.Prelude.{slice_get, unwrap_or}
 use Rattle.std.specs.List.{AllByRecursion}
 use Rattle.std.proofs.lemmas.List.{map-set}
-use Rattle.record_set.specs.declared.sets.RecordSet.{RecordSet}
-use Rattle.record_set.specs.declared.sets.SetKey.{SetKey}
-use Rattle.record_set.specs.Sets.{key_of}
-use Rattle.zone_model.specs.Keys.{key_cmp}
-use Rattle.zone_model.specs.Zones.{IsAmong, IsRising}
-use Rattle.set_search.specs.Found.{FindsAt}
+use Rattle.set_store.specs.RecordSetRecord.{RecordSet}
+use Rattle.set_store.specs.SetKeyRecord.{SetKey}
+use Rattle.set_store.specs.SetsOfRecordSet.{key_of}
+use Rattle.set_store.specs.Keys.{key_cmp}
+use Rattle.set_store.specs.Zones.{IsAmong, IsRising}
+use Rattle.set_store.specs.Found.{FindsAt}
 use Rattle.set_store.specs.Index.{no_set}
 use Rattle.set_store.proofs.Lists.{same_or_not, set_agree}
-use Rattle.zone_model.proofs.Among.{among_at}
-use Rattle.zone_model.specs.Placed.{Placed, sets_of}
-use Rattle.zone_model.proofs.Lists.{all_found}
+use Rattle.set_store.proofs.Among.{among_at}
+use Rattle.set_store.specs.Placed.{Placed, sets_of}
+use Rattle.set_store.proofs.ListsOfZoneModel.{all_found}
 use Rattle.zone_order.specs.Orders.{AreDistinct, HasSet, IsOrderBy, placed_at, placed_by}
 use Rattle.zone_order.proofs.Orders.{Updates}
 

@@ -1,14 +1,14 @@
 -- Sets stay in zone order where one is put at its place, or taken away.
 use Rattle.std.proofs.Common.{◌≡◌, ℕ, List, [], ◌∷◌, ◌++◌, take, ap, ◌∙◌, subst}
 use Rattle.std.specs.List.{filter, insert}
-use Rattle.record_set.specs.declared.sets.RecordSet.{RecordSet}
-use Rattle.record_set.specs.Sets.{key_of}
-use Rattle.zone_model.specs.Placing.{comes_behind, placed}
-use Rattle.zone_model.specs.Keys.{key_cmp}
-use Rattle.zone_model.specs.Laws.{PlacedRise}
-use Rattle.zone_model.specs.Zones.{IsRising}
-use Rattle.zone_model.proofs.Lists.{all_taken}
-use Rattle.set_search.specs.Found.{FindsNone}
+use Rattle.set_store.specs.RecordSetRecord.{RecordSet}
+use Rattle.set_store.specs.SetsOfRecordSet.{key_of}
+use Rattle.set_store.specs.Placing.{comes_behind, placed}
+use Rattle.set_store.specs.Keys.{key_cmp}
+use Rattle.set_store.specs.Laws.{PlacedRise}
+use Rattle.set_store.specs.Zones.{IsRising}
+use Rattle.set_store.proofs.ListsOfZoneModel.{all_taken}
+use Rattle.set_store.specs.Found.{FindsNone}
 
 pub put_rises : PlacedRise → (sets : List RecordSet) (set : RecordSet) (n : ℕ) → IsRising sets
     → FindsNone sets (key_of set) n → IsRising (insert sets n set)

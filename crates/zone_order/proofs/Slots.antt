@@ -5,10 +5,10 @@ use Rattle.std.specs.List.{AllByRecursion}
 use Rattle.std.proofs.lemmas.Option.{slice_get-map}
 use Rattle.std.proofs.lemmas.Bool.{eq-eqb}
 use Rattle.std.proofs.lemmas.Bool.Decides.{eqb_tells}
-use Rattle.record_set.specs.declared.sets.RecordSet.{RecordSet}
+use Rattle.set_store.specs.RecordSetRecord.{RecordSet}
 use Rattle.set_store.specs.Stored.{IsKept, IsVacant, Kept}
 use Rattle.set_store.proofs.Lists.{same_or_not}
-use Rattle.zone_model.specs.Placed.{Placed, sets_of}
+use Rattle.set_store.specs.Placed.{Placed, sets_of}
 use Rattle.zone_order.specs.Orders.{HasSet, of_zone, OthersStay, placed_of, set_in}
 use Rattle.zone_order.proofs.Orders.{Updates, at_place}
 

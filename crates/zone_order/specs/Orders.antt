@@ -2,11 +2,11 @@
 use Rattle.std.specs.Prelude.{◌≡◌, ◌≢◌, ◌<◌, ◌^◌, ℕ, List, [], ◌∷◌, Option, None, Some}
 use Rattle.std.specs.Prelude.{◌==◌, if◌then◌else◌, map, slice_get, unwrap_or, ⊤}
 use Rattle.std.specs.List.{AllByRecursion}
-use Rattle.record_set.specs.declared.sets.RecordSet.{RecordSet}
+use Rattle.set_store.specs.RecordSetRecord.{RecordSet}
 use Rattle.set_store.specs.Index.{no_set}
 use Rattle.set_store.specs.Stored.{Kept}
-use Rattle.zone_model.specs.Zones.{IsAmong, IsRising}
-use Rattle.zone_model.specs.Placed.{Placed, sets_of}
+use Rattle.set_store.specs.Zones.{IsAmong, IsRising}
+use Rattle.set_store.specs.Placed.{Placed, sets_of}
 
 -- a set that is kept, where it is of the zone
 abbrev pub of_zone : ℕ → Option (Option Kept) → Option RecordSet

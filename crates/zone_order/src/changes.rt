@@ -5,18 +5,17 @@ ghost use Rattle.std.specs.Prelude.{slice_get};
 ghost use Rattle.std.specs.Prelude.{slice_set, Some};
 ghost use Rattle.std.specs.Prelude.{vec_len, vec_capacity};
 ghost use Rattle.std.specs.List.{insert, remove};
-ghost use Rattle.octet_region.specs.Cells.{cells_for};
-ghost use Rattle.record_set.specs.Sets.{key_of};
-ghost use Rattle.record_set.specs.declared.sets.RecordSet.{RecordSet};
+ghost use Rattle.set_store.specs.Cells.{cells_for};
+ghost use Rattle.set_store.specs.SetsOfRecordSet.{key_of};
+ghost use Rattle.set_store.specs.RecordSetRecord.{RecordSet};
 ghost use Rattle.set_store.specs.Octets.{set_octets};
-ghost use Rattle.set_search.specs.Found.{FindsAt, FindsNone};
+ghost use Rattle.set_store.specs.Found.{FindsAt, FindsNone};
 ghost use Rattle.set_store.specs.Stored.{IsSpelling, Spells};
 ghost use Rattle.zone_order.specs.Orders.{IsOrder, OthersStay, placed_of, set_in};
-ghost use Rattle.zone_model.specs.Placed.{IsPut, IsSlotAt, IsTakenAt, Placed, sets_of};
+ghost use Rattle.set_store.specs.Placed.{IsPut, IsSlotAt, IsTakenAt, Placed, sets_of};
 
 use crate::views::slot_at;
-use set_store::{OutOfMemory, SetStore};
-use zone_model::placed_rise;
+use set_store::{OutOfMemory, SetStore, placed_rise};
 
 /// Makes room in the store for so many more sets, of so many cells in all. The sets of all zones
 /// stay in their slots, and room that was there stays, also where memory runs out.

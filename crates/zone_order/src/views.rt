@@ -1,14 +1,11 @@
 //! A zone's sets, looked at by their places.
 
 ghost use Rattle.std.specs.Prelude.{◌≡◌, ◌<◌, length, slice_get, Some};
-ghost use Rattle.record_set.specs.declared.sets.RecordSet.{RecordSet};
+ghost use Rattle.set_store.specs.RecordSetRecord.{RecordSet};
 ghost use Rattle.zone_order.specs.Orders.{IsOrder, placed_of};
-ghost use Rattle.zone_model.specs.Placed.{AreOfZone, IsSlotAt, sets_of};
+ghost use Rattle.set_store.specs.Placed.{AreOfZone, IsSlotAt, sets_of};
 
-use dns_name::Name;
-use rdata_layout::RType;
-use set_search::{SetList, Stop};
-use set_store::{Scratch, SetStore};
+use set_store::{Name, RType, Scratch, SetList, SetStore, Stop};
 use std::marker::Model;
 
 /// The sets of a zone, in its order.
@@ -22,9 +19,9 @@ pub struct ZoneView<'a> {
 impl<'a> Model for ZoneView<'a> {
     ghost use Rattle.std.specs.Prelude.{List};
     ghost use Rattle.std.specs.List.{AllByRecursion};
-    ghost use Rattle.record_set.specs.declared.sets.RecordSet.{RecordSet};
+    ghost use Rattle.set_store.specs.RecordSetRecord.{RecordSet};
     ghost use Rattle.zone_order.specs.Orders.{HasSet, placed_of, set_in};
-    ghost use Rattle.zone_model.specs.Placed.{sets_of};
+    ghost use Rattle.set_store.specs.Placed.{sets_of};
 
     ghost Value = { List RecordSet };
 

@@ -8,12 +8,12 @@ use Rattle.dns_name.specs.Order.{same_labels}
 use Rattle.dns_name.specs.OrderLaws.{same_labels-Decides}
 use Rattle.rdata_layout.specs.Types.{number_of}
 use Rattle.rdata_layout.specs.declared.types.RType.TheVariants as rtype
-use Rattle.record_set.specs.declared.sets.RecordSet.{RecordSet}
+use Rattle.batch_model.specs.RecordSetRecord.{RecordSet}
 use Rattle.batch_model.specs.Rules.{CnameAlone, BreaksAt, HasOtherType, HasCnameConflict, NoneBreaksBefore}
-use Rattle.zone_model.specs.Zones.{IsRising}
-use Rattle.zone_model.proofs.Among.{among_at, place_of}
-use Rattle.zone_model.proofs.Ordered.{one_number}
-use Rattle.zone_model.proofs.Places.{name_between}
+use Rattle.batch_model.specs.Zones.{IsRising}
+use Rattle.batch_model.proofs.Among.{among_at, place_of}
+use Rattle.batch_model.proofs.Ordered.{one_number}
+use Rattle.batch_model.proofs.Places.{name_between}
 use Rattle.zone_rules.specs.Breaks.{IsFirstName}
 use Rattle.zone_rules.specs.Groups.{IsConflicted, IsOther}
 use Rattle.zone_rules.proofs.Runs.{at_one, moved, up_to}

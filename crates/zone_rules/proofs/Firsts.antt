@@ -2,9 +2,9 @@
 use Rattle.std.proofs.Common.{◌≡◌, ℕ, ◌+◌, ◌<◌, ◌≤◌, List, [], length, Bool, true, false, not, Option, None, Some, subst, sym, arith, below_more, inl, inr}
 use Rattle.std.specs.Prelude.{◌⊎◌}
 use Rattle.std.specs.Option.{is_some}
-use Rattle.record_set.specs.declared.sets.RecordSet.{RecordSet}
+use Rattle.batch_model.specs.RecordSetRecord.{RecordSet}
 use Rattle.batch_model.specs.Rules.{Rule, GroupSize, BreaksAt}
-use Rattle.zone_model.specs.Zones.{IsRising}
+use Rattle.batch_model.specs.Zones.{IsRising}
 use Rattle.zone_rules.specs.Breaks.{IsFirstPlace, IsFirstBefore, IsFullBefore}
 use Rattle.zone_rules.specs.Groups.{IsStart}
 use Rattle.zone_rules.proofs.FullGroups.{filled, full_at, none_full}

@@ -7,12 +7,12 @@ use Rattle.std.proofs.lemmas.Option.{slice_get_within}
 use Rattle.dns_name.specs.Order.{same_labels}
 use Rattle.dns_name.specs.OrderLaws.{same_labels-Decides}
 use Rattle.rdata_layout.specs.Types.{number_of}
-use Rattle.record_set.specs.declared.sets.RecordSet.{RecordSet}
-use Rattle.zone_model.specs.Zones.{AreOneGroup}
+use Rattle.batch_model.specs.RecordSetRecord.{RecordSet}
+use Rattle.batch_model.specs.Zones.{AreOneGroup}
 use Rattle.batch_model.specs.Rules.{GroupSize, BreaksAt, IsInFullGroup}
-use Rattle.zone_model.specs.Zones.{IsRising, is_of_group, group}
-use Rattle.zone_model.proofs.Ordered.{one_number}
-use Rattle.zone_model.proofs.Places.{group_between}
+use Rattle.batch_model.specs.Zones.{IsRising, is_of_group, group}
+use Rattle.batch_model.proofs.Ordered.{one_number}
+use Rattle.batch_model.proofs.Places.{group_between}
 use Rattle.zone_rules.specs.Groups.{IsStart, NoneFarBefore}
 use Rattle.zone_rules.proofs.Counting.{at_least, at_most}
 use Rattle.zone_rules.proofs.Runs.{itself, both, back}

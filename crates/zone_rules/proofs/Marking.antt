@@ -2,7 +2,7 @@
 use Rattle.std.proofs.Common.{◌≡◌, ℕ, ◌+◌, ◌<◌, List, [], Bool, Option, Some, subst, arith, inl, inr}
 use Rattle.std.specs.Prelude.{◌⊎◌, slice_get}
 use Rattle.routing.specs.declared.policies.Routing.{Routing}
-use Rattle.record_set.specs.declared.sets.RecordSet.{RecordSet}
+use Rattle.batch_model.specs.RecordSetRecord.{RecordSet}
 use Rattle.batch_model.specs.Rules.{AreOnePlace, OwnPlace, BreaksAt}
 use Rattle.zone_rules.specs.Marks.{mark_of, IsMarked, AreMarked}
 use Rattle.zone_rules.specs.Groups.{IsStart}

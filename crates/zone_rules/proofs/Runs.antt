@@ -1,11 +1,11 @@
 -- Groups as runs of neighbours.
 use Rattle.std.proofs.Common.{◌≡◌, ◌≢◌, ℕ, zero, suc, ◌+◌, ◌<◌, ◌≤◌, List, [], ap, ◌∙◌, sym, refl, Some, subst, arith, inl, inr}
 use Rattle.std.specs.Prelude.{◌⊎◌, ◌↔◌, slice_get}
-use Rattle.record_set.specs.declared.sets.RecordSet.{RecordSet}
-use Rattle.zone_model.specs.Zones.{AreOneGroup}
+use Rattle.batch_model.specs.RecordSetRecord.{RecordSet}
+use Rattle.batch_model.specs.Zones.{AreOneGroup}
 use Rattle.batch_model.specs.Rules.{OnePolicy, BreaksAt, policy_of}
-use Rattle.zone_model.specs.Zones.{IsRising}
-use Rattle.zone_model.proofs.Places.{group_between}
+use Rattle.batch_model.specs.Zones.{IsRising}
+use Rattle.batch_model.proofs.Places.{group_between}
 use Rattle.zone_rules.specs.Groups.{IsStart, IsStartBefore}
 
 -- at one place stands one set

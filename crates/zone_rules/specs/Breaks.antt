@@ -1,7 +1,7 @@
 -- The first rule that is broken, and where.
 use Rattle.std.specs.Prelude.{◌≡◌, ◌<◌, ℕ, List, [], length, slice_get, Option, None, Some}
-use Rattle.record_set.specs.declared.sets.RecordSet.{RecordSet}
-use Rattle.record_set.specs.Sets.{key_of}
+use Rattle.batch_model.specs.RecordSetRecord.{RecordSet}
+use Rattle.batch_model.specs.Sets.{key_of}
 use Rattle.batch_model.specs.declared.refusals.BatchRefusal.{BatchRefusal}
 use Rattle.batch_model.specs.declared.refusals.BatchRefusal.TheVariants as batch
 use Rattle.batch_model.specs.Rules.{Rule, OnePolicy, CnameAlone, OwnPlace, GroupSize, rules, BreaksAt, NoneBreaksBefore, MeetsAll, IsFirstBreak}

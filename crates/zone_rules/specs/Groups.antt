@@ -1,8 +1,8 @@
 -- Groups as runs of neighbours.
 use Rattle.std.specs.Prelude.{◌≡◌, ◌≢◌, ◌≤◌, ◌<◌, ◌+◌, ◌⊎◌, ◌↔◌, ℕ, List, slice_get, Some}
 use Rattle.rdata_layout.specs.declared.types.RType.TheVariants as rtype
-use Rattle.record_set.specs.declared.sets.RecordSet.{RecordSet}
-use Rattle.zone_model.specs.Zones.{AreOneGroup}
+use Rattle.batch_model.specs.RecordSetRecord.{RecordSet}
+use Rattle.batch_model.specs.Zones.{AreOneGroup}
 
 -- The group of the set at place i begins at this place.
 pub record IsStart (sets : List RecordSet) (start i : ℕ) : Type 0 where

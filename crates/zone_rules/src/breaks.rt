@@ -1,13 +1,12 @@
 //! The first rule that the sets of a zone break together, and the set that breaks it.
 
-ghost use Rattle.zone_model.specs.Zones.{IsRising};
+ghost use Rattle.batch_model.specs.Zones.{IsRising};
 ghost use Rattle.zone_rules.specs.Breaks.{TellsBreak};
 
 use crate::cname::first_conflict;
 use crate::findings::look_at_groups;
-use batch_model::BatchRefusal;
+use batch_model::{BatchRefusal, RecordSet};
 use dns_name::Name;
-use record_set::RecordSet;
 
 /// Why the sets can't be those of the zone with this apex: the first rule that is broken, and the
 /// first set that breaks it.

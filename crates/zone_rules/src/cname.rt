@@ -3,13 +3,13 @@
 ghost use Rattle.std.specs.Prelude.{◌≡◌, ◌<◌, length, IsTrue, ◌↔◌};
 ghost use Rattle.rdata_layout.specs.declared.types.RType.TheVariants.{Cname};
 ghost use Rattle.batch_model.specs.Rules.{CnameAlone};
-ghost use Rattle.zone_model.specs.Zones.{IsRising};
+ghost use Rattle.batch_model.specs.Zones.{IsRising};
 ghost use Rattle.zone_rules.specs.Breaks.{IsFirstName};
 ghost use Rattle.zone_rules.specs.Groups.{IsConflicted, IsOther};
 
+use batch_model::RecordSet;
 use dns_name::Name;
 use rdata_layout::RType;
-use record_set::RecordSet;
 
 /// The name of the first set whose name has a CNAME set beside a set of another type, or a CNAME
 /// set at the apex.

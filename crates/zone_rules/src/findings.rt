@@ -2,7 +2,7 @@
 
 ghost use Rattle.std.specs.Prelude.{◌≡◌, []};
 ghost use Rattle.batch_model.specs.Rules.{OnePolicy, OwnPlace, GroupSize};
-ghost use Rattle.zone_model.specs.Zones.{IsRising};
+ghost use Rattle.batch_model.specs.Zones.{IsRising};
 ghost use Rattle.zone_rules.specs.Breaks.{IsFirstPlace};
 
 use crate::groups::start_of;
@@ -10,7 +10,7 @@ use crate::marks::mark_next;
 use crate::places::has_same_place;
 use crate::policies::is_mixed;
 use crate::sizes::is_past_most;
-use record_set::RecordSet;
+use batch_model::RecordSet;
 
 /// For each rule on groups, the place of the first set that breaks it.
 #[derive(Clone, Copy)]

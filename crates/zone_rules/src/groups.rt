@@ -1,12 +1,12 @@
 //! Where groups begin.
 
 ghost use Rattle.std.specs.Prelude.{◌≡◌, ◌<◌, ◌⊎◌, length, IsTrue, ◌↔◌};
-ghost use Rattle.zone_model.specs.Zones.{AreOneGroup};
-ghost use Rattle.zone_model.specs.Zones.{IsRising};
+ghost use Rattle.batch_model.specs.Zones.{AreOneGroup};
+ghost use Rattle.batch_model.specs.Zones.{IsRising};
 ghost use Rattle.zone_rules.specs.Groups.{IsStart, IsStartBefore};
 
+use batch_model::RecordSet;
 use rdata_layout::RType;
-use record_set::RecordSet;
 
 /// Whether the two are of one group.
 pub fn is_one_group(set: &RecordSet, other: &RecordSet) -> bool

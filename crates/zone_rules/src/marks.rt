@@ -9,7 +9,7 @@ ghost use Rattle.routing.specs.declared.policies.Routing.{Routing};
 ghost use Rattle.batch_model.specs.Rules.{AreOnePlace};
 ghost use Rattle.zone_rules.specs.Marks.{next_mark, text_mark, place_mark, mark_of, IsMarked, AreMarked};
 
-use record_set::{Place, RecordSet, Routing};
+use batch_model::{Place, RecordSet, Routing};
 
 /// The marks that were made, each at its number.
 pub type Marks = [bool; 256];

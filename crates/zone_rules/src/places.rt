@@ -6,7 +6,7 @@ ghost use Rattle.zone_rules.specs.Groups.{IsStart};
 ghost use Rattle.zone_rules.specs.Marks.{AreMarked};
 
 use crate::marks::{Marks, is_marked};
-use record_set::{RecordSet, Role, Routing};
+use batch_model::{RecordSet, Role, Routing};
 
 /// Whether the set at place `i` has the place, failover role, region or location of an earlier set
 /// of its group, which begins at `start`.

@@ -2,10 +2,10 @@
 
 ghost use Rattle.std.specs.Prelude.{◌≡◌, ◌<◌, [], length, IsTrue, ◌↔◌};
 ghost use Rattle.batch_model.specs.Rules.{OnePolicy, BreaksAt, policy_of};
-ghost use Rattle.zone_model.specs.Zones.{IsRising};
+ghost use Rattle.batch_model.specs.Zones.{IsRising};
 ghost use Rattle.zone_rules.specs.Groups.{IsStart};
 
-use record_set::{RecordSet, Routing};
+use batch_model::{RecordSet, Routing};
 
 /// Whether the set at place `i` has another policy than the set before it in its group, which
 /// begins at `start`.

@@ -2,13 +2,13 @@
 use Rattle.std.proofs.Common.{ℕ, List, length, None, Some}
 use Rattle.std.proofs.lemmas.Option.{slice_get_within}
 use Rattle.alias_tree.specs.Firsts.{IsFirstPlace}
-use Rattle.batch_model.specs.Rules.{CnameAlone, GroupSize, IsFirstBreak, MeetsAll, NoneBreaksBefore}
-use Rattle.batch_model.specs.Rules.{OnePolicy, OwnPlace, Rule, rules}
-use Rattle.batch_model.specs.declared.refusals.BatchRefusal.{BatchRefusal}
-use Rattle.batch_model.specs.declared.refusals.BatchRefusal.TheVariants as batch
+use Rattle.zone_rules.specs.Rules.{CnameAlone, GroupSize, IsFirstBreak, MeetsAll, NoneBreaksBefore}
+use Rattle.zone_rules.specs.Rules.{OnePolicy, OwnPlace, Rule, rules}
+use Rattle.zone_rules.specs.BatchRefusalRecord.{BatchRefusal}
+use Rattle.zone_rules.specs.BatchRefusalRecord.TheVariants as batch
 use Rattle.config_model.specs.Told.{NoSet}
 use Rattle.record_set.specs.declared.sets.RecordSet.{RecordSet}
-use Rattle.zone_model.proofs.Among.{among_at, place_of}
+use Rattle.config_model.proofs.Among.{among_at, place_of}
 use Rattle.zone_rules.specs.Breaks.{TellsBreak}
 
 module _ (Has : RecordSet → Type 0) (sets : List RecordSet) where

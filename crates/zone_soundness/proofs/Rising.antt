@@ -7,9 +7,9 @@ use Rattle.std.specs.List.{AllByRecursion}
 use Rattle.record_set.specs.Sets.{key_of}
 use Rattle.record_set.specs.declared.sets.RecordSet.{RecordSet}
 use Rattle.record_set.specs.declared.sets.SetKey.{SetKey}
-use Rattle.zone_model.proofs.Ordered.{keys_total}
-use Rattle.zone_model.specs.Keys.{key_cmp}
-use Rattle.zone_model.specs.Zones.{IsRising}
+use Rattle.config_model.proofs.Ordered.{keys_total}
+use Rattle.config_model.specs.Keys.{key_cmp}
+use Rattle.config_model.specs.Zones.{IsRising}
 
 abbrev Lower : SetKey → SetKey → Type 0
 Lower key other = key_cmp key other ≡ Less

@@ -10,9 +10,9 @@ use Rattle.config_model.specs.Told.{AreInOrder, RefusalsAreTold}
 use Rattle.dns_name.specs.Suffix.{EndsWith}
 use Rattle.record_set.specs.Reasons.{IsFirst}
 use Rattle.record_set.specs.declared.sets.RecordSet.{RecordSet}
-use Rattle.set_octets.specs.Octets.{HasSpelling}
-use Rattle.set_reading.specs.Sets.{IsSet}
-use Rattle.zone_model.specs.Hosted.{HostedZone}
+use Rattle.config_model.specs.OctetsOfSetOctets.{HasSpelling}
+use Rattle.config_model.specs.SetsOfSetReading.{IsSet}
+use Rattle.config_model.specs.Hosted.{HostedZone}
 use Rattle.zone_soundness.specs.Parts.{AreTogether, IsLaidOut, IsSoundSet}
 
 -- what holds of any value that is returned

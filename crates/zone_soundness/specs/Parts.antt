@@ -1,6 +1,6 @@
 -- The parts of which it is made that a zone is sound, as they are looked at one after another.
 use Rattle.std.specs.Prelude.{◌≡◌, ◌≤◌, ℕ, List, length, Option, None, Some, true}
-use Rattle.batch_model.specs.Rules.{MeetsAll, rules}
+use Rattle.zone_rules.specs.Rules.{MeetsAll, rules}
 use Rattle.check_model.specs.Checks.{IsId}
 use Rattle.check_model.specs.declared.checks.Check.{Check}
 use Rattle.cidr_blocks.specs.declared.places.Collection.{Collection}
@@ -13,11 +13,11 @@ use Rattle.record_set.specs.Reasons.{IsFirst}
 use Rattle.record_set.specs.declared.sets.RecordSet.{RecordSet}
 use Rattle.routing.specs.declared.policies.Routing.{Routing}
 use Rattle.routing.specs.declared.policies.Routing.TheVariants.{Cidr}
-use Rattle.set_octets.specs.Octets.{HasSpelling}
-use Rattle.set_reading.specs.Sets.{IsSet}
-use Rattle.zone_model.specs.Placing.{IsThere}
-use Rattle.zone_model.specs.Walks.{HasNoTarget, IsTooDeep}
-use Rattle.zone_model.specs.Zones.{IsRising}
+use Rattle.config_model.specs.OctetsOfSetOctets.{HasSpelling}
+use Rattle.config_model.specs.SetsOfSetReading.{IsSet}
+use Rattle.config_model.specs.Placing.{IsThere}
+use Rattle.config_model.specs.Walks.{HasNoTarget, IsTooDeep}
+use Rattle.config_model.specs.Zones.{IsRising}
 
 -- A zone may have this name; its sets are at most 10,000, in zone order with distinct keys, and
 -- among them are those that a zone always has.

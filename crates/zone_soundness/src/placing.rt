@@ -4,16 +4,16 @@
 ghost use Rattle.std.specs.Prelude.{◌≡◌, ◌↔◌, IsTrue, None};
 ghost use Rattle.std.specs.declared.cmp.Ordering.TheVariants.{Less};
 ghost use Rattle.record_set.specs.Sets.{key_of};
-ghost use Rattle.zone_model.specs.Keys.{key_cmp};
-ghost use Rattle.zone_model.specs.Placing.{IsThere};
-ghost use Rattle.zone_model.specs.Zones.{IsRising};
+ghost use Rattle.config_model.specs.Keys.{key_cmp};
+ghost use Rattle.config_model.specs.Placing.{IsThere};
+ghost use Rattle.config_model.specs.Zones.{IsRising};
 ghost use Rattle.zone_soundness.specs.Parts.{IsLaidOut};
 
 use crate::apexes::is_zone_name;
+use config_model::{key_cmp, keys_are_ordered};
 use dns_name::Name;
 use rdata_layout::RType;
 use record_set::{RecordSet, SetKey};
-use zone_model::{key_cmp, keys_are_ordered};
 
 /// The most sets of a zone (Route 53 quotas).
 const MAX_IN_ZONE: usize = 10_000;

@@ -7,11 +7,10 @@ ghost use Rattle.zone_soundness.specs.Parts.{IsSoundSet};
 
 use crate::naming::{has_check, has_places};
 use cidr_routing::Collections;
+use config_model::{has_spelling, well_formed};
 use dns_name::Name;
 use health_check::CheckTable;
 use record_set::{RecordSet, check_set, one_first_reason};
-use set_octets::has_spelling;
-use set_reading::well_formed;
 
 /// Whether each set is in the zone, is allowed by itself, has a spelling, and names what is there.
 pub fn are_sound_sets(

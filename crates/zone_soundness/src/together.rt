@@ -1,10 +1,10 @@
 //! The sets of a zone together: the rules for groups and names, and where aliases lead.
 
 ghost use Rattle.std.specs.Prelude.{◌↔◌, IfOk, IsTrue};
-ghost use Rattle.batch_model.specs.Rules.{MeetsAll, rules};
+ghost use Rattle.zone_rules.specs.Rules.{MeetsAll, rules};
 ghost use Rattle.config_model.specs.Told.{NoSet};
-ghost use Rattle.zone_model.specs.Walks.{HasNoTarget, IsTooDeep};
-ghost use Rattle.zone_model.specs.Zones.{IsRising};
+ghost use Rattle.config_model.specs.Walks.{HasNoTarget, IsTooDeep};
+ghost use Rattle.config_model.specs.Zones.{IsRising};
 ghost use Rattle.zone_soundness.specs.Parts.{AreTogether};
 
 use alias_tree::{missing_target, walk_of_17};

@@ -3,8 +3,8 @@ use Rattle.std.proofs.Common.{◌≡◌, ℕ, List, length, ap, ◌∙◌, sym, 
 use Rattle.std.specs.Prelude.{slice_get}
 use Rattle.std.proofs.lemmas.Option.{slice_get_within}
 use Rattle.zone_list.specs.Stored.{Kept, IsKept, zone_told}
-use Rattle.zone_model.specs.Placed.{IsHere, Placed}
-use Rattle.zone_model.specs.Zones.{IsAmong}
+use Rattle.zone_list.specs.Placed.{IsHere, Placed}
+use Rattle.zone_list.specs.Sets.{IsAmong}
 use Rattle.zone_list.specs.Orders.{placed_of, set_in}
 use Rattle.zone_list.proofs.Slots.{its_kept}
 use Rattle.zone_list.specs.Kept.{AreKept, Listed, zone_in, zones_in}

@@ -1,8 +1,8 @@
 -- What is known of names, through an edit.
 use Rattle.std.proofs.Common.{◌≡◌, ◌≢◌, ℕ, List, ◌∷◌, ap, ◌∙◌, sym, refl, length, Option, None, Some, subst, arith, inl, inr}
 use Rattle.std.specs.Prelude.{◌⊎◌, ◌↔◌}
-use Rattle.dns_name.specs.Suffix.{EndsWith}
-use Rattle.zone_model.specs.Zones.{IsAmong}
+use Rattle.zone_list.specs.Suffix.{EndsWith}
+use Rattle.zone_list.specs.Sets.{IsAmong}
 use Rattle.zone_list.specs.declared.apexes.Apex.{Apex}
 use Rattle.zone_list.specs.Apexes.{LongestName}
 use Rattle.zone_list.specs.Zones.{AreListed, IsZoneId, Zone}

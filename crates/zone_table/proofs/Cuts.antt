@@ -5,17 +5,17 @@ use Rattle.std.specs.Option.{unwrap_or}
 use Rattle.std.specs.List.{AllByRecursion, flat_map, sum_by}
 use Rattle.std.proofs.lemmas.List.{length-append}
 use Rattle.std.proofs.lemmas.List.Sums.{sum_by-cons}
-use Rattle.dns_name.specs.Labels.{frame, wire}
-use Rattle.dns_name.specs.Suffix.{EndsWith}
-use Rattle.rdata_layout.specs.Types.{number_of}
-use Rattle.rdata_layout.specs.declared.types.RType.{RType}
-use Rattle.rdata_layout.specs.declared.types.RType.TheVariants as rtype
-use Rattle.record_set.specs.declared.sets.RecordSet.{RecordSet}
-use Rattle.set_octets.specs.Octets.{body_octets, check_octets, routing_octets, set_octets}
+use Rattle.zone_list.specs.Labels.{frame, wire}
+use Rattle.zone_list.specs.Suffix.{EndsWith}
+use Rattle.zone_list.specs.Types.{number_of}
+use Rattle.zone_list.specs.RTypeRecord.{RType}
+use Rattle.zone_list.specs.RTypeRecord.TheVariants as rtype
+use Rattle.zone_list.specs.RecordSetRecord.{RecordSet}
+use Rattle.zone_list.specs.Octets.{body_octets, check_octets, routing_octets, set_octets}
 use Rattle.octets.specs.Numbers.{two_octets}
 use Rattle.zone_list.specs.Sums.{labels_in, labels_of, octets_in, one_of, servers_in, servers_of}
-use Rattle.zone_model.specs.Placed.{Placed, sets_of}
-use Rattle.zone_model.specs.Zones.{IsAmong}
+use Rattle.zone_list.specs.Placed.{Placed, sets_of}
+use Rattle.zone_list.specs.Sets.{IsAmong}
 use Rattle.zone_list.specs.SumsRecord.{Sums}
 use Rattle.zone_list.specs.Stored.{Store}
 use Rattle.zone_list.specs.Orders.{placed_of}

@@ -2,9 +2,9 @@
 use Rattle.std.proofs.Common.{◌≡◌, ◌≢◌, ℕ, zero, suc, ◌<◌, ◌≤◌, List, [], ◌∷◌, ◌++◌, map, take, drop, ap, ◌∙◌, sym, refl, Some, subst, arith, inl, inr}
 use Rattle.std.specs.Prelude.{slice_get}
 use Rattle.std.specs.List.{AllByRecursion}
-use Rattle.record_set.specs.declared.sets.RecordSet.{RecordSet}
-use Rattle.record_set.specs.declared.sets.SetKey.{SetKey}
-use Rattle.zone_model.proofs.Lists.{all_put, all_taken, in_put, in_itself, in_taken}
+use Rattle.zone_list.specs.RecordSetRecord.{RecordSet}
+use Rattle.zone_list.specs.SetKeyRecord.{SetKey}
+use Rattle.zone_list.proofs.ListsOfZoneModel.{all_put, all_taken, in_put, in_itself, in_taken}
 use Rattle.zone_list.specs.declared.refs.SetRef.{SetRef}
 use Rattle.zone_list.specs.Changes.{CanChange, Changes, ref_in}
 use Rattle.zone_list.specs.Zones.{Zone, AreListed, IsOne, IsZoneId, placed_in}

@@ -5,14 +5,14 @@ use Rattle.std.specs.Prelude.{Option, slice_get, ◌==◌}
 use Rattle.std.specs.List.{AllByRecursion}
 use Rattle.std.specs.Option.{option_map}
 use Rattle.std.proofs.lemmas.Option.{slice_get-map}
-use Rattle.record_set.specs.declared.sets.RecordSet.{RecordSet}
-use Rattle.set_octets.specs.Octets.{HasSpelling}
+use Rattle.zone_list.specs.RecordSetRecord.{RecordSet}
+use Rattle.zone_list.specs.Octets.{HasSpelling}
 use Rattle.zone_list.proofs.Members.{in_all}
 use Rattle.zone_list.specs.Zones.{AreZones, CanStand, StandsAlone, Zone, placed_in}
 use Rattle.zone_list.specs.declared.refs.SetRef.{SetRef}
-use Rattle.zone_model.proofs.Among.{among_at}
-use Rattle.zone_model.specs.Placed.{HaveOwnSlots, IsSlotAt, Placed, sets_of}
-use Rattle.zone_model.specs.Zones.{IsAmong, IsRising}
+use Rattle.zone_list.proofs.Among.{among_at}
+use Rattle.zone_list.specs.Placed.{HaveOwnSlots, IsSlotAt, Placed, sets_of}
+use Rattle.zone_list.specs.Sets.{IsAmong, IsRising}
 use Rattle.zone_table.specs.Looking.{Names}
 
 -- in slots of their own there is one set in a slot

@@ -4,15 +4,15 @@ use Rattle.std.specs.Prelude.{slice_get, slice_set}
 use Rattle.std.specs.List.{AllByRecursion, insert, remove}
 use Rattle.std.proofs.lemmas.Bool.{cases_eq}
 use Rattle.std.proofs.lemmas.List.{map-append}
-use Rattle.record_set.specs.declared.sets.RecordSet.{RecordSet}
+use Rattle.zone_list.specs.RecordSetRecord.{RecordSet}
 use Rattle.zone_list.specs.Stored.{Kept}
-use Rattle.zone_model.specs.Zones.{IsAmong}
-use Rattle.zone_model.proofs.Lists.{all_put, all_taken, in_itself, in_put, in_taken, split, split_at}
+use Rattle.zone_list.specs.Sets.{IsAmong}
+use Rattle.zone_list.proofs.ListsOfZoneModel.{all_put, all_taken, in_itself, in_put, in_taken, split, split_at}
 use Rattle.zone_list.specs.Orders.{IsOrder, IsOrderBy, OthersStay, placed_by, placed_of, set_in}
 use Rattle.zone_list.specs.Sums.{sums_of}
 use Rattle.zone_list.specs.Kept.{AreKept, HasId, Listed, named, named_of, Stands, zone_in, zones_in}
 use Rattle.zone_list.specs.Zones.{AreListed, CanStand, Zone}
-use Rattle.record_set.specs.declared.sets.SetKey.{SetKey}
+use Rattle.zone_list.specs.SetKeyRecord.{SetKey}
 use Rattle.zone_list.specs.declared.refs.SetRef.{SetRef}
 use Rattle.zone_list.specs.Changes.{Changes}
 use Rattle.zone_list.proofs.Made.{all_kept}

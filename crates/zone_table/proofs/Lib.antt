@@ -15,3 +15,9 @@ pub use Rattle.zone_list.proofs.Listing
 pub use Rattle.zone_list.proofs.Members
 pub use Rattle.zone_list.proofs.Coming
 pub use Rattle.zone_list.proofs.Equation
+pub use Rattle.zone_list.proofs.Lookups
+pub use Rattle.zone_list.proofs.Among
+pub use Rattle.zone_list.proofs.Ordered
+pub use Rattle.zone_list.proofs.ListsOfZoneModel as Lists
+pub use Rattle.zone_list.proofs.Places
+pub use Rattle.zone_list.proofs.Below

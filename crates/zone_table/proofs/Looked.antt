@@ -4,13 +4,13 @@ use Rattle.std.specs.Prelude.{◌==◌, slice_get, unwrap_or}
 use Rattle.std.specs.List.{AllByRecursion}
 use Rattle.std.proofs.lemmas.Bool.{eq-eqb, eqb-true}
 use Rattle.std.proofs.lemmas.List.{map-append}
-use Rattle.record_set.specs.declared.sets.RecordSet.{RecordSet}
+use Rattle.zone_list.specs.RecordSetRecord.{RecordSet}
 use Rattle.zone_list.specs.Index.{no_set}
 use Rattle.zone_list.specs.Stored.{IsKept, Kept, zone_told}
-use Rattle.zone_model.specs.Placed.{IsHere, Placed, sets_of}
-use Rattle.zone_model.specs.Zones.{IsAmong}
-use Rattle.zone_model.specs.Existing.{Exists}
-use Rattle.zone_model.proofs.Lists.{take_more}
+use Rattle.zone_list.specs.Placed.{IsHere, Placed, sets_of}
+use Rattle.zone_list.specs.Sets.{IsAmong}
+use Rattle.zone_list.specs.Existing.{Exists}
+use Rattle.zone_list.proofs.ListsOfZoneModel.{take_more}
 use Rattle.zone_list.specs.Orders.{HasSet, IsOrder, of_zone, placed_at, placed_by, placed_of, set_in}
 use Rattle.zone_list.proofs.Orders.{at_place, there}
 use Rattle.zone_list.proofs.Slots.{its_kept}
@@ -19,7 +19,7 @@ use Rattle.zone_list.specs.Zones.{AreZones, placed_in, StandsAlone, Zone}
 use Rattle.zone_list.proofs.Listing.{its_placed}
 use Rattle.zone_list.proofs.Members.{apex_exists, in_all}
 use Rattle.zone_list.specs.declared.refs.SetRef.{SetRef}
-use Rattle.rdata_layout.specs.declared.types.RType.{RType}
+use Rattle.zone_list.specs.RTypeRecord.{RType}
 use Rattle.zone_list.specs.Telling.{target_of}
 use Rattle.zone_table.specs.Looking.{IsApex, Names, Targets}
 use Rattle.zone_table.proofs.Naming.{its_sets, stands_here}

@@ -4,10 +4,10 @@ use Rattle.std.specs.Prelude.{slice_get, option_map}
 use Rattle.std.specs.List.{AllByRecursion}
 use Rattle.std.proofs.lemmas.List.{length-map}
 use Rattle.std.proofs.lemmas.Option.{slice_get_read, slice_get_within, slice_get-map}
-use Rattle.dns_name.specs.Suffix.{EndsWith}
+use Rattle.zone_list.specs.Suffix.{EndsWith}
 use Rattle.zone_list.specs.Stored.{Kept}
-use Rattle.zone_model.specs.Zones.{IsAmong}
-use Rattle.zone_model.proofs.Among.{among_at}
+use Rattle.zone_list.specs.Sets.{IsAmong}
+use Rattle.zone_list.proofs.Among.{among_at}
 use Rattle.zone_list.specs.Orders.{IsOrder, placed_at, placed_of, set_in}
 use Rattle.zone_list.proofs.Orders.{of_zone}
 use Rattle.zone_list.specs.Found.{IsAt, LongestOrNone, NextZoneOrNone}

@@ -4,11 +4,11 @@ use Rattle.std.specs.Prelude.{◌⊎◌, slice_get}
 use Rattle.std.specs.List.{AllByRecursion}
 use Rattle.std.proofs.lemmas.Bool.{cases_eq}
 use Rattle.std.proofs.lemmas.Option.{slice_get_within}
-use Rattle.record_set.specs.declared.sets.RecordSet.{RecordSet}
-use Rattle.record_set.specs.declared.sets.SetKey.{SetKey}
-use Rattle.zone_model.specs.Hosted.{HostedZone}
-use Rattle.zone_model.specs.Zones.{IsAmong, IsRising}
-use Rattle.zone_model.specs.Placed.{Placed, sets_of}
+use Rattle.zone_list.specs.RecordSetRecord.{RecordSet}
+use Rattle.zone_list.specs.SetKeyRecord.{SetKey}
+use Rattle.zone_list.specs.Hosted.{HostedZone}
+use Rattle.zone_list.specs.Sets.{IsAmong, IsRising}
+use Rattle.zone_list.specs.Placed.{Placed, sets_of}
 use Rattle.zone_list.specs.declared.refs.SetRef.{SetRef}
 use Rattle.zone_list.specs.Changes.{Changes, ref_in}
 use Rattle.zone_list.specs.Zones.{Zone, AreListed, AreZones, IsOne, IsZoneId, StandsAlone, hosted, placed_in}

@@ -4,12 +4,12 @@ use Rattle.std.specs.Prelude.{slice_get}
 use Rattle.std.specs.List.{AllByRecursion, take-map}
 use Rattle.std.proofs.lemmas.Bool.{cases_eq}
 use Rattle.std.proofs.lemmas.List.{map-append}
-use Rattle.record_set.specs.declared.sets.RecordSet.{RecordSet}
+use Rattle.zone_list.specs.RecordSetRecord.{RecordSet}
 use Rattle.zone_list.specs.Stored.{Kept}
-use Rattle.record_set.specs.Sets.{key_of}
-use Rattle.zone_model.specs.Placing.{IsThere}
-use Rattle.zone_model.proofs.Among.{among_at}
-use Rattle.zone_model.proofs.Lists.{drop_map, split}
+use Rattle.zone_list.specs.SetsOfRecordSet.{key_of}
+use Rattle.zone_list.specs.Placing.{IsThere}
+use Rattle.zone_list.proofs.Among.{among_at}
+use Rattle.zone_list.proofs.ListsOfZoneModel.{drop_map, split}
 use Rattle.zone_list.specs.Orders.{IsOrder, placed_of}
 use Rattle.zone_list.specs.Changes.{CanBeAdded, CanChange, IsKeyOf}
 use Rattle.zone_list.specs.Found.{IsSplit}

@@ -4,11 +4,11 @@ use Rattle.std.specs.Prelude.{◌⊎◌, IfOk, OnOk, Result, Ok, Err, slice_get,
 use Rattle.std.specs.List.{AllByRecursion}
 use Rattle.std.specs.declared.alloc.Global.{Global}
 use Rattle.std.proofs.lemmas.Bool.{cases_eq}
-use Rattle.record_set.specs.declared.sets.RecordSet.{RecordSet}
-use Rattle.set_octets.specs.Octets.{HasSpelling, set_octets}
-use Rattle.cidr_commands.specs.Stored.{Stored}
+use Rattle.zone_list.specs.RecordSetRecord.{RecordSet}
+use Rattle.zone_list.specs.Octets.{HasSpelling, set_octets}
+use Rattle.cidr_routing.specs.Stored.{Stored}
 use Rattle.zone_list.specs.Stored.{Kept, Store}
-use Rattle.zone_model.proofs.Among.{among_at}
+use Rattle.zone_list.proofs.Among.{among_at}
 use Rattle.zone_list.specs.Orders.{IsOrderBy, placed_by, set_in}
 use Rattle.zone_list.specs.SumsRecord.{Sums}
 use Rattle.zone_list.specs.Sums.{sums_of}

@@ -2,9 +2,9 @@
 use Rattle.std.proofs.Common.{◌≡◌, ◌≤◌, ℕ, ◌+◌, List, [], ◌∷◌, ◌++◌, length, take, Some, sym, subst, arith}
 use Rattle.std.specs.Prelude.{slice_get}
 use Rattle.std.specs.List.{AllByRecursion}
-use Rattle.record_set.specs.declared.sets.RecordSet.{RecordSet}
-use Rattle.set_octets.specs.Octets.{set_octets}
-use Rattle.zone_model.proofs.Lists.{take_more}
+use Rattle.zone_list.specs.RecordSetRecord.{RecordSet}
+use Rattle.zone_list.specs.Octets.{set_octets}
+use Rattle.zone_list.proofs.ListsOfZoneModel.{take_more}
 
 -- what was bounded so far is by the larger bound, and so is one more
 pub longest_more : (add : List RecordSet) (i most now : ℕ) (set : RecordSet)

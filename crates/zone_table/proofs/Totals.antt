@@ -9,7 +9,7 @@ use Rattle.zone_list.specs.Stored.{Kept, Store}
 use Rattle.zone_list.proofs.Cells.{sum_insert, sum_remove, sum_set}
 use Rattle.zone_list.specs.SumsRecord.{Sums}
 use Rattle.zone_list.specs.Sums.{aliases_in, aliases_of, octets_in, octets_of, one_of}
-use Rattle.zone_model.specs.Placed.{Placed}
+use Rattle.zone_list.specs.Placed.{Placed}
 use Rattle.zone_list.specs.Orders.{placed_at, placed_of, set_in}
 use Rattle.zone_list.specs.Kept.{AreKept, Listed, Stands, zone_in, zones_in}
 use Rattle.zone_list.specs.Zones.{CanStand, Zone, placed_in}

@@ -1,6 +1,6 @@
 -- What is known of the names of a table's zones.
 use Rattle.std.specs.Prelude.{◌≡◌, ◌↔◌, List, Option, None, Some, ⊤}
-use Rattle.zone_model.specs.Zones.{IsAmong}
+use Rattle.zone_list.specs.Sets.{IsAmong}
 use Rattle.zone_list.specs.declared.apexes.Apex.{Apex}
 use Rattle.zone_list.specs.Apexes.{Comes, Goes}
 use Rattle.zone_list.specs.Zones.{Zone}

@@ -1,9 +1,9 @@
 -- Edits of a table of zones.
 use Rattle.std.specs.Prelude.{◌≡◌, ◌≢◌, ◌≤◌, ◌<◌, ◌↔◌, ℕ, List, [], length, map, slice_get, Some, ⊤}
 use Rattle.std.specs.List.{AllByRecursion}
-use Rattle.record_set.specs.declared.sets.RecordSet.{RecordSet}
-use Rattle.set_octets.specs.Octets.{set_octets}
-use Rattle.cidr_commands.specs.Stored.{Stored}
+use Rattle.zone_list.specs.RecordSetRecord.{RecordSet}
+use Rattle.zone_list.specs.Octets.{set_octets}
+use Rattle.cidr_routing.specs.Stored.{Stored}
 use Rattle.zone_list.specs.Steps.{cells_in_all}
 use Rattle.zone_list.specs.Changes.{CanBeAdded, CanChange, Changes, ref_in}
 use Rattle.zone_list.specs.Zones.{Zone, IsOne, IsZoneId, HasName, placed_in}

@@ -1,17 +1,17 @@
 -- What is found in a table of zones.
 use Rattle.std.specs.Prelude.{◌≡◌, ◌≤◌, ◌+◌, ℕ, List, length, Bool, true, false, Option, None, Some}
-use Rattle.dns_name.specs.Suffix.{EndsWith}
-use Rattle.rdata_layout.specs.declared.types.RType.{RType}
-use Rattle.rdata_layout.specs.declared.types.RType.TheVariants as rtype
-use Rattle.record_set.specs.declared.sets.RecordSet.{RecordSet}
-use Rattle.record_set.specs.declared.sets.SetKey.{SetKey}
-use Rattle.set_search.specs.declared.bounds.Bound.{Bound}
-use Rattle.set_search.specs.declared.bounds.Bound.TheVariants as bound
+use Rattle.zone_list.specs.Suffix.{EndsWith}
+use Rattle.zone_list.specs.RTypeRecord.{RType}
+use Rattle.zone_list.specs.RTypeRecord.TheVariants as rtype
+use Rattle.zone_list.specs.RecordSetRecord.{RecordSet}
+use Rattle.zone_list.specs.SetKeyRecord.{SetKey}
+use Rattle.zone_list.specs.BoundRecord.{Bound}
+use Rattle.zone_list.specs.BoundRecord.TheVariants as bound
 use Rattle.zone_list.specs.WatchRecord.{Watch}
 use Rattle.zone_list.specs.Telling.{target_of, watch_of}
-use Rattle.set_search.specs.Found.{IsCount, IsGroupAt}
-use Rattle.zone_model.specs.Placed.{Placed, IsHere, IsSlotAt, sets_of}
-use Rattle.zone_model.specs.Zones.{IsAmong}
+use Rattle.zone_list.specs.FoundOfSetSearch.{IsCount, IsGroupAt}
+use Rattle.zone_list.specs.Placed.{Placed, IsHere, IsSlotAt, sets_of}
+use Rattle.zone_list.specs.Sets.{IsAmong}
 use Rattle.zone_table.specs.declared.refs.Group.{Group}
 use Rattle.zone_list.specs.declared.refs.SetRef.{SetRef}
 use Rattle.zone_list.specs.Zones.{Zone, IsOne, IsZoneId, placed_in}

@@ -3,8 +3,8 @@ use Rattle.std.specs.Prelude.{◌≡◌, ◌≤◌, ◌<◌, ◌-◌, ℕ, List,
 use Rattle.std.specs.Prelude.{Vec, vec_capacity, ⊤}
 use Rattle.std.specs.List.{AllByRecursion}
 use Rattle.std.specs.declared.alloc.Global.{Global}
-use Rattle.record_set.specs.declared.sets.RecordSet.{RecordSet}
-use Rattle.set_octets.specs.Octets.{HasSpelling, set_octets}
+use Rattle.zone_list.specs.RecordSetRecord.{RecordSet}
+use Rattle.zone_list.specs.Octets.{HasSpelling, set_octets}
 use Rattle.zone_list.specs.Stored.{Kept, Store}
 use Rattle.zone_list.specs.SumsRecord.{Sums}
 use Rattle.zone_list.specs.Kept.{Listed, zones_in}

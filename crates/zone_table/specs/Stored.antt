@@ -1,14 +1,14 @@
 -- How a zone that is found is stored.
 use Rattle.std.specs.Prelude.{◌≡◌, ℕ, List, [], Bool, true, false, Option, None, Some}
 use Rattle.std.specs.Borrow.{Bor}
-use Rattle.record_set.specs.declared.sets.RecordSet.{RecordSet}
+use Rattle.zone_list.specs.RecordSetRecord.{RecordSet}
 use Rattle.zone_list.specs.Stored.{IsKept, Kept}
 use Rattle.zone_list.specs.Kept.{Listed, zones_in}
 use Rattle.zone_list.specs.Zones.{IsZoneId, Zone, placed_in}
 use Rattle.zone_list.specs.declared.refs.SetRef.{SetRef}
 use Rattle.zone_table.specs.Looking.{Names}
-use Rattle.zone_model.specs.Placed.{sets_of}
-use Rattle.zone_model.specs.Zones.{IsRising}
+use Rattle.zone_list.specs.Placed.{sets_of}
+use Rattle.zone_list.specs.Sets.{IsRising}
 use Rattle.zone_list.specs.Orders.{IsOrder, placed_of}
 
 -- The slots are those of the zone with this number.

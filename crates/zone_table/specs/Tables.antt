@@ -1,8 +1,8 @@
 -- Tables of zones.
 use Rattle.std.specs.Prelude.{◌≡◌, ◌<◌, ℕ, List}
-use Rattle.cidr_commands.specs.Stored.{Stored}
+use Rattle.cidr_routing.specs.Stored.{Stored}
 use Rattle.zone_list.specs.Zones.{Zone, IsOne}
-use Rattle.zone_model.specs.Placed.{Placed, IsHere}
+use Rattle.zone_list.specs.Placed.{Placed, IsHere}
 
 -- A table of zones: the zones by rising number, how many slots there are, in use or free, how many
 -- more sets each zone can take without memory (in their order), how many more zones can be opened,

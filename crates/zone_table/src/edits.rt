@@ -5,12 +5,10 @@ ghost use Rattle.zone_table.specs.Needs.{IsPrepared};
 
 use crate::needs::Need;
 use cidr_routing::Collections;
-use dns_name::Name;
 use octets::{OutOfMemory, zeros};
-use record_set::{RecordSet, SetKey};
 use std::alloc::Global;
 use std::marker::Model;
-use zone_list::{Hints, SetRef};
+use zone_list::{Hints, Name, RecordSet, SetKey, SetRef};
 
 /// Record sets, in any order.
 #[derive(Drop)]
@@ -20,7 +18,7 @@ pub struct Sets {
 
 impl Model for Sets {
     ghost use Rattle.std.specs.Prelude.{List};
-    ghost use Rattle.record_set.specs.declared.sets.RecordSet.{RecordSet};
+    ghost use Rattle.zone_list.specs.RecordSetRecord.{RecordSet};
 
     ghost Value = { List RecordSet };
 
@@ -65,7 +63,7 @@ pub struct SetKeys {
 
 impl Model for SetKeys {
     ghost use Rattle.std.specs.Prelude.{List};
-    ghost use Rattle.record_set.specs.declared.sets.SetKey.{SetKey};
+    ghost use Rattle.zone_list.specs.SetKeyRecord.{SetKey};
 
     ghost Value = { List SetKey };
 

@@ -13,9 +13,13 @@ mod needs;
 mod refs;
 mod zones;
 
+pub use cidr_routing::{Collections, Ident, choose_block};
 pub use edits::{Ready, SetKeys, Sets, ZoneEdit};
 pub use laws::{one_apex, one_edit, sets_of_one};
 pub use octets::OutOfMemory;
 pub use refs::{Delta, Group};
-pub use zone_list::{Scratch, SetRef, SetRefs, Watch};
+pub use zone_list::{
+    RecordSet, Scratch, SetKey, SetRef, SetRefs, Watch, behind_text, fields_are_read, find,
+    has_spelling, key_cmp, keys_are_ordered, region_at, sub_at,
+};
 pub use zones::Zones;

@@ -1,24 +1,21 @@
 //! A zone found by its number, with its sets in their order.
 
 ghost use Rattle.std.specs.Prelude.{◌≡◌, ◌<◌, ◌+◌, ◌^◌, ℕ, length, slice_get, Some, IfOk, false};
-ghost use Rattle.set_search.specs.Stops.{bound_of};
+ghost use Rattle.zone_list.specs.Stops.{bound_of};
 ghost use Rattle.zone_list.specs.Sums.{sums_of};
 ghost use Rattle.zone_list.specs.Kept.{AreKept, named_of, zones_in};
 ghost use Rattle.zone_list.specs.Zones.{AreListed, placed_in};
-ghost use Rattle.zone_model.specs.Placed.{IsSlotAt, sets_of};
+ghost use Rattle.zone_list.specs.Placed.{IsSlotAt, sets_of};
 ghost use Rattle.zone_list.specs.Orders.{IsOrder, placed_of};
 ghost use Rattle.zone_table.specs.Counted.{AreCounted};
 ghost use Rattle.zone_table.specs.Looking.{Loads, ServersAreAt, SlotAt, SlotBehind, Targets, Watches};
 ghost use Rattle.zone_table.specs.Stored.{GetsOrder, IsNamed, ViewsZone};
 
-use dns_name::Name;
 use octets::OutOfMemory;
-use rdata_layout::RType;
-use record_set::RecordSet;
-use set_search::{SetList, Stop, count_before};
 use std::alloc::Global;
 use zone_list::{
-    Scratch, SetRef, SetStore, StoredZone, Sums, Watch, ZoneView, find_zone, no_sums, view_of,
+    Name, RType, RecordSet, Scratch, SetList, SetRef, SetStore, Stop, StoredZone, Sums, Watch,
+    ZoneView, count_before, find_zone, no_sums, view_of,
 };
 
 /// The slots of a zone's sets, in zone order.

@@ -3,7 +3,7 @@
 ghost use Rattle.std.specs.Prelude.{◌≡◌, ◌≤◌, ◌<◌, ◌+◌, ◌%◌, ◌^◌, [], length, slice_get, Some};
 ghost use Rattle.std.specs.Prelude.{vec_capacity};
 ghost use Rattle.std.specs.List.{AllByRecursion, insert};
-ghost use Rattle.set_octets.specs.Octets.{set_octets};
+ghost use Rattle.zone_list.specs.Octets.{set_octets};
 ghost use Rattle.zone_list.specs.Sums.{sums_of};
 ghost use Rattle.zone_list.specs.Kept.{AreKept, Listed, zones_in};
 ghost use Rattle.zone_list.specs.Steps.{cells_in_all};

@@ -2,7 +2,7 @@
 
 ghost use Rattle.std.specs.Prelude.{◌≡◌, ◌≤◌, List, length, Option, IfOk, IfSome, OnOk};
 ghost use Rattle.std.specs.List.{AllByRecursion};
-ghost use Rattle.set_octets.specs.Octets.{HasSpelling, set_octets};
+ghost use Rattle.zone_list.specs.Octets.{HasSpelling, set_octets};
 ghost use Rattle.zone_list.specs.Stored.{Kept};
 ghost use Rattle.zone_list.specs.Kept.{named_of, zones_in};
 ghost use Rattle.zone_list.specs.Steps.{cells_in_all};
@@ -11,11 +11,8 @@ ghost use Rattle.zone_table.specs.Needs.{AreSpelled, CanTake, Counts, IsRoomFor,
 ghost use Rattle.zone_table.specs.Needs.{same_rows};
 
 use crate::edits::{Sets, ZoneEdit};
-use octet_region::cells_for;
 use octets::OutOfMemory;
-use record_set::RecordSet;
-use set_octets::set_len;
-use zone_list::{Apexes, StoredZone, find_zone};
+use zone_list::{Apexes, RecordSet, StoredZone, cells_for, find_zone, set_len};
 
 /// How much memory an edit wants, each in the unit in which it is used.
 #[derive(Clone, Copy)]

@@ -2,8 +2,8 @@
 
 ghost use Rattle.std.specs.Prelude.{◌≡◌, ◌≢◌, ◌≤◌, ◌<◌, ◌+◌, ◌%◌, ◌^◌, length, List, ℕ, []};
 ghost use Rattle.std.specs.Prelude.{IfOk, IsTrue, ◌↔◌, false};
-ghost use Rattle.zone_model.specs.Existing.{Exists, IsAncestor, IsClosest};
-ghost use Rattle.zone_model.specs.Placed.{sets_of};
+ghost use Rattle.zone_list.specs.Existing.{Exists, IsAncestor, IsClosest};
+ghost use Rattle.zone_list.specs.Placed.{sets_of};
 ghost use Rattle.zone_list.specs.Sums.{aliases_of, octets_of};
 ghost use Rattle.zone_list.specs.Found.{NextZoneOrNone};
 ghost use Rattle.zone_list.specs.Zones.{AreZones, IsZoneId, placed_in};
@@ -14,7 +14,7 @@ ghost use Rattle.zone_table.specs.Looking.{ApexOrNone, HoldsOrNone, IsApex, IsGr
 ghost use Rattle.zone_table.specs.Looking.{IsMember, IsNextSet, IsSetAt, Loads, ServersAreAt};
 ghost use Rattle.zone_table.specs.Looking.{Targets, Watches, bound_of};
 ghost use Rattle.zone_table.specs.Tables.{HaveSlotsApart, HaveSlotsBelow};
-ghost use Rattle.set_search.specs.Stops.{bound_of as told};
+ghost use Rattle.zone_list.specs.Stops.{bound_of as told};
 
 use crate::edits::{Ready, ZoneEdit};
 use crate::looking::{
@@ -25,15 +25,13 @@ use crate::making::{make, note_name};
 use crate::needs::{need_of, reserve_for, reserve_name};
 use crate::refs::{Delta, Group};
 use cidr_routing::Collections;
-use dns_name::Name;
 use octets::OutOfMemory;
-use rdata_layout::RType;
-use record_set::{RecordSet, SetKey};
-use set_search::{Stop, before_key, behind_key, closest_in, exists_in, group_in};
 use std::alloc::Global;
 use std::marker::Model;
 use zone_list::{
-    Apexes, Scratch, SetRef, SetStore, StoredZone, Watch, find_zone, longest, make_room, next_id,
+    Apexes, Name, RType, RecordSet, Scratch, SetKey, SetRef, SetStore, Stop, StoredZone, Watch,
+    before_key, behind_key, closest_in, exists_in, find_zone, group_in, longest, make_room,
+    next_id,
 };
 
 /// The zones of a server, by rising number, and the sets of all of them.

@@ -1,7 +1,7 @@
 use Rattle.std.proofs.Common.{◌≡◌, ◌∙◌, sym}
 use Rattle.record_set.specs.declared.sets.Body.TheVariants as body
 use Rattle.record_set.specs.declared.sets.RecordSet.{RecordSet}
-use Rattle.set_scratch.specs.Bodies.{alias_of}
+use Rattle.zone_table.specs.Bodies.{alias_of}
 use Rattle.alias_links.proofs.Held.{held_so}
 use Rattle.alias_links.proofs.Kept.{an_alias, no_alias, whole}
 use Rattle.alias_links.proofs.aliases.alias_in.Goals as goal

@@ -1,7 +1,7 @@
 use Rattle.std.proofs.Common.{◌∙◌, ap, sym, subst, List}
 use Rattle.record_set.specs.declared.sets.RecordSet.{RecordSet}
 use Rattle.zone_table.specs.Changes.{with_all}
-use Rattle.zone_model.specs.Zones.{IsRising}
+use Rattle.zone_table.specs.Sets.{IsRising}
 use Rattle.alias_links.specs.After.{sets_in}
 use Rattle.alias_links.specs.Aliases.{aliases_of, stays}
 use Rattle.alias_links.proofs.Aliased.{aliases_are, filter_rises}

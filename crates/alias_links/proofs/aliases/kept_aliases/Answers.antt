@@ -3,7 +3,7 @@ use Rattle.std.proofs.lemmas.List.{length-map}
 use Rattle.record_set.specs.declared.sets.RecordSet.{RecordSet}
 use Rattle.zone_table.proofs.Members.{filled}
 use Rattle.zone_table.specs.Zones.{placed_in}
-use Rattle.zone_model.specs.Placed.{Placed}
+use Rattle.zone_table.specs.Placed.{Placed}
 use Rattle.alias_links.specs.After.{sets_in}
 use Rattle.alias_links.specs.Aliases.{kept_of}
 use Rattle.alias_links.proofs.Kept.{all_taken, kept_more}

@@ -1,6 +1,6 @@
 use Rattle.std.proofs.Common.{subst}
 use Rattle.record_set.specs.declared.sets.SetKey.{SetKey}
-use Rattle.set_search.specs.Found.{FindsAt}
+use Rattle.zone_table.specs.Found.{FindsAt}
 use Rattle.alias_links.proofs.Kept.{in_place}
 use Rattle.alias_links.proofs.aliases.place.Goals as goal
 

@@ -1,7 +1,7 @@
 use Rattle.std.proofs.Common.{◌∙◌, [], ◌∷◌, refl, subst, sym}
 use Rattle.std.proofs.lemmas.Option.{slice_get_read}
 use Rattle.zone_table.proofs.Equation.{with_all_rises}
-use Rattle.zone_model.specs.Zones.{IsRising}
+use Rattle.zone_table.specs.Sets.{IsRising}
 use Rattle.alias_links.specs.Aliases.{aliases_of}
 use Rattle.alias_links.proofs.Kept.{all_placed, placed_more}
 use Rattle.alias_links.proofs.aliases.place_aliases.Goals as goal

@@ -1,6 +1,6 @@
 use Rattle.std.proofs.Common.{◌≡◌, drop}
 use Rattle.zone_table.specs.Changes.{with_all}
-use Rattle.zone_model.specs.Zones.{IsRising}
+use Rattle.zone_table.specs.Sets.{IsRising}
 use Rattle.alias_links.specs.Aliases.{aliases_of}
 use Rattle.alias_links.proofs.aliases.place_aliases.Given as goal
 

@@ -2,8 +2,8 @@ use Rattle.std.proofs.Common.{◌≡◌, ◌∙◌, [], refl, sym}
 use Rattle.std.proofs.lemmas.Bool.{false≢true}
 use Rattle.std.proofs.lemmas.Option.{slice_get_read}
 use Rattle.record_set.specs.declared.sets.SetKey.{SetKey}
-use Rattle.zone_model.proofs.Among.{among_at}
-use Rattle.zone_model.specs.Zones.{group}
+use Rattle.zone_table.proofs.Among.{among_at}
+use Rattle.zone_table.specs.Sets.{group}
 use Rattle.alias_links.specs.After.{changed_in}
 use Rattle.alias_links.proofs.Changing.{is_change}
 use Rattle.alias_links.proofs.Looping.{empty_so, none_at_all, one_more}

@@ -1,6 +1,6 @@
 use Rattle.std.proofs.Common.{◌≡◌, ◌≢◌, ℕ, ◌<◌, [], slice_get, Some}
 use Rattle.record_set.specs.declared.sets.SetKey.{SetKey}
-use Rattle.zone_model.specs.Zones.{group}
+use Rattle.zone_table.specs.Sets.{group}
 use Rattle.alias_links.specs.After.{changed_in}
 use Rattle.alias_links.proofs.groups.empties_group.Given as goal
 

@@ -2,7 +2,7 @@ use Rattle.std.proofs.Common.{◌≡◌, ◌∙◌, refl, sym, true}
 use Rattle.std.proofs.lemmas.Bool.{false≢true}
 use Rattle.std.proofs.lemmas.Option.{slice_get_read}
 use Rattle.record_set.specs.declared.sets.RecordSet.{RecordSet}
-use Rattle.zone_model.proofs.Among.{among_at}
+use Rattle.zone_table.proofs.Among.{among_at}
 use Rattle.alias_links.specs.Aliases.{is_alias_set}
 use Rattle.alias_links.proofs.Aliased.{alias_test}
 use Rattle.alias_links.proofs.Looping.{none_at_all, one_more}

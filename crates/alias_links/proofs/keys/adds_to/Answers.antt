@@ -2,8 +2,8 @@ use Rattle.std.proofs.Common.{◌≡◌, ◌∙◌, refl, sym, true}
 use Rattle.std.proofs.lemmas.Bool.{false≢true}
 use Rattle.std.proofs.lemmas.Option.{slice_get_read}
 use Rattle.record_set.specs.declared.sets.RecordSet.{RecordSet}
-use Rattle.zone_model.proofs.Among.{among_at}
-use Rattle.zone_model.specs.Zones.{is_of_group}
+use Rattle.zone_table.proofs.Among.{among_at}
+use Rattle.zone_table.specs.Sets.{is_of_group}
 use Rattle.alias_links.proofs.Looping.{none_at_all, one_more}
 use Rattle.alias_links.proofs.keys.adds_to.Goals as goal
 

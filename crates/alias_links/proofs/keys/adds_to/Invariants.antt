@@ -1,6 +1,6 @@
 use Rattle.std.proofs.Common.{◌≡◌, ℕ, ◌<◌, slice_get, Some, true}
 use Rattle.record_set.specs.declared.sets.RecordSet.{RecordSet}
-use Rattle.zone_model.specs.Zones.{is_of_group}
+use Rattle.zone_table.specs.Sets.{is_of_group}
 use Rattle.alias_links.proofs.keys.adds_to.Given as goal
 
 abbrev pub invariant-loop-i : goal.invariant-loop-i

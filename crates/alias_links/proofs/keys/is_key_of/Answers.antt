@@ -3,7 +3,7 @@ use Rattle.std.proofs.lemmas.Bool.{false≢true}
 use Rattle.std.proofs.lemmas.Option.{slice_get_read}
 use Rattle.record_set.specs.declared.sets.SetKey.{SetKey}
 use Rattle.zone_table.specs.Changes.{IsKeyOf}
-use Rattle.zone_model.proofs.Among.{among_at}
+use Rattle.zone_table.proofs.Among.{among_at}
 use Rattle.alias_links.proofs.Looping.{none_at_all, one_more}
 use Rattle.alias_links.proofs.keys.is_key_of.Goals as goal
 

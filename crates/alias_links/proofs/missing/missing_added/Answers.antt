@@ -1,7 +1,7 @@
 use Rattle.std.proofs.Common.{List, refl, subst}
 use Rattle.std.proofs.lemmas.Option.{slice_get_read}
 use Rattle.record_set.specs.declared.sets.RecordSet.{RecordSet}
-use Rattle.zone_model.specs.Walks.{HasNoTarget}
+use Rattle.zone_table.specs.Walks.{HasNoTarget}
 use Rattle.alias_links.specs.After.{changed_in}
 use Rattle.alias_links.specs.Leasts.{LeastOrNone}
 use Rattle.alias_links.proofs.Kept.{all_taken, least_more}

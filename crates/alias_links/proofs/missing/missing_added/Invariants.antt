@@ -1,7 +1,7 @@
 use Rattle.std.proofs.Common.{take}
 use Rattle.alias_links.specs.After.{changed_in}
 use Rattle.alias_links.specs.Leasts.{LeastOrNone}
-use Rattle.zone_model.specs.Walks.{HasNoTarget}
+use Rattle.zone_table.specs.Walks.{HasNoTarget}
 use Rattle.alias_links.proofs.missing.missing_added.Given as goal
 
 abbrev pub invariant-loop-i : goal.invariant-loop-i

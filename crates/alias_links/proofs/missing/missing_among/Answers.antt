@@ -3,7 +3,7 @@ use Rattle.std.proofs.lemmas.List.{length-map}
 use Rattle.record_set.specs.declared.sets.SetKey.{SetKey}
 use Rattle.zone_table.proofs.Members.{filled}
 use Rattle.zone_table.specs.Zones.{placed_in}
-use Rattle.zone_model.specs.Placed.{Placed}
+use Rattle.zone_table.specs.Placed.{Placed}
 use Rattle.alias_links.specs.After.{changed_in, sets_in}
 use Rattle.alias_links.specs.Leasts.{IsLeast, StaysWithout}
 use Rattle.alias_links.proofs.Firsts.{least_of_first}

@@ -1,9 +1,9 @@
 use Rattle.std.proofs.Common.{◌≡◌, ◌∙◌, Some, sym, subst}
 use Rattle.std.proofs.lemmas.Bool.{false≢true}
 use Rattle.record_set.specs.declared.sets.SetKey.{SetKey}
-use Rattle.set_scratch.specs.Telling.{target_of}
+use Rattle.zone_table.specs.Telling.{target_of}
 use Rattle.zone_table.specs.Changes.{IsKeyOf}
-use Rattle.zone_model.specs.Zones.{group}
+use Rattle.zone_table.specs.Sets.{group}
 use Rattle.alias_links.specs.After.{changed_in}
 use Rattle.alias_links.proofs.Held.{has_target, is_target, none_without}
 use Rattle.alias_links.proofs.Looping.{empty_so}

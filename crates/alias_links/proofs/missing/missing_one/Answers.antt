@@ -2,7 +2,7 @@ use Rattle.std.proofs.Common.{◌∙◌, ap, sym, subst}
 use Rattle.std.proofs.lemmas.Bool.{false≢true}
 use Rattle.record_set.specs.Reasons.{IsAlias}
 use Rattle.record_set.specs.declared.sets.Body.{Body}
-use Rattle.zone_model.specs.Zones.{group, target_group_of}
+use Rattle.zone_table.specs.Sets.{group, target_group_of}
 use Rattle.alias_links.specs.After.{changed_in}
 use Rattle.alias_links.proofs.Looping.{empty_so}
 use Rattle.alias_links.proofs.missing.missing_one.Goals as goal

@@ -1,5 +1,5 @@
 use Rattle.std.proofs.Common.{◌∙◌, sym, subst}
-use Rattle.zone_model.specs.Zones.{IsRising}
+use Rattle.zone_table.specs.Sets.{IsRising}
 use Rattle.alias_links.specs.After.{changed_in, sets_in}
 use Rattle.alias_links.specs.Aliases.{is_alias_set}
 use Rattle.alias_links.proofs.Aliased.{filter_rises}

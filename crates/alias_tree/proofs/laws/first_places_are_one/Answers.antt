@@ -1,4 +1,4 @@
-use Rattle.zone_model.specs.Walks.{HasNoTarget, IsTooDeep}
+use Rattle.set_search.specs.Walks.{HasNoTarget, IsTooDeep}
 use Rattle.alias_tree.proofs.OnePlace.{one_place}
 use Rattle.alias_tree.proofs.laws.first_places_are_one.Goals as goal
 

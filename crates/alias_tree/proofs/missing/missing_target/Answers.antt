@@ -1,6 +1,6 @@
 use Rattle.std.proofs.Common.{◌≡◌, below_more, arith, refl, subst}
 use Rattle.std.proofs.lemmas.Option.{slice_get_read}
-use Rattle.zone_model.specs.Walks.{HasNoTarget}
+use Rattle.set_search.specs.Walks.{HasNoTarget}
 use Rattle.alias_tree.proofs.missing.missing_target.Goals as goal
 
 pub loop-i-preserved : goal.loop-i-preserved

@@ -1,4 +1,4 @@
-use Rattle.zone_model.specs.Walks.{HasNoTarget}
+use Rattle.set_search.specs.Walks.{HasNoTarget}
 use Rattle.alias_tree.specs.Firsts.{NoneBefore}
 use Rattle.alias_tree.proofs.missing.missing_target.Given as goal
 

@@ -1,5 +1,5 @@
 use Rattle.std.proofs.Common.{◌≡◌, ℕ, length, slice_get, Some}
-use Rattle.record_set.specs.declared.sets.RecordSet.{RecordSet}
+use Rattle.set_search.specs.RecordSetRecord.{RecordSet}
 use Rattle.alias_tree.specs.Targets.{IsTargetOf}
 use Rattle.alias_tree.specs.declared.targets.Target.{Target}
 use Rattle.alias_tree.proofs.targets.targets_of.Given as goal

@@ -1,7 +1,7 @@
 use Rattle.std.proofs.Common.{◌≡◌, ℕ, ◌<◌, length, slice_get, Some}
 use Rattle.std.specs.Prelude.{◌↔◌}
-use Rattle.record_set.specs.Reasons.{IsAlias}
-use Rattle.record_set.specs.declared.sets.RecordSet.{RecordSet}
+use Rattle.set_search.specs.Reasons.{IsAlias}
+use Rattle.set_search.specs.RecordSetRecord.{RecordSet}
 use Rattle.alias_tree.specs.Marks.{IsMarked}
 use Rattle.alias_tree.proofs.walks.aliases_of.Given as goal
 

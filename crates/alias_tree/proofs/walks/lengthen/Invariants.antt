@@ -1,5 +1,5 @@
 use Rattle.std.proofs.Common.{◌≡◌, ◌+◌, List, length}
-use Rattle.record_set.specs.declared.sets.RecordSet.{RecordSet}
+use Rattle.set_search.specs.RecordSetRecord.{RecordSet}
 use Rattle.alias_tree.specs.Starts.{AreStarts}
 use Rattle.alias_tree.specs.Targets.{AreTargets}
 use Rattle.alias_tree.proofs.walks.lengthen.Given as goal

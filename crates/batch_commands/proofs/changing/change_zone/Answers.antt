@@ -1,8 +1,8 @@
 use Rattle.std.proofs.Common.{◌∙◌, subst, sym}
 use Rattle.std.specs.Prelude.{Err}
 use Rattle.std.proofs.lemmas.Bool.{false≢true}
-use Rattle.command_octets.specs.declared.commands.Command.TheVariants as command
-use Rattle.config_model.specs.declared.refusals.Refusal.{Refusal}
+use Rattle.config_zones.specs.CommandRecord.TheVariants as command
+use Rattle.config_zones.specs.RefusalRecord.{Refusal}
 use Rattle.config_zones.specs.Configured.{TellsEdit, config_of}
 use Rattle.batch_commands.proofs.Changed.{allowed_so, comes_so, edited, its_apex, meets, none_there}
 use Rattle.batch_commands.proofs.Changed.{refused_behind, refused_itself}

@@ -1,6 +1,6 @@
 use Rattle.std.proofs.Common.{refl}
 use Rattle.std.proofs.lemmas.Option.{slice_get_read}
-use Rattle.config_model.specs.Batches.{check_refusal}
+use Rattle.config_zones.specs.Batches.{check_refusal}
 use Rattle.batch_commands.proofs.Firsts.{none_left, not_this, this_one}
 use Rattle.batch_commands.proofs.names.missing_check.Goals as goal
 

@@ -1,6 +1,6 @@
 use Rattle.std.proofs.Common.{refl, ap, sym, ◌∙◌}
 use Rattle.std.proofs.lemmas.Option.{slice_get_read}
-use Rattle.config_model.specs.Batches.{collection_refusal, named_collection}
+use Rattle.config_zones.specs.Batches.{collection_refusal, named_collection}
 use Rattle.record_set.specs.declared.sets.RecordSet.{RecordSet}
 use Rattle.batch_commands.proofs.Firsts.{none_left, not_this, this_one}
 use Rattle.batch_commands.proofs.names.missing_collection.Goals as goal

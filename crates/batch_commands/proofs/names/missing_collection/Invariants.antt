@@ -1,4 +1,4 @@
-use Rattle.config_model.specs.Batches.{collection_refusal}
+use Rattle.config_zones.specs.Batches.{collection_refusal}
 use Rattle.batch_commands.proofs.Firsts.{IsAsInAll}
 use Rattle.batch_commands.proofs.names.missing_collection.Given as goal
 

@@ -1,6 +1,6 @@
 use Rattle.std.proofs.Common.{refl, ap, sym, ◌∙◌}
 use Rattle.std.proofs.lemmas.Option.{slice_get_read}
-use Rattle.config_model.specs.Batches.{location_refusal, named_location}
+use Rattle.config_zones.specs.Batches.{location_refusal, named_location}
 use Rattle.record_set.specs.declared.sets.RecordSet.{RecordSet}
 use Rattle.batch_commands.proofs.Firsts.{none_left, not_this, this_one}
 use Rattle.batch_commands.proofs.names.missing_location.Goals as goal

@@ -1,5 +1,5 @@
 use Rattle.std.proofs.Common.{◌≡◌, ◌∙◌, ◌+◌, length, arith}
-use Rattle.zone_table.specs.Counted.{octets_in_all, sets_in_all}
+use Rattle.config_zones.specs.Counted.{octets_in_all, sets_in_all}
 use Rattle.batch_commands.specs.Sizes.{octets_in}
 use Rattle.batch_commands.proofs.Counted.{full_is, its_octets, octets_enough, sets_enough, spelled}
 use Rattle.batch_commands.proofs.Counted.{there}

@@ -1,5 +1,5 @@
 use Rattle.std.proofs.Common.{ap, arith}
-use Rattle.config_model.specs.Batches.{is_over_zone}
+use Rattle.config_zones.specs.Batches.{is_over_zone}
 use Rattle.batch_commands.proofs.Counted.{as_many, counted, few_gone, part_is}
 use Rattle.batch_commands.proofs.sizes.is_zone_full.Goals as goal
 

@@ -1,7 +1,7 @@
 use Rattle.std.proofs.Common.{◌≡◌, ap, length}
 use Rattle.config_zones.proofs.Rest.{held_so}
 use Rattle.record_set.specs.declared.sets.RecordSet.{RecordSet}
-use Rattle.set_octets.specs.Octets.{set_octets}
+use Rattle.config_zones.specs.Octets.{set_octets}
 use Rattle.batch_commands.proofs.Counted.{loads_it, names_it, some_next}
 use Rattle.batch_commands.proofs.sizes.octets_of_key.Goals as goal
 

@@ -2,7 +2,7 @@ use Rattle.std.proofs.Common.{refl, arith, length}
 use Rattle.std.proofs.lemmas.Option.{slice_get_read}
 use Rattle.alias_links.proofs.Held.{sets_rise}
 use Rattle.alias_links.specs.After.{sets_in}
-use Rattle.set_octets.specs.Octets.{set_octets}
+use Rattle.config_zones.specs.Octets.{set_octets}
 use Rattle.batch_commands.proofs.Sums.{next_gone, there_at}
 use Rattle.batch_commands.proofs.sizes.octets_of_keys.Goals as goal
 

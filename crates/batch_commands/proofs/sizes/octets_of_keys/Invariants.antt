@@ -1,6 +1,6 @@
 use Rattle.std.proofs.Common.{◌≡◌, ◌+◌, take}
 use Rattle.alias_links.specs.After.{sets_in}
-use Rattle.zone_table.specs.Changes.{without_all}
+use Rattle.config_zones.specs.Changes.{without_all}
 use Rattle.batch_commands.specs.Sizes.{octets_in}
 use Rattle.batch_commands.proofs.sizes.octets_of_keys.Given as goal
 

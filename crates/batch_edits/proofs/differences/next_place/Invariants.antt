@@ -3,7 +3,7 @@ use Rattle.std.specs.Prelude.{slice_get, Some}
 use Rattle.std.specs.declared.cmp.Ordering.TheVariants.{Less}
 use Rattle.record_set.specs.declared.sets.RecordSet.{RecordSet}
 use Rattle.record_set.specs.Sets.{key_of}
-use Rattle.zone_model.specs.Keys.{key_cmp}
+use Rattle.config_model.specs.Keys.{key_cmp}
 use Rattle.batch_edits.proofs.differences.next_place.Given as goal
 
 abbrev pub invariant-loop-place : goal.invariant-loop-place

@@ -1,6 +1,6 @@
 use Rattle.std.proofs.Common.{refl, subst}
 use Rattle.std.proofs.lemmas.Option.{slice_get_read}
-use Rattle.record_set.specs.Reasons.{IsFirst}
+use Rattle.batch_model.specs.Reasons.{IsFirst}
 use Rattle.batch_limits.proofs.Valid.{valid_more}
 use Rattle.batch_limits.proofs.limits.first_invalid.Goals as goal
 

@@ -1,6 +1,6 @@
 use Rattle.std.proofs.Common.{◌≡◌, ◌<◌, ℕ, length, Some}
 use Rattle.std.specs.Prelude.{slice_get}
-use Rattle.set_octets.specs.Octets.{set_octets, most_octets}
+use Rattle.batch_model.specs.Octets.{set_octets, most_octets}
 use Rattle.batch_model.specs.declared.batches.Change.{Change}
 use Rattle.batch_limits.proofs.limits.has_long_set.Given as goal
 

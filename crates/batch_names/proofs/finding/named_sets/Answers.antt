@@ -3,10 +3,10 @@ use Rattle.std.proofs.lemmas.Option.{slice_get-get_or}
 use Rattle.zone_table.proofs.Holding.{kept_in}
 use Rattle.batch_names.proofs.Runs.{HasRead, all_read, none_read, run_more}
 use Rattle.batch_names.specs.Starts.{AreRisingStarts}
-use Rattle.record_set.specs.declared.sets.RecordSet.{RecordSet}
+use Rattle.batch_model.specs.RecordSetRecord.{RecordSet}
 use Rattle.zone_table.proofs.Members.{left_at, nothing_left}
 use Rattle.zone_table.specs.Zones.{placed_in}
-use Rattle.zone_model.specs.Placed.{sets_of}
+use Rattle.zone_table.specs.Placed.{sets_of}
 use Rattle.batch_names.proofs.finding.named_sets.Goals as goal
 
 pub loop-start-init : goal.loop-start-init

@@ -1,12 +1,12 @@
 use Rattle.std.proofs.Common.{◌∙◌, ◌++◌, ◌∷◌, [], ap, sym, arith}
 use Rattle.batch_names.proofs.Runs.{so_ends, so_more}
 use Rattle.zone_table.specs.Zones.{placed_in}
-use Rattle.zone_model.specs.Placed.{sets_of}
+use Rattle.zone_table.specs.Placed.{sets_of}
 use Rattle.batch_names.proofs.finding.read_named.Goals as goal
 use Rattle.std.proofs.lemmas.Option.{slice_get_within}
-use Rattle.zone_model.proofs.Lists.{some_one}
-use Rattle.record_set.specs.declared.sets.RecordSet.{RecordSet}
-use Rattle.zone_model.specs.Placed.{Placed}
+use Rattle.zone_table.proofs.Lists.{some_one}
+use Rattle.batch_model.specs.RecordSetRecord.{RecordSet}
+use Rattle.zone_table.specs.Placed.{Placed}
 use Rattle.std.proofs.lemmas.List.{length-map}
 
 pub loop-place-preserved : goal.loop-place-preserved

@@ -1,6 +1,6 @@
 use Rattle.std.proofs.Common.{◌≡◌, take}
 use Rattle.std.specs.Prelude.{IfSome}
-use Rattle.set_scratch.specs.Bodies.{values_of}
+use Rattle.zone_table.specs.Bodies.{values_of}
 use Rattle.batch_names.proofs.held.read_values.Given as goal
 
 abbrev pub invariant-loop-i : goal.invariant-loop-i

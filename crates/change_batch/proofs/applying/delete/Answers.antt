@@ -1,6 +1,6 @@
 use Rattle.std.proofs.Common.{◌∙◌, sym, subst, arith}
-use Rattle.record_set.specs.Sets.{key_of}
-use Rattle.batch_model.specs.Changing.{Makes, IsThereAsGiven}
+use Rattle.set_search.specs.Sets.{key_of}
+use Rattle.batch_limits.specs.Changing.{Makes, IsThereAsGiven}
 use Rattle.set_search.specs.Found.{FindsAt}
 use Rattle.change_batch.proofs.Told.{removed}
 use Rattle.change_batch.proofs.applying.delete.Goals as goal

@@ -1,7 +1,7 @@
 use Rattle.std.proofs.Common.{◌≡◌, ◌∙◌, sym, subst}
 use Rattle.std.proofs.lemmas.Option.{get_or_from_slice_get}
-use Rattle.record_set.specs.declared.sets.RecordSet.{RecordSet}
-use Rattle.record_set.specs.Sameness.{Same}
+use Rattle.set_search.specs.RecordSetRecord.{RecordSet}
+use Rattle.set_search.specs.Sameness.{Same}
 use Rattle.change_batch.proofs.Told.{as_given}
 use Rattle.change_batch.proofs.applying.is_as_given.Goals as goal
 

@@ -1,6 +1,6 @@
 use Rattle.std.proofs.Common.{◌∙◌, sym, subst}
-use Rattle.record_set.specs.Sets.{key_of}
-use Rattle.batch_model.specs.Changing.{Makes}
+use Rattle.set_search.specs.Sets.{key_of}
+use Rattle.batch_limits.specs.Changing.{Makes}
 use Rattle.set_search.specs.Found.{FindsAt}
 use Rattle.change_batch.proofs.Told.{put_in_place}
 use Rattle.change_batch.proofs.applying.upsert.Goals as goal

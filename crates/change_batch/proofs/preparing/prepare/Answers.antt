@@ -1,6 +1,6 @@
 use Rattle.std.proofs.Common.{subst}
-use Rattle.batch_model.specs.Batches.{IsWithinLimits, Leaves}
-use Rattle.batch_model.specs.Rules.{MeetsAll, rules}
+use Rattle.batch_limits.specs.Batches.{IsWithinLimits, Leaves}
+use Rattle.batch_limits.specs.Rules.{MeetsAll, rules}
 use Rattle.change_batch.proofs.preparing.prepare.Goals as goal
 
 pub returns-clause-answer : goal.returns-clause-answer

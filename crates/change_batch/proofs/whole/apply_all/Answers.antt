@@ -2,10 +2,10 @@ use Rattle.std.proofs.Common.{◌≡◌, ◌+◌, ◌++◌, ◌∷◌, [], take,
 use Rattle.std.specs.Prelude.{Ok, Err}
 use Rattle.std.proofs.lemmas.List.{take_more}
 use Rattle.std.proofs.lemmas.Option.{slice_get_read}
-use Rattle.batch_model.specs.Batches.{Leaves, Prepares}
-use Rattle.batch_model.specs.Changing.{Gives}
-use Rattle.batch_model.proofs.Staying.{zones_stay}
-use Rattle.batch_model.proofs.Telling.{leaves_more, refused_told}
+use Rattle.batch_limits.specs.Batches.{Leaves, Prepares}
+use Rattle.batch_limits.specs.Changing.{Gives}
+use Rattle.batch_limits.proofs.Staying.{zones_stay}
+use Rattle.batch_limits.proofs.Telling.{leaves_more, refused_told}
 use Rattle.change_batch.proofs.whole.apply_all.Goals as goal
 
 pub loop-i-preserved : goal.loop-i-preserved

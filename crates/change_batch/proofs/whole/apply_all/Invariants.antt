@@ -1,6 +1,6 @@
 use Rattle.std.proofs.Common.{take}
-use Rattle.batch_model.specs.Batches.{Leaves}
-use Rattle.zone_model.specs.Zones.{IsZone}
+use Rattle.batch_limits.specs.Batches.{Leaves}
+use Rattle.set_search.specs.Zones.{IsZone}
 use Rattle.change_batch.proofs.whole.apply_all.Given as goal
 
 abbrev pub invariant-loop-i : goal.invariant-loop-i

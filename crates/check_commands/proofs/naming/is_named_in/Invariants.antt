@@ -1,6 +1,6 @@
 use Rattle.std.proofs.Common.{◌≡◌, drop}
-use Rattle.config_model.specs.Others.{is_check_named}
-use Rattle.zone_table.specs.Zones.{placed_in}
+use Rattle.config_zones.specs.Others.{is_check_named}
+use Rattle.config_zones.specs.Zones.{placed_in}
 use Rattle.zone_model.specs.Placed.{sets_of}
 use Rattle.check_commands.proofs.naming.is_named_in.Given as goal
 

@@ -1,5 +1,5 @@
 use Rattle.std.proofs.Common.{◌≡◌, ◌++◌, take, drop}
-use Rattle.ip_table.specs.Prefixes.{Prefix}
+use Rattle.cidr_blocks.specs.Prefixes.{Prefix}
 use Rattle.cidr_changes.specs.Gathered.{with_row}
 use Rattle.cidr_changes.proofs.gathering.spot_of.Given as goal
 

@@ -1,8 +1,8 @@
 use Rattle.std.proofs.Common.{ℕ, drop}
 use Rattle.std.specs.List.{AllByRecursion}
 use Rattle.std.specs.Prelude.{◌↔◌}
-use Rattle.cidr_blocks.specs.declared.places.Collection.{Collection}
-use Rattle.cidr_blocks.specs.Places.{IsCollection}
+use Rattle.cidr_changes.specs.CollectionRecord.{Collection}
+use Rattle.cidr_changes.specs.Places.{IsCollection}
 use Rattle.cidr_commands.proofs.soundness.are_collections.Given as goal
 
 abbrev pub invariant-loop-held : goal.invariant-loop-held

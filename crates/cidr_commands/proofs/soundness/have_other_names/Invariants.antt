@@ -1,7 +1,7 @@
 use Rattle.std.proofs.Common.{◌≢◌, ℕ, drop}
 use Rattle.std.specs.List.{AllByRecursion}
 use Rattle.std.specs.Prelude.{◌↔◌}
-use Rattle.cidr_blocks.specs.declared.places.Collection.{Collection}
+use Rattle.cidr_changes.specs.CollectionRecord.{Collection}
 use Rattle.cidr_commands.proofs.soundness.have_other_names.Given as goal
 
 abbrev pub invariant-loop-other : goal.invariant-loop-other

@@ -1,7 +1,7 @@
 use Rattle.std.proofs.Common.{drop}
 use Rattle.std.specs.Prelude.{◌↔◌}
 use Rattle.std.specs.List.{AllByRecursion}
-use Rattle.dns_name.specs.Names.{IsName}
+use Rattle.set_reading.specs.Names.{IsName}
 use Rattle.command_codec.proofs.parts.four_names.Given as goal
 
 abbrev pub invariant-loop-server : goal.invariant-loop-server

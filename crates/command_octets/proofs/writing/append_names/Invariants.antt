@@ -1,6 +1,6 @@
 use Rattle.std.proofs.Common.{◌≡◌, ◌++◌, take}
 use Rattle.std.specs.List.{flat_map}
-use Rattle.dns_name.specs.Labels.{wire}
+use Rattle.check_octets.specs.Labels.{wire}
 use Rattle.command_octets.proofs.writing.append_names.Given as goal
 
 abbrev pub invariant-loop-name : goal.invariant-loop-name

@@ -1,6 +1,6 @@
 use Rattle.std.proofs.Common.{List, ℕ, sym, subst}
-use Rattle.rdata_layout.specs.Layout.{IsLayout}
-use Rattle.rdata_layout.specs.declared.types.RType.TheVariants.{Ns}
+use Rattle.config_model.specs.Layout.{IsLayout}
+use Rattle.config_model.specs.RTypeRecord.TheVariants.{Ns}
 use Rattle.config_edits.proofs.Values.{ns_layout}
 use Rattle.config_edits.proofs.opening.ns_value.Goals as goal
 

@@ -1,8 +1,8 @@
 use Rattle.std.proofs.Common.{◌≡◌, ℕ, List, ◌++◌, ap, ◌∙◌, sym, subst}
 use Rattle.octets.specs.Numbers.{four_octets}
 use Rattle.dns_name.specs.Labels.{wire}
-use Rattle.rdata_layout.specs.Layout.{IsLayout}
-use Rattle.rdata_layout.specs.declared.types.RType.TheVariants.{Soa}
+use Rattle.config_model.specs.Layout.{IsLayout}
+use Rattle.config_model.specs.RTypeRecord.TheVariants.{Soa}
 use Rattle.config_model.specs.NewZones.{hostmaster, soa_value}
 use Rattle.config_edits.proofs.Values.{soa_layout, told}
 use Rattle.config_edits.proofs.opening.soa_value.Goals as goal

@@ -5,8 +5,8 @@ use Rattle.config_journal.specs.States.{State}
 use Rattle.config_opening.proofs.Opened.{at_first_gate, baseless_faulty}
 use Rattle.config_opening.proofs.Replayed.{same_fault}
 use Rattle.config_journal.specs.Kept.{config_in}
-use Rattle.snapshot_reading.specs.declared.faults.SnapshotFault.{SnapshotFault}
-use Rattle.store_model.specs.Opening.{IsNoStore}
+use Rattle.config_journal.specs.SnapshotFaultRecord.{SnapshotFault}
+use Rattle.config_journal.specs.Opening.{IsNoStore}
 use Rattle.zone_journal.specs.Pairs.{Leaves}
 use Rattle.config_opening.proofs.opening.read_on.Goals as goal
 

@@ -2,7 +2,7 @@ use Rattle.std.proofs.Common.{◌∙◌, Bool, Ok, ap, arith}
 use Rattle.std.specs.Prelude.{⊤}
 use Rattle.config_opening.proofs.Replayed.{same_fault}
 use Rattle.r53_disk.proofs.Moments.{rests_joined}
-use Rattle.store_model.specs.Opening.{IsNoStore}
+use Rattle.config_journal.specs.Opening.{IsNoStore}
 use Rattle.config_opening.proofs.replaying.replay.Goals as goal
 
 pub loop-fault-preserved : goal.loop-fault-preserved

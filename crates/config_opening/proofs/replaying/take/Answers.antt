@@ -1,6 +1,6 @@
 use Rattle.std.proofs.Common.{Err, subst}
-use Rattle.command_codec.specs.Gives.{ReadsCommand}
-use Rattle.command_codec.specs.Reading.{read}
+use Rattle.config_journal.specs.Gives.{ReadsCommand}
+use Rattle.config_journal.specs.Reading.{read}
 use Rattle.config_opening.proofs.Replayed.{refused_so}
 use Rattle.config_journal.specs.Kept.{config_in}
 use Rattle.config_opening.proofs.replaying.take.Goals as goal

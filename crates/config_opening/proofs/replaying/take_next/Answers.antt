@@ -1,7 +1,7 @@
 use Rattle.std.proofs.Common.{◌∙◌, Bool, List, ℕ, ◌+◌, Ok, ap, length, refl, sym, subst}
 use Rattle.config_opening.proofs.Replayed.{faulty_by, goes_on, holds_there, refused}
 use Rattle.config_journal.specs.Kept.{config_in}
-use Rattle.store_model.specs.Opening.{IsNoStore, IsRefused, TakesEntry}
+use Rattle.config_journal.specs.Opening.{IsNoStore, IsRefused, TakesEntry}
 use Rattle.zone_journal.specs.Opening.{NextGives}
 use Rattle.zone_journal.specs.Pairs.{active_of}
 use Rattle.config_opening.proofs.replaying.take_next.Goals as goal

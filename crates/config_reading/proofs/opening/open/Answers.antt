@@ -1,5 +1,5 @@
 use Rattle.std.proofs.Common.{◌∙◌, ap, subst, sym}
-use Rattle.config_model.specs.Sound.{Sound}
+use Rattle.config_zones.specs.Sound.{Sound}
 use Rattle.config_zones.specs.Configured.{config_of}
 use Rattle.config_reading.proofs.Extending.{allowed, opened}
 use Rattle.config_reading.specs.Reading.{with_zone}

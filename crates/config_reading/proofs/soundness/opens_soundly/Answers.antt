@@ -2,7 +2,7 @@ use Rattle.std.proofs.Common.{◌≤◌, ◌∙◌, length, sym, subst}
 use Rattle.std.specs.List.{AllByRecursion}
 use Rattle.std.proofs.lemmas.Bool.{false≢true}
 use Rattle.zone_soundness.proofs.Answered.{isnt}
-use Rattle.set_octets.specs.Octets.{HasSpelling}
+use Rattle.config_zones.specs.Octets.{HasSpelling}
 use Rattle.config_reading.proofs.Extending.{from_sound, has_room, is_last, is_new_zone, sound_with}
 use Rattle.config_reading.proofs.Extending.{to_sound, told_room, told_zone, zone_sound}
 use Rattle.config_reading.proofs.soundness.opens_soundly.Goals as goal

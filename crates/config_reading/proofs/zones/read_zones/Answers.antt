@@ -1,6 +1,6 @@
 use Rattle.std.proofs.Common.{arith}
 use Rattle.config_zones.specs.Configured.{config_of}
-use Rattle.snapshot_octets.specs.Reading.{zone_at}
+use Rattle.snapshot_reading.specs.Reading.{zone_at}
 use Rattle.snapshot_reading.proofs.Leaving.{are_octets}
 use Rattle.snapshot_reading.specs.Parts.{hosted_of}
 use Rattle.snapshot_reading.specs.Places.{found_at}

@@ -1,6 +1,6 @@
 use Rattle.std.proofs.Common.{◌≡◌, ◌≤◌, ◌*◌, length, take}
 use Rattle.std.specs.List.{sum_by}
-use Rattle.set_octets.specs.Octets.{set_octets}
+use Rattle.config_edits.specs.Octets.{set_octets}
 use Rattle.config_zones.proofs.counting.octets_in.Given as goal
 
 abbrev pub invariant-loop-i : goal.invariant-loop-i

@@ -1,7 +1,7 @@
 use Rattle.std.proofs.Common.{◌≡◌, ◌∙◌, ap, arith, refl, Some}
-use Rattle.zone_table.proofs.Holding.{held_there, named}
-use Rattle.record_set.specs.declared.sets.RecordSet.{RecordSet}
-use Rattle.set_scratch.specs.declared.telling.Watch.{Watch}
+use Rattle.config_edits.proofs.Holding.{held_there, named}
+use Rattle.config_edits.specs.RecordSetRecord.{RecordSet}
+use Rattle.config_edits.specs.WatchRecord.{Watch}
 use Rattle.config_zones.proofs.looking.check_at.Goals as goal
 
 pub unreachable-requires-in-None : goal.unreachable-requires-in-None

@@ -1,5 +1,5 @@
 use Rattle.std.proofs.Common.{◌∙◌, sym}
-use Rattle.zone_table.proofs.Holding.{held_there, named}
+use Rattle.config_edits.proofs.Holding.{held_there, named}
 use Rattle.config_zones.proofs.looking.hold_at.Goals as goal
 
 pub unreachable-requires-then-not-load : goal.unreachable-requires-then-not-load

@@ -1,6 +1,6 @@
 use Rattle.std.proofs.Common.{◌∙◌, ◌++◌, ap, sym, subst, arith, take, drop, length, length-append}
-use Rattle.dns_name.specs.Stored.{labels_of}
-use Rattle.dns_name.specs.Whole.{IsWire}
+use Rattle.rdata_layout.specs.Stored.{labels_of}
+use Rattle.rdata_layout.specs.Whole.{IsWire}
 use Rattle.dns_wire.specs.Pointers.{name_octets}
 use Rattle.dns_wire.proofs.Fields.{exchange_room, exchange_name, exchange_written}
 use Rattle.dns_wire.proofs.Pieces.{two_pieces}

@@ -1,5 +1,5 @@
 use Rattle.std.proofs.Common.{take}
-use Rattle.dns_name.specs.Stored.{labels_of}
+use Rattle.rdata_layout.specs.Stored.{labels_of}
 use Rattle.dns_wire.proofs.Fields.{IsWritten}
 use Rattle.dns_wire.proofs.data.add_fields.Given as goal
 

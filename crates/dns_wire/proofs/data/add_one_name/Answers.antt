@@ -1,5 +1,5 @@
 use Rattle.std.proofs.Common.{◌∙◌, ◌+◌, ◌++◌, ap, sym, take, length}
-use Rattle.dns_name.specs.Stored.{labels_of}
+use Rattle.rdata_layout.specs.Stored.{labels_of}
 use Rattle.dns_wire.proofs.Fields.{one_name, one_written}
 use Rattle.dns_wire.proofs.data.add_one_name.Goals as goal
 

@@ -1,5 +1,5 @@
 use Rattle.std.proofs.Common.{◌++◌}
-use Rattle.reply_model.specs.Dump.{check_line}
+use Rattle.dump_writing.specs.DumpOfReplyModel.{check_line}
 use Rattle.dump_sending.proofs.checks.send_check.Goals as goal
 
 pub returns-in-Failed-clause-passes : goal.returns-in-Failed-clause-passes

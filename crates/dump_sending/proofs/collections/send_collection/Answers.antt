@@ -1,5 +1,5 @@
 use Rattle.std.proofs.Common.{◌++◌}
-use Rattle.reply_model.specs.Dump.{collection_line}
+use Rattle.dump_writing.specs.DumpOfReplyModel.{collection_line}
 use Rattle.dump_sending.proofs.collections.send_collection.Goals as goal
 
 pub returns-in-Failed-clause-passes : goal.returns-in-Failed-clause-passes

@@ -5,7 +5,7 @@ use Rattle.check_model.specs.declared.checks.Check.{Check}
 use Rattle.cidr_blocks.specs.Places.{IsCollection}
 use Rattle.cidr_blocks.specs.declared.places.Collection.{Collection}
 use Rattle.cidr_commands.specs.Stored.{Stored}
-use Rattle.config_edits.specs.Laws.{hosted_in}
+use Rattle.config_zones.specs.Edited.{hosted_in}
 use Rattle.dump_sending.specs.Dumps.{checks_text, collections_text, zones_text}
 use Rattle.set_sending.proofs.Passed.{first_next}
 use Rattle.dump_sending.proofs.dumping.send_lines.Goals as goal

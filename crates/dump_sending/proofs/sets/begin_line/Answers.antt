@@ -1,5 +1,5 @@
 use Rattle.std.proofs.Common.{◌++◌}
-use Rattle.list_writing.specs.Pieces.{set_line_front}
+use Rattle.set_sending.specs.PiecesOfListWriting.{set_line_front}
 use Rattle.dump_sending.proofs.sets.begin_line.Goals as goal
 
 pub returns-in-Failed-clause-passes : goal.returns-in-Failed-clause-passes

@@ -1,6 +1,6 @@
 use Rattle.std.proofs.Common.{◌++◌}
 use Rattle.std.specs.Prelude.{false}
-use Rattle.list_writing.specs.Pieces.{set_line_front, set_line_rest, set_pieces}
+use Rattle.set_sending.specs.PiecesOfListWriting.{set_line_front, set_line_rest, set_pieces}
 use Rattle.set_sending.proofs.Passed.{regroup}
 use Rattle.dump_sending.proofs.sets.send_held.Goals as goal
 

@@ -2,8 +2,8 @@ use Rattle.std.proofs.Common.{◌+◌, ◌++◌, drop, arith}
 use Rattle.config_zones.proofs.Rest.{as_many, set_at}
 use Rattle.dump_sending.proofs.Lines.{all_lines, next_line}
 use Rattle.dump_sending.specs.Dumps.{sets_text}
-use Rattle.reply_model.specs.Dump.{set_line}
-use Rattle.zone_table.specs.Zones.{placed_in}
+use Rattle.dump_writing.specs.DumpOfReplyModel.{set_line}
+use Rattle.config_zones.specs.Zones.{placed_in}
 use Rattle.zone_model.specs.Placed.{sets_of}
 use Rattle.dump_sending.proofs.sets.send_sets.Goals as goal
 

@@ -2,7 +2,7 @@ use Rattle.std.proofs.Common.{◌≤◌, ℕ, List, ◌++◌, drop}
 use Rattle.std.specs.Prelude.{vec_capacity}
 use Rattle.dump_sending.specs.Dumps.{sets_text}
 use Rattle.set_sending.specs.Passing.{IsPassed}
-use Rattle.zone_table.specs.Zones.{placed_in}
+use Rattle.config_zones.specs.Zones.{placed_in}
 use Rattle.zone_model.specs.Placed.{sets_of}
 use Rattle.dump_sending.proofs.sets.send_sets.Given as goal
 

@@ -1,8 +1,8 @@
 use Rattle.std.proofs.Common.{◌++◌}
 use Rattle.dump_sending.specs.Dumps.{sets_text}
-use Rattle.reply_model.specs.Dump.{zone_line}
+use Rattle.dump_writing.specs.DumpOfReplyModel.{zone_line}
 use Rattle.set_sending.proofs.Passed.{regroup}
-use Rattle.zone_table.specs.Zones.{placed_in}
+use Rattle.config_zones.specs.Zones.{placed_in}
 use Rattle.zone_model.specs.Placed.{sets_of}
 use Rattle.dump_sending.proofs.zones.send_hosted.Goals as goal
 

@@ -1,5 +1,5 @@
 use Rattle.std.proofs.Common.{◌++◌}
-use Rattle.reply_model.specs.Dump.{zone_line}
+use Rattle.dump_writing.specs.DumpOfReplyModel.{zone_line}
 use Rattle.dump_sending.proofs.zones.send_name.Goals as goal
 
 pub returns-in-Failed-clause-passes : goal.returns-in-Failed-clause-passes

@@ -1,5 +1,5 @@
 use Rattle.std.proofs.Common.{◌++◌, arith}
-use Rattle.config_edits.specs.Laws.{hosted_in}
+use Rattle.config_zones.specs.Edited.{hosted_in}
 use Rattle.config_zones.specs.Walks.{above}
 use Rattle.dump_sending.proofs.Hosted.{all_zones, at_first, next_zone}
 use Rattle.dump_sending.specs.Dumps.{zones_text}

@@ -1,6 +1,6 @@
 use Rattle.std.proofs.Common.{◌≤◌, ◌-◌, ◌^◌, ℕ, List, ◌++◌}
 use Rattle.std.specs.Prelude.{vec_capacity}
-use Rattle.config_edits.specs.Laws.{hosted_in}
+use Rattle.config_zones.specs.Edited.{hosted_in}
 use Rattle.config_zones.specs.Walks.{above}
 use Rattle.dump_sending.specs.Dumps.{zones_text}
 use Rattle.set_sending.specs.Passing.{IsPassed}

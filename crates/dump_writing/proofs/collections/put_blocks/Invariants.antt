@@ -1,7 +1,7 @@
 use Rattle.std.proofs.Common.{◌≡◌, ◌+◌, ◌*◌, ◌≤◌, [], ◌∷◌, ◌++◌, drop, false, vec_capacity, vec_len}
 use Rattle.std.specs.Prelude.{map, nat_lt}
-use Rattle.reply_model.specs.Dump.{block_text}
-use Rattle.reply_model.specs.Json.{items_of}
+use Rattle.reply_words.specs.Dump.{block_text}
+use Rattle.reply_words.specs.Json.{items_of}
 use Rattle.dump_writing.proofs.collections.put_blocks.Given as goal
 use Rattle.serde_json.specs.Written.{items_text}
 

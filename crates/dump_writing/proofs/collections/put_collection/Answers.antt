@@ -3,8 +3,8 @@ use Rattle.json.specs.Print.{escape_byte, quoted}
 use Rattle.std.specs.Fmt.{decimal}
 use Rattle.std.specs.Prelude.{map}
 use Rattle.cidr_blocks.specs.declared.places.CidrLocation.{CidrLocation}
-use Rattle.reply_model.specs.Dump.{location_object}
-use Rattle.reply_model.specs.Json.{list_of}
+use Rattle.reply_words.specs.Dump.{location_object}
+use Rattle.reply_words.specs.Json.{list_of}
 use Rattle.serde_json.specs.Written.{compact_text}
 use Rattle.reply_words.proofs.Chains.{pieces_7}
 use Rattle.dump_writing.proofs.collections.put_collection.Goals as goal

@@ -2,8 +2,8 @@ use Rattle.std.proofs.Common.{◌≡◌, ℕ, List, codes, ◌++◌, subst}
 use Rattle.json.specs.Print.{escape_byte, quoted}
 use Rattle.std.specs.Prelude.{map}
 use Rattle.ip_table.specs.Prefixes.{Prefix}
-use Rattle.reply_model.specs.Dump.{block_text}
-use Rattle.reply_model.specs.Json.{list_of}
+use Rattle.reply_words.specs.Dump.{block_text}
+use Rattle.reply_words.specs.Json.{list_of}
 use Rattle.serde_json.specs.Written.{comma_if, compact_text}
 use Rattle.reply_words.proofs.Chains.{pieces_6}
 use Rattle.dump_writing.proofs.collections.put_location.Goals as goal

@@ -2,8 +2,8 @@ use Rattle.std.proofs.Common.{codes, ◌∷◌}
 use Rattle.json.specs.Print.{escape_byte, quoted, token_text}
 use Rattle.std.specs.Fmt.{decimal}
 use Rattle.json.specs.Token as token
-use Rattle.reply_model.specs.Json.{check_text}
-use Rattle.reply_model.specs.Json.{list_of}
+use Rattle.reply_words.specs.Json.{check_text}
+use Rattle.reply_words.specs.Json.{list_of}
 use Rattle.std.specs.Prelude.{map}
 use Rattle.serde_json.specs.Written.{compact_text}
 use Rattle.reply_words.proofs.Chains.{pieces_11}

@@ -1,6 +1,6 @@
 use Rattle.std.proofs.Common.{◌≡◌, ◌+◌, ◌*◌, ◌≤◌, [], ◌∷◌, ◌++◌, drop, false, vec_capacity, vec_len}
 use Rattle.std.specs.Prelude.{map, nat_lt}
-use Rattle.reply_model.specs.Json.{check_text, items_of}
+use Rattle.reply_words.specs.Json.{check_text, items_of}
 use Rattle.dump_writing.proofs.dump.put_children.Given as goal
 use Rattle.serde_json.specs.Written.{items_text}
 

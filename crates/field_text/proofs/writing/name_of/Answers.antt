@@ -1,5 +1,5 @@
 use Rattle.std.proofs.Common.{length, arith, ap, sym, ◌∙◌}
-use Rattle.dns_name.specs.Written.{text_of}
+use Rattle.rdata_layout.specs.Written.{text_of}
 use Rattle.field_text.proofs.Names.{begins, its_labels, text_size}
 use Rattle.field_text.proofs.writing.name_of.Goals as goal
 

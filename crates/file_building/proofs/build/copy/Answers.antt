@@ -1,6 +1,6 @@
 use Rattle.std.proofs.Common.{◌≡◌, ◌∙◌, Some, ap, subst, arith}
-use Rattle.r53_disk.specs.Disk.{written, WriteLeaves}
-use Rattle.r53_disk.proofs.Moments.{started, goes_on}
+use Rattle.gate_journal.specs.Disk.{written, WriteLeaves}
+use Rattle.gate_journal.proofs.Moments.{started, goes_on}
 use Rattle.file_building.specs.Building.{IsShut, Plan}
 use Rattle.file_building.proofs.Gates.{frees_shut, write_told}
 use Rattle.file_building.proofs.build.copy.Goals as goal

@@ -1,7 +1,7 @@
 use Rattle.std.proofs.Common.{◌⊎◌, ◌≡◌, inl, [], ◌∷◌, subst}
-use Rattle.r53_disk.specs.Disk.{written}
-use Rattle.r53_disk.specs.Synced.{Keeps}
-use Rattle.r53_disk.proofs.Moments.{joined}
+use Rattle.gate_journal.specs.Disk.{written}
+use Rattle.gate_journal.specs.Synced.{Keeps}
+use Rattle.gate_journal.proofs.Moments.{joined}
 use Rattle.file_building.specs.Building.{IsShut, gate_opened}
 use Rattle.file_building.proofs.Gates.{all_shut, written_shut, opening, keeps_told}
 use Rattle.file_building.proofs.build.open_file.Goals as goal

@@ -1,5 +1,5 @@
 use Rattle.std.proofs.Common.{◌∙◌, ◌-◌, length, drop, subst, arith, length-drop, length-take-le}
-use Rattle.r53_disk.specs.Disk.{GivesBytes}
+use Rattle.gate_journal.specs.Disk.{GivesBytes}
 use Rattle.file_building.proofs.PartLemmas.{end_read}
 use Rattle.file_building.proofs.parts.read_behind.Goals as goal
 

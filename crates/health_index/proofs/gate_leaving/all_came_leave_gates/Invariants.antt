@@ -1,6 +1,6 @@
 use Rattle.std.proofs.Common.{◌≡◌, ◌<◌, ℕ, Some}
 use Rattle.std.specs.Prelude.{slice_get}
-use Rattle.zone_table.specs.SetRefRecord.{SetRef}
+use Rattle.health_planning.specs.SetRefRecord.{SetRef}
 use Rattle.health_index.specs.Leaving.{CameLeavesGates}
 use Rattle.health_index.proofs.gate_leaving.all_came_leave_gates.Given as goal
 

@@ -1,5 +1,5 @@
 use Rattle.std.proofs.Common.{◌≡◌, Some, ap, sym, ◌∙◌}
-use Rattle.policy_select.proofs.Members.{one_named}
+use Rattle.health_planning.proofs.Members.{one_named}
 use Rattle.health_index.proofs.Bare.{by_members, to_members}
 use Rattle.health_index.proofs.gate_leaving.has_no_gate.Goals as goal
 

@@ -1,6 +1,6 @@
 use mathlib.Core.Path.{subst}
-use Rattle.policy_select.proofs.Members.{one_named}
-use Rattle.zone_table.specs.Looking.{Watches}
+use Rattle.health_planning.proofs.Members.{one_named}
+use Rattle.health_planning.specs.Looking.{Watches}
 use Rattle.health_index.specs.Leaving.{IsAsSeated}
 use Rattle.health_index.proofs.gate_leaving.is_as_seated.Goals as goal
 

@@ -1,6 +1,6 @@
 use Rattle.std.proofs.Common.{List, sym}
 use mathlib.Core.Path.{subst}
-use Rattle.zone_table.specs.SetRefRecord.{SetRef}
+use Rattle.health_planning.specs.SetRefRecord.{SetRef}
 use Rattle.health_index.specs.Leaving.{AllCameLeaveGates}
 use Rattle.health_index.proofs.gate_leaving.leaves_gates.Goals as goal
 

@@ -2,8 +2,8 @@ use Rattle.std.proofs.Common.{◌≡◌, Some, arith, refl, ap, sym, ◌∙◌, 
 use Rattle.std.specs.Prelude.{slice_get}
 use Rattle.std.proofs.lemmas.Bool.{cases_eq}
 use Rattle.std.proofs.lemmas.Option.{slice_get_within}
-use Rattle.policy_select.proofs.Noted.{few_members}
-use Rattle.policy_select.specs.Groups.{members_of}
+use Rattle.health_planning.proofs.Noted.{few_members}
+use Rattle.health_planning.specs.Groups.{members_of}
 use Rattle.zone_model.proofs.Among.{among_at, place_of}
 use Rattle.zone_model.specs.Placed.{Placed}
 use Rattle.health_planning.proofs.Groups.{member_at}

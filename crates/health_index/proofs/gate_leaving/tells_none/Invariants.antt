@@ -1,7 +1,7 @@
 use Rattle.std.proofs.Common.{◌≡◌, ◌<◌, ℕ, Some}
 use Rattle.std.specs.Prelude.{slice_get}
 use Rattle.health_planning.specs.Wired.{group_seat}
-use Rattle.policy_select.specs.Groups.{members_of}
+use Rattle.health_planning.specs.Groups.{members_of}
 use Rattle.zone_model.specs.Placed.{Placed}
 use Rattle.health_index.proofs.gate_leaving.tells_none.Given as goal
 

@@ -2,8 +2,8 @@ use Rattle.std.proofs.Common.{◌≡◌, length, arith, sym, refl, ◌∙◌, in
 use Rattle.std.proofs.lemmas.Bool.{cases_lt}
 use Rattle.std.proofs.lemmas.Option.{get_or_from_slice_get, slice_get_within}
 use mathlib.Core.Path.{subst}
-use Rattle.zone_table.specs.SetRefRecord.{SetRef}
-use Rattle.zone_table.specs.Looking.{Names}
+use Rattle.policy_select.specs.SetRefRecord.{SetRef}
+use Rattle.policy_select.specs.Looking.{Names}
 use Rattle.health_planning.specs.Building.{HasTarget}
 use Rattle.health_planning.proofs.Grouped.{target_on}
 use Rattle.health_planning.proofs.Roomy.{can_start}

@@ -4,8 +4,8 @@ use Rattle.health_gates.specs.Plan.{KeepsRoom, feeders_in}
 use Rattle.health_gates.specs.declared.plan.Shape.{Shape}
 use Rattle.record_set.specs.declared.sets.Body.TheVariants.{Alias}
 use Rattle.record_set.specs.declared.sets.RecordSet.{RecordSet}
-use Rattle.zone_table.specs.SetRefRecord.{SetRef}
-use Rattle.zone_table.specs.Looking.{Names}
+use Rattle.policy_select.specs.SetRefRecord.{SetRef}
+use Rattle.policy_select.specs.Looking.{Names}
 use Rattle.health_planning.specs.Building.{AreBelow, AreWithin, HasTarget, SameSets}
 use Rattle.health_planning.specs.Rooms.{CanGroup}
 use Rattle.health_planning.proofs.grouping.group_all.Given as goal

@@ -6,9 +6,9 @@ use Rattle.health_gates.specs.declared.plan.Link.{Link}
 use Rattle.policy_select.proofs.Members.{one_named}
 use Rattle.policy_select.specs.Groups.{members_of}
 use Rattle.record_set.specs.declared.sets.RecordSet.{RecordSet}
-use Rattle.set_scratch.specs.Telling.{evaluates, target_of}
+use Rattle.policy_select.specs.Telling.{evaluates, target_of}
 use Rattle.zone_model.proofs.Among.{among_at}
-use Rattle.zone_table.specs.Looking.{Targets, Watches}
+use Rattle.policy_select.specs.Looking.{Targets, Watches}
 use Rattle.health_planning.specs.Building.{group_shape, links_to}
 use Rattle.health_planning.specs.Wired.{gates_of, group_seat, plain_among}
 use Rattle.health_planning.specs.declared.seats.Seat.{Seat}

@@ -2,7 +2,7 @@ use Rattle.std.proofs.Common.{ap, ◌∙◌}
 use mathlib.Core.Path.{subst}
 use Rattle.policy_select.proofs.Members.{one_named}
 use Rattle.record_set.specs.declared.sets.RecordSet.{RecordSet}
-use Rattle.zone_table.specs.Looking.{Watches}
+use Rattle.policy_select.specs.Looking.{Watches}
 use Rattle.health_planning.proofs.joining.check_of.Goals as goal
 
 pub returns-in-Some : goal.returns-in-Some

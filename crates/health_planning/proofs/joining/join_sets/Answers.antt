@@ -5,8 +5,8 @@ use Rattle.std.proofs.lemmas.Option.{slice_get-get_or, slice_get_within}
 use mathlib.Core.Path.{subst}
 use Rattle.health_gates.specs.Plan.{feeders_in}
 use Rattle.health_gates.specs.declared.plan.Link.{Link}
-use Rattle.zone_table.specs.SetRefRecord.{SetRef}
-use Rattle.zone_table.specs.Looking.{Names}
+use Rattle.policy_select.specs.SetRefRecord.{SetRef}
+use Rattle.policy_select.specs.Looking.{Names}
 use Rattle.health_planning.specs.Building.{FeedsSet, links_to}
 use Rattle.health_planning.proofs.Feeding.{fed_beside, fed_here, set_within}
 use Rattle.health_planning.proofs.Grouped.{to_within, within_more}

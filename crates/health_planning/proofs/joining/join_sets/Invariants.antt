@@ -2,8 +2,8 @@ use Rattle.std.proofs.Common.{◌≡◌, ◌≤◌, ◌<◌, ◌+◌, ◌*◌, �
 use Rattle.std.specs.Prelude.{slice_get}
 use Rattle.health_gates.specs.Plan.{KeepsRoom, feeders_in}
 use Rattle.record_set.specs.declared.sets.RecordSet.{RecordSet}
-use Rattle.zone_table.specs.SetRefRecord.{SetRef}
-use Rattle.zone_table.specs.Looking.{Names}
+use Rattle.policy_select.specs.SetRefRecord.{SetRef}
+use Rattle.policy_select.specs.Looking.{Names}
 use Rattle.health_planning.specs.Building.{AreWithin, FeedsSet}
 use Rattle.health_planning.proofs.joining.join_sets.Given as goal
 use Rattle.health_planning.specs.Wired.{group_seat}

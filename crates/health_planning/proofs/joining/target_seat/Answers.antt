@@ -3,8 +3,8 @@ use mathlib.Core.Path.{subst}
 use Rattle.policy_select.proofs.Members.{one_named}
 use Rattle.policy_select.specs.Groups.{members_of}
 use Rattle.record_set.specs.declared.sets.RecordSet.{RecordSet}
-use Rattle.set_scratch.specs.Telling.{evaluates, target_of}
-use Rattle.zone_table.specs.Looking.{Targets, Watches}
+use Rattle.policy_select.specs.Telling.{evaluates, target_of}
+use Rattle.policy_select.specs.Looking.{Targets, Watches}
 use Rattle.health_planning.proofs.Groups.{member_at, members_are}
 use Rattle.health_planning.proofs.Joined.{not_on, no_target, that_target}
 use Rattle.health_planning.proofs.ListedOnce.{slot_below}

@@ -2,7 +2,7 @@ use Rattle.std.proofs.Common.{ap, sym, refl, ◌∙◌, length, length-set, arit
 use mathlib.Core.Path.{subst}
 use Rattle.std.proofs.lemmas.Bool.{false≢true}
 use Rattle.policy_select.proofs.Members.{one_named}
-use Rattle.zone_table.specs.Looking.{Watches}
+use Rattle.policy_select.specs.Looking.{Watches}
 use Rattle.health_planning.specs.Wired.{is_watched}
 use Rattle.health_planning.proofs.ListedOnce.{last_at, listed_already, listed_more, seat_is, still_at}
 use Rattle.health_planning.proofs.Roomy.{one_more, room_listed}

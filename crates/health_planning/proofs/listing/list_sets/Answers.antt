@@ -1,11 +1,11 @@
 use Rattle.std.proofs.Common.{◌≡◌, arith, refl, ◌∙◌, inl, inr}
 use mathlib.Core.Path.{subst}
 use Rattle.std.proofs.lemmas.Bool.{cases_lt}
-use Rattle.zone_table.specs.Changes.{ref_in}
-use Rattle.zone_table.specs.FoundZones.{NextZoneOrNone}
+use Rattle.policy_select.specs.Changes.{ref_in}
+use Rattle.policy_select.specs.Found.{NextZoneOrNone}
 use Rattle.health_planning.proofs.ListedOnce.{its_zone, up_to}
-use Rattle.zone_table.proofs.Members.{in_all}
-use Rattle.zone_table.specs.Zones.{StandsAlone}
+use Rattle.policy_select.proofs.MembersOfZoneList.{in_all}
+use Rattle.policy_select.specs.Zones.{StandsAlone}
 use Rattle.health_planning.proofs.listing.list_sets.Goals as goal
 
 pub loop-next-init : goal.loop-next-init

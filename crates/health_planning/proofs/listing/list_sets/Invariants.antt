@@ -5,9 +5,9 @@ use Rattle.health_gates.specs.declared.plan.Shape.{Shape}
 use Rattle.health_planning.specs.Building.{AreListed, IsListed}
 use Rattle.health_planning.specs.Rooms.{HasListRoom}
 use Rattle.health_planning.specs.Wired.{is_watched}
-use Rattle.zone_table.specs.Changes.{ref_in}
-use Rattle.zone_table.specs.Zones.{placed_in}
-use Rattle.zone_table.specs.SetRefRecord.{SetRef}
+use Rattle.policy_select.specs.Changes.{ref_in}
+use Rattle.policy_select.specs.Zones.{placed_in}
+use Rattle.policy_select.specs.SetRefRecord.{SetRef}
 use Rattle.zone_model.specs.Placed.{IsHere, Placed}
 use Rattle.health_planning.proofs.listing.list_sets.Given as goal
 

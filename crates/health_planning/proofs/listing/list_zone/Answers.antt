@@ -1,11 +1,11 @@
 use Rattle.std.proofs.Common.{◌≡◌, arith, ap, sym, ◌∙◌, inl, inr}
 use mathlib.Core.Path.{subst}
 use Rattle.std.proofs.lemmas.Bool.{cases_lt}
-use Rattle.zone_table.specs.Changes.{ref_in}
+use Rattle.policy_select.specs.Changes.{ref_in}
 use Rattle.zone_model.proofs.Among.{place_of}
 use Rattle.std.proofs.lemmas.Option.{slice_get_within}
-use Rattle.zone_table.specs.Zones.{placed_in}
-use Rattle.zone_table.specs.Looking.{IsSetAt}
+use Rattle.policy_select.specs.Zones.{placed_in}
+use Rattle.policy_select.specs.Looking.{IsSetAt}
 use Rattle.health_planning.specs.Building.{IsListed}
 use Rattle.health_planning.specs.Wired.{is_watched}
 use Rattle.health_planning.proofs.ListedOnce.{slot_below, told_at}

@@ -2,9 +2,9 @@ use Rattle.std.proofs.Common.{refl, subst, sym}
 use Rattle.line_server.proofs.Asked.{replied}
 use Rattle.line_server.specs.Replying.{Observed}
 use Rattle.serve_turns.specs.Stores.{StandsFor}
-use Rattle.reply_model.specs.Outcomes.{text_of}
-use Rattle.reply_model.specs.declared.outcomes.Outcome.{Outcome}
-use Rattle.session_model.specs.Replies.{report_outcome}
+use Rattle.reply_sending.specs.Outcomes.{text_of}
+use Rattle.reply_sending.specs.OutcomeRecord.{Outcome}
+use Rattle.serve_turns.specs.Replies.{report_outcome}
 use Rattle.whole_writing.specs.Output.{OutputOf}
 use Rattle.line_server.proofs.asking.observe.Goals as goal
 

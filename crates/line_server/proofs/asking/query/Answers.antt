@@ -1,9 +1,9 @@
 use Rattle.std.proofs.Common.{inl, refl, subst, sym, List, ℕ, None, Some, ◌⊎◌}
-use Rattle.engine_model.specs.Engine.{QueryGives}
+use Rattle.serve_turns.specs.Engine.{QueryGives}
 use Rattle.line_server.proofs.Asked.{replied_or_not}
 use Rattle.line_server.specs.Replying.{Answered}
 use Rattle.serve_turns.specs.Stores.{StandsFor, State as Store}
-use Rattle.session_model.specs.Replies.{memory_text, query_text}
+use Rattle.serve_turns.specs.Replies.{memory_text, query_text}
 use Rattle.whole_writing.specs.Output.{OutputOf}
 use Rattle.line_server.proofs.asking.query.Goals as goal
 

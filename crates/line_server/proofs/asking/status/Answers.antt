@@ -3,9 +3,9 @@ use Rattle.health_model.specs.Statuses.{status_told}
 use Rattle.line_server.proofs.Asked.{replied}
 use Rattle.line_server.specs.Replying.{Told}
 use Rattle.serve_turns.specs.Stores.{StandsFor}
-use Rattle.reply_model.specs.Outcomes.{text_of}
-use Rattle.reply_model.specs.declared.outcomes.Outcome.{Outcome}
-use Rattle.session_model.specs.Replies.{status_outcome}
+use Rattle.reply_sending.specs.Outcomes.{text_of}
+use Rattle.reply_sending.specs.OutcomeRecord.{Outcome}
+use Rattle.serve_turns.specs.Replies.{status_outcome}
 use Rattle.whole_writing.specs.Output.{OutputOf}
 use Rattle.line_server.proofs.asking.status.Goals as goal
 

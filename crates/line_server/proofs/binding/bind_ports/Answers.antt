@@ -1,10 +1,10 @@
 use Rattle.std.proofs.Common.{◌≡◌, ◌∙◌, List, Option, Some, ap, subst, sym, Bool, ℕ, true}
-use Rattle.batch_json.specs.declared.asking.Line.TheVariants as line
+use Rattle.serve_turns.specs.LineRecord.TheVariants as line
 use Rattle.line_server.proofs.Network.{already, bound, came}
 use Rattle.line_server.specs.Leaving.{CameTo}
 use Rattle.line_server.specs.Standing.{IsBound}
-use Rattle.session_model.specs.Serving.{Datagram}
-use Rattle.session_model.specs.Steps.{LineSteps}
+use Rattle.serve_turns.specs.ServingOfSessionModel.{Datagram}
+use Rattle.serve_turns.specs.Steps.{LineSteps}
 use Rattle.line_server.proofs.binding.bind_ports.Goals as goal
 
 pub returns-then-bound-clause-leaves : goal.returns-then-bound-clause-leaves

@@ -1,12 +1,12 @@
 use Rattle.std.proofs.Common.{◌∙◌, subst, sym, Bool, []}
-use Rattle.batch_json.specs.declared.asking.Line.TheVariants as line
+use Rattle.serve_turns.specs.LineRecord.TheVariants as line
 use Rattle.line_server.proofs.Network.{as_told, came, not_bound, part, served}
 use Rattle.line_server.specs.Leaving.{CameTo, TurnsInPart}
 use Rattle.line_server.specs.Standing.{IsServed}
 use Rattle.serve_turns.specs.Stores.{StandsFor}
 use Rattle.serve_turns.specs.declared.serving.Served.TheVariants as answer
-use Rattle.session_model.specs.Serving.{none}
-use Rattle.session_model.specs.Steps.{LineSteps}
+use Rattle.serve_turns.specs.ServingOfSessionModel.{none}
+use Rattle.serve_turns.specs.Steps.{LineSteps}
 use Rattle.whole_writing.specs.declared.output.Output.TheVariants as output
 use Rattle.line_server.proofs.binding.take_turns.Goals as goal
 

@@ -1,14 +1,14 @@
 use Rattle.std.proofs.Common.{◌≡◌, ◌∙◌, Result, subst, sym}
 use Rattle.std.proofs.lemmas.Bool.{false≢true}
-use Rattle.config_model.specs.declared.refusals.Made.{Made}
-use Rattle.config_model.specs.declared.refusals.Refusal.{Refusal}
+use Rattle.reply_sending.specs.MadeRecord.{Made}
+use Rattle.reply_sending.specs.RefusalRecord.{Refusal}
 use Rattle.line_server.proofs.Commands.{at_fault, commanded, leaves, made, torn}
 use Rattle.line_server.specs.Leaving.{StoreLeaves}
 use Rattle.line_server.specs.Replying.{Commanded}
 use Rattle.line_server.specs.declared.answers.Taken.{Taken}
 use Rattle.serve_turns.specs.Stores.{CommandGives, StandsFor}
-use Rattle.reply_model.specs.Outcomes.{text_of}
-use Rattle.reply_model.specs.declared.outcomes.Outcome.{Outcome}
+use Rattle.reply_sending.specs.Outcomes.{text_of}
+use Rattle.reply_sending.specs.OutcomeRecord.{Outcome}
 use Rattle.whole_writing.specs.Output.{OutputOf}
 use Rattle.line_server.proofs.commanding.control.Goals as goal
 

@@ -1,16 +1,16 @@
 use Rattle.std.proofs.Common.{◌≡◌, None, ◌∙◌, subst, sym}
 use Rattle.std.proofs.lemmas.Bool.{false≢true}
 use Rattle.serve_turns.specs.Journaled.{config_of}
-use Rattle.engine_model.specs.declared.answers.Compacted.{Compacted}
+use Rattle.serve_turns.specs.CompactedRecord.{Compacted}
 use Rattle.line_server.proofs.Commands.{leaves, now}
 use Rattle.line_server.proofs.Compactions.{at_fault, made, stood, torn}
 use Rattle.line_server.specs.Leaving.{StoreLeaves}
 use Rattle.line_server.specs.Replying.{Compacts}
 use Rattle.line_server.specs.declared.answers.Taken.{Taken}
 use Rattle.serve_turns.specs.Stores.{CompactionGives, StandsFor}
-use Rattle.reply_model.specs.Outcomes.{text_of}
-use Rattle.reply_model.specs.declared.outcomes.Outcome.{Outcome}
-use Rattle.store_model.specs.Opening.{OpensConfig}
+use Rattle.reply_sending.specs.Outcomes.{text_of}
+use Rattle.reply_sending.specs.OutcomeRecord.{Outcome}
+use Rattle.serve_turns.specs.Opening.{OpensConfig}
 use Rattle.whole_writing.specs.Output.{OutputOf}
 use Rattle.line_server.proofs.compacting.compact.Goals as goal
 

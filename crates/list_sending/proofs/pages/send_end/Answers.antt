@@ -1,5 +1,5 @@
 use Rattle.std.proofs.Common.{[], ◌++◌}
-use Rattle.list_writing.specs.Pieces.{list_rest}
+use Rattle.set_sending.specs.PiecesOfListWriting.{list_rest}
 use Rattle.list_sending.proofs.pages.send_end.Goals as goal
 
 pub returns-in-Failed-clause-writes : goal.returns-in-Failed-clause-writes

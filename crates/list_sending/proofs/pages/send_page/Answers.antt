@@ -1,7 +1,7 @@
 use Rattle.std.proofs.Common.{[], ◌++◌}
-use Rattle.list_writing.specs.Pieces.{list_rest}
-use Rattle.reply_model.specs.Json.{line_of}
-use Rattle.reply_model.specs.Paging.{page_reply}
+use Rattle.set_sending.specs.PiecesOfListWriting.{list_rest}
+use Rattle.page_laws.specs.Json.{line_of}
+use Rattle.page_laws.specs.Paging.{page_reply}
 use Rattle.list_sending.proofs.Paged.{page_text}
 use Rattle.set_sending.proofs.Passed.{begun}
 use Rattle.list_sending.specs.Pages.{sets_in, start_of}

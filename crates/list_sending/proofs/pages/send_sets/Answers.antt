@@ -1,8 +1,8 @@
 use Rattle.std.proofs.Common.{◌+◌, ◌++◌, drop, take, arith}
 use Rattle.std.specs.Prelude.{true}
 use Rattle.std.proofs.lemmas.List.{length-map}
-use Rattle.list_writing.specs.Pieces.{set_pieces, sets_pieces}
-use Rattle.zone_table.specs.Zones.{placed_in}
+use Rattle.set_sending.specs.PiecesOfListWriting.{set_pieces, sets_pieces}
+use Rattle.config_zones.specs.Zones.{placed_in}
 use Rattle.list_sending.specs.Pages.{sets_in}
 use Rattle.list_sending.proofs.Next.{next_set, set_at}
 use Rattle.set_sending.proofs.Passed.{first_next}

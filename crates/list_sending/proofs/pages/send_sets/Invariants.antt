@@ -1,6 +1,6 @@
 use Rattle.std.proofs.Common.{◌≤◌, ℕ, List, ◌++◌, drop, take}
 use Rattle.std.specs.Prelude.{false, vec_capacity}
-use Rattle.list_writing.specs.Pieces.{sets_pieces}
+use Rattle.set_sending.specs.PiecesOfListWriting.{sets_pieces}
 use Rattle.list_sending.specs.Pages.{sets_in}
 use Rattle.set_sending.specs.Passing.{IsPassed}
 use Rattle.list_sending.proofs.pages.send_sets.Given as goal

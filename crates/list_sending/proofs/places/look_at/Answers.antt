@@ -1,7 +1,7 @@
 use Rattle.std.proofs.Common.{sym, ◌∙◌, arith}
 use Rattle.set_search.proofs.Lookups.{filled, high_down, low_up}
 use Rattle.set_search.specs.declared.bounds.Bound.TheVariants.{From}
-use Rattle.zone_table.proofs.Holding.{kept_in}
+use Rattle.config_zones.proofs.Holding.{kept_in}
 use Rattle.list_sending.specs.Pages.{sets_in}
 use Rattle.list_sending.proofs.places.look_at.Goals as goal
 

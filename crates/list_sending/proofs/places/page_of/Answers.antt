@@ -1,6 +1,6 @@
 use Rattle.std.proofs.Common.{◌+◌, arith, subst, sym, ◌∙◌}
 use Rattle.std.proofs.lemmas.List.{length-map}
-use Rattle.zone_table.specs.Zones.{placed_in}
+use Rattle.config_zones.specs.Zones.{placed_in}
 use Rattle.list_sending.proofs.Paged.{page_of_rest, page_within}
 use Rattle.list_sending.specs.Pages.{IsPage, sets_in, start_of}
 use Rattle.list_sending.proofs.places.page_of.Goals as goal

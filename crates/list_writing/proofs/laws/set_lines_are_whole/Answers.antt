@@ -1,8 +1,8 @@
 use Rattle.std.proofs.Common.{◌++◌, [], ◌∷◌, ap, append_assoc, codes, false, sym, ◌∙◌}
 use Rattle.json.specs.Print.{escape_byte}
-use Rattle.reply_model.specs.Dump.{set_line}
-use Rattle.reply_model.specs.Json.{line_of}
-use Rattle.reply_model.specs.Sets.{set_object}
+use Rattle.reply_words.specs.Dump.{set_line}
+use Rattle.reply_words.specs.Json.{line_of}
+use Rattle.reply_words.specs.Sets.{set_object}
 use Rattle.list_writing.proofs.Members.{set_is_whole}
 use Rattle.list_writing.proofs.laws.set_lines_are_whole.Goals as goal
 use Rattle.list_writing.specs.Pieces.{set_line_front, set_line_rest}

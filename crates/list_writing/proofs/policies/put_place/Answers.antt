@@ -1,7 +1,7 @@
 use Rattle.std.proofs.Common.{codes}
 use Rattle.json.specs.Print.{escape_byte}
-use Rattle.reply_model.specs.Json.{object_of}
-use Rattle.reply_model.specs.Sets.{place_fields}
+use Rattle.reply_words.specs.Json.{object_of}
+use Rattle.reply_words.specs.Sets.{place_fields}
 use Rattle.serde_json.specs.Written.{compact_text}
 use Rattle.reply_words.proofs.Chains.{pieces_3}
 use Rattle.list_writing.proofs.policies.put_place.Goals as goal

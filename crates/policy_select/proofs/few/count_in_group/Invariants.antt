@@ -1,5 +1,5 @@
 use Rattle.std.proofs.Common.{◌≡◌, ◌≤◌, length, take}
-use Rattle.zone_model.specs.Zones.{group}
+use Rattle.zone_table.specs.Sets.{group}
 use Rattle.policy_select.proofs.few.count_in_group.Given as goal
 
 abbrev pub invariant-loop-set : goal.invariant-loop-set

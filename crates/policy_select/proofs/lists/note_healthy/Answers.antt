@@ -1,5 +1,5 @@
 use Rattle.std.proofs.Common.{arith}
-use Rattle.zone_model.specs.Placed.{Placed}
+use Rattle.zone_table.specs.Placed.{Placed}
 use Rattle.policy_select.specs.Groups.{flags_in, members_of}
 use Rattle.policy_select.proofs.Noted.{all_noted, few_members, noted_more}
 use Rattle.policy_select.proofs.lists.note_healthy.Goals as goal

@@ -1,6 +1,6 @@
 use Rattle.std.proofs.Common.{◌≡◌, take}
-use Rattle.choice_model.specs.Choice.{each}
-use Rattle.choice_model.specs.Policies.{place_of}
+use Rattle.answer_model.specs.Choice.{each}
+use Rattle.answer_model.specs.Policies.{place_of}
 use Rattle.policy_select.specs.Groups.{sets_in}
 use Rattle.policy_select.proofs.lists.note_places.Given as goal
 

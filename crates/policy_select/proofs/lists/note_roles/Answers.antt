@@ -1,8 +1,8 @@
 use Rattle.std.proofs.Common.{arith, refl}
 use Rattle.std.specs.Option.{unwrap_or}
-use Rattle.choice_model.specs.Choice.{each}
-use Rattle.choice_model.specs.Policies.{role_of}
-use Rattle.record_set.specs.declared.sets.RecordSet.{RecordSet}
+use Rattle.answer_model.specs.Choice.{each}
+use Rattle.answer_model.specs.Policies.{role_of}
+use Rattle.zone_table.specs.RecordSetRecord.{RecordSet}
 use Rattle.policy_select.specs.Groups.{sets_in}
 use Rattle.policy_select.proofs.Noted.{all_noted, few_sets, noted_more, said_at}
 use Rattle.policy_select.proofs.lists.note_roles.Goals as goal

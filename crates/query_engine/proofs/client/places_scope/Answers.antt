@@ -1,6 +1,6 @@
 use Rattle.std.proofs.Common.{◌∙◌, ap, sym}
 use Rattle.std.specs.Prelude.{cond}
-use Rattle.answer_model.specs.Location.{scope_in}
+use Rattle.zone_lookup.specs.Location.{scope_in}
 use Rattle.query_engine.proofs.client.places_scope.Goals as goal
 
 pub returns-then-is_used : goal.returns-then-is_used

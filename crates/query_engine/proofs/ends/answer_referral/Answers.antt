@@ -1,6 +1,6 @@
 use Rattle.std.proofs.Common.{refl}
-use Rattle.answer_model.specs.Sections.{referral}
-use Rattle.policy_select.specs.Groups.{sets_in_zone}
+use Rattle.zone_lookup.specs.Sections.{referral}
+use Rattle.reply_records.specs.Groups.{sets_in_zone}
 use Rattle.query_engine.proofs.Added.{authorities_and_more}
 use Rattle.query_engine.proofs.ends.answer_referral.Goals as goal
 

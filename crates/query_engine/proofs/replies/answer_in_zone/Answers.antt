@@ -1,14 +1,14 @@
 use Rattle.std.proofs.Common.{◌∙◌, ap, arith, refl, subst}
 use Rattle.address_text.specs.declared.address.IpAddress.{IpAddress}
-use Rattle.answer_model.specs.Clients.{client_address, client_at}
-use Rattle.answer_model.specs.Descent.{no_choices}
-use Rattle.answer_model.specs.Reply.{told_scope}
-use Rattle.answer_model.specs.Sections.{look_up, sections}
-use Rattle.answer_model.specs.declared.used.Used.{Used}
+use Rattle.zone_lookup.specs.Clients.{client_address, client_at}
+use Rattle.zone_lookup.specs.Descent.{no_choices}
+use Rattle.zone_lookup.specs.Reply.{told_scope}
+use Rattle.zone_lookup.specs.Sections.{look_up, sections}
+use Rattle.zone_lookup.specs.UsedRecord.{Used}
 use Rattle.dns_message.specs.Whole.{subnet_of}
 use Rattle.dns_wire.specs.Draft.{reply_to}
 use Rattle.dns_wire.specs.Limit.{limit_of}
-use Rattle.policy_select.specs.Groups.{by_key}
+use Rattle.reply_records.specs.Groups.{by_key}
 use Rattle.query_engine.specs.Adding.{with_sections}
 use Rattle.query_engine.specs.Asking.{Leaves, asked_of}
 use Rattle.query_engine.proofs.Finishing.{finished, found_inside}

@@ -1,10 +1,10 @@
 use Rattle.std.proofs.Common.{◌≡◌, arith, false, refl, rules, subst, sym, List, ℕ, ◌∷◌}
 use Rattle.std.proofs.Common.{[]}
-use Rattle.answer_model.specs.Sections.{Sections, is_zone}
-use Rattle.answer_model.specs.Zones.{zone_for}
+use Rattle.zone_lookup.specs.Sections.{Sections, is_zone}
+use Rattle.zone_lookup.specs.Zones.{zone_for}
 use Rattle.dns_wire.specs.Draft.{Draft}
 use Rattle.dns_wire.specs.declared.reply.Section.TheVariants.{Answer}
-use Rattle.policy_select.specs.Groups.{by_key}
+use Rattle.reply_records.specs.Groups.{by_key}
 use Rattle.rdata_layout.specs.declared.types.RType.TheVariants as rtype
 use Rattle.reply_records.specs.Writing.{IsOpen, Writes}
 use Rattle.query_engine.specs.Asking.{Leaves, asked_of, choices_of}

@@ -1,11 +1,11 @@
 use Rattle.std.proofs.Common.{◌∙◌, ap, subst, sym}
 use Rattle.std.specs.Prelude.{slice_get}
-use Rattle.answer_model.specs.Descent.{descend}
-use Rattle.answer_model.specs.Records.{answer_records}
-use Rattle.answer_model.specs.Sections.{ends, no_data}
-use Rattle.policy_select.specs.Groups.{sets_in, sets_in_zone}
-use Rattle.policy_select.specs.Selecting.{HoldsFirst, selected_sets}
-use Rattle.policy_select.specs.declared.selection.Selected.{Selected}
+use Rattle.zone_lookup.specs.Descent.{descend}
+use Rattle.zone_lookup.specs.Records.{answer_records}
+use Rattle.zone_lookup.specs.Sections.{ends, no_data}
+use Rattle.reply_records.specs.Groups.{sets_in, sets_in_zone}
+use Rattle.reply_records.specs.Selecting.{HoldsFirst, selected_sets}
+use Rattle.reply_records.specs.SelectedRecord.{Selected}
 use Rattle.query_engine.specs.Asking.{asked_of, choices_of}
 use Rattle.query_engine.proofs.Stepping.{asked_nothing, asked_some, zone_gives}
 use Rattle.query_engine.proofs.steps.answer_group.Goals as goal

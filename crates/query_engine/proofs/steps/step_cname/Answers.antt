@@ -1,9 +1,9 @@
 use Rattle.std.proofs.Common.{◌∙◌, ap, refl, subst, ℕ}
-use Rattle.answer_model.specs.Descent.{descend}
-use Rattle.answer_model.specs.Sections.{no_data}
+use Rattle.zone_lookup.specs.Descent.{descend}
+use Rattle.zone_lookup.specs.Sections.{no_data}
 use Rattle.dns_name.specs.Stored.{labels_of}
-use Rattle.policy_select.specs.Groups.{by_key, sets_in, sets_in_zone}
-use Rattle.policy_select.specs.Selecting.{selected_sets}
+use Rattle.reply_records.specs.Groups.{by_key, sets_in, sets_in_zone}
+use Rattle.reply_records.specs.Selecting.{selected_sets}
 use Rattle.rdata_layout.specs.Layout.{IsLayout}
 use Rattle.rdata_layout.specs.declared.types.RType.{RType}
 use Rattle.rdata_layout.specs.declared.types.RType.TheVariants as rtype

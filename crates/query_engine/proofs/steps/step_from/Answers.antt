@@ -1,7 +1,7 @@
 use Rattle.std.proofs.Common.{◌<◌, ◌∙◌, ap, arith, length, subst, sym, List}
-use Rattle.answer_model.specs.Descent.{descend}
-use Rattle.answer_model.specs.Sections.{asked as answered, asked_group}
-use Rattle.policy_select.proofs.Targets.{as_many}
+use Rattle.zone_lookup.specs.Descent.{descend}
+use Rattle.zone_lookup.specs.Sections.{asked as answered, asked_group}
+use Rattle.reply_records.proofs.Targets.{as_many}
 use Rattle.rdata_layout.specs.declared.types.RType.TheVariants as rtype
 use Rattle.record_set.specs.declared.sets.RecordSet.{RecordSet}
 use Rattle.zone_model.specs.Zones.{group}

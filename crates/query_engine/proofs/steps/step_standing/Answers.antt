@@ -1,6 +1,6 @@
 use Rattle.std.proofs.Common.{◌∙◌, ap, subst, sym, List, Option, ℕ}
-use Rattle.answer_model.specs.Sections.{Step, nxdomain, referral, step_below, step_from}
-use Rattle.policy_select.specs.Groups.{sets_in_zone}
+use Rattle.zone_lookup.specs.Sections.{Step, nxdomain, referral, step_below, step_from}
+use Rattle.reply_records.specs.Groups.{sets_in_zone}
 use Rattle.record_set.specs.declared.sets.RecordSet.{RecordSet}
 use Rattle.query_engine.specs.Asking.{Comes, Leaves, asked_of, choices_of}
 use Rattle.query_engine.proofs.Stepping.{first_set}

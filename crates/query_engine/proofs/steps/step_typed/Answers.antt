@@ -1,9 +1,9 @@
 use Rattle.std.proofs.Common.{◌<◌, ◌∙◌, ap, arith, length, subst, sym, List, Option, ℕ}
-use Rattle.answer_model.specs.Descent.{descend}
-use Rattle.answer_model.specs.Sections.{asked as answered, asked_group, referral, step_below}
-use Rattle.answer_model.specs.Sections.{step_from}
-use Rattle.policy_select.proofs.Targets.{as_many}
-use Rattle.policy_select.specs.Groups.{sets_in_zone}
+use Rattle.zone_lookup.specs.Descent.{descend}
+use Rattle.zone_lookup.specs.Sections.{asked as answered, asked_group, referral, step_below}
+use Rattle.zone_lookup.specs.Sections.{step_from}
+use Rattle.reply_records.proofs.Targets.{as_many}
+use Rattle.reply_records.specs.Groups.{sets_in_zone}
 use Rattle.rdata_layout.specs.declared.types.RType.TheVariants as rtype
 use Rattle.record_set.specs.declared.sets.RecordSet.{RecordSet}
 use Rattle.zone_model.specs.Zones.{group}

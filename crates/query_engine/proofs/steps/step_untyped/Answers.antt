@@ -1,7 +1,7 @@
 use Rattle.std.proofs.Common.{subst, sym, List}
-use Rattle.answer_model.specs.Sections.{step_of}
-use Rattle.policy_select.proofs.Targets.{of_its_type}
-use Rattle.policy_select.specs.Groups.{sets_in_zone}
+use Rattle.zone_lookup.specs.Sections.{step_of}
+use Rattle.reply_records.proofs.Targets.{of_its_type}
+use Rattle.reply_records.specs.Groups.{sets_in_zone}
 use Rattle.rdata_layout.specs.declared.types.RType.TheVariants as rtype
 use Rattle.record_set.specs.declared.sets.RecordSet.{RecordSet}
 use Rattle.zone_model.specs.Zones.{IsAmong}

@@ -1,4 +1,4 @@
-use Rattle.config_zones.specs.Configured.{config_of}
+use Rattle.zone_commands.specs.Configured.{config_of}
 use Rattle.r53_state.proofs.Working.{accepted_for, only_for, some_for}
 use Rattle.r53_state.proofs.editing.work_for.Goals as goal
 

@@ -1,5 +1,5 @@
 use Rattle.std.proofs.Common.{◌++◌, length, take, arith, rules, ap, ◌∙◌, sym, length-append, length-take, subst}
-use Rattle.rdata_layout.specs.declared.fields.Field.TheVariants.{Ipv4}
+use Rattle.field_text.specs.FieldRecord.TheVariants.{Ipv4}
 use Rattle.rdata.specs.Steps.{Passes}
 use Rattle.rdata.proofs.Progress.{passes, meets_other, meets_none, drop_all}
 use Rattle.rdata.proofs.reading.read_fields.Goals as goal

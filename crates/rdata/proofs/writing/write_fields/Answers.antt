@@ -1,9 +1,9 @@
 use Rattle.std.proofs.Common.{◌≡◌, ◌+◌, ◌++◌, arith, rules, ap, sym, ◌∙◌, get_or, length, take, drop, subst}
-use Rattle.rdata_layout.specs.declared.fields.Field.TheVariants.{Ipv4}
-use Rattle.rdata_layout.specs.Layout.{AreFields}
+use Rattle.field_text.specs.FieldRecord.TheVariants.{Ipv4}
+use Rattle.field_text.specs.Layout.{AreFields}
 use Rattle.field_text.specs.Written.{text_of_field}
 use Rattle.rdata.specs.Written.{field_texts, separated, joined_from}
-use Rattle.rdata_layout.specs.Fields.{field_size}
+use Rattle.field_text.specs.Fields.{field_size}
 use Rattle.rdata.proofs.Placing.{drop_on}
 use Rattle.rdata.proofs.Fronts.{field_there}
 use Rattle.rdata.proofs.writing.write_fields.Goals as goal

@@ -1,7 +1,7 @@
 use Rattle.std.proofs.Common.{◌≡◌, ℕ, ◌*◌, ◌≤◌, List, [], length, take, drop}
-use Rattle.rdata_layout.specs.declared.fields.Field.{Field}
-use Rattle.rdata_layout.specs.declared.fields.Tail.{Tail}
-use Rattle.rdata_layout.specs.Layout.{AreFields}
+use Rattle.field_text.specs.FieldRecord.{Field}
+use Rattle.field_text.specs.TailRecord.{Tail}
+use Rattle.field_text.specs.Layout.{AreFields}
 use Rattle.rdata.specs.Written.{field_texts, joined_from}
 use Rattle.rdata.proofs.writing.write_fields.Given as goal
 

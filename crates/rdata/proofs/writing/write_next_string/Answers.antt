@@ -1,5 +1,5 @@
 use Rattle.std.proofs.Common.{rules}
-use Rattle.value_text.specs.Strings.{string_text}
+use Rattle.field_text.specs.Strings.{string_text}
 use Rattle.rdata.proofs.Placing.{kept_on}
 use Rattle.rdata.proofs.writing.write_next_string.Goals as goal
 

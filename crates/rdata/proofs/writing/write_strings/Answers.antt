@@ -1,5 +1,5 @@
 use Rattle.std.proofs.Common.{◌≡◌, ◌+◌, ◌++◌, map, arith, rules, ap, sym, ◌∙◌, get_or, length, take, drop, length-drop}
-use Rattle.value_text.specs.Strings.{string_text}
+use Rattle.field_text.specs.Strings.{string_text}
 use Rattle.rdata.specs.Written.{separated, joined_from, strings_of}
 use Rattle.rdata.proofs.Placing.{drop_on}
 use Rattle.rdata.proofs.Fronts.{string_there}

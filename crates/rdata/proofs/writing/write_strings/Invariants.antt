@@ -1,6 +1,6 @@
 use Rattle.std.proofs.Common.{◌≡◌, ℕ, ◌+◌, ◌-◌, ◌*◌, ◌≤◌, List, length, take, drop, map}
-use Rattle.value_text.specs.Strings.{string_text}
-use Rattle.rdata_layout.specs.Layout.{AreStrings}
+use Rattle.field_text.specs.Strings.{string_text}
+use Rattle.field_text.specs.Layout.{AreStrings}
 use Rattle.rdata.specs.Written.{strings_of, joined_from}
 use Rattle.rdata.proofs.writing.write_strings.Given as goal
 

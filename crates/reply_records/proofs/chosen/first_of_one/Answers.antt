@@ -1,5 +1,5 @@
 use Rattle.std.proofs.Common.{◌<◌, arith, length}
-use Rattle.answer_model.specs.Records.{data_of}
+use Rattle.policy_select.specs.Records.{data_of}
 use Rattle.reply_records.proofs.Joined.{starts_one}
 use Rattle.reply_records.proofs.chosen.first_of_one.Goals as goal
 

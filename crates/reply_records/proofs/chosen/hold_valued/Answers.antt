@@ -1,7 +1,7 @@
 use Rattle.std.proofs.Common.{◌<◌, ◌∙◌, arith, get_or, length, sym}
-use Rattle.answer_model.specs.Records.{data_of}
+use Rattle.policy_select.specs.Records.{data_of}
 use Rattle.policy_select.specs.Groups.{sets_in}
-use Rattle.zone_table.proofs.Looked.{number_at}
+use Rattle.policy_select.proofs.Looked.{number_at}
 use Rattle.reply_records.proofs.Joined.{valued_at}
 use Rattle.reply_records.proofs.chosen.hold_valued.Goals as goal
 

@@ -1,5 +1,5 @@
 use Rattle.std.proofs.Common.{◌≡◌, [], drop}
-use Rattle.answer_model.specs.Records.{joint_data}
+use Rattle.policy_select.specs.Records.{joint_data}
 use Rattle.reply_records.specs.Chosen.{sets_of_places}
 use Rattle.reply_records.proofs.chosen.hold_valued.Given as goal
 

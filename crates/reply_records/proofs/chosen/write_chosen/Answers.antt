@@ -1,5 +1,5 @@
 use Rattle.std.proofs.Common.{◌≡◌, ◌∙◌, ap, length, subst, sym, List, ℕ}
-use Rattle.answer_model.specs.Records.{answer_records, data_of, records}
+use Rattle.policy_select.specs.Records.{answer_records, data_of, records}
 use Rattle.dns_wire.specs.declared.reply.Section.TheVariants.{Answer}
 use Rattle.policy_select.specs.Groups.{sets_in}
 use Rattle.policy_select.specs.Selecting.{HoldsFirst, places_of, selected_sets}

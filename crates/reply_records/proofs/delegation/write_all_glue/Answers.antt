@@ -1,5 +1,5 @@
 use Rattle.std.proofs.Common.{◌∙◌, ap, arith, sym}
-use Rattle.answer_model.specs.Records.{data_of, glue_of}
+use Rattle.policy_select.specs.Records.{data_of, glue_of}
 use Rattle.dns_name.specs.Stored.{labels_of}
 use Rattle.dns_wire.specs.declared.reply.Section.TheVariants.{Additional}
 use Rattle.policy_select.specs.Groups.{sets_in_zone}

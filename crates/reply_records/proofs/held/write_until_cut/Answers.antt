@@ -1,5 +1,5 @@
 use Rattle.std.proofs.Common.{◌+◌, ap, arith, List, ℕ}
-use Rattle.answer_model.specs.Records.{data_of, records}
+use Rattle.policy_select.specs.Records.{data_of, records}
 use Rattle.reply_records.proofs.Written.{all_of, map_cut, nothing, same, still_open, value_more}
 use Rattle.reply_records.proofs.held.write_until_cut.Goals as goal
 

@@ -1,5 +1,5 @@
 use Rattle.std.proofs.Common.{◌≡◌, Some, take}
-use Rattle.answer_model.specs.Records.{data_of, records}
+use Rattle.policy_select.specs.Records.{data_of, records}
 use Rattle.record_set.specs.declared.sets.RecordSet.{RecordSet}
 use Rattle.reply_records.specs.Writing.{IsOpen, Writes}
 use Rattle.reply_records.proofs.held.write_until_cut.Given as goal

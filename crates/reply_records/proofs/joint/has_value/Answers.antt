@@ -1,9 +1,9 @@
 use Rattle.std.proofs.Common.{◌≡◌, ◌∙◌, ap, sym, List, ℕ, Some}
 use Rattle.std.specs.Prelude.{slice_get}
 use Rattle.std.specs.Str.{bytes_eq}
-use Rattle.answer_model.specs.Records.{data_of}
+use Rattle.policy_select.specs.Records.{data_of}
 use Rattle.record_set.specs.declared.sets.RecordSet.{RecordSet}
-use Rattle.set_scratch.specs.Bodies.{wires_of}
+use Rattle.policy_select.specs.Bodies.{wires_of}
 use Rattle.reply_records.proofs.Joined.{any_not, any_so}
 use Rattle.reply_records.proofs.Shown.{its_data, of_held}
 use Rattle.reply_records.proofs.joint.has_value.Goals as goal

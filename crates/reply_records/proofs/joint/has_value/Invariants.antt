@@ -1,5 +1,5 @@
 use Rattle.std.proofs.Common.{◌≡◌, Some, drop}
-use Rattle.answer_model.specs.Records.{data_of, is_among}
+use Rattle.policy_select.specs.Records.{data_of, is_among}
 use Rattle.record_set.specs.declared.sets.RecordSet.{RecordSet}
 use Rattle.reply_records.proofs.joint.has_value.Given as goal
 

@@ -1,5 +1,5 @@
 use Rattle.std.proofs.Common.{◌≡◌, drop}
-use Rattle.answer_model.specs.Records.{is_among}
+use Rattle.policy_select.specs.Records.{is_among}
 use Rattle.reply_records.specs.Chosen.{all_data, sets_of_places}
 use Rattle.reply_records.proofs.joint.is_in_sets.Given as goal
 

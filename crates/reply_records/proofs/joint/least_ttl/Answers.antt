@@ -1,6 +1,6 @@
 use Rattle.std.proofs.Common.{◌∙◌, get_or, sym}
 use Rattle.policy_select.specs.Groups.{sets_in}
-use Rattle.zone_table.proofs.Looked.{number_at}
+use Rattle.policy_select.proofs.Looked.{number_at}
 use Rattle.reply_records.proofs.Joined.{least_is}
 use Rattle.reply_records.proofs.joint.least_ttl.Goals as goal
 

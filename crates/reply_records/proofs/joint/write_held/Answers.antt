@@ -1,5 +1,5 @@
 use Rattle.std.proofs.Common.{◌∙◌, ap, sym}
-use Rattle.answer_model.specs.Records.{data_of, records}
+use Rattle.policy_select.specs.Records.{data_of, records}
 use Rattle.dns_wire.specs.declared.reply.Section.TheVariants.{Answer}
 use Rattle.policy_select.specs.Groups.{sets_in}
 use Rattle.rdata_layout.specs.declared.types.RType.{RType}

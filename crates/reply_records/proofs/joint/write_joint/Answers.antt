@@ -1,8 +1,8 @@
 use Rattle.std.proofs.Common.{◌+◌, ◌++◌, ◌∙◌, ap, get_or, subst, sym, List, ℕ}
-use Rattle.answer_model.specs.Records.{data_of, records}
+use Rattle.policy_select.specs.Records.{data_of, records}
 use Rattle.dns_wire.specs.declared.reply.Section.TheVariants.{Answer}
 use Rattle.policy_select.specs.Groups.{sets_in}
-use Rattle.zone_table.proofs.Looked.{number_at}
+use Rattle.policy_select.proofs.Looked.{number_at}
 use Rattle.reply_records.specs.Chosen.{all_data, new_data, sets_of_places}
 use Rattle.reply_records.specs.Seeing.{Sees}
 use Rattle.reply_records.specs.Writing.{Writes}

@@ -1,5 +1,5 @@
 use Rattle.std.proofs.Common.{◌≤◌, [], length, take}
-use Rattle.answer_model.specs.Records.{joint_data, records}
+use Rattle.policy_select.specs.Records.{joint_data, records}
 use Rattle.dns_wire.specs.declared.reply.Section.TheVariants.{Answer}
 use Rattle.reply_records.specs.Chosen.{all_data, sets_of_places}
 use Rattle.reply_records.specs.Seeing.{Sees}

@@ -1,9 +1,9 @@
 use Rattle.std.proofs.Common.{◌+◌, ◌∙◌, arith, subst, sym, Option}
-use Rattle.answer_model.specs.Records.{data_of}
+use Rattle.policy_select.specs.Records.{data_of}
 use Rattle.dns_wire.specs.declared.reply.Section.TheVariants.{Answer}
 use Rattle.record_set.specs.declared.sets.RecordSet.{RecordSet}
-use Rattle.set_scratch.specs.Holding.{HasValue}
-use Rattle.zone_table.proofs.Members.{filled}
+use Rattle.policy_select.specs.Holding.{HasValue}
+use Rattle.policy_select.proofs.MembersOfZoneList.{filled}
 use Rattle.reply_records.specs.Chosen.{sets_of_places}
 use Rattle.reply_records.proofs.Joined.{new_more}
 use Rattle.reply_records.proofs.Shown.{set_of_held}

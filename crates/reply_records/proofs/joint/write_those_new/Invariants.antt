@@ -1,6 +1,6 @@
 use Rattle.std.proofs.Common.{◌≡◌, Some, take}
 use Rattle.std.specs.Prelude.{slice_get}
-use Rattle.answer_model.specs.Records.{data_of, records}
+use Rattle.policy_select.specs.Records.{data_of, records}
 use Rattle.dns_wire.specs.declared.reply.Section.TheVariants.{Answer}
 use Rattle.policy_select.specs.Groups.{sets_in}
 use Rattle.record_set.specs.declared.sets.RecordSet.{RecordSet}

@@ -1,6 +1,6 @@
 use Rattle.std.proofs.Common.{◌≡◌, ℕ, ◌∷◌, [], ap, arith, subst}
 use Rattle.std.specs.Prelude.{map, min}
-use Rattle.answer_model.specs.Records.{data_of, minimum_of, soa_record, ttl_of}
+use Rattle.policy_select.specs.Records.{data_of, minimum_of, soa_record, ttl_of}
 use Rattle.dns_wire.specs.declared.reply.Section.TheVariants.{Authority}
 use Rattle.rdata_layout.specs.declared.types.RType.TheVariants as rtype
 use Rattle.reply_records.specs.Writing.{Writes}

@@ -1,6 +1,6 @@
 use Rattle.std.proofs.Common.{◌≡◌, Some, take}
 use Rattle.std.specs.Prelude.{map}
-use Rattle.answer_model.specs.Records.{data_of, soa_record, ttl_of}
+use Rattle.policy_select.specs.Records.{data_of, soa_record, ttl_of}
 use Rattle.dns_wire.specs.declared.reply.Section.TheVariants.{Authority}
 use Rattle.record_set.specs.declared.sets.RecordSet.{RecordSet}
 use Rattle.reply_records.specs.Writing.{IsOpen, Writes}

@@ -1,7 +1,7 @@
 use Rattle.std.proofs.Common.{take}
 use Rattle.std.specs.Prelude.{map}
 use Rattle.std.specs.List.{flat_map}
-use Rattle.answer_model.specs.Records.{data_of, soa_record, ttl_of}
+use Rattle.policy_select.specs.Records.{data_of, soa_record, ttl_of}
 use Rattle.dns_wire.specs.declared.reply.Section.TheVariants.{Authority}
 use Rattle.policy_select.specs.Groups.{sets_in}
 use Rattle.record_set.specs.declared.sets.RecordSet.{RecordSet}

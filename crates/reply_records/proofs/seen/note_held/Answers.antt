@@ -1,5 +1,5 @@
 use Rattle.std.proofs.Common.{◌++◌, ◌∷◌, [], ◌∙◌, ap, append_assoc, append-nil, arith, refl, subst, sym, take, List, ℕ}
-use Rattle.answer_model.specs.Records.{data_of}
+use Rattle.policy_select.specs.Records.{data_of}
 use Rattle.zone_model.proofs.Lists.{take_more}
 use Rattle.reply_records.proofs.Written.{all_of}
 use Rattle.reply_records.specs.Seeing.{Sees}

@@ -1,5 +1,5 @@
 use Rattle.std.proofs.Common.{◌≡◌, ◌≤◌, ◌++◌, ℕ, List, Some, length, take}
-use Rattle.answer_model.specs.Records.{data_of}
+use Rattle.policy_select.specs.Records.{data_of}
 use Rattle.record_set.specs.declared.sets.RecordSet.{RecordSet}
 use Rattle.reply_records.specs.Seeing.{Sees}
 use Rattle.reply_records.proofs.seen.note_held.Given as goal

@@ -1,6 +1,6 @@
 use Rattle.std.proofs.Common.{◌≡◌, List, ℕ, ◌++◌, ap, sym, ◌∙◌}
-use Rattle.reply_model.specs.Outcomes.{reply_of}
-use Rattle.reply_model.specs.declared.outcomes.Outcome.{Outcome}
+use Rattle.reply_words.specs.Outcomes.{reply_of}
+use Rattle.reply_words.specs.OutcomeRecord.{Outcome}
 use Rattle.reply_writing.proofs.outcomes.write_reply.Goals as goal
 use Rattle.serde_json.specs.Written.{compact_text}
 

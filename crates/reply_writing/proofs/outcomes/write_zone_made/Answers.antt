@@ -1,6 +1,6 @@
 use Rattle.std.proofs.Common.{codes}
 use Rattle.json.specs.Print.{escape_byte}
-use Rattle.reply_model.specs.Dump.{zone_object}
+use Rattle.reply_words.specs.Dump.{zone_object}
 use Rattle.serde_json.specs.Written.{compact_text}
 use Rattle.reply_words.proofs.Chains.{pieces_3}
 use Rattle.reply_writing.proofs.outcomes.write_zone_made.Goals as goal

@@ -1,6 +1,6 @@
 use Rattle.std.proofs.Common.{◌≡◌, List, ℕ, ◌++◌, ap, sym, ◌∙◌}
-use Rattle.config_model.specs.declared.refusals.Refusal.{Refusal}
-use Rattle.reply_model.specs.Errors.{refusal_error}
+use Rattle.reply_words.specs.RefusalRecord.{Refusal}
+use Rattle.reply_words.specs.Errors.{refusal_error}
 use Rattle.reply_writing.proofs.refusals.write_refusal.Goals as goal
 use Rattle.serde_json.specs.Written.{compact_text}
 

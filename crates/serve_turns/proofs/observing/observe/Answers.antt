@@ -1,5 +1,5 @@
 use Rattle.std.proofs.Common.{sym}
-use Rattle.engine_model.specs.declared.answers.Reported.TheVariants as reported
+use Rattle.session_model.specs.ReportedRecord.TheVariants as reported
 use Rattle.serve_turns.proofs.Going.{reported_so}
 use Rattle.serve_turns.proofs.Reports.{no_check, no_checker, taken}
 use Rattle.serve_turns.proofs.observing.observe.Goals as goal

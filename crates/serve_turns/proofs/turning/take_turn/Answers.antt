@@ -1,7 +1,7 @@
 use Rattle.std.proofs.Common.{◌∙◌, ap, refl, sym}
 use Rattle.std.specs.Prelude.{if◌then◌else◌}
 use Rattle.r53_core.specs.Stores.{StandsFor}
-use Rattle.reply_model.specs.declared.outcomes.Turns.{Turns}
+use Rattle.session_model.specs.TurnsRecord.{Turns}
 use Rattle.serve_turns.proofs.Going.{stays}
 use Rattle.serve_turns.proofs.Packets.{turned as packet_turned}
 use Rattle.serve_turns.proofs.Reports.{turned as report_turned}

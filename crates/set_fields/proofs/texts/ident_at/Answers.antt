@@ -1,5 +1,5 @@
 use Rattle.std.proofs.Common.{arith}
-use Rattle.routing.specs.Texts.{is_printable}
+use Rattle.set_octets.specs.Texts.{is_printable}
 use Rattle.set_fields.proofs.Textual.{text_stands}
 use Rattle.set_fields.proofs.texts.ident_at.Goals as goal
 

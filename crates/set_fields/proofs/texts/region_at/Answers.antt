@@ -1,5 +1,5 @@
 use Rattle.std.proofs.Common.{arith}
-use Rattle.routing.specs.Texts.{is_region_byte}
+use Rattle.set_octets.specs.Texts.{is_region_byte}
 use Rattle.set_fields.proofs.Textual.{text_stands}
 use Rattle.set_fields.proofs.texts.region_at.Goals as goal
 

@@ -1,5 +1,5 @@
 use Rattle.std.proofs.Common.{rules, arith, sym, ap, length, length-drop, ◌∙◌}
-use Rattle.octet_reading.proofs.Digits.{octet_is}
+use Rattle.set_reading.proofs.Digits.{octet_is}
 use Rattle.set_parts.proofs.Labels.{passed, ended, some_left}
 use Rattle.set_parts.proofs.passing.behind_name.Goals as goal
 

@@ -1,7 +1,7 @@
 use Rattle.std.proofs.Common.{◌≡◌, ℕ, List, ◌++◌, ◌≤◌, length}
 use Rattle.std.specs.List.{AllByRecursion}
-use Rattle.dns_name.specs.Labels.{wire, IsRawLabel}
-use Rattle.dns_name.specs.Names.{IsName}
+use Rattle.set_reading.specs.Labels.{wire, IsRawLabel}
+use Rattle.set_reading.specs.Names.{IsName}
 use Rattle.set_parts.proofs.passing.behind_name.Given as goal
 
 abbrev pub invariant-loop-size : goal.invariant-loop-size

@@ -1,4 +1,4 @@
-use Rattle.set_reading.proofs.Parts.{check_read}
+use Rattle.set_reading.proofs.Answering.{check_read}
 use Rattle.set_reading.proofs.Policies.{routing_read}
 use Rattle.set_reading.proofs.laws.parts_are_read.Goals as goal
 

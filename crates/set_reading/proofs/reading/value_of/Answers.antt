@@ -1,5 +1,5 @@
 use Rattle.std.proofs.Common.{arith}
-use Rattle.set_reading.proofs.Values.{reads_value}
+use Rattle.set_reading.proofs.ValueLists.{reads_value}
 use Rattle.set_reading.proofs.reading.value_of.Goals as goal
 
 pub returns : goal.returns

@@ -1,7 +1,7 @@
 use Rattle.std.proofs.Common.{drop}
 use Rattle.std.specs.Prelude.{◌↔◌}
 use Rattle.std.specs.List.{AllByRecursion}
-use Rattle.record_set.specs.Values.{IsInLayout}
+use Rattle.set_fields.specs.Values.{IsInLayout}
 use Rattle.set_reading.proofs.sets.values_in_layout.Given as goal
 
 abbrev pub invariant-loop-value : goal.invariant-loop-value

@@ -1,6 +1,6 @@
 use Rattle.std.proofs.Common.{◌++◌, ◌∙◌, ap, arith}
 use Rattle.std.specs.List.{flat_map}
-use Rattle.set_octets.specs.Octets.{value_octets}
+use Rattle.set_parts.specs.Octets.{value_octets}
 use Rattle.set_scratch.proofs.Told.{none_left, one_behind}
 use Rattle.set_scratch.proofs.telling.behind_values.Goals as goal
 

@@ -1,7 +1,7 @@
 use Rattle.std.proofs.Common.{◌≡◌, ◌++◌, ℕ, List, drop, length}
 use Rattle.std.specs.List.{flat_map}
-use Rattle.rdata.specs.Datum.{Datum}
-use Rattle.set_octets.specs.Octets.{value_octets}
+use Rattle.set_parts.specs.Datum.{Datum}
+use Rattle.set_parts.specs.Octets.{value_octets}
 use Rattle.set_scratch.proofs.telling.behind_values.Given as goal
 
 abbrev pub invariant-loop : goal.invariant-loop

@@ -1,5 +1,5 @@
 use Rattle.std.proofs.Common.{[], ◌∙◌, List, ℕ, Some, ap}
-use Rattle.rdata_layout.specs.declared.types.RType.{RType}
+use Rattle.set_parts.specs.RTypeRecord.{RType}
 use Rattle.set_scratch.specs.Spelling.{from_policy}
 use Rattle.set_scratch.specs.Spelling.{from_type}
 use Rattle.set_scratch.proofs.Found.{named}

@@ -1,5 +1,5 @@
 use Rattle.std.proofs.Common.{[], ◌++◌, ℕ, Bool, Option, ap, ◌∙◌}
-use Rattle.set_octets.specs.Octets.{check_octets}
+use Rattle.set_parts.specs.Octets.{check_octets}
 use Rattle.set_scratch.specs.declared.telling.Watch.{Watch}
 use Rattle.set_scratch.proofs.Told.{alone}
 use Rattle.set_scratch.proofs.telling.watch_in.Goals as goal

@@ -1,6 +1,6 @@
 use Rattle.std.proofs.Common.{◌≡◌, Some, sym, ap, ◌∙◌, arith}
 use Rattle.std.specs.Prelude.{slice_get}
-use Rattle.record_set.specs.declared.sets.RecordSet.{RecordSet}
+use Rattle.zone_model.specs.RecordSetRecord.{RecordSet}
 use Rattle.set_search.specs.declared.bounds.Bound.TheVariants as bound
 use Rattle.std.proofs.lemmas.Option.{slice_get_within}
 use Rattle.set_search.specs.Bounds.{is_before}

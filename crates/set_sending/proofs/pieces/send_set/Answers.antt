@@ -1,7 +1,7 @@
 use Rattle.std.proofs.Common.{◌++◌}
 use Rattle.std.specs.Prelude.{false}
 use Rattle.list_writing.specs.Pieces.{set_front, set_rest, value_pieces}
-use Rattle.set_scratch.specs.Bodies.{wires_of}
+use Rattle.list_writing.specs.Bodies.{wires_of}
 use Rattle.set_sending.proofs.Passed.{regroup}
 use Rattle.set_sending.proofs.pieces.send_set.Goals as goal
 

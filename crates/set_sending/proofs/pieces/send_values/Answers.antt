@@ -1,7 +1,7 @@
 use Rattle.std.proofs.Common.{◌+◌, ◌++◌, drop, arith}
 use Rattle.std.specs.Prelude.{nat_lt}
 use Rattle.list_writing.specs.Pieces.{value_piece, value_pieces}
-use Rattle.set_scratch.specs.Bodies.{wires_of}
+use Rattle.list_writing.specs.Bodies.{wires_of}
 use Rattle.set_sending.proofs.Next.{next_value, value_at}
 use Rattle.set_sending.proofs.Passed.{first_next}
 use Rattle.set_sending.proofs.pieces.send_values.Goals as goal

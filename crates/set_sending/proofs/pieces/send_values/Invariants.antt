@@ -2,7 +2,7 @@ use Rattle.std.proofs.Common.{◌≡◌, ◌≤◌, ℕ, List, ◌++◌, Some, d
 use Rattle.std.specs.Prelude.{false, nat_lt, vec_capacity}
 use Rattle.list_writing.specs.Pieces.{value_pieces}
 use Rattle.record_set.specs.declared.sets.RecordSet.{RecordSet}
-use Rattle.set_scratch.specs.Bodies.{wires_of}
+use Rattle.list_writing.specs.Bodies.{wires_of}
 use Rattle.set_sending.specs.Passing.{IsPassed}
 use Rattle.set_sending.proofs.pieces.send_values.Given as goal
 

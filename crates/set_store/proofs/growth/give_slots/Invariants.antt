@@ -1,5 +1,5 @@
 use Rattle.std.proofs.Common.{◌≡◌, ◌≤◌, ◌<◌, ◌+◌, ◌-◌, ◌^◌, ◌++◌, map, vec_len, vec_capacity}
-use Rattle.octet_region.specs.Stored.{Held}
+use Rattle.set_scratch.specs.Stored.{Held}
 use Rattle.set_store.specs.Index.{IsIndex, kept_in}
 use Rattle.set_store.specs.Stored.{nothing}
 use Rattle.set_store.proofs.growth.give_slots.Given as goal

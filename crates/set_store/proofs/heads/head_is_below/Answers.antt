@@ -1,6 +1,6 @@
 use Rattle.std.proofs.Common.{sym, subst}
-use Rattle.dns_name.specs.Suffix.{EndsWith}
-use Rattle.octet_reading.specs.Names.{name_at}
+use Rattle.set_search.specs.Suffix.{EndsWith}
+use Rattle.set_scratch.specs.Names.{name_at}
 use Rattle.set_store.proofs.Named.{name_of_head, read_one, never}
 use Rattle.set_store.proofs.heads.head_is_below.Goals as goal
 

@@ -1,5 +1,5 @@
 use Rattle.std.proofs.Common.{◌∙◌, List, ℕ, ap, length, sym}
-use Rattle.octet_reading.specs.Names.{name_at}
+use Rattle.set_scratch.specs.Names.{name_at}
 use Rattle.set_store.proofs.Named.{name_of_head, read_one, never}
 use Rattle.set_store.proofs.heads.head_labels.Goals as goal
 

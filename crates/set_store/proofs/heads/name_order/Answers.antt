@@ -1,5 +1,5 @@
 use Rattle.std.proofs.Common.{◌≡◌, List, ℕ, ap, refl, sym, ◌∙◌}
-use Rattle.dns_name.specs.Order.{zone_cmp}
+use Rattle.set_search.specs.OrderOfDnsName.{zone_cmp}
 use Rattle.set_store.proofs.Named.{as_itself}
 use Rattle.set_store.proofs.heads.name_order.Goals as goal
 

@@ -1,6 +1,6 @@
 use Rattle.std.proofs.Common.{◌∙◌, ap}
 use Rattle.std.specs.Ordering.{nat_cmp}
-use Rattle.rdata_layout.specs.Types.{number_of}
+use Rattle.set_search.specs.Types.{number_of}
 use Rattle.set_store.proofs.siblings.type_order.Goals as goal
 
 pub returns : goal.returns

@@ -1,6 +1,6 @@
 use Rattle.std.proofs.Common.{ap, arith, refl}
-use Rattle.rdata_layout.specs.Types.{number_of}
-use Rattle.zone_model.proofs.Ordered.{one_number}
+use Rattle.set_search.specs.Types.{number_of}
+use Rattle.set_search.proofs.Ordered.{one_number}
 use Rattle.set_store.proofs.typed.is_of_at.Goals as goal
 
 pub returns-in_default : goal.returns-in_default

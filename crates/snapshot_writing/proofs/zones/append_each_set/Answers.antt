@@ -1,8 +1,8 @@
 use Rattle.std.proofs.Common.{◌≡◌, ◌++◌, ◌∙◌, sym, arith}
 use Rattle.config_zones.proofs.Rest.{as_many, held_so}
 use Rattle.record_set.specs.declared.sets.RecordSet.{RecordSet}
-use Rattle.set_octets.specs.Octets.{set_octets}
-use Rattle.zone_table.specs.Zones.{placed_in}
+use Rattle.config_zones.specs.Octets.{set_octets}
+use Rattle.config_zones.specs.Zones.{placed_in}
 use Rattle.zone_model.specs.Placed.{sets_of}
 use Rattle.snapshot_writing.proofs.Gathered.{all_appended, one_more}
 use Rattle.snapshot_writing.proofs.zones.append_each_set.Goals as goal

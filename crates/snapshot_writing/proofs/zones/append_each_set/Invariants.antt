@@ -1,4 +1,4 @@
-use Rattle.zone_table.specs.Zones.{placed_in}
+use Rattle.config_zones.specs.Zones.{placed_in}
 use Rattle.zone_model.specs.Placed.{sets_of}
 use Rattle.snapshot_writing.proofs.Gathered.{AreAppended}
 use Rattle.snapshot_writing.proofs.zones.append_each_set.Given as goal

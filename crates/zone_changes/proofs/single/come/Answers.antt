@@ -1,11 +1,11 @@
 use Rattle.std.proofs.Common.{◌≡◌, ◌≤◌, ℕ, List, length, set, ap, refl, subst, sym, ◌∙◌, inl}
 use Rattle.std.specs.Prelude.{slice_get}
-use Rattle.record_set.specs.Sets.{key_of}
-use Rattle.set_search.specs.Found.{FindsAt, FindsNone}
-use Rattle.zone_model.specs.Placed.{Placed, sets_of}
+use Rattle.zone_order.specs.Sets.{key_of}
+use Rattle.zone_order.specs.Found.{FindsAt, FindsNone}
+use Rattle.zone_order.specs.Placed.{Placed, sets_of}
 use Rattle.zone_order.specs.Orders.{placed_of, set_in}
 use Rattle.zone_changes.proofs.Coming.{gives_way, one_spelled, set_there}
-use Rattle.octet_region.specs.Cells.{cells_for}
+use Rattle.zone_order.specs.Cells.{cells_for}
 use Rattle.zone_changes.proofs.Cells.{few_more, put_cells, replaced_cells}
 use Rattle.zone_changes.proofs.Counted.{put_sums, replaced_sums}
 use Rattle.zone_changes.proofs.single.come.Goals as goal

@@ -1,8 +1,8 @@
 use Rattle.std.proofs.Common.{◌≡◌, ◌∙◌, sym, arith}
-use Rattle.config_model.specs.NewZones.{is_another}
+use Rattle.config_zones.specs.NewZones.{is_another}
 use Rattle.config_zones.proofs.Rest.{as_many, held_so, none_left, not_this, this_one}
 use Rattle.record_set.specs.declared.sets.RecordSet.{RecordSet}
-use Rattle.zone_table.specs.Zones.{placed_in}
+use Rattle.config_zones.specs.Zones.{placed_in}
 use Rattle.zone_model.specs.Placed.{sets_of}
 use Rattle.zone_commands.proofs.closing.has_another.Goals as goal
 

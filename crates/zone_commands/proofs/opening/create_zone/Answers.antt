@@ -1,12 +1,12 @@
 use Rattle.std.proofs.Common.{◌≡◌, ◌∙◌, ◌+◌, List, sym, subst, length, ap}
 use Rattle.std.specs.List.{AllByRecursion, sum_by}
-use Rattle.command_octets.specs.declared.commands.Command.TheVariants.{CreateZone}
-use Rattle.config_model.specs.Batches.{is_over}
+use Rattle.config_zones.specs.CommandRecord.TheVariants.{CreateZone}
+use Rattle.config_zones.specs.Batches.{is_over}
 use Rattle.config_zones.specs.Configured.{IsEditFor, config_of}
 use Rattle.record_set.specs.declared.sets.RecordSet.{RecordSet}
-use Rattle.set_octets.specs.Octets.{HasSpelling, set_octets}
-use Rattle.zone_table.specs.Counted.{octets_in_all, sets_in_all}
-use Rattle.zone_table.specs.declared.edits.ZoneEdit.TheVariants.{Open}
+use Rattle.config_zones.specs.Octets.{HasSpelling, set_octets}
+use Rattle.config_zones.specs.Counted.{octets_in_all, sets_in_all}
+use Rattle.config_zones.specs.ZoneEditRecord.TheVariants.{Open}
 use Rattle.zone_commands.proofs.Opened.{opened, own, refused_early, refused_full}
 use Rattle.zone_commands.proofs.opening.create_zone.Goals as goal
 

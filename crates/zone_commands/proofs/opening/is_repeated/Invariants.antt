@@ -1,5 +1,5 @@
 use Rattle.std.proofs.Common.{◌≡◌, drop}
-use Rattle.config_model.specs.NewZones.{is_repeated}
+use Rattle.config_zones.specs.NewZones.{is_repeated}
 use Rattle.zone_commands.proofs.opening.is_repeated.Given as goal
 
 abbrev pub invariant-loop-i : goal.invariant-loop-i

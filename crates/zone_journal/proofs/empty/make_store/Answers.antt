@@ -1,6 +1,6 @@
 use Rattle.std.proofs.Common.{ap, length, arith}
-use Rattle.r53_disk.proofs.Moments.{joined, weaker}
-use Rattle.gate_journal.proofs.AppendLemmas.{reaches_after}
+use Rattle.file_building.proofs.Moments.{joined, weaker}
+use Rattle.file_building.proofs.AppendLemmas.{reaches_after}
 use Rattle.zone_journal.specs.Making.{IsNoneOrEmpty}
 use Rattle.file_building.proofs.Gates.{all_shut, only_shut}
 use Rattle.zone_journal.proofs.Stores.{closed_is, closed_shut, whole_or_shut, none, opening, makes}

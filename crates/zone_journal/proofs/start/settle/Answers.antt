@@ -1,6 +1,6 @@
 use Rattle.std.proofs.Common.{◌∙◌, sym, subst, ⊎_elim}
-use Rattle.r53_disk.proofs.Moments.{settled_within}
-use Rattle.r53_disk.specs.Disk.{Settles}
+use Rattle.file_building.proofs.Moments.{settled_within}
+use Rattle.file_building.specs.Disk.{Settles}
 use Rattle.zone_journal.proofs.start.settle.Goals as goal
 
 pub returns-clause-unwritten : goal.returns-clause-unwritten

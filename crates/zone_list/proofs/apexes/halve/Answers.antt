@@ -2,7 +2,7 @@ use Rattle.std.proofs.Common.{◌+◌, ◌-◌, ◌/◌, ◌<◌, ◌≡◌, ◌
 use Rattle.std.specs.Prelude.{slice_get}
 use Rattle.std.specs.Ordering.{is_gt}
 use Rattle.std.proofs.lemmas.Option.{slice_get_read}
-use Rattle.dns_name.specs.Order.{zone_cmp}
+use Rattle.zone_changes.specs.Order.{zone_cmp}
 use Rattle.zone_list.specs.declared.apexes.Apex.{Apex}
 use Rattle.zone_list.proofs.Naming.{part_down, part_up}
 use Rattle.zone_list.proofs.apexes.halve.Goals as goal

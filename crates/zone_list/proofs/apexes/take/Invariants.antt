@@ -1,6 +1,6 @@
 use Rattle.std.proofs.Common.{length}
 use Rattle.std.specs.Prelude.{◌≢◌, ◌↔◌}
-use Rattle.zone_model.specs.Zones.{IsAmong}
+use Rattle.zone_changes.specs.Zones.{IsAmong}
 use Rattle.zone_list.specs.declared.apexes.Apex.{Apex}
 use Rattle.zone_list.specs.Apexes.{AreInOrder}
 use Rattle.zone_list.proofs.apexes.take.Given as goal

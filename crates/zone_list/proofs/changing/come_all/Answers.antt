@@ -1,5 +1,5 @@
 use Rattle.std.proofs.Common.{◌≡◌, [], List, drop, sym, subst, refl, arith}
-use Rattle.record_set.specs.declared.sets.RecordSet.{RecordSet}
+use Rattle.zone_changes.specs.RecordSetRecord.{RecordSet}
 use Rattle.zone_changes.specs.Orders.{placed_of}
 use Rattle.zone_list.specs.declared.refs.SetRef.{SetRef}
 use Rattle.zone_list.specs.Steps.{Comings}

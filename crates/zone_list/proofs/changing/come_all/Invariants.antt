@@ -1,6 +1,6 @@
 use Rattle.std.proofs.Common.{◌≡◌, ◌≤◌, ◌+◌, ◌++◌, List, length, drop, vec_len, vec_capacity}
 use Rattle.zone_changes.specs.Sums.{sums_of}
-use Rattle.zone_model.specs.Placed.{Placed}
+use Rattle.zone_changes.specs.Placed.{Placed}
 use Rattle.zone_changes.specs.Orders.{IsOrder, OthersStay, placed_of}
 use Rattle.zone_list.specs.declared.refs.SetRef.{SetRef}
 use Rattle.zone_list.specs.Steps.{cells_in_all, Comings}

@@ -1,5 +1,5 @@
 use Rattle.std.proofs.Common.{◌≡◌, ◌++◌, ◌∷◌, [], ◌∙◌, List, ℕ, length, ap, sym, subst, arith}
-use Rattle.dns_name.specs.Suffix.{EndsWith}
+use Rattle.zone_changes.specs.Suffix.{EndsWith}
 use Rattle.zone_list.specs.Kept.{named}
 use Rattle.zone_list.specs.Found.{IsAsLong, IsLongest}
 use Rattle.zone_list.proofs.Listing.{passed_by, no_longer, now_longest}

@@ -1,5 +1,5 @@
 use Rattle.policy_select.specs.Groups.{sets_in_zone}
-use Rattle.zone_table.proofs.Looked.{apex_there}
+use Rattle.policy_select.proofs.Looked.{apex_there}
 use Rattle.zone_lookup.proofs.Beside.{are_beside, exists_under, sets_rise}
 use Rattle.zone_lookup.proofs.Nearest.{nearest_inside, nearest_itself}
 use Rattle.zone_lookup.proofs.standing.nearest_of.Goals as goal

@@ -1,5 +1,5 @@
 use Rattle.std.proofs.Common.{Some, subst, sym}
-use Rattle.zone_model.specs.Placed.{IsPut}
+use Rattle.set_store.specs.Placed.{IsPut}
 use Rattle.zone_order.specs.Orders.{IsOrderBy, placed_by, set_in}
 use Rattle.zone_order.proofs.Orders.{put_is, put_order}
 use Rattle.zone_order.proofs.Slots.{its_own, nones, updated}

@@ -1,5 +1,5 @@
 use Rattle.std.proofs.Common.{Some, sym}
-use Rattle.zone_model.proofs.Lists.{all_found}
+use Rattle.set_store.proofs.ListsOfZoneModel.{all_found}
 use Rattle.zone_order.specs.Orders.{HasSet, set_in}
 use Rattle.zone_order.proofs.Replaced.{replaced, replaced_order}
 use Rattle.zone_order.proofs.Slots.{anothers, its_kept, kept_there, its_own, stay, updated}

@@ -1,6 +1,6 @@
 use Rattle.std.proofs.Common.{None, subst, sym}
-use Rattle.zone_model.specs.Placed.{IsTakenAt}
-use Rattle.zone_model.proofs.Lists.{all_found}
+use Rattle.set_store.specs.Placed.{IsTakenAt}
+use Rattle.set_store.proofs.ListsOfZoneModel.{all_found}
 use Rattle.zone_order.specs.Orders.{HasSet, IsOrderBy, placed_by, set_in}
 use Rattle.zone_order.proofs.Orders.{taken_is, taken_order}
 use Rattle.zone_order.proofs.Slots.{anothers, its_kept, kept_there, nones, stay, updated}

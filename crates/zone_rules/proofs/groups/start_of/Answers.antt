@@ -1,6 +1,6 @@
 use Rattle.std.proofs.Common.{◌≡◌, ◌-◌, ◌+◌, refl, arith, subst, inl, inr}
 use Rattle.std.proofs.lemmas.Option.{slice_get_read}
-use Rattle.zone_model.specs.Zones.{AreOneGroup}
+use Rattle.batch_model.specs.Zones.{AreOneGroup}
 use Rattle.zone_rules.proofs.FullGroups.{filled}
 use Rattle.zone_rules.proofs.Runs.{goes_on, begins, at_one, moved}
 use Rattle.zone_rules.proofs.groups.start_of.Goals as goal

@@ -1,7 +1,7 @@
 use Rattle.std.proofs.Common.{◌≡◌, get_or, refl, arith, Some, subst, inl, inr}
 use Rattle.std.specs.Prelude.{slice_get}
 use Rattle.std.proofs.lemmas.Option.{slice_get-get_or}
-use Rattle.record_set.specs.declared.sets.RecordSet.{RecordSet}
+use Rattle.batch_model.specs.RecordSetRecord.{RecordSet}
 use Rattle.batch_model.specs.Rules.{AreOnePlace}
 use Rattle.zone_rules.proofs.Runs.{at_one, moved, up_to}
 use Rattle.zone_rules.proofs.places.is_place_taken.Goals as goal

@@ -1,6 +1,6 @@
 use Rattle.std.proofs.Common.{◌≡◌, ◌<◌, ◌≤◌, ℕ, Some}
 use Rattle.std.specs.Prelude.{slice_get}
-use Rattle.record_set.specs.declared.sets.RecordSet.{RecordSet}
+use Rattle.batch_model.specs.RecordSetRecord.{RecordSet}
 use Rattle.batch_model.specs.Rules.{AreOnePlace}
 use Rattle.zone_rules.proofs.places.is_place_taken.Given as goal
 

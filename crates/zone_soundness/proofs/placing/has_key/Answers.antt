@@ -4,7 +4,7 @@ use Rattle.std.proofs.lemmas.Option.{slice_get_read}
 use Rattle.zone_soundness.proofs.Answered.{is, isnt}
 use Rattle.record_set.specs.Sets.{key_of}
 use Rattle.record_set.specs.declared.sets.RecordSet.{RecordSet}
-use Rattle.zone_model.proofs.Among.{among_at}
+use Rattle.config_model.proofs.Among.{among_at}
 use Rattle.zone_soundness.proofs.Firsts.{none_of}
 use Rattle.zone_soundness.proofs.placing.has_key.Goals as goal
 

@@ -1,5 +1,5 @@
 use Rattle.zone_soundness.proofs.Answered.{is, isnt}
-use Rattle.zone_model.specs.Walks.{HasNoTarget}
+use Rattle.config_model.specs.Walks.{HasNoTarget}
 use Rattle.zone_soundness.proofs.Firsts.{none_of, not_none}
 use Rattle.zone_soundness.proofs.together.are_led.Goals as goal
 

@@ -1,7 +1,7 @@
 use Rattle.std.proofs.Common.{subst}
 use Rattle.zone_soundness.proofs.Answered.{is}
 use Rattle.alias_tree.specs.Firsts.{IsFirstPlace}
-use Rattle.zone_model.specs.Walks.{IsTooDeep}
+use Rattle.config_model.specs.Walks.{IsTooDeep}
 use Rattle.zone_soundness.proofs.Firsts.{none_of}
 use Rattle.zone_soundness.proofs.together.are_shallow.Goals as goal
 

@@ -1,5 +1,5 @@
 use Rattle.std.proofs.Common.{◌≡◌, take}
-use Rattle.zone_model.specs.Placed.{sets_of}
+use Rattle.zone_list.specs.Placed.{sets_of}
 use Rattle.zone_list.specs.Orders.{placed_of}
 use Rattle.zone_table.proofs.looking.copies.Given as goal
 

@@ -1,8 +1,8 @@
 use Rattle.std.proofs.Common.{◌≡◌, ◌*◌, ◌%◌, ◌^◌, ◌∙◌, ℕ, List, ap, length, subst, sym}
 use Rattle.zone_list.specs.SumsRecord.{Sums}
-use Rattle.zone_model.proofs.Among.{among_at}
-use Rattle.zone_model.specs.Placed.{Placed, sets_of}
-use Rattle.zone_model.specs.Zones.{IsAmong}
+use Rattle.zone_list.proofs.Among.{among_at}
+use Rattle.zone_list.specs.Placed.{Placed, sets_of}
+use Rattle.zone_list.specs.Sets.{IsAmong}
 use Rattle.zone_list.specs.Kept.{zones_in}
 use Rattle.zone_table.specs.Looking.{ServersAreAt}
 use Rattle.zone_table.proofs.Cuts.{all_at}

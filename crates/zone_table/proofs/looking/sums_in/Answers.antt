@@ -1,6 +1,6 @@
 use Rattle.std.proofs.Common.{◌∙◌, ap, sym}
 use Rattle.zone_list.specs.Sums.{sums_of}
-use Rattle.zone_model.proofs.Among.{among_at}
+use Rattle.zone_list.proofs.Among.{among_at}
 use Rattle.zone_list.specs.Kept.{zones_in}
 use Rattle.zone_list.specs.Zones.{placed_in}
 use Rattle.zone_table.proofs.Naming.{it_is, its_sets, none_is, stands_here}

@@ -1,10 +1,10 @@
 use Rattle.std.proofs.Common.{◌≤◌, ◌+◌, ◌%◌, ◌^◌, ◌∙◌, ap, List, ℕ, suc, take, drop, length, sym, subst, arith}
 use Rattle.std.specs.Prelude.{slice_set}
 use Rattle.std.specs.List.{AllByRecursion}
-use Rattle.record_set.specs.declared.sets.RecordSet.{RecordSet}
-use Rattle.record_set.specs.declared.sets.SetKey.{SetKey}
-use Rattle.set_octets.specs.Octets.{set_octets}
-use Rattle.zone_model.proofs.Among.{among_at}
+use Rattle.zone_list.specs.RecordSetRecord.{RecordSet}
+use Rattle.zone_list.specs.SetKeyRecord.{SetKey}
+use Rattle.zone_list.specs.Octets.{set_octets}
+use Rattle.zone_list.proofs.Among.{among_at}
 use Rattle.zone_list.specs.Orders.{placed_of}
 use Rattle.zone_list.specs.Changes.{CanChange, Changes}
 use Rattle.zone_list.specs.Found.{IsAt}

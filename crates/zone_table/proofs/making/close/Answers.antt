@@ -1,6 +1,6 @@
 use Rattle.std.proofs.Common.{◌≡◌, ◌∙◌, ◌+◌, ◌%◌, ◌^◌, ap, [], List, suc, take, drop, sym, subst, arith}
 use Rattle.std.specs.List.{remove}
-use Rattle.zone_model.proofs.Among.{among_at}
+use Rattle.zone_list.proofs.Among.{among_at}
 use Rattle.zone_list.specs.Found.{IsAt}
 use Rattle.zone_list.specs.Kept.{AreKept, Listed, named_of, zone_in, zones_in}
 use Rattle.zone_list.specs.Zones.{IsZoneId}

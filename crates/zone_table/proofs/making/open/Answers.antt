@@ -1,7 +1,7 @@
 use Rattle.std.proofs.Common.{◌≡◌, ◌≤◌, ◌∙◌, ◌+◌, ◌%◌, ◌^◌, ap, arith, [], List, ℕ, take, drop, length, sym, subst}
 use Rattle.std.specs.List.{AllByRecursion, insert}
-use Rattle.record_set.specs.declared.sets.RecordSet.{RecordSet}
-use Rattle.set_octets.specs.Octets.{set_octets}
+use Rattle.zone_list.specs.RecordSetRecord.{RecordSet}
+use Rattle.zone_list.specs.Octets.{set_octets}
 use Rattle.zone_list.specs.Orders.{IsOrder, OthersStay, placed_of}
 use Rattle.zone_list.specs.Changes.{CanChange, Changes}
 use Rattle.zone_list.specs.Found.{IsSplit}

@@ -1,6 +1,6 @@
 use Rattle.std.proofs.Common.{◌≤◌, length, take}
 use Rattle.std.specs.List.{AllByRecursion}
-use Rattle.set_octets.specs.Octets.{set_octets}
+use Rattle.zone_list.specs.Octets.{set_octets}
 use Rattle.zone_table.proofs.needs.longest.Given as goal
 
 abbrev pub invariant-loop-set : goal.invariant-loop-set

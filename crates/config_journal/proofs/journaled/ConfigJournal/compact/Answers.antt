@@ -2,9 +2,9 @@ use Rattle.std.proofs.Common.{◌≡◌, ◌∙◌, None, Some, sym, subst}
 use Rattle.config_journal.proofs.Beginning.{config_still, holds_begun, no_progress}
 use Rattle.config_journal.proofs.Going.{opens_here}
 use Rattle.config_journal.specs.States.{State, config_of}
-use Rattle.config_model.specs.Configs.{Config}
+use Rattle.r53_state.specs.Configs.{Config}
 use Rattle.file_building.specs.Building.{Plan}
-use Rattle.snapshot_octets.specs.Octets.{snapshot}
+use Rattle.r53_state.specs.Octets.{snapshot}
 use Rattle.store_model.specs.Opening.{OpensConfig}
 use Rattle.zone_journal.specs.Pairs.{EachPair}
 use Rattle.zone_journal.specs.Standing.{PlanFits}

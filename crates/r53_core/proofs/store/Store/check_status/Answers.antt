@@ -1,5 +1,5 @@
 use Rattle.std.proofs.Common.{◌∙◌, ap, subst, sym}
-use Rattle.config_model.specs.Configs.{Config}
+use Rattle.sound_configs.specs.Configs.{Config}
 use Rattle.health_model.specs.Statuses.{status_told}
 use Rattle.r53_core.specs.Stores.{StandsFor, State}
 use Rattle.r53_core.proofs.store.Store.check_status.Goals as goal

@@ -1,20 +1,20 @@
 use Rattle.std.proofs.Common.{◌≡◌, ◌∙◌, ℕ, List, [], ◌∷◌, ◌++◌, Err, Ok, Some, ap, inr, refl, subst, sym}
-use Rattle.command_octets.specs.Octets.{command_octets}
-use Rattle.command_octets.specs.declared.commands.Command.{Command}
+use Rattle.sound_configs.specs.OctetsOfCommandOctets.{command_octets}
+use Rattle.sound_configs.specs.CommandRecord.{Command}
 use Rattle.r53_core.proofs.Accepted.{accepted}
 use Rattle.config_opening.specs.Holding.{Holds}
 use Rattle.config_opening.specs.States.{State as Kept, config_of}
-use Rattle.config_model.specs.Applying.{Applies, Decides}
-use Rattle.config_model.specs.Configs.{Config}
-use Rattle.config_model.specs.declared.refusals.Refusal.{Refusal}
-use Rattle.config_model.specs.declared.refusals.Refusal.TheVariants as refusal
+use Rattle.sound_configs.specs.Applying.{Applies, Decides}
+use Rattle.sound_configs.specs.Configs.{Config}
+use Rattle.sound_configs.specs.RefusalRecord.{Refusal}
+use Rattle.sound_configs.specs.RefusalRecord.TheVariants as refusal
 use Rattle.file_building.specs.Building.{Plan}
 use Rattle.r53_core.proofs.Commanding.{made, not_made, same_refusal}
 use Rattle.r53_core.proofs.Refused.{no_fault}
 use Rattle.r53_core.proofs.Staying.{read_on}
 use Rattle.r53_core.specs.Stores.{StandsFor, State}
 use Rattle.config_opening.specs.Kept.{IsAccepted}
-use Rattle.store_model.specs.Leaving.{OpensEither}
+use Rattle.config_opening.specs.Leaving.{OpensEither}
 use Rattle.zone_journal.specs.Pairs.{EachPair, Leaves, OpensPair}
 use Rattle.zone_journal.specs.Standing.{PlanFits, State as Journal}
 use Rattle.r53_core.proofs.store.Store.command.Goals as goal

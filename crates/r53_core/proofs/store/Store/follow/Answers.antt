@@ -1,9 +1,9 @@
 use Rattle.std.proofs.Common.{refl, subst, sym}
 use Rattle.health_check.specs.Stored.{Kept as KeptChecks}
-use Rattle.health_index.specs.Wired.{watched_of}
+use Rattle.sound_configs.specs.Wired.{watched_of}
 use Rattle.health_model.specs.Sound.{IsSound}
 use Rattle.config_opening.specs.Kept.{config_in}
-use Rattle.zone_table.specs.Tables.{Table}
+use Rattle.query_engine.specs.Tables.{Table}
 use Rattle.r53_core.proofs.store.Store.follow.Goals as goal
 
 pub on_command-requires-clause-sound : goal.on_command-requires-clause-sound

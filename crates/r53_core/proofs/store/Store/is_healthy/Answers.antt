@@ -1,10 +1,10 @@
 use Rattle.std.proofs.Common.{◌≡◌, ◌∙◌, refl, subst, sym}
 use Rattle.config_opening.specs.States.{config_of}
-use Rattle.config_model.specs.Configs.{Config}
-use Rattle.engine_model.specs.Engine.{is_healthy}
+use Rattle.sound_configs.specs.Configs.{Config}
+use Rattle.sound_configs.specs.Engine.{is_healthy}
 use Rattle.record_set.specs.Sets.{key_of}
 use Rattle.r53_core.specs.Stores.{StandsFor, State}
-use Rattle.zone_table.specs.Looking.{Names}
+use Rattle.query_engine.specs.Looking.{Names}
 use Rattle.r53_core.proofs.store.Store.is_healthy.Goals as goal
 
 pub returns : goal.returns

@@ -1,16 +1,16 @@
 use Rattle.std.proofs.Common.{◌∙◌, ℕ, Bool, ap, refl, subst, sym}
-use Rattle.answer_model.specs.Reply.{Answers}
+use Rattle.query_engine.specs.Reply.{Answers}
 use Rattle.config_opening.specs.States.{config_of}
-use Rattle.config_model.specs.Configs.{Config}
-use Rattle.engine_model.specs.Engine.{is_healthy}
-use Rattle.health_index.specs.Index.{healthy_in}
-use Rattle.policy_select.specs.Groups.{Agrees}
+use Rattle.sound_configs.specs.Configs.{Config}
+use Rattle.sound_configs.specs.Engine.{is_healthy}
+use Rattle.sound_configs.specs.Index.{healthy_in}
+use Rattle.query_engine.specs.Groups.{Agrees}
 use Rattle.query_engine.specs.Asking.{answer_of, asker_of, served_by}
 use Rattle.record_set.specs.declared.sets.SetKey.{SetKey}
 use Rattle.r53_core.specs.Stores.{StandsFor, State}
 use Rattle.config_opening.specs.Kept.{State as Kept, config_in}
 use Rattle.sound_configs.specs.Served.{AreServed}
-use Rattle.zone_table.specs.Tables.{Table}
+use Rattle.query_engine.specs.Tables.{Table}
 use Rattle.r53_core.proofs.store.Store.query.Goals as goal
 
 pub answer-requires-clause-served : goal.answer-requires-clause-served

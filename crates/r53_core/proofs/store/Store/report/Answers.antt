@@ -1,9 +1,9 @@
 use Rattle.std.proofs.Common.{◌≡◌, ◌∙◌, ◌∷◌, ap, inl, inr, length, refl, subst, sym}
 use Rattle.check_model.specs.Checks.{check_at}
 use Rattle.config_opening.specs.States.{config_of}
-use Rattle.config_model.specs.Configs.{Config}
-use Rattle.engine_model.specs.Engine.{watched_in}
-use Rattle.health_index.specs.Index.{reported}
+use Rattle.sound_configs.specs.Configs.{Config}
+use Rattle.sound_configs.specs.Engine.{watched_in}
+use Rattle.sound_configs.specs.Index.{reported}
 use Rattle.health_model.specs.Healthy.{Watched}
 use Rattle.health_model.specs.Nodes.{CheckNode, InCone}
 use Rattle.health_model.specs.Statuses.{status}

@@ -1,5 +1,5 @@
 use Rattle.std.proofs.Common.{◌∙◌, ap}
-use Rattle.config_zones.specs.Configured.{config_of}
+use Rattle.zone_commands.specs.Configured.{config_of}
 use Rattle.r53_state.specs.States.{config_in}
 use Rattle.r53_state.proofs.config.Config.from_snapshot.Goals as goal
 

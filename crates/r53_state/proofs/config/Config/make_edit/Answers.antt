@@ -1,6 +1,6 @@
 use Rattle.std.proofs.Common.{subst}
-use Rattle.config_model.specs.Sound.{Sound}
-use Rattle.config_zones.specs.Configured.{config_of}
+use Rattle.check_commands.specs.Sound.{Sound}
+use Rattle.zone_commands.specs.Configured.{config_of}
 use Rattle.r53_state.specs.States.{State, config_in}
 use Rattle.r53_state.proofs.Installed.{edit_installed}
 use Rattle.r53_state.proofs.config.Config.make_edit.Goals as goal

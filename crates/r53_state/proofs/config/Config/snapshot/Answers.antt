@@ -1,5 +1,5 @@
 use Rattle.std.proofs.Common.{◌≡◌}
-use Rattle.config_zones.specs.Configured.{config_of}
+use Rattle.zone_commands.specs.Configured.{config_of}
 use Rattle.r53_state.proofs.Written.{of_it}
 use Rattle.r53_state.specs.States.{config_in}
 use Rattle.r53_state.proofs.config.Config.snapshot.Goals as goal

@@ -1,9 +1,9 @@
 use Rattle.std.proofs.Common.{◌≡◌, ◌∙◌, refl, subst, sym, ap, Some, Bool}
 use Rattle.std.specs.Prelude.{⊤}
-use Rattle.batch_json.specs.declared.asking.Line.TheVariants as line
+use Rattle.line_bounds.specs.LineRecord.TheVariants as line
 use Rattle.line_server.specs.Standing.{Server, StandsFor}
 use Rattle.line_server.specs.Standing.{IsBound}
-use Rattle.session_model.specs.Steps.{LineSteps, State, Step}
+use Rattle.list_sending.specs.Steps.{LineSteps, State, Step}
 use Rattle.session_server.proofs.Lines.{of_network}
 use Rattle.session_server.proofs.Arms.{bound_now}
 use Rattle.session_server.specs.Taking.{PartOf}

@@ -1,4 +1,4 @@
-use Rattle.session_model.specs.Replies.{too_long_text}
+use Rattle.list_sending.specs.Replies.{too_long_text}
 use Rattle.session_server.proofs.Lines.{as_written}
 use Rattle.session_server.proofs.server.Server.refuse_line.Goals as goal
 

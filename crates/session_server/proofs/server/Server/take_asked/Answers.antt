@@ -1,10 +1,10 @@
 use Rattle.std.proofs.Common.{subst, sym}
-use Rattle.batch_json.specs.declared.asking.Line.{Line}
-use Rattle.batch_json.specs.declared.asking.Line.TheVariants as line
+use Rattle.line_bounds.specs.LineRecord.{Line}
+use Rattle.line_bounds.specs.LineRecord.TheVariants as line
 use Rattle.line_server.specs.Holding.{Holds}
 use Rattle.line_server.specs.Leaving.{ImagesOpen}
 use Rattle.line_server.specs.Standing.{StandsFor}
-use Rattle.session_model.specs.Steps.{LineSteps}
+use Rattle.list_sending.specs.Steps.{LineSteps}
 use Rattle.session_server.proofs.Lines.{no_disk, no_fault, none_torn}
 use Rattle.session_server.specs.Taking.{LineLeaves, PartOf}
 use Rattle.zone_journal.specs.Pairs.{Leaves}

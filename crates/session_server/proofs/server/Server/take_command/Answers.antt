@@ -1,5 +1,5 @@
 use Rattle.std.proofs.Common.{◌≡◌, None, subst, sym}
-use Rattle.batch_json.specs.declared.asking.Line.TheVariants as line
+use Rattle.line_bounds.specs.LineRecord.TheVariants as line
 use Rattle.line_server.specs.Holding.{Holds}
 use Rattle.line_server.specs.Leaving.{ImagesOpen}
 use Rattle.line_server.specs.Standing.{Server, StandsFor}

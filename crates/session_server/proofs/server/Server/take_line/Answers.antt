@@ -1,10 +1,10 @@
 use Rattle.std.proofs.Common.{◌∙◌, subst, sym, Result}
-use Rattle.batch_json.specs.declared.asking.Line.{Line}
+use Rattle.line_bounds.specs.LineRecord.{Line}
 use Rattle.line_server.specs.Holding.{Holds}
 use Rattle.line_server.specs.Leaving.{ImagesOpen}
 use Rattle.line_server.specs.Standing.{Server, StandsFor}
 use Rattle.line_faults.specs.declared.fault.LineFault.{LineFault}
-use Rattle.session_model.specs.Asking.{Asks}
+use Rattle.list_sending.specs.Asking.{Asks}
 use Rattle.session_server.proofs.Lines.{not_memory, of_asked, of_fault, same_fault}
 use Rattle.session_server.specs.Taking.{PartOfOctets}
 use Rattle.zone_journal.specs.Pairs.{Leaves}

@@ -1,10 +1,10 @@
 use Rattle.std.proofs.Common.{◌≡◌, ◌∙◌, refl, subst, sym, ap, Some, Bool}
 use Rattle.std.specs.Prelude.{⊤}
-use Rattle.batch_json.specs.declared.asking.Line.TheVariants as line
+use Rattle.line_bounds.specs.LineRecord.TheVariants as line
 use Rattle.line_server.specs.Standing.{Server, StandsFor}
 use Rattle.line_server.specs.Leaving.{TurnsInPart}
 use Rattle.line_server.specs.Standing.{IsServed}
-use Rattle.session_model.specs.Steps.{LineSteps, State, Step}
+use Rattle.list_sending.specs.Steps.{LineSteps, State, Step}
 use Rattle.session_server.proofs.Lines.{of_network}
 use Rattle.session_server.specs.Taking.{PartOf}
 use Rattle.session_server.proofs.server.Server.take_turns.Goals as goal

@@ -1,5 +1,5 @@
-use Rattle.reply_model.specs.Outcomes.{text_of}
-use Rattle.reply_model.specs.declared.outcomes.Outcome.TheVariants as outcome
+use Rattle.line_bounds.specs.Outcomes.{text_of}
+use Rattle.line_bounds.specs.OutcomeRecord.TheVariants as outcome
 use Rattle.session_server.proofs.Lines.{as_written}
 use Rattle.session_server.proofs.server.Server.tell_fault.Goals as goal
 

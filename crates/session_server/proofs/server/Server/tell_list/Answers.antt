@@ -2,9 +2,9 @@ use Rattle.std.proofs.Common.{◌∙◌, ap, subst, sym}
 use Rattle.std.specs.Prelude.{⊤}
 use Rattle.line_server.specs.Standing.{Server, StandsFor}
 use Rattle.session_server.proofs.Arms.{list}
-use Rattle.config_model.specs.Configs.{Config}
-use Rattle.config_edits.specs.Laws.{hosted_in}
-use Rattle.zone_table.specs.Tables.{Table}
+use Rattle.line_bounds.specs.Configs.{Config}
+use Rattle.list_sending.specs.Laws.{hosted_in}
+use Rattle.list_sending.specs.Tables.{Table}
 use Rattle.session_server.proofs.server.Server.tell_list.Goals as goal
 
 pub returns-clause-leaves : goal.returns-clause-leaves

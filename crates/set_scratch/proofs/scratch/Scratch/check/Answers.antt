@@ -1,6 +1,6 @@
 use Rattle.std.proofs.Common.{[], ◌∙◌, sym}
 use Rattle.std.proofs.lemmas.List.{append-nil}
-use Rattle.set_octets.specs.Octets.{check_octets}
+use Rattle.set_parts.specs.Octets.{check_octets}
 use Rattle.set_scratch.proofs.Held.{each_held}
 use Rattle.set_scratch.proofs.scratch.Scratch.check.Goals as goal
 

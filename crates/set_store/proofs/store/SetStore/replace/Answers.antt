@@ -7,9 +7,9 @@ use Rattle.set_store.proofs.Replaces.{replaced, replaced_seen}
 use Rattle.set_store.proofs.Reading.{found_in}
 use Rattle.set_store.proofs.Back.{come_back, same_cell, cells_back}
 use Rattle.set_store.proofs.Puts as put
-use Rattle.set_octets.specs.Octets.{set_octets}
-use Rattle.octet_region.specs.Cells.{cells_for}
-use Rattle.octet_region.specs.Stored.{Stored}
+use Rattle.set_scratch.specs.Octets.{set_octets}
+use Rattle.set_scratch.specs.Cells.{cells_for}
+use Rattle.set_scratch.specs.Stored.{Stored}
 use Rattle.std.specs.FinMap as finmap
 use Rattle.set_store.proofs.store.SetStore.replace.Goals as goal
 

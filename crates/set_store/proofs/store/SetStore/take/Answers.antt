@@ -3,8 +3,8 @@ use Rattle.set_store.specs.Index.{IsIndex, kept_in}
 use Rattle.set_store.specs.Stored.{IsKept, IsTaken, Store}
 use Rattle.set_store.proofs.Reading.{found_in}
 use Rattle.set_store.proofs.Back.{come_back, same_cell}
-use Rattle.set_octets.specs.Octets.{set_octets}
-use Rattle.octet_region.specs.Cells.{cells_for}
+use Rattle.set_scratch.specs.Octets.{set_octets}
+use Rattle.set_scratch.specs.Cells.{cells_for}
 use Rattle.std.specs.FinMap as finmap
 use Rattle.set_store.proofs.Keeping.{is_live}
 use Rattle.set_store.proofs.Lists.{as_many, elsewhere, here}

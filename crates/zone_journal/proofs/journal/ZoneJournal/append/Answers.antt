@@ -1,5 +1,5 @@
 use Rattle.std.proofs.Common.{◌∙◌, sym, ap, arith}
-use Rattle.gate_journal.specs.Append.{MayLeave as FileMayLeave}
+use Rattle.file_building.specs.Append.{MayLeave as FileMayLeave}
 use Rattle.zone_journal.specs.Pairs.{Yields}
 use Rattle.zone_journal.specs.declared.answers.Side.TheVariants.{A, B}
 use Rattle.zone_journal.specs.Standing.{State}

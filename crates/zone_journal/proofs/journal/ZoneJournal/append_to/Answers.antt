@@ -1,7 +1,7 @@
 use Rattle.std.proofs.Common.{◌≡◌, sym, ap, subst, length, rules}
-use Rattle.r53_disk.proofs.Moments.{started}
-use Rattle.gate_journal.specs.Layout.{OpensTo}
-use Rattle.gate_journal.specs.Append.{UnlessFault, HasCause as FileCause, MovesOn as FileMoves}
+use Rattle.file_building.proofs.Moments.{started}
+use Rattle.file_building.specs.Layout.{OpensTo}
+use Rattle.file_building.specs.Append.{UnlessFault, HasCause as FileCause, MovesOn as FileMoves}
 use Rattle.zone_journal.specs.Standing.{State, Stands}
 use Rattle.zone_journal.specs.Appending.{Fits}
 use Rattle.zone_journal.proofs.Appends.{unless}

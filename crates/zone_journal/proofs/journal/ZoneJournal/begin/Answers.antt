@@ -1,5 +1,5 @@
 use Rattle.std.proofs.Common.{◌∙◌, [], Err, refl, sym, subst, ⊎_elim}
-use Rattle.gate_journal.specs.Read.{IsRead, BeginGives as FileBegins}
+use Rattle.file_building.specs.Read.{IsRead, BeginGives as FileBegins}
 use Rattle.zone_journal.specs.Pairs.{Yields}
 use Rattle.zone_journal.proofs.journal.ZoneJournal.begin.Goals as goal
 

@@ -1,6 +1,6 @@
 use Rattle.std.proofs.Common.{◌≡◌, Some, inl, sym, subst, rules}
-use Rattle.r53_disk.proofs.Moments.{weaker}
-use Rattle.gate_journal.proofs.AppendLemmas.{read_now}
+use Rattle.file_building.proofs.Moments.{weaker}
+use Rattle.file_building.proofs.AppendLemmas.{read_now}
 use Rattle.zone_journal.specs.Standing.{State, Stands}
 use Rattle.zone_journal.specs.Compacting.{with_plan, YieldsOrOpens}
 use Rattle.zone_journal.proofs.Stores.{closed_shut}

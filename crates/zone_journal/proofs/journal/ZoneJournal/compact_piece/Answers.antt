@@ -1,6 +1,6 @@
 use Rattle.std.proofs.Common.{◌≡◌, ◌∙◌, ◌++◌, None, sym, ap, subst, arith}
-use Rattle.r53_disk.specs.Disk.{LeavesOnly}
-use Rattle.gate_journal.specs.Layout.{OpensTo}
+use Rattle.file_building.specs.Disk.{LeavesOnly}
+use Rattle.file_building.specs.Layout.{OpensTo}
 use Rattle.zone_journal.specs.declared.answers.Side.TheVariants.{A, B}
 use Rattle.file_building.specs.Building.{Plan}
 use Rattle.zone_journal.specs.Standing.{State}

@@ -1,7 +1,7 @@
 use Rattle.std.proofs.Common.{◌≡◌, ◌∙◌, ◌+◌, ◌-◌, ◌≤◌, ℕ, ◌++◌, Some, inl, refl, sym, ap, subst, length, take, drop, arith, rules, length-take-le}
-use Rattle.gate_journal.specs.Layout.{inner}
-use Rattle.r53_disk.proofs.Moments.{weaker}
-use Rattle.gate_journal.proofs.AppendLemmas.{read_now, reaches}
+use Rattle.file_building.specs.Layout.{inner}
+use Rattle.file_building.proofs.Moments.{weaker}
+use Rattle.file_building.proofs.AppendLemmas.{read_now, reaches}
 use Rattle.zone_journal.specs.Standing.{State, Stands, left_of}
 use Rattle.zone_journal.specs.Compacting.{with_plan, YieldsOrOpens}
 use Rattle.file_building.proofs.Gates.{written_shut}

@@ -1,5 +1,5 @@
 use Rattle.std.proofs.Common.{◌∙◌, inl, inr, refl, sym}
-use Rattle.r53_disk.proofs.Moments.{only_still, rests_joined}
+use Rattle.file_building.proofs.Moments.{only_still, rests_joined}
 use Rattle.zone_journal.proofs.Syncs.{same_now, both}
 use Rattle.zone_journal.proofs.Openings.{from_a, from_b}
 use Rattle.zone_journal.proofs.journal.ZoneJournal.open.Goals as goal

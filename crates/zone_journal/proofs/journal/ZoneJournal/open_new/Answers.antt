@@ -1,9 +1,9 @@
 use Rattle.std.proofs.Common.{◌≡◌, ◌∙◌, ◌+◌, ◌-◌, inl, inr, ⊎_elim, None, Some, refl, sym, ap, subst, rules}
-use Rattle.r53_disk.specs.Disk.{Only}
-use Rattle.r53_disk.proofs.Moments.{weaker}
-use Rattle.gate_journal.specs.Layout.{OpensTo}
-use Rattle.gate_journal.specs.Append.{EndsAt, StandsOn as EndsOn}
-use Rattle.gate_journal.proofs.AppendLemmas.{read_now}
+use Rattle.file_building.specs.Disk.{Only}
+use Rattle.file_building.proofs.Moments.{weaker}
+use Rattle.file_building.specs.Layout.{OpensTo}
+use Rattle.file_building.specs.Append.{EndsAt, StandsOn as EndsOn}
+use Rattle.file_building.proofs.AppendLemmas.{read_now}
 use Rattle.zone_journal.specs.Pairs.{opposite}
 use Rattle.zone_journal.specs.Standing.{State, Stands, planned_length}
 use Rattle.file_building.specs.Building.{gate_opened}

@@ -1,7 +1,7 @@
 use Rattle.std.proofs.Common.{◌≡◌, ◌∙◌, ⊎_elim, sym, ap, subst}
-use Rattle.gate_journal.specs.Append.{EndsAt}
-use Rattle.gate_journal.specs.Read.{IsRead, ReadsOn as ReadsFile, NextGives as NextOfFile, UnlessSome}
-use Rattle.gate_journal.proofs.Reading.{stands_reads}
+use Rattle.file_building.specs.Append.{EndsAt}
+use Rattle.file_building.specs.Read.{IsRead, ReadsOn as ReadsFile, NextGives as NextOfFile, UnlessSome}
+use Rattle.file_building.proofs.Reading.{stands_reads}
 use Rattle.zone_journal.specs.Standing.{State, Reads, Stands}
 use Rattle.zone_journal.specs.Opening.{NextGives, OnNone, UnlessSome as UnlessSomeOfPair, IsNoMore, on_side}
 use Rattle.zone_journal.proofs.Openings.{next_gives, reads_still, at_none, unless_some, no_more}

@@ -1,6 +1,6 @@
 use Rattle.std.proofs.Common.{◌≡◌, List, ap, subst, sym, ◌∙◌}
 use Rattle.std.specs.Prelude.{slice_get}
-use Rattle.record_set.specs.declared.sets.RecordSet.{RecordSet}
+use Rattle.set_store.specs.RecordSetRecord.{RecordSet}
 use Rattle.set_store.specs.Stored.{IsKept}
 use Rattle.zone_order.proofs.Slots.{kept_at, one_at}
 use Rattle.zone_order.proofs.views.ZoneViewSetList.is_of.Goals as goal

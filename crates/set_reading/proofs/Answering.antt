@@ -3,25 +3,25 @@ use Rattle.std.proofs.Common.{◌≡◌, ◌<◌, ◌^◌, ℕ, Bool, List, ◌�
 use Rattle.std.specs.Prelude.{⊤}
 use Rattle.std.specs.List.{flat_map}
 use Rattle.octets.specs.Numbers.{two_octets, four_octets}
-use Rattle.octet_reading.specs.Readers.{has_kind}
-use Rattle.octet_reading.specs.Rules.{IsReadAs, AreListed, WhereSome, optional_octets}
-use Rattle.octet_reading.proofs.Base.{flag_read, name_read}
-use Rattle.octet_reading.proofs.Composed.{in_turn_read, in_turn_by_read}
-use Rattle.octet_reading.proofs.OfKind.{kinds_read}
-use Rattle.octet_reading.proofs.Optional.{list_read, optional_read}
-use Rattle.octet_reading.proofs.Rules.{alike, seen_read}
-use Rattle.dns_name.specs.Names.{IsName}
-use Rattle.rdata.specs.Datum.{Datum}
-use Rattle.rdata_layout.specs.declared.types.RType.{RType}
-use Rattle.record_set.specs.declared.sets.RecordSet.{RecordSet}
-use Rattle.record_set.specs.declared.sets.Body.{Body}
-use Rattle.record_set.specs.declared.sets.Body.TheVariants as body
-use Rattle.set_octets.specs.Octets.{value_octets, head_octets, body_octets, check_octets, set_octets, AreOfType, IsSpelledBody, IsSpelledRouting}
+use Rattle.set_fields.specs.Readers.{has_kind}
+use Rattle.set_fields.specs.Rules.{IsReadAs, AreListed, WhereSome, optional_octets}
+use Rattle.set_fields.proofs.Base.{flag_read, name_read}
+use Rattle.set_fields.proofs.Composed.{in_turn_read, in_turn_by_read}
+use Rattle.set_fields.proofs.OfKind.{kinds_read}
+use Rattle.set_fields.proofs.Optional.{list_read, optional_read}
+use Rattle.set_fields.proofs.Rules.{alike, seen_read}
+use Rattle.set_fields.specs.NamesOfDnsName.{IsName}
+use Rattle.set_fields.specs.Datum.{Datum}
+use Rattle.set_fields.specs.RTypeRecord.{RType}
+use Rattle.set_fields.specs.RecordSetRecord.{RecordSet}
+use Rattle.set_fields.specs.BodyRecord.{Body}
+use Rattle.set_fields.specs.BodyRecord.TheVariants as body
+use Rattle.set_fields.specs.Octets.{value_octets, head_octets, body_octets, check_octets, set_octets, AreOfType, IsSpelledBody, IsSpelledRouting}
 use Rattle.set_fields.specs.Laws.{FieldsAreRead}
 use Rattle.set_reading.specs.Reading.{records_at, alias_at, bodies, body_at, check_at, set_of, set_at}
 use Rattle.set_reading.specs.Sets.{IsBody, IsSet}
 use Rattle.set_reading.proofs.Policies.{first, others, four_read, routing_read}
-use Rattle.set_reading.proofs.Values.{IsValue, are_values, of_type, in_layout, value_read}
+use Rattle.set_reading.proofs.ValueLists.{IsValue, are_values, of_type, in_layout, value_read}
 
 -- what sets of the type answer
 pub record IsGoodBody (type : RType) (answers : Body) : Type 0 where

@@ -7,22 +7,22 @@ use Rattle.std.proofs.lemmas.Bool.{false_from_ne_true, ltb-false, le-ltb}
 use Rattle.std.proofs.lemmas.List.{take-append-drop, length-take-le}
 use Rattle.std.proofs.Math.Seq.{take-append_seam, drop-append_seam}
 use Rattle.octets.specs.Numbers.{two_octets}
-use Rattle.octet_reading.specs.Layouts.{is_layout}
-use Rattle.octet_reading.specs.Reading.{◌>>=◌, two_at}
-use Rattle.octet_reading.specs.Rules.{IsReadAs}
-use Rattle.octet_reading.proofs.Base.{read_as}
-use Rattle.octet_reading.proofs.Digits.{bind_ok, ok_is, joined, two_is, two_again}
-use Rattle.octet_reading.proofs.Found.{IsBytes, take_bytes, rest_bytes}
-use Rattle.octet_reading.proofs.Layouts.{layout_is, layout_again}
-use Rattle.octet_reading.proofs.Within.{Within, ok_within, err_within, then_within, cond_within, drop_within, two_within}
-use Rattle.rdata.specs.Datum.{Datum}
-use Rattle.rdata.specs.Gives.{ReadsWire}
-use Rattle.rdata.specs.declared.faults.WireFault.{WireFault}
-use Rattle.rdata.specs.declared.faults.WireFault.TheVariants as wire
-use Rattle.rdata_layout.specs.Layout.{IsLayout}
-use Rattle.rdata_layout.specs.declared.types.RType.{RType}
-use Rattle.record_set.specs.Values.{IsInLayout}
-use Rattle.set_octets.specs.Octets.{value_octets}
+use Rattle.set_fields.specs.Layouts.{is_layout}
+use Rattle.set_fields.specs.Reading.{◌>>=◌, two_at}
+use Rattle.set_fields.specs.Rules.{IsReadAs}
+use Rattle.set_fields.proofs.Base.{read_as}
+use Rattle.set_fields.proofs.Digits.{bind_ok, ok_is, joined, two_is, two_again}
+use Rattle.set_fields.proofs.Found.{IsBytes, take_bytes, rest_bytes}
+use Rattle.set_fields.proofs.Layouts.{layout_is, layout_again}
+use Rattle.set_fields.proofs.Within.{Within, ok_within, err_within, then_within, cond_within, drop_within, two_within}
+use Rattle.set_fields.specs.Datum.{Datum}
+use Rattle.set_fields.specs.Gives.{ReadsWire}
+use Rattle.set_fields.specs.WireFaultRecord.{WireFault}
+use Rattle.set_fields.specs.WireFaultRecord.TheVariants as wire
+use Rattle.set_fields.specs.Layout.{IsLayout}
+use Rattle.set_fields.specs.RTypeRecord.{RType}
+use Rattle.set_fields.specs.Values.{IsInLayout}
+use Rattle.set_fields.specs.Octets.{value_octets}
 use Rattle.set_reading.specs.Gives.{ReadsValue}
 use Rattle.set_reading.specs.Reading.{value_at}
 
