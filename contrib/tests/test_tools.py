@@ -470,7 +470,7 @@ class Example(Case):
                 ports["PORT"], ports["REPORTS"]))
             text = text.replace("dig @", "sleep 1; dig +tries=5 @") + "\nkill %1\nwait"
             if shutil.which("dig") is None:
-                text, told = text.replace("dig @", "echo dig @"), []
+                text, told = text.replace("dig +tries=5 @", "echo dig @"), []
             done = subprocess.run(["bash", "-c", text], cwd=folder, capture_output=True, text=True, timeout=60, env={
                 **os.environ, "R53": R53, "PATH": os.path.dirname(helpers.R53D) + ":" + os.environ["PATH"]})
         self.assertEqual(done.stderr, "")
