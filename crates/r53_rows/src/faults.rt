@@ -64,7 +64,7 @@ fn run_with_fault(alloc: Global, side: Side, call: u64) -> Result<(Status, bool)
     let mut b = disk(alloc, &[], b_fails)?;
     let input = ListSource::new(alloc, LINES, 50, &[])?;
     let sink = VecSink::new(alloc, 4096, &[])?;
-    let (status, sink) = run_words(alloc, "run", input, sink, &mut a, &mut b)?;
+    let (status, sink) = run_words(alloc, &["run"], input, sink, &mut a, &mut b)?;
     let written = sink.bytes();
     let stands = opens(alloc, &a, &b, count_lines(written))?;
     let is_all = status != Status::Done || written == REPLIES;
@@ -105,7 +105,7 @@ fn each_read(rt: HostRuntime) -> Result<(), Fail> {
         let mut b = disk(alloc, &[], &[])?;
         let input = ListSource::new(alloc, LINES, 50, &[call])?;
         let sink = VecSink::new(alloc, 4096, &[])?;
-        let (status, sink) = run_words(alloc, "run", input, sink, &mut a, &mut b)?;
+        let (status, sink) = run_words(alloc, &["run"], input, sink, &mut a, &mut b)?;
         if status == Status::Done {
             assert!(rt; sink.bytes() == REPLIES, "no read failed");
             break;
@@ -130,7 +130,7 @@ fn each_write(rt: HostRuntime) -> Result<(), Fail> {
         let mut b = disk(alloc, &[], &[])?;
         let input = ListSource::new(alloc, LINES, 50, &[])?;
         let sink = VecSink::new(alloc, 4096, &[call])?;
-        let (status, sink) = run_words(alloc, "run", input, sink, &mut a, &mut b)?;
+        let (status, sink) = run_words(alloc, &["run"], input, sink, &mut a, &mut b)?;
         let written = sink.bytes();
         if status == Status::Done {
             assert!(rt; written == REPLIES, "no write failed");

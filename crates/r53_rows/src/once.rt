@@ -2,11 +2,10 @@
 
 ghost use Rattle.std.specs.Prelude.{◌<◌};
 
-use r53_cli::{Status, run};
+use crate::stores::run_words;
+use r53_cli::Status;
 use r53_disk::MemoryDisk;
-use r53_io::{ListSource, ScriptLink, VecSink};
-use rand_chacha::ChaCha8Rng;
-use rand_core::SeedableRng;
+use r53_io::{ListSource, VecSink};
 use std::alloc::{AllocError, Global};
 use std::process::Abort;
 use std::test::Fail;
@@ -38,25 +37,11 @@ fn run_over(
 ) -> Result<Outcome, Fail>
     requires { 0 < piece }
 {
-    let args = words(alloc, texts)?;
-    let mut input = ListSource::new(alloc, input, piece, fail)?;
-    let mut sink = VecSink::new(alloc, room, &[])?;
-    let mut tables = ListSource::new(alloc, &[], 1, &[])?;
+    let input = ListSource::new(alloc, input, piece, fail)?;
+    let sink = VecSink::new(alloc, room, &[])?;
     let mut a = MemoryDisk::new(alloc, &[], 0, &[])?;
     let mut b = MemoryDisk::new(alloc, &[], 0, &[])?;
-    let mut link = ScriptLink::new(alloc, Vec::new(alloc), &[])?;
-    let mut words = ChaCha8Rng::from_seed([0; 32]);
-    let status = run(
-        alloc,
-        &args,
-        &mut input,
-        &mut tables,
-        &mut sink,
-        &mut a,
-        &mut b,
-        &mut link,
-        &mut words,
-    );
+    let (status, sink) = run_words(alloc, texts, input, sink, &mut a, &mut b)?;
     Ok(Outcome { status, sink })
 }
 

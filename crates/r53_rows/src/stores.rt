@@ -45,13 +45,13 @@ pub(crate) fn dump_behind(lines: usize) -> &'static [u8] {
 /// What a run over these disks answers, and what it writes.
 pub(crate) fn run_words(
     alloc: Global,
-    text: &str,
+    texts: &[&str],
     mut input: ListSource,
     mut sink: VecSink,
     a: &mut MemoryDisk,
     b: &mut MemoryDisk,
 ) -> Result<(Status, VecSink), Fail> {
-    let args = words(alloc, &[text])?;
+    let args = words(alloc, texts)?;
     let mut tables = ListSource::new(alloc, &[], 1, &[])?;
     let mut link = ScriptLink::new(alloc, Vec::new(alloc), &[])?;
     let mut words = ChaCha8Rng::from_seed([0; 32]);
@@ -80,7 +80,7 @@ pub(crate) fn runs(
 ) -> Result<(Status, bool), Fail> {
     let input = ListSource::new(alloc, input, 100, &[])?;
     let sink = VecSink::new(alloc, ROOM, &[])?;
-    let (status, sink) = run_words(alloc, text, input, sink, a, b)?;
+    let (status, sink) = run_words(alloc, &[text], input, sink, a, b)?;
     Ok((status, sink.bytes() == written))
 }
 
