@@ -23,6 +23,9 @@ use Rattle.zone_table.specs.Looking.{IsGroupNow}
 use Rattle.zone_table.specs.declared.refs.Group.{Group}
 use Rattle.policy_select.specs.declared.selection.Selected.{Selected}
 use Rattle.policy_select.specs.Groups.{flags_in, members_of, sets_in}
+use Rattle.policy_select.specs.Rules.{IsOf}
+use Rattle.policy_select.specs.declared.rules.Rule.{Rule}
+use Rattle.policy_select.specs.declared.rules.Rule.TheVariants as rules
 use Rattle.policy_select.specs.Selecting.{AreOfGroup, HoldsFirst, IsInZone, selected_of}
 use Rattle.policy_select.proofs.Noted.{few_sets}
 
@@ -47,14 +50,16 @@ by_policy sets flags rows word set policy is first same one =
 -- of weighted sets
 pub of_weighted : (g : Group) (sets : List RecordSet) (flags : List Bool) (rows : ClientRows)
     (word : ℕ)
-    (set : RecordSet) (policy : Routing) (ident : List ℕ) (weight place : ℕ) (result : Selected)
-    → slice_get sets 0 ≡ Some set → policy ≡ set.routing → policy ≡ routing.Weighted ident weight
+    (set : RecordSet) (rule : Rule) (weight place : ℕ) (result : Selected)
+    → slice_get sets 0 ≡ Some set → IsOf rule set.routing → rule ≡ rules.Weighted weight
     → place ≡ weighted.chosen (each weight_of weight sets) flags word
     → result ≡ selected_of g (place ∷ []) → result ≡ selected_of g (chosen sets flags rows word)
-of_weighted g sets flags rows word set policy ident weight place result first same one place_is is =
+of_weighted g sets flags rows word set rule weight place result first of one place_is is =
+    let told = subst (λ (r : Rule). IsOf r set.routing) one of in
     is ∙ ap (λ (p : ℕ). selected_of g (p ∷ [])) place_is
     ∙ sym (ap (selected_of g)
-    (by_policy sets flags rows word set policy (routing.Weighted ident weight) first same one))
+    (by_policy sets flags rows word set set.routing (routing.Weighted told.0 weight) first refl
+    told.1))
 
 -- ---- places of the group
 

@@ -1,4 +1,5 @@
 pub mod Groups
+pub mod Rules
 pub mod Selecting
 pub use Rattle.answer_model.specs.Descent
 pub use Rattle.answer_model.specs.Clients

@@ -20,12 +20,12 @@ ghost use Rattle.policy_select.specs.Selecting.{LeadsTo, TargetOf, choice_of};
 
 use crate::group::load_member;
 use crate::parts::is_simple_in;
+use crate::rules::rule_held;
 use crate::selection::{Selected, choose, one};
 use crate::view::HealthView;
 use address_text::IpAddress;
 use answer_model::{Tables, Used, chosen_are_of_group};
 use dns_name::Name;
-use routing::Routing;
 use zone_table::{Group, Scratch, Zones};
 
 /// The most choices from group to group.
@@ -214,22 +214,12 @@ fn choose_held<V: HealthView>(
     ensures held { HoldsFirst zones.now.zones result scratch.new }
 {
     chosen_are_of_group();
-    let routing = policy_held(zones, group, scratch);
+    let rule = rule_held(scratch);
     let selected = choose(
-        &routing, zones, group, view, tables, client, word, used, scratch,
+        &rule, zones, group, view, tables, client, word, used, scratch,
     );
     load_first(zones, &selected, scratch);
     selected
-}
-
-/// The policy of the first set of a group, which is held.
-fn policy_held(zones: &Zones, group: Group, scratch: &Scratch) -> Routing
-    requires { (set : RecordSet) × (slice_get (sets_in zones.now.zones group) 0 ≡ Some set)
-        × (scratch.now ≡ Some set) × HasSpelling set }
-    ensures { (set : RecordSet) × (slice_get (sets_in zones.now.zones group) 0 ≡ Some set)
-        × (result ≡ set.routing) × HasSpelling set }
-{
-    scratch.routing()
 }
 
 /// Loads the first selected set.

@@ -11,6 +11,7 @@ mod leaves;
 mod lists;
 mod parts;
 mod places;
+mod rules;
 mod selection;
 mod view;
 

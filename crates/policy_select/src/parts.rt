@@ -40,7 +40,7 @@ pub(crate) fn weight_in(octets: &[u8], first: u8) -> u8
 }
 
 /// The octet at the front.
-fn octet_in(octets: &[u8]) -> u8
+pub(crate) fn octet_in(octets: &[u8]) -> u8
     ensures { (octet : ℕ) (rest : List ℕ) → octets.now ≡ octet ∷ rest → result ≡ octet }
 {
     match octets {
@@ -61,7 +61,7 @@ pub(crate) fn role_in(octets: &[u8], first: Role) -> Role
 }
 
 /// The role of the number at the front.
-fn role_at(octets: &[u8]) -> Role
+pub(crate) fn role_at(octets: &[u8]) -> Role
     ensures { (role : Role) (rest : List ℕ) → octets.now ≡ role_number role ∷ rest
         → result ≡ role }
 {
@@ -84,7 +84,7 @@ pub(crate) fn place_in(octets: &[u8], first: &Place) -> Place
 }
 
 /// The place at the front.
-fn place_at(octets: &[u8]) -> Place
+pub(crate) fn place_at(octets: &[u8]) -> Place
     ensures { (place : Place) (rest : List ℕ) → IsPlace place
         → octets.now ≡ place_octets place ++ rest → result ≡ place }
 {

@@ -6,22 +6,20 @@ ghost use Rattle.answer_model.specs.Clients.{client_at};
 ghost use Rattle.answer_model.specs.Descent.{group_uses};
 ghost use Rattle.multivalue.specs.Answer.{picked};
 ghost use Rattle.zone_table.specs.RecordSetRecord.{RecordSet};
-ghost use Rattle.zone_table.specs.Octets.{HasSpelling};
 ghost use Rattle.zone_table.specs.Looking.{IsGroupNow};
 ghost use Rattle.policy_select.specs.Groups.{sets_in};
+ghost use Rattle.policy_select.specs.Rules.{IsOf};
 ghost use Rattle.policy_select.specs.Selecting.{choice_of, selected_of};
 
 use crate::client::block_of;
-use crate::group::routing_at;
 use crate::leaves::{
     choose_block, choose_failover, choose_place, choose_region, choose_several, choose_weighted,
 };
-use crate::parts::name_of;
+use crate::rules::{Rule, first_rule};
 use crate::view::HealthView;
 use address_text::IpAddress;
 use answer_model::{Tables, Used};
 use multivalue::Picked;
-use routing::Routing;
 use zone_table::{Group, Scratch, Zones};
 
 /// What is chosen of a group.
@@ -57,15 +55,15 @@ pub fn select<V: HealthView>(
         latencies: false,
         blocks: 0,
     };
-    let routing = routing_at(zones, group, 0, scratch);
+    let rule = first_rule(zones, group, scratch);
     choose(
-        &routing, zones, group, view, tables, client, word, &mut used, scratch,
+        &rule, zones, group, view, tables, client, word, &mut used, scratch,
     )
 }
 
 /// Chooses from a group by the policy of its first set, and notes what the choice used.
 pub(crate) fn choose<V: HealthView>(
-    routing: &Routing,
+    rule: &Rule,
     zones: &Zones,
     group: Group,
     view: &V,
@@ -80,7 +78,7 @@ pub(crate) fn choose<V: HealthView>(
     requires few { group.length ≤ 100 }
     requires first { (set : RecordSet)
         × (slice_get (sets_in zones.now.zones group) 0 ≡ Some set)
-        × (routing.now ≡ set.routing) × HasSpelling set }
+        × IsOf rule.now set.routing }
     ensures selected { result
         ≡ choice_of zones.now.zones (V.test view.now)
         (client_at tables.now zones.now.collections.list client) group word }
@@ -88,35 +86,32 @@ pub(crate) fn choose<V: HealthView>(
         ≡ group_uses (client_at tables.now zones.now.collections.list client)
         (sets_in zones.now.zones group) used.old }
 {
-    match routing {
-        Routing::Simple => one(group, 0),
-        Routing::Weighted(_, weight) => {
+    match rule {
+        Rule::Simple => one(group, 0),
+        Rule::Weighted(weight) => {
             one(
                 group,
                 choose_weighted(zones, group, view, *weight, word, scratch),
             )
         }
-        Routing::Failover(_, role) => {
-            one(group, choose_failover(zones, group, view, *role, scratch))
-        }
-        Routing::Geolocation(_, place) => {
+        Rule::Failover(role) => { one(group, choose_failover(zones, group, view, *role, scratch)) }
+        Rule::Geolocation(place) => {
             used.places = true;
             let set = choose_place(zones, group, view, place, tables, client, scratch);
             one_or_none(group, set)
         }
-        Routing::Latency(_, region) => {
+        Rule::Latency(region) => {
             used.latencies = true;
             let set = choose_region(zones, group, view, region, tables, client, scratch);
             one(group, set)
         }
-        Routing::Multivalue(_) => several(group, choose_several(zones, group, view, word)),
-        Routing::Cidr(_, id, location) => {
+        Rule::Multivalue => several(group, choose_several(zones, group, view, word)),
+        Rule::Cidr(id, location) => {
             let (block, scope) = block_of(zones.collections(), *id, client);
             used.blocks = used.blocks.max(scope);
-            let first = name_of(location);
             one_or_none(
                 group,
-                choose_block(zones, group, view, &first, block, scratch),
+                choose_block(zones, group, view, location, block, scratch),
             )
         }
     }

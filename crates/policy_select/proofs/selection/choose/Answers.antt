@@ -9,6 +9,6 @@ returns-in-Weighted-clause-selected g c =
     let client = client_at c.args.tables.now c.args.zones.now.collections.list c.args.client in
     of_weighted c.args.group (sets_in c.args.zones.now.zones c.args.group)
     (flags_in c.args.zones.now.zones (g.V.HealthView.test c.args.view.now) c.args.group) client.rows
-    c.args.word first.0 c.args.routing.now c.in-Weighted.field-0 c.in-Weighted.weight
-    c.choose_weighted.result c.one-in-Weighted.result first.1 first.2 c.in-Weighted.is
-    c.choose_weighted.ensures c.one-in-Weighted.ensures
+    c.args.word first.0 c.args.rule.now c.in-Weighted.weight c.choose_weighted.result
+    c.one-in-Weighted.result first.1 first.2 c.in-Weighted.is c.choose_weighted.ensures
+    c.one-in-Weighted.ensures

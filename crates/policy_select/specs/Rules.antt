@@ -1,0 +1,18 @@
+-- A policy without its identifier.
+use Rattle.std.specs.Prelude.{◌≡◌, ℕ, List}
+use Rattle.routing.specs.declared.policies.Routing.{Routing}
+use Rattle.routing.specs.declared.policies.Routing.TheVariants as routing
+use Rattle.policy_select.specs.declared.rules.Rule.{Rule}
+use Rattle.policy_select.specs.declared.rules.Rule.TheVariants as rule
+
+-- the policy is this one, with whichever identifier
+abbrev pub IsOf : Rule → Routing → Type 0
+IsOf rule.Simple policy = policy ≡ routing.Simple
+IsOf (rule.Weighted weight) policy = (ident : List ℕ) × (policy ≡ routing.Weighted ident weight)
+IsOf (rule.Failover role) policy = (ident : List ℕ) × (policy ≡ routing.Failover ident role)
+IsOf (rule.Geolocation place) policy =
+    (ident : List ℕ) × (policy ≡ routing.Geolocation ident place)
+IsOf (rule.Latency region) policy = (ident : List ℕ) × (policy ≡ routing.Latency ident region)
+IsOf rule.Multivalue policy = (ident : List ℕ) × (policy ≡ routing.Multivalue ident)
+IsOf (rule.Cidr collection location) policy =
+    (ident : List ℕ) × (policy ≡ routing.Cidr ident collection location)
