@@ -3,7 +3,6 @@ use Rattle.std.specs.Prelude.{◌≡◌, ◌<◌, ℕ, List, Bool, Option, None,
 use Rattle.std.specs.Prelude.{slice_get}
 use Rattle.address_text.specs.declared.address.IpAddress.{IpAddress}
 use Rattle.cidr_blocks.specs.declared.places.Collection.{Collection}
-use Rattle.dns_name.specs.Stored.{labels_of}
 use Rattle.dns_message.specs.declared.query.Query.{Query}
 use Rattle.dns_wire.specs.Draft.{Draft}
 use Rattle.dns_wire.specs.Message.{Message}
@@ -71,13 +70,12 @@ pub record IsEnd (step : Step) (old new : Draft) (end : End) (used : Used) : Typ
 -- The step is a CNAME record, which isn't written yet: its data are the first value of the set that
 -- is held.
 pub record IsCname (step : Step) (name : List (List ℕ)) (held : Option RecordSet) (ttl : ℕ)
-    (target : List (List ℕ)) (made : Choices) : Type 0 where
+    (made : Choices) : Type 0 where
   pub set : RecordSet
   pub is_held : held ≡ Some set
   pub typed : set.rtype ≡ rtype.Cname
   pub rdata : List ℕ
   pub first : slice_get (data_of set.body) 0 ≡ Some rdata
-  pub named : target ≡ labels_of rdata
   pub follows : step
       ≡ Follows (record { owner = name; rtype = rtype.Cname; ttl = ttl; rdata = rdata }) made
 
@@ -85,8 +83,8 @@ pub record IsCname (step : Step) (name : List (List ℕ)) (held : Option RecordS
 abbrev pub Comes : Step → (name : List (List ℕ)) → (old new : Draft) → (held : Option RecordSet)
     → Progress → Next → Type 0
 Comes step name old new held progress (next.Ends end) = IsEnd step old new end progress.used
-Comes step name old new held progress (next.Follows ttl target) =
-    IsCname step name held ttl target (choices_of progress) × (new ≡ old)
+Comes step name old new held progress (next.Follows ttl) =
+    IsCname step name held ttl (choices_of progress) × (new ≡ old)
 
 -- A set is held whose type is CNAME, and which has a value.
 pub record IsCnameSet (set : RecordSet) : Type 0 where
@@ -100,12 +98,12 @@ HoldsCname held = (set : RecordSet) × (held ≡ Some set) × IsCnameSet set
 -- So it is where a CNAME record is followed.
 abbrev pub HoldsNext : (held : Option RecordSet) → Next → Type 0
 HoldsNext held (next.Ends end) = ⊤
-HoldsNext held (next.Follows ttl target) = HoldsCname held
+HoldsNext held (next.Follows ttl) = HoldsCname held
 
 -- RCODE of an end has four bits.
 abbrev pub EndsWell : Next → Type 0
 EndsWell (next.Ends end) = end.rcode < 16
-EndsWell (next.Follows ttl target) = ⊤
+EndsWell (next.Follows ttl) = ⊤
 
 -- ---- the reply
 

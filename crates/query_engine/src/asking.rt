@@ -36,9 +36,9 @@ pub(crate) struct End {
 }
 
 /// What a name comes to: the end of the answer, or a CNAME record of this TTL, whose set is held,
-/// and whose target is looked up next.
+/// and whose target is looked up next. The target isn't copied.
 #[derive(Clone, Copy)]
 pub(crate) enum Next {
     Ends(End),
-    Follows(u32, Name),
+    Follows(u32),
 }

@@ -1,9 +1,9 @@
 //! The reply to a packet.
 
 ghost use Rattle.std.specs.Prelude.{◌≡◌, ◌<◌, ◌≤◌, ℕ, Bool, None, IfSome, length};
-ghost use Rattle.zone_lookup.specs.Reply.{Answers, is_refused, query_reply};
+ghost use Rattle.zone_lookup.specs.Reply.{Answers, is_refused, query_reply, reply_to_read};
 ghost use Rattle.zone_lookup.specs.Sections.{sections};
-ghost use Rattle.dns_message.specs.Whole.{IsWhole};
+ghost use Rattle.dns_message.specs.Whole.{GivesWhole, IsWhole};
 ghost use Rattle.dns_wire.specs.Draft.{reply_to};
 ghost use Rattle.dns_wire.specs.Header.{FitsRcode};
 ghost use Rattle.dns_wire.specs.Limit.{limit_of as most_of};
@@ -59,17 +59,44 @@ pub fn answer<V: HealthView>(
     ensures room { reply.new.room ≡ reply.old.room }
     ensures silent { result ≡ None → reply.new ≡ reply.old }
 {
-    match read_query(packet) {
+    let read = read_query(packet);
+    answer_read(zones, view, tables, &read, peer, words, scratch, reply)
+}
+
+/// The reply to what was read of a packet: its query isn't copied.
+fn answer_read<V: HealthView>(
+    zones: &Zones,
+    view: &V,
+    tables: &Tables,
+    read: &QueryRead,
+    peer: IpAddress,
+    words: &[u64; 8],
+    scratch: &mut Scratch,
+    reply: &mut Reply,
+) -> Option<usize>
+    requires served { AreServed zones.now.zones }
+    requires whole { GivesWhole read.now }
+    requires room { 4096 ≤ reply.old.room }
+    ensures answered { (healthy : ℕ → SetKey → Bool)
+        → Agrees zones.now.zones (V.test view.now) healthy
+        → answer_of result reply.new
+        ≡ reply_to_read (served_by zones.now.zones zones.now.collections.list healthy tables.now)
+        (asker_of peer words.now) read.now }
+    ensures length { IfSome result (λ n. n ≡ length reply.new.bytes) }
+    ensures room { reply.new.room ≡ reply.old.room }
+    ensures silent { result ≡ None → reply.new ≡ reply.old }
+{
+    match read {
         QueryRead::Silent => None,
         QueryRead::Bad {
             id,
             opcode,
             rd,
             rcode,
-        } => Some(reply.short(id, opcode, rd, rcode)),
-        QueryRead::BadVersion(query) => Some(refuse(&query, BADVERS, reply)),
+        } => Some(reply.short(*id, *opcode, *rd, *rcode)),
+        QueryRead::BadVersion(query) => Some(refuse(query, BADVERS, reply)),
         QueryRead::Query(query) => {
-            let length = answer_query(zones, view, tables, &query, peer, words, scratch, reply);
+            let length = answer_query(zones, view, tables, query, peer, words, scratch, reply);
             Some(length)
         }
     }

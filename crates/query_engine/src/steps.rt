@@ -8,6 +8,7 @@ ghost use Rattle.zone_lookup.specs.Sections.{asked as answered, asked_group, can
 ghost use Rattle.zone_lookup.specs.Sections.{look_up as found, step as step_at};
 ghost use Rattle.zone_lookup.specs.Sections.{step_of};
 ghost use Rattle.zone_lookup.specs.UsedRecord.{Used};
+ghost use Rattle.dns_name.specs.Stored.{labels_of};
 ghost use Rattle.dns_name.specs.Suffix.{EndsWith};
 ghost use Rattle.dns_wire.specs.declared.reply.Section.TheVariants.{Answer};
 ghost use Rattle.reply_records.specs.Groups.{Agrees, FewInGroups, sets_in, sets_in_zone};
@@ -155,7 +156,7 @@ fn step_cname<V: HealthView>(
     );
     match first_record(zones, &selected, scratch) {
         None => Next::Ends(answer_nodata(zones, asked, reply, scratch)),
-        Some(ttl) => Next::Follows(ttl, name_in(scratch.value(0))),
+        Some(ttl) => Next::Follows(ttl),
     }
 }
 
@@ -422,11 +423,12 @@ pub(crate) fn look_up<V: HealthView>(
     zones.well_formed();
     match step(zones, view, tables, asked, name, progress, reply, scratch) {
         Next::Ends(end) => end,
-        Next::Follows(ttl, target) => {
+        Next::Follows(ttl) => {
             if most == 0 {
                 return End { aa: true, rcode: 0 };
             }
             write_cname(name, ttl, reply, scratch);
+            let target = target_held(scratch);
             if !is_held_by(zones, &target, asked.zone) {
                 return End { aa: true, rcode: 0 };
             }
@@ -447,6 +449,15 @@ pub(crate) fn look_up<V: HealthView>(
             }
         }
     }
+}
+
+/// The target of a CNAME record, whose set is held.
+fn target_held(scratch: &Scratch) -> Name
+    requires { HoldsCname scratch.now }
+    ensures { (set : RecordSet) (rdata : List ℕ) → scratch.now ≡ Some set
+        → slice_get (data_of set.body) 0 ≡ Some rdata → result ≡ labels_of rdata }
+{
+    name_in(scratch.value(0))
 }
 
 /// Writes a CNAME record, whose set is held.

@@ -1,10 +1,8 @@
-use Rattle.std.proofs.Common.{Some, ap}
-use Rattle.dns_message.specs.declared.query.QueryRead.TheVariants as read
 use Rattle.query_engine.proofs.replies.answer.Goals as goal
 
-pub returns-in-Query-clause-answers : goal.returns-in-Query-clause-answers
-returns-in-Query-clause-answers g c = λ healthy agrees. record {
-  judged = read.Query c.in-Query.query;
-  judges = c.in-Query.ensures.judges;
-  answered = ap Some (c.answer_query-length.ensures.bytes healthy agrees);
+pub returns-clause-answers : goal.returns-clause-answers
+returns-clause-answers g c = λ healthy agrees. record {
+  judged = c.read_query-read.result;
+  judges = c.read_query-read.ensures.judges;
+  answered = c.answer_read.ensures.answered healthy agrees;
 }

@@ -53,7 +53,8 @@ returns-then-not-is_held_by-clause-found g t c = λ healthy agrees.
     let is = c.in-Follows.ensures.comes healthy agrees in
     let some = c.if-most-eq0.false in
     let other = subst (λ (n : List (List ℕ)).
-    is_zone lookup.zone (zone_for lookup.zones n) ≡ false) is.0.named
+    is_zone lookup.zone (zone_for lookup.zones n) ≡ false)
+    (c.target_held-target.ensures is.0.set is.0.rdata is.0.is_held is.0.first)
     (sym (c.if-not-is_held_by.ensures.same asked.apex)) in
     outside lookup c.args.name.now (choices_of c.args.progress.now) (record {
       owner = c.args.name.now;
@@ -121,9 +122,10 @@ returns-else-not-is_held_by-clause-found g t c = λ healthy agrees.
       ttl = c.in-Follows.ttl;
       rdata = is.0.rdata;
     }) (choices_of c.step.new.progress) is.0.follows c.args.most c.args.reply.now
-    c.write_cname.new.reply c.look_up-end.new.reply c.in-Follows.target c.look_up-end.result
+    c.write_cname.new.reply c.look_up-end.new.reply c.target_held-target.result c.look_up-end.result
     c.look_up-end.new.progress.used (omega (arith, some))
-    (sym (c.if-not-is_held_by.ensures.same asked.apex)) is.0.named
+    (sym (c.if-not-is_held_by.ensures.same asked.apex))
+    (c.target_held-target.ensures is.0.set is.0.rdata is.0.is_held is.0.first)
     (subst (λ (d : Draft). Writes Answer (record {
       owner = c.args.name.now;
       rtype = rtype.Cname;

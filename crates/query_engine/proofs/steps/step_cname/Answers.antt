@@ -1,31 +1,13 @@
-use Rattle.std.proofs.Common.{◌∙◌, ap, refl, subst, ℕ}
+use Rattle.std.proofs.Common.{◌∙◌, ap, refl, ℕ}
 use Rattle.zone_lookup.specs.Descent.{descend}
 use Rattle.zone_lookup.specs.Sections.{no_data}
-use Rattle.dns_name.specs.Stored.{labels_of}
 use Rattle.reply_records.specs.Groups.{by_key, sets_in, sets_in_zone}
 use Rattle.reply_records.specs.Selecting.{selected_sets}
-use Rattle.rdata_layout.specs.Layout.{IsLayout}
-use Rattle.rdata_layout.specs.declared.types.RType.{RType}
 use Rattle.rdata_layout.specs.declared.types.RType.TheVariants as rtype
-use Rattle.record_set.specs.declared.sets.RecordSet.{RecordSet}
-use Rattle.reply_records.proofs.Shown.{of_held}
 use Rattle.query_engine.specs.Asking.{asked_of, choices_of}
-use Rattle.query_engine.proofs.Stepping.{a_cname, as_ns, chosen_type, first_value, first_typed}
+use Rattle.query_engine.proofs.Stepping.{a_cname, chosen_type, first_typed}
 use Rattle.query_engine.proofs.Stepping.{no_cname, zone_gives}
 use Rattle.query_engine.proofs.steps.step_cname.Goals as goal
-
-pub name_in-requires : goal.name_in-requires
-name_in-requires g c =
-    let zones = c.args.zones.now.zones in
-    let test = g.V.HealthView.test c.args.view.now in
-    let starts = c.in-Some.ensures in
-    let typed = chosen_type c.types_have_their_own_number.ensures zones test _ _ c.args.group _
-    c.descend-selected.result _ _ c.descend-selected.ensures.gives (by_key zones test)
-    (c.views_agree.ensures zones test c.well_formed-2.ensures) rtype.Cname c.requires.typed
-    starts.set starts.among in
-    as_ns c.value.result.now (subst (λ (t : RType). IsLayout t c.value.result.now) typed
-    (of_held (λ (s : RecordSet). IsLayout s.rtype c.value.result.now) c.first_record.new.scratch
-    starts.set starts.is_held c.value.ensures.layout))
 
 pub returns-in-Some-clause-held : goal.returns-in-Some-clause-held
 returns-in-Some-clause-held g c =
@@ -83,9 +65,6 @@ returns-in-Some-clause-comes g c = λ healthy agrees.
         typed = typed;
         rdata = starts.rdata;
         first = starts.first;
-        named = c.name_in.ensures ∙ ap labels_of
-            (first_value c.first_record.new.scratch starts.set c.value.result.now starts.rdata
-            starts.is_held c.value.ensures.wire starts.first);
         follows = a_cname lookup name d (selected_sets zones c.descend-selected.result) _
             (starts.starts name).0 _ gives.sets
             ((starts.starts name).1 ∙ first_typed name starts.set.rtype c.in-Some.ttl starts.rdata

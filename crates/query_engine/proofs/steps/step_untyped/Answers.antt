@@ -1,5 +1,4 @@
 use Rattle.std.proofs.Common.{subst, sym, List}
-use Rattle.zone_lookup.specs.Sections.{step_of}
 use Rattle.reply_records.proofs.Targets.{of_its_type}
 use Rattle.reply_records.specs.Groups.{sets_in_zone}
 use Rattle.rdata_layout.specs.declared.types.RType.TheVariants as rtype
