@@ -1,6 +1,6 @@
 -- Lists that are noted set by set.
 use Rattle.std.proofs.Common.{◌≡◌, ◌≤◌, ◌<◌, ◌+◌, ℕ, suc, List, [], ◌∷◌, ◌++◌, Option, Some, length}
-use Rattle.std.proofs.Common.{take, drop, sym, ap, ◌∙◌, arith}
+use Rattle.std.proofs.Common.{take, drop, refl, sym, ap, ◌∙◌, arith}
 use Rattle.std.specs.Prelude.{map, slice_get, slice_set}
 use Rattle.std.specs.Option.{option_map, unwrap_or}
 use Rattle.std.proofs.lemmas.List.{length-map, length-take, take_all}
@@ -14,6 +14,7 @@ use Rattle.zone_table.proofs.Lists.{take_more}
 use Rattle.zone_table.specs.Placed.{Placed}
 use Rattle.zone_table.specs.declared.refs.Group.{Group}
 use Rattle.policy_select.specs.Groups.{members_of, sets_in}
+use Rattle.policy_select.specs.Rules.{FirstSays}
 
 -- one element more is noted
 pub noted_more : {X : Type 0} (wanted noted : List X) (i : ℕ) (x : X) → i < length noted
@@ -35,6 +36,15 @@ said_at of first sets i set routing x there same says =
     let f = λ (s : RecordSet). unwrap_or (of s.routing) first in
     slice_get-map f sets i ∙ ap (option_map f) there
     ∙ ap Some (sym (says ∙ ap (λ (r : Routing). unwrap_or (of r) first) same))
+
+-- what the first set says is noted
+pub first_noted : {X : Type 0} (of : Routing → Option X) (first : X) (sets : List RecordSet)
+    (noted : List X) → 0 < length noted → FirstSays of first sets
+    → take 1 (slice_set noted 0 first) ≡ take 1 (each of first sets)
+first_noted {X} of first sets noted room says =
+    noted_more (each of first sets) noted 0 first room
+    (said_at of first sets 0 says.0 says.0.routing first says.1 refl
+    (sym (ap (λ (o : Option X). unwrap_or o first) says.2))) refl
 
 -- a group has no more sets than its length
 pub few_members : (zones : List Zone) (g : Group) → length (members_of zones g) ≤ g.length

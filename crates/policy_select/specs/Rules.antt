@@ -1,7 +1,8 @@
 -- A policy without its identifier.
-use Rattle.std.specs.Prelude.{◌≡◌, ℕ, List}
+use Rattle.std.specs.Prelude.{◌≡◌, ℕ, List, Option, Some, slice_get}
 use Rattle.routing.specs.declared.policies.Routing.{Routing}
 use Rattle.routing.specs.declared.policies.Routing.TheVariants as routing
+use Rattle.zone_table.specs.RecordSetRecord.{RecordSet}
 use Rattle.policy_select.specs.declared.rules.Rule.{Rule}
 use Rattle.policy_select.specs.declared.rules.Rule.TheVariants as rule
 
@@ -16,3 +17,8 @@ IsOf (rule.Latency region) policy = (ident : List ℕ) × (policy ≡ routing.La
 IsOf rule.Multivalue policy = (ident : List ℕ) × (policy ≡ routing.Multivalue ident)
 IsOf (rule.Cidr collection location) policy =
     (ident : List ℕ) × (policy ≡ routing.Cidr ident collection location)
+
+-- what the first set of a group says by its policy
+abbrev pub FirstSays : {X : Type 0} → (of : Routing → Option X) → (x : X) → List RecordSet → Type 0
+FirstSays of x sets =
+    (set : RecordSet) × (slice_get sets 0 ≡ Some set) × (of set.routing ≡ Some x)

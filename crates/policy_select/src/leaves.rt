@@ -14,6 +14,7 @@ ghost use Rattle.multivalue.specs.Choice.{chosen as several_chosen};
 ghost use Rattle.weighted.specs.Choice.{chosen as weight_chosen};
 ghost use Rattle.zone_table.specs.Looking.{IsGroupNow};
 ghost use Rattle.policy_select.specs.Groups.{flags_in, sets_in};
+ghost use Rattle.policy_select.specs.Rules.{FirstSays};
 
 use crate::client::{latencies_of, location_of};
 use crate::lists::{
@@ -39,6 +40,7 @@ pub(crate) fn choose_weighted<V: HealthView>(
     scratch: &mut Scratch,
 ) -> usize
     requires group { IsGroupNow zones.now.zones group }
+    requires first { FirstSays weight_of first (sets_in zones.now.zones group) }
     requires some { 0 < group.length }
     requires few { group.length ≤ 100 }
     ensures { result
@@ -61,6 +63,7 @@ pub(crate) fn choose_failover<V: HealthView>(
     scratch: &mut Scratch,
 ) -> usize
     requires group { IsGroupNow zones.now.zones group }
+    requires first { FirstSays role_of first (sets_in zones.now.zones group) }
     requires some { 0 < group.length }
     requires few { group.length ≤ 100 }
     ensures { result
@@ -85,6 +88,8 @@ pub(crate) fn choose_place<V: HealthView>(
     scratch: &mut Scratch,
 ) -> Option<usize>
     requires group { IsGroupNow zones.now.zones group }
+    requires first { FirstSays place_of first.now (sets_in zones.now.zones group) }
+    requires some { 0 < group.length }
     requires few { group.length ≤ 100 }
     ensures { result
         ≡ place_chosen (each place_of first.now (sets_in zones.now.zones group))
@@ -112,6 +117,7 @@ pub(crate) fn choose_region<V: HealthView>(
     scratch: &mut Scratch,
 ) -> usize
     requires group { IsGroupNow zones.now.zones group }
+    requires first { FirstSays region_of first.now (sets_in zones.now.zones group) }
     requires some { 0 < group.length }
     requires few { group.length ≤ 100 }
     ensures { result

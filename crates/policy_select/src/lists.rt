@@ -1,10 +1,12 @@
-//! What the sets of a group say, set by set, as lists for the choices.
+//! What the sets of a group say, set by set, as lists for the choices. What the first set says is
+//! known where it tells the policy.
 
-ghost use Rattle.std.specs.Prelude.{◌≡◌, ◌≤◌, length, take};
+ghost use Rattle.std.specs.Prelude.{◌≡◌, ◌<◌, ◌≤◌, length, take};
 ghost use Rattle.answer_model.specs.Choice.{each};
 ghost use Rattle.answer_model.specs.Policies.{location_of, place_of, region_of, role_of, weight_of};
 ghost use Rattle.zone_table.specs.Looking.{IsGroupNow};
 ghost use Rattle.policy_select.specs.Groups.{flags_in, sets_in};
+ghost use Rattle.policy_select.specs.Rules.{FirstSays};
 
 use crate::group::{is_member_healthy, place_at, region_at, role_at, routing_at, weight_at};
 use crate::parts::location_or;
@@ -39,12 +41,15 @@ pub(crate) fn note_weights(
     weights: &mut [u8],
 )
     requires group { IsGroupNow zones.now.zones group }
+    requires first { FirstSays weight_of first (sets_in zones.now.zones group) }
+    requires some { 0 < group.length }
     requires room { group.length ≤ length weights.old }
     ensures noted { take group.length weights.new
         ≡ each weight_of first (sets_in zones.now.zones group) }
     ensures size { length weights.new ≡ length weights.old }
 {
-    for i in 0..group.length {
+    weights[0] = first;
+    for i in 1..group.length {
         weights[i] = weight_at(zones, group, i, first, scratch);
     }
 }
@@ -58,12 +63,15 @@ pub(crate) fn note_roles(
     roles: &mut [Role],
 )
     requires group { IsGroupNow zones.now.zones group }
+    requires first { FirstSays role_of first (sets_in zones.now.zones group) }
+    requires some { 0 < group.length }
     requires room { group.length ≤ length roles.old }
     ensures noted { take group.length roles.new
         ≡ each role_of first (sets_in zones.now.zones group) }
     ensures size { length roles.new ≡ length roles.old }
 {
-    for i in 0..group.length {
+    roles[0] = first;
+    for i in 1..group.length {
         roles[i] = role_at(zones, group, i, first, scratch);
     }
 }
@@ -77,12 +85,15 @@ pub(crate) fn note_places(
     places: &mut [Place],
 )
     requires group { IsGroupNow zones.now.zones group }
+    requires first { FirstSays place_of first.now (sets_in zones.now.zones group) }
+    requires some { 0 < group.length }
     requires room { group.length ≤ length places.old }
     ensures noted { take group.length places.new
         ≡ each place_of first.now (sets_in zones.now.zones group) }
     ensures size { length places.new ≡ length places.old }
 {
-    for i in 0..group.length {
+    places[0] = *first;
+    for i in 1..group.length {
         places[i] = place_at(zones, group, i, first, scratch);
     }
 }
@@ -96,12 +107,15 @@ pub(crate) fn note_regions(
     regions: &mut [Region],
 )
     requires group { IsGroupNow zones.now.zones group }
+    requires first { FirstSays region_of first.now (sets_in zones.now.zones group) }
+    requires some { 0 < group.length }
     requires room { group.length ≤ length regions.old }
     ensures noted { take group.length regions.new
         ≡ each region_of first.now (sets_in zones.now.zones group) }
     ensures size { length regions.new ≡ length regions.old }
 {
-    for i in 0..group.length {
+    regions[0] = *first;
+    for i in 1..group.length {
         regions[i] = region_at(zones, group, i, first, scratch);
     }
 }

@@ -1,11 +1,18 @@
-use Rattle.std.proofs.Common.{arith, refl}
+use Rattle.std.proofs.Common.{arith, length-set, refl}
 use Rattle.std.specs.Option.{unwrap_or}
 use Rattle.answer_model.specs.Choice.{each}
 use Rattle.answer_model.specs.Policies.{weight_of}
 use Rattle.zone_table.specs.RecordSetRecord.{RecordSet}
 use Rattle.policy_select.specs.Groups.{sets_in}
-use Rattle.policy_select.proofs.Noted.{all_noted, few_sets, noted_more, said_at}
+use Rattle.policy_select.proofs.Noted.{all_noted, few_sets, first_noted, noted_more, said_at}
 use Rattle.policy_select.proofs.lists.note_weights.Goals as goal
+
+pub loop-i-init : goal.loop-i-init
+loop-i-init c =
+    let some = c.requires.some in
+    let room = c.requires.room in
+    first_noted weight_of c.args.first (sets_in c.args.zones.now.zones c.args.group)
+    c.args.weights.now (omega (arith, some, room)) c.requires.first
 
 pub loop-i-preserved : goal.loop-i-preserved
 loop-i-preserved c =
@@ -16,9 +23,10 @@ loop-i-preserved c =
     c.weight_at.result read.1 refl read.2 in
     let within = c.loop-i-test.true in
     let long = c.loop-i.auto.weights in
+    let size = length-set c.args.weights.now 0 c.args.first in
     let room = c.requires.room in
     noted_more (each weight_of first sets) c.loop-i.weights c.loop-i.i c.weight_at.result
-    (omega (arith, within, long, room)) said c.loop-i.invariant
+    (omega (arith, within, long, size, room)) said c.loop-i.invariant
 
 pub returns-clause-noted : goal.returns-clause-noted
 returns-clause-noted c =
