@@ -41,11 +41,11 @@ abbrev pub asked_of : List Zone → List (ℕ × Collection) → (healthy : (zon
     → Tables → Asked → Lookup
 asked_of zones collections healthy tables asked = record {
   zones = hosted_of zones;
-  zone = zone_of zones asked.zone asked.apex;
+  zone = zone_of zones asked.zone asked.apex.now;
   means = record {
     healthy = healthy asked.zone;
     client = client_at tables collections asked.client;
-    words = asked.words;
+    words = asked.words.now;
   };
   qtype = asked.qtype;
 }

@@ -6,17 +6,17 @@ use zone_lookup::Used;
 
 /// What a query asks of a zone, and what its choices are made by.
 #[derive(Clone, Copy)]
-pub(crate) struct Asked {
+pub(crate) struct Asked<'a> {
     /// The number of the zone that holds the name.
     pub zone: u32,
     /// The name of its apex.
-    pub apex: Name,
+    pub apex: &'a Name,
     /// QTYPE.
     pub qtype: u16,
     /// The client's address.
     pub client: IpAddress,
     /// The words that are drawn for the query.
-    pub words: [u64; 8],
+    pub words: &'a [u64; 8],
 }
 
 /// How many choices a query has made, and what they used.

@@ -29,12 +29,12 @@ pub(crate) fn answer_nodata(
 ) -> End
     requires { IsOpen Answer reply.old }
     ensures ends { (used : Used)
-        → Leaves (no_data (zone_of zones.now.zones asked.now.zone asked.now.apex) used)
+        → Leaves (no_data (zone_of zones.now.zones asked.now.zone asked.now.apex.now) used)
         reply.old reply.new result used }
     ensures rcode { result.rcode < 16 }
 {
     records_add_up();
-    write_soa(zones, asked.zone, &asked.apex, reply, scratch);
+    write_soa(zones, asked.zone, asked.apex, reply, scratch);
     End { aa: true, rcode: 0 }
 }
 
@@ -47,12 +47,12 @@ pub(crate) fn answer_nxdomain(
 ) -> End
     requires { IsOpen Answer reply.old }
     ensures ends { (used : Used)
-        → Leaves (nxdomain (zone_of zones.now.zones asked.now.zone asked.now.apex) used)
+        → Leaves (nxdomain (zone_of zones.now.zones asked.now.zone asked.now.apex.now) used)
         reply.old reply.new result used }
     ensures rcode { result.rcode < 16 }
 {
     records_add_up();
-    write_soa(zones, asked.zone, &asked.apex, reply, scratch);
+    write_soa(zones, asked.zone, asked.apex, reply, scratch);
     End {
         aa: true,
         rcode: NXDOMAIN,

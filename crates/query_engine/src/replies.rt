@@ -189,10 +189,10 @@ fn answer_in_zone<V: HealthView>(
     let client = client_address(&query.edns, peer);
     let asked = Asked {
         zone,
-        apex: *apex,
+        apex,
         qtype: query.qtype,
         client,
-        words: *words,
+        words,
     };
     let mut progress = Progress {
         count: 0,

@@ -76,7 +76,7 @@ fn answer_group<V: HealthView>(
         view,
         tables,
         asked.client,
-        &asked.words,
+        asked.words,
         &mut progress.count,
         &mut progress.used,
         scratch,
@@ -149,7 +149,7 @@ fn step_cname<V: HealthView>(
         view,
         tables,
         asked.client,
-        &asked.words,
+        asked.words,
         &mut progress.count,
         &mut progress.used,
         scratch,
@@ -289,8 +289,8 @@ fn step_standing<V: HealthView>(
     reply: &mut Reply,
     scratch: &mut Scratch,
 ) -> Next
-    requires there { IsApex zones.now.zones asked.now.zone asked.now.apex }
-    requires inside { EndsWith name.now asked.now.apex }
+    requires there { IsApex zones.now.zones asked.now.zone asked.now.apex.now }
+    requires inside { EndsWith name.now asked.now.apex.now }
     requires some { placed_in zones.now.zones asked.now.zone ≢ [] }
     requires few { FewInGroups (sets_in_zone zones.now.zones asked.now.zone) }
     requires none { asked_group (sets_in_zone zones.now.zones asked.now.zone) name.now
@@ -308,7 +308,7 @@ fn step_standing<V: HealthView>(
     ensures most { progress.new.count ≤ progress.old.count + 17 }
 {
     cuts_are_nearest();
-    match standing_of(zones, asked.zone, &asked.apex, name, place, scratch) {
+    match standing_of(zones, asked.zone, asked.apex, name, place, scratch) {
         Standing::Below(cut) => Next::Ends(answer_referral(zones, cut, reply, scratch)),
         Standing::Taken(from) => step_taken(
             zones, view, tables, asked, name, &from, progress, reply, scratch,
@@ -330,7 +330,7 @@ fn step_typed<V: HealthView>(
     reply: &mut Reply,
     scratch: &mut Scratch,
 ) -> Next
-    requires inside { EndsWith name.now asked.now.apex }
+    requires inside { EndsWith name.now asked.now.apex.now }
     requires few { FewInGroups (sets_in_zone zones.now.zones asked.now.zone) }
     requires has { HasSets zones.now.zones asked.now.zone
         (asked_group (sets_in_zone zones.now.zones asked.now.zone) name.now asked.now.qtype) group }
@@ -347,7 +347,7 @@ fn step_typed<V: HealthView>(
 {
     cuts_are_nearest();
     names_exist();
-    match cut_above(zones, asked.zone, &asked.apex, name) {
+    match cut_above(zones, asked.zone, asked.apex, name) {
         Some(cut) => Next::Ends(answer_referral(zones, cut, reply, scratch)),
         None => {
             let end = answer_group(
@@ -371,8 +371,8 @@ fn step<V: HealthView>(
     scratch: &mut Scratch,
 ) -> Next
     requires served { AreServed zones.now.zones }
-    requires there { IsApex zones.now.zones asked.now.zone asked.now.apex }
-    requires inside { EndsWith name.now asked.now.apex }
+    requires there { IsApex zones.now.zones asked.now.zone asked.now.apex.now }
+    requires inside { EndsWith name.now asked.now.apex.now }
     requires room { progress.old.count ≤ 238 }
     requires open { IsOpen Answer reply.old }
     ensures comes { (healthy : ℕ → SetKey → Bool)
@@ -384,7 +384,7 @@ fn step<V: HealthView>(
     ensures rcode { EndsWell result }
     ensures most { progress.new.count ≤ progress.old.count + 17 }
 {
-    known_few(zones, asked.zone, &asked.apex);
+    known_few(zones, asked.zone, asked.apex);
     match find_asked(zones, asked.zone, name, asked.qtype) {
         Found::Sets(group) => step_typed(
             zones, view, tables, asked, name, group, progress, reply, scratch,
@@ -408,8 +408,8 @@ pub(crate) fn look_up<V: HealthView>(
     scratch: &mut Scratch,
 ) -> End
     requires served { AreServed zones.now.zones }
-    requires there { IsApex zones.now.zones asked.now.zone asked.now.apex }
-    requires inside { EndsWith name.now asked.now.apex }
+    requires there { IsApex zones.now.zones asked.now.zone asked.now.apex.now }
+    requires inside { EndsWith name.now asked.now.apex.now }
     requires room { progress.old.count + 17 * most ≤ 238 }
     requires open { IsOpen Answer reply.old }
     ensures found { (healthy : ℕ → SetKey → Bool)

@@ -58,19 +58,19 @@ returns-clause-bytes g c = λ healthy agrees.
     let found = subst (λ (a : IpAddress). Leaves (look_up 8 (asked_of zones collections healthy
     tables (record {
       zone = c.args.zone;
-      apex = c.args.apex.now;
+      apex = c.args.apex;
       qtype = query.qtype;
       client = a;
-      words = c.args.words.now;
+      words = c.args.words;
     })) query.name no_choices) c.begin.new.self c.look_up-end.new.reply c.look_up-end.result
     c.look_up-end.new.progress.used) c.client_address-client.ensures
     (c.look_up-end.ensures.found healthy agrees) in
     let s = look_up 8 (asked_of zones collections healthy tables (record {
       zone = c.args.zone;
-      apex = c.args.apex.now;
+      apex = c.args.apex;
       qtype = query.qtype;
       client = client;
-      words = c.args.words.now;
+      words = c.args.words;
     })) query.name no_choices in
     c.finish.ensures.bytes (with_sections s (reply_to query))
     (found.adds.stands (reply_to query) c.begin.ensures.stands (refl, refl))

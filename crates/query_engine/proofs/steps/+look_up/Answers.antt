@@ -55,7 +55,7 @@ returns-then-not-is_held_by-clause-found g t c = λ healthy agrees.
     let other = subst (λ (n : List (List ℕ)).
     is_zone lookup.zone (zone_for lookup.zones n) ≡ false)
     (c.target_held-target.ensures is.0.set is.0.rdata is.0.is_held is.0.first)
-    (sym (c.if-not-is_held_by.ensures.same asked.apex)) in
+    (sym (c.if-not-is_held_by.ensures.same asked.apex.now)) in
     outside lookup c.args.name.now (choices_of c.args.progress.now) (record {
       owner = c.args.name.now;
       rtype = rtype.Cname;
@@ -92,7 +92,7 @@ look_up-end-requires g t c = λ κs lives.
           (
             c.requires.there,
             (
-              c.if-not-is_held_by.ensures.inside asked.apex c.requires.there refl,
+              c.if-not-is_held_by.ensures.inside asked.apex.now c.requires.there refl,
               (
                 omega (arith, some, more, room),
                 still_open (record {
@@ -124,7 +124,7 @@ returns-else-not-is_held_by-clause-found g t c = λ healthy agrees.
     }) (choices_of c.step.new.progress) is.0.follows c.args.most c.args.reply.now
     c.write_cname.new.reply c.look_up-end.new.reply c.target_held-target.result c.look_up-end.result
     c.look_up-end.new.progress.used (omega (arith, some))
-    (sym (c.if-not-is_held_by.ensures.same asked.apex))
+    (sym (c.if-not-is_held_by.ensures.same asked.apex.now))
     (c.target_held-target.ensures is.0.set is.0.rdata is.0.is_held is.0.first)
     (subst (λ (d : Draft). Writes Answer (record {
       owner = c.args.name.now;

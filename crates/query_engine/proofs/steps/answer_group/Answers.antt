@@ -17,7 +17,7 @@ returns-in-Nothing-clause-ends g c = λ healthy agrees.
     let asked = c.args.asked.now in
     let used = c.descend-selected.new.used in
     let lookup = asked_of zones c.args.zones.now.collections.list healthy c.args.tables.now asked in
-    let gives = zone_gives zones test lookup.means.client asked.words c.args.group asked.zone
+    let gives = zone_gives zones test lookup.means.client asked.words.now c.args.group asked.zone
     (choices_of c.args.progress.now) c.descend-selected.result
     c.descend-selected.new.choices used
     c.descend-selected.ensures.gives c.requires.zone healthy agrees in
@@ -36,7 +36,7 @@ returns-in-Sets-clause-ends g c = λ healthy agrees.
     let asked = c.args.asked.now in
     let used = c.descend-selected.new.used in
     let lookup = asked_of zones c.args.zones.now.collections.list healthy c.args.tables.now asked in
-    let gives = zone_gives zones test lookup.means.client asked.words c.args.group asked.zone
+    let gives = zone_gives zones test lookup.means.client asked.words.now c.args.group asked.zone
     (choices_of c.args.progress.now) c.descend-selected.result
     c.descend-selected.new.choices used
     c.descend-selected.ensures.gives c.requires.zone healthy agrees in

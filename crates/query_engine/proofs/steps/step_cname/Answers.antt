@@ -29,7 +29,7 @@ returns-in-None-clause-comes g c = λ healthy agrees.
     let test = g.V.HealthView.test c.args.view.now in
     let asked = c.args.asked.now in
     let lookup = asked_of zones c.args.zones.now.collections.list healthy c.args.tables.now asked in
-    let gives = zone_gives zones test lookup.means.client asked.words c.args.group asked.zone
+    let gives = zone_gives zones test lookup.means.client asked.words.now c.args.group asked.zone
     (choices_of c.args.progress.now) c.descend-selected.result
     c.descend-selected.new.choices c.descend-selected.new.used
     c.descend-selected.ensures.gives c.requires.zone healthy agrees in
@@ -50,7 +50,7 @@ returns-in-Some-clause-comes g c = λ healthy agrees.
     let name = c.args.name.now in
     let starts = c.in-Some.ensures in
     let lookup = asked_of zones c.args.zones.now.collections.list healthy c.args.tables.now asked in
-    let gives = zone_gives zones test lookup.means.client asked.words c.args.group asked.zone
+    let gives = zone_gives zones test lookup.means.client asked.words.now c.args.group asked.zone
     (choices_of c.args.progress.now) c.descend-selected.result
     c.descend-selected.new.choices c.descend-selected.new.used
     c.descend-selected.ensures.gives c.requires.zone healthy agrees in
