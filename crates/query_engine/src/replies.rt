@@ -64,6 +64,8 @@ pub fn answer<V: HealthView>(
 }
 
 /// The reply to what was read of a packet: its query isn't copied.
+// By a call of its own, so that the query stays in its place.
+#[inline(never)]
 fn answer_read<V: HealthView>(
     zones: &Zones,
     view: &V,

@@ -42,6 +42,7 @@ use zone_lookup::{
 };
 
 /// The records of a group of the asked type answer a name. Where nothing is chosen it is no data.
+#[inline(always)]
 fn answer_group<V: HealthView>(
     zones: &Zones,
     view: &V,
@@ -278,6 +279,8 @@ fn step_taken<V: HealthView>(
 
 /// What a name comes to that has no set of the asked type: a referral where it is below a zone cut,
 /// else by what stands for it.
+// Apart from the way that most queries take, which is inlined.
+#[inline(never)]
 fn step_standing<V: HealthView>(
     zones: &Zones,
     view: &V,
@@ -319,6 +322,7 @@ fn step_standing<V: HealthView>(
 
 /// What a name comes to that has sets of the asked type: a referral where it is below a zone cut,
 /// else these answer.
+#[inline(always)]
 fn step_typed<V: HealthView>(
     zones: &Zones,
     view: &V,
@@ -360,6 +364,7 @@ fn step_typed<V: HealthView>(
 
 /// What a name comes to. Its sets of the asked type are looked for first: where there are some the
 /// name exists.
+#[inline(always)]
 fn step<V: HealthView>(
     zones: &Zones,
     view: &V,
