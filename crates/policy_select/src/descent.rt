@@ -112,6 +112,7 @@ fn descend_from<V: HealthView>(
 }
 
 /// Makes one choice more. The scratch holds the first selected set then.
+#[inline(always)]
 fn choose_next<V: HealthView>(
     zones: &Zones,
     group: Group,
@@ -188,6 +189,8 @@ fn choose_simple(zones: &Zones, group: Group, scratch: &Scratch) -> Selected
 
 /// Chooses by the policy of the first set of a group, which is held. The scratch holds the first
 /// selected set then.
+// Apart, so that a simple group passes by what it doesn't need.
+#[inline(never)]
 fn choose_held<V: HealthView>(
     zones: &Zones,
     group: Group,

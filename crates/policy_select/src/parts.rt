@@ -84,6 +84,7 @@ pub(crate) fn place_in(octets: &[u8], first: &Place) -> Place
 }
 
 /// The place at the front.
+#[inline(always)]
 pub(crate) fn place_at(octets: &[u8]) -> Place
     ensures { (place : Place) (rest : List ℕ) → IsPlace place
         → octets.now ≡ place_octets place ++ rest → result ≡ place }
