@@ -59,7 +59,7 @@ module _ (old new : State) (some : IsSome old.journal.plan) (pieces : ℕ) where
       is_going config (compacted.Done generation) gives
   went_on config compacted.GenerationsEnded never = absurd never
   went_on config compacted.OutOfMemory never = absurd never
-  went_on config compacted.DiskFault dropped = (config, dropped)
+  went_on config compacted.DiskFault dropped = (goes_on, config, dropped)
 
 -- none is in progress of which nothing is told
 pub no_progress : (v : Journal) (told : Option Progress) → told ≡ progress_of v
@@ -167,4 +167,4 @@ module _ (old mid : State) (none : old.journal.plan ≡ None) (config : mid.conf
         has_gone stays (compacted.Done generation) gives
     began stays compacted.GenerationsEnded never = absurd never
     began stays compacted.OutOfMemory never = absurd never
-    began stays compacted.DiskFault dropped = (stays ∙ config, dropped)
+    began stays compacted.DiskFault dropped = (not_last, stays ∙ config, dropped)

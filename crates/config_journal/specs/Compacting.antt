@@ -20,7 +20,8 @@ pub record IsCompacted (outcome : Compacted) (old : State) (pieces : ℕ) (new :
   pub told : outcome ≡ told_of (journal_of new.journal) (journal_of new.journal).plan
 
 -- What an answer says, a line for each. Memory is wanted for a compaction that would begin alone. A
--- fault of a disk drops the compaction.
+-- fault of a disk drops the compaction; it comes of a piece alone, and behind the last generation
+-- none is made.
 abbrev pub CompactGives : Compacted → (old : State) → (pieces : ℕ) → (new : State) → Type 0
 CompactGives (compacted.Left left) old pieces new =
     IsCompacted (compacted.Left left) old pieces new
@@ -30,7 +31,8 @@ CompactGives compacted.GenerationsEnded old pieces new =
     IsLastGeneration (journal_of old.journal) × (new ≡ old)
 CompactGives compacted.OutOfMemory old pieces new = (old.journal.plan ≡ None) × (new ≡ old)
 CompactGives compacted.DiskFault old pieces new =
-    (new.config ≡ old.config) × (new.journal.plan ≡ None)
+    (IsLastGeneration (journal_of old.journal) → ⊥)
+    × (new.config ≡ old.config) × (new.journal.plan ≡ None)
 
 -- P, but where a disk failed
 abbrev pub UnlessFaulty : Compacted → Type 0 → Type 0

@@ -10,6 +10,7 @@ use Rattle.reply_sending.specs.MadeRecord.{Made}
 use Rattle.reply_sending.specs.RefusalRecord.{Refusal}
 use Rattle.reply_sending.specs.RefusalRecord.TheVariants as refusal
 use Rattle.serve_turns.specs.Engine.{Engine, Fits, grown, size_of}
+use Rattle.line_server.specs.Asking.{CommandAsksDisk}
 use Rattle.line_server.specs.Leaving.{Makes, RepliesOr, StoreLeaves, Torn, Written, taken_of}
 use Rattle.line_server.specs.Replying.{Commanded}
 use Rattle.serve_turns.specs.Stores.{CommandGives, StandsFor, State as Store, Untouched}
@@ -123,6 +124,14 @@ fits law engine given new (inr (inr (after, inr (made, (what, decides, inl (full
     accepted = full_apart (sym is)
 fits law engine given new (inr (inr (after, inr (made, (what, decides, inr (fitting, is, same))), stands)))
     accepted = fitting
+
+-- it was accepted, and fits
+pub asked : (law : OneOutcome) (engine : Engine) (given : Command) (old new : Store)
+    → StandsFor engine old → CommandGives engine given (Err refusal.DiskFault) new
+    → IsAccepted (config_of old.kept) given → CommandAsksDisk given engine
+asked law engine given old new stands gives accepted =
+    let its = subst (λ (c : Config). IsAccepted c given) (sym stands.config) accepted in
+    (its, fits law engine given new gives its)
 
 -- the step, and what the images open to
 module _ {D : Type 0} (reading : D → Option (List ℕ)) (images : D → List ℕ → Type 0)

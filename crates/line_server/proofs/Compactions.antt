@@ -9,6 +9,7 @@ use Rattle.serve_turns.specs.Engine.{Engine, Journal, Plan}
 use Rattle.serve_turns.specs.CompactedRecord.{Compacted}
 use Rattle.serve_turns.specs.CompactedRecord.TheVariants as compacted
 use Rattle.line_server.proofs.Commands.{written}
+use Rattle.line_server.specs.Asking.{CompactionAsksDisk}
 use Rattle.line_server.specs.Leaving.{Makes, RepliesOr, Torn, taken_of}
 use Rattle.line_server.specs.Replying.{Compacts}
 use Rattle.serve_turns.specs.Stores.{CompactionGives, StandsFor, State as Store}
@@ -33,7 +34,7 @@ module _ (engine : Engine) (pieces : ℕ) (came : Compacted) (new : Store) where
             (subst (λ (r : Compacted). OutputOf held out o (text_of (compact_outcome r))) is told),
         stands,
       )
-  made Same whole where_none (inr (inl (is, more))) o held out told = absurd (whole is)
+  made Same whole where_none (inr (inl (is, more, dropped))) o held out told = absurd (whole is)
   made Same whole where_none (inr (inr (after, steps, stands))) o held out told =
       inr (
         after,
@@ -47,7 +48,7 @@ module _ (engine : Engine) (pieces : ℕ) (came : Compacted) (new : Store) where
   pub stood : CompactionGives engine pieces came new
       → (after : Engine) × Makes (Compacts pieces) engine after × StandsFor after new
   stood (inl (is, none, stands)) = (engine, inl (engine.journal, refl), stands)
-  stood (inr (inl (is, (journal, dropped, stands)))) =
+  stood (inr (inl (is, more, (journal, dropped, stands)))) =
       (record engine { journal = journal }, inl (journal, refl), stands)
   stood (inr (inr (after, steps, stands))) =
       (after, inr (text_of (compact_outcome came), (came, steps, refl)), stands)
@@ -64,10 +65,18 @@ pub at_fault : (engine : Engine) (pieces : ℕ) (new : Store)
     → CompactionGives engine pieces compacted.DiskFault new
     → (journal : Journal) × StandsFor (record engine { journal = journal }) new
 at_fault engine pieces new (inl (is, none, stands)) = absurd (Prim.cc)
-at_fault engine pieces new (inr (inl (is, (journal, dropped, stands)))) = (journal, stands)
+at_fault engine pieces new (inr (inl (is, more, (journal, dropped, stands)))) = (journal, stands)
 at_fault engine pieces new (inr (inr (after, inl (last, is, same), stands))) = absurd (Prim.cc)
 at_fault engine pieces new (inr (inr (after, inr (more, same, is), stands))) =
     no_told after.journal after.journal.plan is
+
+-- it was asked to make a piece
+pub asked : (engine : Engine) (pieces : ℕ) (new : Store)
+    → CompactionGives engine pieces compacted.DiskFault new → CompactionAsksDisk engine
+asked engine pieces new (inl (is, none, stands)) = absurd (Prim.cc)
+asked engine pieces new (inr (inl (is, more, dropped))) = more
+asked engine pieces new (inr (inr (after, inl (last, is, same), stands))) = absurd (Prim.cc)
+asked engine pieces new (inr (inr (after, inr (more, same, is), stands))) = more
 
 decided : (journal : Journal) → IsLastGeneration journal ⊎ (IsLastGeneration journal → ⊥)
 decided journal = by_plan journal.plan refl

@@ -1,3 +1,4 @@
+pub mod Asking
 pub mod Leaving
 pub mod Replying
 pub mod Standing

@@ -1,13 +1,12 @@
 //! Lines that ask for a status, tell what a checker saw, or ask for the reply to a packet.
 
-ghost use Rattle.std.specs.Prelude.{◌≡◌, ◌≤◌, ◌<◌, ◌⊎◌, ℕ, List, Some, vec_capacity, ⊤};
+ghost use Rattle.std.specs.Prelude.{◌≡◌, ◌≤◌, ◌<◌, ℕ, List, Some, length, vec_capacity};
 ghost use Rattle.serve_turns.specs.Engine.{Engine, ReportSteps};
-ghost use Rattle.line_server.specs.Leaving.{HasCause, Replies, RepliesOr};
+ghost use Rattle.line_server.specs.Leaving.{HasCause, Replies};
 ghost use Rattle.line_server.specs.Replying.{Answered, Observed, Told};
 ghost use Rattle.serve_turns.specs.Stores.{StandsFor};
 ghost use Rattle.octets.specs.Counts.{Rose};
-ghost use Rattle.serve_turns.specs.Replies.{memory_text, query_text, report_outcome};
-ghost use Rattle.serve_turns.specs.Replies.{status_outcome};
+ghost use Rattle.serve_turns.specs.Replies.{query_text, report_outcome, status_outcome};
 ghost use Rattle.whole_writing.specs.Output.{OutputOf};
 
 use crate::answers::Taken;
@@ -110,9 +109,7 @@ fn take<L: Ledger>(blank: Blank, store: &mut Store, seen: Observation) -> Report
     store.report(seen.id, seen.checker, seen.pass, &mut steps)
 }
 
-/// Writes the reply to a packet, as a line.
-///
-/// A reply of more than 4,096 octets, which no packet has, would be refused for want of memory.
+/// Writes the reply to a packet, as a line. It takes no memory.
 pub fn query<K: Sink>(
     store: &mut Store,
     tables: &Tables,
@@ -125,7 +122,7 @@ pub fn query<K: Sink>(
     requires room { ROOM ≤ vec_capacity text.old }
     ensures leaves { (engine : Engine) (held : List ℕ) → StandsFor engine store.old
         → K.held out.old ≡ Some held
-        → RepliesOr ⊤ result (Answered tables.now asked.now) engine
+        → Replies result (Answered tables.now asked.now) engine
         (λ after. StandsFor after store.new) held (K.held out.new) }
     ensures same { store.new ≡ store.old }
     ensures reply { reply.new.room ≡ reply.old.room }
@@ -145,13 +142,13 @@ pub fn query<K: Sink>(
     }
 }
 
-/// Writes the octets of a reply. No reply has more than 4,096, which the call that makes it doesn't
-/// tell: more are refused for want of memory.
+/// Writes the octets of a reply. No reply has more than 4,096; of a store that stands for nothing this
+/// isn't told, and more would be refused for want of memory.
 fn send_octets<K: Sink>(octets: &[u8], text: &mut Vec<u8>, out: &mut K) -> Output
     requires room { ROOM ≤ vec_capacity text.old }
     ensures writes { (held : List ℕ) → K.held out.old ≡ Some held
-        → OutputOf held (K.held out.new) result (query_text (Some octets.now))
-        ⊎ OutputOf held (K.held out.new) result memory_text }
+        → length octets.now ≤ 4096
+        → OutputOf held (K.held out.new) result (query_text (Some octets.now)) }
     ensures room { vec_capacity text.old ≤ vec_capacity text.new }
     ensures counts { K.faults out.old ≤ K.faults out.new }
     ensures failed { result ≡ Output.Failed → Rose (K.faults out.old) (K.faults out.new) }

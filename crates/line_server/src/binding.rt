@@ -1,6 +1,6 @@
 //! Ports, and turns on them.
 
-ghost use Rattle.std.specs.Prelude.{◌≡◌, ◌≤◌, ℕ, List, Some, length, vec_capacity};
+ghost use Rattle.std.specs.Prelude.{◌≡◌, ◌≤◌, ℕ, List, Some, false, length, true, vec_capacity};
 ghost use Rattle.serve_turns.specs.LineRecord.TheVariants as line;
 ghost use Rattle.line_server.specs.Leaving.{HasCause, StepLeaves, TurnsInPart};
 ghost use Rattle.line_server.specs.Standing.{IsBound, IsServed};
@@ -36,6 +36,9 @@ pub fn bind_ports<L: Link, K: Sink>(
         → StepLeaves result (LineSteps around (line.Bind ports) old) (λ sent. sent ≡ Some before)
         (IsBound old bound.new) held before (K.held out.new) (L.sent link.new) }
     ensures unbound { result ≡ Taken.LinkFault → bound.new ≡ bound.old }
+
+    // The network is asked where no ports are bound alone.
+    ensures asked { result ≡ Taken.LinkFault → bound.old ≡ false }
     ensures coming { L.coming link.new ≡ L.coming link.old }
     ensures ports { L.ports link.new ≡ L.ports link.old }
     ensures room { vec_capacity text.old ≤ vec_capacity text.new }
@@ -83,6 +86,9 @@ pub fn take_turns<L: Link, R: Rng, K: Sink>(
         (TurnsInPart around turns old before (L.coming link.new))
         (IsServed bound store.new (L.coming link.new) (R.stream words.new)) held before
         (K.held out.new) (L.sent link.new) }
+
+    // The network is asked where ports are bound alone.
+    ensures asked { result ≡ Taken.LinkFault → bound ≡ true }
 
     // Whatever is told, the store stands for what it stood for, with more reports.
     ensures reports { GoesOn store.old store.new }

@@ -7,6 +7,7 @@ ghost use Rattle.serve_turns.specs.Holding.{Holds};
 ghost use Rattle.reply_sending.specs.Laws.{IsBounded};
 ghost use Rattle.reply_sending.specs.RefusalRecord.TheVariants as refusal;
 ghost use Rattle.serve_turns.specs.Engine.{Engine};
+ghost use Rattle.line_server.specs.Asking.{CommandAsksDisk};
 ghost use Rattle.line_server.specs.Leaving.{HasCause, Makes, StoreLeaves, Torn, UnlessTorn};
 ghost use Rattle.line_server.specs.Replying.{Commanded};
 ghost use Rattle.octets.specs.Counts.{Rose};
@@ -60,6 +61,10 @@ pub fn control<D: Disk, K: Sink>(
     ensures torn { result ≡ Taken.DiskFault → (engine : Engine) → StandsFor engine store.old
         → Leaves D.reading a.old b.old (Holds store.old.kept)
         → Torn D.images a.new b.new (Commanded command) engine }
+
+    // A disk is asked by a command that is accepted and fits alone.
+    ensures asked { result ≡ Taken.DiskFault → (engine : Engine) → StandsFor engine store.old
+        → CommandAsksDisk command engine }
     ensures room { vec_capacity text.old ≤ vec_capacity text.new }
     ensures a_counts { D.faults a.old ≤ D.faults a.new }
     ensures b_counts { D.faults b.old ≤ D.faults b.new }

@@ -4,6 +4,7 @@ ghost use Rattle.std.specs.Prelude.{◌≡◌, ◌≤◌, ℕ, List, None, Some,
 ghost use Rattle.serve_turns.specs.Holding.{Holds};
 ghost use Rattle.serve_turns.specs.Engine.{Engine};
 ghost use Rattle.serve_turns.specs.CompactedRecord.TheVariants as Compacted;
+ghost use Rattle.line_server.specs.Asking.{CompactionAsksDisk};
 ghost use Rattle.line_server.specs.Leaving.{HasCause, Makes, StoreLeaves, Torn, UnlessTorn};
 ghost use Rattle.line_server.specs.Replying.{Compacts};
 ghost use Rattle.serve_turns.specs.Stores.{StandsFor};
@@ -51,6 +52,10 @@ pub fn compact<D: Disk, K: Sink>(
     ensures torn { result ≡ Taken.DiskFault → (engine : Engine) → StandsFor engine store.old
         → Leaves D.reading a.old b.old (Holds store.old.kept)
         → Torn D.images a.new b.new (Compacts pieces) engine }
+
+    // A disk is asked where a piece is made alone.
+    ensures asked { result ≡ Taken.DiskFault → (engine : Engine) → StandsFor engine store.old
+        → CompactionAsksDisk engine }
     ensures room { vec_capacity text.old ≤ vec_capacity text.new }
     ensures a_counts { D.faults a.old ≤ D.faults a.new }
     ensures b_counts { D.faults b.old ≤ D.faults b.new }

@@ -68,8 +68,9 @@ module _ (engine : Engine) (old new : Kept) (index : Index)
     ap (λ (j : Journal). j.plan) stands.journal ∙ ap (option_map (plan_of old.journal)) none,
     stands_still same,
   )
-  compaction compacted.DiskFault (config, dropped) = inr (inl (
+  compaction compacted.DiskFault (more, config, dropped) = inr (inl (
     refl,
+    λ last. more (subst (λ (j : Journal). IsLastGeneration j) stands.journal last),
     (
       journal_of new.journal,
       ap (option_map (plan_of new.journal)) dropped,

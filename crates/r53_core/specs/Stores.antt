@@ -6,7 +6,7 @@ use Rattle.config_opening.specs.States.{State as Kept, config_of}
 use Rattle.sound_configs.specs.MadeRecord.{Made}
 use Rattle.sound_configs.specs.RefusalRecord.{Refusal}
 use Rattle.sound_configs.specs.RefusalRecord.TheVariants as refusal
-use Rattle.sound_configs.specs.Compacting.{CompactionSteps}
+use Rattle.sound_configs.specs.Compacting.{CompactionSteps, IsLastGeneration}
 use Rattle.sound_configs.specs.Engine.{CommandSteps, Engine, Fits, Journal, size_of}
 use Rattle.sound_configs.specs.CompactedRecord.{Compacted}
 use Rattle.sound_configs.specs.CompactedRecord.TheVariants as compacted
@@ -45,12 +45,13 @@ CommandGives engine given outcome new =
 
 -- What so many pieces of a compaction make of a store. Where memory is wanted none was in progress,
 -- and it stands for what it stood for. Where a disk failed it stands for the configuration and the
--- reports, with a journal without a compaction. Else it stands for what the definitions make of that,
--- with their outcome.
+-- reports, with a journal without a compaction: that comes of a piece alone, and behind the last
+-- generation none is made. Else it stands for what the definitions make of that, with their outcome.
 abbrev pub CompactionGives : Engine → (pieces : ℕ) → Compacted → (new : State) → Type 0
 CompactionGives engine pieces outcome new =
     ((outcome ≡ compacted.OutOfMemory) × (engine.journal.plan ≡ None) × StandsFor engine new)
-    ⊎ ((outcome ≡ compacted.DiskFault) × ((journal : Journal) × (journal.plan ≡ None)
+    ⊎ ((outcome ≡ compacted.DiskFault) × (IsLastGeneration engine.journal → ⊥)
+    × ((journal : Journal) × (journal.plan ≡ None)
     × StandsFor (record engine { journal = journal }) new))
     ⊎ ((after : Engine) × CompactionSteps engine pieces outcome after × StandsFor after new)
 

@@ -188,6 +188,7 @@ module _ (around : Surroundings) (first middle : Reader) (left : List ℕ) (had 
           (Line h.octets ∷ h.more) start g.session h.session g.first h.first;
       told = told_join g.session h.session held before out sent h.told;
       rest = h.rest;
+      asks = h.asks;
       steps = h.steps;
       files = h.files;
     }

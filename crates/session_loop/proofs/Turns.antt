@@ -22,7 +22,7 @@ use Rattle.session_server.specs.Leaving.{HasCause as LineCause, ImagesOpen, Writ
 use Rattle.session_server.specs.Standing.{Server, StandsFor}
 use Rattle.session_server.specs.Taken.{Taken}
 use Rattle.session_server.specs.Taken.TheVariants as taken
-use Rattle.session_server.specs.Taking.{LineLeaves, OrMemory, PartOfOctets}
+use Rattle.session_server.specs.Taking.{LineLeaves, OctetsAskDisk, OrMemory, PartOfOctets}
 use Rattle.whole_writing.specs.Output.{OutputOf}
 use Rattle.whole_writing.specs.declared.output.Output.{Output}
 use Rattle.whole_writing.specs.declared.output.Output.TheVariants as output
@@ -234,20 +234,21 @@ module _ {D : Type 0} (images : D → List ℕ → Type 0) (a b : D) (around : S
       → FilesOpen images a b now.engine.config)
       → (answer ≡ taken.LinkFault → FilesOpen images a b start.engine.config)
       → (answer ≡ taken.DiskFault → IsLeft start network random)
+      → (answer ≡ taken.DiskFault → OctetsAskDisk octets start.engine)
       → LineLeaves answer (OctetsStep around octets start)
       (PartOfOctets around octets start before network sent) Given
       (ImagesOpen images a b start.engine.config) start
       (λ now. StandsFor now server network random) held before out sent
       → TurnLeaves (ended_of answer) images a b around old new left after start server network random
       held before out sent
-  line_turn octets gives Given given taken.Replied files still torn_left (step, came, here, was, so) =
+  line_turn octets gives Given given taken.Replied files still torn_left asks (step, came, here, was, so) =
       let comes = comes_of around octets start step came in
       went (Line octets) gives step (comes.0 ∷ []) (step, begun step.new, comes.1, refl, refl) here was
       so
-  line_turn octets gives Given given taken.WriteFault files still torn_left (step, came, here, was, so) =
+  line_turn octets gives Given given taken.WriteFault files still torn_left asks (step, came, here, was, so) =
       cut_off (Line octets) gives step (comes_of around octets start step came) here was so
       (files step.new (λ e. absurd (Prim.cc)) here)
-  line_turn octets gives Given given taken.DiskFault files still torn_left (was, so, torn) =
+  line_turn octets gives Given given taken.DiskFault files still torn_left asks (was, so, torn) =
       let t = torn given in
       record {
         session = begun start;
@@ -258,10 +259,11 @@ module _ {D : Type 0} (images : D → List ℕ → Type 0) (a b : D) (around : S
             (gives.events left);
         told = none_told start held before out sent was so;
         rest = torn_left refl;
+        asks = asks refl;
         steps = t.1;
         files = t.2;
       }
-  line_turn octets gives Given given taken.LinkFault files still torn_left (was, part) = record {
+  line_turn octets gives Given given taken.LinkFault files still torn_left asks (was, part) = record {
     session = begun start;
     octets = octets;
     more = events new left;

@@ -17,7 +17,7 @@ use Rattle.session_server.specs.Serving.{Datagram}
 use Rattle.session_server.specs.Sessions.{Comes, LineComes, Session, told_alone}
 use Rattle.session_server.specs.Steps.{OctetsStep, State, Step, Surroundings}
 use Rattle.session_server.specs.Leaving.{ImagesOpen}
-use Rattle.session_server.specs.Taking.{PartOfOctets}
+use Rattle.session_server.specs.Taking.{OctetsAskDisk, PartOfOctets}
 use Rattle.session_server.specs.Opening.{OpensConfig}
 use Rattle.whole_writing.specs.Output.{OutputOf}
 use Rattle.whole_writing.specs.declared.output.Output.TheVariants as output
@@ -104,8 +104,8 @@ pub record IsCut {D : Type 0} (images : D → List ℕ → Type 0) (a b : D) (ar
   pub rest : IsLeft step.new network random
   pub files : FilesOpen images a b step.new.engine.config
 
--- Behind a session over the first lines, all told, a disk failed with the next: the files open to
--- where the session stands, or to where it would with that line.
+-- Behind a session over the first lines, all told, a disk failed with the next, which asks one: the
+-- files open to where the session stands, or to where it would with that line.
 pub record IsTorn {D : Type 0} (images : D → List ℕ → Type 0) (a b : D) (around : Surroundings)
     (lines : List Event) (start : State) (held : List ℕ) (before : List Datagram)
     (network : Option (List Incoming)) (random : Stream) (out : Option (List ℕ))
@@ -117,6 +117,7 @@ pub record IsTorn {D : Type 0} (images : D → List ℕ → Type 0) (a b : D) (a
   pub first : First around lines start (Line octets ∷ more) session
   pub told : AllTold session held before out sent
   pub rest : IsLeft session.new network random
+  pub asks : OctetsAskDisk octets session.new.engine
   pub steps : OctetsStep around octets session.new step
   pub files : ImagesOpen images a b session.new.engine.config step.new.engine.config
 

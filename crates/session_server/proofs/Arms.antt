@@ -7,7 +7,7 @@ use Rattle.line_bounds.specs.CommandRecord.{Command}
 use Rattle.line_bounds.specs.Configs.{Config, zone_with}
 use Rattle.list_sending.specs.Engine.{Engine, QueryGives}
 use Rattle.geo_latency.specs.declared.tables.Tables.{Tables}
-use Rattle.line_server.specs.Leaving.{Replies, RepliesOr, StoreLeaves, taken_of}
+use Rattle.line_server.specs.Leaving.{Replies, StoreLeaves, taken_of}
 use Rattle.line_server.specs.Replying.{Answered, Commanded, Compacts, Observed, Told}
 use Rattle.line_server.specs.Standing.{IsBound, Server, StandsFor}
 use Rattle.line_server.specs.Stores.{StandsFor as StoreStandsFor, State as Store}
@@ -99,7 +99,7 @@ module _ (around : Surroundings) (old : State) (server : Server)
       answer (inr leaves)
 
   pub query : (asked : QueryLine) (answer : Taken) → around.tables ≡ server.tables
-      → RepliesOr ⊤ answer (Answered server.tables asked) old.engine
+      → Replies answer (Answered server.tables asked) old.engine
       (λ after. StoreStandsFor after store) held out
       → LineLeaves answer (LineSteps around (line.Query asked) old) Part Given Opens old
       (λ new. StandsFor new (record { store = store; tables = server.tables; bound = server.bound })
@@ -115,7 +115,7 @@ module _ (around : Surroundings) (old : State) (server : Server)
             c.1,
         ap (λ (e : Engine). replied old e reply) c.2
             ∙ ap (λ (r : List ℕ). replied old old.engine r) c.3,
-      )) rest answer leaves
+      )) rest answer (inr leaves)
 
   pub list : (asked : ListOfSets) (zones : List HostedZone) → zones ≡ old.engine.config.zones
       → StoreStandsFor old.engine store → (o : Output) (answer : Taken) → taken_of o ≡ answer

@@ -1,3 +1,3 @@
 mod Arms
-mod Asked
+pub mod Asked
 mod Lines

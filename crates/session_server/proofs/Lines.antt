@@ -38,6 +38,14 @@ none_torn taken.DiskFault link_old link_new out_old out_new (inl rose) is = omeg
 none_torn taken.DiskFault link_old link_new out_old out_new (inr rose) is = omega (arith, rose)
 none_torn taken.LinkFault link_old link_new out_old out_new cause is = absurd (Prim.cc)
 
+-- The network that isn't asked doesn't fail.
+pub none_unsent : (answer : Taken) (a_old a_new b_old b_new out_old out_new : ℕ)
+    → HasCause answer a_old a_new b_old b_new 0 0 out_old out_new → answer ≡ taken.LinkFault → ⊥
+none_unsent taken.Replied a_old a_new b_old b_new out_old out_new cause is = absurd (Prim.cc)
+none_unsent taken.WriteFault a_old a_new b_old b_new out_old out_new cause is = absurd (Prim.cc)
+none_unsent taken.DiskFault a_old a_new b_old b_new out_old out_new cause is = absurd (Prim.cc)
+none_unsent taken.LinkFault a_old a_new b_old b_new out_old out_new rose is = omega (arith, rose)
+
 -- ---- other words for the same
 
 or_mapped : (Steps Other : Step → Type 0) (old : State) → ((step : Step) → Steps step → Other step)
@@ -167,14 +175,14 @@ module _ (Steps : Step → Type 0) (Part Given : Type 0) (Opens : Config → Typ
     (Stands P : State → Type 0) (Sent : Option (List Datagram) → Type 0) (held : List ℕ)
     (before : List Datagram) (out : Option (List ℕ)) (sent : Option (List Datagram)) where
   pub of_network : (answer : Taken) → ((step : Step) → Steps step → Stands step.new → P step.new)
-      → (Sent sent → Part) → StepLeaves answer Steps Sent Stands held before out sent
+      → (answer ≡ taken.LinkFault → Sent sent → Part) → StepLeaves answer Steps Sent Stands held before out sent
       → LineLeaves answer Steps Part Given Opens old P held before out sent
   of_network taken.Replied here part (step, steps, stands, was, so) =
       (step, inr steps, here step steps stands, was, so)
   of_network taken.WriteFault here part (step, steps, stands, was, so) =
       (step, inr steps, here step steps stands, was, so)
   of_network taken.DiskFault here part none = absurd none
-  of_network taken.LinkFault here part (was, its) = (was, part its)
+  of_network taken.LinkFault here part (was, its) = (was, part refl its)
 
 -- ---- lines of octets
 

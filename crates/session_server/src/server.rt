@@ -1,23 +1,27 @@
 //! The server, and the calls for a line.
 
-ghost use Rattle.std.specs.Prelude.{◌≡◌, ◌≤◌, ℕ, List, IfOk, Option, Some, false, ⊤};
+ghost use Rattle.std.specs.Prelude.{◌≡◌, ◌≤◌, ℕ, List, IfOk, Option, Some, false, true, ⊤};
 ghost use Rattle.line_bounds.specs.LineRecord.TheVariants as line;
 ghost use Rattle.line_bounds.specs.LawsOfCommandBounds.{HasShortLists};
 ghost use Rattle.line_bounds.specs.LawsOfConfigModel.{IsBounded};
 ghost use Rattle.line_bounds.specs.Laws.{start_of};
+ghost use Rattle.line_server.specs.Asking.{CommandAsksDisk, CompactionAsksDisk};
 ghost use Rattle.line_server.specs.Holding.{Holds};
 ghost use Rattle.line_server.specs.Leaving.{HasCause, ImagesOpen, UnlessTorn, Written};
 ghost use Rattle.line_server.specs.Standing.{StandsFor};
+ghost use Rattle.line_server.specs.Stores.{StandsFor as StoreStandsFor};
 ghost use Rattle.line_server.specs.declared.answers.Taken.TheVariants as Taken;
 ghost use Rattle.line_bounds.specs.LawsOfPageLaws.{IsAsked};
 ghost use Rattle.r53_io.specs.Network.{Incoming};
 ghost use Rattle.rand_core.specs.Stream.{Stream};
 ghost use Rattle.line_bounds.specs.Outcomes.{text_of};
 ghost use Rattle.line_bounds.specs.OutcomeRecord.TheVariants as outcome;
+ghost use Rattle.list_sending.specs.Engine.{Engine};
 ghost use Rattle.list_sending.specs.Replies.{too_long_text};
 ghost use Rattle.list_sending.specs.Serving.{Datagram};
 ghost use Rattle.list_sending.specs.Steps.{LineSteps, OctetsStep, State, Surroundings};
-ghost use Rattle.session_server.specs.Taking.{IsWithin, LineLeaves, PartOf, PartOfOctets};
+ghost use Rattle.session_server.specs.Taking.{AsksDisk, AsksLink, IsWithin, LineLeaves};
+ghost use Rattle.session_server.specs.Taking.{OctetsAskDisk, OctetsAskLink, PartOf, PartOfOctets};
 ghost use Rattle.zone_journal.specs.Pairs.{Leaves};
 ghost use Rattle.zone_journal.specs.Standing.{StandsOn};
 
@@ -120,6 +124,11 @@ impl Server {
         ensures cause { HasCause result (D.faults a.old) (D.faults a.new) (D.faults b.old)
             (D.faults b.new) (L.faults link.old) (L.faults link.new) (K.faults out.old)
             (K.faults out.new) }
+
+        // And only of a line that asks what failed.
+        ensures disk_asked { result ≡ Taken.DiskFault → (engine : Engine)
+            → StoreStandsFor engine self.old.store → OctetsAskDisk octets.now engine }
+        ensures link_asked { result ≡ Taken.LinkFault → OctetsAskLink octets.now self.old.bound }
     {
         match ask(alloc, octets) {
             Ok(asked) => self.take_asked(alloc, asked, a, b, link, words, out),
@@ -189,6 +198,9 @@ impl Server {
         ensures cause { HasCause result (D.faults a.old) (D.faults a.new) (D.faults b.old)
             (D.faults b.new) (L.faults link.old) (L.faults link.new) (K.faults out.old)
             (K.faults out.new) }
+        ensures disk_asked { result ≡ Taken.DiskFault → (engine : Engine)
+            → StoreStandsFor engine self.old.store → AsksDisk asked engine }
+        ensures link_asked { result ≡ Taken.LinkFault → AsksLink asked self.old.bound }
     {
         match asked {
             Line::Control(command) => self.take_command(alloc, command, a, b, out),
@@ -234,6 +246,8 @@ impl Server {
         ensures out_counts { K.faults out.old ≤ K.faults out.new }
         ensures cause { HasCause result (D.faults a.old) (D.faults a.new) (D.faults b.old)
             (D.faults b.new) 0 0 (K.faults out.old) (K.faults out.new) }
+        ensures disk_asked { result ≡ Taken.DiskFault → (engine : Engine)
+            → StoreStandsFor engine self.old.store → CommandAsksDisk command engine }
     {
         control(
             alloc,
@@ -277,6 +291,8 @@ impl Server {
         ensures out_counts { K.faults out.old ≤ K.faults out.new }
         ensures cause { HasCause result (D.faults a.old) (D.faults a.new) (D.faults b.old)
             (D.faults b.new) 0 0 (K.faults out.old) (K.faults out.new) }
+        ensures disk_asked { result ≡ Taken.DiskFault → (engine : Engine)
+            → StoreStandsFor engine self.old.store → CompactionAsksDisk engine }
     {
         compact(
             alloc,
@@ -389,6 +405,7 @@ impl Server {
         ensures out_counts { K.faults out.old ≤ K.faults out.new }
         ensures cause { HasCause result 0 0 0 0 (L.faults link.old) (L.faults link.new)
             (K.faults out.old) (K.faults out.new) }
+        ensures link_asked { result ≡ Taken.LinkFault → self.old.bound ≡ false }
     {
         bind_ports(&mut self.bound, ports, link, &mut self.buffers.text, out)
     }
@@ -417,6 +434,7 @@ impl Server {
         ensures out_counts { K.faults out.old ≤ K.faults out.new }
         ensures cause { HasCause result 0 0 0 0 (L.faults link.old) (L.faults link.new)
             (K.faults out.old) (K.faults out.new) }
+        ensures link_asked { result ≡ Taken.LinkFault → self.old.bound ≡ true }
     {
         take_turns(
             self.bound,

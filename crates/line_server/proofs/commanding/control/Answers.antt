@@ -2,7 +2,7 @@ use Rattle.std.proofs.Common.{◌≡◌, ◌∙◌, Result, subst, sym}
 use Rattle.std.proofs.lemmas.Bool.{false≢true}
 use Rattle.reply_sending.specs.MadeRecord.{Made}
 use Rattle.reply_sending.specs.RefusalRecord.{Refusal}
-use Rattle.line_server.proofs.Commands.{at_fault, commanded, leaves, made, torn}
+use Rattle.line_server.proofs.Commands.{asked, at_fault, commanded, leaves, made, torn}
 use Rattle.line_server.specs.Leaving.{StoreLeaves}
 use Rattle.line_server.specs.Replying.{Commanded}
 use Rattle.line_server.specs.declared.answers.Taken.{Taken}
@@ -35,6 +35,15 @@ returns-then-is_fault-clause-leaves g c = λ engine held stands tells. (
         (c.command-came.ensures.gives engine stands)),
   ),
 )
+
+pub returns-then-is_fault-clause-asked : goal.returns-then-is_fault-clause-asked
+returns-then-is_fault-clause-asked g c = λ is engine stands.
+    let failed = c.is_fault.ensures.0 c.if-is_fault.true in
+    asked c.one_outcome.ensures engine c.args.command c.args.store.now c.command-came.new.self
+    stands
+    (subst (λ (r : Result Made Refusal). CommandGives engine c.args.command r
+    c.command-came.new.self) failed (c.command-came.ensures.gives engine stands))
+    (c.command-came.ensures.faulted failed)
 
 pub returns-then-is_fault-clause-made : goal.returns-then-is_fault-clause-made
 returns-then-is_fault-clause-made g c = λ engine stands.

@@ -3,7 +3,7 @@ use Rattle.std.proofs.lemmas.Bool.{false≢true}
 use Rattle.serve_turns.specs.Journaled.{config_of}
 use Rattle.serve_turns.specs.CompactedRecord.{Compacted}
 use Rattle.line_server.proofs.Commands.{leaves, now}
-use Rattle.line_server.proofs.Compactions.{at_fault, made, stood, torn}
+use Rattle.line_server.proofs.Compactions.{asked, at_fault, made, stood, torn}
 use Rattle.line_server.specs.Leaving.{StoreLeaves}
 use Rattle.line_server.specs.Replying.{Compacts}
 use Rattle.line_server.specs.declared.answers.Taken.{Taken}
@@ -30,6 +30,12 @@ returns-then-is_fault-clause-leaves g c = λ engine held stands tells. (
       (subst (λ (r : Compacted). CompactionGives engine c.args.pieces r c.compact-came.new.self)
       (c.is_fault.ensures.0 c.if-is_fault.true) (c.compact-came.ensures.gives engine stands)),
 )
+
+pub returns-then-is_fault-clause-asked : goal.returns-then-is_fault-clause-asked
+returns-then-is_fault-clause-asked g c = λ is engine stands.
+    asked engine c.args.pieces c.compact-came.new.self
+    (subst (λ (r : Compacted). CompactionGives engine c.args.pieces r c.compact-came.new.self)
+    (c.is_fault.ensures.0 c.if-is_fault.true) (c.compact-came.ensures.gives engine stands))
 
 pub returns-then-is_fault-clause-made : goal.returns-then-is_fault-clause-made
 returns-then-is_fault-clause-made g c = λ engine stands.

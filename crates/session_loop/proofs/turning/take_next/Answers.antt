@@ -39,6 +39,7 @@ returns-in-Line-clause-leaves g c = λ around old left held before same stands f
       coming = (c.take_line.ensures.undrawn is).0 ∙ stands.coming;
       words = stands.words ∙ sym (c.take_line.ensures.undrawn is).1;
     })
+    (λ is. c.take_line.ensures.disk_asked is old.engine stands.store)
     (c.take_line.ensures.leaves around old held before same stands ports tells was))
 
 pub returns-in-Line-clause-stands : goal.returns-in-Line-clause-stands

@@ -3,6 +3,7 @@ use Rattle.line_bounds.specs.LineRecord.TheVariants as line
 use Rattle.line_server.specs.Holding.{Holds}
 use Rattle.line_server.specs.Leaving.{ImagesOpen}
 use Rattle.line_server.specs.Standing.{Server, StandsFor}
+use Rattle.line_server.specs.Stores.{StandsFor as StoreStandsFor}
 use Rattle.session_server.proofs.Arms.{compaction}
 use Rattle.session_server.specs.Taking.{PartOf}
 use Rattle.zone_journal.specs.Pairs.{Leaves}
@@ -29,3 +30,7 @@ pub returns-clause-holds : goal.returns-clause-holds
 returns-clause-holds g c = λ held. c.compact.ensures.holds
     (subst (λ (s : Server). Leaves g.D.Disk.reading c.args.a.now c.args.b.now (Holds s.store.kept))
     (sym c.self.view_is) held)
+
+pub returns-clause-disk_asked : goal.returns-clause-disk_asked
+returns-clause-disk_asked g c = λ is engine stands. c.compact.ensures.asked is engine
+    (subst (λ (s : Server). StoreStandsFor engine s.store) (sym c.self.view_is) stands)

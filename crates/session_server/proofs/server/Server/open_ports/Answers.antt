@@ -1,4 +1,4 @@
-use Rattle.std.proofs.Common.{◌≡◌, ◌∙◌, refl, subst, sym, ap, Some, Bool}
+use Rattle.std.proofs.Common.{◌≡◌, ◌∙◌, refl, subst, sym, ap, Some, Bool, false}
 use Rattle.std.specs.Prelude.{⊤}
 use Rattle.line_bounds.specs.LineRecord.TheVariants as line
 use Rattle.line_server.specs.Standing.{Server, StandsFor}
@@ -29,5 +29,9 @@ returns-clause-leaves g c = λ around old held before random stands ports tells 
       bound = c.self.inside.bound;
     }) (g.L.Link.coming c.args.link.now) random its c.bind_ports.new.bound
     (g.L.Link.coming c.bind_ports.new.link) c.bind_ports.ensures.coming step.new is)
-    (λ part. (part, c.bind_ports.ensures.coming ∙ its.coming))
+    (λ is part. (its.bound ∙ c.bind_ports.ensures.asked is, part, c.bind_ports.ensures.coming ∙ its.coming))
     (c.bind_ports.ensures.leaves around old held before its.bound ports tells was)
+
+pub returns-clause-link_asked : goal.returns-clause-link_asked
+returns-clause-link_asked g c = λ is.
+    subst (λ (s : Server). s.bound ≡ false) c.self.view_is (c.bind_ports.ensures.asked is)

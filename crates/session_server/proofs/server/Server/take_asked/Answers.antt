@@ -5,8 +5,8 @@ use Rattle.line_server.specs.Holding.{Holds}
 use Rattle.line_server.specs.Leaving.{ImagesOpen}
 use Rattle.line_server.specs.Standing.{StandsFor}
 use Rattle.list_sending.specs.Steps.{LineSteps}
-use Rattle.session_server.proofs.Lines.{no_disk, no_fault, none_torn}
-use Rattle.session_server.specs.Taking.{LineLeaves, PartOf}
+use Rattle.session_server.proofs.Lines.{no_disk, no_fault, none_torn, none_unsent}
+use Rattle.session_server.specs.Taking.{AsksDisk, AsksLink, LineLeaves, PartOf}
 use Rattle.zone_journal.specs.Pairs.{Leaves}
 use Rattle.session_server.proofs.server.Server.take_asked.Goals as goal
 
@@ -93,3 +93,87 @@ returns-in-Serve-clause-undrawn g c = λ is.
     absurd (none_torn c.take_turns.result (g.L.Link.faults c.args.link.now)
     (g.L.Link.faults c.take_turns.new.link) (g.K.Sink.faults c.args.out.now)
     (g.K.Sink.faults c.take_turns.new.out) c.take_turns.ensures.cause is)
+
+pub returns-in-Control-clause-disk_asked : goal.returns-in-Control-clause-disk_asked
+returns-in-Control-clause-disk_asked g c = λ is engine stands.
+    subst (λ (l : Line). AsksDisk l engine) (sym c.in-Control.is)
+    (c.take_command.ensures.disk_asked is engine stands)
+
+pub returns-in-Control-clause-link_asked : goal.returns-in-Control-clause-link_asked
+returns-in-Control-clause-link_asked g c = λ is.
+    absurd (none_unsent c.take_command.result (g.D.Disk.faults c.args.a.now) (g.D.Disk.faults c.take_command.new.a)
+    (g.D.Disk.faults c.args.b.now) (g.D.Disk.faults c.take_command.new.b) (g.K.Sink.faults c.args.out.now)
+    (g.K.Sink.faults c.take_command.new.out) c.take_command.ensures.cause is)
+
+pub returns-in-Compact-clause-disk_asked : goal.returns-in-Compact-clause-disk_asked
+returns-in-Compact-clause-disk_asked g c = λ is engine stands.
+    subst (λ (l : Line). AsksDisk l engine) (sym c.in-Compact.is)
+    (c.compact.ensures.disk_asked is engine stands)
+
+pub returns-in-Compact-clause-link_asked : goal.returns-in-Compact-clause-link_asked
+returns-in-Compact-clause-link_asked g c = λ is.
+    absurd (none_unsent c.compact.result (g.D.Disk.faults c.args.a.now) (g.D.Disk.faults c.compact.new.a)
+    (g.D.Disk.faults c.args.b.now) (g.D.Disk.faults c.compact.new.b) (g.K.Sink.faults c.args.out.now)
+    (g.K.Sink.faults c.compact.new.out) c.compact.ensures.cause is)
+
+pub returns-in-List-clause-disk_asked : goal.returns-in-List-clause-disk_asked
+returns-in-List-clause-disk_asked g c = λ is engine stands.
+    absurd (none_torn c.tell_list.result 0 0 (g.K.Sink.faults c.args.out.now)
+    (g.K.Sink.faults c.tell_list.new.out) c.tell_list.ensures.cause is)
+
+pub returns-in-List-clause-link_asked : goal.returns-in-List-clause-link_asked
+returns-in-List-clause-link_asked g c = λ is.
+    absurd (none_unsent c.tell_list.result 0 0 0 0 (g.K.Sink.faults c.args.out.now)
+    (g.K.Sink.faults c.tell_list.new.out) c.tell_list.ensures.cause is)
+
+pub returns-in-Status-clause-disk_asked : goal.returns-in-Status-clause-disk_asked
+returns-in-Status-clause-disk_asked g c = λ is engine stands.
+    absurd (none_torn c.tell_status.result 0 0 (g.K.Sink.faults c.args.out.now)
+    (g.K.Sink.faults c.tell_status.new.out) c.tell_status.ensures.cause is)
+
+pub returns-in-Status-clause-link_asked : goal.returns-in-Status-clause-link_asked
+returns-in-Status-clause-link_asked g c = λ is.
+    absurd (none_unsent c.tell_status.result 0 0 0 0 (g.K.Sink.faults c.args.out.now)
+    (g.K.Sink.faults c.tell_status.new.out) c.tell_status.ensures.cause is)
+
+pub returns-in-Observe-clause-disk_asked : goal.returns-in-Observe-clause-disk_asked
+returns-in-Observe-clause-disk_asked g c = λ is engine stands.
+    absurd (none_torn c.take_report.result 0 0 (g.K.Sink.faults c.args.out.now)
+    (g.K.Sink.faults c.take_report.new.out) c.take_report.ensures.cause is)
+
+pub returns-in-Observe-clause-link_asked : goal.returns-in-Observe-clause-link_asked
+returns-in-Observe-clause-link_asked g c = λ is.
+    absurd (none_unsent c.take_report.result 0 0 0 0 (g.K.Sink.faults c.args.out.now)
+    (g.K.Sink.faults c.take_report.new.out) c.take_report.ensures.cause is)
+
+pub returns-in-Query-clause-disk_asked : goal.returns-in-Query-clause-disk_asked
+returns-in-Query-clause-disk_asked g c = λ is engine stands.
+    absurd (none_torn c.tell_answer.result 0 0 (g.K.Sink.faults c.args.out.now)
+    (g.K.Sink.faults c.tell_answer.new.out) c.tell_answer.ensures.cause is)
+
+pub returns-in-Query-clause-link_asked : goal.returns-in-Query-clause-link_asked
+returns-in-Query-clause-link_asked g c = λ is.
+    absurd (none_unsent c.tell_answer.result 0 0 0 0 (g.K.Sink.faults c.args.out.now)
+    (g.K.Sink.faults c.tell_answer.new.out) c.tell_answer.ensures.cause is)
+
+pub returns-in-Bind-clause-disk_asked : goal.returns-in-Bind-clause-disk_asked
+returns-in-Bind-clause-disk_asked g c = λ is engine stands.
+    absurd (none_torn c.open_ports.result (g.L.Link.faults c.args.link.now)
+    (g.L.Link.faults c.open_ports.new.link) (g.K.Sink.faults c.args.out.now)
+    (g.K.Sink.faults c.open_ports.new.out) c.open_ports.ensures.cause is)
+
+pub returns-in-Bind-clause-link_asked : goal.returns-in-Bind-clause-link_asked
+returns-in-Bind-clause-link_asked g c = λ is.
+    subst (λ (l : Line). AsksLink l c.args.self.now.bound) (sym c.in-Bind.is)
+    (c.open_ports.ensures.link_asked is)
+
+pub returns-in-Serve-clause-disk_asked : goal.returns-in-Serve-clause-disk_asked
+returns-in-Serve-clause-disk_asked g c = λ is engine stands.
+    absurd (none_torn c.take_turns.result (g.L.Link.faults c.args.link.now)
+    (g.L.Link.faults c.take_turns.new.link) (g.K.Sink.faults c.args.out.now)
+    (g.K.Sink.faults c.take_turns.new.out) c.take_turns.ensures.cause is)
+
+pub returns-in-Serve-clause-link_asked : goal.returns-in-Serve-clause-link_asked
+returns-in-Serve-clause-link_asked g c = λ is.
+    subst (λ (l : Line). AsksLink l c.args.self.now.bound) (sym c.in-Serve.is)
+    (c.take_turns.ensures.link_asked is)

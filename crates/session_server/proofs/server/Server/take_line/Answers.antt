@@ -5,7 +5,7 @@ use Rattle.line_server.specs.Leaving.{ImagesOpen}
 use Rattle.line_server.specs.Standing.{Server, StandsFor}
 use Rattle.line_faults.specs.declared.fault.LineFault.{LineFault}
 use Rattle.list_sending.specs.Asking.{Asks}
-use Rattle.session_server.proofs.Lines.{not_memory, of_asked, of_fault, same_fault}
+use Rattle.session_server.proofs.Lines.{none_torn, none_unsent, not_memory, of_asked, of_fault, same_fault}
 use Rattle.session_server.specs.Taking.{PartOfOctets}
 use Rattle.zone_journal.specs.Pairs.{Leaves}
 use Rattle.session_server.proofs.server.Server.take_line.Goals as goal
@@ -36,3 +36,29 @@ returns-in-Err-clause-leaves g c = λ around old held before same stands ports t
     (g.R.Rng.stream c.args.words.now)) (sym c.tell_fault.ensures.same) stands) held before
     (g.K.Sink.held c.tell_fault.new.out) (g.L.Link.sent c.args.link.now) was
     (c.tell_fault.ensures.writes held tells)
+
+pub returns-in-Ok-clause-disk_asked : goal.returns-in-Ok-clause-disk_asked
+returns-in-Ok-clause-disk_asked g c = λ is engine stands. (
+  c.in-Ok.asked,
+  subst (λ (r : Result Line LineFault). Asks c.args.octets.now r) c.in-Ok.is
+      (c.ask.ensures.asks (λ e. not_memory c.in-Ok.asked (sym c.in-Ok.is ∙ e))),
+  c.take_asked.ensures.disk_asked is engine stands,
+)
+
+pub returns-in-Ok-clause-link_asked : goal.returns-in-Ok-clause-link_asked
+returns-in-Ok-clause-link_asked g c = λ is. (
+  c.in-Ok.asked,
+  subst (λ (r : Result Line LineFault). Asks c.args.octets.now r) c.in-Ok.is
+      (c.ask.ensures.asks (λ e. not_memory c.in-Ok.asked (sym c.in-Ok.is ∙ e))),
+  c.take_asked.ensures.link_asked is,
+)
+
+pub returns-in-Err-clause-disk_asked : goal.returns-in-Err-clause-disk_asked
+returns-in-Err-clause-disk_asked g c = λ is engine stands.
+    absurd (none_torn c.tell_fault.result 0 0 (g.K.Sink.faults c.args.out.now)
+    (g.K.Sink.faults c.tell_fault.new.out) c.tell_fault.ensures.cause is)
+
+pub returns-in-Err-clause-link_asked : goal.returns-in-Err-clause-link_asked
+returns-in-Err-clause-link_asked g c = λ is.
+    absurd (none_unsent c.tell_fault.result 0 0 0 0 (g.K.Sink.faults c.args.out.now)
+    (g.K.Sink.faults c.tell_fault.new.out) c.tell_fault.ensures.cause is)

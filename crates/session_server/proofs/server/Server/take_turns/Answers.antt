@@ -1,4 +1,4 @@
-use Rattle.std.proofs.Common.{◌≡◌, ◌∙◌, refl, subst, sym, ap, Some, Bool}
+use Rattle.std.proofs.Common.{◌≡◌, ◌∙◌, refl, subst, sym, ap, Some, Bool, true}
 use Rattle.std.specs.Prelude.{⊤}
 use Rattle.line_bounds.specs.LineRecord.TheVariants as line
 use Rattle.line_server.specs.Standing.{Server, StandsFor}
@@ -30,7 +30,11 @@ returns-clause-leaves g c = λ around old held before same stands tells was.
       bound = s.still;
       coming = s.coming;
       words = s.words;
-    }) (λ part. part)
+    }) (λ is part. (its.bound ∙ c.take_turns.ensures.asked is, part))
     (c.take_turns.ensures.leaves around old held before
     (same ∙ ap (λ (s : Server). s.tables) (sym c.self.view_is)) its.bound its.store its.coming
     its.words tells was)
+
+pub returns-clause-link_asked : goal.returns-clause-link_asked
+returns-clause-link_asked g c = λ is.
+    subst (λ (s : Server). s.bound ≡ true) c.self.view_is (c.take_turns.ensures.asked is)
