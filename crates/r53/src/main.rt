@@ -3,6 +3,7 @@
 
 use file_disk::{FileDisk, FileSource};
 use r53_cli::{Status, run, status_text};
+use r53_disk::{Disk, MemoryDisk};
 use rand_chacha::ChaCha8Rng;
 use rand_core::SeedableRng;
 use std::env;
@@ -24,6 +25,12 @@ const TABLES: &str = "r53.tables";
 
 /// The current folder, which can be opened, and neither read nor written as a file.
 const FOLDER: &str = ".";
+
+/// The word of a drill, which runs on two disks in memory.
+const DRILL: &str = "drill";
+
+/// The room of each of them, in octets.
+const DRILL_ROOM: u64 = 16_777_216;
 
 fn main(rt: HostRuntime) -> ExitCode {
     let status = started(&rt);
@@ -53,7 +60,8 @@ fn started(rt: &HostRuntime) -> Status {
     }
 }
 
-/// Runs over the standard streams, the files and the sockets, with a generator of this key.
+/// Runs over the standard streams, the files and the sockets, with a generator of this key; a drill over
+/// disks in memory.
 ///
 /// A standard stream that is closed leaves its number to the next file that is opened: replies would be written over a journal. So
 /// these numbers are taken first, and a closed stream fails where it is read or written.
@@ -64,13 +72,42 @@ fn run_over(rt: &HostRuntime, args: &[String], key: [u8; 32]) -> Status {
         File::open(rt, FOLDER),
         File::open(rt, FOLDER),
     );
+    if is_drill(args) {
+        let Ok(mut a) = MemoryDisk::new(alloc, &[], DRILL_ROOM, &[]) else {
+            return Status::OutOfMemory;
+        };
+        let Ok(mut b) = MemoryDisk::new(alloc, &[], DRILL_ROOM, &[]) else {
+            return Status::OutOfMemory;
+        };
+        return run_on(rt, args, key, &mut a, &mut b);
+    }
+    let mut a = FileDisk::new(rt, FIRST_DISK);
+    let mut b = FileDisk::new(rt, SECOND_DISK);
+    run_on(rt, args, key, &mut a, &mut b)
+}
+
+/// Whether the words begin as those of a drill do.
+fn is_drill(args: &[String]) -> bool {
+    match args.first() {
+        Some(word) => word.as_str() == DRILL,
+        None => false,
+    }
+}
+
+/// Runs over two disks.
+fn run_on<D: Disk>(
+    rt: &HostRuntime,
+    args: &[String],
+    key: [u8; 32],
+    a: &mut D,
+    b: &mut D,
+) -> Status {
+    let alloc = rt.alloc();
     let Ok(mut input) = Reading::new(alloc, rt.stdin()) else {
         return Status::OutOfMemory;
     };
     let mut tables = FileSource::new(File::open(rt, TABLES));
     let mut out = Writing::new(rt.stdout());
-    let mut a = FileDisk::new(rt, FIRST_DISK);
-    let mut b = FileDisk::new(rt, SECOND_DISK);
     let mut link = UdpLink::new(alloc, rt);
     let mut words = ChaCha8Rng::from_seed(key);
     run(
@@ -79,8 +116,8 @@ fn run_over(rt: &HostRuntime, args: &[String], key: [u8; 32]) -> Status {
         &mut input,
         &mut tables,
         &mut out,
-        &mut a,
-        &mut b,
+        a,
+        b,
         &mut link,
         &mut words,
     )

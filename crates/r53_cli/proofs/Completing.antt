@@ -1,6 +1,9 @@
 -- What comes where nothing failed, answer by answer.
 use Rattle.std.proofs.Common.{◌≡◌, ◌∙◌, ◌⊎◌, inl, inr, ℕ, List, Bool, true, false, Option, Some, Result, Ok, Err, refl, subst, sym}
 use Rattle.config_model.specs.Configs.{Config}
+use Rattle.drill_run.specs.Leaving.{DrillLeaves, HasCause as DrillHasCause}
+use Rattle.drill_run.specs.declared.answers.Drilled.{Drilled}
+use Rattle.drill_run.specs.declared.answers.Drilled.TheVariants as drilled
 use Rattle.dump_run.specs.Dumping.{IsTold as DumpIsTold}
 use Rattle.dump_run.specs.declared.answers.Dumped.{Dumped}
 use Rattle.dump_run.specs.declared.answers.Dumped.TheVariants as dumped
@@ -8,9 +11,9 @@ use Rattle.gate_journal.specs.Layout.{IsOpen}
 use Rattle.geo_latency.specs.declared.tables.Tables.{Tables}
 use Rattle.line_splitting.specs.Lines.{is_too_long}
 use Rattle.octets.specs.Counts.{Rose}
-use Rattle.r53_cli.specs.Completing.{DumpCompletes, InitCompletes, NoneRose, RunCompletes}
+use Rattle.r53_cli.specs.Completing.{DrillCompletes, DumpCompletes, InitCompletes, NoneRose, RunCompletes}
 use Rattle.r53_cli.specs.Run.{IsServed}
-use Rattle.r53_cli.specs.Sessions.{Counts, Dumps, Makes, Runs, of_dumped, of_ended, of_init, of_ran}
+use Rattle.r53_cli.specs.Sessions.{Counts, Drills, Dumps, Makes, Runs, of_drilled, of_dumped, of_ended, of_init, of_ran}
 use Rattle.r53_cli.specs.declared.status.Status.{Status}
 use Rattle.r53_cli.specs.declared.status.Status.TheVariants as status
 use Rattle.session_run.specs.Steps.{State}
@@ -94,3 +97,23 @@ module _ {D : Type 0} (reading : D → Option (List ℕ)) (images : D → List �
       by dumped.OpeningFault told failed stuck = absurd (none_of a_still b_still (failed refl))
       by dumped.OutOfMemory told failed stuck = inr refl
       by dumped.WriteFault told failed stuck = absurd (still (stuck refl))
+
+  pub drills : DrillCompletes reading images moment images_since
+  drills events result a_old a_new b_old b_new before after out_were out_are a_were a_are b_were b_are
+      d x y x_is y_is shut shut_too still a_still b_still =
+      subst IsServed (sym d.status_is) (by d.answer (d.leaves x y x_is y_is) d.cause)
+    where
+      by : (answer : Drilled)
+          → DrillLeaves answer reading images moment images_since a_old a_new b_old b_new events x y
+          before after
+          → DrillHasCause answer a_were a_are b_were b_are out_were out_are
+          → IsServed (of_drilled answer)
+      by drilled.Written leaves cause = inl refl
+      by (drilled.AlreadyAStore A) leaves cause = absurd (shut leaves.0.0)
+      by (drilled.AlreadyAStore B) leaves cause = absurd (shut_too leaves.0.1)
+      by drilled.MakingFault leaves cause = absurd (none_of a_still b_still cause)
+      by (drilled.NotAStore side place) leaves cause = absurd leaves.2
+      by drilled.OpeningFault leaves cause = absurd (none_of a_still b_still cause)
+      by drilled.OutOfMemory leaves cause = inr refl
+      by drilled.DiskFault leaves cause = absurd (none_of a_still b_still cause)
+      by drilled.WriteFault leaves cause = absurd (still cause)

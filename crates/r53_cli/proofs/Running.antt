@@ -4,7 +4,10 @@ use Rattle.std.specs.Prelude.{codes}
 use Rattle.dump_run.specs.Dumping.{IsUnwritten}
 use Rattle.dump_run.specs.declared.answers.Dumped.{Dumped}
 use Rattle.dump_run.specs.declared.answers.Dumped.TheVariants as dumped
-use Rattle.r53_cli.specs.Forms.{IsForm, MayBeOnce}
+use Rattle.drill_run.specs.Leaving.{IfUnwritten}
+use Rattle.drill_run.specs.declared.answers.Drilled.{Drilled}
+use Rattle.drill_run.specs.declared.answers.Drilled.TheVariants as drilled
+use Rattle.r53_cli.specs.Forms.{IsFew, IsForm, MayBeOnce}
 use Rattle.r53_cli.specs.Sessions.{Counts, FormLeaves, Seen, of_init}
 use Rattle.r53_cli.specs.declared.form.Form.{Form}
 use Rattle.r53_cli.specs.declared.form.Form.TheVariants as form
@@ -22,6 +25,14 @@ pub init_is_no_usage : (answer : Init) → of_init answer ≢ status.Usage
 init_is_no_usage init.Done is = absurd (Prim.cc)
 init_is_no_usage (init.AlreadyAStore side) is = absurd (Prim.cc)
 init_is_no_usage init.DiskFault is = absurd (Prim.cc)
+
+-- a drill's words ask for few events
+pub few : (words : List (List ℕ)) (its : Form) → IsForm words its → IsFew its
+few words (form.Once once) is = tt
+few words form.Init is = tt
+few words form.Run is = tt
+few words form.Dump is = tt
+few words (form.Drill events) is = is.1
 
 one_is_not_four : {X : Type 0} (a b c d e : X) → ◌≡◌ {A = List X} (a ∷ b ∷ c ∷ d ∷ []) (e ∷ []) → ⊥
 one_is_not_four a b c d e is = absurd (Prim.cc)
@@ -57,6 +68,19 @@ still_held held (dumped.NotAStore side place) old new is = ap held is
 still_held held dumped.OpeningFault old new is = ap held is
 still_held held dumped.OutOfMemory old new is = ap held is
 still_held held dumped.WriteFault old new is = tt
+
+-- ---- a drill
+
+pub summary_unwritten : {K : Type 0} (held : K → Option (List ℕ)) (answer : Drilled) (old new : K)
+    → IfUnwritten answer (new ≡ old) → IfUnwritten answer (held new ≡ held old)
+summary_unwritten held drilled.Written old new is = tt
+summary_unwritten held (drilled.AlreadyAStore side) old new is = ap held is
+summary_unwritten held drilled.MakingFault old new is = ap held is
+summary_unwritten held (drilled.NotAStore side place) old new is = ap held is
+summary_unwritten held drilled.OpeningFault old new is = ap held is
+summary_unwritten held drilled.OutOfMemory old new is = ap held is
+summary_unwritten held drilled.DiskFault old new is = ap held is
+summary_unwritten held drilled.WriteFault old new is = tt
 
 -- ---- a session that ended before its lines
 

@@ -6,7 +6,7 @@ use Rattle.geo_latency.specs.declared.tables.Tables.{Tables}
 use Rattle.line_splitting.specs.Lines.{is_too_long}
 use Rattle.octets.specs.Counts.{Rose}
 use Rattle.r53_cli.specs.Run.{IsServed}
-use Rattle.r53_cli.specs.Sessions.{Counts, Dumps, Makes, Runs, Seen}
+use Rattle.r53_cli.specs.Sessions.{Counts, Drills, Dumps, Makes, Runs, Seen}
 use Rattle.r53_cli.specs.declared.status.Status.{Status}
 use Rattle.r53_cli.specs.declared.status.Status.TheVariants as status
 use Rattle.session_run.specs.Steps.{State}
@@ -57,4 +57,17 @@ DumpCompletes {D} reading images moment images_since =
     out_are a_were a_are b_were b_are
     → (x y : List ℕ) (config : Config) → reading a_old ≡ Some x → reading b_old ≡ Some y
     → OpensConfig x y config → (Rose out_were out_are → ⊥) → (Rose a_were a_are → ⊥)
+    → (Rose b_were b_are → ⊥) → IsServed result
+
+-- `drill` where neither file is open.
+abbrev pub DrillCompletes : {D : Type 0} → (reading : D → Option (List ℕ))
+    → (images : D → List ℕ → Type 0) → (moment : D → ℕ)
+    → (images_since : D → ℕ → List ℕ → Type 0) → Type 0
+DrillCompletes {D} reading images moment images_since =
+    (events : ℕ) (result : Status) (a_old a_new b_old b_new : D) (before after : Option (List ℕ))
+    (out_were out_are a_were a_are b_were b_are : ℕ)
+    → Drills reading images moment images_since events result a_old a_new b_old b_new before after
+    out_were out_are a_were a_are b_were b_are
+    → (x y : List ℕ) → reading a_old ≡ Some x → reading b_old ≡ Some y → (IsOpen x → ⊥)
+    → (IsOpen y → ⊥) → (Rose out_were out_are → ⊥) → (Rose a_were a_are → ⊥)
     → (Rose b_were b_are → ⊥) → IsServed result

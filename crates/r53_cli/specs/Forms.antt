@@ -1,5 +1,5 @@
 -- The forms of words: what a run is asked for.
-use Rattle.std.specs.Prelude.{◌≡◌, ℕ, ◌≤◌, List, [], ◌∷◌, codes}
+use Rattle.std.specs.Prelude.{◌≡◌, ℕ, ◌≤◌, List, [], ◌∷◌, codes, ⊤}
 use Rattle.std.specs.Fmt.{decimal}
 use Rattle.r53_cli.specs.declared.form.Form.{Form}
 use Rattle.r53_cli.specs.declared.form.Form.TheVariants as form
@@ -12,6 +12,14 @@ IsForm words form.Init = words ≡ codes "init" ∷ []
 IsForm words form.Run = words ≡ codes "run" ∷ []
 IsForm words form.Dump = words ≡ codes "dump" ∷ []
 IsForm words (form.Drill events) = (words ≡ codes "drill" ∷ decimal events ∷ []) × (events ≤ 100000)
+
+-- the events of a drill are at most as many as its words may ask for
+abbrev pub IsFew : Form → Type 0
+IsFew (form.Once once) = ⊤
+IsFew form.Init = ⊤
+IsFew form.Run = ⊤
+IsFew form.Dump = ⊤
+IsFew (form.Drill events) = events ≤ 100000
 
 -- the words of some form
 abbrev pub HasForm : List (List ℕ) → Type 0

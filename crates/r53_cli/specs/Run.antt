@@ -4,6 +4,7 @@ use Rattle.octets.specs.Counts.{Rose}
 use Rattle.r53_cli.specs.declared.once.Once.{Once}
 use Rattle.r53_cli.specs.declared.status.Status.{Status}
 use Rattle.r53_cli.specs.declared.status.Status.TheVariants as status
+use Rattle.r53_cli.specs.Forms.{MayBeOnce}
 use Rattle.r53_cli.specs.Once.{Answers}
 use Rattle.r53_cli.specs.Streams.{input_limit, packet_limit, IsTooLong}
 
@@ -97,6 +98,7 @@ HasCause status.LinkFault input_before input_now output_before output_now = ⊥
 abbrev pub IsServed : Status → Type 0
 IsServed result = (result ≡ status.Done) ⊎ (result ≡ status.OutOfMemory)
 
--- words of no form: the run says so, or finds no memory to read them
-abbrev pub IsRefused : Status → Type 0
-IsRefused result = (result ≡ status.Usage) ⊎ (result ≡ status.OutOfMemory)
+-- words of no form: the run says so, or finds no memory to read an address among them
+abbrev pub IsRefused : (words : List (List ℕ)) → Status → Type 0
+IsRefused words result =
+    (result ≡ status.Usage) ⊎ ((result ≡ status.OutOfMemory) × MayBeOnce words)

@@ -4,8 +4,10 @@ use Rattle.config_model.specs.Configs.{Config, empty}
 use Rattle.dump_run.specs.Dumping.{DumpLeaves, IsTold as DumpIsTold, IsUnwritten}
 use Rattle.dump_run.specs.declared.answers.Dumped.{Dumped}
 use Rattle.dump_run.specs.declared.answers.Dumped.TheVariants as dumped
+use Rattle.drill_run.specs.Leaving.{DrillLeaves, HasCause as DrillHasCause, IfUnwritten}
+use Rattle.drill_run.specs.declared.answers.Drilled.{Drilled}
+use Rattle.drill_run.specs.declared.answers.Drilled.TheVariants as drilled
 use Rattle.octets.specs.Counts.{Rose}
-use Rattle.r53_cli.specs.Forms.{IsForm}
 use Rattle.r53_cli.specs.Run.{HasCause, IsRefused, Ran as OnceLeaves}
 use Rattle.r53_cli.specs.declared.form.Form.{Form}
 use Rattle.r53_cli.specs.declared.form.Form.TheVariants as form
@@ -153,15 +155,33 @@ pub record Dumps {D : Type 0} (reading : D → Option (List ℕ)) (images : D �
   pub disk_failed : answer ≡ dumped.OpeningFault → Rose a_were a_are ⊎ Rose b_were b_are
   pub sink_failed : answer ≡ dumped.WriteFault → Rose out_were out_are
 
--- ---- forms
+-- ---- a drill
 
--- the forms that aren't built yet
-abbrev pub IsUnbuilt : Form → Type 0
-IsUnbuilt (form.Once once) = ⊥
-IsUnbuilt form.Init = ⊥
-IsUnbuilt form.Run = ⊥
-IsUnbuilt form.Dump = ⊥
-IsUnbuilt (form.Drill events) = ⊤
+-- the status of a drill
+abbrev pub of_drilled : Drilled → Status
+of_drilled drilled.Written = status.Done
+of_drilled (drilled.AlreadyAStore side) = status.AlreadyAStore side
+of_drilled drilled.MakingFault = status.DiskFault
+of_drilled (drilled.NotAStore side place) = status.NotAStore side place
+of_drilled drilled.OpeningFault = status.DiskFault
+of_drilled drilled.OutOfMemory = status.OutOfMemory
+of_drilled drilled.DiskFault = status.DiskFault
+of_drilled drilled.WriteFault = status.WriteFault
+
+-- A store was made and a drill over so many events run over it, or why not; each fault has its cause.
+pub record Drills {D : Type 0} (reading : D → Option (List ℕ)) (images : D → List ℕ → Type 0)
+    (moment : D → ℕ) (images_since : D → ℕ → List ℕ → Type 0) (events : ℕ) (result : Status)
+    (a_old a_new b_old b_new : D) (before after : Option (List ℕ))
+    (out_were out_are a_were a_are b_were b_are : ℕ) : Type 0 where
+  pub answer : Drilled
+  pub status_is : result ≡ of_drilled answer
+  pub leaves : (x y : List ℕ) → reading a_old ≡ Some x → reading b_old ≡ Some y
+      → DrillLeaves answer reading images moment images_since a_old a_new b_old b_new events x y
+      before after
+  pub unwritten : IfUnwritten answer (after ≡ before)
+  pub cause : DrillHasCause answer a_were a_are b_were b_are out_were out_are
+
+-- ---- forms
 
 abbrev pub IsOnceForm : Form → Type 0
 IsOnceForm (form.Once once) = ⊤
@@ -170,16 +190,12 @@ IsOnceForm form.Run = ⊥
 IsOnceForm form.Dump = ⊥
 IsOnceForm (form.Drill events) = ⊥
 
--- Words of no form that is built.
-abbrev pub HasNoRun : (words : List (List ℕ)) → Type 0
-HasNoRun words = (form : Form) → IsForm words form → IsUnbuilt form
-
--- The run says that the words are of no form that is built, or finds no memory to read them, and asks
--- nothing.
-abbrev pub Refuses : {D : Type 0} → (result : Status) → (a_old a_new b_old b_new : D)
-    → (before after : Seen) → (were are : Counts) → Type 0
-Refuses result a_old a_new b_old b_new before after were are =
-    IsRefused result × (a_new ≡ a_old) × (b_new ≡ b_old) × (after ≡ before) × (are ≡ were)
+-- The run says that the words are of no form, or finds no memory to read an address among them, and
+-- asks nothing.
+abbrev pub Refuses : {D : Type 0} → (words : List (List ℕ)) → (result : Status)
+    → (a_old a_new b_old b_new : D) → (before after : Seen) → (were are : Counts) → Type 0
+Refuses words result a_old a_new b_old b_new before after were are =
+    IsRefused words result × (a_new ≡ a_old) × (b_new ≡ b_old) × (after ≡ before) × (are ≡ were)
 
 -- what a run of this form leaves
 abbrev pub FormLeaves : {D : Type 0} → (reading : D → Option (List ℕ))
@@ -210,6 +226,10 @@ FormLeaves reading images moment images_since form.Dump result a_old a_new b_old
     were.out are.out were.a are.a were.b are.b
     × (after ≡ record before { held = after.held })
     × (are ≡ record were { out = are.out; a = are.a; b = are.b })
+-- So does `drill`.
 FormLeaves reading images moment images_since (form.Drill events) result a_old a_new b_old b_new
     before after were are =
-    Refuses result a_old a_new b_old b_new before after were are
+    Drills reading images moment images_since events result a_old a_new b_old b_new before.held
+    after.held were.out are.out were.a are.a were.b are.b
+    × (after ≡ record before { held = after.held })
+    × (are ≡ record were { out = are.out; a = are.a; b = are.b })

@@ -1,6 +1,7 @@
 //! Laws over the definitions, each the contract of a function that does nothing.
 
-ghost use Rattle.r53_cli.specs.Completing.{DumpCompletes, InitCompletes, RunCompletes};
+ghost use Rattle.r53_cli.specs.Completing.{DrillCompletes, DumpCompletes, InitCompletes};
+ghost use Rattle.r53_cli.specs.Completing.{RunCompletes};
 ghost use Rattle.r53_cli.specs.Laws.{OneForm, OneReply, OneStatus};
 
 use dns_message::one_judgement;
@@ -43,4 +44,9 @@ pub fn init_completes<D: Disk>()
 /// What files open to is written, where nothing fails, or no memory is found.
 pub fn dump_completes<D: Disk>()
     ensures { DumpCompletes D.reading D.images D.moment D.images_since }
+{}
+
+/// Where neither file is open and nothing fails, a drill ends with its summary, or no memory is found.
+pub fn drill_completes<D: Disk>()
+    ensures { DrillCompletes D.reading D.images D.moment D.images_since }
 {}

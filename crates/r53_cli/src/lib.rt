@@ -14,7 +14,9 @@ mod status;
 mod words;
 
 pub use form::{Form, form_of};
-pub use laws::{dump_completes, init_completes, one_form, one_reply, one_status, run_completes};
+pub use laws::{
+    drill_completes, dump_completes, init_completes, one_form, one_reply, one_status, run_completes,
+};
 pub use once::Once;
 pub use program::run;
 pub use status::{Status, status_text};

@@ -1,12 +1,12 @@
 //! The top call: what the words ask for, and `once` step by step: memory, then input, then the reply.
 
-ghost use Rattle.std.specs.Prelude.{◌≡◌, ℕ, ◌<◌, ◌≤◌, List, Some, length, IfOk, OnErr, map};
+ghost use Rattle.std.specs.Prelude.{◌≡◌, ◌≢◌, ℕ, ◌<◌, ◌≤◌, List, Some, length, IfOk, OnErr, map};
 ghost use Rattle.std.specs.String.{string_bytes};
 ghost use Rattle.octets.specs.Counts.{Rose};
-ghost use Rattle.r53_cli.specs.Forms.{IsForm};
+ghost use Rattle.r53_cli.specs.Forms.{HasNoForm, IsFew, IsForm};
 ghost use Rattle.r53_cli.specs.Once.{HasOnce};
 ghost use Rattle.r53_cli.specs.Run.{Ran, Responds, HasCause, IsServed};
-ghost use Rattle.r53_cli.specs.Sessions.{FormLeaves, HasNoRun, IsOnceForm, IsUnbuilt, Refuses};
+ghost use Rattle.r53_cli.specs.Sessions.{FormLeaves, IsOnceForm, Refuses};
 ghost use Rattle.r53_cli.specs.declared.form.Form.{Form};
 ghost use Rattle.r53_cli.specs.Streams.{input_limit};
 
@@ -14,7 +14,7 @@ use crate::form::{Form, form_of};
 use crate::intake::{Incoming, PACKET_LEN, take_packet};
 use crate::laws::one_form;
 use crate::once::Once;
-use crate::sessions::{run_dump, run_init, run_lines};
+use crate::sessions::{run_drill, run_dump, run_init, run_lines};
 use crate::status::Status;
 use dns_wire::Reply;
 use octets::{OutOfMemory, front, zeros};
@@ -32,7 +32,7 @@ const REPLY_ROOM: usize = 4096;
 /// `once NAME TTL ADDRESS` reads one packet from `input`, and writes the reply to `out`. `init` makes a store with nothing in
 /// it on the two disks. `run` reads the tables, opens the store, and takes the control lines of `input`, whose replies it
 /// writes to `out`, over the network and the random source. `dump` opens the store, and writes what it holds to `out`. `drill N`
-/// isn't built yet.
+/// makes a store, runs N events over it, and writes to `out` what they came to.
 pub fn run<S: Source, T: Source, K: Sink, D: Disk, L: Link, R: Rng>(
     alloc: Global,
     args: &[String],
@@ -44,11 +44,11 @@ pub fn run<S: Source, T: Source, K: Sink, D: Disk, L: Link, R: Rng>(
     link: &mut L,
     words: &mut R,
 ) -> Status
-    // Usage comes where the words are of no form that is built, and there alone; only want of memory
+    // Usage comes where the words are of no form, and there alone; only want of memory for an address
     // comes before it, and nothing is asked.
-    ensures usage { result ≡ Status.Usage → HasNoRun (map string_bytes args.now) }
-    ensures refused { HasNoRun (map string_bytes args.now)
-        → Refuses result a.old a.new b.old b.new
+    ensures usage { result ≡ Status.Usage → HasNoForm (map string_bytes args.now) }
+    ensures refused { HasNoForm (map string_bytes args.now)
+        → Refuses (map string_bytes args.now) result a.old a.new b.old b.new
         (record {
           left = S.left input.old;
           rows = T.left tables.old;
@@ -149,42 +149,8 @@ fn run_form<S: Source, T: Source, K: Sink, D: Disk, L: Link, R: Rng>(
     link: &mut L,
     words: &mut R,
 ) -> Status
-    ensures usage { result ≡ Status.Usage → IsUnbuilt form.now }
-    ensures refused { IsUnbuilt form.now → Refuses result a.old a.new b.old b.new
-        (record {
-          left = S.left input.old;
-          rows = T.left tables.old;
-          held = K.held out.old;
-          ports = L.ports link.old;
-          coming = L.coming link.old;
-          sent = L.sent link.old;
-          words = R.stream words.old;
-        })
-        (record {
-          left = S.left input.new;
-          rows = T.left tables.new;
-          held = K.held out.new;
-          ports = L.ports link.new;
-          coming = L.coming link.new;
-          sent = L.sent link.new;
-          words = R.stream words.new;
-        })
-        (record {
-          input = S.faults input.old;
-          tables = T.faults tables.old;
-          out = K.faults out.old;
-          a = D.faults a.old;
-          b = D.faults b.old;
-          link = L.faults link.old;
-        })
-        (record {
-          input = S.faults input.new;
-          tables = T.faults tables.new;
-          out = K.faults out.new;
-          a = D.faults a.new;
-          b = D.faults b.new;
-          link = L.faults link.new;
-        }) }
+    requires few { IsFew form.now }
+    ensures built { result ≢ Status.Usage }
     ensures leaves { FormLeaves D.reading D.images D.moment D.images_since form.now result
         a.old a.new b.old b.new
         (record {
@@ -232,7 +198,7 @@ fn run_form<S: Source, T: Source, K: Sink, D: Disk, L: Link, R: Rng>(
         Form::Init => run_init(a, b),
         Form::Run => run_lines(alloc, input, tables, out, a, b, link, words),
         Form::Dump => run_dump(alloc, out, a, b),
-        Form::Drill(_) => Status::Usage,
+        Form::Drill(events) => run_drill(alloc, *events, out, a, b),
     }
 }
 

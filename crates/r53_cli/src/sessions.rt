@@ -1,10 +1,12 @@
 //! Runs over a store: it is made, the lines of an input are taken, or what it holds is written.
 
-ghost use Rattle.std.specs.Prelude.{◌≡◌, ◌≢◌};
-ghost use Rattle.r53_cli.specs.Sessions.{Dumps, Makes, Runs, of_dumped, of_ended, of_init, of_ran};
+ghost use Rattle.std.specs.Prelude.{◌≡◌, ◌≢◌, ◌≤◌};
+ghost use Rattle.r53_cli.specs.Sessions.{Drills, Dumps, Makes, Runs, of_drilled};
+ghost use Rattle.r53_cli.specs.Sessions.{of_dumped, of_ended, of_init, of_ran};
 ghost use Rattle.r53_cli.specs.declared.status.Status.TheVariants as Status;
 
 use crate::status::Status;
+use drill_run::{Drilled, drill};
 use dump_run::{Dumped, dump_store, init_opens};
 use r53_disk::Disk;
 use r53_io::{Link, Sink, Source};
@@ -55,6 +57,40 @@ fn of_dumped(came: Dumped) -> Status
         Dumped::OpeningFault => Status::DiskFault,
         Dumped::OutOfMemory => Status::OutOfMemory,
         Dumped::WriteFault => Status::WriteFault,
+    }
+}
+
+/// Runs a drill over so many events.
+pub(crate) fn run_drill<K: Sink, D: Disk>(
+    alloc: Global,
+    events: u32,
+    out: &mut K,
+    a: &mut D,
+    b: &mut D,
+) -> Status
+    requires few { events ≤ 100000 }
+    ensures drills { Drills D.reading D.images D.moment D.images_since events result a.old a.new
+        b.old b.new (K.held out.old) (K.held out.new) (K.faults out.old) (K.faults out.new)
+        (D.faults a.old) (D.faults a.new) (D.faults b.old) (D.faults b.new) }
+    ensures built { result ≢ Status.Usage }
+{
+    of_drilled(drill(alloc, events, out, a, b))
+}
+
+/// The status of a drill.
+fn of_drilled(came: Drilled) -> Status
+    ensures told { result ≡ of_drilled came }
+    ensures built { result ≢ Status.Usage }
+{
+    match came {
+        Drilled::Written => Status::Done,
+        Drilled::AlreadyAStore(side) => Status::AlreadyAStore(side),
+        Drilled::MakingFault => Status::DiskFault,
+        Drilled::NotAStore(side, place) => Status::NotAStore(side, place),
+        Drilled::OpeningFault => Status::DiskFault,
+        Drilled::OutOfMemory => Status::OutOfMemory,
+        Drilled::DiskFault => Status::DiskFault,
+        Drilled::WriteFault => Status::WriteFault,
     }
 }
 

@@ -1,7 +1,7 @@
 //! Each call of a disk, of the input and of the output failing once, in runs over objects in memory:
 //! how the run ends, what it wrote by then, and what three images of the two files dump as.
 
-use crate::stores::{LINES, REPLIES, behind_crash, disk, dump_behind, run_words, runs};
+use crate::stores::{EMPTY, LINES, REPLIES, behind_crash, disk, dump_behind, run_words, runs};
 use r53_cli::{Side, Status};
 use r53_disk::{MemoryDisk, Torn};
 use r53_io::{ListSource, VecSink};
@@ -14,12 +14,6 @@ const CALLS: u64 = 200;
 
 /// The last calls of the two disks.
 const LAST_CALLS: [u64; 2] = [18, 13];
-
-/// The file of a store with nothing in it.
-const EMPTY: [u8; 34] = [
-    0x01, 0x52, 0x35, 0x33, 0x5a, 0x4a, 0x30, 0x31, 0, 0, 0, 0, 0, 0, 0, 1, 0, 0, 0, 13, 2, 0, 0,
-    0, 1, 0, 0, 0, 1, 0, 0, 0, 0, 0,
-];
 
 /// How many line feeds stand in octets.
 fn count_lines(octets: &[u8]) -> usize {

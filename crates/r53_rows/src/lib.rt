@@ -2,9 +2,13 @@
 #![tactic(auto)]
 
 #[cfg(test)]
+mod drills;
+#[cfg(test)]
 mod edns;
 #[cfg(test)]
 mod faults;
+#[cfg(test)]
+mod network;
 #[cfg(test)]
 mod once;
 #[cfg(test)]
