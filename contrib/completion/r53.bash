@@ -6,7 +6,7 @@ _r53d() {
     esac
     mapfile -t COMPREPLY < <(compgen -W "-h --help --config --init --folder --program --socket --query-port --tcp-address --tcp-port --report-address --report-port --metrics-port --log --log-most --compact-factor --compact-least --lock-wait --stop-within --restart-most --patience" -- "$word")
 }
-complete -F _r53d r53d
+complete -o filenames -F _r53d r53d
 
 _r53ctl() {
     local word="${COMP_WORDS[COMP_CWORD]}"
@@ -28,4 +28,4 @@ _r53ctl() {
         check-tables) mapfile -t COMPREPLY < <(compgen -W "-h --help --config --folder --socket --program" -- "$word") ;;
     esac
 }
-complete -F _r53ctl r53ctl
+complete -o filenames -F _r53ctl r53ctl

@@ -101,7 +101,7 @@ class Driver:
 
     def timeout(self):
         """How many seconds the loop may wait for events."""
-        until = [self.upkeep.look_at]
+        until = [self.upkeep.look_at, self.upkeep.journal_at]
         if self.hand.wake_at is not None:
             until.append(self.hand.wake_at)
         if self.child is None:
@@ -261,6 +261,7 @@ class Driver:
             return
         self.checks = checks
         self.reports.views.keep_only(self.checks)
+        self.reports.tidy()
         self.replaying = self.reports.views.replay(self.checks)
         self.replayed = self.replay_left = 0
         self.replay()

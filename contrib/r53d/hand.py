@@ -17,6 +17,7 @@ SLICE = 0.003
 QUIET = 0.1
 FEW = 16
 BURST = 128
+SLACK = 0.0005
 WORDS = 8
 MOST_QUEUED = 10000
 MOST_REPORT = 64
@@ -112,28 +113,31 @@ class Hand:
         self.driver.child.give(b'{"Serve":{"Turns":%d}}' % count, self.served)
 
     def wake(self):
-        """Ends the Serve soon: by as many wakes as it has turns where these are few, and else where it doesn't end in time."""
+        """Ends the Serve soon: by as many wakes as it has turns where these are few, and else where it doesn't end in time.
+
+        Wakes that it doesn't need take turns of the next one. The loop waits for whole milliseconds, so slack may be one and a half.
+        """
         if self.serving is None or self.mail is None:
             return
         count, began = self.serving
         self.is_woken = True
         if count <= FEW:
             self.mail.wake(count)
-        self.wake_at = max(time.monotonic(), began + count * self.turns.each) + 0.001
+        self.wake_at = max(time.monotonic(), began + count * self.turns.each) + SLACK
 
     def watch(self, now):
         """Sends wakes where a Serve lasts too long."""
         if self.wake_at is not None and now >= self.wake_at and self.serving is not None:
             self.mail.more(min(self.serving[0], BURST))
-            self.wake_at = now + 0.001
+            self.wake_at = now + SLACK
 
     def served(self, reply):
         """A Serve line's reply."""
         counts, now = json.loads(reply), time.monotonic()
         wakes = self.mail.took(counts["Reports"] + counts["Unknown"], counts["Turns"], counts["Quiet"])
         self.counts.serve(counts, wakes)
-        is_idle = counts["Quiet"] > 0 or 2 * wakes > counts["Turns"]
-        self.turns.took(counts["Turns"], is_idle, now - self.serving[1])
+        brought = 0 if counts["Quiet"] else counts["Turns"] - wakes
+        self.turns.took(counts["Turns"], brought, now - self.serving[1])
         self.serving = self.wake_at = None
         self.slice_end, self.handed = now + SLICE, 0
         self.forward()

@@ -8,7 +8,7 @@ new compaction while it is copied could a copy mix two of its contents; that cha
 and after, and where they differ the copy is made again.
 """
 import os
-from itertools import islice
+import time
 from typing import NamedTuple
 
 HEADER, NEW = 20, 34
@@ -144,22 +144,28 @@ def copy_store(folder, to, is_synced=False):
 # ---- its length, as it grows
 
 class Watch:
-    """The length of the file that decides, followed from gate to gate. `length` is in bytes, the closed gate counted."""
+    """The length of the file that decides, followed from gate to gate. `length` is in bytes, the closed gate counted.
+
+    `is_whole` says that the last look came to the closed gate; else the file is longer than that.
+    """
 
     def __init__(self, folder):
         self.folder = folder
         self.header = None
-        self.length = 0
+        self.length, self.is_whole = 0, False
 
-    def look(self, most=None):
-        """Follows the gates that were opened since the last look, so many at most."""
+    def look(self, seconds=None):
+        """Follows the gates that were opened since the last look, for so many seconds at most, and one at least."""
         header = deciding(self.folder)
         if header != self.header:
             self.header, self.length = header, HEADER + header.snapshot + 1
+        end = None if seconds is None else time.monotonic() + seconds
         file = os.open(path_of(self.folder, header.side), os.O_RDONLY)
         try:
-            for at, _ in islice(gates(file, self.length - 1), most):
-                self.length = at + 1
+            for at, length in gates(file, self.length - 1):
+                is_new, self.length, self.is_whole = at >= self.length, at + 1, length is None
+                if is_new and end is not None and time.monotonic() >= end:
+                    break
         finally:
             os.close(file)
         return self

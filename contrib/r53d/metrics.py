@@ -88,7 +88,7 @@ def page(counts, state):
     out += counter("reports_unsaved", "Reports that the disk didn't take; they are kept in memory.", state["lost"])
     out += counter("log_lost", "Lines of the log that couldn't be written.", state["unlogged"])
     out += gauge("up", "1 while the program serves.", state["up"])
-    out += gauge("journal_bytes", "Length of the file that decides, up to its closed gate.", state["journal_bytes"])
+    out += gauge("journal_bytes", "Length of the file that decides, up to its closed gate, once that is found.", state["journal_bytes"])
     out += gauge("journal_snapshot_bytes", "Length of the snapshot in that file.", state["snapshot_bytes"])
     out += gauge("journal_generation", "Its generation.", state["generation"])
     out += gauge("checks", "Health checks.", state["checks"])

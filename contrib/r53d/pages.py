@@ -114,7 +114,7 @@ def bash_page():
     out = ["# Completion of r53d and r53ctl for bash, made from their parsers.", "_r53d() {",
            '    local word="${COMP_WORDS[COMP_CWORD]}" before="${COMP_WORDS[COMP_CWORD-1]}"', '    case "$before" in',
            "        %s) mapfile -t COMPREPLY < <(compgen -f -- \"$word\"); return ;;" % "|".join(takes_files(parsers.r53d())), "    esac",
-           "    mapfile -t COMPREPLY < <(compgen -W \"%s\" -- \"$word\")" % " ".join(long_words(parsers.r53d())), "}", "complete -F _r53d r53d", "",
+           "    mapfile -t COMPREPLY < <(compgen -W \"%s\" -- \"$word\")" % " ".join(long_words(parsers.r53d())), "}", "complete -o filenames -F _r53d r53d", "",
            "_r53ctl() {", '    local word="${COMP_WORDS[COMP_CWORD]}"', "    if [ \"$COMP_CWORD\" -eq 1 ]; then"]
     found = subcommands(parsers.r53ctl())
     out += ["        mapfile -t COMPREPLY < <(compgen -W \"%s\" -- \"$word\")" % " ".join(name for name, _, _ in found), "        return", "    fi",
@@ -122,7 +122,7 @@ def bash_page():
             '    case "${COMP_WORDS[1]}" in']
     for name, sub, _ in found:
         out.append("        %s) mapfile -t COMPREPLY < <(compgen -W \"%s\" -- \"$word\") ;;" % (name, " ".join(long_words(sub))))
-    return "\n".join(out + ["    esac", "}", "complete -F _r53ctl r53ctl"]) + "\n"
+    return "\n".join(out + ["    esac", "}", "complete -o filenames -F _r53ctl r53ctl"]) + "\n"
 
 
 def quote(text):

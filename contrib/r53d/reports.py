@@ -7,9 +7,13 @@ replayed as `Observe` lines by the threshold that the check has.
 
 The file has lines of two kinds. `OBS h1 0 1` is a report as it came; `VIEW h1 0 1110000000 0 5` stands for all before it: the
 views at the thresholds 1 to 10, the last result, and how often in a row it came. A line that is neither is skipped, such as one that a crash cut.
+
+A long file is written anew, a line for each view. Nothing is served while the driver writes, so that goes on piece by piece, beside the long
+file and as reports come, and a thread waits for the disk.
 """
 import os
 import re
+import threading
 import time
 
 from .journal import private
@@ -20,7 +24,9 @@ MOST = 10
 ALL = (1 << MOST) - 1
 FILE = "r53d.reports"
 SLACK = 20000
+PIECE = 100
 TRY_AGAIN = 1.0
+BITS = ["".join("01"[shown >> n & 1] for n in range(MOST)) for shown in range(ALL + 1)]
 
 
 class View:
@@ -44,8 +50,7 @@ class View:
         return out if self.last == shown else out + [self.last] * self.row
 
     def text(self, check, checker):
-        bits = "".join("1" if self.shown >> n & 1 else "0" for n in range(MOST))
-        return "VIEW h%d %d %s %d %d\n" % (check, checker, bits, self.last, self.row)
+        return "VIEW h%d %d %s %d %d\n" % (check, checker, BITS[self.shown], self.last, self.row)
 
 
 class Views:
@@ -111,20 +116,68 @@ def load(folder):
         return views, 0
 
 
+class Successor:
+    """A file that is to take the place of the long one: what is in `left` it lacks yet, and of all else it has each report that came."""
+
+    def __init__(self, path, views):
+        self.path, self.views, self.left, self.new = path, views, dict.fromkeys(views.of), bytearray()
+        self.file = os.open(path, os.O_WRONLY | os.O_APPEND | os.O_CREAT | os.O_TRUNC, 0o600)
+        self.syncing, self.is_synced, self.fault = None, False, None
+
+    def take(self, check, checker, line):
+        """Takes a report that is in the views already."""
+        if (check, checker) not in self.left:
+            self.new += line
+
+    def go_on(self):
+        """Writes what came, and a piece of what is left; whether all is on the disk. Raises OSError."""
+        for _ in range(min(PIECE, len(self.left))):
+            key, _ = self.left.popitem()
+            if key in self.views.of:
+                self.new += self.views.of[key].text(*key).encode()
+        write_whole(self.file, self.new)
+        self.new.clear()
+        if not self.left and self.syncing is None:
+            self.syncing = threading.Thread(target=self.sync, daemon=True)
+            self.syncing.start()
+        if self.fault is not None:
+            raise self.fault
+        return self.is_synced
+
+    def sync(self):
+        try:
+            os.fsync(self.file)
+            self.is_synced = True
+        except OSError as fault:
+            self.fault = fault
+
+    def drop(self):
+        if self.syncing is not None:
+            self.syncing.join()
+        os.close(self.file)
+        unlink(self.path)
+
+
 class ReportFile:
-    """The views with their file: each report is appended as it comes, and the file is written anew where it is long."""
+    """The views with their file: each report is appended as it comes, and the file is written anew where it is long.
+
+    `successor` is the file that takes its place then, as long as it isn't whole.
+    """
 
     def __init__(self, folder):
         self.path = os.path.join(folder, FILE)
         self.views, self.lines = load(folder)
-        self.file, self.again_at = None, 0.0
+        self.file, self.successor, self.again_at = None, None, 0.0
         self.new = bytearray()
         self.lost = 0
 
     def take(self, check, checker, passed):
         self.views.take(check, checker, passed)
-        self.new += b"OBS h%d %d %d\n" % (check, checker, passed)
+        line = b"OBS h%d %d %d\n" % (check, checker, passed)
+        self.new += line
         self.lines += 1
+        if self.successor is not None:
+            self.successor.take(check, checker, line)
 
     def flush(self):
         """Writes the reports that came since the last call.
@@ -134,18 +187,38 @@ class ReportFile:
         if not self.new:
             return
         try:
-            if self.file is None or self.lines > SLACK + 4 * len(self.views.of):
+            if self.file is None:
                 if time.monotonic() < self.again_at:
                     raise BlockingIOError
                 self.rewrite()
-            elif os.write(self.file, self.new) < len(self.new):
-                raise OSError
+            else:
+                write_whole(self.file, self.new)
+                self.succeed()
         except OSError as fault:
             self.lost += self.new.count(b"\n")
             if not isinstance(fault, BlockingIOError):
                 self.again_at = time.monotonic() + TRY_AGAIN
             self.close()
         self.new.clear()
+
+    def tidy(self):
+        """Writes the file anew before anything is served; where the disk refuses, the next report tries that again."""
+        if self.views.of:
+            try:
+                self.rewrite()
+            except OSError:
+                pass
+
+    def succeed(self):
+        """Goes on with the file that takes this one's place, where this one is long. Raises OSError."""
+        if self.successor is None:
+            if self.lines <= SLACK + 4 * len(self.views.of):
+                return
+            self.successor = Successor(self.path + ".new", self.views)
+        if self.successor.go_on():
+            os.replace(self.successor.path, self.path)
+            os.close(self.file)
+            self.file, self.successor, self.lines = self.successor.file, None, len(self.views.of)
 
     def rewrite(self):
         """Writes one line a view in the file's place, all at once. Raises OSError."""
@@ -168,6 +241,15 @@ class ReportFile:
         if self.file is not None:
             os.close(self.file)
             self.file = None
+        if self.successor is not None:
+            self.successor.drop()
+            self.successor = None
+
+
+def write_whole(file, octets):
+    """Writes octets to a file. Raises OSError where a part is written too."""
+    if os.write(file, octets) < len(octets):
+        raise OSError
 
 
 def unlink(path):

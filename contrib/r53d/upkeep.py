@@ -6,7 +6,7 @@ import time
 from . import journal, metrics, notify
 
 PIECES = 16
-MOST_GATES = 50000
+LOOK, LOOK_AGAIN = 0.001, 0.01
 TRY_AGAIN = 600.0
 PAGE_WAITS = 2.0
 
@@ -22,10 +22,13 @@ class Upkeep:
         self.driver, self.counts = driver, driver.counts
         self.watching = journal.Watch(driver.settings.folder)
         self.healthy, self.waiters = {}, []
-        self.compacting, self.compact_at, self.look_at, self.asked_at = False, 0.0, 0.0, 0.0
+        self.compacting, self.compact_at, self.asked_at = False, 0.0, 0.0
+        self.look_at = self.journal_at = 0.0
 
     def watch(self, now):
-        """Looks at all once a second."""
+        """Looks at all once a second, and at a journal that isn't followed to its end more often."""
+        if now >= self.journal_at:
+            self.look_at_journal(now)
         if now < self.look_at:
             return
         self.look_at = now + 1.0
@@ -38,7 +41,6 @@ class Upkeep:
             self.healthy = {}
             self.give_page()
         self.look_at_child(now)
-        self.look_at_journal(now)
 
     def look_at_child(self, now):
         """Kills a program that hasn't replied for too long. Until it has opened the store it is let be, and so by the manager."""
@@ -59,13 +61,18 @@ class Upkeep:
     # ---- compaction
 
     def look_at_journal(self, now):
-        """Begins a compaction where one is due."""
-        s = self.driver.settings
-        if self.driver.state == "serving" and not self.compacting and s.compact_factor and now >= self.compact_at:
-            try:
-                self.compacting = self.watching.look(MOST_GATES).is_due(s.compact_factor, s.compact_least)
-            except (journal.StoreFault, OSError):
-                pass
+        """Follows the journal, a millisecond at a time since nothing is served meanwhile, and begins a compaction where one is due."""
+        self.journal_at, s = now + 1.0, self.driver.settings
+        if self.driver.state != "serving":
+            return
+        try:
+            seen = self.watching.look(LOOK)
+        except (journal.StoreFault, OSError):
+            return
+        if not seen.is_whole:
+            self.journal_at = now + LOOK_AGAIN
+        if s.compact_factor and not self.compacting and now >= self.compact_at:
+            self.compacting = seen.is_due(s.compact_factor, s.compact_least)
 
     def served(self):
         """A Serve is done: the next pieces of a compaction come next."""
@@ -117,10 +124,12 @@ class Upkeep:
         """What the page tells beside the counts."""
         driver = self.driver
         is_up = driver.state == "serving"
+        header = length = None
         try:
-            header, length = self.watching.look(MOST_GATES).header, self.watching.length
+            seen = self.watching.look(LOOK)
+            header, length = seen.header, seen.length if seen.is_whole else None
         except (journal.StoreFault, OSError):
-            header, length = None, None
+            pass
         return {"up": int(is_up), "journal_bytes": length, "snapshot_bytes": header and header.snapshot,
                 "generation": header and header.generation, "checks": len(driver.checks),
                 "healthy": sum(self.healthy.values()) if is_up and len(self.healthy) == len(driver.checks) else None,

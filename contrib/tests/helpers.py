@@ -53,13 +53,13 @@ def is_alive(pid):
 
 
 class Service:
-    """r53d over a store in a folder. Settings are given as words."""
+    """r53d over a store in a folder. Settings are given as words, and those of this host's own service don't count."""
 
     def __init__(self, folder, **settings):
         self.folder = folder
         self.socket = settings.pop("socket", os.path.join(folder, "r53d.socket"))
         self.log = settings.pop("log", os.path.join(folder, "log"))
-        words = {"query-port": 0, "report-port": 0, "lock-wait": 5, "socket": self.socket, "log": self.log,
+        words = {"config": os.devnull, "query-port": 0, "report-port": 0, "lock-wait": 5, "socket": self.socket, "log": self.log,
                  **{k.replace("_", "-"): v for k, v in settings.items()}}
         self.skip = os.path.getsize(self.log) if os.path.exists(self.log) else 0
         self.process = subprocess.Popen(
@@ -151,7 +151,7 @@ class Case(unittest.TestCase):
         kept, sys.stdin = sys.stdin, io.TextIOWrapper(io.BytesIO((text or "").encode()))
         try:
             with contextlib.redirect_stdout(out), contextlib.redirect_stderr(err):
-                got = control.main([words[0], "--folder", folder or self.folder, *given, *words[1:]])
+                got = control.main([words[0], "--config", os.devnull, "--folder", folder or self.folder, *given, *words[1:]])
         except SystemExit as end:
             got = end.code
         finally:

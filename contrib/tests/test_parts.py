@@ -1,9 +1,11 @@
 """What can be tried without the program: names, values, views of checkers, turns, files, settings, and pages."""
+import contextlib
 import os
 import random
 import subprocess
 import sys
 import tempfile
+import time
 import unittest
 
 import helpers
@@ -82,6 +84,17 @@ class Checker:
             self.view = passed
 
 
+@contextlib.contextmanager
+def patched(module, **values):
+    """The module with other values of its names."""
+    before = {name: getattr(module, name) for name in values}
+    vars(module).update(values)
+    try:
+        yield
+    finally:
+        vars(module).update(before)
+
+
 class Views(unittest.TestCase):
     def test_replay_shows_the_same_now_and_later(self):
         draw = random.Random(1)
@@ -117,37 +130,60 @@ class Views(unittest.TestCase):
             self.assertEqual(os.stat(kept.path).st_mode & 0o777, 0o600)
 
     def test_file_is_written_anew_where_it_is_long(self):
-        with tempfile.TemporaryDirectory() as folder:
+        """Piece by piece while reports come, of checks that come and go too; the file tells all of them at each moment."""
+        def told(views):
+            return {key: view.text(*key) for key, view in views.of.items()}
+        draw, sizes, first = random.Random(3), [], 1
+        with tempfile.TemporaryDirectory() as folder, patched(reports, SLACK=50, PIECE=7):
             kept = reports.ReportFile(folder)
-            for n in range(reports.SLACK + 10):
-                kept.take(1, 7, n % 3 == 0)
-                if n % 100 == 0:
-                    kept.flush()
-            kept.flush()
-            kept.flush()
-            text = kept.views.text()
+            for n in range(3000):
+                for _ in range(draw.randrange(1, 3)):
+                    kept.take(draw.randrange(first, first + 4), draw.randrange(50), draw.random() < 0.5)
+                if draw.random() < 0.01:
+                    kept.views.forget(first)
+                    first += 1
+                kept.flush()
+                sizes.append(os.path.getsize(kept.path))
+                if n % 7 == 0:
+                    self.assertTrue(told(kept.views).items() <= told(reports.load(folder)[0]).items(), n)
+            self.assertGreater(sum(after < before for before, after in zip(sizes, sizes[1:])), 3, "written anew again and again")
+            self.assertEqual(kept.lost, 0)
+            kept.views.keep_only({first, first + 1})
+            kept.tidy()
+            self.assertEqual(told(reports.load(folder)[0]), told(kept.views))
             kept.close()
-            self.assertLess(os.path.getsize(kept.path), 20 * reports.SLACK)
-            self.assertEqual(reports.load(folder)[0].text(), text)
+            self.assertEqual(os.listdir(folder), [reports.FILE])
 
 
 class TurnsAndMail(unittest.TestCase):
     def test_doubles_under_load_within_its_time(self):
-        t = turns.Turns(0.004)
+        t = turns.Turns(0.002)
         seen = []
         for _ in range(12):
             seen.append(t.count)
-            t.took(t.count, 0, t.count * 10e-6)
-        self.assertEqual(seen[:9], [1, 2, 4, 8, 16, 32, 64, 128, 256])
-        self.assertEqual(seen[-1], 400, "0.004 seconds at 10 microseconds a turn")
+            t.took(t.count, t.count, t.count * 10e-6)
+        self.assertEqual(seen[:8], [1, 2, 4, 8, 16, 32, 64, 128])
+        self.assertEqual(seen[-1], 200, "0.002 seconds at 10 microseconds a turn")
+        t.took(200, 200, 200 * 40e-6)
+        self.assertEqual(t.count, 50, "slower turns count at once")
+        for _ in range(20):
+            t.took(t.count, t.count, t.count * 1e-6)
+        self.assertEqual(t.count, 2 * mail.MOST_THERE, "no more than two goes of wakes end")
 
     def test_one_turn_where_it_is_quiet_or_slow(self):
-        t = turns.Turns(0.004)
+        t = turns.Turns(0.002)
         t.count = 64
-        t.took(64, 1, 0.1)
+        t.took(64, 0, 0.1)
         self.assertEqual(t.count, 1)
-        t.took(1, 0, 0.09)
+        t.took(1, 1, 0.09)
         self.assertEqual(t.count, 1, "a datagram in 90 ms")
+
+    def test_as_many_turns_as_brought_something_where_wakes_ended_the_others(self):
+        t, seen = turns.Turns(0.002), []
+        for _ in range(9):
+            t.took(t.count, min(t.count, 30), t.count * 10e-6)
+            seen.append(t.count)
+        self.assertEqual(seen, [2, 4, 8, 16, 32, 64, 30, 60, 30], "thirty that come between two Serves")
 
     def test_wakes_are_told_from_unknown_ones(self):
         import socket
@@ -175,7 +211,6 @@ class TurnsAndMail(unittest.TestCase):
 class Loops(unittest.TestCase):
     def test_what_is_urgent_goes_first_and_the_rest_in_turns(self):
         import socket
-        import time
         todo, called, pairs = loop.Loop(), [], [socket.socketpair() for _ in range(5)]
 
         def handler(number):
@@ -187,10 +222,15 @@ class Loops(unittest.TestCase):
             todo.set(here, loop.READ, handler(number))
             there.send(b"x")
         todo.urgent.add(pairs[3][0].fileno())
+        todo.rest_at = time.monotonic() + 60
         todo.once(1)
         self.assertEqual(called, [3], "it alone")
+        todo.rest_at = 0.0
+        todo.once(1)
+        self.assertNotIn(3, called[1:], "the rest, where it has waited")
+        self.assertGreater(todo.rest_at, time.monotonic() - 1)
         pairs[3][0].recv(1)
-        for _ in range(8):
+        for _ in range(7):
             todo.once(1)
         self.assertEqual(sorted(called[1:]), [0, 0, 1, 1, 2, 2, 4, 4], "each that stays ready comes twice in eight goes")
         for here, there in pairs:
@@ -231,11 +271,18 @@ class Files(unittest.TestCase):
             self.assertFalse(watch.is_due(2.0, 4 << 20), "below the least")
             self.assertFalse(watch.is_due(1e6, 1000), "not so many times its snapshot")
 
-    def test_the_length_is_followed_some_entries_at_a_time(self):
+    def test_the_length_is_followed_a_while_at_a_time(self):
         with tempfile.TemporaryDirectory() as folder:
             self.store(folder, entries=[b"x"] * 9)
             watch = journal.Watch(folder)
-            self.assertEqual([watch.look(4).length for _ in range(4)], [33 + 6 * n + 1 for n in (3, 6, 9, 9)])
+            self.assertEqual([(watch.look(0).length, watch.is_whole) for _ in range(10)],
+                             [(33 + 6 * n + 1, n == 9) for n in (1, 2, 3, 4, 5, 6, 7, 8, 9, 9)])
+            self.store(folder, "b", 2, entries=[b"x"] * 100000)
+            for _ in range(20):
+                began = time.process_time()
+                watch.look(0.001)
+                self.assertLess(time.process_time() - began, 0.02, "since nothing is served meanwhile")
+            self.assertEqual(watch.look().length, 33 + 600000 + 1)
 
     def test_a_tail_that_is_torn(self):
         """Octets behind the closed gate count for nothing; a file that ends before one is no store."""

@@ -343,7 +343,7 @@ class Metrics(Case):
 
 class Ends(Case):
     def ended(self, *words, **env):
-        done = subprocess.run([sys.executable, "-B", R53D, *words], env={**os.environ, "R53": R53, **env}, capture_output=True, text=True,
+        done = subprocess.run([sys.executable, "-B", R53D, "--config", os.devnull, *words], env={**os.environ, "R53": R53, **env}, capture_output=True, text=True,
                               timeout=60)
         return done.returncode, done.stderr
 
@@ -427,7 +427,8 @@ class Ends(Case):
 
     def test_who_reads_the_log_holds_up_nobody(self):
         path = os.path.join(self.folder, "s")
-        words = [sys.executable, "-B", R53D, "--init", "--folder", self.folder, "--query-port", "0", "--report-port", "0", "--socket", path]
+        words = [sys.executable, "-B", R53D, "--config", os.devnull, "--init", "--folder", self.folder, "--query-port", "0", "--report-port", "0",
+                 "--socket", path]
         with subprocess.Popen(words, env={**os.environ, "R53": R53}, stdout=subprocess.PIPE) as process:
             try:
                 until(lambda: os.path.exists(path), "the socket")
