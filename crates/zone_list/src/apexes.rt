@@ -103,7 +103,11 @@ impl Apexes {
 }
 
 /// The place of the longest name at or above this one that a hint tells: it may be another place.
+/// Of one name alone it is known.
 fn hint_of(hints: &Hints, list: &[Apex], name: &Name) -> Option<usize> {
+    if list.len() == 1 {
+        return Some(0);
+    }
     let octets = name.octets();
     let mut at = 0;
     while at < octets.len() {
