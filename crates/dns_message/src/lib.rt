@@ -16,4 +16,5 @@ mod verdict;
 pub use ecs_option::ClientSubnet;
 pub use laws::{one_judgement, one_list_of_options, one_record, one_split};
 pub use query::{Edns, Query, QueryRead};
-pub use read::read_query;
+pub use read::{blank_query, read_over, read_query};
+pub use verdict::Verdict;

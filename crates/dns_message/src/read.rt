@@ -26,7 +26,7 @@ pub fn read_query(packet: &[u8]) -> QueryRead
     ensures judges { Judges packet.now result }
     ensures whole { GivesWhole result }
 {
-    let mut query = blank();
+    let mut query = blank_query();
     // Each case returns by itself: where they come together first, the query is copied once more.
     match read_over(packet, &mut query) {
         Verdict::Silent => return QueryRead::Silent,
@@ -48,8 +48,9 @@ pub fn read_query(packet: &[u8]) -> QueryRead
     }
 }
 
-/// Reads a query over a blank one, or says what is wrong with the packet first.
-fn read_over(packet: &[u8], query: &mut Query) -> Verdict
+/// Reads a query over a blank one, or says what is wrong with the packet first: what is read
+/// stands in its caller's place, and isn't copied.
+pub fn read_over(packet: &[u8], query: &mut Query) -> Verdict
     requires { query.old.question ≡ replicate 259 0 }
     ensures judges { Judges packet.now (read_as result query.new) }
     ensures whole { GivesWhole (read_as result query.new) }
@@ -87,7 +88,8 @@ fn read_over(packet: &[u8], query: &mut Query) -> Verdict
 }
 
 /// A query for the root, of zeros.
-fn blank() -> Query
+#[inline(always)]
+pub fn blank_query() -> Query
     ensures { result.question ≡ replicate 259 0 }
 {
     Query {

@@ -2,7 +2,7 @@
 
 /// A `QueryRead` without its query.
 #[derive(Clone, Copy)]
-pub(crate) enum Verdict {
+pub enum Verdict {
     /// Nothing is answered.
     Silent,
     /// The reply is a header alone, with this response code.
