@@ -13,6 +13,7 @@ pub use Rattle.choice_model.specs.Policies
 pub use Rattle.choice_model.specs.Places
 pub use Rattle.choice_model.specs.Regions
 pub use Rattle.choice_model.specs.Stored
+pub use Rattle.choice_model.specs.TablesRecord
 pub use Rattle.zone_model.specs.Existing
 pub use Rattle.zone_model.specs.Hosted
 pub use Rattle.zone_model.specs.Keys

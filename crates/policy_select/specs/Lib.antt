@@ -1,5 +1,6 @@
 pub mod Groups
 pub mod Rules
+pub mod Seen
 pub mod Selecting
 pub use Rattle.answer_model.specs.Descent
 pub use Rattle.answer_model.specs.Clients

@@ -3,27 +3,38 @@
 ghost use Rattle.std.specs.Prelude.{◌≡◌};
 ghost use Rattle.std.specs.Option.{option_copied};
 ghost use Rattle.answer_model.specs.Clients.{blocks_scope, location_in};
-ghost use Rattle.answer_model.specs.Location.{told_in};
+ghost use Rattle.answer_model.specs.Location.{scope_in, told_in};
 ghost use Rattle.answer_model.specs.Stored.{collection_at};
 
 use address_text::IpAddress;
 use answer_model::{Latencies, Location, Tables, locates_as_told, told_in_collections};
 use zone_table::{Collections, Ident};
 
-/// Where a client is, by the table of places.
-pub(crate) fn location_of(tables: &Tables, client: IpAddress) -> Option<&Location>
-    ensures { option_copied result ≡ told_in tables.now.places client }
-{
-    locates_as_told::<Location>();
-    tables.places.locate(client).0
+/// The scopes of the client's answers in the tables, where it was looked up in them.
+#[derive(Clone, Copy, Debug, PartialEq, Eq)]
+pub struct Seen {
+    /// That of the table of places.
+    pub places: Option<u8>,
+    /// That of the table of latencies.
+    pub latencies: Option<u8>,
 }
 
-/// The latencies of a client, by the table of latencies.
-pub(crate) fn latencies_of(tables: &Tables, client: IpAddress) -> Option<&Latencies>
-    ensures { option_copied result ≡ told_in tables.now.latencies client }
+/// Where a client is, by the table of places, and the scope of that answer.
+pub(crate) fn location_of(tables: &Tables, client: IpAddress) -> (Option<&Location>, u8)
+    ensures told { option_copied result.0 ≡ told_in tables.now.places client }
+    ensures scope { result.1 ≡ scope_in tables.now.places client }
+{
+    locates_as_told::<Location>();
+    tables.places.locate(client)
+}
+
+/// The latencies of a client, by the table of latencies, and the scope of that answer.
+pub(crate) fn latencies_of(tables: &Tables, client: IpAddress) -> (Option<&Latencies>, u8)
+    ensures told { option_copied result.0 ≡ told_in tables.now.latencies client }
+    ensures scope { result.1 ≡ scope_in tables.now.latencies client }
 {
     locates_as_told::<Latencies>();
-    tables.latencies.locate(client).0
+    tables.latencies.locate(client)
 }
 
 /// The location of a client in a collection, and the scope of that answer.

@@ -15,9 +15,11 @@ ghost use Rattle.zone_table.specs.Holding.{IsHolding};
 ghost use Rattle.zone_table.specs.SetRefRecord.{SetRef};
 ghost use Rattle.zone_table.specs.Looking.{IsGroupNow};
 ghost use Rattle.policy_select.specs.Groups.{FewInGroups, sets_in, sets_in_zone};
+ghost use Rattle.policy_select.specs.Seen.{IsSeen};
 ghost use Rattle.policy_select.specs.Selecting.{AreOfGroup, GivesDescent, HoldsFirst, IsInZone};
 ghost use Rattle.policy_select.specs.Selecting.{LeadsTo, TargetOf, choice_of};
 
+use crate::client::Seen;
 use crate::group::load_member;
 use crate::parts::is_simple_in;
 use crate::rules::rule_held;
@@ -57,8 +59,44 @@ pub fn descend<V: HealthView>(
     ensures held { HoldsFirst zones.now.zones result scratch.new }
     ensures most { choices.new ≤ choices.old + 17 }
 {
+    let mut seen = Seen {
+        places: None,
+        latencies: None,
+    };
+    descend_seen(
+        zones, group, view, tables, client, words, choices, used, &mut seen, scratch,
+    )
+}
+
+/// The same, which tells what it saw of the client in the tables.
+pub fn descend_seen<V: HealthView>(
+    zones: &Zones,
+    group: Group,
+    view: &V,
+    tables: &Tables,
+    client: IpAddress,
+    words: &[u64; 8],
+    choices: &mut u8,
+    used: &mut Used,
+    seen: &mut Seen,
+    scratch: &mut Scratch,
+) -> Selected
+    requires group { IsGroupNow zones.now.zones group }
+    requires few { FewInGroups (sets_in_zone zones.now.zones group.zone) }
+    requires room { choices.old ≤ 238 }
+    requires seen { IsSeen tables.now client seen.old }
+    ensures gives { GivesDescent zones.now.zones (V.test view.now)
+        (client_at tables.now zones.now.collections.list client) words.now group descended
+        (record { count = choices.old; used = used.old }) result choices.new used.new }
+    ensures places { AreOfGroup zones.now.zones result }
+    ensures held { HoldsFirst zones.now.zones result scratch.new }
+    ensures most { choices.new ≤ choices.old + 17 }
+
+    // What was seen before stays, or was looked up again.
+    ensures seen { IsSeen tables.now client seen.new }
+{
     descend_from(
-        MOST, zones, group, view, tables, client, words, choices, used, scratch,
+        MOST, zones, group, view, tables, client, words, choices, used, seen, scratch,
     )
 }
 
@@ -73,17 +111,20 @@ fn descend_from<V: HealthView>(
     words: &[u64; 8],
     choices: &mut u8,
     used: &mut Used,
+    seen: &mut Seen,
     scratch: &mut Scratch,
 ) -> Selected
     requires group { IsGroupNow zones.now.zones group }
     requires few { FewInGroups (sets_in_zone zones.now.zones group.zone) }
     requires room { choices.old + most ≤ 255 }
+    requires seen { IsSeen tables.now client seen.old }
     ensures gives { GivesDescent zones.now.zones (V.test view.now)
         (client_at tables.now zones.now.collections.list client) words.now group (descends most)
         (record { count = choices.old; used = used.old }) result choices.new used.new }
     ensures places { AreOfGroup zones.now.zones result }
     ensures held { HoldsFirst zones.now.zones result scratch.new }
     ensures most { choices.new ≤ choices.old + most }
+    ensures seen { IsSeen tables.now client seen.new }
 {
     if most == 0 {
         return Selected::Nothing;
@@ -92,7 +133,7 @@ fn descend_from<V: HealthView>(
         return Selected::Nothing;
     }
     let selected = choose_next(
-        zones, group, view, tables, client, words, choices, used, scratch,
+        zones, group, view, tables, client, words, choices, used, seen, scratch,
     );
     match lead(zones, group.zone, &selected, scratch) {
         None => selected,
@@ -106,6 +147,7 @@ fn descend_from<V: HealthView>(
             words,
             choices,
             used,
+            seen,
             scratch,
         ),
     }
@@ -122,12 +164,14 @@ fn choose_next<V: HealthView>(
     words: &[u64; 8],
     choices: &mut u8,
     used: &mut Used,
+    seen: &mut Seen,
     scratch: &mut Scratch,
 ) -> Selected
     requires group { IsGroupNow zones.now.zones group }
     requires some { 0 < group.length }
     requires few { FewInGroups (sets_in_zone zones.now.zones group.zone) }
     requires room { choices.old < 255 }
+    requires seen { IsSeen tables.now client seen.old }
     ensures selected { result
         ≡ choice_of zones.now.zones (V.test view.now)
         (client_at tables.now zones.now.collections.list client) group
@@ -139,6 +183,7 @@ fn choose_next<V: HealthView>(
     ensures places { AreOfGroup zones.now.zones result }
     ensures zone { IsInZone group.zone result }
     ensures some { 0 < length (sets_in zones.now.zones group) }
+    ensures seen { IsSeen tables.now client seen.new }
     ensures held { HoldsFirst zones.now.zones result scratch.new }
 {
     known_few(zones, group);
@@ -148,7 +193,9 @@ fn choose_next<V: HealthView>(
     if first_is_simple(zones, group, scratch) {
         return choose_simple(zones, group, scratch);
     }
-    choose_held(zones, group, view, tables, client, word, used, scratch)
+    choose_held(
+        zones, group, view, tables, client, word, used, seen, scratch,
+    )
 }
 
 /// Loads the first set of a group, and tells whether its policy is the simple one.
@@ -199,6 +246,7 @@ fn choose_held<V: HealthView>(
     client: IpAddress,
     word: u64,
     used: &mut Used,
+    seen: &mut Seen,
     scratch: &mut Scratch,
 ) -> Selected
     requires group { IsGroupNow zones.now.zones group }
@@ -207,6 +255,7 @@ fn choose_held<V: HealthView>(
     requires first { (set : RecordSet)
         × (slice_get (sets_in zones.now.zones group) 0 ≡ Some set)
         × (scratch.old ≡ Some set) × HasSpelling set }
+    requires seen { IsSeen tables.now client seen.old }
     ensures selected { result
         ≡ choice_of zones.now.zones (V.test view.now)
         (client_at tables.now zones.now.collections.list client) group word }
@@ -215,11 +264,12 @@ fn choose_held<V: HealthView>(
         (sets_in zones.now.zones group) used.old }
     ensures places { AreOfGroup zones.now.zones result }
     ensures held { HoldsFirst zones.now.zones result scratch.new }
+    ensures seen { IsSeen tables.now client seen.new }
 {
     chosen_are_of_group();
     let rule = rule_held(scratch);
     let selected = choose(
-        &rule, zones, group, view, tables, client, word, used, scratch,
+        &rule, zones, group, view, tables, client, word, used, seen, scratch,
     );
     load_first(zones, &selected, scratch);
     selected

@@ -4,7 +4,7 @@ ghost use Rattle.std.specs.Prelude.{◌≡◌, ◌<◌, ◌≤◌};
 ghost use Rattle.std.specs.Option.{option_copied};
 ghost use Rattle.answer_model.specs.Choice.{each};
 ghost use Rattle.answer_model.specs.Policies.{location_of, place_of, region_of, role_of, weight_of};
-ghost use Rattle.answer_model.specs.Location.{told_in};
+ghost use Rattle.answer_model.specs.Location.{scope_in, told_in};
 ghost use Rattle.zone_table.specs.Choice.{chosen as block_chosen};
 ghost use Rattle.failover.specs.Choice.{chosen as role_chosen};
 ghost use Rattle.answer_model.specs.Places.{chosen as place_chosen};
@@ -77,7 +77,7 @@ pub(crate) fn choose_failover<V: HealthView>(
     failover::choose(&roles[..group.length], &healthy[..group.length])
 }
 
-/// Chooses from a geolocation group.
+/// Chooses from a geolocation group, and tells the scope of the client's place.
 pub(crate) fn choose_place<V: HealthView>(
     zones: &Zones,
     group: Group,
@@ -86,27 +86,30 @@ pub(crate) fn choose_place<V: HealthView>(
     tables: &Tables,
     client: IpAddress,
     scratch: &mut Scratch,
-) -> Option<usize>
+) -> (Option<usize>, u8)
     requires group { IsGroupNow zones.now.zones group }
     requires first { FirstSays place_of first.now (sets_in zones.now.zones group) }
     requires some { 0 < group.length }
     requires few { group.length ≤ 100 }
-    ensures { result
+    ensures place { result.0
         ≡ place_chosen (each place_of first.now (sets_in zones.now.zones group))
         (flags_in zones.now.zones (V.test view.now) group) (told_in tables.now.places client) }
+    ensures scope { result.1 ≡ scope_in tables.now.places client }
 {
     let mut healthy = [false; GROUP];
     note_healthy(zones, group, view, &mut healthy);
     let mut places = [*first; GROUP];
     note_places(zones, group, first, scratch, &mut places);
-    answer_model::choose_place(
+    let (location, scope) = location_of(tables, client);
+    let place = answer_model::choose_place(
         &places[..group.length],
         &healthy[..group.length],
-        location_of(tables, client),
-    )
+        location,
+    );
+    (place, scope)
 }
 
-/// Chooses from a latency group.
+/// Chooses from a latency group, and tells the scope of the client's latencies.
 pub(crate) fn choose_region<V: HealthView>(
     zones: &Zones,
     group: Group,
@@ -115,25 +118,28 @@ pub(crate) fn choose_region<V: HealthView>(
     tables: &Tables,
     client: IpAddress,
     scratch: &mut Scratch,
-) -> usize
+) -> (usize, u8)
     requires group { IsGroupNow zones.now.zones group }
     requires first { FirstSays region_of first.now (sets_in zones.now.zones group) }
     requires some { 0 < group.length }
     requires few { group.length ≤ 100 }
-    ensures { result
+    ensures place { result.0
         ≡ region_chosen (each region_of first.now (sets_in zones.now.zones group))
         (flags_in zones.now.zones (V.test view.now) group)
         (told_in tables.now.latencies client) }
+    ensures scope { result.1 ≡ scope_in tables.now.latencies client }
 {
     let mut healthy = [false; GROUP];
     note_healthy(zones, group, view, &mut healthy);
     let mut regions = [*first; GROUP];
     note_regions(zones, group, first, scratch, &mut regions);
-    answer_model::choose_region(
+    let (latencies, scope) = latencies_of(tables, client);
+    let place = answer_model::choose_region(
         &regions[..group.length],
         &healthy[..group.length],
-        latencies_of(tables, client),
-    )
+        latencies,
+    );
+    (place, scope)
 }
 
 /// Chooses from a multivalue answer group.

@@ -19,7 +19,8 @@ pub use answer_model::{
     Used, asked_groups, cuts_are_nearest, enclosers_are_closest, locates_as_told, names_exist,
     zones_are_longest,
 };
-pub use descent::descend;
+pub use client::Seen;
+pub use descent::{descend, descend_seen};
 pub use few::{few_by_each_set, groups_are_few};
 pub use group::{find_group, load_member, routing_at};
 pub use multivalue::Picked;

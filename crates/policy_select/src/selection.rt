@@ -9,9 +9,10 @@ ghost use Rattle.zone_table.specs.RecordSetRecord.{RecordSet};
 ghost use Rattle.zone_table.specs.Looking.{IsGroupNow};
 ghost use Rattle.policy_select.specs.Groups.{sets_in};
 ghost use Rattle.policy_select.specs.Rules.{IsOf};
+ghost use Rattle.policy_select.specs.Seen.{IsSeen};
 ghost use Rattle.policy_select.specs.Selecting.{choice_of, selected_of};
 
-use crate::client::block_of;
+use crate::client::{Seen, block_of};
 use crate::leaves::{
     choose_block, choose_failover, choose_place, choose_region, choose_several, choose_weighted,
 };
@@ -55,13 +56,18 @@ pub fn select<V: HealthView>(
         latencies: false,
         blocks: 0,
     };
+    let mut seen = Seen {
+        places: None,
+        latencies: None,
+    };
     let rule = first_rule(zones, group, scratch);
     choose(
-        &rule, zones, group, view, tables, client, word, &mut used, scratch,
+        &rule, zones, group, view, tables, client, word, &mut used, &mut seen, scratch,
     )
 }
 
-/// Chooses from a group by the policy of its first set, and notes what the choice used.
+/// Chooses from a group by the policy of its first set, and notes what the choice used, and what it
+/// saw in the tables.
 pub(crate) fn choose<V: HealthView>(
     rule: &Rule,
     zones: &Zones,
@@ -71,11 +77,13 @@ pub(crate) fn choose<V: HealthView>(
     client: IpAddress,
     word: u64,
     used: &mut Used,
+    seen: &mut Seen,
     scratch: &mut Scratch,
 ) -> Selected
     requires group { IsGroupNow zones.now.zones group }
     requires some { 0 < group.length }
     requires few { group.length ≤ 100 }
+    requires seen { IsSeen tables.now client seen.old }
     requires first { (set : RecordSet)
         × (slice_get (sets_in zones.now.zones group) 0 ≡ Some set)
         × IsOf rule.now set.routing }
@@ -85,6 +93,7 @@ pub(crate) fn choose<V: HealthView>(
     ensures used { used.new
         ≡ group_uses (client_at tables.now zones.now.collections.list client)
         (sets_in zones.now.zones group) used.old }
+    ensures seen { IsSeen tables.now client seen.new }
 {
     match rule {
         Rule::Simple => one(group, 0),
@@ -97,12 +106,14 @@ pub(crate) fn choose<V: HealthView>(
         Rule::Failover(role) => { one(group, choose_failover(zones, group, view, *role, scratch)) }
         Rule::Geolocation(place) => {
             used.places = true;
-            let set = choose_place(zones, group, view, place, tables, client, scratch);
+            let (set, scope) = choose_place(zones, group, view, place, tables, client, scratch);
+            seen.places = Some(scope);
             one_or_none(group, set)
         }
         Rule::Latency(region) => {
             used.latencies = true;
-            let set = choose_region(zones, group, view, region, tables, client, scratch);
+            let (set, scope) = choose_region(zones, group, view, region, tables, client, scratch);
+            seen.latencies = Some(scope);
             one(group, set)
         }
         Rule::Multivalue => several(group, choose_several(zones, group, view, word)),

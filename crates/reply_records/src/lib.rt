@@ -15,4 +15,4 @@ pub use chosen::{first_record, write_chosen};
 pub use delegation::{name_in, write_delegation};
 pub use held::{write_one, write_values};
 pub use negative::write_soa;
-pub use policy_select::{HealthView, Selected, descend, find_group, views_agree};
+pub use policy_select::{HealthView, Selected, descend, descend_seen, find_group, views_agree};

@@ -5,6 +5,7 @@ pub use Rattle.policy_select.specs.Names
 pub use Rattle.policy_select.specs.Sections
 pub use Rattle.policy_select.specs.ZonesOfAnswerModel as Zones
 pub use Rattle.policy_select.specs.Groups
+pub use Rattle.policy_select.specs.Seen
 pub use Rattle.policy_select.specs.Looking
 pub use Rattle.policy_select.specs.SetRefRecord
 pub use Rattle.policy_select.specs.Zones as ZonesOfZoneList

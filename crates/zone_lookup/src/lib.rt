@@ -15,7 +15,7 @@ pub use cut::cut_above;
 pub use groups::{asked_group, group_of};
 pub use hosting::{find_zone, is_held_by, known_few};
 pub use policy_select::{
-    Group, HealthView, Scratch, SetRef, Used, Zones, cuts_are_nearest, locates_as_told,
+    Group, HealthView, Scratch, Seen, SetRef, Used, Zones, cuts_are_nearest, locates_as_told,
     names_exist, zones_are_longest,
 };
 pub use served::are_served;

@@ -1,5 +1,5 @@
 use Rattle.answer_model.specs.Descent.{descend}
-use Rattle.policy_select.proofs.descent.descend.Goals as goal
+use Rattle.policy_select.proofs.descent.descend_seen.Goals as goal
 
 pub returns-clause-gives : goal.returns-clause-gives
 unfolding descend
