@@ -3,6 +3,7 @@
 ghost use Rattle.std.specs.Prelude.{◌≡◌, ◌<◌, ◌≤◌, ℕ, Bool, None, IfSome, length};
 ghost use Rattle.zone_lookup.specs.Reply.{Answers, is_refused, query_reply, reply_to_read};
 ghost use Rattle.zone_lookup.specs.Sections.{sections};
+ghost use Rattle.dns_message.specs.Verdict.{read_as};
 ghost use Rattle.dns_message.specs.Whole.{GivesWhole, IsWhole};
 ghost use Rattle.dns_wire.specs.Draft.{reply_to};
 ghost use Rattle.dns_wire.specs.Header.{FitsRcode};
@@ -17,7 +18,7 @@ use crate::asking::{Asked, Progress};
 use crate::client::{client_address, told_scope};
 use crate::steps::look_up;
 use address_text::IpAddress;
-use dns_message::{Query, QueryRead, read_query};
+use dns_message::{Query, Verdict, blank_query, read_over};
 use dns_name::Name;
 use dns_wire::{Reply, limit_of};
 use geo_latency::Tables;
@@ -59,45 +60,47 @@ pub fn answer<V: HealthView>(
     ensures room { reply.new.room ≡ reply.old.room }
     ensures silent { result ≡ None → reply.new ≡ reply.old }
 {
-    let read = read_query(packet);
-    answer_read(zones, view, tables, &read, peer, words, scratch, reply)
+    let mut query = blank_query();
+    let verdict = read_over(packet, &mut query);
+    answer_read(
+        zones, view, tables, verdict, &query, peer, words, scratch, reply,
+    )
 }
 
 /// The reply to what was read of a packet: its query isn't copied.
-// By a call of its own, so that the query stays in its place.
-#[inline(never)]
 fn answer_read<V: HealthView>(
     zones: &Zones,
     view: &V,
     tables: &Tables,
-    read: &QueryRead,
+    verdict: Verdict,
+    query: &Query,
     peer: IpAddress,
     words: &[u64; 8],
     scratch: &mut Scratch,
     reply: &mut Reply,
 ) -> Option<usize>
     requires served { AreServed zones.now.zones }
-    requires whole { GivesWhole read.now }
+    requires whole { GivesWhole (read_as verdict query.now) }
     requires room { 4096 ≤ reply.old.room }
     ensures answered { (healthy : ℕ → SetKey → Bool)
         → Agrees zones.now.zones (V.test view.now) healthy
         → answer_of result reply.new
         ≡ reply_to_read (served_by zones.now.zones zones.now.collections.list healthy tables.now)
-        (asker_of peer words.now) read.now }
+        (asker_of peer words.now) (read_as verdict query.now) }
     ensures length { IfSome result (λ n. n ≡ length reply.new.bytes) }
     ensures room { reply.new.room ≡ reply.old.room }
     ensures silent { result ≡ None → reply.new ≡ reply.old }
 {
-    match read {
-        QueryRead::Silent => None,
-        QueryRead::Bad {
+    match verdict {
+        Verdict::Silent => None,
+        Verdict::Bad {
             id,
             opcode,
             rd,
             rcode,
-        } => Some(reply.short(*id, *opcode, *rd, *rcode)),
-        QueryRead::BadVersion(query) => Some(refuse(query, BADVERS, reply)),
-        QueryRead::Query(query) => {
+        } => Some(reply.short(id, opcode, rd, rcode)),
+        Verdict::BadVersion => Some(refuse(query, BADVERS, reply)),
+        Verdict::Query => {
             let length = answer_query(zones, view, tables, query, peer, words, scratch, reply);
             Some(length)
         }
