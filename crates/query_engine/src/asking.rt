@@ -2,7 +2,7 @@
 
 use address_text::IpAddress;
 use dns_name::Name;
-use zone_lookup::Used;
+use zone_lookup::{Seen, Used};
 
 /// What a query asks of a zone, and what its choices are made by.
 #[derive(Clone, Copy)]
@@ -19,11 +19,12 @@ pub(crate) struct Asked<'a> {
     pub words: &'a [u64; 8],
 }
 
-/// How many choices a query has made, and what they used.
+/// How many choices a query has made, what they used, and what they saw of the client in tables.
 #[derive(Clone, Copy)]
 pub(crate) struct Progress {
     pub count: u8,
     pub used: Used,
+    pub seen: Seen,
 }
 
 /// How the answer ends.

@@ -1,16 +1,18 @@
 //! The client's address, and how far an answer reaches (RFC 7871, 7.2.1).
 
-ghost use Rattle.std.specs.Prelude.{◌≡◌, Some, take};
+ghost use Rattle.std.specs.Prelude.{◌≡◌, IfSome, Some, take};
 ghost use Rattle.zone_lookup.specs.Clients.{client_address, client_at};
 ghost use Rattle.zone_lookup.specs.Location.{scope_in};
 ghost use Rattle.zone_lookup.specs.Reply.{if_used, told_scope};
+ghost use Rattle.zone_lookup.specs.Seen.{IsSeen};
 ghost use Rattle.dns_message.specs.Whole.{subnet_of};
 
+use crate::asking::Progress;
 use address_text::IpAddress;
 use dns_message::Edns;
 use ecs_option::ClientSubnet;
 use geo_latency::{Latencies, Location, Tables};
-use zone_lookup::{Used, Zones, locates_as_told};
+use zone_lookup::{Zones, locates_as_told};
 
 /// The client's address: that of the client subnet where its source length is above 0, else the one
 /// from which the packet came.
@@ -53,11 +55,12 @@ pub(crate) fn told_scope(
     tables: &Tables,
     edns: &Option<Edns>,
     client: IpAddress,
-    used: &Used,
+    progress: &Progress,
 ) -> u8
+    requires { IsSeen tables.now client progress.now.seen }
     ensures { result
         ≡ told_scope (subnet_of edns.now)
-        (client_at tables.now zones.now.collections.list client) used.now }
+        (client_at tables.now zones.now.collections.list client) progress.now.used }
 {
     let Some(edns) = edns else {
         return 0;
@@ -68,31 +71,54 @@ pub(crate) fn told_scope(
     if subnet.source == 0 {
         return 0;
     }
-    places_scope(tables, client, used.places).max(latencies_scope(
-        tables,
-        client,
-        used.latencies,
-    ).max(used.blocks))
+    let used = &progress.used;
+    let seen = &progress.seen;
+    let places = places_scope(tables, client, used.places, seen.places);
+    let latencies = latencies_scope(tables, client, used.latencies, seen.latencies);
+    places.max(latencies.max(used.blocks))
 }
 
-/// The scope of the table of places, where it was used.
-fn places_scope(tables: &Tables, client: IpAddress, is_used: bool) -> u8
+/// The scope of the table of places, where it was used. Where a choice saw it, it isn't looked up.
+fn places_scope(tables: &Tables, client: IpAddress, is_used: bool, seen: Option<u8>) -> u8
+    requires { IfSome seen (λ scope. scope ≡ scope_in tables.now.places client) }
     ensures { result ≡ if_used is_used (scope_in tables.now.places client) }
 {
-    locates_as_told::<Location>();
-    if is_used {
-        return tables.places.locate(client).1;
+    if !is_used {
+        return 0;
     }
-    0
+    match seen {
+        Some(scope) => scope,
+        None => places_found(tables, client),
+    }
 }
 
-/// The scope of the table of latencies, where it was used.
-fn latencies_scope(tables: &Tables, client: IpAddress, is_used: bool) -> u8
+/// The scope of the table of places, looked up.
+fn places_found(tables: &Tables, client: IpAddress) -> u8
+    ensures { result ≡ scope_in tables.now.places client }
+{
+    locates_as_told::<Location>();
+    tables.places.locate(client).1
+}
+
+/// The scope of the table of latencies, where it was used. Where a choice saw it, it isn't looked
+/// up.
+fn latencies_scope(tables: &Tables, client: IpAddress, is_used: bool, seen: Option<u8>) -> u8
+    requires { IfSome seen (λ scope. scope ≡ scope_in tables.now.latencies client) }
     ensures { result ≡ if_used is_used (scope_in tables.now.latencies client) }
 {
-    locates_as_told::<Latencies>();
-    if is_used {
-        return tables.latencies.locate(client).1;
+    if !is_used {
+        return 0;
     }
-    0
+    match seen {
+        Some(scope) => scope,
+        None => latencies_found(tables, client),
+    }
+}
+
+/// The scope of the table of latencies, looked up.
+fn latencies_found(tables: &Tables, client: IpAddress) -> u8
+    ensures { result ≡ scope_in tables.now.latencies client }
+{
+    locates_as_told::<Latencies>();
+    tables.latencies.locate(client).1
 }

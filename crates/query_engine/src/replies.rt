@@ -23,7 +23,7 @@ use dns_name::Name;
 use dns_wire::{Reply, limit_of};
 use geo_latency::Tables;
 use reply_records::{HealthView, views_agree};
-use zone_lookup::{Scratch, Used, Zones, find_zone, zones_are_longest};
+use zone_lookup::{Scratch, Seen, Used, Zones, find_zone, zones_are_longest};
 
 /// REFUSED (RFC 1035, 4.1.1).
 const REFUSED: u16 = 5;
@@ -206,6 +206,10 @@ fn answer_in_zone<V: HealthView>(
             latencies: false,
             blocks: 0,
         },
+        seen: Seen {
+            places: None,
+            latencies: None,
+        },
     };
     let end = look_up(
         MOST_CNAMES,
@@ -218,6 +222,6 @@ fn answer_in_zone<V: HealthView>(
         reply,
         scratch,
     );
-    let scope = told_scope(zones, tables, &query.edns, client, &progress.used);
+    let scope = told_scope(zones, tables, &query.edns, client, &progress);
     reply.finish(end.aa, end.rcode, limit_of(&query.edns), scope)
 }

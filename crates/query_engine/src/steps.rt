@@ -23,6 +23,7 @@ ghost use Rattle.zone_lookup.specs.Cuts.{HasSets};
 ghost use Rattle.zone_lookup.specs.Served.{AreServed};
 ghost use Rattle.zone_model.specs.Zones.{IsAmong, group};
 ghost use Rattle.zone_lookup.specs.Looking.{IsApex, IsGroupNow};
+ghost use Rattle.zone_lookup.specs.Seen.{IsSeen};
 ghost use Rattle.query_engine.specs.Asking.{Comes, EndsWell, HoldsCname, HoldsNext, IsEnd};
 ghost use Rattle.query_engine.specs.Asking.{Leaves, asked_of, choices_of};
 
@@ -33,8 +34,8 @@ use dns_wire::{Reply, Section, records_add_up};
 use geo_latency::Tables;
 use rdata_layout::{RType, types_have_their_own_number};
 use reply_records::{
-    HealthView, Selected, descend, find_group, first_record, name_in, views_agree, write_chosen,
-    write_one,
+    HealthView, Selected, descend_seen, find_group, first_record, name_in, views_agree,
+    write_chosen, write_one,
 };
 use zone_lookup::{
     Found, Group, Scratch, Standing, Zones, asked_group, cut_above, cuts_are_nearest, find_asked,
@@ -58,6 +59,7 @@ fn answer_group<V: HealthView>(
     requires zone { group.zone ≡ asked.now.zone }
     requires few { FewInGroups (sets_in_zone zones.now.zones group.zone) }
     requires room { progress.old.count ≤ 238 }
+    requires seen { IsSeen tables.now asked.now.client progress.old.seen }
     requires open { IsOpen Answer reply.old }
     ensures ends { (healthy : ℕ → SetKey → Bool)
         → Agrees zones.now.zones (V.test view.now) healthy
@@ -69,9 +71,10 @@ fn answer_group<V: HealthView>(
         reply.old reply.new result progress.new.used }
     ensures rcode { result.rcode < 16 }
     ensures most { progress.new.count ≤ progress.old.count + 17 }
+    ensures seen { IsSeen tables.now asked.now.client progress.new.seen }
 {
     records_add_up();
-    let selected = descend(
+    let selected = descend_seen(
         zones,
         group,
         view,
@@ -80,6 +83,7 @@ fn answer_group<V: HealthView>(
         asked.words,
         &mut progress.count,
         &mut progress.used,
+        &mut progress.seen,
         scratch,
     );
     match selected {
@@ -127,6 +131,7 @@ fn step_cname<V: HealthView>(
         → set.rtype ≡ rtype.Cname }
     requires few { FewInGroups (sets_in_zone zones.now.zones asked.now.zone) }
     requires room { progress.old.count ≤ 238 }
+    requires seen { IsSeen tables.now asked.now.client progress.old.seen }
     requires open { IsOpen Answer reply.old }
     ensures comes { (healthy : ℕ → SetKey → Bool)
         → Agrees zones.now.zones (V.test view.now) healthy
@@ -139,12 +144,13 @@ fn step_cname<V: HealthView>(
     ensures held { HoldsNext scratch.new result }
     ensures rcode { EndsWell result }
     ensures most { progress.new.count ≤ progress.old.count + 17 }
+    ensures seen { IsSeen tables.now asked.now.client progress.new.seen }
 {
     records_add_up();
     views_agree();
     zones.well_formed();
     types_have_their_own_number();
-    let selected = descend(
+    let selected = descend_seen(
         zones,
         group,
         view,
@@ -153,6 +159,7 @@ fn step_cname<V: HealthView>(
         asked.words,
         &mut progress.count,
         &mut progress.used,
+        &mut progress.seen,
         scratch,
     );
     match first_record(zones, &selected, scratch) {
@@ -177,6 +184,7 @@ fn step_untyped<V: HealthView>(
     requires none { asked_group (sets_in_zone zones.now.zones asked.now.zone) from.now
         asked.now.qtype ≡ [] }
     requires room { progress.old.count ≤ 238 }
+    requires seen { IsSeen tables.now asked.now.client progress.old.seen }
     requires open { IsOpen Answer reply.old }
     ensures comes { (healthy : ℕ → SetKey → Bool)
         → Agrees zones.now.zones (V.test view.now) healthy
@@ -189,6 +197,7 @@ fn step_untyped<V: HealthView>(
     ensures held { HoldsNext scratch.new result }
     ensures rcode { EndsWell result }
     ensures most { progress.new.count ≤ progress.old.count + 17 }
+    ensures seen { IsSeen tables.now asked.now.client progress.new.seen }
 {
     types_have_their_own_number();
     let cnames = find_group(zones, asked.zone, from, RType::Cname);
@@ -212,6 +221,7 @@ fn step_from<V: HealthView>(
 ) -> Next
     requires few { FewInGroups (sets_in_zone zones.now.zones asked.now.zone) }
     requires room { progress.old.count ≤ 238 }
+    requires seen { IsSeen tables.now asked.now.client progress.old.seen }
     requires open { IsOpen Answer reply.old }
     ensures comes { (healthy : ℕ → SetKey → Bool)
         → Agrees zones.now.zones (V.test view.now) healthy
@@ -224,6 +234,7 @@ fn step_from<V: HealthView>(
     ensures held { HoldsNext scratch.new result }
     ensures rcode { EndsWell result }
     ensures most { progress.new.count ≤ progress.old.count + 17 }
+    ensures seen { IsSeen tables.now asked.now.client progress.new.seen }
 {
     match asked_group(zones, asked.zone, from, asked.qtype) {
         Some(group) => {
@@ -254,6 +265,7 @@ fn step_taken<V: HealthView>(
     requires none { asked_group (sets_in_zone zones.now.zones asked.now.zone) name.now
         asked.now.qtype ≡ [] }
     requires room { progress.old.count ≤ 238 }
+    requires seen { IsSeen tables.now asked.now.client progress.old.seen }
     requires open { IsOpen Answer reply.old }
     ensures comes { (healthy : ℕ → SetKey → Bool)
         → Agrees zones.now.zones (V.test view.now) healthy
@@ -266,6 +278,7 @@ fn step_taken<V: HealthView>(
     ensures held { HoldsNext scratch.new result }
     ensures rcode { EndsWell result }
     ensures most { progress.new.count ≤ progress.old.count + 17 }
+    ensures seen { IsSeen tables.now asked.now.client progress.new.seen }
 {
     if from.is_same(name) {
         return step_untyped(
@@ -300,6 +313,7 @@ fn step_standing<V: HealthView>(
         asked.now.qtype ≡ [] }
     requires place { IsFirstNamed (sets_in_zone zones.now.zones asked.now.zone) name.now place }
     requires room { progress.old.count ≤ 238 }
+    requires seen { IsSeen tables.now asked.now.client progress.old.seen }
     requires open { IsOpen Answer reply.old }
     ensures comes { (healthy : ℕ → SetKey → Bool)
         → Agrees zones.now.zones (V.test view.now) healthy
@@ -309,6 +323,7 @@ fn step_standing<V: HealthView>(
     ensures held { HoldsNext scratch.new result }
     ensures rcode { EndsWell result }
     ensures most { progress.new.count ≤ progress.old.count + 17 }
+    ensures seen { IsSeen tables.now asked.now.client progress.new.seen }
 {
     cuts_are_nearest();
     match standing_of(zones, asked.zone, asked.apex, name, place, scratch) {
@@ -339,6 +354,7 @@ fn step_typed<V: HealthView>(
     requires has { HasSets zones.now.zones asked.now.zone
         (asked_group (sets_in_zone zones.now.zones asked.now.zone) name.now asked.now.qtype) group }
     requires room { progress.old.count ≤ 238 }
+    requires seen { IsSeen tables.now asked.now.client progress.old.seen }
     requires open { IsOpen Answer reply.old }
     ensures comes { (healthy : ℕ → SetKey → Bool)
         → Agrees zones.now.zones (V.test view.now) healthy
@@ -348,6 +364,7 @@ fn step_typed<V: HealthView>(
     ensures held { HoldsNext scratch.new result }
     ensures rcode { EndsWell result }
     ensures most { progress.new.count ≤ progress.old.count + 17 }
+    ensures seen { IsSeen tables.now asked.now.client progress.new.seen }
 {
     cuts_are_nearest();
     names_exist();
@@ -379,6 +396,7 @@ fn step<V: HealthView>(
     requires there { IsApex zones.now.zones asked.now.zone asked.now.apex.now }
     requires inside { EndsWith name.now asked.now.apex.now }
     requires room { progress.old.count ≤ 238 }
+    requires seen { IsSeen tables.now asked.now.client progress.old.seen }
     requires open { IsOpen Answer reply.old }
     ensures comes { (healthy : ℕ → SetKey → Bool)
         → Agrees zones.now.zones (V.test view.now) healthy
@@ -388,6 +406,7 @@ fn step<V: HealthView>(
     ensures held { HoldsNext scratch.new result }
     ensures rcode { EndsWell result }
     ensures most { progress.new.count ≤ progress.old.count + 17 }
+    ensures seen { IsSeen tables.now asked.now.client progress.new.seen }
 {
     known_few(zones, asked.zone, asked.apex);
     match find_asked(zones, asked.zone, name, asked.qtype) {
@@ -416,6 +435,7 @@ pub(crate) fn look_up<V: HealthView>(
     requires there { IsApex zones.now.zones asked.now.zone asked.now.apex.now }
     requires inside { EndsWith name.now asked.now.apex.now }
     requires room { progress.old.count + 17 * most ≤ 238 }
+    requires seen { IsSeen tables.now asked.now.client progress.old.seen }
     requires open { IsOpen Answer reply.old }
     ensures found { (healthy : ℕ → SetKey → Bool)
         → Agrees zones.now.zones (V.test view.now) healthy
@@ -423,6 +443,7 @@ pub(crate) fn look_up<V: HealthView>(
         asked.now) name.now (choices_of progress.old))
         reply.old reply.new result progress.new.used }
     ensures rcode { result.rcode < 16 }
+    ensures seen { IsSeen tables.now asked.now.client progress.new.seen }
 {
     views_agree();
     zones.well_formed();

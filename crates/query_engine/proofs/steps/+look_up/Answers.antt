@@ -95,13 +95,16 @@ look_up-end-requires g t c = λ κs lives.
               c.if-not-is_held_by.ensures.inside asked.apex.now c.requires.there refl,
               (
                 omega (arith, some, more, room),
-                still_open (record {
-                  owner = c.args.name.now;
-                  rtype = rtype.Cname;
-                  ttl = c.in-Follows.ttl;
-                  rdata = is.0.rdata;
-                }) c.step.new.reply c.write_cname.new.reply open_before
-                    (c.write_cname.ensures is.0.set is.0.rdata is.0.is_held is.0.first),
+                (
+                  c.in-Follows.ensures.seen,
+                  still_open (record {
+                    owner = c.args.name.now;
+                    rtype = rtype.Cname;
+                    ttl = c.in-Follows.ttl;
+                    rdata = is.0.rdata;
+                  }) c.step.new.reply c.write_cname.new.reply open_before
+                      (c.write_cname.ensures is.0.set is.0.rdata is.0.is_held is.0.first),
+                ),
               ),
             ),
           ),

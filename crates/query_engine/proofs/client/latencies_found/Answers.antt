@@ -1,0 +1,5 @@
+use Rattle.query_engine.proofs.client.latencies_found.Goals as goal
+
+pub returns : goal.returns
+returns c =
+    (c.locates_as_told.ensures.once _ _ _ _ c.locate.ensures.rows c.locate.ensures.located).1
