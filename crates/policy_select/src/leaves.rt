@@ -24,7 +24,7 @@ use crate::view::HealthView;
 use address_text::IpAddress;
 use answer_model::Tables;
 use multivalue::Picked;
-use routing::{Place, Region, Role};
+use routing::{Continent, Place, Region, Role};
 use zone_table::{Group, Ident, Scratch, Zones};
 
 /// The most sets of a group (Route 53 quotas).
@@ -98,7 +98,8 @@ pub(crate) fn choose_place<V: HealthView>(
 {
     let mut healthy = [false; GROUP];
     note_healthy(zones, group, view, &mut healthy);
-    let mut places = [*first; GROUP];
+    // Of zeros, which are made at once.
+    let mut places = [Place::Continent(Continent::Af); GROUP];
     note_places(zones, group, first, scratch, &mut places);
     let (location, scope) = location_of(tables, client);
     let place = answer_model::choose_place(
