@@ -9,7 +9,7 @@ use Rattle.health_model.specs.Statuses.{Report}
 use Rattle.health_planning.specs.Zones.{Zone}
 use Rattle.health_index.specs.Index.{Index, StandsFor}
 use Rattle.health_planning.specs.Wired.{ids_of, place_of, watched_of}
-use Rattle.health_planning.proofs.Ending.{cone_long}
+use Rattle.health_planning.proofs.Ending.{cone_long, rule_seated}
 use Rattle.health_index.proofs.Reporting.{at_place}
 
 -- Where a status turns, as many gates are worked out as the cone of its check has nodes at most.
@@ -28,7 +28,7 @@ few_steps zones checks reports index stands id place here first cone has true be
     let early = slice_get_within (ids_of checks.list) place id (rw stands.ids at here) in
     let walk = costs refl in
     let most = cone_long zones checks index.seats stands.net stands.own stands.are_zones stands.are_checks stands.sound
-    (λ p i c is. ap (λ r. r.feeders) (stands.wired.its_checks p i c is).rule) stands.wired.its_sets stands.wired.its_nodes
+    (λ p i c is. ap (λ r. r.feeders) (stands.wired.its_checks p i c is).rule) (rule_seated zones (ids_of checks.list) index.seats stands.net stands.own stands.wired.its_sets) stands.wired.its_nodes
     place id check.0 walk.0 cone check.1 early walk.1.0 has in
     let is = walk.1.1 in
     omega arith

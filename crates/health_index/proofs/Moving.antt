@@ -229,3 +229,20 @@ moved before after are_before are_after (edit.Change zone remove add) delta allo
     edits.its.1
 moved before after are_before are_after (edit.Collections now) delta allowed edits some =
     absurd (some edits.zone)
+
+-- Each set is one that was there, or that is told to have come.
+pub kept_or_came : (before after : List Zone) → AreZones before → AreZones after
+    → (made : ZoneEdit) (delta : Delta) → IsAllowed before made → Edits before made after delta
+    → (zone : ℕ) (p : Placed) → IsHere (placed_in after zone) p
+    → IsHere (placed_in before zone) p ⊎ IsOneOf delta.added (ref_in zone p)
+kept_or_came before after are_before are_after (edit.Open zone name sets) delta allowed edits =
+    let some : delta.zone ≢ 0 = λ none. let is = edits.zone in let least = allowed.3 in omega arith in
+    (moved before after are_before are_after (edit.Open zone name sets) delta allowed edits some).only
+kept_or_came before after are_before are_after (edit.Close zone) delta allowed edits =
+    (closed before after are_before are_after delta.removed delta.added zone edits.others
+    edits.its.0 edits.its.1).only
+kept_or_came before after are_before are_after (edit.Change zone remove add) delta allowed edits =
+    (changed before after are_before are_after delta.removed delta.added zone edits.others remove add
+    edits.its.1).only
+kept_or_came before after are_before are_after (edit.Collections now) delta allowed edits =
+    λ zone p here. inl (subst (λ (l : List Zone). IsHere (placed_in l zone) p) edits.its.0 here)

@@ -234,6 +234,7 @@ module _ (fifty : FiftyAlone) (more : OneMoreReport) (zones : List Zone) (checks
     ids = stands.ids;
     seen = seen_now;
     as_many = length-set index.seen place (Some now) ∙ stands.as_many;
+    listed = stands.listed;
     net = stands.net;
     own = with_own place given stands.own;
     wired = record {

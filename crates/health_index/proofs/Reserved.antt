@@ -8,6 +8,7 @@ use Rattle.health_model.specs.Statuses.{Report}
 use Rattle.health_planning.specs.Zones.{Zone}
 use Rattle.health_index.specs.Index.{Index, IsWhole, StandsFor}
 use Rattle.health_index.specs.Room.{Keeps}
+use Rattle.health_planning.specs.Building.{AllListed}
 use Rattle.health_planning.specs.Wired.{IsWired}
 use Rattle.health_planning.specs.declared.seats.Seat.{Seat}
 
@@ -28,6 +29,7 @@ module _ (before after : Index) (keeps : Keeps before after)
     ids = keeps.ids ∙ is.ids;
     seen = rw keeps.seen is.seen;
     as_many = as_many is.as_many;
+    listed = subst (AllListed zones) (sym keeps.refs) is.listed;
     net = is.net;
     own = is.own;
     wired = subst (λ (seats : List Seat). IsWired zones checks.list seats is.net is.own reports) (sym keeps.seats) is.wired;

@@ -14,7 +14,7 @@ use Rattle.health_model.specs.Statuses.{AreReports, Report}
 use Rattle.health_planning.specs.Zones.{AreZones, Zone}
 use Rattle.health_planning.specs.SetRefRecord.{SetRef}
 use Rattle.health_planning.specs.Tables.{HaveSlotsApart}
-use Rattle.health_planning.specs.Building.{AreOfEndpoints, AreSeen, AreShaped, IsBuilt, set_shape}
+use Rattle.health_planning.specs.Building.{AllListed, AreOfEndpoints, AreSeen, AreShaped, IsBuilt, set_shape}
 use Rattle.health_index.specs.Index.{Index, IsWhole, Space, StandsFor}
 use Rattle.health_planning.specs.Wired.{ids_of, place_of, watched_of}
 use Rattle.health_planning.specs.declared.seats.Seat.{Seat}
@@ -28,7 +28,7 @@ module _ (zones : List Zone) (checks : Checks) (refs : List SetRef) (seats : Lis
     (built : IsBuilt zones checks.list refs seats plan.shapes plan.links)
     (fits : Fits (net_in plan) (own_in plan) gates) (idle : IsIdle gates) where
   abbrev laid : Index
-  laid = record { ids = ids; seen = seen; seats = seats; gates = gates; space = space }
+  laid = record { ids = ids; seen = seen; seats = seats; refs = refs; gates = gates; space = space }
 
   ids_many : length ids ≡ length checks.list
   ids_many = ap length ids_is ∙ ids_long checks.list
@@ -61,9 +61,9 @@ module _ (zones : List Zone) (checks : Checks) (refs : List SetRef) (seats : Lis
 
   pub stands : (reports : List Report) → AreZones zones → HaveSlotsApart zones
       → IsSound (watched_of zones checks) → AreReports checks.next reports
-      → AreSeen reports checks.list seen → AreShaped reports checks.list plan.shapes
+      → AllListed zones refs → AreSeen reports checks.list seen → AreShaped reports checks.list plan.shapes
       → MeetAll (net_in plan) (own_in plan) gates → StandsFor zones checks reports laid
-  stands reports are_zones apart sound are_reports are_seen shaped meet = record {
+  stands reports are_zones apart sound are_reports all are_seen shaped meet = record {
     are_zones = are_zones;
     are_checks = are_checks;
     sound = sound;
@@ -71,9 +71,10 @@ module _ (zones : List Zone) (checks : Checks) (refs : List SetRef) (seats : Lis
     ids = ids_is;
     seen = are_seen;
     as_many = many;
+    listed = all;
     net = net_in plan;
     own = own_in plan;
-    wired = wired zones checks.list refs seats plan are_zones apart built reports shaped;
+    wired = wired zones checks.list refs seats plan are_zones apart built all reports shaped;
     fits = fits;
     meet = meet;
     idle = idle;

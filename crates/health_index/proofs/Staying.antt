@@ -30,13 +30,14 @@ use Rattle.zone_model.specs.Placed.{IsHere, Placed, sets_of}
 use Rattle.zone_model.specs.Zones.{IsAmong, IsRising, is_of_group}
 use Rattle.health_planning.specs.DeltaRecord.{Delta}
 use Rattle.health_planning.specs.Following.{Follows, FollowsAt, HasThreshold}
+use Rattle.health_planning.specs.Building.{AllListed, AreAsked, IsListed}
 use Rattle.health_planning.specs.Wired.{AreMembers, IsGateFor, IsGroupGate, IsSeated, IsTarget, TellGroup, check_or_none, check_seat, group_seat, ids_of, is_watched, only_check, place_of, seat_of, set_rule, watched_of}
 use Rattle.health_planning.specs.declared.seats.Seat.{Seat}
 use Rattle.health_planning.proofs.Wiring.{first_here, of_group, passes_it, rising_in}
 use Rattle.health_index.specs.Index.{Index, StandsFor}
 use Rattle.health_index.specs.Leaving.{AllCameLeaveGates, AllWentLeaveGates, LeavesGates, AreLeft}
 use Rattle.health_index.proofs.Keyed.{HasIts, first_by_slots, gates_by_slots, grouped, grouped_sets, its, its_same, keyed, keyed_same, plain_by_slots}
-use Rattle.health_index.proofs.Moving.{Moves, moved}
+use Rattle.health_index.proofs.Moving.{Moves, kept_or_came, moved}
 
 -- ---- sets that pass a test
 
@@ -365,6 +366,34 @@ module _ (before after : List Zone) (are_before : AreZones before) (are_after : 
           ]
     ]
 
+    -- each set that something decides was listed, it or the one in whose place it came
+    pub listed_all : (refs : List SetRef) → AllListed before refs
+        → ((zone : ℕ) (p : Placed) → IsHere (placed_in before zone) p
+        → IsSeated before (ids_of checks) seats net own zone p) → AllListed after refs
+    listed_all refs listed seated zone q here on = elim (moves.only zone q here) [
+      | inl old ↦ listed zone q old on
+      | inr new ↦
+          let c = came new.0 (ref_in zone q) new.1 in
+          let set_is = one_named after (ref_in zone q) c.set q.set are_after c.names here in
+          elim c.as_seated [
+            | inl plain ↦ absurd (false≢true (sym plain.1 ∙ ap is_watched set_is ∙ on))
+            | inr same ↦ elim c.place [
+              | inl told ↦
+                  let p = moves.gone zone q told in
+                  in_place zone p.0 q p.1 p.2 same.0 (is_watched p.0.set) refl
+              | inr alone ↦ absurd (same.0 alone.0)
+            ]
+          ]
+    ]
+      where
+        in_place : (zone : ℕ) (p q : Placed) → IsHere (placed_in before zone) p
+            → p.slot ≡ q.slot → seat_of seats q.slot ≢ 0 → (b : Bool) → is_watched p.set ≡ b
+            → IsListed refs (ref_in zone q)
+        in_place zone p q here slots some false off =
+            absurd (some (ap (seat_of seats) (sym slots) ∙ (seated zone p here).plain off))
+        in_place zone p q here slots some true on =
+            subst (λ (n : ℕ). IsListed refs (record { zone = zone; slot = n })) slots (listed zone p here on)
+
     pub node_now : (gate : ℕ) (node : Node) → IsGateFor before checks seats net own gate node
         → (now : Node) × IsGateFor after checks seats net own gate now
     node_now gate (CheckNode id) is = (CheckNode id, is)
@@ -394,6 +423,19 @@ leaves_follow before old after new delta (inl (made, (allowed, edits, kept))) =
     subst (Follows old) (sym kept) (follows_itself old)
 leaves_follow before old after new delta (inr (stayed, follows, none)) = follows
 
+-- Each set that something decides had a gate, or is told to have come.
+pub asked_after : (before : List Zone) (old : Checks) (after : List Zone) (new : Checks)
+    (reports : List Report) (index : Index) (delta : Delta) → AreZones after
+    → StandsFor before old reports index → AreLeft before old after new delta
+    → AreAsked after false index.refs delta.added
+asked_after before old after new reports index delta are_after stands (inl (made, (allowed, edits, kept))) zone p here on =
+    elim (kept_or_came before after stands.are_zones are_after made delta allowed edits zone p here) [
+      | inl was ↦ inr (inl (stands.listed zone p was on))
+      | inr came ↦ inr (inr came)
+    ]
+asked_after before old after new reports index delta are_after stands (inr (stayed, follows, none)) zone p here on =
+    inr (inl (stands.listed zone p (subst (λ (l : List Zone). IsHere (placed_in l zone) p) stayed here) on))
+
 module _ (before after : List Zone) (reports : List Report) (index : Index) (delta : Delta)
     (are_after : AreZones after) (gate_leaving : LeavesGates after index.seats delta) where
   edited : (checks : Checks) → IsSound (watched_of after checks)
@@ -407,6 +449,8 @@ module _ (before after : List Zone) (reports : List Report) (index : Index) (del
     ids = stands.ids;
     seen = stands.seen;
     as_many = stands.as_many;
+    listed = listed_all before after stands.are_zones are_after delta.removed delta.added moves index.seats gate_leaving.went gate_leaving.came checks.list
+        stands.net stands.own index.refs stands.listed stands.wired.its_sets;
     net = stands.net;
     own = stands.own;
     wired = record {

@@ -17,7 +17,7 @@ use Rattle.health_planning.specs.Zones.{AreZones, Zone, placed_in}
 use Rattle.health_planning.specs.SetRefRecord.{SetRef}
 use Rattle.zone_model.specs.Placed.{IsHere, Placed}
 use Rattle.health_planning.specs.Looking.{Names}
-use Rattle.health_planning.specs.Building.{IsSeen}
+use Rattle.health_planning.specs.Building.{AllListed, IsSeen}
 use Rattle.health_planning.specs.Wired.{AreMembers, IsGroupSeat, IsWired, ids_of, open_in, place_of, seat_of, watched_of}
 use Rattle.health_planning.specs.declared.seats.Seat.{Seat}
 
@@ -30,15 +30,17 @@ pub record Space : Type 0 where
   pub seen_before : ℕ
   pub seats : ℕ
   pub refs : ℕ
+  pub refs_before : ℕ
   pub shapes : ℕ
   pub links : ℕ
 
 -- The numbers of the checks, what the checkers of each endpoint saw, the gates of sets by their
--- slots, the gates, and the room that there is.
+-- slots, the sets that have gates, the gates, and the room that there is.
 pub record Index : Type 0 where
   pub ids : List ℕ
   pub seen : List (Option Seen)
   pub seats : List Seat
+  pub refs : List SetRef
   pub gates : Gates
   pub space : Space
 
@@ -54,6 +56,7 @@ pub record StandsFor (zones : List Zone) (checks : Checks) (reports : List Repor
       → slice_get checks.list place ≡ Some (id, check) → slice_get index.seen place ≡ Some its
       → IsSeen reports id check its
   pub as_many : length index.seen ≡ length index.ids
+  pub listed : AllListed zones index.refs
   pub net : Net
   pub own : ℕ → ℕ
   pub wired : IsWired zones checks.list index.seats net own reports

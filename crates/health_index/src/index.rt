@@ -1,6 +1,6 @@
 //! The index: what is asked of it, and how it takes a report.
 
-ghost use Rattle.std.specs.Prelude.{◌≡◌, ◌≢◌, ◌≤◌, ◌<◌, ◌+◌, ◌∷◌, ◌↔◌, [], ℕ, IsTrue, List, false};
+ghost use Rattle.std.specs.Prelude.{◌≡◌, ◌≢◌, ◌≤◌, ◌<◌, ◌+◌, ◌∷◌, ◌↔◌, [], ℕ, IsTrue, List, false, true};
 ghost use Rattle.std.specs.Prelude.{Contains, IfOk, OnOk, Some, if◌then◌else◌, length, slice_get};
 ghost use Rattle.check_model.specs.Checks.{Checks};
 ghost use Rattle.health_planning.specs.Following.{Follows};
@@ -11,6 +11,7 @@ ghost use Rattle.health_index.specs.Index.{healthy_in};
 ghost use Rattle.health_index.specs.Index.{reported};
 ghost use Rattle.health_index.specs.Leaving.{LeavesGates, AreLeft};
 ghost use Rattle.health_index.specs.Room.{HasRoom, Keeps};
+ghost use Rattle.health_planning.specs.Building.{AreAsked};
 ghost use Rattle.health_planning.specs.Wired.{watched_of};
 ghost use Rattle.health_model.specs.Nodes.{CheckNode, InCone, Node};
 ghost use Rattle.health_model.specs.Sound.{IsSound};
@@ -48,8 +49,10 @@ pub struct HealthIndex {
     /// The numbers of the checks before the last command, and what their checkers saw.
     ids_before: Vec<u32>,
     seen_before: Vec<Option<Checkers>>,
-    /// The sets with gates, and what was planned: of use while all is laid out.
+    /// The sets with gates, now and before the last command.
     refs: Vec<SetRef>,
+    refs_before: Vec<SetRef>,
+    /// What was planned: of use while all is laid out.
     plan: Plan,
     /// Where a set that came is read.
     scratch: Scratch,
@@ -65,6 +68,7 @@ impl Model for HealthIndex {
       ids = i.ids.items;
       seen = i.seen.items;
       seats = i.seats.items;
+      refs = i.refs.items;
       gates = i.gates;
       space = record {
         ids = vec_capacity i.ids;
@@ -73,6 +77,7 @@ impl Model for HealthIndex {
         seen_before = vec_capacity i.seen_before;
         seats = vec_capacity i.seats;
         refs = vec_capacity i.refs;
+        refs_before = vec_capacity i.refs_before;
         shapes = i.plan.room + length i.plan.shapes;
         links = i.plan.links_room + length i.plan.links;
       };
@@ -82,6 +87,7 @@ impl Model for HealthIndex {
       ids = i.ids.items;
       seen = i.seen.items;
       seats = i.seats.items;
+      refs = i.refs.items;
       gates = i.gates;
       space = record {
         ids = vec_capacity i.ids;
@@ -90,6 +96,7 @@ impl Model for HealthIndex {
         seen_before = vec_capacity i.seen_before;
         seats = vec_capacity i.seats;
         refs = vec_capacity i.refs;
+        refs_before = vec_capacity i.refs_before;
         shapes = i.plan.room + length i.plan.shapes;
         links = i.plan.links_room + length i.plan.links;
       };
@@ -114,7 +121,8 @@ impl HealthIndex {
         let Ok(()) = index.reserve(zones) else {
             return Err(OutOfMemory);
         };
-        index.lay(zones, checks);
+        let none: Vec<SetRef> = Vec::new(alloc);
+        index.lay(zones, checks, true, none.as_slice());
         Ok(index)
     }
 
@@ -130,6 +138,7 @@ impl HealthIndex {
             ids_before: Vec::new(alloc),
             seen_before: Vec::new(alloc),
             refs: Vec::new(alloc),
+            refs_before: Vec::new(alloc),
             plan: Plan::new(alloc),
             scratch,
         }
@@ -151,6 +160,7 @@ impl HealthIndex {
         let slots = room_for_slots(
             &mut self.seats,
             &mut self.refs,
+            &mut self.refs_before,
             &mut self.plan,
             &mut self.gates,
             zones.slots(),
@@ -164,7 +174,9 @@ impl HealthIndex {
     /// Where sets gave way to others that the same check alone decides, or nothing, and else sets
     /// that nothing decides went and came, but in no group to which an evaluated alias leads, it
     /// costs a look at these and at their groups, and a comparison of those that came with those that
-    /// went. Otherwise all gates are laid out anew: it costs what the configuration has.
+    /// went. Otherwise all gates are laid out anew: it costs a seat for each slot, and what the
+    /// configuration has of checks and of sets that something decides, with their target groups. Of
+    /// the other sets it asks only those that came.
     pub fn on_command(&mut self, zones: &Zones, checks: &CheckTable, delta: &Delta)
         requires room { HasRoom self.old zones.now.slots }
         requires sound { IsSound (watched_of zones.now.zones checks.now.checks) }
@@ -181,17 +193,19 @@ impl HealthIndex {
         if leaves_gates(zones, &self.seats, delta, &mut self.scratch) {
             return;
         }
-        self.lay(zones, checks);
+        self.lay(zones, checks, false, delta.added.as_slice());
     }
 
-    /// Lays everything out anew, with what the checkers saw. It takes no memory.
-    fn lay(&mut self, zones: &Zones, checks: &CheckTable)
+    /// Lays everything out anew, with what the checkers saw. All sets are asked whether something
+    /// decides them, or those that had gates and those that came. It takes no memory.
+    fn lay(&mut self, zones: &Zones, checks: &CheckTable, whole: bool, came: &[SetRef])
         requires room { HasRoom self.old zones.now.slots }
         requires sound { IsSound (watched_of zones.now.zones checks.now.checks) }
-        ensures first { self.old.ids ≡ []
+        ensures first { self.old.ids ≡ [] → whole ≡ true
             → StandsFor zones.now.zones checks.now.checks [] self.new }
         ensures stands { (before : List Zone) (old : Checks) (reports : List Report)
             → StandsFor before old reports self.old → Follows old checks.now.checks
+            → AreAsked zones.now.zones whole self.old.refs came.now
             → StandsFor zones.now.zones checks.now.checks reports self.new }
     {
         zones.well_formed();
@@ -199,6 +213,7 @@ impl HealthIndex {
         let list = checks.as_slice();
         mem::swap(&mut self.ids, &mut self.ids_before);
         mem::swap(&mut self.seen, &mut self.seen_before);
+        mem::swap(&mut self.refs, &mut self.refs_before);
         self.ids.clear();
         list_ids(&mut self.ids, list);
         self.seen.clear();
@@ -212,6 +227,9 @@ impl HealthIndex {
             checks,
             &self.ids,
             &self.seen,
+            whole,
+            &self.refs_before,
+            came,
             &mut self.refs,
             &mut self.seats,
             &mut self.plan,

@@ -40,16 +40,18 @@ pub fn room_for_checks(
     Ok(())
 }
 
-/// Makes room for all gates and links over so many slots. The seats and the gates stay as they are;
-/// nothing is planned any more.
+/// Makes room for all gates and links over so many slots. The seats, the listed sets and the gates
+/// stay as they are; nothing is planned any more.
 pub fn room_for_slots(
     seats: &mut Vec<Seat>,
     refs: &mut Vec<SetRef>,
+    refs_before: &mut Vec<SetRef>,
     plan: &mut Plan,
     gates: &mut Gates,
     slots: usize,
 ) -> Result<(), OutOfMemory>
     ensures seats { seats.new.items ≡ seats.old.items }
+    ensures refs { refs.new.items ≡ refs.old.items }
     ensures values { gates.new.values.items ≡ gates.old.values.items }
     ensures stays { (net : Net) (own : ℕ → ℕ) → Fits net own gates.old → Fits net own gates.new }
     ensures meet { (net : Net) (own : ℕ → ℕ) → MeetAll net own gates.old
@@ -59,6 +61,7 @@ pub fn room_for_slots(
     // No room is lost.
     ensures seats_kept { vec_capacity seats.old ≤ vec_capacity seats.new }
     ensures refs_kept { vec_capacity refs.old ≤ vec_capacity refs.new }
+    ensures before_kept { vec_capacity refs_before.old ≤ vec_capacity refs_before.new }
     ensures plan_kept { plan.old.room + length plan.old.shapes
         ≤ plan.new.room + length plan.new.shapes }
     ensures links_kept { plan.old.links_room + length plan.old.links
@@ -68,6 +71,7 @@ pub fn room_for_slots(
     ensures few { OnOk result (slots ≤ 2 ^ 29) }
     ensures seats_room { OnOk result (slots ≤ vec_capacity seats.new) }
     ensures refs_room { OnOk result (slots ≤ vec_capacity refs.new) }
+    ensures before_room { OnOk result (slots ≤ vec_capacity refs_before.new) }
     ensures plan_room { OnOk result (slots * 2 + 200 ≤ plan.new.room + length plan.new.shapes) }
     ensures links_room { OnOk result
         (slots * 3 + 51200 ≤ plan.new.links_room + length plan.new.links) }
@@ -81,6 +85,9 @@ pub fn room_for_slots(
         return Err(OutOfMemory);
     };
     let Ok(()) = make_room(refs, slots) else {
+        return Err(OutOfMemory);
+    };
+    let Ok(()) = make_room(refs_before, slots) else {
         return Err(OutOfMemory);
     };
     let all = slots * 2 + CHECKS;

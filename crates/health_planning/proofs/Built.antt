@@ -18,15 +18,14 @@ use Rattle.health_model.specs.Statuses.{Report}
 use Rattle.record_set.specs.declared.sets.Body.TheVariants.{Alias}
 use Rattle.record_set.specs.declared.sets.RecordSet.{RecordSet}
 use Rattle.policy_select.proofs.MembersOfZoneList.{filled, set_in}
-use Rattle.policy_select.specs.Changes.{ref_in}
 use Rattle.policy_select.specs.Zones.{Zone, placed_in}
 use Rattle.policy_select.specs.SetRefRecord.{SetRef}
-use Rattle.zone_model.specs.Placed.{IsHere, Placed, sets_of}
+use Rattle.zone_model.specs.Placed.{sets_of}
 use Rattle.zone_model.specs.Walks.{HasNoTarget}
 use Rattle.zone_model.specs.Zones.{IsAmong}
 use Rattle.policy_select.specs.Looking.{Names}
-use Rattle.health_planning.specs.Building.{AreBelow, AreGrouped, AreListed, AreShaped, AreThere, AreWithin, FeedsSet, HasTarget, IsBuilt, IsListed, IsSmallAt, SameSets, check_links, check_shape, check_shapes, group_shape, no_seat, set_shape}
-use Rattle.health_planning.specs.Wired.{group_seat, ids_of, is_watched, place_of, plain_among, watched_of}
+use Rattle.health_planning.specs.Building.{AreBelow, AreGrouped, AreListed, AreShaped, AreThere, AreWithin, FeedsSet, HasTarget, IsBuilt, IsSmallAt, SameSets, check_links, check_shape, check_shapes, group_shape, no_seat, set_shape}
+use Rattle.health_planning.specs.Wired.{group_seat, ids_of, place_of, plain_among, watched_of}
 use Rattle.health_planning.specs.declared.seats.Seat.{Seat}
 use Rattle.health_planning.proofs.Feeding.{check_within, children_fed}
 use Rattle.health_planning.proofs.Grouped.{none_feeds}
@@ -121,8 +120,6 @@ module _ (zones : List Zone) (list : List (ℕ × Check)) (refs : List SetRef)
     → AreThere (ids_of list) (children_of check))
     (are_links : links ≡ check_links (ids_of list) 0 list)
     (listed : AreListed zones (length list) refs seats shapes)
-    (all : (zone : ℕ) (p : Placed) → IsHere (placed_in zones zone) p → is_watched p.set ≡ true
-    → IsListed refs (ref_in zone p))
     (grouped : AreGrouped zones (length shapes) seats_now shapes_now before)
     (targets : (k : ℕ) (set : SetRef) (named : RecordSet) (name : List (List ℕ))
     → slice_get refs k ≡ Some set → Names zones set named → named.body ≡ Alias name true
@@ -177,7 +174,6 @@ module _ (zones : List Zone) (list : List (ℕ × Check)) (refs : List SetRef)
           shape = kept (length list + k) (set_shape g.named) g.shape;
         };
     only = λ slot gate is. listed.only slot gate (sym (same.gates slot) ∙ is);
-    all = all;
     fed = λ k ref named at names.
         let b = slice_get_within refs k ref at in
         subst (λ (n : ℕ). FeedsSet zones (ids_of list) seats_now ref.zone named (feeders_in now (n + k))) long

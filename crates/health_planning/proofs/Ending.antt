@@ -104,254 +104,260 @@ module _ {X : Type 0} where
 
 -- ---- gates and nodes
 
+-- the gate of a set stands as that of a watched one
+pub record HasRule (zones : List Zone) (ids : List ℕ) (seats : List Seat) (net : Net) (own : ℕ → ℕ)
+    (zone : ℕ) (p : Placed) (gate : ℕ) : Type 0 where
+  pub is : IsSetGate zones ids seats net own zone p.set gate
+
+-- where each set is seated, a gate that its seat tells is its own
+pub rule_seated : (zones : List Zone) (ids : List ℕ) (seats : List Seat) (net : Net) (own : ℕ → ℕ)
+    → ((zone : ℕ) (p : Placed) → IsHere (placed_in zones zone) p
+    → IsSeated zones ids seats net own zone p)
+    → (zone : ℕ) (p : Placed) (gate : ℕ) → IsHere (placed_in zones zone) p
+    → seat_of seats p.slot ≡ suc gate → HasRule zones ids seats net own zone p gate
+rule_seated zones ids seats net own seated zone p gate here seat = by (is_watched p.set) refl
+  where
+    by : (b : Bool) → is_watched p.set ≡ b → HasRule zones ids seats net own zone p gate
+    by false off =
+        let none = (seated zone p here).plain off in
+        absurd (omega arith)
+    by true on =
+        let g = (seated zone p here).gated on in
+        let other = g.1 in
+        let same : g.0 ≡ gate = omega arith in
+        record { is = subst (IsSetGate zones ids seats net own zone p.set) same g.2 }
+
 module _ (zones : List Zone) (checks : Checks) (seats : List Seat) (net : Net) (own : ℕ → ℕ)
     (are_zones : AreZones zones) (are_checks : AreSoundChecks checks)
     (sound : IsSound (watched_of zones checks))
     (children : (place id : ℕ) (check : Check) → slice_get checks.list place ≡ Some (id, check)
     → (net.rule place).feeders ≡ map (place_of (ids_of checks.list)) (children_of check))
-    (seated : (zone : ℕ) (p : Placed) → IsHere (placed_in zones zone) p
-    → IsSeated zones (ids_of checks.list) seats net own zone p) where
-  abbrev watched : Watched
-  watched = watched_of zones checks
+    (set_gate : (zone : ℕ) (p : Placed) (gate : ℕ) → IsHere (placed_in zones zone) p
+    → seat_of seats p.slot ≡ suc gate → HasRule zones (ids_of checks.list) seats net own zone p gate)
+  where
+    abbrev watched : Watched
+    watched = watched_of zones checks
 
-  abbrev its_ids : List ℕ
-  its_ids = ids_of checks.list
+    abbrev its_ids : List ℕ
+    its_ids = ids_of checks.list
 
-  abbrev IsGate : (gate : ℕ) → Node → Type 0
-  IsGate gate node = IsGateFor zones checks.list seats net own gate node
+    abbrev IsGate : (gate : ℕ) → Node → Type 0
+    IsGate gate node = IsGateFor zones checks.list seats net own gate node
 
-  -- a node, whose gate feeds that of another
-  record IsFeeder (gate : ℕ) (m : Node) : Type 0 where
-    there : IsNode watched m
-    node : Node
-    its : IsGate gate node
-    feeds : Contains (feeders watched m) node
+    -- a node, whose gate feeds that of another
+    record IsFeeder (gate : ℕ) (m : Node) : Type 0 where
+      there : IsNode watched m
+      node : Node
+      its : IsGate gate node
+      feeds : Contains (feeders watched m) node
 
-  -- the gate of a check that is there
-  check_gate : (id gate : ℕ) → IsId checks.list id → gate ≡ place_of its_ids id
-      → IsGate gate (CheckNode id)
-  check_gate id gate (check, at) is =
-      (check, ap (slice_get checks.list) is ∙ found checks.list id check at)
+    -- the gate of a check that is there
+    check_gate : (id gate : ℕ) → IsId checks.list id → gate ≡ place_of its_ids id
+        → IsGate gate (CheckNode id)
+    check_gate id gate (check, at) is =
+        (check, ap (slice_get checks.list) is ∙ found checks.list id check at)
 
-  child_there : (place id : ℕ) (check : Check) → slice_get checks.list place ≡ Some (id, check)
-      → (child : ℕ) → Contains (children_of check) child → IsId checks.list child
-  child_there place id check at child m =
-      let are = of_all (λ (held : ℕ × Check). AreChildren checks.list (children_of held.1)) checks.list place (id, check) are_checks.children at in
-      all_at (IsId checks.list) (children_of check) child are.there m
+    child_there : (place id : ℕ) (check : Check) → slice_get checks.list place ≡ Some (id, check)
+        → (child : ℕ) → Contains (children_of check) child → IsId checks.list child
+    child_there place id check at child m =
+        let are = of_all (λ (held : ℕ × Check). AreChildren checks.list (children_of held.1)) checks.list place (id, check) are_checks.children at in
+        all_at (IsId checks.list) (children_of check) child are.there m
 
-  feeds_check : (id gate : ℕ) (check : Check) (x : ℕ)
-      → slice_get checks.list gate ≡ Some (id, check) → Feeds net x gate
-      → IsFeeder x (CheckNode id)
-  feeds_check id gate check x at m =
-      let its = id_at checks.list gate id check are_checks.rising at in
-      let child = came_from (place_of its_ids) (children_of check) x
-      (subst (λ (l : List ℕ). Contains l x) (children gate id check at) m) in
-      record {
-        there = (check, its);
-        node = CheckNode child.0;
-        its = check_gate child.0 x (child_there gate id check at child.0 (of_member (children_of check) child.0 child.1)) child.2;
-        feeds = subst (λ (o : Option Check). Contains (map CheckNode (children_there o)) (CheckNode child.0)) (sym its)
-            (mapped_in CheckNode (children_of check) child.0 child.1);
-      }
+    feeds_check : (id gate : ℕ) (check : Check) (x : ℕ)
+        → slice_get checks.list gate ≡ Some (id, check) → Feeds net x gate
+        → IsFeeder x (CheckNode id)
+    feeds_check id gate check x at m =
+        let its = id_at checks.list gate id check are_checks.rising at in
+        let child = came_from (place_of its_ids) (children_of check) x
+        (subst (λ (l : List ℕ). Contains l x) (children gate id check at) m) in
+        record {
+          there = (check, its);
+          node = CheckNode child.0;
+          its = check_gate child.0 x (child_there gate id check at child.0 (of_member (children_of check) child.0 child.1)) child.2;
+          feeds = subst (λ (o : Option Check). Contains (map CheckNode (children_there o)) (CheckNode child.0)) (sym its)
+              (mapped_in CheckNode (children_of check) child.0 child.1);
+        }
 
-  -- a set is one of those of its zone, as health sees them
-  watched_set : (zone : ℕ) (p : Placed) → IsHere (placed_in zones zone) p
-      → IsAmong (sets_at watched zone) p.set
-  watched_set zone p here =
-      subst (λ (l : List RecordSet). IsAmong l p.set) (sym (zone_sets zones checks zone))
-      (set_in (placed_in zones zone) p here)
+    -- a set is one of those of its zone, as health sees them
+    watched_set : (zone : ℕ) (p : Placed) → IsHere (placed_in zones zone) p
+        → IsAmong (sets_at watched zone) p.set
+    watched_set zone p here =
+        subst (λ (l : List RecordSet). IsAmong l p.set) (sym (zone_sets zones checks zone))
+        (set_in (placed_in zones zone) p here)
 
-  check_named : (zone : ℕ) (p : Placed) → IsHere (placed_in zones zone) p → (x : ℕ)
-      → (named : Option ℕ) → p.set.check ≡ named
-      → Contains (map (place_of its_ids) (option_to_list named)) x
-      → (id : ℕ) × (IsGate x (CheckNode id) × Contains (its_check p.set.check) (CheckNode id))
-  check_named zone p here x None is m = absurd (nothing_in x m)
-  check_named zone p here x (Some id) is m = elim (first_or_rest (place_of its_ids id) [] x m) [
-    | inl same ↦ (
-      id,
-      (
-        check_gate id x (sound.checks zone p.set id (watched_set zone p here) is) (sym same),
-        subst (λ (o : Option ℕ). Contains (its_check o) (CheckNode id)) (sym is) (at_first (CheckNode id) []),
-      ),
-    )
-    | inr rest ↦ absurd (nothing_in x rest)
-  ]
+    check_named : (zone : ℕ) (p : Placed) → IsHere (placed_in zones zone) p → (x : ℕ)
+        → (named : Option ℕ) → p.set.check ≡ named
+        → Contains (map (place_of its_ids) (option_to_list named)) x
+        → (id : ℕ) × (IsGate x (CheckNode id) × Contains (its_check p.set.check) (CheckNode id))
+    check_named zone p here x None is m = absurd (nothing_in x m)
+    check_named zone p here x (Some id) is m = elim (first_or_rest (place_of its_ids id) [] x m) [
+      | inl same ↦ (
+        id,
+        (
+          check_gate id x (sound.checks zone p.set id (watched_set zone p here) is) (sym same),
+          subst (λ (o : Option ℕ). Contains (its_check o) (CheckNode id)) (sym is) (at_first (CheckNode id) []),
+        ),
+      )
+      | inr rest ↦ absurd (nothing_in x rest)
+    ]
 
-  target_named : (zone : ℕ) (rtype : RType) (its : Body) (target : List ℕ) (x : ℕ)
-      → IsTarget zones (length its_ids) seats net own zone rtype its target → Contains target x
-      → (node : Node) × (IsGate x node × Contains (its_target zone rtype its) node)
-  target_named zone rtype (body.Values ttl values) target x is m =
-      absurd (nothing_in x (subst (λ (l : List ℕ). Contains l x) is m))
-  target_named zone rtype (body.Alias name evaluate) target x (inl (off, is)) m =
-      absurd (nothing_in x (subst (λ (l : List ℕ). Contains l x) is m))
-  target_named zone rtype (body.Alias name evaluate) target x (inr (on, (gate, is, (members, are, w)))) m =
-      elim (first_or_rest gate [] x (subst (λ (l : List ℕ). Contains l x) is m)) [
-        | inl same ↦ (
-          GroupNode zone name rtype,
-          (
-            (members, (are, subst (λ (g : ℕ). IsGroupGate (length its_ids) seats net own members g) same w)),
-            rw on (at_first (GroupNode zone name rtype) []),
-          ),
-        )
-        | inr rest ↦ absurd (nothing_in x rest)
-      ]
-
-  -- the gate of a set stands as that of a watched one
-  record HasRule (zone : ℕ) (p : Placed) (gate : ℕ) : Type 0 where
-    is : IsSetGate zones its_ids seats net own zone p.set gate
-
-  set_gate : (zone : ℕ) (p : Placed) (gate : ℕ) → IsHere (placed_in zones zone) p
-      → seat_of seats p.slot ≡ suc gate → HasRule zone p gate
-  set_gate zone p gate here seat = by (is_watched p.set) refl
-    where
-      by : (b : Bool) → is_watched p.set ≡ b → HasRule zone p gate
-      by false off =
-          let none = (seated zone p here).plain off in
-          absurd (omega arith)
-      by true on =
-          let g = (seated zone p here).gated on in
-          let other = g.1 in
-          let same : g.0 ≡ gate = omega arith in
-          record { is = subst (IsSetGate zones its_ids seats net own zone p.set) same g.2 }
-
-  feeds_set : (zone : ℕ) (p : Placed) (gate x : ℕ) → IsHere (placed_in zones zone) p
-      → seat_of seats p.slot ≡ suc gate → Feeds net x gate → IsFeeder x (SetNode zone p.set)
-  feeds_set zone p gate x here seat m =
-      let w = (set_gate zone p gate here seat).is in
-      let mine = subst (λ (l : List ℕ). Contains l x) (ap (λ r. r.feeders) w.rule) m in
-      elim (Contains-append_cases (map (place_of its_ids) (option_to_list p.set.check)) w.target x mine) [
-        | inl named ↦
-            let c = check_named zone p here x p.set.check refl named in
-            record {
-              there = watched_set zone p here;
-              node = CheckNode c.0;
-              its = c.1.0;
-              feeds = Contains-append_left (its_check p.set.check) (its_target zone p.set.rtype p.set.body) (CheckNode c.0) c.1.1;
-            }
-        | inr target ↦
-            let t = target_named zone p.set.rtype p.set.body w.target x w.its_target target in
-            record {
-              there = watched_set zone p here;
-              node = t.0;
-              its = t.1.0;
-              feeds = Contains-append_right (its_check p.set.check) (its_target zone p.set.rtype p.set.body) t.0 t.1.1;
-            }
-      ]
-
-  feeds_group : (zone : ℕ) (name : List (List ℕ)) (rtype : RType) (gate x : ℕ)
-      (members : List Placed) → AreMembers zones zone name rtype members
-      → IsGroupGate (length its_ids) seats net own members gate → Feeds net x gate
-      → IsFeeder x (GroupNode zone name rtype)
-  feeds_group zone name rtype gate x members are w m =
-      let member = member_gate seats members x (subst (λ (l : List ℕ). Contains l x) (ap (λ r. r.feeders) w.rule) m) in
-      let p = member.0 in
-      let in_group : IsAmong (group (sets_at watched zone) name rtype) p.set =
-      subst (λ (l : List RecordSet). IsAmong (group l name rtype) p.set) (sym (zone_sets zones checks zone))
-      (subst (λ (l : List RecordSet). IsAmong l p.set) are.sets (set_in members p member.1)) in
-      record {
-        there = (p.set, in_group);
-        node = SetNode zone p.set;
-        its = (p.slot, (are.here p member.1, member.2));
-        feeds = mapped_in (SetNode zone) (group (sets_at watched zone) name rtype) p.set in_group;
-      }
-
-  -- what feeds the gate of a node is the gate of one that feeds the node
-  feeder : (gate x : ℕ) (m : Node) → IsGate gate m → Feeds net x gate → IsFeeder x m
-  feeder gate x (CheckNode id) (check, at) m = feeds_check id gate check x at m
-  feeder gate x (SetNode zone set) (slot, (here, seat)) m =
-      feeds_set zone (record { slot = slot; set = set }) gate x here seat m
-  feeder gate x (GroupNode zone name rtype) (members, (are, w)) m =
-      feeds_group zone name rtype gate x members are w m
-
-  -- a path between gates is one between their nodes
-  path : (k x y : ℕ) (m : Node) → IsGate y m → Leads (Feeds net) k x y
-      → (n : Node) × (IsGate x n × Reaches watched k n m)
-  path zero x y m its leads = (m, (subst (λ (g : ℕ). IsGate g m) leads its, refl))
-  path (suc k) x y m its (z, fed, leads) =
-      let rest = path k z y m its leads in
-      let f = feeder z x rest.0 rest.1.0 fed in
-      (f.node, (f.its, one_before watched k f.node rest.0 m f.there f.feeds rest.1.1))
-
-  last_fed : (k x y : ℕ) → Leads (Feeds net) (suc k) x y → (w : ℕ) × Feeds net w y
-  last_fed zero x y (z, fed, same) = (x, subst (Feeds net x) (sym same) fed)
-  last_fed (suc k) x y (z, fed, more) = last_fed k z y more
-
-  module _ (nodes : (gate : ℕ) → gate < net.size → (node : Node) × IsGate gate node) where
-    -- where all that is fed is there, no path is long
-    pub gates_end : PathsEnd → ((x y : ℕ) → Feeds net x y → y < net.size)
-        → GatesEnd (Feeds net) 64
-    unfolding GatesEnd
-    gates_end law there x y leads = too_long 63 x y (omega arith) leads
-      where
-        too_long : (k x y : ℕ) → 38 ≤ k → Leads (Feeds net) (suc k) x y → ⊥
-        too_long k x y long leads =
-            let w = last_fed k x y leads in
-            let m = nodes y (there w.0 y w.1) in
-            let p = path (suc k) x y m.0 m.1 leads in
-            let few = law watched sound p.0 m.0 p.1.1.0 (suc k) p.1.1 in
-            omega arith
-
-    -- ---- each node has one gate, and that of a check is of nothing else
-
-    one_slot : (zone : ℕ) (p q : Placed) → IsHere (placed_in zones zone) p
-        → IsHere (placed_in zones zone) q → p.set ≡ q.set → p.slot ≡ q.slot
-    one_slot zone p q here there same =
-        ap (λ (x : Placed). x.slot) (one_of_key (placed_in zones zone) (rising_in zones are_zones.each zone) p q here there (ap key_of same))
-
-    one_gate : (a b : ℕ) (m : Node) → IsGate a m → IsGate b m → a ≡ b
-    one_gate a b (CheckNode id) (c, first) (d, second) =
-        one_place checks.list a b id c d are_checks.rising first second
-    one_gate a b (SetNode zone set) (s, (here, seat)) (t, (there, seat_two)) =
-        let same = one_slot zone (record { slot = s; set = set }) (record { slot = t; set = set }) here there refl in
-        let seats_same = ap (seat_of seats) same in
-        omega arith
-    one_gate a b (GroupNode zone name rtype) (xs, (are_xs, w)) (ys, (are_ys, v)) =
-        let same = first_same zones are_zones zone name rtype xs ys w.seat.0 v.seat.0 are_xs w.seat.1.0 are_ys v.seat.1.0 in
-        let seats_same = ap (group_seat seats) same in
-        let first = w.seat.1.1 in
-        let second = v.seat.1.1 in
-        omega arith
-
-    of_check : (place id : ℕ) (check : Check) (n : Node)
-        → slice_get checks.list place ≡ Some (id, check) → place < length its_ids
-        → IsGate place n → n ≡ CheckNode id
-    of_check place id check (CheckNode other) at early (its, is) =
-        ap CheckNode (ap (λ (h : ℕ × Check). h.0) (some_same (sym is ∙ at)))
-      where
-        some_same : {X : Type 0} {x y : X} → Some x ≡ Some y → x ≡ y
-        some_same e = cc
-    of_check place id check (SetNode zone set) at early (slot, (here, seat)) =
-        let w = (set_gate zone (record { slot = slot; set = set }) place here seat).is in
-        let behind = w.behind in
-        absurd (omega arith)
-    of_check place id check (GroupNode zone name rtype) at early (members, (are, w)) =
-        let behind = w.behind in
-        absurd (omega arith)
-
-    -- a list of the cone of a check has at least as many nodes as gates are above the check's
-    pub cone_long : (place id : ℕ) (check : Check) (walk : List ℕ) (cone : List Node)
-        → slice_get checks.list place ≡ Some (id, check) → place < length its_ids
-        → AreOfCone net (place ∷ []) walk
-        → ((n : Node) → InCone watched (CheckNode id) n → Contains cone n)
-        → length walk ≤ length cone
-    cone_long place id check walk cone at early are has =
-        no_more IsGate one_gate walk cone are.once (λ y m.
-        let node = nodes y (are.within y m) in
-        let above = are.above y m in
-        let k = above.2.0 in
-        let leads = subst (λ (x : ℕ). Leads (Feeds net) k x y) (from_start above.0 above.1) above.2.1 in
-        let way = path k place y node.0 node.1 leads in
-        let start = of_check place id check way.0 at early way.1.0 in (
-          node.0,
-          (
-            node.1,
-            member_of cone node.0 (has node.0
-                (k, subst (λ (n : Node). Reaches watched k n node.0) start way.1.1)),
-          ),
-        ))
-      where
-        from_start : (x : ℕ) → Contains (place ∷ []) x → x ≡ place
-        from_start x m = elim (in_cases place x [] m) [
-          | inl same ↦ sym same
+    target_named : (zone : ℕ) (rtype : RType) (its : Body) (target : List ℕ) (x : ℕ)
+        → IsTarget zones (length its_ids) seats net own zone rtype its target → Contains target x
+        → (node : Node) × (IsGate x node × Contains (its_target zone rtype its) node)
+    target_named zone rtype (body.Values ttl values) target x is m =
+        absurd (nothing_in x (subst (λ (l : List ℕ). Contains l x) is m))
+    target_named zone rtype (body.Alias name evaluate) target x (inl (off, is)) m =
+        absurd (nothing_in x (subst (λ (l : List ℕ). Contains l x) is m))
+    target_named zone rtype (body.Alias name evaluate) target x (inr (on, (gate, is, (members, are, w)))) m =
+        elim (first_or_rest gate [] x (subst (λ (l : List ℕ). Contains l x) is m)) [
+          | inl same ↦ (
+            GroupNode zone name rtype,
+            (
+              (members, (are, subst (λ (g : ℕ). IsGroupGate (length its_ids) seats net own members g) same w)),
+              rw on (at_first (GroupNode zone name rtype) []),
+            ),
+          )
           | inr rest ↦ absurd (nothing_in x rest)
         ]
+
+    feeds_set : (zone : ℕ) (p : Placed) (gate x : ℕ) → IsHere (placed_in zones zone) p
+        → seat_of seats p.slot ≡ suc gate → Feeds net x gate → IsFeeder x (SetNode zone p.set)
+    feeds_set zone p gate x here seat m =
+        let w = (set_gate zone p gate here seat).is in
+        let mine = subst (λ (l : List ℕ). Contains l x) (ap (λ r. r.feeders) w.rule) m in
+        elim (Contains-append_cases (map (place_of its_ids) (option_to_list p.set.check)) w.target x mine) [
+          | inl named ↦
+              let c = check_named zone p here x p.set.check refl named in
+              record {
+                there = watched_set zone p here;
+                node = CheckNode c.0;
+                its = c.1.0;
+                feeds = Contains-append_left (its_check p.set.check) (its_target zone p.set.rtype p.set.body) (CheckNode c.0) c.1.1;
+              }
+          | inr target ↦
+              let t = target_named zone p.set.rtype p.set.body w.target x w.its_target target in
+              record {
+                there = watched_set zone p here;
+                node = t.0;
+                its = t.1.0;
+                feeds = Contains-append_right (its_check p.set.check) (its_target zone p.set.rtype p.set.body) t.0 t.1.1;
+              }
+        ]
+
+    feeds_group : (zone : ℕ) (name : List (List ℕ)) (rtype : RType) (gate x : ℕ)
+        (members : List Placed) → AreMembers zones zone name rtype members
+        → IsGroupGate (length its_ids) seats net own members gate → Feeds net x gate
+        → IsFeeder x (GroupNode zone name rtype)
+    feeds_group zone name rtype gate x members are w m =
+        let member = member_gate seats members x (subst (λ (l : List ℕ). Contains l x) (ap (λ r. r.feeders) w.rule) m) in
+        let p = member.0 in
+        let in_group : IsAmong (group (sets_at watched zone) name rtype) p.set =
+        subst (λ (l : List RecordSet). IsAmong (group l name rtype) p.set) (sym (zone_sets zones checks zone))
+        (subst (λ (l : List RecordSet). IsAmong l p.set) are.sets (set_in members p member.1)) in
+        record {
+          there = (p.set, in_group);
+          node = SetNode zone p.set;
+          its = (p.slot, (are.here p member.1, member.2));
+          feeds = mapped_in (SetNode zone) (group (sets_at watched zone) name rtype) p.set in_group;
+        }
+
+    -- what feeds the gate of a node is the gate of one that feeds the node
+    feeder : (gate x : ℕ) (m : Node) → IsGate gate m → Feeds net x gate → IsFeeder x m
+    feeder gate x (CheckNode id) (check, at) m = feeds_check id gate check x at m
+    feeder gate x (SetNode zone set) (slot, (here, seat)) m =
+        feeds_set zone (record { slot = slot; set = set }) gate x here seat m
+    feeder gate x (GroupNode zone name rtype) (members, (are, w)) m =
+        feeds_group zone name rtype gate x members are w m
+
+    -- a path between gates is one between their nodes
+    path : (k x y : ℕ) (m : Node) → IsGate y m → Leads (Feeds net) k x y
+        → (n : Node) × (IsGate x n × Reaches watched k n m)
+    path zero x y m its leads = (m, (subst (λ (g : ℕ). IsGate g m) leads its, refl))
+    path (suc k) x y m its (z, fed, leads) =
+        let rest = path k z y m its leads in
+        let f = feeder z x rest.0 rest.1.0 fed in
+        (f.node, (f.its, one_before watched k f.node rest.0 m f.there f.feeds rest.1.1))
+
+    last_fed : (k x y : ℕ) → Leads (Feeds net) (suc k) x y → (w : ℕ) × Feeds net w y
+    last_fed zero x y (z, fed, same) = (x, subst (Feeds net x) (sym same) fed)
+    last_fed (suc k) x y (z, fed, more) = last_fed k z y more
+
+    module _ (nodes : (gate : ℕ) → gate < net.size → (node : Node) × IsGate gate node) where
+      -- where all that is fed is there, no path is long
+      pub gates_end : PathsEnd → ((x y : ℕ) → Feeds net x y → y < net.size)
+          → GatesEnd (Feeds net) 64
+      unfolding GatesEnd
+      gates_end law there x y leads = too_long 63 x y (omega arith) leads
+        where
+          too_long : (k x y : ℕ) → 38 ≤ k → Leads (Feeds net) (suc k) x y → ⊥
+          too_long k x y long leads =
+              let w = last_fed k x y leads in
+              let m = nodes y (there w.0 y w.1) in
+              let p = path (suc k) x y m.0 m.1 leads in
+              let few = law watched sound p.0 m.0 p.1.1.0 (suc k) p.1.1 in
+              omega arith
+
+      -- ---- each node has one gate, and that of a check is of nothing else
+
+      one_slot : (zone : ℕ) (p q : Placed) → IsHere (placed_in zones zone) p
+          → IsHere (placed_in zones zone) q → p.set ≡ q.set → p.slot ≡ q.slot
+      one_slot zone p q here there same =
+          ap (λ (x : Placed). x.slot) (one_of_key (placed_in zones zone) (rising_in zones are_zones.each zone) p q here there (ap key_of same))
+
+      one_gate : (a b : ℕ) (m : Node) → IsGate a m → IsGate b m → a ≡ b
+      one_gate a b (CheckNode id) (c, first) (d, second) =
+          one_place checks.list a b id c d are_checks.rising first second
+      one_gate a b (SetNode zone set) (s, (here, seat)) (t, (there, seat_two)) =
+          let same = one_slot zone (record { slot = s; set = set }) (record { slot = t; set = set }) here there refl in
+          let seats_same = ap (seat_of seats) same in
+          omega arith
+      one_gate a b (GroupNode zone name rtype) (xs, (are_xs, w)) (ys, (are_ys, v)) =
+          let same = first_same zones are_zones zone name rtype xs ys w.seat.0 v.seat.0 are_xs w.seat.1.0 are_ys v.seat.1.0 in
+          let seats_same = ap (group_seat seats) same in
+          let first = w.seat.1.1 in
+          let second = v.seat.1.1 in
+          omega arith
+
+      of_check : (place id : ℕ) (check : Check) (n : Node)
+          → slice_get checks.list place ≡ Some (id, check) → place < length its_ids
+          → IsGate place n → n ≡ CheckNode id
+      of_check place id check (CheckNode other) at early (its, is) =
+          ap CheckNode (ap (λ (h : ℕ × Check). h.0) (some_same (sym is ∙ at)))
+        where
+          some_same : {X : Type 0} {x y : X} → Some x ≡ Some y → x ≡ y
+          some_same e = cc
+      of_check place id check (SetNode zone set) at early (slot, (here, seat)) =
+          let w = (set_gate zone (record { slot = slot; set = set }) place here seat).is in
+          let behind = w.behind in
+          absurd (omega arith)
+      of_check place id check (GroupNode zone name rtype) at early (members, (are, w)) =
+          let behind = w.behind in
+          absurd (omega arith)
+
+      -- a list of the cone of a check has at least as many nodes as gates are above the check's
+      pub cone_long : (place id : ℕ) (check : Check) (walk : List ℕ) (cone : List Node)
+          → slice_get checks.list place ≡ Some (id, check) → place < length its_ids
+          → AreOfCone net (place ∷ []) walk
+          → ((n : Node) → InCone watched (CheckNode id) n → Contains cone n)
+          → length walk ≤ length cone
+      cone_long place id check walk cone at early are has =
+          no_more IsGate one_gate walk cone are.once (λ y m.
+          let node = nodes y (are.within y m) in
+          let above = are.above y m in
+          let k = above.2.0 in
+          let leads = subst (λ (x : ℕ). Leads (Feeds net) k x y) (from_start above.0 above.1) above.2.1 in
+          let way = path k place y node.0 node.1 leads in
+          let start = of_check place id check way.0 at early way.1.0 in (
+            node.0,
+            (
+              node.1,
+              member_of cone node.0 (has node.0
+                  (k, subst (λ (n : Node). Reaches watched k n node.0) start way.1.1)),
+            ),
+          ))
+        where
+          from_start : (x : ℕ) → Contains (place ∷ []) x → x ≡ place
+          from_start x m = elim (in_cases place x [] m) [
+            | inl same ↦ sym same
+            | inr rest ↦ absurd (nothing_in x rest)
+          ]

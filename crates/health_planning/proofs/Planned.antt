@@ -20,7 +20,7 @@ use Rattle.health_planning.specs.Wired.{watched_of}
 use Rattle.health_planning.specs.declared.seats.Seat.{Seat}
 use Rattle.health_planning.proofs.Ending.{gates_end}
 use Rattle.health_planning.proofs.Grouped.{none_feeds}
-use Rattle.health_planning.proofs.Wiring.{nodes, seated}
+use Rattle.health_planning.proofs.Wiring.{nodes, set_gate}
 
 -- what feeds a gate of the net that is planned
 pub fed_by_rule : (o : Option Shape) (feeders : List ℕ) → (rule_of o feeders).feeders ≡ feeders
@@ -35,7 +35,7 @@ pub plan_ends : PathsEnd → (zones : List Zone) (checks : Checks) (refs : List 
 plan_ends law zones checks refs seats plan are_zones apart are_checks sound built =
     gates_end zones checks seats (net_in plan) (own_in plan) are_zones are_checks sound
     (λ place id check at. fed_by_rule (slice_get plan.shapes place) (feeders_in plan.links place) ∙ built.children place id check at)
-    (seated zones checks.list refs seats plan are_zones apart built)
+    (λ zone p gate here seat. record { is = set_gate zones checks.list refs seats plan are_zones apart built zone p gate here seat })
     (nodes zones checks.list refs seats plan are_zones apart built)
     law there
   where

@@ -32,7 +32,7 @@ use Rattle.zone_model.specs.Placed.{IsHere, Placed, sets_of}
 use Rattle.zone_model.specs.Zones.{IsAmong, IsRising, group, is_of_group}
 use Rattle.policy_select.specs.Looking.{Names}
 use Rattle.policy_select.specs.Tables.{HaveSlotsApart}
-use Rattle.health_planning.specs.Building.{AreShaped, HasTarget, HasTargetGate, IsBuilt, check_shape, group_shape, number, set_shape}
+use Rattle.health_planning.specs.Building.{AllListed, AreShaped, HasTarget, HasTargetGate, IsBuilt, IsListed, check_shape, group_shape, number, set_shape}
 use Rattle.health_planning.specs.Wired.{AreMembers, HasSlot, IsFirstIn, IsGateFor, IsGroupGate, IsSeated, IsSetGate, IsTarget, IsWired, TellGroup, check_seat, gates_of, group_seat, ids_of, is_watched, only_check, place_of, plain_among, seat_of, with_gate}
 use Rattle.health_planning.specs.declared.seats.Seat.{Seat}
 use Rattle.health_planning.proofs.ListedOnce.{one_ref}
@@ -274,10 +274,9 @@ module _ (zones : List Zone) (list : List (ℕ × Check)) (refs : List SetRef) (
     told : check_seat seats p.slot ≡ only_check p.set
     is : IsSetGate zones (ids_of list) seats (net_in plan) (own_in plan) zone p.set gate
 
-  gate_of : (zone : ℕ) (p : Placed) → IsHere (placed_in zones zone) p → is_watched p.set ≡ true
-      → HasGate zone p
-  gate_of zone p here watched =
-      let k = built.all zone p here watched in
+  gate_of : (zone : ℕ) (p : Placed) → IsHere (placed_in zones zone) p
+      → IsListed refs (ref_in zone p) → HasGate zone p
+  gate_of zone p here k =
       let gate = length list + k.0 in
       let g = built.sets k.0 (ref_in zone p) k.1 in
       let named = one_named zones (ref_in zone p) g.named p.set are_zones g.names here in
@@ -303,28 +302,39 @@ module _ (zones : List Zone) (list : List (ℕ × Check)) (refs : List SetRef) (
         };
       }
 
-  -- a set whose slot has a gate is one that something decides
+  -- a set whose slot has a gate is listed, and one that something decides
   watched_there : (zone : ℕ) (p : Placed) → IsHere (placed_in zones zone) p → (gate : ℕ)
-      → seat_of seats p.slot ≡ suc gate → is_watched p.set ≡ true
+      → seat_of seats p.slot ≡ suc gate
+      → IsListed refs (ref_in zone p) × (is_watched p.set ≡ true)
   watched_there zone p here gate seat =
       let o = built.only p.slot gate seat in
       let g = built.sets o.0 o.1.0 o.1.2 in
       let ref_is = one_ref zones o.1.0 (ref_in zone p) g.named p.set apart g.names here o.1.3 in
       let named = one_named zones (ref_in zone p) g.named p.set are_zones (subst (λ (r : SetRef). Names zones r g.named) ref_is g.names) here in
-      sym (ap is_watched named) ∙ g.watched
+      ((o.0, o.1.2 ∙ ap Some ref_is), sym (ap is_watched named) ∙ g.watched)
 
-  pub seated : (zone : ℕ) (p : Placed) → IsHere (placed_in zones zone) p
+  -- a gate that the seat of a set tells is its own
+  pub set_gate : (zone : ℕ) (p : Placed) (gate : ℕ) → IsHere (placed_in zones zone) p
+      → seat_of seats p.slot ≡ suc gate
+      → IsSetGate zones (ids_of list) seats (net_in plan) (own_in plan) zone p.set gate
+  set_gate zone p gate here seat =
+      let g = gate_of zone p here (watched_there zone p here gate seat).0 in
+      let other = g.seat in
+      let same : g.gate ≡ gate = omega arith in
+      subst (IsSetGate zones (ids_of list) seats (net_in plan) (own_in plan) zone p.set) same g.is
+
+  pub seated : AllListed zones refs → (zone : ℕ) (p : Placed) → IsHere (placed_in zones zone) p
       → IsSeated zones (ids_of list) seats (net_in plan) (own_in plan) zone p
-  seated zone p here = record {
+  seated all zone p here = record {
     plain = λ off. by (seat_of seats p.slot) refl off;
-    told = λ on. (gate_of zone p here on).told;
-    gated = λ on. let g = gate_of zone p here on in (g.gate, g.seat, g.is);
+    told = λ on. (gate_of zone p here (all zone p here on)).told;
+    gated = λ on. let g = gate_of zone p here (all zone p here on) in (g.gate, g.seat, g.is);
   }
     where
       by : (n : ℕ) → seat_of seats p.slot ≡ n → is_watched p.set ≡ false → seat_of seats p.slot ≡ 0
       by zero e off = e
       by (suc gate) e off =
-          absurd (false≢true (sym off ∙ watched_there zone p here gate e))
+          absurd (false≢true (sym off ∙ (watched_there zone p here gate e).1))
 
   -- each gate is that of a node
   pub nodes : (gate : ℕ) → gate < length plan.shapes
@@ -360,9 +370,9 @@ module _ (zones : List Zone) (list : List (ℕ × Check)) (refs : List SetRef) (
           let g = built.sets k ref.0 ref.1 in
           (SetNode ref.0.zone g.named, (ref.0.slot, (g.names, g.seat ∙ ap suc is)))
 
-  pub wired : (reports : List Report) → AreShaped reports list plan.shapes
+  pub wired : AllListed zones refs → (reports : List Report) → AreShaped reports list plan.shapes
       → IsWired zones list seats (net_in plan) (own_in plan) reports
-  wired reports shaped = record {
+  wired all reports shaped = record {
     its_checks = λ place id check at.
         let shape = shaped place id check at in
         record {
@@ -371,7 +381,7 @@ module _ (zones : List Zone) (list : List (ℕ × Check)) (refs : List SetRef) (
               ∙ ap (rule_of (Some (check_shape reports id check))) (built.children place id check at);
           its_own = ap own_of shape;
         };
-    its_sets = seated;
+    its_sets = seated all;
     its_nodes = nodes;
     its_groups = λ slot gate is.
         let g = built.groups.gates slot gate is in

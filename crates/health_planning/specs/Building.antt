@@ -125,6 +125,18 @@ pub record AreListed (zones : List Zone) (first : ℕ) (refs : List SetRef) (sea
 abbrev pub IsListed : List SetRef → SetRef → Type 0
 IsListed refs ref = (k : ℕ) × (slice_get refs k ≡ Some ref)
 
+-- each set that something decides is listed
+abbrev pub AllListed : List Zone → List SetRef → Type 0
+AllListed zones refs = (zone : ℕ) (p : Placed) → IsHere (placed_in zones zone) p
+    → is_watched p.set ≡ true → IsListed refs (ref_in zone p)
+
+-- Where not all sets are asked whether something decides them, those that something decides are
+-- among the ones that are: such as are known, or came.
+abbrev pub AreAsked : List Zone → (whole : Bool) → (known came : List SetRef) → Type 0
+AreAsked zones whole known came = (zone : ℕ) (p : Placed) → IsHere (placed_in zones zone) p
+    → is_watched p.set ≡ true
+    → (whole ≡ true) ⊎ (IsListed known (ref_in zone p) ⊎ IsListed came (ref_in zone p))
+
 -- ---- groups
 
 abbrev pub group_shape : (plains : ℕ) → Shape
@@ -228,8 +240,6 @@ pub record IsBuilt (zones : List Zone) (list : List (ℕ × Check)) (refs : List
   pub only : (slot gate : ℕ) → seat_of seats slot ≡ suc gate
       → (k : ℕ) × ((ref : SetRef) × (gate ≡ length list + k) × (slice_get refs k ≡ Some ref)
       × (ref.slot ≡ slot))
-  pub all : (zone : ℕ) (p : Placed) → IsHere (placed_in zones zone) p → is_watched p.set ≡ true
-      → IsListed refs (ref_in zone p)
   pub fed : (k : ℕ) (ref : SetRef) (named : RecordSet) → slice_get refs k ≡ Some ref
       → Names zones ref named
       → FeedsSet zones (ids_of list) seats ref.zone named (feeders_in links (length list + k))

@@ -3,7 +3,7 @@
 ghost use Rattle.std.specs.Prelude.{◌≡◌, ◌<◌, ℕ, true, Some, length, slice_get};
 ghost use Rattle.health_gates.specs.Plan.{KeepsRoom};
 ghost use Rattle.health_gates.specs.declared.plan.Shape.{Shape};
-ghost use Rattle.health_planning.specs.Building.{AreListed, IsListed, set_shape};
+ghost use Rattle.health_planning.specs.Building.{AllListed, AreAsked, AreListed, IsListed, set_shape};
 ghost use Rattle.health_planning.specs.Rooms.{HasListRoom};
 ghost use Rattle.health_planning.specs.Wired.{is_watched, only_check};
 ghost use Rattle.record_set.specs.declared.sets.RecordSet.{RecordSet};
@@ -133,7 +133,7 @@ fn list_zone(
 }
 
 /// Gives the sets of all zones gates.
-pub fn list_sets(zones: &Zones, refs: &mut Vec<SetRef>, seats: &mut Vec<Seat>, plan: &mut Plan)
+fn list_sets(zones: &Zones, refs: &mut Vec<SetRef>, seats: &mut Vec<Seat>, plan: &mut Plan)
     requires slots { length seats.old.items ≡ zones.now.slots }
     requires room { HasListRoom plan.old refs.old seats.old.items }
     requires listed { (first : ℕ)
@@ -158,4 +158,105 @@ pub fn list_sets(zones: &Zones, refs: &mut Vec<SetRef>, seats: &mut Vec<Seat>, p
         list_zone(zones, next, refs, seats, plan);
         zone = next;
     }
+}
+
+/// Gives a set a gate, where it is there, something decides it and it has none.
+fn list_known(
+    zones: &Zones,
+    set: SetRef,
+    refs: &mut Vec<SetRef>,
+    seats: &mut Vec<Seat>,
+    plan: &mut Plan,
+)
+    requires slots { length seats.old.items ≡ zones.now.slots }
+    requires room { HasListRoom plan.old refs.old seats.old.items }
+    requires listed { (first : ℕ)
+        × AreListed zones.now.zones first refs.old.items seats.old.items plan.old.shapes }
+    ensures listed { (first : ℕ)
+        → AreListed zones.now.zones first refs.old.items seats.old.items plan.old.shapes
+        → AreListed zones.now.zones first refs.new.items seats.new.items plan.new.shapes }
+    ensures here { (named : RecordSet) → Names zones.now.zones set named
+        → is_watched named ≡ true → IsListed refs.new.items set }
+    ensures goes_on { (ref : SetRef) → IsListed refs.old.items ref
+        → IsListed refs.new.items ref }
+    ensures shapes { (n : ℕ) (shape : Shape) → slice_get plan.old.shapes n ≡ Some shape
+        → slice_get plan.new.shapes n ≡ Some shape }
+    ensures links { plan.new.links ≡ plan.old.links }
+    ensures size { length seats.new.items ≡ length seats.old.items }
+    ensures room { HasListRoom plan.new refs.new seats.new.items }
+    ensures kept { KeepsRoom plan.old plan.new }
+{
+    zones.slots_within();
+    if set.slot as usize >= seats.len() {
+        return;
+    }
+    list_one(zones, set, refs, seats, plan);
+}
+
+/// Gives some sets gates.
+fn list_those(
+    zones: &Zones,
+    those: &[SetRef],
+    refs: &mut Vec<SetRef>,
+    seats: &mut Vec<Seat>,
+    plan: &mut Plan,
+)
+    requires slots { length seats.old.items ≡ zones.now.slots }
+    requires room { HasListRoom plan.old refs.old seats.old.items }
+    requires listed { (first : ℕ)
+        × AreListed zones.now.zones first refs.old.items seats.old.items plan.old.shapes }
+    ensures listed { (first : ℕ)
+        → AreListed zones.now.zones first refs.old.items seats.old.items plan.old.shapes
+        → AreListed zones.now.zones first refs.new.items seats.new.items plan.new.shapes }
+    ensures all { (k : ℕ) (set : SetRef) (named : RecordSet) → slice_get those.now k ≡ Some set
+        → Names zones.now.zones set named → is_watched named ≡ true
+        → IsListed refs.new.items set }
+    ensures goes_on { (ref : SetRef) → IsListed refs.old.items ref
+        → IsListed refs.new.items ref }
+    ensures shapes { (n : ℕ) (shape : Shape) → slice_get plan.old.shapes n ≡ Some shape
+        → slice_get plan.new.shapes n ≡ Some shape }
+    ensures links { plan.new.links ≡ plan.old.links }
+    ensures size { length seats.new.items ≡ length seats.old.items }
+    ensures room { HasListRoom plan.new refs.new seats.new.items }
+    ensures kept { KeepsRoom plan.old plan.new }
+{
+    for set in those {
+        list_known(zones, *set, refs, seats, plan);
+    }
+}
+
+/// Gives sets gates: those of all zones, or else the ones that are known and the ones that came.
+pub fn list_asked(
+    zones: &Zones,
+    whole: bool,
+    known: &[SetRef],
+    came: &[SetRef],
+    refs: &mut Vec<SetRef>,
+    seats: &mut Vec<Seat>,
+    plan: &mut Plan,
+)
+    requires slots { length seats.old.items ≡ zones.now.slots }
+    requires room { HasListRoom plan.old refs.old seats.old.items }
+    requires listed { (first : ℕ)
+        × AreListed zones.now.zones first refs.old.items seats.old.items plan.old.shapes }
+    ensures listed { (first : ℕ)
+        → AreListed zones.now.zones first refs.old.items seats.old.items plan.old.shapes
+        → AreListed zones.now.zones first refs.new.items seats.new.items plan.new.shapes }
+    ensures all { AreAsked zones.now.zones whole known.now came.now
+        → AllListed zones.now.zones refs.new.items }
+    ensures goes_on { (ref : SetRef) → IsListed refs.old.items ref
+        → IsListed refs.new.items ref }
+    ensures shapes { (n : ℕ) (shape : Shape) → slice_get plan.old.shapes n ≡ Some shape
+        → slice_get plan.new.shapes n ≡ Some shape }
+    ensures links { plan.new.links ≡ plan.old.links }
+    ensures size { length seats.new.items ≡ length seats.old.items }
+    ensures room { HasListRoom plan.new refs.new seats.new.items }
+    ensures kept { KeepsRoom plan.old plan.new }
+{
+    if whole {
+        list_sets(zones, refs, seats, plan);
+        return;
+    }
+    list_those(zones, known, refs, seats, plan);
+    list_those(zones, came, refs, seats, plan);
 }

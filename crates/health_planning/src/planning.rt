@@ -4,7 +4,7 @@ ghost use Rattle.std.specs.Prelude.{◌≡◌, ◌≤◌, ◌<◌, ◌+◌, ◌*
 ghost use Rattle.health_gates.specs.Gates.{Feeds};
 ghost use Rattle.health_gates.specs.Plan.{IsPlanned, net_in};
 ghost use Rattle.health_gates.specs.Walk.{PathsEnd};
-ghost use Rattle.health_planning.specs.Building.{AreSeen, AreShaped, IsBuilt, IsSmallAt};
+ghost use Rattle.health_planning.specs.Building.{AllListed, AreAsked, AreSeen, AreShaped, IsBuilt, IsSmallAt};
 ghost use Rattle.health_planning.specs.Building.{no_seat};
 ghost use Rattle.health_planning.specs.Rooms.{HasPlanRoom};
 ghost use Rattle.health_planning.specs.Wired.{ids_of, watched_of};
@@ -14,7 +14,7 @@ ghost use Rattle.health_model.specs.Statuses.{Report};
 use crate::building::{add_checks, join_checks};
 use crate::grouping::group_all;
 use crate::joining::join_sets;
-use crate::listing::list_sets;
+use crate::listing::list_asked;
 use crate::seats::Seat;
 use checker_state::Checkers;
 use health_check::CheckTable;
@@ -28,6 +28,9 @@ fn plan_all(
     checks: &CheckTable,
     ids: &[u32],
     seen: &[Option<Checkers>],
+    whole: bool,
+    known: &[SetRef],
+    came: &[SetRef],
     refs: &mut Vec<SetRef>,
     seats: &mut Vec<Seat>,
     plan: &mut Plan,
@@ -42,6 +45,8 @@ fn plan_all(
     requires room { HasPlanRoom plan.old refs.old zones.now.slots }
     ensures built { IsBuilt zones.now.zones checks.now.checks.list refs.new.items
         seats.new.items plan.new.shapes plan.new.links }
+    ensures all { AreAsked zones.now.zones whole known.now came.now
+        → AllListed zones.now.zones refs.new.items }
     ensures checks { (reports : List Report)
         → AreSeen reports checks.now.checks.list seen.now
         → AreShaped reports checks.now.checks.list plan.new.shapes }
@@ -55,18 +60,22 @@ fn plan_all(
     let list = checks.as_slice();
     add_checks(plan, list, seen);
     join_checks(plan, ids, list);
-    list_sets(zones, refs, seats, plan);
+    list_asked(zones, whole, known, came, refs, seats, plan);
     group_all(zones, refs, seats, plan);
     join_sets(zones, refs, ids, seats, plan);
 }
 
 /// Plans the gates of a configuration, where none are planned, by what the checkers of its checks
-/// saw. It takes no memory.
+/// saw. All sets are asked whether something decides them, or the ones that are known and the ones
+/// that came. It takes no memory.
 pub fn plan_gates(
     zones: &Zones,
     checks: &CheckTable,
     ids: &[u32],
     seen: &[Option<Checkers>],
+    whole: bool,
+    known: &[SetRef],
+    came: &[SetRef],
     refs: &mut Vec<SetRef>,
     seats: &mut Vec<Seat>,
     plan: &mut Plan,
@@ -81,6 +90,8 @@ pub fn plan_gates(
     requires room { HasPlanRoom plan.old refs.old zones.now.slots }
     ensures built { IsBuilt zones.now.zones checks.now.checks.list refs.new.items
         seats.new.items plan.new.shapes plan.new.links }
+    ensures all { AreAsked zones.now.zones whole known.now came.now
+        → AllListed zones.now.zones refs.new.items }
     ensures checks { (reports : List Report)
         → AreSeen reports checks.now.checks.list seen.now
         → AreShaped reports checks.now.checks.list plan.new.shapes }
@@ -93,5 +104,7 @@ pub fn plan_gates(
     zones.slots_apart();
     paths_end();
     let list = checks.as_slice();
-    plan_all(zones, checks, ids, seen, refs, seats, plan);
+    plan_all(
+        zones, checks, ids, seen, whole, known, came, refs, seats, plan,
+    );
 }

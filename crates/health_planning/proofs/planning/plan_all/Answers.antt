@@ -17,8 +17,8 @@ join_checks-requires-clause-there c =
     rw (c.as_slice-list.ensures.checks, c.requires.ids)
     (children_placed c.args.checks.now.checks c.as_slice-list.ensures.sound)
 
-pub list_sets-requires-clause-listed : goal.list_sets-requires-clause-listed
-list_sets-requires-clause-listed c =
+pub list_asked-requires-clause-listed : goal.list_asked-requires-clause-listed
+list_asked-requires-clause-listed c =
     let size = c.add_checks.ensures.size in
     rw (c.requires.no_refs, c.requires.no_seats, c.join_checks.ensures.shapes) (
       length c.as_slice-list.result.now,
@@ -33,8 +33,8 @@ group_all-requires-clause-below c =
     let start : AreListed c.args.zones.now.zones (length list) c.args.refs.now.items c.args.seats.now.items c.join_checks.new.plan.shapes =
     rw (c.requires.no_refs, c.requires.no_seats, c.join_checks.ensures.shapes)
     (none_listed c.args.zones.now.zones c.args.zones.now.slots (length list) c.add_checks.new.plan.shapes size) in
-    listed_below c.args.zones.now.zones (length list) c.list_sets.new.refs.items c.list_sets.new.seats.items c.list_sets.new.plan.shapes
-    (c.list_sets.ensures.listed (length list) start)
+    listed_below c.args.zones.now.zones (length list) c.list_asked.new.refs.items c.list_asked.new.seats.items c.list_asked.new.plan.shapes
+    (c.list_asked.ensures.listed (length list) start)
 
 pub group_all-requires-clause-none : goal.group_all-requires-clause-none
 group_all-requires-clause-none c =
@@ -43,7 +43,7 @@ group_all-requires-clause-none c =
     let start : AreListed c.args.zones.now.zones (length list) c.args.refs.now.items c.args.seats.now.items c.join_checks.new.plan.shapes =
     rw (c.requires.no_refs, c.requires.no_seats, c.join_checks.ensures.shapes)
     (none_listed c.args.zones.now.zones c.args.zones.now.slots (length list) c.add_checks.new.plan.shapes size) in
-    (c.list_sets.ensures.listed (length list) start).no_group
+    (c.list_asked.ensures.listed (length list) start).no_group
 
 pub group_all-requires-clause-within : goal.group_all-requires-clause-within
 group_all-requires-clause-within c =
@@ -53,12 +53,12 @@ group_all-requires-clause-within c =
     let start : AreListed c.args.zones.now.zones (length list) c.args.refs.now.items c.args.seats.now.items c.join_checks.new.plan.shapes =
     rw (c.requires.no_refs, c.requires.no_seats, c.join_checks.ensures.shapes)
     (none_listed c.args.zones.now.zones c.args.zones.now.slots (length list) c.add_checks.new.plan.shapes size) in
-    let listed = (c.list_sets.ensures.listed (length list) start).size in
-    let links : c.list_sets.new.plan.links ≡ check_links c.args.ids.now 0 c.as_slice-list.result.now =
-    c.list_sets.ensures.links ∙ c.join_checks.ensures.links
+    let listed = (c.list_asked.ensures.listed (length list) start).size in
+    let links : c.list_asked.new.plan.links ≡ check_links c.args.ids.now 0 c.as_slice-list.result.now =
+    c.list_asked.ensures.links ∙ c.join_checks.ensures.links
     ∙ ap (λ (l : List Link). l ++ check_links c.args.ids.now 0 c.as_slice-list.result.now) (c.add_checks.ensures.links ∙ c.requires.no_links) in
     rw (links, c.requires.ids, c.as_slice-list.ensures.checks)
-    (still_within (check_links _ 0 list) (length list) (length c.list_sets.new.plan.shapes) (omega arith)
+    (still_within (check_links _ 0 list) (length list) (length c.list_asked.new.plan.shapes) (omega arith)
     (links_early list (children_placed checks c.as_slice-list.ensures.sound)))
 
 pub group_all-requires-clause-targets : goal.group_all-requires-clause-targets
@@ -74,7 +74,7 @@ join_sets-requires-clause-named c k set at =
     let start : AreListed c.args.zones.now.zones (length list) c.args.refs.now.items c.args.seats.now.items c.join_checks.new.plan.shapes =
     rw (c.requires.no_refs, c.requires.no_seats, c.join_checks.ensures.shapes)
     (none_listed c.args.zones.now.zones c.args.zones.now.slots (length list) c.add_checks.new.plan.shapes size) in
-    let g = (c.list_sets.ensures.listed (length list) start).gates k set (rw c.deref-2.ensures.value at at) in
+    let g = (c.list_asked.ensures.listed (length list) start).gates k set (rw c.deref-2.ensures.value at at) in
     (g.named, g.names)
 
 pub join_sets-requires-clause-there : goal.join_sets-requires-clause-there
@@ -85,21 +85,21 @@ returns-clause-built c =
     let zones = c.args.zones.now.zones in
     let checks = c.args.checks.now.checks in
     let list = checks.list in
-    let l = c.list_sets.ensures in
+    let l = c.list_asked.ensures in
     let g = c.group_all.ensures in
     let j = c.join_sets.ensures in
     let size = c.add_checks.ensures.size ∙ ap length c.as_slice-list.ensures.checks in
     let start : AreListed zones (length list) c.args.refs.now.items c.args.seats.now.items c.join_checks.new.plan.shapes =
     rw (c.requires.no_refs, c.requires.no_seats, c.join_checks.ensures.shapes)
     (none_listed zones c.args.zones.now.slots (length list) c.add_checks.new.plan.shapes size) in
-    let links : c.list_sets.new.plan.links ≡ check_links c.args.ids.now 0 c.as_slice-list.result.now =
+    let links : c.list_asked.new.plan.links ≡ check_links c.args.ids.now 0 c.as_slice-list.result.now =
     l.links ∙ c.join_checks.ensures.links
     ∙ ap (λ (x : List Link). x ++ check_links c.args.ids.now 0 c.as_slice-list.result.now) (c.add_checks.ensures.links ∙ c.requires.no_links) in
-    rw j.shapes (is_built zones list c.list_sets.new.refs.items c.list_sets.new.seats.items c.group_all.new.seats.items
-    c.list_sets.new.plan.shapes c.group_all.new.plan.shapes c.list_sets.new.plan.links c.group_all.new.plan.links c.join_sets.new.plan.links
+    rw j.shapes (is_built zones list c.list_asked.new.refs.items c.list_asked.new.seats.items c.group_all.new.seats.items
+    c.list_asked.new.plan.shapes c.group_all.new.plan.shapes c.list_asked.new.plan.links c.group_all.new.plan.links c.join_sets.new.plan.links
     (children_placed checks c.as_slice-list.ensures.sound)
     (links ∙ ap (λ (x : List ℕ). check_links x 0 c.as_slice-list.result.now) c.requires.ids ∙ ap (check_links _ 0) c.as_slice-list.ensures.checks)
-    (l.listed (length list) start) l.all g.grouped.grouped (rw c.deref.ensures.value at g.all) g.sets g.shapes g.feeders g.more g.within
+    (l.listed (length list) start) g.grouped.grouped (rw c.deref.ensures.value at g.all) g.sets g.shapes g.feeders g.more g.within
     (rw (c.requires.ids, c.deref-2.ensures.value, c.deref-3.ensures.value) at j.joined)
     (rw (c.requires.ids, c.deref-2.ensures.value) at j.others)
     (rw (c.requires.ids, c.deref-2.ensures.value, c.deref-3.ensures.value) at j.within))
@@ -109,7 +109,7 @@ returns-clause-checks c reports are place id check at =
     let list = c.as_slice-list.ensures.checks in
     let shapes = c.join_checks.ensures.shapes ∙ c.add_checks.ensures.shapes reports (rw list are) ∙ ap (check_shapes reports) list in
     rw c.join_sets.ensures.shapes
-    (c.group_all.ensures.shapes place _ (c.list_sets.ensures.shapes place _
+    (c.group_all.ensures.shapes place _ (c.list_asked.ensures.shapes place _
     (shaped_at reports c.args.checks.now.checks.list c.join_checks.new.plan.shapes shapes place id check at)))
 
 pub returns-clause-small : goal.returns-clause-small
@@ -117,8 +117,8 @@ returns-clause-small c gate early =
     let size = c.add_checks.ensures.size ∙ ap length c.as_slice-list.ensures.checks in
     let same = ap length c.join_checks.ensures.shapes in
     subst (λ (l : List Shape). IsSmallAt l gate) (sym c.join_sets.ensures.shapes)
-    (small_at c.join_checks.new.plan.shapes c.list_sets.new.plan.shapes c.group_all.new.plan.shapes gate (omega arith)
-    (rw c.join_checks.ensures.shapes c.add_checks.ensures.small) c.list_sets.ensures.shapes c.group_all.ensures.shapes)
+    (small_at c.join_checks.new.plan.shapes c.list_asked.new.plan.shapes c.group_all.new.plan.shapes gate (omega arith)
+    (rw c.join_checks.ensures.shapes c.add_checks.ensures.small) c.list_asked.ensures.shapes c.group_all.ensures.shapes)
 
 pub add_checks-requires-clause-room : goal.add_checks-requires-clause-room
 add_checks-requires-clause-room c =
@@ -158,8 +158,8 @@ join_checks-requires-clause-room c =
     let added_same = ap length c.add_checks.ensures.links in
     omega arith
 
-pub list_sets-requires-clause-room : goal.list_sets-requires-clause-room
-list_sets-requires-clause-room c =
+pub list_asked-requires-clause-room : goal.list_asked-requires-clause-room
+list_asked-requires-clause-room c =
     let checks = c.args.checks.now.checks in
     let list = checks.list in
     let sound = c.as_slice-list.ensures.sound in
@@ -218,15 +218,15 @@ group_all-requires-clause-apart c =
     let start : AreListed c.args.zones.now.zones (length list) c.args.refs.now.items c.args.seats.now.items c.join_checks.new.plan.shapes =
     rw (c.requires.no_refs, c.requires.no_seats, c.join_checks.ensures.shapes)
     (none_listed c.args.zones.now.zones c.args.zones.now.slots (length list) c.add_checks.new.plan.shapes (added ∙ as_list)) in
-    let is_listed = c.list_sets.ensures.listed (length list) start in
+    let is_listed = c.list_asked.ensures.listed (length list) start in
     let listed_size = is_listed.size in
-    let listed_few = few_listed c.args.zones.now.zones (length list) c.list_sets.new.refs.items c.list_sets.new.seats.items c.list_sets.new.plan.shapes
+    let listed_few = few_listed c.args.zones.now.zones (length list) c.list_asked.new.refs.items c.list_asked.new.seats.items c.list_asked.new.plan.shapes
     is_listed in
-    let listed_seats = c.list_sets.ensures.size in
-    let listed_gates = c.list_sets.ensures.kept.gates in
-    let listed_links = c.list_sets.ensures.kept.links in
-    let listed_same = ap length c.list_sets.ensures.links in
-    listed_apart c.args.zones.now.zones (length list) c.list_sets.new.refs.items c.list_sets.new.seats.items c.list_sets.new.plan.shapes is_listed
+    let listed_seats = c.list_asked.ensures.size in
+    let listed_gates = c.list_asked.ensures.kept.gates in
+    let listed_links = c.list_asked.ensures.kept.links in
+    let listed_same = ap length c.list_asked.ensures.links in
+    listed_apart c.args.zones.now.zones (length list) c.list_asked.new.refs.items c.list_asked.new.seats.items c.list_asked.new.plan.shapes is_listed
 
 pub group_all-requires-clause-few : goal.group_all-requires-clause-few
 group_all-requires-clause-few c =
@@ -258,14 +258,14 @@ group_all-requires-clause-few c =
     let start : AreListed c.args.zones.now.zones (length list) c.args.refs.now.items c.args.seats.now.items c.join_checks.new.plan.shapes =
     rw (c.requires.no_refs, c.requires.no_seats, c.join_checks.ensures.shapes)
     (none_listed c.args.zones.now.zones c.args.zones.now.slots (length list) c.add_checks.new.plan.shapes (added ∙ as_list)) in
-    let is_listed = c.list_sets.ensures.listed (length list) start in
+    let is_listed = c.list_asked.ensures.listed (length list) start in
     let listed_size = is_listed.size in
-    let listed_few = few_listed c.args.zones.now.zones (length list) c.list_sets.new.refs.items c.list_sets.new.seats.items c.list_sets.new.plan.shapes
+    let listed_few = few_listed c.args.zones.now.zones (length list) c.list_asked.new.refs.items c.list_asked.new.seats.items c.list_asked.new.plan.shapes
     is_listed in
-    let listed_seats = c.list_sets.ensures.size in
-    let listed_gates = c.list_sets.ensures.kept.gates in
-    let listed_links = c.list_sets.ensures.kept.links in
-    let listed_same = ap length c.list_sets.ensures.links in
+    let listed_seats = c.list_asked.ensures.size in
+    let listed_gates = c.list_asked.ensures.kept.gates in
+    let listed_links = c.list_asked.ensures.kept.links in
+    let listed_same = ap length c.list_asked.ensures.links in
     omega arith
 
 pub group_all-requires-clause-room : goal.group_all-requires-clause-room
@@ -298,14 +298,14 @@ group_all-requires-clause-room c =
     let start : AreListed c.args.zones.now.zones (length list) c.args.refs.now.items c.args.seats.now.items c.join_checks.new.plan.shapes =
     rw (c.requires.no_refs, c.requires.no_seats, c.join_checks.ensures.shapes)
     (none_listed c.args.zones.now.zones c.args.zones.now.slots (length list) c.add_checks.new.plan.shapes (added ∙ as_list)) in
-    let is_listed = c.list_sets.ensures.listed (length list) start in
+    let is_listed = c.list_asked.ensures.listed (length list) start in
     let listed_size = is_listed.size in
-    let listed_few = few_listed c.args.zones.now.zones (length list) c.list_sets.new.refs.items c.list_sets.new.seats.items c.list_sets.new.plan.shapes
+    let listed_few = few_listed c.args.zones.now.zones (length list) c.list_asked.new.refs.items c.list_asked.new.seats.items c.list_asked.new.plan.shapes
     is_listed in
-    let listed_seats = c.list_sets.ensures.size in
-    let listed_gates = c.list_sets.ensures.kept.gates in
-    let listed_links = c.list_sets.ensures.kept.links in
-    let listed_same = ap length c.list_sets.ensures.links in
+    let listed_seats = c.list_asked.ensures.size in
+    let listed_gates = c.list_asked.ensures.kept.gates in
+    let listed_links = c.list_asked.ensures.kept.links in
+    let listed_same = ap length c.list_asked.ensures.links in
     omega arith
 
 pub group_all-requires-clause-links_room : goal.group_all-requires-clause-links_room
@@ -338,14 +338,14 @@ group_all-requires-clause-links_room c =
     let start : AreListed c.args.zones.now.zones (length list) c.args.refs.now.items c.args.seats.now.items c.join_checks.new.plan.shapes =
     rw (c.requires.no_refs, c.requires.no_seats, c.join_checks.ensures.shapes)
     (none_listed c.args.zones.now.zones c.args.zones.now.slots (length list) c.add_checks.new.plan.shapes (added ∙ as_list)) in
-    let is_listed = c.list_sets.ensures.listed (length list) start in
+    let is_listed = c.list_asked.ensures.listed (length list) start in
     let listed_size = is_listed.size in
-    let listed_few = few_listed c.args.zones.now.zones (length list) c.list_sets.new.refs.items c.list_sets.new.seats.items c.list_sets.new.plan.shapes
+    let listed_few = few_listed c.args.zones.now.zones (length list) c.list_asked.new.refs.items c.list_asked.new.seats.items c.list_asked.new.plan.shapes
     is_listed in
-    let listed_seats = c.list_sets.ensures.size in
-    let listed_gates = c.list_sets.ensures.kept.gates in
-    let listed_links = c.list_sets.ensures.kept.links in
-    let listed_same = ap length c.list_sets.ensures.links in
+    let listed_seats = c.list_asked.ensures.size in
+    let listed_gates = c.list_asked.ensures.kept.gates in
+    let listed_links = c.list_asked.ensures.kept.links in
+    let listed_same = ap length c.list_asked.ensures.links in
     omega arith
 
 pub join_sets-requires-clause-few_sets : goal.join_sets-requires-clause-few_sets
@@ -378,14 +378,14 @@ join_sets-requires-clause-few_sets c =
     let start : AreListed c.args.zones.now.zones (length list) c.args.refs.now.items c.args.seats.now.items c.join_checks.new.plan.shapes =
     rw (c.requires.no_refs, c.requires.no_seats, c.join_checks.ensures.shapes)
     (none_listed c.args.zones.now.zones c.args.zones.now.slots (length list) c.add_checks.new.plan.shapes (added ∙ as_list)) in
-    let is_listed = c.list_sets.ensures.listed (length list) start in
+    let is_listed = c.list_asked.ensures.listed (length list) start in
     let listed_size = is_listed.size in
-    let listed_few = few_listed c.args.zones.now.zones (length list) c.list_sets.new.refs.items c.list_sets.new.seats.items c.list_sets.new.plan.shapes
+    let listed_few = few_listed c.args.zones.now.zones (length list) c.list_asked.new.refs.items c.list_asked.new.seats.items c.list_asked.new.plan.shapes
     is_listed in
-    let listed_seats = c.list_sets.ensures.size in
-    let listed_gates = c.list_sets.ensures.kept.gates in
-    let listed_links = c.list_sets.ensures.kept.links in
-    let listed_same = ap length c.list_sets.ensures.links in
+    let listed_seats = c.list_asked.ensures.size in
+    let listed_gates = c.list_asked.ensures.kept.gates in
+    let listed_links = c.list_asked.ensures.kept.links in
+    let listed_same = ap length c.list_asked.ensures.links in
     let refs = ap length c.deref-2.ensures.value in
     let ids = ap length c.requires.ids ∙ ids_long list in
     omega arith
@@ -420,19 +420,19 @@ join_sets-requires-clause-room c =
     let start : AreListed c.args.zones.now.zones (length list) c.args.refs.now.items c.args.seats.now.items c.join_checks.new.plan.shapes =
     rw (c.requires.no_refs, c.requires.no_seats, c.join_checks.ensures.shapes)
     (none_listed c.args.zones.now.zones c.args.zones.now.slots (length list) c.add_checks.new.plan.shapes (added ∙ as_list)) in
-    let is_listed = c.list_sets.ensures.listed (length list) start in
+    let is_listed = c.list_asked.ensures.listed (length list) start in
     let listed_size = is_listed.size in
-    let listed_few = few_listed c.args.zones.now.zones (length list) c.list_sets.new.refs.items c.list_sets.new.seats.items c.list_sets.new.plan.shapes
+    let listed_few = few_listed c.args.zones.now.zones (length list) c.list_asked.new.refs.items c.list_asked.new.seats.items c.list_asked.new.plan.shapes
     is_listed in
-    let listed_seats = c.list_sets.ensures.size in
-    let listed_gates = c.list_sets.ensures.kept.gates in
-    let listed_links = c.list_sets.ensures.kept.links in
-    let listed_same = ap length c.list_sets.ensures.links in
+    let listed_seats = c.list_asked.ensures.size in
+    let listed_gates = c.list_asked.ensures.kept.gates in
+    let listed_links = c.list_asked.ensures.kept.links in
+    let listed_same = ap length c.list_asked.ensures.links in
     let can = c.group_all.ensures.grouped in
-    let grouped_few = few_grouped c.args.zones.now.zones (length c.list_sets.new.plan.shapes) c.group_all.new.seats.items c.group_all.new.plan.shapes
+    let grouped_few = few_grouped c.args.zones.now.zones (length c.list_asked.new.plan.shapes) c.group_all.new.seats.items c.group_all.new.plan.shapes
     c.group_all.new.plan.links can.grouped in
     let grouped_seats = c.group_all.ensures.size in
-    let grouped_long = joined_few (length c.list_sets.new.plan.shapes) (length c.list_sets.new.plan.links) c.group_all.new.seats.items
+    let grouped_long = joined_few (length c.list_asked.new.plan.shapes) (length c.list_asked.new.plan.links) c.group_all.new.seats.items
     c.group_all.new.plan.links can.joined in
     let grouped_gates = c.group_all.ensures.kept.gates in
     let grouped_links = c.group_all.ensures.kept.links in
@@ -469,19 +469,19 @@ returns-clause-few_gates c =
     let start : AreListed c.args.zones.now.zones (length list) c.args.refs.now.items c.args.seats.now.items c.join_checks.new.plan.shapes =
     rw (c.requires.no_refs, c.requires.no_seats, c.join_checks.ensures.shapes)
     (none_listed c.args.zones.now.zones c.args.zones.now.slots (length list) c.add_checks.new.plan.shapes (added ∙ as_list)) in
-    let is_listed = c.list_sets.ensures.listed (length list) start in
+    let is_listed = c.list_asked.ensures.listed (length list) start in
     let listed_size = is_listed.size in
-    let listed_few = few_listed c.args.zones.now.zones (length list) c.list_sets.new.refs.items c.list_sets.new.seats.items c.list_sets.new.plan.shapes
+    let listed_few = few_listed c.args.zones.now.zones (length list) c.list_asked.new.refs.items c.list_asked.new.seats.items c.list_asked.new.plan.shapes
     is_listed in
-    let listed_seats = c.list_sets.ensures.size in
-    let listed_gates = c.list_sets.ensures.kept.gates in
-    let listed_links = c.list_sets.ensures.kept.links in
-    let listed_same = ap length c.list_sets.ensures.links in
+    let listed_seats = c.list_asked.ensures.size in
+    let listed_gates = c.list_asked.ensures.kept.gates in
+    let listed_links = c.list_asked.ensures.kept.links in
+    let listed_same = ap length c.list_asked.ensures.links in
     let can = c.group_all.ensures.grouped in
-    let grouped_few = few_grouped c.args.zones.now.zones (length c.list_sets.new.plan.shapes) c.group_all.new.seats.items c.group_all.new.plan.shapes
+    let grouped_few = few_grouped c.args.zones.now.zones (length c.list_asked.new.plan.shapes) c.group_all.new.seats.items c.group_all.new.plan.shapes
     c.group_all.new.plan.links can.grouped in
     let grouped_seats = c.group_all.ensures.size in
-    let grouped_long = joined_few (length c.list_sets.new.plan.shapes) (length c.list_sets.new.plan.links) c.group_all.new.seats.items
+    let grouped_long = joined_few (length c.list_asked.new.plan.shapes) (length c.list_asked.new.plan.links) c.group_all.new.seats.items
     c.group_all.new.plan.links can.joined in
     let grouped_gates = c.group_all.ensures.kept.gates in
     let grouped_links = c.group_all.ensures.kept.links in
@@ -518,19 +518,19 @@ returns-clause-few_links c =
     let start : AreListed c.args.zones.now.zones (length list) c.args.refs.now.items c.args.seats.now.items c.join_checks.new.plan.shapes =
     rw (c.requires.no_refs, c.requires.no_seats, c.join_checks.ensures.shapes)
     (none_listed c.args.zones.now.zones c.args.zones.now.slots (length list) c.add_checks.new.plan.shapes (added ∙ as_list)) in
-    let is_listed = c.list_sets.ensures.listed (length list) start in
+    let is_listed = c.list_asked.ensures.listed (length list) start in
     let listed_size = is_listed.size in
-    let listed_few = few_listed c.args.zones.now.zones (length list) c.list_sets.new.refs.items c.list_sets.new.seats.items c.list_sets.new.plan.shapes
+    let listed_few = few_listed c.args.zones.now.zones (length list) c.list_asked.new.refs.items c.list_asked.new.seats.items c.list_asked.new.plan.shapes
     is_listed in
-    let listed_seats = c.list_sets.ensures.size in
-    let listed_gates = c.list_sets.ensures.kept.gates in
-    let listed_links = c.list_sets.ensures.kept.links in
-    let listed_same = ap length c.list_sets.ensures.links in
+    let listed_seats = c.list_asked.ensures.size in
+    let listed_gates = c.list_asked.ensures.kept.gates in
+    let listed_links = c.list_asked.ensures.kept.links in
+    let listed_same = ap length c.list_asked.ensures.links in
     let can = c.group_all.ensures.grouped in
-    let grouped_few = few_grouped c.args.zones.now.zones (length c.list_sets.new.plan.shapes) c.group_all.new.seats.items c.group_all.new.plan.shapes
+    let grouped_few = few_grouped c.args.zones.now.zones (length c.list_asked.new.plan.shapes) c.group_all.new.seats.items c.group_all.new.plan.shapes
     c.group_all.new.plan.links can.grouped in
     let grouped_seats = c.group_all.ensures.size in
-    let grouped_long = joined_few (length c.list_sets.new.plan.shapes) (length c.list_sets.new.plan.links) c.group_all.new.seats.items
+    let grouped_long = joined_few (length c.list_asked.new.plan.shapes) (length c.list_asked.new.plan.links) c.group_all.new.seats.items
     c.group_all.new.plan.links can.joined in
     let grouped_gates = c.group_all.ensures.kept.gates in
     let grouped_links = c.group_all.ensures.kept.links in

@@ -1,10 +1,11 @@
-use Rattle.std.proofs.Common.{[], ℕ, length, ap, sym, arith, ◌∙◌}
+use Rattle.std.proofs.Common.{[], ℕ, List, inl, length, ap, sym, arith, ◌∙◌}
 use mathlib.Core.Path.{subst}
 use Rattle.std.specs.Prelude.{vec_capacity}
 use Rattle.check_model.specs.Checks.{IsBounded}
 use Rattle.check_model.specs.declared.checks.Check.{Check}
-use Rattle.health_planning.specs.Building.{AreSeen}
+use Rattle.health_planning.specs.Building.{AreAsked, AreSeen}
 use Rattle.health_planning.specs.Following.{EachFollows, Knows}
+use Rattle.health_planning.specs.SetRefRecord.{SetRef}
 use Rattle.health_index.specs.Index.{Index}
 use Rattle.health_index.specs.Room.{HasRoom}
 use Rattle.health_planning.specs.Wired.{ids_of}
@@ -73,10 +74,11 @@ plan_gates-requires-clause-room c =
     let list = c.as_slice-list.ensures.checks in
     let sound = c.as_slice-list.ensures.sound in
     let room = subst (λ (i : Index). HasRoom i c.args.zones.now.slots) (sym c.self.view_is) c.requires.room in
+    let swapped = ap (λ v. vec_capacity v) c.swap-3.ensures.x_after in
     let refs = c.clear-4.ensures.capacity in
     let gates = c.clear-5.ensures.room in
     let links = c.clear-5.ensures.links_room in
-    let refs_room = room.refs in
+    let refs_room = room.refs_before in
     let shapes = room.shapes in
     let most = room.links in
     record { few = room.few; refs_room = omega arith; gates = omega arith; links = omega arith }
@@ -105,7 +107,7 @@ invariant_of-self c =
     (rw list at c.list_seen.ensures.kinds)
 
 pub returns-clause-stands : goal.returns-clause-stands
-returns-clause-stands c before old reports is follows =
+returns-clause-stands c before old reports is follows asked =
     let zones = c.args.zones.now.zones in
     let checks = c.args.checks.now.checks in
     let list = c.as_slice-list.ensures.checks in
@@ -118,18 +120,20 @@ returns-clause-stands c before old reports is follows =
     let seen_before = ap (λ (i : Index). i.seen) (sym c.self.view_is) ∙ sym (c.deref-2.ensures.value ∙ ap (λ v. v.items) c.swap-2.ensures.y_after) in
     let knows = subst (λ l. Knows old reports l c.deref-2.result.now) ids_before (subst (Knows old reports c.args.self.now.ids) seen_before its) in
     let each = each_follows old checks sound follows in
+    let refs_before = ap (λ (i : Index). i.refs) (sym c.self.view_is) ∙ sym (c.deref-5.ensures.value ∙ ap (λ v. v.items) c.swap-3.ensures.y_after) in
+    let all = c.plan_gates.ensures.all (subst (λ (l : List SetRef). AreAsked zones c.args.whole l c.args.came.now) refs_before asked) in
     let are = subst (λ l. AreSeen reports l c.list_seen.new.into.items) list
     (c.list_seen.ensures.seen old reports knows (subst (EachFollows old) (sym list) each)) in
     stands zones checks c.plan_gates.new.refs.items c.plan_gates.new.seats.items c.plan_gates.new.plan c.lay_out.new.self
     c.list_ids.new.ids.items c.list_seen.new.into.items _ sound ids many
     c.plan_gates.ensures.built c.lay_out.ensures.fits c.lay_out.ensures.idle
     reports c.well_formed-2.ensures c.slots_apart.ensures c.requires.sound
-    (still_reports old.next checks.next reports follows.next knows.its_reports) are
+    (still_reports old.next checks.next reports follows.next knows.its_reports) all are
     (c.plan_gates.ensures.checks reports (subst (AreSeen reports checks.list) (sym c.deref-4.ensures.value) are))
     c.lay_out.ensures.meet
 
 pub returns-clause-first : goal.returns-clause-first
-returns-clause-first c none =
+returns-clause-first c none whole =
     let zones = c.args.zones.now.zones in
     let checks = c.args.checks.now.checks in
     let list = c.as_slice-list.ensures.checks in
@@ -145,6 +149,6 @@ returns-clause-first c none =
     stands zones checks c.plan_gates.new.refs.items c.plan_gates.new.seats.items c.plan_gates.new.plan c.lay_out.new.self
     c.list_ids.new.ids.items c.list_seen.new.into.items _ sound ids many
     c.plan_gates.ensures.built c.lay_out.ensures.fits c.lay_out.ensures.idle
-    [] c.well_formed-2.ensures c.slots_apart.ensures c.requires.sound tt are
+    [] c.well_formed-2.ensures c.slots_apart.ensures c.requires.sound tt (c.plan_gates.ensures.all (λ zone p here on. inl whole)) are
     (c.plan_gates.ensures.checks [] (subst (AreSeen [] checks.list) (sym c.deref-4.ensures.value) are))
     c.lay_out.ensures.meet

@@ -1,7 +1,9 @@
-use Rattle.std.proofs.Common.{List, ap, refl, sym, ◌∙◌}
+use Rattle.std.proofs.Common.{List, ap, false, refl, sym, ◌∙◌}
 use mathlib.Core.Path.{subst}
+use Rattle.health_planning.specs.Building.{AreAsked}
+use Rattle.health_planning.specs.SetRefRecord.{SetRef}
 use Rattle.health_planning.specs.declared.seats.Seat.{Seat}
-use Rattle.health_index.proofs.Staying.{leaves_follow, stands_with_gates}
+use Rattle.health_index.proofs.Staying.{asked_after, leaves_follow, stands_with_gates}
 use Rattle.health_index.specs.Index.{Index, StandsFor}
 use Rattle.health_index.specs.Leaving.{LeavesGates}
 use Rattle.health_index.proofs.index.HealthIndex.on_command.Goals as goal
@@ -17,5 +19,11 @@ returns-then-leaves_gates-clause-stands c before old reports stands leaves =
 
 pub returns-clause-stands : goal.returns-clause-stands
 returns-clause-stands c before old reports stands leaves =
+    let zones = c.args.zones.now.zones in
+    let checks = c.args.checks.now.checks in
+    let asked = asked_after before old zones checks reports c.args.self.now c.args.delta.now c.well_formed-2.ensures stands leaves in
+    let refs = ap (λ (i : Index). i.refs) (sym c.self.view_is) in
     c.lay.ensures.stands before old reports (subst (StandsFor before old reports) (sym c.self.view_is) stands)
-    (leaves_follow before old c.args.zones.now.zones c.args.checks.now.checks c.args.delta.now leaves)
+    (leaves_follow before old zones checks c.args.delta.now leaves)
+    (subst (λ (l : List SetRef). AreAsked zones false c.self.inside.refs.items l) (sym c.as_slice.ensures)
+    (subst (λ (l : List SetRef). AreAsked zones false l c.args.delta.now.added) refs asked))

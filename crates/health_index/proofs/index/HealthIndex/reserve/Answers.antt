@@ -14,6 +14,7 @@ invariant_of-self c =
       ids = now.ids;
       seen = now.seen;
       seats = slots.seats;
+      refs = slots.refs;
       values = λ gate. ap (λ v. value_in v gate) slots.values;
     }) slots.stays slots.meet slots.idle c.self.invariant
 
@@ -31,6 +32,7 @@ returns-clause-kept c n room =
       seen_before = omega (arith, old.seen_before, before.seen_kept);
       seats = omega (arith, old.seats, slots.seats_kept);
       refs = omega (arith, old.refs, slots.refs_kept);
+      refs_before = omega (arith, old.refs_before, slots.before_kept);
       shapes = omega (arith, old.shapes, slots.plan_kept);
       links = omega (arith, old.links, slots.links_kept);
       gates = slots.gates_kept _ _ old.gates;
@@ -44,5 +46,6 @@ returns-clause-stands c zones checks reports is =
       ids = now.ids;
       seen = now.seen;
       seats = slots.seats;
+      refs = slots.refs;
       values = λ gate. ap (λ v. value_in v gate) slots.values;
     }) slots.stays slots.meet slots.idle zones checks reports (subst (StandsFor zones checks reports) (sym c.self.view_is) is)
