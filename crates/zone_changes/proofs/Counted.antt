@@ -1,19 +1,20 @@
 -- What is counted of a zone's sets, where one comes or goes.
-use Rattle.std.proofs.Common.{◌≡◌, ℕ, ◌+◌, ◌%◌, ◌^◌, ◌<◌, List, Some, set, ap, ◌∙◌, sym, arith}
+use Rattle.std.proofs.Common.{◌≡◌, ℕ, ◌+◌, ◌%◌, ◌^◌, ◌<◌, List, Some, set, ap, ◌∙◌, arith}
 use Rattle.std.specs.Prelude.{slice_get}
 use Rattle.std.specs.List.{sum_by}
 use Rattle.zone_order.specs.Placed.{Placed, IsPut, IsTakenAt}
 use Rattle.zone_changes.specs.declared.sums.Sums.{Sums}
-use Rattle.zone_changes.specs.Sums.{AreSmall, aliases_in, labels_in, octets_in, plus, servers_in, sums_of}
+use Rattle.zone_changes.specs.Sums.{AreSmall, aliases_in, checked_in, labels_in, octets_in, plus, servers_in, sums_of}
 use Rattle.zone_changes.proofs.Cells.{sum_insert, sum_remove, sum_set}
 
-all_four : (x y : Sums) → x.octets ≡ y.octets → x.aliases ≡ y.aliases → x.servers ≡ y.servers
-    → x.labels ≡ y.labels → x ≡ y
-all_four x y octets aliases servers labels =
-    ap (λ (n : ℕ). record { octets = n; aliases = x.aliases; servers = x.servers; labels = x.labels }) octets
-    ∙ (ap (λ (n : ℕ). record { octets = y.octets; aliases = n; servers = x.servers; labels = x.labels }) aliases
-    ∙ (ap (λ (n : ℕ). record { octets = y.octets; aliases = y.aliases; servers = n; labels = x.labels }) servers
-    ∙ ap (λ (n : ℕ). record { octets = y.octets; aliases = y.aliases; servers = y.servers; labels = n }) labels))
+all_five : (x y : Sums) → x.octets ≡ y.octets → x.aliases ≡ y.aliases → x.servers ≡ y.servers
+    → x.labels ≡ y.labels → x.checked ≡ y.checked → x ≡ y
+all_five x y octets aliases servers labels checked =
+    ap (λ (n : ℕ). record { octets = n; aliases = x.aliases; servers = x.servers; labels = x.labels; checked = x.checked }) octets
+    ∙ (ap (λ (n : ℕ). record { octets = y.octets; aliases = n; servers = x.servers; labels = x.labels; checked = x.checked }) aliases
+    ∙ (ap (λ (n : ℕ). record { octets = y.octets; aliases = y.aliases; servers = n; labels = x.labels; checked = x.checked }) servers
+    ∙ (ap (λ (n : ℕ). record { octets = y.octets; aliases = y.aliases; servers = y.servers; labels = n; checked = x.checked }) labels
+    ∙ ap (λ (n : ℕ). record { octets = y.octets; aliases = y.aliases; servers = y.servers; labels = y.labels; checked = n }) checked)))
 
 more : (before after given counted : ℕ) → after ≡ before + given → counted ≡ (before % 2 ^ 64 + given) % 2 ^ 64
     → counted ≡ after % 2 ^ 64
@@ -33,7 +34,7 @@ pub put_sums : (before : List Placed) (given : Placed) (after : List Placed) →
     → (sums counted : Sums) → sums ≡ sums_of before → counted ≡ plus sums given → counted ≡ sums_of after
 put_sums before given after put sums counted so_far is =
     let now = is ∙ ap (λ s. plus s given) so_far in
-    all_four counted (sums_of after)
+    all_five counted (sums_of after)
     (more (sum_by octets_in before) (sum_by octets_in after) (octets_in given) counted.octets
     (ap (sum_by octets_in) put.inserted ∙ sum_insert octets_in before put.at given)
     (ap (λ (s : Sums). s.octets) now))
@@ -46,6 +47,9 @@ put_sums before given after put sums counted so_far is =
     (more (sum_by labels_in before) (sum_by labels_in after) (labels_in given) counted.labels
     (ap (sum_by labels_in) put.inserted ∙ sum_insert labels_in before put.at given)
     (ap (λ (s : Sums). s.labels) now))
+    (more (sum_by checked_in before) (sum_by checked_in after) (checked_in given) counted.checked
+    (ap (sum_by checked_in) put.inserted ∙ sum_insert checked_in before put.at given)
+    (ap (λ (s : Sums). s.checked) now))
 
 -- one comes in place of another
 pub replaced_sums : (before : List Placed) (given was : Placed) (after : List Placed) (at : ℕ)
@@ -54,7 +58,7 @@ pub replaced_sums : (before : List Placed) (given was : Placed) (after : List Pl
     → plus left was ≡ counted → left ≡ sums_of after
 replaced_sums before given was after at there replaced sums counted left so_far is small without =
     let now = is ∙ ap (λ s. plus s given) so_far in
-    all_four left (sums_of after)
+    all_five left (sums_of after)
     (swapped (sum_by octets_in before) (sum_by octets_in after) (octets_in given) (octets_in was) counted.octets left.octets
     (ap (λ ps. sum_by octets_in ps + octets_in was) replaced ∙ sum_set octets_in before at was given there)
     (ap (λ (s : Sums). s.octets) now) small.octets (ap (λ (s : Sums). s.octets) without))
@@ -67,6 +71,9 @@ replaced_sums before given was after at there replaced sums counted left so_far 
     (swapped (sum_by labels_in before) (sum_by labels_in after) (labels_in given) (labels_in was) counted.labels left.labels
     (ap (λ ps. sum_by labels_in ps + labels_in was) replaced ∙ sum_set labels_in before at was given there)
     (ap (λ (s : Sums). s.labels) now) small.labels (ap (λ (s : Sums). s.labels) without))
+    (swapped (sum_by checked_in before) (sum_by checked_in after) (checked_in given) (checked_in was) counted.checked left.checked
+    (ap (λ ps. sum_by checked_in ps + checked_in was) replaced ∙ sum_set checked_in before at was given there)
+    (ap (λ (s : Sums). s.checked) now) small.checked (ap (λ (s : Sums). s.checked) without))
 
 -- one goes
 pub taken_sums : (before : List Placed) (at slot : ℕ) (after : List Placed)
@@ -76,7 +83,7 @@ pub taken_sums : (before : List Placed) (at slot : ℕ) (after : List Placed)
 taken_sums before at slot after t sums left so_far small without =
     let was : Placed = record { slot = slot; set = t.set } in
     let now = without ∙ so_far in
-    all_four left (sums_of after)
+    all_five left (sums_of after)
     (fewer (sum_by octets_in before) (sum_by octets_in after) (octets_in was) left.octets
     (ap (λ ps. sum_by octets_in ps + octets_in was) t.removed ∙ sum_remove octets_in before at was t.there)
     small.octets (ap (λ (s : Sums). s.octets) now))
@@ -89,3 +96,6 @@ taken_sums before at slot after t sums left so_far small without =
     (fewer (sum_by labels_in before) (sum_by labels_in after) (labels_in was) left.labels
     (ap (λ ps. sum_by labels_in ps + labels_in was) t.removed ∙ sum_remove labels_in before at was t.there)
     small.labels (ap (λ (s : Sums). s.labels) now))
+    (fewer (sum_by checked_in before) (sum_by checked_in after) (checked_in was) left.checked
+    (ap (λ ps. sum_by checked_in ps + checked_in was) t.removed ∙ sum_remove checked_in before at was t.there)
+    small.checked (ap (λ (s : Sums). s.checked) now))

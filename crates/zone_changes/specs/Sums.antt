@@ -1,5 +1,5 @@
--- What is counted of sets: their octets, the aliases among them, the NS sets, and the labels of the
--- names of these.
+-- What is counted of sets: their octets, the aliases among them, the NS sets, the labels of the names
+-- of these, and the sets that name a check.
 use Rattle.std.specs.Prelude.{ℕ, ◌<◌, ◌+◌, ◌%◌, ◌^◌, List, Bool, true, false, is_some, length}
 use Rattle.std.specs.Option.{unwrap_or}
 use Rattle.std.specs.List.{sum_by}
@@ -25,6 +25,9 @@ servers_in placed = one_of (is_some (server_labels placed.set))
 abbrev pub labels_in : Placed → ℕ
 labels_in placed = unwrap_or (server_labels placed.set) 0
 
+abbrev pub checked_in : Placed → ℕ
+checked_in placed = one_of (is_some placed.set.check)
+
 -- how many octets the sets have
 abbrev pub octets_of : List Placed → ℕ
 octets_of placed = sum_by octets_in placed
@@ -41,6 +44,10 @@ servers_of placed = sum_by servers_in placed
 abbrev pub labels_of : List Placed → ℕ
 labels_of placed = sum_by labels_in placed
 
+-- how many of the sets name a check
+abbrev pub checked_of : List Placed → ℕ
+checked_of placed = sum_by checked_in placed
+
 -- all of them, as they are counted: modulo 2^64
 abbrev pub sums_of : List Placed → Sums
 sums_of placed = record {
@@ -48,6 +55,7 @@ sums_of placed = record {
   aliases = aliases_of placed % 2 ^ 64;
   servers = servers_of placed % 2 ^ 64;
   labels = labels_of placed % 2 ^ 64;
+  checked = checked_of placed % 2 ^ 64;
 }
 
 -- with one more set
@@ -57,11 +65,13 @@ plus sums placed = record {
   aliases = (sums.aliases + aliases_in placed) % 2 ^ 64;
   servers = (sums.servers + servers_in placed) % 2 ^ 64;
   labels = (sums.labels + labels_in placed) % 2 ^ 64;
+  checked = (sums.checked + checked_in placed) % 2 ^ 64;
 }
 
--- all four are below 2^64
+-- all are below 2^64
 pub record AreSmall (sums : Sums) : Type 0 where
   pub octets : sums.octets < 2 ^ 64
   pub aliases : sums.aliases < 2 ^ 64
   pub servers : sums.servers < 2 ^ 64
   pub labels : sums.labels < 2 ^ 64
+  pub checked : sums.checked < 2 ^ 64

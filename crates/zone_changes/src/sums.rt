@@ -2,24 +2,26 @@
 //!
 //! The counts are kept modulo 2^64, so that no call asks for a bound.
 
-ghost use Rattle.std.specs.Prelude.{◌≡◌, ◌<◌, [], length, slice_get, Some};
-ghost use Rattle.zone_changes.specs.Sums.{AreSmall, aliases_in, octets_in, one_of, plus, sums_of};
+ghost use Rattle.std.specs.Prelude.{◌≡◌, ◌<◌, [], is_some, length, slice_get, Some};
+ghost use Rattle.zone_changes.specs.Sums.{AreSmall, aliases_in, checked_in, octets_in, one_of};
+ghost use Rattle.zone_changes.specs.Sums.{plus, sums_of};
 ghost use Rattle.zone_order.specs.Placed.{Placed};
 ghost use Rattle.zone_order.specs.Orders.{IsOrder, placed_of};
 ghost use Rattle.zone_order.specs.Servers.{server_labels};
 
 use zone_order::{Body, RType, RecordSet, SetStore};
 
-/// How many octets sets have, how many of them are aliases, how many are NS sets, and how many
-/// labels the names of these have in all, each modulo 2^64.
+/// How many octets sets have, how many of them are aliases, how many are NS sets, how many labels
+/// the names of these have in all, and how many sets name a check, each modulo 2^64.
 ///
-/// The last two tell whether all NS sets stand at one name, of which all other names are below.
+/// The NS sets and their labels tell whether all NS sets stand at one name, of which all other names are below.
 #[derive(Clone, Copy)]
 pub struct Sums {
     pub octets: u64,
     pub aliases: u64,
     pub servers: u64,
     pub labels: u64,
+    pub checked: u64,
 }
 
 /// The sums of no sets.
@@ -31,6 +33,7 @@ pub fn no_sums() -> Sums
         aliases: 0,
         servers: 0,
         labels: 0,
+        checked: 0,
     }
 }
 
@@ -45,6 +48,7 @@ pub(crate) fn with_set(sums: Sums, octets: usize, set: &RecordSet) -> Sums
         aliases: sums.aliases.wrapping_add(u64::from(is_alias(set))),
         servers: sums.servers.wrapping_add(u64::from(labels.is_some())),
         labels: sums.labels.wrapping_add(labels.unwrap_or(0) as u64),
+        checked: sums.checked.wrapping_add(u64::from(names_check(set))),
     }
 }
 
@@ -56,6 +60,13 @@ fn is_alias(set: &RecordSet) -> bool
         Body::Alias { .. } => true,
         Body::Values { .. } => false,
     }
+}
+
+/// Whether a set names a check.
+fn names_check(set: &RecordSet) -> bool
+    ensures { (given : Placed) → given.set ≡ set.now → one_of result ≡ checked_in given }
+{
+    set.check.is_some()
 }
 
 /// How many labels the name of an NS set has.
@@ -89,6 +100,7 @@ pub(crate) fn without_at(
         store.size(slot),
         store.is_alias(slot),
         store.server_labels(slot),
+        store.watch(slot).check.is_some(),
     )
 }
 
@@ -100,10 +112,18 @@ fn slot_at(order: &Vec<u32>, place: usize) -> u32
     order[place]
 }
 
-/// The sums without a set of so many octets, which is an NS set where labels are told.
-fn without(sums: Sums, octets: usize, alias: bool, labels: Option<usize>) -> Sums
+/// The sums without a set of so many octets, which is an alias or not, an NS set where labels are
+/// told, and names a check or not.
+fn without(
+    sums: Sums,
+    octets: usize,
+    alias: bool,
+    labels: Option<usize>,
+    checked: bool,
+) -> Sums
     ensures without { (was : Placed) → octets ≡ octets_in was → one_of alias ≡ aliases_in was
-        → labels ≡ server_labels was.set → plus result was ≡ sums }
+        → labels ≡ server_labels was.set → checked ≡ is_some was.set.check
+        → plus result was ≡ sums }
     ensures small { AreSmall result }
 {
     Sums {
@@ -111,5 +131,6 @@ fn without(sums: Sums, octets: usize, alias: bool, labels: Option<usize>) -> Sum
         aliases: sums.aliases.wrapping_sub(u64::from(alias)),
         servers: sums.servers.wrapping_sub(u64::from(labels.is_some())),
         labels: sums.labels.wrapping_sub(labels.unwrap_or(0) as u64),
+        checked: sums.checked.wrapping_sub(u64::from(checked)),
     }
 }
