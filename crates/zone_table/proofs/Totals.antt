@@ -1,6 +1,6 @@
 -- What is counted of all zones, kept by edits, and what it tells.
 use Rattle.std.proofs.Common.{◌≡◌, ◌≤◌, ◌<◌, ◌+◌, ◌-◌, ◌*◌, ◌%◌, ◌^◌, ℕ, List, [], ◌∷◌, length, map, set, ap, ◌∙◌, sym, refl, Option, Some, Bool, true, false, cond, arith}
-use Rattle.std.specs.Prelude.{◌==◌, slice_get}
+use Rattle.std.specs.Prelude.{◌==◌, is_some, slice_get}
 use Rattle.std.specs.List.{AllByRecursion, insert, remove, sum_by}
 use Rattle.std.proofs.lemmas.List.{length-map}
 use Rattle.std.proofs.lemmas.List.Sums.{sum_by-cons}
@@ -8,7 +8,7 @@ use Rattle.zone_list.specs.Telling.{is_alias}
 use Rattle.zone_list.specs.Stored.{Kept, Store}
 use Rattle.zone_list.proofs.Cells.{sum_insert, sum_remove, sum_set}
 use Rattle.zone_list.specs.SumsRecord.{Sums}
-use Rattle.zone_list.specs.Sums.{aliases_in, aliases_of, octets_in, octets_of, one_of}
+use Rattle.zone_list.specs.Sums.{aliases_in, aliases_of, checked_in, checked_of, octets_in, octets_of, one_of}
 use Rattle.zone_list.specs.Placed.{Placed}
 use Rattle.zone_list.specs.Orders.{placed_at, placed_of, set_in}
 use Rattle.zone_list.specs.Kept.{AreKept, Listed, Stands, zone_in, zones_in}
@@ -101,6 +101,14 @@ few_aliases (p ∷ placed) =
     let one = one_at_most (is_alias p.set.body) in
     let rest = few_aliases placed in
     let sum = sum_by-cons aliases_in p placed in
+    omega (arith, one, rest, sum)
+
+few_checked : (placed : List Placed) → checked_of placed ≤ length placed
+few_checked [] = omega arith
+few_checked (p ∷ placed) =
+    let one = one_at_most (is_some p.set.check) in
+    let rest = few_checked placed in
+    let sum = sum_by-cons checked_in p placed in
     omega (arith, one, rest, sum)
 
 abbrev in_zone : Zone → ℕ
@@ -234,5 +242,12 @@ module _ (store : Store) (list : List Listed) (octets : ℕ) (kept : AreKept sto
       ≡ aliases_of (placed_in (zones_in store.slots list) id)
   zone_aliases id =
       let bound = few_aliases (placed_in (zones_in store.slots list) id) in
+      let many = few_in id in
+      omega (arith, bound, many)
+
+  pub zone_checked : (id : ℕ) → checked_of (placed_in (zones_in store.slots list) id) % 2 ^ 64
+      ≡ checked_of (placed_in (zones_in store.slots list) id)
+  zone_checked id =
+      let bound = few_checked (placed_in (zones_in store.slots list) id) in
       let many = few_in id in
       omega (arith, bound, many)

@@ -4,7 +4,7 @@ ghost use Rattle.std.specs.Prelude.{◌≡◌, ◌≢◌, ◌≤◌, ◌<◌, �
 ghost use Rattle.std.specs.Prelude.{IfOk, IsTrue, ◌↔◌, false};
 ghost use Rattle.zone_list.specs.Existing.{Exists, IsAncestor, IsClosest};
 ghost use Rattle.zone_list.specs.Placed.{sets_of};
-ghost use Rattle.zone_list.specs.Sums.{aliases_of, octets_of};
+ghost use Rattle.zone_list.specs.Sums.{aliases_of, checked_of, octets_of};
 ghost use Rattle.zone_list.specs.Found.{NextZoneOrNone};
 ghost use Rattle.zone_list.specs.Zones.{AreZones, IsZoneId, placed_in};
 ghost use Rattle.zone_table.specs.Counted.{octets_in_all, sets_in_all};
@@ -162,6 +162,14 @@ impl Zones {
     {
         self.store.slots();
         sums_in(&self.store, &self.list, zone).aliases as usize
+    }
+
+    /// How many sets of a zone name a health check.
+    pub fn checked(&self, zone: u32) -> usize
+        ensures { result ≡ checked_of (placed_in self.now.zones zone) }
+    {
+        self.store.slots();
+        sums_in(&self.store, &self.list, zone).checked as usize
     }
 
     /// Whether a zone may have NS sets below its apex, which is this name. `false` is told only
