@@ -114,13 +114,7 @@ fn slot_at(order: &Vec<u32>, place: usize) -> u32
 
 /// The sums without a set of so many octets, which is an alias or not, an NS set where labels are
 /// told, and names a check or not.
-fn without(
-    sums: Sums,
-    octets: usize,
-    alias: bool,
-    labels: Option<usize>,
-    checked: bool,
-) -> Sums
+fn without(sums: Sums, octets: usize, alias: bool, labels: Option<usize>, checked: bool) -> Sums
     ensures without { (was : Placed) → octets ≡ octets_in was → one_of alias ≡ aliases_in was
         → labels ≡ server_labels was.set → checked ≡ is_some was.set.check
         → plus result was ≡ sums }
