@@ -1,6 +1,6 @@
 //! A set in pieces: what stands before its values, each value, and what stands behind them.
 
-ghost use Rattle.std.specs.Prelude.{◌≡◌, ◌+◌, ◌≤◌, ◌++◌, IfSome, Some, nat_lt, slice_get};
+ghost use Rattle.std.specs.Prelude.{◌≡◌, ◌+◌, ◌≤◌, ◌++◌, IfSome, IsTrue, None, Some, nat_lt, slice_get};
 ghost use Rattle.std.specs.Prelude.{vec_capacity, vec_len};
 ghost use Rattle.json.specs.Print.{quoted};
 ghost use Rattle.line_faults.specs.Texts.{text_of};
@@ -12,8 +12,11 @@ ghost use Rattle.list_writing.specs.Pieces.{alias_data, alias_object, check_data
 ghost use Rattle.list_writing.specs.Pieces.{led, list_closing, list_opening, rest_text};
 ghost use Rattle.list_writing.specs.Pieces.{set_front, set_rest, trailed, ttl_data, value_piece};
 ghost use Rattle.serde_json.specs.Written.{compact_text};
-ghost use Rattle.set_scratch.specs.Bodies.{wires_of};
+ghost use Rattle.record_set.specs.declared.sets.RecordSet.{RecordSet};
+ghost use Rattle.routing.specs.declared.policies.Routing.TheVariants as policy;
+ghost use Rattle.set_scratch.specs.Bodies.{alias_of, wires_of};
 ghost use Rattle.set_scratch.specs.Holding.{HasValue, IsHolding};
+ghost use Rattle.set_scratch.specs.Spelling.{IsPart, from_policy};
 
 use crate::policies::{put_early, put_ident_of, put_latency, put_multivalue, put_weighted};
 use dns_name::Name;
@@ -54,10 +57,14 @@ pub fn begin_set(later: bool, zone: u32, scratch: &Scratch, into: &mut Vec<u8>)
     ensures len { vec_len into.new ≤ vec_len into.old + MOST_OF_SET }
     ensures room { vec_capacity into.old ≤ vec_capacity into.new }
 {
-    let alias = scratch.alias();
-    let policy = scratch.routing();
     let check = scratch.check();
     let name = scratch.name();
+    if is_plain(scratch.policy()) {
+        put_front(later, zone, &None, &Routing::Simple, check, &name, into);
+        return;
+    }
+    let alias = scratch.alias();
+    let policy = scratch.routing();
     put_front(later, zone, &alias, &policy, check, &name, into);
 }
 
@@ -83,11 +90,24 @@ pub fn end_set(scratch: &Scratch, into: &mut Vec<u8>)
     ensures len { vec_len into.new ≤ vec_len into.old + MOST_OF_SET }
     ensures room { vec_capacity into.old ≤ vec_capacity into.new }
 {
-    let alias = scratch.alias();
-    let policy = scratch.routing();
     let ttl = scratch.ttl();
     let rtype = scratch.rtype();
+    if is_plain(scratch.policy()) {
+        put_rest(&None, &Routing::Simple, ttl, rtype, into);
+        return;
+    }
+    let alias = scratch.alias();
+    let policy = scratch.routing();
     put_rest(&alias, &policy, ttl, rtype, into);
+}
+
+/// Whether a set has the simple policy and is no alias, by its octets from the policy on: of most
+/// sets neither has to be copied then.
+fn is_plain(octets: &[u8]) -> bool
+    ensures { (set : RecordSet) → IsPart octets.now (from_policy set) set → IsTrue result
+        → (set.routing ≡ policy.Simple) × (alias_of set.body ≡ None) }
+{
+    matches!(octets, [0, 0, ..])
 }
 
 /// Appends what stands before the values of a set.
