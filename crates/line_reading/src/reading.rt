@@ -14,6 +14,9 @@ use line_faults::{LineFault, LineReason, Member};
 use serde_json::{Map, Value};
 use std::alloc::Global;
 
+/// For how many items of a list room is made before the first is read. A longer list grows.
+const FIRST_ROOM: usize = 1000;
+
 /// Tests that the value of the member `holder` is an object, with members of these names alone.
 ///
 /// Of its unsupported members the first in the order given is told, before unknown members are.
@@ -101,7 +104,7 @@ pub fn each<T: Drop, F: Fn(u16, &Value) -> Result<T, LineFault>>(
         → ReadsAs (λ v. v.items) result (each reads 0 (items_view items.now)) }
     ensures size { IfOk result (λ v. length v.items ≡ length items.now) }
 {
-    let mut list = Vec::new(alloc);
+    let mut list = Vec::with_capacity(alloc, items.len().min(FIRST_ROOM))?;
     for (index, item) in items.iter().enumerate() {
         match read(index as u16, item) {
             Ok(x) => list.push(x)?,
