@@ -157,5 +157,8 @@ fn has_key<S: SetList>(sets: &S, place: usize, key: &SetKey) -> bool
     if place >= sets.count() {
         return false;
     }
+    if !sets.is_of(place, &key.name, key.rtype) {
+        return false;
+    }
     sets.is_before(place, &behind_key(key))
 }
