@@ -126,10 +126,7 @@ impl SetStore {
         requires { IsTaken self.now.slots slot }
     {
         written_reads_back();
-        if size_at(&self.region, &self.slots, slot) <= SHORT {
-            return front_hash(head_at(&self.region, &self.slots, slot, &mut [0; 64]));
-        }
-        front_hash(head_at(&self.region, &self.slots, slot, &mut [0; 387]))
+        name_hash_at(&self.region, &self.slots, slot)
     }
 
     /// How many octets the set of a slot has.
@@ -189,6 +186,24 @@ impl SetStore {
         let octets = octets_at(alloc, &self.region, &self.slots, slot)?;
         set_of(alloc, &octets)
     }
+}
+
+/// A hash of the name of a slot's set, which mostly stands where its first octets do.
+fn name_hash_at(region: &Region, slots: &Vec<Slot>, slot: u32) -> u64
+    requires { (octets : List ℕ) × HoldsAt region.now.held slots.now.items slot octets }
+{
+    let (name, rest) = name_and_rest(front_at(region, slots, slot));
+    if rest.len() > 0 {
+        return hash_of(name);
+    }
+    long_name_hash(region, slots, slot)
+}
+
+/// The same of a name of any length.
+fn long_name_hash(region: &Region, slots: &Vec<Slot>, slot: u32) -> u64
+    requires { (octets : List ℕ) × HoldsAt region.now.held slots.now.items slot octets }
+{
+    front_hash(head_at(region, slots, slot, &mut [0; 387]))
 }
 
 /// A hash of the name with which octets begin.

@@ -13,13 +13,15 @@ ghost use Rattle.zone_list.specs.Steps.{cells_in_all, Comings, FoundBetween};
 ghost use Rattle.zone_list.specs.Steps.{Leaves, Leavings, PlaceOrNone};
 ghost use Rattle.zone_changes.specs.Orders.{IsOrder, OthersStay, placed_of};
 
+use crate::hints::Hints;
 use crate::refs::SetRef;
 use zone_changes::{
     RecordSet, SetKey, SetStore, Sums, come, go, key_cmp, keys_are_ordered, of_zone, take_at,
 };
 
-/// These sets come into a zone, and their references are told. The hint is where the first of them
-/// may stand; where they come in zone order, each other one is looked for behind the one before.
+/// These sets come into a zone, and their references are told. Hints tell where the first of them
+/// may stand, and are told where each does; where they come in zone order, each other one is looked
+/// for behind the one before.
 pub fn come_all(
     store: &mut SetStore,
     zone: u32,
@@ -28,7 +30,7 @@ pub fn come_all(
     buffer: &mut [u8],
     added: &mut Vec<SetRef>,
     sums: &mut Sums,
-    near: Option<usize>,
+    hints: &mut Hints,
 )
     requires order { IsOrder store.old.slots zone order.old.items }
     requires spelled { AllByRecursion HasSpelling add.now }
@@ -48,11 +50,34 @@ pub fn come_all(
     ensures sets { store.new.free + length order.new.items
         ≡ store.old.free + length order.old.items }
 {
-    let mut hint = near;
+    let mut near = place_of_first(hints, add);
     for set in add {
-        let slot = come(store, zone, order, set, buffer, sums, &mut hint);
+        let before = order.len();
+        let slot = come(store, zone, order, set, buffer, sums, &mut near);
         of_zone(store, zone, order);
         added.push_reserved(SetRef { zone, slot });
+        if order.len() > before {
+            note(hints, set, near, order.len());
+        }
+    }
+}
+
+/// A place at which the first of these sets may stand: a hint, which may be wrong.
+fn place_of_first(hints: &Hints, sets: &[RecordSet]) -> Option<usize> {
+    match sets.first() {
+        Some(set) => hints.find(set.name.octets()),
+        None => None,
+    }
+}
+
+/// Tells hints of a set that came in front of a place, among so many sets.
+fn note(hints: &mut Hints, set: &RecordSet, behind: Option<usize>, count: usize) {
+    if let Some(next) = behind {
+        hints.came(
+            set.name.octets(),
+            next.saturating_sub(1),
+            count.saturating_sub(next),
+        );
     }
 }
 

@@ -1,7 +1,8 @@
 //! Where the sets of a name may stand, told by a hash of the name.
 //!
 //! A hint is tried and never trusted: no contract speaks of what the table holds, so nothing has to
-//! be mended where sets come and go. It is made anew once enough of them did.
+//! be mended where sets come and go. A name that comes is entered at its place, and the table is
+//! made anew once entries are wrong by too much.
 
 ghost use Rattle.zone_changes.specs.Orders.{IsOrder};
 
@@ -18,7 +19,7 @@ const TRIES: usize = 8;
 #[derive(Drop)]
 pub struct Hints {
     entries: Vec<u32>,
-    /// How many sets came or went since the table was made.
+    /// By how many places sets moved since the table was made, all of them together.
     moved: usize,
 }
 
@@ -67,19 +68,42 @@ impl Hints {
                 return;
             }
         }
-        self.moved = usize::MAX;
+        if size > 0 {
+            self.moved = usize::MAX;
+        }
     }
 
-    /// Tells that so many sets came or went, and makes the table anew where these are many.
-    pub fn refresh(&mut self, store: &SetStore, zone: u32, order: &[u32], moved: usize)
+    /// Tells that a set came to a place, and how many stand behind it now. Its name is entered,
+    /// unless the table has to be made anew.
+    pub fn came(&mut self, name: &[u8], place: usize, behind: usize) {
+        self.moved = self.moved.saturating_add(behind);
+        if !self.is_old(place.saturating_add(behind)) {
+            put(
+                &mut self.entries,
+                hash_of(name),
+                (place % 0x100_0000) as u32,
+            );
+        }
+    }
+
+    /// Tells that so many sets went, and makes the table anew where its entries are wrong by too
+    /// much.
+    pub fn refresh(&mut self, store: &SetStore, zone: u32, order: &[u32], gone: usize)
         requires { IsOrder store.now.slots zone order.now }
     {
-        self.moved = self.moved.saturating_add(moved);
-        if self.moved > order.len() / 16 {
+        self.moved = self
+            .moved
+            .saturating_add(gone.saturating_mul(order.len() / 2));
+        if self.is_old(order.len()) {
             clear(&mut self.entries);
             fill(&mut self.entries, store, zone, order);
             self.moved = 0;
         }
+    }
+
+    /// Whether so many sets moved by too much: in the mean by more than a thirty-second of them.
+    fn is_old(&self, sets: usize) -> bool {
+        self.moved / sets.max(1) > sets / 32
     }
 
     /// Tells that the name of a zone came or went, and makes the table anew where these are many.

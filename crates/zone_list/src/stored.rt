@@ -149,8 +149,6 @@ impl StoredZone {
         ensures sets { store.new.free + length self.new.order
             ≡ store.old.free + length self.old.order }
     {
-        let before = self.order.len();
-        let near = place_of_first(&self.hints, add);
         come_all(
             store,
             self.id,
@@ -159,9 +157,9 @@ impl StoredZone {
             buffer,
             added,
             &mut self.sums,
-            near,
+            &mut self.hints,
         );
-        let middle = self.order.len();
+        let before = self.order.len();
         leave_all(
             store,
             self.id,
@@ -172,10 +170,8 @@ impl StoredZone {
             removed,
             &mut self.sums,
         );
-        let came = middle.wrapping_sub(before);
-        let gone = middle.wrapping_sub(self.order.len());
-        self.hints
-            .refresh(store, self.id, &self.order, came.wrapping_add(gone));
+        let gone = before.wrapping_sub(self.order.len());
+        self.hints.refresh(store, self.id, &self.order, gone);
     }
 
     /// The zone goes, with all its sets. Their references are told, in zone order.
@@ -192,13 +188,5 @@ impl StoredZone {
     {
         tell_all(store, &self.order, self.id, removed);
         clear(store, self.id, &mut self.order);
-    }
-}
-
-/// A place at which the first of these sets may stand: a hint, which may be wrong.
-fn place_of_first(hints: &Hints, sets: &[RecordSet]) -> Option<usize> {
-    match sets.first() {
-        Some(set) => hints.find(set.name.octets()),
-        None => None,
     }
 }

@@ -3,26 +3,8 @@ use Rattle.set_store.specs.Stored.{IsKept, Store}
 use Rattle.set_store.proofs.Reading.{found}
 use Rattle.set_store.proofs.store.SetStore.name_hash.Goals as goal
 
-pub size_at-requires : goal.size_at-requires
-size_at-requires c =
-    let kept = c.requires in
-    let f = found c.self.inside.region.held c.self.inside.slots.items c.self.inside.free c.self.inside.spare
-    c.self.invariant
-    c.written_reads_back.ensures c.args.slot kept.0 (subst (λ
-    (s : Store). IsKept s.slots c.args.slot kept.0) (sym c.self.view_is) kept.1) in
-    (f.octets, f.there)
-
-pub head_at-requires : goal.head_at-requires
-head_at-requires c =
-    let kept = c.requires in
-    let f = found c.self.inside.region.held c.self.inside.slots.items c.self.inside.free c.self.inside.spare
-    c.self.invariant
-    c.written_reads_back.ensures c.args.slot kept.0 (subst (λ
-    (s : Store). IsKept s.slots c.args.slot kept.0) (sym c.self.view_is) kept.1) in
-    (f.octets, f.there)
-
-pub head_at-requires-2 : goal.head_at-requires-2
-head_at-requires-2 c =
+pub name_hash_at-requires : goal.name_hash_at-requires
+name_hash_at-requires c =
     let kept = c.requires in
     let f = found c.self.inside.region.held c.self.inside.slots.items c.self.inside.free c.self.inside.spare
     c.self.invariant
