@@ -41,10 +41,14 @@ fn are_rising(sets: &[RecordSet]) -> bool
     true
 }
 
-/// Whether a set's key comes before that of another.
+/// Whether a set's key comes before that of another, which mostly their names tell.
 fn is_before(set: &RecordSet, other: &RecordSet) -> bool
     ensures { IsTrue result ↔ (key_cmp (key_of set.now) (key_of other.now) ≡ Less) }
 {
+    let order = set.name.cmp(&other.name);
+    if order.is_ne() {
+        return order.is_lt();
+    }
     key_cmp(&set.key(), &other.key()).is_lt()
 }
 
