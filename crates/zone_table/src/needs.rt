@@ -65,7 +65,7 @@ fn need_to_add(removable: usize, add: &Sets, places: usize) -> Result<Need, OutO
     ensures buffer { IfOk result (λ need.
         AllByRecursion (λ set. length (set_octets set) ≤ need.buffer) add.now) }
 {
-    let Some(cells) = cells_in_all(add.as_slice()) else {
+    let Some((cells, longest)) = sizes_of(add.as_slice()) else {
         return Err(OutOfMemory);
     };
     Ok(Need {
@@ -73,35 +73,29 @@ fn need_to_add(removable: usize, add: &Sets, places: usize) -> Result<Need, OutO
         addable: add.len(),
         places,
         cells,
-        buffer: longest(add.as_slice()),
+        buffer: longest,
     })
 }
 
-/// How many cells the octets of the sets take, where a number can tell it.
-fn cells_in_all(add: &[RecordSet]) -> Option<usize>
+/// How many cells the octets of the sets take, where a number can tell it, and how many octets the
+/// longest of them has.
+fn sizes_of(add: &[RecordSet]) -> Option<(usize, usize)>
     requires { AllByRecursion HasSpelling add.now }
-    ensures { IfSome result (λ cells. cells ≡ cells_in_all add.now) }
+    ensures cells { IfSome result (λ sizes. sizes.0 ≡ cells_in_all add.now) }
+    ensures longest { IfSome result (λ sizes.
+        AllByRecursion (λ set. length (set_octets set) ≤ sizes.1) add.now) }
 {
     let mut cells: usize = 0;
+    let mut most = 0;
     for set in add {
-        let Some(more) = cells.checked_add(cells_for(set_len(set))) else {
+        let len = set_len(set);
+        let Some(more) = cells.checked_add(cells_for(len)) else {
             return None;
         };
         cells = more;
+        most = len.max(most);
     }
-    Some(cells)
-}
-
-/// How many octets the longest of the sets has.
-fn longest(add: &[RecordSet]) -> usize
-    requires { AllByRecursion HasSpelling add.now }
-    ensures { AllByRecursion (λ set. length (set_octets set) ≤ result) add.now }
-{
-    let mut most = 0;
-    for set in add {
-        most = set_len(set).max(most);
-    }
-    most
+    Some((cells, most))
 }
 
 /// How many sets a zone has.

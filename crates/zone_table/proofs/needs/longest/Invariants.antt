@@ -1,7 +1,0 @@
-use Rattle.std.proofs.Common.{◌≤◌, length, take}
-use Rattle.std.specs.List.{AllByRecursion}
-use Rattle.zone_list.specs.Octets.{set_octets}
-use Rattle.zone_table.proofs.needs.longest.Given as goal
-
-abbrev pub invariant-loop-set : goal.invariant-loop-set
-invariant-loop-set l = AllByRecursion (λ set. length (set_octets set) ≤ l.most) (take l.set-index l.add)
