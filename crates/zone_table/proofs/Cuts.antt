@@ -1,5 +1,5 @@
 -- The NS sets of a zone, told by how many they are and how many labels their names have together.
-use Rattle.std.proofs.Common.{◌≡◌, ◌≤◌, ◌<◌, ◌+◌, ◌*◌, ◌%◌, ◌^◌, ℕ, List, [], ◌∷◌, ◌++◌, length, ap, ◌∙◌, sym, refl, Option, None, Some, Bool, true, false, cond, subst, arith, inl, inr}
+use Rattle.std.proofs.Common.{◌≡◌, ◌≤◌, ◌<◌, ◌+◌, ◌*◌, ◌%◌, ◌^◌, ℕ, List, [], ◌∷◌, ◌++◌, length, ap, ◌∙◌, sym, None, Some, Bool, true, false, cond, subst, arith, inl, inr}
 use Rattle.std.specs.Prelude.{◌==◌, is_some}
 use Rattle.std.specs.Option.{unwrap_or}
 use Rattle.std.specs.List.{AllByRecursion, flat_map, sum_by}
@@ -13,7 +13,7 @@ use Rattle.zone_list.specs.RTypeRecord.TheVariants as rtype
 use Rattle.zone_list.specs.RecordSetRecord.{RecordSet}
 use Rattle.zone_list.specs.Octets.{body_octets, check_octets, routing_octets, set_octets}
 use Rattle.octets.specs.Numbers.{two_octets}
-use Rattle.zone_list.specs.Sums.{labels_in, labels_of, octets_in, one_of, servers_in, servers_of}
+use Rattle.zone_list.specs.Sums.{labels_in, labels_of, one_of, servers_in, servers_of}
 use Rattle.zone_list.specs.Placed.{Placed, sets_of}
 use Rattle.zone_list.specs.Sets.{IsAmong}
 use Rattle.zone_list.specs.SumsRecord.{Sums}

@@ -1,4 +1,4 @@
-use Rattle.std.proofs.Common.{◌≡◌, ◌<◌, ◌^◌, List, length, subst, sym, arith}
+use Rattle.std.proofs.Common.{List, subst, sym, arith}
 use Rattle.zone_list.specs.Kept.{Listed, zones_in}
 use Rattle.zone_table.specs.Counted.{AreCounted}
 use Rattle.zone_table.specs.Looking.{ServersAreAt}
