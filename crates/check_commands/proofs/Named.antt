@@ -1,9 +1,9 @@
 -- Sets that name a check, looked at one after another.
-use Rattle.std.proofs.Common.{◌≡◌, ℕ, ◌+◌, ◌<◌, Bool, true, false, List, [], ◌∷◌, ◌++◌, length, drop}
-use Rattle.std.proofs.Common.{ap, ◌∙◌, sym, refl, arith, None, Some}
-use Rattle.std.specs.Prelude.{slice_get, ◌||◌}
-use Rattle.std.specs.List.{list_any}
-use Rattle.std.proofs.lemmas.List.{length-map}
+use Rattle.std.proofs.Common.{◌≡◌, ℕ, Bool, true, false, List, [], ◌∷◌}
+use Rattle.std.proofs.Common.{ap, ◌∙◌, sym, refl, arith, None, Option, Some}
+use Rattle.std.specs.Prelude.{is_some, ◌||◌}
+use Rattle.std.proofs.lemmas.List.Sums.{sum_by-cons}
+use Rattle.config_edits.specs.Sums.{checked_in, checked_of, one_of}
 use Rattle.std.proofs.lemmas.List.Folds.{list_any-append}
 use Rattle.config_zones.specs.Edited.{hosted_in}
 use Rattle.config_zones.specs.Configs.{all_sets}
@@ -11,13 +11,31 @@ use Rattle.config_zones.specs.Others.{is_check_named, is_number}
 use Rattle.config_zones.specs.Laws.{ZonesFollow}
 use Rattle.config_zones.specs.Walks.{above}
 use Rattle.record_set.specs.declared.sets.RecordSet.{RecordSet}
-use Rattle.config_zones.proofs.MembersOfZoneList.{filled, left_at, nothing_left}
 use Rattle.config_zones.specs.Found.{IsNextZone, NextZoneOrNone}
 use Rattle.config_zones.specs.Zones.{AreZones, Zone, placed_in}
 use Rattle.zone_model.specs.Placed.{Placed, sets_of}
 
 abbrev pub names : ℕ → RecordSet → Bool
 names id set = is_number id set.check
+
+-- ---- sets of which none names a check
+
+pub none_names : (id : ℕ) (placed : List Placed) → checked_of placed ≡ 0
+    → false ≡ is_check_named id (sets_of placed)
+none_names id [] none = refl
+none_names id (p ∷ placed) none =
+    let sum = sum_by-cons checked_in p placed in
+    let rest = none_names id placed (omega (arith, sum, none)) in
+    by p.set.check refl rest (omega (arith, sum, none))
+  where
+    by : (check : Option ℕ) → p.set.check ≡ check
+        → false ≡ is_check_named id (sets_of placed) → checked_in p ≡ 0
+        → false ≡ is_check_named id (sets_of (p ∷ placed))
+    by None is rest zero =
+        rest ∙ ap (λ (o : Option ℕ). is_number id o || is_check_named id (sets_of placed)) (sym is)
+    by (Some other) is rest zero =
+        let one : checked_in p ≡ 1 = ap (λ (o : Option ℕ). one_of (is_some o)) is in
+        absurd (omega (arith, one, zero))
 
 -- ---- the sets of all zones
 

@@ -25,10 +25,13 @@ pub fn is_check_named(zones: &Zones, id: u32) -> bool
     false
 }
 
-/// Whether a set of this zone names it.
+/// Whether a set of this zone names it. A zone of which no set names a check isn't gone through.
 fn is_named_in(zones: &Zones, zone: u32, id: u32) -> bool
     ensures { result ≡ is_check_named id (sets_of (placed_in zones.now.zones zone)) }
 {
+    if zones.checked(zone) == 0 {
+        return false;
+    }
     for i in 0..zones.count(zone) {
         if is_number(check_at(zones, zone, i), id) {
             return true;

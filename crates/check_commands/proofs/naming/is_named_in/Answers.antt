@@ -3,8 +3,13 @@ use Rattle.config_zones.specs.Others.{is_number}
 use Rattle.config_zones.proofs.Rest.{as_many, none_left, not_this, set_at, this_one}
 use Rattle.config_zones.specs.Zones.{placed_in}
 use Rattle.zone_model.specs.Placed.{sets_of}
-use Rattle.check_commands.proofs.Named.{names}
+use Rattle.check_commands.proofs.Named.{names, none_names}
 use Rattle.check_commands.proofs.naming.is_named_in.Goals as goal
+
+pub returns-then-checked-eq0 : goal.returns-then-checked-eq0
+returns-then-checked-eq0 c =
+    none_names c.args.id (placed_in c.args.zones.now.zones c.args.zone)
+    (sym c.checked.ensures ∙ c.if-checked-eq0.true)
 
 pub returns-then-is_number : goal.returns-then-is_number
 returns-then-is_number c =
