@@ -8,8 +8,10 @@ mod edns;
 #[cfg(test)]
 mod faults;
 #[cfg(test)]
-mod network;
+mod lines;
 #[cfg(test)]
 mod once;
+#[cfg(test)]
+mod serving;
 #[cfg(test)]
 mod stores;
