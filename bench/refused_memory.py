@@ -2,11 +2,13 @@
 """Refuses each growth of memory of the built program in turn, over its whole run: a line that finds none is answered so, and leaves the
 answers to the lines behind it as they are without it.
 
-    python3 bench/refused_memory.py PROGRAM [FOLDER..]      FOLDERs of examples/; all of them, and a few lines of its own, where none is named
+    python3 bench/refused_memory.py PROGRAM [FOLDER..]      FOLDERs of examples/; all of them, and the lines of LINES, where none is named
 
 It wants gcc, for a library that is loaded before the C library's and refuses call number N of malloc, calloc, realloc and posix_memalign. A
-run that ends early has to end with status 7 and without a reply; `init` and `dump` with status 0 or 7.
+run that ends early has to end with status 7 and without a reply; `init` and `dump` with status 0 or 7; `init` over a store, and `run` over
+two empty files, with status 2 or 7.
 """
+import json
 import os
 import subprocess
 import sys
@@ -32,17 +34,77 @@ int posix_memalign(void **p, size_t a, size_t n) { static int (*f)(void **, size
 void *aligned_alloc(size_t a, size_t n) { static void *(*f)(size_t, size_t); if (!f) f = dlsym(RTLD_NEXT, "aligned_alloc"); if (is_refused()) { errno = ENOMEM; return 0; } return f(a, n); }
 """
 TOP = os.path.dirname(os.path.dirname(os.path.abspath(__file__)))
-COMPACTED = [
-    '{"CreateHostedZone":{"Name":"example.com"}}',
-    '{"Compact":{"Pieces":1}}',
-    '{"CreateHealthCheck":{"HealthCheckConfig":{"Type":"TCP","IPAddress":"192.0.2.1","Port":80}}}',
-    '{"Compact":{"Pieces":1}}',
-    '{"ListResourceRecordSets":{"HostedZoneId":"Z1"}}',
-    '{"Compact":{"Pieces":9}}',
-    '{"GetHealthCheckStatus":{"HealthCheckId":"h1"}}',
-    '{"DeleteHealthCheck":{"HealthCheckId":"h1"}}',
-    '{"DeleteHostedZone":{"Id":"Z1"}}',
-]
+ZONE = '{"CreateHostedZone":{"Name":"example.com","CallerReference":"a"}}'
+CHECK = '{"CreateHealthCheck":{"CallerReference":"c","HealthCheckConfig":{"Type":"TCP","IPAddress":"192.0.2.1","Port":80}}}'
+PIECE = '{"Compact":{"Pieces":1}}'
+ASKED = '{"Query":{"Packet":"12340100000100000000000003%s076578616d706c6503636f6d0000010001","Address":"%s"}}'
+
+
+def batch(action, *sets):
+    """A batch that does the same with each set, of type A."""
+    changes = [{"Action": action, "ResourceRecordSet": {"Name": f"{name}.example.com.", "Type": "A", **more}} for name, more in sets]
+    return json.dumps({"ChangeResourceRecordSets": {"HostedZoneId": "/hostedzone/Z1", "ChangeBatch": {"Comment": "web", "Changes": changes}}})
+
+
+def weighted(ident, address, **more):
+    return {"SetIdentifier": ident, "Weight": 1, "TTL": 60, "ResourceRecords": [{"Value": address}], **more}
+
+
+def near(region, target, looks):
+    """A latency alias to a group."""
+    to = {"HostedZoneId": "Z1", "DNSName": f"{target}.example.com", "EvaluateTargetHealth": looks}
+    return {"SetIdentifier": region, "Region": region, "AliasTarget": to}
+
+
+LATENCY = b"lat 198.51.100.0/24 us-east-1=20,eu-west-1=90\n"
+WANTED_FROM = ASKED % (b"top".hex(), "198.51.100.7")
+# By title: the lines, and the rows of the tables.
+LINES = {
+    "a compaction": (
+        [
+            '{"CreateHostedZone":{"Name":"example.com"}}',
+            PIECE,
+            '{"CreateHealthCheck":{"HealthCheckConfig":{"Type":"TCP","IPAddress":"192.0.2.1","Port":80}}}',
+            PIECE,
+            '{"ListResourceRecordSets":{"HostedZoneId":"Z1"}}',
+            '{"Compact":{"Pieces":9}}',
+            '{"GetHealthCheckStatus":{"HealthCheckId":"h1"}}',
+            '{"DeleteHealthCheck":{"HealthCheckId":"h1"}}',
+            '{"DeleteHostedZone":{"Id":"Z1"}}',
+        ],
+        b"",
+    ),
+    "a first zone": (
+        [
+            ZONE,
+            batch("CREATE", ("www", {"TTL": 300, "ResourceRecords": [{"Value": "192.0.2.1"}]})),
+            ASKED % (b"www".hex(), "127.0.0.1"),
+            '{"ListResourceRecordSets":{"HostedZoneId":"Z1"}}',
+        ],
+        b"",
+    ),
+    "a region that is down": (
+        [
+            ZONE,
+            CHECK,
+            batch(
+                "CREATE",
+                ("e", weighted("1", "192.0.2.1", HealthCheckId="h1")),
+                ("e", weighted("2", "192.0.2.2", HealthCheckId="h1")),
+                ("w", weighted("1", "192.0.2.3")),
+                ("top", near("us-east-1", "e", True)),
+                ("top", near("eu-west-1", "w", True)),
+            ),
+            WANTED_FROM,
+            *('{"Observe":{"HealthCheckId":"h1","Checker":%d,"Pass":false}}' % (it // 3) for it in range(3 * 41)),
+            WANTED_FROM,
+            batch("UPSERT", ("top", near("us-east-1", "e", False))),
+            WANTED_FROM,
+        ],
+        LATENCY,
+    ),
+    "a compaction in pieces": ([PIECE, CHECK, PIECE, PIECE], b""),
+}
 REFUSED = b'{"Error":"OutOfMemory","Number":20}'
 
 
@@ -70,12 +132,23 @@ class Program:
             return ran.returncode, ran.stdout.split(b"\n")[:-1], files, count
 
 
+def never(title, program, words, store):
+    """Words that these files refuse, which stay as they are."""
+    status, _, files, count = program.run(words, store=store)
+    assert status == 2 and files == store, (title, words, status)
+    for n in range(1, count + 1):
+        ended, told, files, _ = program.run(words, store=store, refused=n)
+        assert ended in (2, 7) and told == [] and files == store, (title, words, n, ended)
+
+
 def tried(title, program, lines):
     status, _, empty, count = program.run(["init"])
     assert status == 0
     for n in range(1, count + 1):
         ended, _, files, _ = program.run(["init"], refused=n)
         assert ended in (0, 7) and (files == (empty if ended == 0 else {})), (title, "init", n, ended)
+    never(title, program, ["init"], empty)
+    never(title, program, ["run"], {name: b"" for name in empty})
     feed = lambda some: b"".join(it.encode() + b"\n" for it in some)
     status, replies, files, count = program.run(["run"], feed(lines), empty)
     assert status == 0 and len(replies) == len(lines) and REFUSED not in replies, (title, status)
@@ -109,21 +182,22 @@ def tried(title, program, lines):
 
 def main():
     program = os.path.abspath(sys.argv[1])
-    names = sys.argv[2:] or ["", *sorted(it for it in os.listdir(f"{TOP}/examples") if os.path.isdir(f"{TOP}/examples/{it}"))]
+    folders = sys.argv[2:] or sorted(it for it in os.listdir(f"{TOP}/examples") if os.path.isdir(f"{TOP}/examples/{it}"))
+    sets = dict(LINES if len(sys.argv) < 3 else {})
+    for name in folders:
+        folder, rows = f"{TOP}/examples/{name}", b""
+        with open(f"{folder}/lines.jsonl") as file:
+            lines = file.read().split("\n")[:-1]
+        if os.path.exists(f"{folder}/r53.tables"):
+            with open(f"{folder}/r53.tables", "rb") as file:
+                rows = file.read()
+        sets[name] = lines, rows
     with tempfile.TemporaryDirectory() as room:
         with open(f"{room}/refusing.c", "w") as file:
             file.write(LIBRARY)
         subprocess.run(["gcc", "-O1", "-shared", "-fPIC", "-o", f"{room}/refusing.so", f"{room}/refusing.c", "-ldl"], check=True)
-        for name in names:
-            lines, tables = COMPACTED, {}
-            if name:
-                folder = f"{TOP}/examples/{name}"
-                with open(f"{folder}/lines.jsonl") as file:
-                    lines = file.read().split("\n")[:-1]
-                if os.path.exists(f"{folder}/r53.tables"):
-                    with open(f"{folder}/r53.tables", "rb") as file:
-                        tables = {"r53.tables": file.read()}
-            tried(name or "a compaction", Program(program, f"{room}/refusing.so", tables), lines)
+        for title, (lines, rows) in sets.items():
+            tried(title, Program(program, f"{room}/refusing.so", {"r53.tables": rows} if rows else {}), lines)
 
 
 main()
