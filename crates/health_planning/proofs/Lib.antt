@@ -16,3 +16,4 @@ pub use Rattle.policy_select.proofs.Members
 pub use Rattle.policy_select.proofs.Noted
 pub use Rattle.policy_select.proofs.Listing as ListingOfZoneList
 pub use Rattle.policy_select.proofs.MembersOfZoneList
+mod Unwatched

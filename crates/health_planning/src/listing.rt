@@ -1,6 +1,6 @@
 //! Which sets have gates: those that something decides.
 
-ghost use Rattle.std.specs.Prelude.{◌≡◌, ◌<◌, ℕ, true, Some, length, slice_get};
+ghost use Rattle.std.specs.Prelude.{◌≡◌, ◌<◌, ℕ, true, false, Some, length, slice_get};
 ghost use Rattle.health_gates.specs.Plan.{KeepsRoom};
 ghost use Rattle.health_gates.specs.declared.plan.Shape.{Shape};
 ghost use Rattle.health_planning.specs.Building.{AllListed, AreAsked, AreListed, IsListed, set_shape};
@@ -97,8 +97,55 @@ fn list_one(
     };
 }
 
-/// Gives the sets of a zone gates.
+/// Gives the sets of a zone gates. None has one where none names a check or is an alias.
 fn list_zone(
+    zones: &Zones,
+    zone: u32,
+    refs: &mut Vec<SetRef>,
+    seats: &mut Vec<Seat>,
+    plan: &mut Plan,
+)
+    requires slots { length seats.old.items ≡ zones.now.slots }
+    requires room { HasListRoom plan.old refs.old seats.old.items }
+    requires listed { (first : ℕ)
+        × AreListed zones.now.zones first refs.old.items seats.old.items plan.old.shapes }
+    ensures listed { (first : ℕ)
+        → AreListed zones.now.zones first refs.old.items seats.old.items plan.old.shapes
+        → AreListed zones.now.zones first refs.new.items seats.new.items plan.new.shapes }
+    ensures all { (p : Placed) → IsHere (placed_in zones.now.zones zone) p
+        → is_watched p.set ≡ true → IsListed refs.new.items (ref_in zone p) }
+    ensures goes_on { (ref : SetRef) → IsListed refs.old.items ref
+        → IsListed refs.new.items ref }
+    ensures shapes { (n : ℕ) (shape : Shape) → slice_get plan.old.shapes n ≡ Some shape
+        → slice_get plan.new.shapes n ≡ Some shape }
+    ensures links { plan.new.links ≡ plan.old.links }
+    ensures size { length seats.new.items ≡ length seats.old.items }
+    ensures room { HasListRoom plan.new refs.new seats.new.items }
+    ensures kept { KeepsRoom plan.old plan.new }
+{
+    if has_watched(zones, zone) {
+        list_each(zones, zone, refs, seats, plan);
+    }
+}
+
+/// Whether something may decide the health of a set of a zone, by what is counted of its sets.
+fn has_watched(zones: &Zones, zone: u32) -> bool
+    ensures { result ≡ false → (p : Placed) → IsHere (placed_in zones.now.zones zone) p
+        → is_watched p.set ≡ false }
+{
+    let named = zones.checked(zone);
+    let aliases = zones.aliases(zone);
+    if named > 0 {
+        return true;
+    }
+    if aliases > 0 {
+        return true;
+    }
+    false
+}
+
+/// Gives the sets of a zone gates, each of which is asked whether something decides it.
+fn list_each(
     zones: &Zones,
     zone: u32,
     refs: &mut Vec<SetRef>,

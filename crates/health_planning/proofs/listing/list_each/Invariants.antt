@@ -9,7 +9,7 @@ use Rattle.policy_select.specs.Changes.{ref_in}
 use Rattle.policy_select.specs.Zones.{placed_in}
 use Rattle.policy_select.specs.SetRefRecord.{SetRef}
 use Rattle.zone_model.specs.Placed.{Placed}
-use Rattle.health_planning.proofs.listing.list_zone.Given as goal
+use Rattle.health_planning.proofs.listing.list_each.Given as goal
 
 abbrev pub invariant-loop-i : goal.invariant-loop-i
 invariant-loop-i l = record {

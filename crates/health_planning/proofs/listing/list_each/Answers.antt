@@ -9,7 +9,7 @@ use Rattle.policy_select.specs.Looking.{IsSetAt}
 use Rattle.health_planning.specs.Building.{IsListed}
 use Rattle.health_planning.specs.Wired.{is_watched}
 use Rattle.health_planning.proofs.ListedOnce.{slot_below, told_at}
-use Rattle.health_planning.proofs.listing.list_zone.Goals as goal
+use Rattle.health_planning.proofs.listing.list_each.Goals as goal
 
 pub list_one-requires-clause-slot : goal.list_one-requires-clause-slot
 list_one-requires-clause-slot c =
