@@ -43,6 +43,28 @@ fn opens(
     Ok(true)
 }
 
+/// The disks of a session, of which one has a call that fails.
+fn disks(
+    alloc: Global,
+    session: &Session,
+    side: Side,
+    call: u64,
+) -> Result<(MemoryDisk, MemoryDisk), Fail> {
+    match side {
+        Side::A => Ok((disk(alloc, session.file, &[call])?, disk(alloc, &[], &[])?)),
+        Side::B => Ok((disk(alloc, session.file, &[])?, disk(alloc, &[], &[call])?)),
+    }
+}
+
+/// Whether the first replies were written, all of them where the session ended well.
+fn is_replied(session: &Session, status: Status, written: &[u8]) -> bool {
+    let lines = count_lines(written);
+    if status == Status::Done {
+        return written == session.replies;
+    }
+    written == session.replies_to(lines)
+}
+
 /// How a session ends, and whether all is as it should be, where a call of a disk fails.
 fn run_with_fault(
     alloc: Global,
@@ -50,21 +72,13 @@ fn run_with_fault(
     side: Side,
     call: u64,
 ) -> Result<(Status, bool), Fail> {
-    let calls = [call];
-    let (a_fails, b_fails): (&[u64], &[u64]) = match side {
-        Side::A => (&calls, &[]),
-        Side::B => (&[], &calls),
-    };
-    let mut a = disk(alloc, session.file, a_fails)?;
-    let mut b = disk(alloc, &[], b_fails)?;
+    let (mut a, mut b) = disks(alloc, session, side, call)?;
     let input = ListSource::new(alloc, session.lines, 50, &[])?;
     let sink = VecSink::new(alloc, 4096, &[])?;
     let (status, sink) = run_words(alloc, &["run"], input, sink, &mut a, &mut b)?;
     let lines = count_lines(sink.bytes());
-    let is_whole = sink.bytes() == session.replies_to(lines);
-    let is_all = status != Status::Done || sink.bytes() == session.replies;
     let stands = opens(alloc, session, &a, &b, lines)?;
-    Ok((status, is_whole && is_all && stands))
+    Ok((status, is_replied(session, status, sink.bytes()) && stands))
 }
 
 /// The last call of a disk at which a session fails.
