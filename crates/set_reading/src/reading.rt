@@ -32,53 +32,48 @@ pub fn read_set(alloc: Global, bytes: &[u8]) -> Result<(RecordSet, usize), ReadF
     read(alloc, bytes)
 }
 
-/// The set at the front, or the place of the first fault.
-#[tactic(auto, unfolding(crate::specs::Reading::read))]
+/// The set at the front, or the place of the first fault: its fields one behind another.
+#[tactic(auto, unfolding(crate::specs::Reading::read, crate::specs::Reading::set_at))]
 fn read(alloc: Global, bytes: &[u8]) -> Result<(RecordSet, usize), ReadFault>
     ensures exact { ReadsSet result (read bytes.now) }
     ensures inside { IsInside (length bytes.now) result }
 {
-    fields_are_read();
-    match set_at(alloc, bytes) {
-        Ok((set, rest)) => {
-            let len = bytes.len() - rest.len();
-            if len > MOST_OCTETS {
-                return Err(ReadFault::Bad(0));
-            }
-            Ok((set, len))
-        }
-        Err(Stop::Bad(left)) => Err(ReadFault::Bad(bytes.len() - left)),
-        Err(Stop::OutOfMemory) => Err(ReadFault::OutOfMemory),
-    }
-}
-
-/// The fields of a set.
-#[tactic(auto, unfolding(crate::specs::Reading::set_at))]
-fn set_at(alloc: Global, bytes: &[u8]) -> Result<(RecordSet, &[u8]), Stop>
-    ensures { GivesOrStops (λ x. (x.0, x.1.now)) result (set_at bytes.now) }
-{
+    let total = bytes.len();
     let (name, rest) = match name_at(bytes) {
         Ok(read) => read,
-        Err(fault) => return Err(Stop::Bad(fault.0)),
+        Err(fault) => return Err(ReadFault::Bad(total.saturating_sub(fault.0))),
     };
-    let (rtype, rest) = type_at(rest)?;
+    let (rtype, rest) = match type_at(rest) {
+        Ok(read) => read,
+        Err(fault) => return Err(ReadFault::Bad(total.saturating_sub(fault.0))),
+    };
     let (routing, rest) = match routing_at(rest) {
         Ok(read) => read,
-        Err(fault) => return Err(Stop::Bad(fault.0)),
+        Err(fault) => return Err(ReadFault::Bad(total.saturating_sub(fault.0))),
     };
     let (body, rest) = match body_at(alloc, rtype, rest) {
         Ok(read) => read,
-        Err(stop) => return Err(stop),
+        Err(Stop::Bad(left)) => return Err(ReadFault::Bad(total.saturating_sub(left))),
+        Err(Stop::OutOfMemory) => return Err(ReadFault::OutOfMemory),
     };
-    let (check, rest) = check_at(rest)?;
-    let set = RecordSet {
-        name,
-        rtype,
-        routing,
-        body,
-        check,
+    let (check, rest) = match check_at(rest) {
+        Ok(read) => read,
+        Err(fault) => return Err(ReadFault::Bad(total.saturating_sub(fault.0))),
     };
-    Ok((set, rest))
+    let len = total.saturating_sub(rest.len());
+    if len > MOST_OCTETS {
+        return Err(ReadFault::Bad(0));
+    }
+    Ok((
+        RecordSet {
+            name,
+            rtype,
+            routing,
+            body,
+            check,
+        },
+        len,
+    ))
 }
 
 /// The policy at the front, and what stands behind it.
