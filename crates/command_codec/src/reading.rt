@@ -2,7 +2,6 @@
 
 ghost use Rattle.std.specs.Prelude.{◌≡◌, ◌≤◌, ℕ, length, take, drop, IfOk, Ok};
 ghost use Rattle.set_reading.specs.ReadingOfOctetReading.{Gives, GivesOrStops};
-ghost use Rattle.set_reading.specs.Readers.{list_at, so_many};
 ghost use Rattle.command_octets.specs.declared.commands.Command.{Command};
 ghost use Rattle.command_codec.specs.Commands.{Spells};
 ghost use Rattle.command_codec.specs.Gives.{IsInside, ReadsCommand};
@@ -15,13 +14,11 @@ ghost use Rattle.command_codec.specs.Reading.{command_at, front_at, read};
 use block_reading::{change_collection_at, create_collection_at, delete_collection_at};
 use check_reading::{create_check_at, delete_check_at, update_check_at};
 use command_octets::{Action, Batch, Change, Changes, Command};
-use octet_reading::two_at;
 use octets::behind;
-use set_reading::{Fault, Name, ReadFault, RecordSet, Stop, four_at, name_at, octet_at, read_set};
+use set_reading::{
+    Fault, Field, Name, ReadFault, RecordSet, Stop, four_at, list_at, name_at, octet_at, read_set,
+};
 use std::alloc::Global;
-
-/// Every change has more octets.
-const FEW: usize = 16;
 
 /// The command that bytes are, as a whole.
 pub fn read(alloc: Global, bytes: &[u8]) -> Result<Command, ReadFault>
@@ -162,10 +159,7 @@ fn batch_at(alloc: Global, bytes: &[u8]) -> Result<(Command, &[u8]), Stop>
     ensures { GivesOrStops (λ x. (x.0, x.1.now)) result (batch_at bytes.now) }
 {
     let (zone, rest) = four_at(bytes)?;
-    let (changes, rest) = match changes_at(alloc, rest) {
-        Ok(read) => read,
-        Err(stop) => return Err(stop),
-    };
+    let (changes, rest) = list_at(alloc, &OneChange, rest)?;
     let changes = Changes::from_vec(changes);
     Ok((Command::Change(Batch { zone, changes }), rest))
 }
@@ -236,30 +230,19 @@ fn collection_deleted_at(bytes: &[u8]) -> Result<(Command, &[u8]), Fault>
     }
 }
 
-/// The changes of a batch, behind their number.
-fn changes_at(alloc: Global, bytes: &[u8]) -> Result<(Vec<Change>, &[u8]), Stop>
-    ensures { GivesOrStops (λ x. (x.0.items, x.1.now)) result (list_at change_at bytes.now) }
-{
-    let (count, rest) = two_at(bytes)?;
-    so_many_changes(alloc, count, rest)
-}
+/// A change, as an item of a list.
+struct OneChange;
 
-/// So many changes, for which room is taken at once: a change is too large to be moved each time
-/// that a list grows.
-fn so_many_changes(alloc: Global, count: u16, bytes: &[u8]) -> Result<(Vec<Change>, &[u8]), Stop>
-    ensures { GivesOrStops (λ x. (x.0.items, x.1.now)) result (so_many change_at count bytes.now) }
-{
-    let room = (count as usize).min(bytes.len() / FEW);
-    let Ok(mut changes) = Vec::with_capacity(alloc, room) else {
-        return Err(Stop::OutOfMemory);
-    };
-    let mut rest = bytes;
-    for _ in 0..count {
-        let (change, after) = change_at(alloc, rest)?;
-        changes.push(change)?;
-        rest = after;
+impl Field for OneChange {
+    type Value = Change;
+
+    ghost use Rattle.command_codec.specs.Reading.{change_at};
+
+    ghost reading = { λ _. change_at };
+
+    fn read<'a>(&self, alloc: Global, bytes: &'a [u8]) -> Result<(Change, &'a [u8]), Stop> {
+        change_at(alloc, bytes)
     }
-    Ok((changes, rest))
 }
 
 /// A change to a set.

@@ -1,5 +1,9 @@
 -- The name at the front of octets.
-use Rattle.std.proofs.Common.{◌≡◌, ℕ, ◌-◌, List, ◌++◌, length, drop, arith, ap, ◌∙◌, sym, refl, subst, length-append, Ok, Err}
+use Rattle.std.proofs.Common.{◌≡◌, ℕ, ◌-◌, List, ◌++◌, length, take, drop, arith, ap, ◌∙◌, sym, refl, subst, length-append, take-append-drop, inl, inr, true, false, Ok, Err}
+use Rattle.std.specs.Prelude.{◌⊎◌, nat_eq}
+use Rattle.std.specs.Cmp.Lexicographic.{pointwise}
+use Rattle.std.proofs.lemmas.Bool.Decides.{Decides-eqb}
+use Rattle.std.proofs.lemmas.Slice.Eq.{slice_eq-Decides}
 use Rattle.std.proofs.lemmas.List.{nil_from_length}
 use Rattle.std.proofs.Math.Seq.{drop-append_seam}
 use Rattle.rdata_layout.specs.Labels.{wire}
@@ -7,7 +11,7 @@ use Rattle.rdata_layout.specs.Names.{IsName}
 use Rattle.rdata_layout.specs.Stored.{labels_of}
 use Rattle.rdata_layout.specs.Wire.{BeginsWithName, BeginsWithNone}
 use Rattle.rdata_layout.proofs.Labels.{labels_of-wire, one_name}
-use Rattle.rdata_layout.proofs.Fronts.{begins}
+use Rattle.rdata_layout.proofs.Fronts.{begins, front_is}
 use Rattle.octet_reading.specs.declared.names.Front.{Front}
 use Rattle.octet_reading.specs.declared.names.Front.TheVariants.{Whole, Short, Broken}
 use Rattle.octet_reading.specs.Names.{front_of, named, name_at}
@@ -46,37 +50,55 @@ pub is_short : (octets : List ℕ) (front : Front) → front ≡ front_of octets
 unfolding name_at
 is_short octets front e s = ap (named octets) (sym e ∙ s)
 
-pub is_broken : (octets : List ℕ) (front : Front) → front ≡ front_of octets → front ≡ Broken
+pub is_broken : (octets : List ℕ) (front : Front) → front ≡ front_of octets
+    → ((left : ℕ) → front_of octets ≡ Whole left → ⊥)
+    → (front ≡ Broken) ⊎ ((left : ℕ) × (front ≡ Whole left))
     → name_at octets ≡ Err (length octets)
 unfolding name_at
-is_broken octets front e s = ap (named octets) (sym e ∙ s)
+is_broken octets front e none (inl broken) = ap (named octets) (sym e ∙ broken)
+is_broken octets front e none (inr whole) = absurd (none whole.0 (sym e ∙ whole.1))
 
-pub is_name : (octets : List ℕ) (front : Front) (left : ℕ) (labels : List (List ℕ)) (n : ℕ)
-    (rest : List ℕ) → IsBytes octets
-    → front ≡ front_of octets → front ≡ Whole left
-    → BeginsWithName octets labels n → rest ≡ drop n octets → name_at octets ≡ Ok (labels, rest)
+-- a name that was written is read again
+pub name_again : (labels : List (List ℕ)) (rest : List ℕ) → IsName labels
+    → name_at (wire labels ++ rest) ≡ Ok (labels, rest)
 unfolding name_at
-is_name octets front left labels n rest bytes e s b r =
-    let w = whole_begins octets left bytes (sym e ∙ s) in
-    let same =
+name_again labels rest name =
+    ap (named (wire labels ++ rest)) (front_again labels rest name)
+    ∙ cc (labels_of-wire labels rest name.raw.each, behind_found labels rest)
+
+same_octets : (octets others : List ℕ) → pointwise nat_eq octets others ≡ true → octets ≡ others
+same_octets octets others h =
+    (slice_eq-Decides Decides-eqb octets others (pointwise nat_eq octets others) refl).0 h
+
+-- a name that is spelled in lower case
+pub is_name : (octets spelled : List ℕ) (labels : List (List ℕ)) (n : ℕ) (rest : List ℕ) → IsName labels
+    → pointwise nat_eq (wire labels) spelled ≡ true → spelled ≡ take n octets → rest ≡ drop n octets
+    → name_at octets ≡ Ok (labels, rest)
+is_name octets spelled labels n rest name same s r =
+    let whole : octets ≡ wire labels ++ rest =
+    sym (take-append-drop n octets)
+    ∙ cc (s, r, same_octets (wire labels) spelled same) in
+    ap name_at whole ∙ name_again labels rest name
+
+-- a name that isn't
+pub is_other : (octets spelled : List ℕ) (labels : List (List ℕ)) (n left : ℕ) → IsBytes octets
+    → BeginsWithName octets labels n → spelled ≡ take n octets
+    → pointwise nat_eq (wire labels) spelled ≡ false → front_of octets ≡ Whole left → ⊥
+is_other octets spelled labels n left bytes b s other e =
+    let w = whole_begins octets left bytes e in
+    let one =
     one_name octets labels n b w.labels (length (wire w.labels))
     (begins octets w.rest w.labels w.name w.spelled) in
-    let cut : labels_of octets ≡ labels = ap labels_of w.spelled
-    ∙ labels_of-wire w.labels w.rest w.name.raw.each ∙ same.0 in
-    let size : length octets - left ≡ n =
-    omega (
-      arith,
-      ap length w.spelled,
-      length-append (wire w.labels) w.rest,
-      w.left_is,
-      same.1,
-    ) in
-    ap (named octets) (sym e ∙ s) ∙ cc (cut, size, r)
+    let same : wire labels ≡ spelled = ap wire (sym one.0)
+    ∙ sym (front_is octets (wire w.labels) w.rest n w.spelled one.1) ∙ sym s in
+    let equal : pointwise nat_eq (wire labels) spelled ≡ true =
+    (slice_eq-Decides Decides-eqb (wire labels) spelled (pointwise nat_eq (wire labels) spelled) refl).1 same in
+    cc (other, equal)
 
-pub no_name : (octets : List ℕ) (front : Front) (left : ℕ) → IsBytes octets
-    → front ≡ front_of octets → front ≡ Whole left → BeginsWithNone octets → ⊥
-no_name octets front left bytes e s none =
-    let w = whole_begins octets left bytes (sym e ∙ s) in
+pub no_name : (octets : List ℕ) (left : ℕ) → IsBytes octets → BeginsWithNone octets
+    → front_of octets ≡ Whole left → ⊥
+no_name octets left bytes none e =
+    let w = whole_begins octets left bytes e in
     none w.labels (length (wire w.labels)) (begins octets w.rest w.labels w.name w.spelled)
 
 -- a name that is read stands there
@@ -105,11 +127,3 @@ name_stands octets x bytes e = go (front_of octets) refl e
         (w.spelled ∙ cc (first, second), subst IsName first w.name)
     go Short f h = absurd cc
     go Broken f h = absurd cc
-
--- a name that was written is read again
-pub name_again : (labels : List (List ℕ)) (rest : List ℕ) → IsName labels
-    → name_at (wire labels ++ rest) ≡ Ok (labels, rest)
-unfolding name_at
-name_again labels rest name =
-    ap (named (wire labels ++ rest)) (front_again labels rest name)
-    ∙ cc (labels_of-wire labels rest name.raw.each, behind_found labels rest)

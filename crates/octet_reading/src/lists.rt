@@ -20,7 +20,13 @@ pub trait Field {
         ensures { GivesOrStops (λ x. (x.0, x.1.now)) result (reading self.now bytes.now) };
 }
 
+/// Room for so many values is taken at once; a longer list grows as it is read.
+const AT_ONCE: usize = 10_000;
+
 /// So many of a field, and what stands behind them.
+///
+/// Room is taken at once, for no more values than octets are left: a value may be too large to be
+/// moved each time that a list grows.
 pub fn so_many<'a, F: Field>(
     alloc: Global,
     field: &F,
@@ -30,7 +36,10 @@ pub fn so_many<'a, F: Field>(
     ensures { GivesOrStops (λ x. (x.0.items, x.1.now)) result
         (so_many (F.reading field.now) count bytes.now) }
 {
-    let mut values = Vec::new(alloc);
+    let room = (count as usize).min(bytes.len()).min(AT_ONCE);
+    let Ok(mut values) = Vec::with_capacity(alloc, room) else {
+        return Err(Stop::OutOfMemory);
+    };
     let mut rest = bytes;
     for _ in 0..count {
         let (value, after) = field.read(alloc, rest)?;

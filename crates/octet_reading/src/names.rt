@@ -1,9 +1,10 @@
 //! The name at the front of octets.
 
-ghost use Rattle.std.specs.Prelude.{◌≡◌, length};
+ghost use Rattle.std.specs.Prelude.{◌≡◌, ℕ, length, IfSome, IfNone, Ok, Err};
 ghost use Rattle.std.specs.List.{list_all};
 ghost use Rattle.octet_reading.specs.Reading.{Gives};
 ghost use Rattle.octet_reading.specs.Names.{is_lower, front_of, name_at};
+ghost use Rattle.octet_reading.specs.declared.names.Front.TheVariants.{Whole};
 
 use crate::numbers::parts;
 use crate::stop::Fault;
@@ -25,15 +26,36 @@ pub(crate) enum Front {
 pub fn name_at(bytes: &[u8]) -> Result<(Name, &[u8]), Fault>
     ensures { Gives (λ x. (x.0, x.1.now)) result (name_at bytes.now) }
 {
+    match lower_name(bytes) {
+        Some(read) => Ok(read),
+        None => Err(no_name(bytes)),
+    }
+}
+
+/// The name at the front and what stands behind it, where it is spelled in lower case.
+fn lower_name(bytes: &[u8]) -> Option<(Name, &[u8])>
+    ensures some { IfSome result (λ x. name_at bytes.now ≡ Ok (x.0, x.1.now)) }
+    ensures none { IfNone result ((left : ℕ) → front_of bytes.now ≡ Whole left → ⊥) }
+{
+    let mut name = Name::root();
+    let Some(len) = name.read_wire(bytes) else {
+        return None;
+    };
+    let (spelled, rest) = parts(bytes, len);
+    if name.octets() == spelled {
+        return Some((name, rest));
+    }
+    None
+}
+
+/// Where the fault stands in octets that begin with no name.
+fn no_name(bytes: &[u8]) -> Fault
+    requires { (left : ℕ) → front_of bytes.now ≡ Whole left → ⊥ }
+    ensures { name_at bytes.now ≡ Err result.0 }
+{
     match front_of(bytes) {
-        Front::Short => Err(Fault(0)),
-        Front::Broken => Err(Fault(bytes.len())),
-        Front::Whole(_) => {
-            let Some((name, len)) = Name::from_wire(bytes) else {
-                return Err(Fault(bytes.len()));
-            };
-            Ok((name, behind(bytes, len)))
-        }
+        Front::Short => Fault(0),
+        Front::Broken | Front::Whole(_) => Fault(bytes.len()),
     }
 }
 

@@ -1,7 +1,6 @@
 //! The zones of a snapshot, one by one.
 
 ghost use Rattle.octet_reading.specs.Reading.{GivesOrStops};
-ghost use Rattle.octet_reading.specs.Readers.{so_many};
 ghost use Rattle.snapshot_octets.specs.ReadingOfCommandCodec.{set_at};
 ghost use Rattle.snapshot_octets.specs.Reading.{zone_at};
 ghost use Rattle.snapshot_reading.specs.Parts.{hosted_of, sets_at};
@@ -10,13 +9,10 @@ ghost use Rattle.snapshot_reading.specs.Places.{Finds, found_at};
 use crate::faults::SnapshotFault;
 use crate::places::{from_place, place_of};
 use dns_name::Name;
-use octet_reading::{Fault, Stop, four_at, name_at};
+use octet_reading::{Fault, Field, Stop, four_at, name_at, so_many};
 use octets::behind;
 use snapshot_octets::{ReadFault, RecordSet, read_set};
 use std::alloc::Global;
-
-/// The most sets of a zone (Route 53 quotas).
-const MAX_IN_ZONE: usize = 10_000;
 
 /// A zone as it is read: its number, its name, and its sets.
 #[derive(Drop)]
@@ -66,25 +62,22 @@ fn sets_at(alloc: Global, bytes: &[u8]) -> Result<(Vec<RecordSet>, &[u8]), Stop>
     ensures { GivesOrStops (λ x. (x.0.items, x.1.now)) result (sets_at bytes.now) }
 {
     let (count, rest) = four_at(bytes)?;
-    so_many_sets(alloc, count, rest)
+    so_many(alloc, &OneSet, count, rest)
 }
 
-/// So many sets, for which room is taken at once: a set is too large to be moved each time that a
-/// list grows.
-fn so_many_sets(alloc: Global, count: u32, bytes: &[u8]) -> Result<(Vec<RecordSet>, &[u8]), Stop>
-    ensures { GivesOrStops (λ x. (x.0.items, x.1.now)) result (so_many set_at count bytes.now) }
-{
-    let room = (count as usize).min(MAX_IN_ZONE);
-    let Ok(mut sets) = Vec::with_capacity(alloc, room) else {
-        return Err(Stop::OutOfMemory);
-    };
-    let mut rest = bytes;
-    for _ in 0..count {
-        let (set, after) = set_at(alloc, rest)?;
-        sets.push(set)?;
-        rest = after;
+/// A set, as an item of a list.
+struct OneSet;
+
+impl Field for OneSet {
+    type Value = RecordSet;
+
+    ghost use Rattle.snapshot_octets.specs.ReadingOfCommandCodec.{set_at};
+
+    ghost reading = { λ _. set_at };
+
+    fn read<'a>(&self, alloc: Global, bytes: &'a [u8]) -> Result<(RecordSet, &'a [u8]), Stop> {
+        set_at(alloc, bytes)
     }
-    Ok((sets, rest))
 }
 
 /// A set.
