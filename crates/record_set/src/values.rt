@@ -63,7 +63,7 @@ impl Values {
 fn copy_values(alloc: Global, values: &[RData]) -> Result<Vec<RData>, OutOfMemory>
     ensures { IfOk result (λ list. list.items ≡ values.now) }
 {
-    let mut list = Vec::new(alloc);
+    let mut list = Vec::with_capacity(alloc, values.len())?;
     for value in values {
         list.push(value.copy(alloc)?)?;
     }
