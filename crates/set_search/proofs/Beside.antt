@@ -16,7 +16,7 @@ use Rattle.zone_model.proofs.Ordered.{one_number}
 use Rattle.set_search.specs.declared.bounds.Bound.{Bound}
 use Rattle.set_search.specs.declared.bounds.Bound.TheVariants as bound
 use Rattle.set_search.specs.Bounds.{is_before, group_cmp}
-use Rattle.set_search.specs.Found.{IsBracket, IsCount, IsMemberAt, IsOf}
+use Rattle.set_search.specs.Found.{EndsBetween, IsBracket, IsCount, IsMemberAt, IsOf}
 use Rattle.set_search.proofs.Lookups.{all_before, low_up, high_down}
 use Rattle.set_search.proofs.Together.{before_start, below_not_above, first_key, of_group}
 
@@ -99,38 +99,63 @@ module _ (name : List (List ℕ)) (rtype : RType) where
         (low_up sets (bound.From (first_key name rtype)) rising 0 place (place - 1) y not_from
         (omega arith) (omega (arith, some)) at (front y some at none))
 
-    up_to : IsBracket sets (bound.PastGroup name rtype) (place + 1) (length sets)
-    up_to =
-        low_up sets (bound.PastGroup name rtype) rising 0 (length sets) place member.0
-        (whole sets (bound.PastGroup name rtype)) (omega arith) within member.1
-        (ends member.0 member.2)
+    up_to : (high : ℕ) → place + 1 ≤ high → IsBracket sets (bound.PastGroup name rtype) 0 high
+        → IsBracket sets (bound.PastGroup name rtype) (place + 1) high
+    up_to high below bracket =
+        low_up sets (bound.PastGroup name rtype) rising 0 high place member.0 bracket (omega arith)
+        (omega (arith, below)) member.1 (ends member.0 member.2)
 
-    pub to_last : length sets ≤ place + 1 → IsCount sets (bound.PastGroup name rtype) (length sets)
-    to_last last =
-        let e : place + 1 ≡ length sets = (let w = within in omega (arith, last, w)) in
-        subst (λ n. IsBracket sets (bound.PastGroup name rtype) n (length sets)) e up_to
+    -- the group ends somewhere behind a member
+    pub ends_somewhere : EndsBetween sets name rtype place (length sets)
+    ends_somewhere = record {
+      member = member;
+      bracket = up_to (length sets) (let w = within in omega (arith, w))
+          (whole sets (bound.PastGroup name rtype));
+    }
 
     -- one behind a member that is none stands behind the group
-    back : (y : RecordSet) → slice_get sets (place + 1) ≡ Some y
+    back : (high : ℕ) (y : RecordSet) → place < high → slice_get sets high ≡ Some y
         → (IsOf name rtype y → ⊥) → is_before (bound.PastGroup name rtype) y ≡ false
-    back y at none = by (group_cmp y name rtype) refl
+    back high y above at none = by (group_cmp y name rtype) refl
       where
         by : (o : Ordering) → group_cmp y name rtype ≡ o
             → is_before (bound.PastGroup name rtype) y ≡ false
         by Less e =
             let low : is_before (bound.From (first_key name rtype)) member.0 ≡ true =
-            all_before sets (bound.From (first_key name rtype)) rising place (place + 1) member.0 y
-            (omega arith) member.1 at (before_start name rtype y ∙ ap is_lt e) in
+            all_before sets (bound.From (first_key name rtype)) rising place high member.0 y
+            (omega (arith, above)) member.1 at (before_start name rtype y ∙ ap is_lt e) in
             absurd (let not_low = starts member.0 member.2 in grind (arith, low, not_low))
         by Equal e = absurd (untied y none e)
         by Greater e = ap (λ o. not (is_gt o)) e
 
-    pub to_here : (y : RecordSet) → slice_get sets (place + 1) ≡ Some y
-        → (IsOf name rtype y → ⊥) → IsCount sets (bound.PastGroup name rtype) (place + 1)
-    to_here y at none =
-        let w = slice_get_within sets (place + 1) y at in
-        high_down sets (bound.PastGroup name rtype) rising (place + 1) (length sets) (place + 1) y
-        up_to (omega arith) w at (back y at none)
+    pub ends_before : (high : ℕ) (y : RecordSet) → place < high → slice_get sets high ≡ Some y
+        → (IsOf name rtype y → ⊥) → EndsBetween sets name rtype place high
+    ends_before high y above at none =
+        let w = slice_get_within sets high y at in
+        record {
+          member = member;
+          bracket = up_to high (omega (arith, above))
+              (high_down sets (bound.PastGroup name rtype) rising 0 (length sets) high y
+              (whole sets (bound.PastGroup name rtype)) (omega arith) w at (back high y above at none));
+        }
+
+  -- a later member
+  pub ends_later : (sets : List RecordSet) → IsRising sets → (last high later : ℕ)
+      → later < high → EndsBetween sets name rtype last high → IsMemberAt sets name rtype later
+      → EndsBetween sets name rtype later high
+  ends_later sets rising last high later below ends member = record {
+    member = member;
+    bracket =
+        let up = up_to sets rising later member (length sets)
+        (let w = slice_get_within sets later member.0 member.1 in omega (arith, w))
+        (whole sets (bound.PastGroup name rtype)) in
+        record {
+          order = omega (arith, below);
+          within = ends.bracket.within;
+          before = up.before;
+          behind = ends.bracket.behind;
+        };
+  }
 
   module _ (sets : List RecordSet) (rising : IsRising sets) (start : ℕ)
       (from : IsCount sets (bound.From (first_key name rtype)) start) where

@@ -49,6 +49,12 @@ abbrev pub IsMemberAt : List RecordSet → (name : List (List ℕ)) → RType �
 IsMemberAt sets name rtype place =
     (set : RecordSet) × (slice_get sets place ≡ Some set) × IsOf name rtype set
 
+-- The set at place `last` has the name and the type, and the last one with both stands before `high`.
+pub record EndsBetween (sets : List RecordSet) (name : List (List ℕ)) (rtype : RType)
+    (last high : ℕ) : Type 0 where
+  pub member : IsMemberAt sets name rtype last
+  pub bracket : IsBracket sets (bound.PastGroup name rtype) (last + 1) high
+
 -- The sets of a name and type stand side by side, from place `start` on.
 pub record IsGroupAt (sets : List RecordSet) (name : List (List ℕ)) (rtype : RType)
     (start n : ℕ) : Type 0 where

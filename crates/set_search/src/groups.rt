@@ -3,7 +3,7 @@
 ghost use Rattle.std.specs.Prelude.{◌≡◌, ◌<◌, ℕ, length, None};
 ghost use Rattle.zone_model.specs.Types.{number_of};
 ghost use Rattle.zone_model.specs.Zones.{IsRising};
-ghost use Rattle.set_search.specs.Found.{IsBracket, IsCount, IsGroupAt, IsMemberAt, IsTypedAt};
+ghost use Rattle.set_search.specs.Found.{EndsBetween, IsBracket, IsCount, IsGroupAt, IsMemberAt, IsTypedAt};
 ghost use Rattle.set_search.specs.declared.bounds.Bound.TheVariants.{From, PastGroup};
 
 use crate::bounds::Stop;
@@ -162,17 +162,54 @@ fn start_of<S: SetList>(sets: &S, name: &Name, rtype: RType, place: usize) -> us
 }
 
 /// The place behind the last set of a group, of which one stands at a place.
+///
+/// Whether a set is of the group tells its name's octets, which is less than the order of two names.
 fn end_of<S: SetList>(sets: &S, name: &Name, rtype: RType, place: usize) -> usize
     requires rising { IsRising (S.sets sets.now) }
     requires member { IsMemberAt (S.sets sets.now) name.now rtype place }
     ensures { IsCount (S.sets sets.now) (PastGroup name.now rtype) result }
 {
-    let size = sets.count();
-    if place + 1 >= size {
-        return size;
+    let (last, high) = end_round(sets, name, rtype, place);
+    end_between(sets, name, rtype, last, high)
+}
+
+/// The place of a set of a group, and a place behind the group's last one, found in doubling steps
+/// from one that a set of the group has.
+fn end_round<S: SetList>(sets: &S, name: &Name, rtype: RType, start: usize) -> (usize, usize)
+    requires rising { IsRising (S.sets sets.now) }
+    requires member { IsMemberAt (S.sets sets.now) name.now rtype start }
+    ensures { EndsBetween (S.sets sets.now) name.now rtype result.0 result.1 }
+{
+    let mut last = start;
+    let high = sets.count();
+    while last + 1 < high {
+        let step = last - start + 1;
+        if step >= high - last {
+            return (last, high);
+        }
+        if !sets.is_of(last + step, name, rtype) {
+            return (last, last + step);
+        }
+        last += step;
     }
-    if !sets.is_of(place + 1, name, rtype) {
-        return place + 1;
+    (last, high)
+}
+
+/// The place behind the last set of a group, which is between two places.
+fn end_between<S: SetList>(sets: &S, name: &Name, rtype: RType, last: usize, high: usize) -> usize
+    requires rising { IsRising (S.sets sets.now) }
+    requires ends { EndsBetween (S.sets sets.now) name.now rtype last high }
+    ensures { IsCount (S.sets sets.now) (PastGroup name.now rtype) result }
+{
+    let mut last = last;
+    let mut high = high;
+    while last + 1 < high {
+        let middle = last + (high - last) / 2;
+        if sets.is_of(middle, name, rtype) {
+            last = middle;
+        } else {
+            high = middle;
+        }
     }
-    count_before(sets, &Stop::PastGroup(name, rtype), Some(place + 1))
+    high
 }
