@@ -3,7 +3,7 @@
 
 ghost use Rattle.std.specs.Prelude.{◌≡◌, ◌≢◌, ◌≤◌, ◌<◌, ◌+◌, ◌^◌, ◌↔◌, ◌∷◌, [], All, IsTrue};
 ghost use Rattle.std.specs.Prelude.{List, false, if◌then◌else◌, length, slice_index, true, ℕ};
-ghost use Rattle.std.specs.Prelude.{OnOk};
+ghost use Rattle.std.specs.Prelude.{IsOk, OnOk};
 ghost use Rattle.std.specs.List.Sorted.{IsNonDecreasingBy, IsPermutation};
 ghost use Rattle.health_gates.specs.Laying.{HasRoomFor};
 ghost use Rattle.health_gates.specs.Plan.{IsPlanned, Planned, net_in, no_plan, own_in};
@@ -69,6 +69,7 @@ impl Gates {
     /// Makes room for a plan of so many gates and links in all. The gates stay as they are.
     pub fn reserve(&mut self, gates: usize, links: usize) -> Result<(), OutOfMemory>
         ensures room { OnOk result (HasRoomFor self.new gates links) }
+        ensures ready { HasRoomFor self.old gates links → IsOk result }
         ensures kept { (n m : ℕ) → HasRoomFor self.old n m → HasRoomFor self.new n m }
         ensures stays { (net : Net) (own : ℕ → ℕ) → Fits net own self.old → Fits net own self.new }
         ensures meet { (net : Net) (own : ℕ → ℕ) → MeetAll net own self.old

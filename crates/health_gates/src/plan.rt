@@ -1,6 +1,6 @@
 //! Gates before they are laid, one after another, each with what feeds it.
 
-ghost use Rattle.std.specs.Prelude.{◌≡◌, ◌≤◌, ◌+◌, ◌∷◌, ◌++◌, [], OnOk, length};
+ghost use Rattle.std.specs.Prelude.{◌≡◌, ◌≤◌, ◌+◌, ◌∷◌, ◌++◌, [], IsOk, OnOk, length};
 ghost use Rattle.std.specs.List.Sorted.{IsNonDecreasingBy, IsPermutation};
 ghost use Rattle.health_gates.specs.declared.plan.Link.{Link};
 
@@ -64,6 +64,7 @@ impl Plan {
         ensures links { self.new.links ≡ self.old.links }
         ensures room { OnOk result (gates ≤ self.new.room) }
         ensures links_room { OnOk result (links ≤ self.new.links_room) }
+        ensures ready { gates ≤ self.old.room → links ≤ self.old.links_room → IsOk result }
         ensures kept { self.old.room ≤ self.new.room }
         ensures links_kept { self.old.links_room ≤ self.new.links_room }
     {

@@ -1,7 +1,7 @@
 //! The index: what is asked of it, and how it takes a report.
 
 ghost use Rattle.std.specs.Prelude.{◌≡◌, ◌≢◌, ◌≤◌, ◌<◌, ◌+◌, ◌∷◌, ◌↔◌, [], ℕ, IsTrue, List, false, true};
-ghost use Rattle.std.specs.Prelude.{Contains, IfOk, OnOk, Some, if◌then◌else◌, length, slice_get};
+ghost use Rattle.std.specs.Prelude.{Contains, IfOk, IsOk, OnOk, Some, if◌then◌else◌, length, slice_get};
 ghost use Rattle.check_model.specs.Checks.{Checks};
 ghost use Rattle.health_planning.specs.Following.{Follows};
 ghost use Rattle.health_gates.specs.Gates.{Feeds, Fits, MeetsEquation, Net, value_of};
@@ -148,6 +148,9 @@ impl HealthIndex {
     /// a command first. The index stays as it is.
     pub fn reserve(&mut self, zones: &Zones) -> Result<(), OutOfMemory>
         ensures room { OnOk result (HasRoom self.new zones.now.slots) }
+
+        // Memory is wanted only where there isn't as much room.
+        ensures ready { HasRoom self.old zones.now.slots → IsOk result }
 
         // Nothing else changes, and no room is lost, also where there is no memory.
         ensures keeps { Keeps self.old self.new }

@@ -30,6 +30,7 @@ pub fn room_for_checks(
     ensures seen_kept { vec_capacity seen.old ≤ vec_capacity seen.new }
     ensures ids_room { OnOk result (200 ≤ vec_capacity ids.new) }
     ensures seen_room { OnOk result (200 ≤ vec_capacity seen.new) }
+    ensures ready { 200 ≤ vec_capacity ids.old → 200 ≤ vec_capacity seen.old → IsOk result }
 {
     let Ok(()) = make_room(ids, CHECKS) else {
         return Err(OutOfMemory);
@@ -76,6 +77,11 @@ pub fn room_for_slots(
     ensures links_room { OnOk result
         (slots * 3 + 51200 ≤ plan.new.links_room + length plan.new.links) }
     ensures gates_room { OnOk result (HasRoomFor gates.new (slots * 2 + 200) (slots * 3 + 51200)) }
+    ensures ready { slots ≤ 2 ^ 29 → slots ≤ vec_capacity seats.old → slots ≤ vec_capacity refs.old
+        → slots ≤ vec_capacity refs_before.old
+        → slots * 2 + 200 ≤ plan.old.room + length plan.old.shapes
+        → slots * 3 + 51200 ≤ plan.old.links_room + length plan.old.links
+        → HasRoomFor gates.old (slots * 2 + 200) (slots * 3 + 51200) → IsOk result }
 {
     plan.clear();
     if slots > MOST_SLOTS {
@@ -110,6 +116,7 @@ pub fn each_ok(
     ensures first { OnOk result (IsOk first) }
     ensures second { OnOk result (IsOk second) }
     ensures third { OnOk result (IsOk third) }
+    ensures each { IsOk first → IsOk second → IsOk third → IsOk result }
 {
     match (first, second, third) {
         (Ok(()), Ok(()), Ok(())) => Ok(()),

@@ -49,3 +49,11 @@ returns-clause-stands c zones checks reports is =
       refs = slots.refs;
       values = λ gate. ap (λ v. value_in v gate) slots.values;
     }) slots.stays slots.meet slots.idle zones checks reports (subst (StandsFor zones checks reports) (sym c.self.view_is) is)
+
+pub returns-clause-ready : goal.returns-clause-ready
+returns-clause-ready c room =
+    let old = subst (λ (i : Index). HasRoom i c.args.zones.now.slots) (sym c.self.view_is) room in
+    c.each_ok.ensures.each (c.room_for_checks-now.ensures.ready old.ids old.seen)
+    (c.room_for_checks-before.ensures.ready old.ids_before old.seen_before)
+    (c.room_for_slots-slots.ensures.ready old.few old.seats old.refs old.refs_before old.shapes
+    old.links old.gates)
