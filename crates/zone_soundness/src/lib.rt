@@ -7,6 +7,7 @@
 mod apexes;
 mod judging;
 mod naming;
+mod neighbours;
 mod placing;
 mod setting;
 mod together;
