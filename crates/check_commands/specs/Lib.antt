@@ -1,3 +1,4 @@
+pub mod Checked
 pub use Rattle.config_zones.specs.Edited
 pub use Rattle.config_zones.specs.Others
 pub use Rattle.config_zones.specs.Applying
@@ -10,3 +11,9 @@ pub use Rattle.config_zones.specs.Telling
 pub use Rattle.config_zones.specs.InputReasonRecord
 pub use Rattle.config_zones.specs.MadeRecord
 pub use Rattle.config_zones.specs.RefusalRecord
+pub use Rattle.config_zones.specs.Looking
+pub use Rattle.config_zones.specs.SetRefRecord
+pub use Rattle.config_zones.specs.Zones
+pub use Rattle.config_zones.specs.Edits
+pub use Rattle.config_zones.specs.DeltaRecord
+pub use Rattle.config_zones.specs.ZoneEditRecord

@@ -1,10 +1,13 @@
-//! Commands on health checks beside the sets that name checks: the first refusal of one.
+//! Commands on health checks beside the sets that name checks: the first refusal of one, and which
+//! sets these are.
 //!
 //! Nothing is changed here. The table of checks makes a command that isn't refused.
 #![tactic(auto)]
 
+mod checked;
 mod judging;
 mod naming;
 
+pub use checked::CheckedSets;
 pub use config_zones::{InputReason, Made, Refusal, commands_keep_sound, empty_is_sound};
 pub use judging::judge_checks;

@@ -17,7 +17,7 @@ ghost use Rattle.zone_commands.specs.Edits.{Edits, IsReady as IsEditReady};
 use crate::editing::work_for;
 use crate::installing::{apply, made_by, next_after};
 use crate::prepared::Prepared;
-use check_commands::{Made, Refusal, commands_keep_sound, empty_is_sound};
+use check_commands::{CheckedSets, Made, Refusal, commands_keep_sound, empty_is_sound};
 use health_check::CheckTable;
 use octets::OutOfMemory;
 use std::alloc::Global;
@@ -30,12 +30,15 @@ pub struct Config {
     zones: Zones,
     checks: CheckTable,
     next_zone: u32,
+    /// The sets that name checks.
+    checked: CheckedSets,
     /// What the last command took away and put.
     told: Delta,
     scratch: Scratch,
 }
 
 impl Model for Config {
+    ghost use Rattle.check_commands.specs.Checked.{KnowsChecked};
     ghost use Rattle.check_commands.specs.Sound.{Sound};
     ghost use Rattle.zone_commands.specs.Configured.{config_of};
     ghost use Rattle.r53_state.specs.States.{State};
@@ -49,7 +52,8 @@ impl Model for Config {
       told = c.told;
     } };
 
-    ghost invariant = { λ c. Sound (config_of c.zones c.checks.checks c.next_zone) };
+    ghost invariant = { λ c. Sound (config_of c.zones c.checks.checks c.next_zone)
+        × KnowsChecked c.checked c.zones.zones };
 }
 
 impl Config {
@@ -64,12 +68,14 @@ impl Config {
             zones: Zones::new(alloc),
             checks: CheckTable::new(alloc),
             next_zone: 1,
+            checked: CheckedSets::new(alloc),
             told: nothing(alloc),
             scratch,
         })
     }
 
-    /// These zones and collections, these checks, and the number that the next zone gets.
+    /// These zones and collections, these checks, and the number that the next zone gets. It goes
+    /// through the sets of zones in which any names a check.
     pub fn restore(
         alloc: Global,
         zones: Zones,
@@ -85,10 +91,12 @@ impl Config {
         }) }
     {
         let scratch = Scratch::new(alloc)?;
+        let checked = CheckedSets::all_of(alloc, &zones)?;
         Ok(Config {
             zones,
             checks,
             next_zone,
+            checked,
             told: nothing(alloc),
             scratch,
         })
@@ -150,6 +158,7 @@ impl Config {
             alloc,
             &self.zones,
             &self.checks,
+            &self.checked,
             self.next_zone,
             &command,
             &mut self.scratch,
@@ -202,6 +211,7 @@ impl Config {
         let made = made_by(&self.zones, &self.checks, self.next_zone, command);
         self.next_zone = next_after(self.next_zone, command);
         self.told = self.zones.edit(ready);
+        self.checked.note(&self.zones, &self.told);
         self.zones.well_formed();
         made
     }
@@ -245,6 +255,9 @@ impl Config {
         ensures ready { IfOk result (λ prepared. IsReady self.new prepared) }
         ensures others { StayReady self.old self.new }
     {
+        let Ok(()) = self.checked.reserve(&self.zones, &edit) else {
+            return Err(Refusal::OutOfMemory);
+        };
         let Ok(ready) = self.zones.ready(alloc, edit) else {
             return Err(Refusal::OutOfMemory);
         };

@@ -1,6 +1,6 @@
 use Rattle.std.proofs.Common.{◌-◌, ◌^◌}
 use Rattle.check_commands.proofs.Named.{IsAsInZones}
-use Rattle.check_commands.proofs.naming.is_check_named.Given as goal
+use Rattle.check_commands.proofs.naming.is_named_in_any.Given as goal
 
 abbrev pub invariant-loop-zone : goal.invariant-loop-zone
 invariant-loop-zone l = IsAsInZones l.id l.zones.zones l.last

@@ -1,0 +1,201 @@
+-- Sets that references name, and those of all zones.
+use Rattle.std.proofs.Common.{◌≡◌, ◌≢◌, ◌≤◌, ◌<◌, ℕ, Bool, true, false, cond, List, [], ◌∷◌, refl, ap, sym, ◌∙◌, subst, arith, inl, inr, Option, None, Some}
+use Rattle.std.specs.Prelude.{◌==◌, ◌||◌, is_some, slice_get, Contains}
+use Rattle.std.specs.List.{list_any}
+use Rattle.std.proofs.lemmas.Bool.{cases_eq, eq-eqb, false≢true, ne_eqb}
+use Rattle.std.proofs.lemmas.List.Folds.{list_any-append}
+use Rattle.std.proofs.lemmas.List.Sums.{sum_by-cons}
+use Rattle.config_edits.specs.Sums.{checked_in, checked_of, one_of}
+use Rattle.config_zones.specs.Edited.{hosted_in}
+use Rattle.config_zones.specs.Configs.{all_sets}
+use Rattle.config_zones.specs.Looking.{IsSetAt, Names}
+use Rattle.config_zones.specs.Others.{is_check_named, is_number}
+use Rattle.config_zones.specs.SetRefRecord.{SetRef}
+use Rattle.config_zones.specs.Zones.{AreZones, IsOne, StandsAlone, Zone, placed_in}
+use Rattle.config_zones.proofs.Holding.{kept_in}
+use Rattle.config_zones.proofs.Listing.{its_placed}
+use Rattle.config_zones.proofs.MembersOfZoneList.{in_all}
+use Rattle.record_set.specs.declared.sets.RecordSet.{RecordSet}
+use Rattle.zone_model.specs.Placed.{HaveOwnSlots, IsHere, Placed, sets_of}
+use Rattle.zone_model.specs.Zones.{IsAmong}
+use Rattle.check_commands.specs.Checked.{HasAllChecked, NamesCheck}
+use Rattle.check_commands.specs.declared.checked.CheckedSet.{CheckedSet}
+use Rattle.check_commands.proofs.Named.{names as names_check}
+
+-- ---- one set a reference
+
+-- in slots of their own there is one set in a slot
+one_slot : (placed : List Placed) → HaveOwnSlots placed → (p q : Placed) → IsAmong placed p
+    → IsAmong placed q → p.slot ≡ q.slot → p ≡ q
+one_slot [] own p q first second same = absurd first
+one_slot (x ∷ placed) own p q (inl d) (inl e) same = sym d ∙ e
+one_slot (x ∷ placed) own p q (inl d) (inr second) same =
+    absurd (in_all (λ (y : Placed). x.slot ≢ y.slot) placed q own.0 second
+    (ap (λ (y : Placed). y.slot) d ∙ same))
+one_slot (x ∷ placed) own p q (inr first) (inl e) same =
+    absurd (in_all (λ (y : Placed). x.slot ≢ y.slot) placed p own.0 first
+    (ap (λ (y : Placed). y.slot) e ∙ sym same))
+one_slot (x ∷ placed) own p q (inr first) (inr second) same =
+    one_slot placed own.1 p q first second same
+
+-- a reference names one set
+pub one_named : (zones : List Zone) (ref : SetRef) (set other : RecordSet) → AreZones zones
+    → Names zones ref set → Names zones ref other → set ≡ other
+one_named zones ref set other are first second =
+    ap (λ (p : Placed). p.set)
+    (one_slot (placed_in zones ref.zone) (kept_in zones are.each ref.zone).own
+    (record { slot = ref.slot; set = set })
+    (record { slot = ref.slot; set = other }) first second refl)
+
+-- the zone of a set that stands in the zone of a number
+pub its_zone : (zones : List Zone) (id : ℕ) (p : Placed) → IsHere (placed_in zones id) p
+    → (zone : Zone) × IsOne zones zone × (zone.id ≡ id) × IsHere zone.placed p
+its_zone [] id p here = absurd here
+its_zone (zone ∷ zones) id p here = by (zone.id == id) refl here (its_zone zones id p)
+  where
+    by : (b : Bool) → (zone.id == id) ≡ b
+        → IsHere (cond b zone.placed (placed_in zones id)) p
+        → (IsHere (placed_in zones id) p
+        → (other : Zone) × IsOne zones other × (other.id ≡ id) × IsHere other.placed p)
+        → (other : Zone) × IsOne (zone ∷ zones) other × (other.id ≡ id) × IsHere other.placed p
+    by true e is rest = (zone, inl refl, same e, is)
+      where
+        same : (zone.id == id) ≡ true → zone.id ≡ id
+        same t = elim (cases_eq zone.id id) [
+          | inl is ↦ is
+          | inr apart ↦ absurd (false≢true (sym (ne_eqb zone.id id apart) ∙ t))
+        ]
+    by false e is rest = let r = rest is in (r.0, inr r.1, r.2, r.3)
+
+-- ---- all sets
+
+either_true : (a b : Bool) → b ≡ true → (a || b) ≡ true
+either_true true b e = refl
+either_true false b e = e
+
+module _ (f : RecordSet → Bool) where
+  in_sets : (placed : List Placed) (p : Placed) → IsAmong placed p → f p.set ≡ true
+      → list_any f (sets_of placed) ≡ true
+  in_sets [] p there passes = absurd there
+  in_sets (q ∷ placed) p (inl e) passes =
+      ap (λ b. b || list_any f (sets_of placed)) (ap (λ (x : Placed). f x.set) e ∙ passes)
+  in_sets (q ∷ placed) p (inr there) passes =
+      either_true (f q.set) (list_any f (sets_of placed)) (in_sets placed p there passes)
+
+  pub in_zones : (zones : List Zone) (id : ℕ) (p : Placed) → IsHere (placed_in zones id) p
+      → f p.set ≡ true → list_any f (all_sets (hosted_in zones)) ≡ true
+  in_zones [] id p here passes = absurd here
+  in_zones (zone ∷ zones) id p here passes =
+      list_any-append f (sets_of zone.placed) (all_sets (hosted_in zones))
+      ∙ by (zone.id == id) (λ later. in_zones zones id p later passes) here
+    where
+      by : (b : Bool) → (IsHere (placed_in zones id) p
+          → list_any f (all_sets (hosted_in zones)) ≡ true)
+          → IsHere (cond b zone.placed (placed_in zones id)) p
+          → (list_any f (sets_of zone.placed) || list_any f (all_sets (hosted_in zones))) ≡ true
+      by true rest here =
+          ap (λ b. b || list_any f (all_sets (hosted_in zones)))
+          (in_sets zone.placed p here passes)
+      by false rest here =
+          either_true (list_any f (sets_of zone.placed)) (list_any f (all_sets (hosted_in zones)))
+          (rest here)
+
+  not_in_sets : (placed : List Placed) → ((p : Placed) → IsAmong placed p → f p.set ≡ false)
+      → list_any f (sets_of placed) ≡ false
+  not_in_sets [] none = refl
+  not_in_sets (q ∷ placed) none =
+      ap (λ b. b || list_any f (sets_of placed)) (none q (inl refl))
+      ∙ not_in_sets placed (λ p there. none p (inr there))
+
+  not_in_zones : (zones : List Zone) → ((zone : Zone) (p : Placed) → IsOne zones zone
+      → IsHere zone.placed p → f p.set ≡ false) → list_any f (all_sets (hosted_in zones)) ≡ false
+  not_in_zones [] none = refl
+  not_in_zones (zone ∷ zones) none =
+      list_any-append f (sets_of zone.placed) (all_sets (hosted_in zones))
+      ∙ (ap (λ b. b || list_any f (all_sets (hosted_in zones)))
+      (not_in_sets zone.placed (λ p here. none zone p (inl refl) here))
+      ∙ not_in_zones zones (λ other p there here. none other p (inr there) here))
+
+-- a list of which none is counted has none
+pub none_checked : (placed : List Placed) (p : Placed) → checked_of placed ≡ 0
+    → IsHere placed p → is_some p.set.check ≡ true → ⊥
+none_checked [] p zero here on = here
+none_checked (q ∷ placed) p zero (inl e) on =
+    let sum = sum_by-cons checked_in q placed in
+    let one : checked_in q ≡ 1 =
+    ap (λ (x : Placed). one_of (is_some x.set.check)) e ∙ ap one_of on in
+    omega (arith, sum, zero, one)
+none_checked (q ∷ placed) p zero (inr there) on =
+    let sum = sum_by-cons checked_in q placed in
+    none_checked placed p (omega (arith, sum, zero)) there on
+
+-- ---- a check
+
+module _ (zones : List Zone) (id : ℕ) where
+  -- none of the sets that are listed with the check names it
+  abbrev pub NoneNames : List CheckedSet → Type 0
+  NoneNames list = (one : CheckedSet) → Contains list one → NamesCheck zones one
+      → one.check ≡ id → ⊥
+
+  pub named_here : (one : CheckedSet) → one.check ≡ id → NamesCheck zones one
+      → true ≡ is_check_named id (all_sets (hosted_in zones))
+  named_here one is names =
+      sym (in_zones (names_check id) zones one.set.zone
+      (record { slot = one.set.slot; set = names.0 }) names.1
+      (ap (is_number id) names.2 ∙ eq-eqb one.check id is))
+
+  pub named_nowhere : (list : List CheckedSet) → AreZones zones → HasAllChecked zones list
+      → NoneNames list → false ≡ is_check_named id (all_sets (hosted_in zones))
+  named_nowhere list are all none =
+      sym (not_in_zones (names_check id) zones (λ zone p there here.
+      by zone p
+      (subst (λ (l : List Placed). IsHere l p) (sym (its_placed zones are.listed zone there)) here)
+      p.set.check refl))
+    where
+      by : (zone : Zone) (p : Placed) → IsHere (placed_in zones zone.id) p
+          → (check : Option ℕ) → p.set.check ≡ check → is_number id p.set.check ≡ false
+      by zone p here None is = ap (is_number id) is
+      by zone p here (Some other) is = elim (cases_eq other id) [
+        | inl same ↦
+            let one : CheckedSet =
+            record { set = record { zone = zone.id; slot = p.slot }; check = other } in
+            absurd (none one (all one (p.set, here, is)) (p.set, here, is) same)
+        | inr apart ↦ ap (is_number id) is ∙ ne_eqb other id apart
+      ]
+
+-- ---- zones one after another
+
+-- what is told of the set at a place
+pub record IsTold (zones : List Zone) (zone i : ℕ) (ref : SetRef) : Type 0 where
+  pub its : (p : Placed) → slice_get (placed_in zones zone) i ≡ Some p
+      → record { zone = zone; slot = p.slot } ≡ ref
+
+some_same : {X : Type 0} {x y : X} → Some x ≡ Some y → x ≡ y
+some_same e = cc
+
+pub told_at : (zones : List Zone) (zone i : ℕ) (ref : SetRef) → IsSetAt zones zone i (Some ref)
+    → IsTold zones zone i ref
+told_at zones zone i ref (its_zone, (set, at)) = record {
+  its = λ p is.
+      let same : p ≡ record { slot = ref.slot; set = set } = some_same (sym is ∙ at) in
+      ap (λ (q : Placed). record { zone = zone; slot = q.slot }) same
+      ∙ ap (λ (z : ℕ). record { zone = z; slot = ref.slot }) (sym its_zone);
+}
+
+-- no zone has number 0
+pub none_at_start : (zones : List Zone) (id : ℕ) (p : Placed) → AreZones zones
+    → IsHere (placed_in zones id) p → 0 < id
+none_at_start zones id p are here =
+    let z = its_zone zones id p here in
+    let numbered = (in_all StandsAlone zones z.0 are.each z.1).numbered in
+    let is = z.2 in
+    omega arith
+
+-- a zone that has a set is one of those up to the last
+pub up_to : (zones : List Zone) (id zone : ℕ) (p : Placed)
+    → ((z : Zone) → IsOne zones z → z.id ≤ zone) → IsHere (placed_in zones id) p → id ≤ zone
+up_to zones id zone p all here =
+    let z = its_zone zones id p here in
+    let b = all z.0 z.1 in
+    let e = z.2 in
+    omega arith
