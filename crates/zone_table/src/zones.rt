@@ -10,7 +10,8 @@ ghost use Rattle.zone_list.specs.Zones.{AreZones, IsZoneId, placed_in};
 ghost use Rattle.zone_table.specs.Counted.{octets_in_all, sets_in_all};
 ghost use Rattle.zone_table.specs.Edits.{Edits, IsAllowed, IsReady, StayReady};
 ghost use Rattle.zone_table.specs.Edits.{collections_after};
-ghost use Rattle.zone_table.specs.Looking.{ApexOrNone, HoldsOrNone, IsApex, IsGroup, IsGroupNow};
+ghost use Rattle.zone_table.specs.Looking.{ApexOrNone, HasNameAt, HoldsOrNone, IsApex, IsGroup};
+ghost use Rattle.zone_table.specs.Looking.{IsGroupNow};
 ghost use Rattle.zone_table.specs.Looking.{IsMember, IsNextSet, IsSetAt, Loads, ServersAreAt};
 ghost use Rattle.zone_table.specs.Looking.{Targets, Watches, bound_of};
 ghost use Rattle.zone_table.specs.Tables.{HaveSlotsApart, HaveSlotsBelow};
@@ -18,8 +19,8 @@ ghost use Rattle.zone_list.specs.Stops.{bound_of as told};
 
 use crate::edits::{Ready, ZoneEdit};
 use crate::looking::{
-    copies, hint_of, load, may_have_cuts, order_of, slot_at, slot_behind, slot_in, sums_in, target,
-    view, watch,
+    copies, has_name, hint_of, load, may_have_cuts, order_of, slot_at, slot_behind, slot_in,
+    sums_in, target, view, watch,
 };
 use crate::making::{make, note_name};
 use crate::needs::{need_of, reserve_for, reserve_name};
@@ -146,6 +147,13 @@ impl Zones {
             Some(slot) => Some(SetRef { zone, slot }),
             None => None,
         }
+    }
+
+    /// Whether there is a set at a place of a zone that has the name.
+    pub fn has_name(&self, zone: u32, i: usize, name: &Name) -> bool
+        ensures { IsTrue result ↔ HasNameAt self.now.zones zone i name.now }
+    {
+        has_name(&self.store, &self.list, zone, i, name)
     }
 
     /// How many octets the sets of a zone have.
