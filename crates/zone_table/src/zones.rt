@@ -22,7 +22,7 @@ use crate::looking::{
     copies, has_name, hint_of, load, may_have_cuts, order_of, slot_at, slot_behind, slot_in,
     sums_in, target, view, watch,
 };
-use crate::making::{make, note_name};
+use crate::making::{make, note_name, settle, settle_all};
 use crate::needs::{need_of, reserve_for, reserve_name};
 use crate::refs::{Delta, Group};
 use cidr_routing::Collections;
@@ -47,6 +47,8 @@ pub struct Zones {
     octets: u64,
     /// How many edits were made, modulo 2^64.
     edits: u64,
+    /// Whether it is put off that hints are made anew.
+    put_off: bool,
 }
 
 impl Model for Zones {
@@ -88,6 +90,7 @@ impl Zones {
             collections: Collections::new(alloc),
             octets: 0,
             edits: 0,
+            put_off: false,
         }
     }
 
@@ -382,13 +385,31 @@ impl Zones {
     {
         self.edits = self.edits.wrapping_add(1);
         note_name(&mut self.apexes, &ready.made);
-        make(
+        let delta = make(
             &mut self.store,
             &mut self.list,
             &mut self.collections,
             &mut self.octets,
             ready,
-        )
+        );
+        settle(&self.store, &mut self.list, delta.zone, self.put_off);
+        delta
+    }
+
+    /// Edits put it off from now on that hints are made anew, which only tell where to look first.
+    /// Where many edits follow one another this saves most of what they cost.
+    pub fn put_hints_off(&mut self)
+        ensures { self.new ≡ self.old }
+    {
+        self.put_off = true;
+    }
+
+    /// Makes all hints anew that are old; from now on edits do so.
+    pub fn settle_hints(&mut self)
+        ensures { self.new ≡ self.old }
+    {
+        self.put_off = false;
+        settle_all(&self.store, &mut self.list);
     }
 }
 
