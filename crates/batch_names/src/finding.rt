@@ -29,7 +29,7 @@ pub fn named_sets(
         ≡ named_in changes.now (sets_of (placed_in zones.now.zones zone))) }
 {
     zones.well_formed();
-    let starts = rising_starts(alloc, zones, zone, changes, scratch)?;
+    let starts = rising_starts(alloc, zones, zone, changes)?;
     let mut found = Vec::with_capacity(alloc, starts.len())?;
     for start in &starts {
         read_run(alloc, zones, zone, *start, scratch, &mut found)?;

@@ -7,30 +7,23 @@ ghost use Rattle.zone_table.specs.Placed.{sets_of};
 ghost use Rattle.zone_table.specs.Sets.{IsAmong};
 ghost use Rattle.batch_names.specs.Starts.{AreRisingStarts, AreStarts, StartOrNone};
 
-use crate::held::hold_named;
 use batch_model::Change;
 use dns_name::Name;
 use octets::OutOfMemory;
 use rdata::RType;
 use std::alloc::Global;
-use zone_table::{Scratch, Zones};
+use zone_table::Zones;
 
 /// Where the sets of a name begin, if the zone has any. The hint is where they may, and then where
 /// those of the next name may, since batches mostly name sets in zone order.
-fn start_of(
-    zones: &Zones,
-    zone: u32,
-    name: &Name,
-    near: &mut Option<usize>,
-    scratch: &mut Scratch,
-) -> Option<usize>
+fn start_of(zones: &Zones, zone: u32, name: &Name, near: &mut Option<usize>) -> Option<usize>
     ensures { StartOrNone (sets_of (placed_in zones.now.zones zone)) name.now result }
 {
     zones.well_formed();
     // No type is lower, and a set without an identifier comes first.
     let start = zones.group_near(zone, name, RType::A, *near).start;
     *near = Some(start);
-    if hold_named(zones, zone, start, name, scratch) {
+    if zones.has_name(zone, start, name) {
         return Some(start);
     }
     None
@@ -42,7 +35,6 @@ fn each_start(
     zones: &Zones,
     zone: u32,
     changes: &[Change],
-    scratch: &mut Scratch,
 ) -> Result<Vec<usize>, OutOfMemory>
     ensures { IfOk result (λ starts. AreStarts (sets_of (placed_in zones.now.zones zone))
         changes.now starts.items) }
@@ -50,7 +42,7 @@ fn each_start(
     let mut starts = Vec::with_capacity(alloc, changes.len())?;
     let mut near = None;
     for change in changes {
-        if let Some(start) = start_of(zones, zone, &change.set.name, &mut near, scratch) {
+        if let Some(start) = start_of(zones, zone, &change.set.name, &mut near) {
             starts.push(start)?;
         }
     }
@@ -63,12 +55,11 @@ pub fn rising_starts(
     zones: &Zones,
     zone: u32,
     changes: &[Change],
-    scratch: &mut Scratch,
 ) -> Result<Vec<usize>, OutOfMemory>
     ensures { IfOk result (λ starts. AreRisingStarts (sets_of (placed_in zones.now.zones zone))
         changes.now starts.items) }
 {
-    let starts = each_start(alloc, zones, zone, changes, scratch)?;
+    let starts = each_start(alloc, zones, zone, changes)?;
     Ok(rise(starts))
 }
 

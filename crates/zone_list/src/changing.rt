@@ -58,6 +58,8 @@ pub fn come_all(
         added.push_reserved(SetRef { zone, slot });
         if order.len() > before {
             note(hints, set, near, order.len());
+        } else {
+            hints.gave_way();
         }
     }
 }

@@ -2,7 +2,8 @@
 //!
 //! A hint is tried and never trusted: no contract speaks of what the table holds, so nothing has to
 //! be mended where sets come and go. A name that comes is entered at its place, and the table is
-//! made anew once entries are wrong by too much.
+//! made anew once entries are wrong by too much. Where that is put off, it is made anew only for as
+//! many sets that were there and were changed as pay for it.
 
 ghost use Rattle.zone_changes.specs.Orders.{IsOrder};
 
@@ -21,17 +22,23 @@ pub struct Hints {
     entries: Vec<u32>,
     /// By how many places sets moved since the table was made, all of them together.
     moved: usize,
+    /// How many sets that were there gave way or went since then.
+    changed: usize,
 }
 
 impl Hints {
     /// A table without entries, for which this list is empty.
     pub fn new(entries: Vec<u32>) -> Hints {
-        Hints { entries, moved: 0 }
+        Hints {
+            entries,
+            moved: 0,
+            changed: 0,
+        }
     }
 
     /// The place that is told of a name's octets.
     pub fn find(&self, name: &[u8]) -> Option<usize> {
-        if self.entries.len() == 0 {
+        if self.entries.len() == 0 || self.moved == usize::MAX {
             return None;
         }
         let hash = hash_of(name);
@@ -86,19 +93,32 @@ impl Hints {
         }
     }
 
-    /// Tells that so many sets went, and makes the table anew where its entries are wrong by too
-    /// much.
-    pub fn refresh(&mut self, store: &SetStore, zone: u32, order: &[u32], gone: usize)
+    /// Tells that a set gave way to one of its key.
+    pub fn gave_way(&mut self) {
+        self.changed = self.changed.saturating_add(1);
+    }
+
+    /// Tells that so many sets went, of so many.
+    pub fn went(&mut self, gone: usize, sets: usize) {
+        self.moved = self.moved.saturating_add(gone.saturating_mul(sets / 2));
+        self.changed = self.changed.saturating_add(gone);
+    }
+
+    /// Makes the table anew where its entries are wrong by too much; where that is put off, only if
+    /// sets that were there were changed, as many as a sixteenth of all.
+    pub fn settle(&mut self, store: &SetStore, zone: u32, order: &[u32], put_off: bool)
         requires { IsOrder store.now.slots zone order.now }
     {
-        self.moved = self
-            .moved
-            .saturating_add(gone.saturating_mul(order.len() / 2));
-        if self.is_old(order.len()) {
-            clear(&mut self.entries);
-            fill(&mut self.entries, store, zone, order);
-            self.moved = 0;
+        if !self.is_old(order.len()) {
+            return;
         }
+        if put_off && self.changed <= order.len() / 16 {
+            return;
+        }
+        clear(&mut self.entries);
+        fill(&mut self.entries, store, zone, order);
+        self.moved = 0;
+        self.changed = 0;
     }
 
     /// Whether so many sets moved by too much: in the mean by more than a thirty-second of them.

@@ -171,7 +171,16 @@ impl StoredZone {
             &mut self.sums,
         );
         let gone = before.wrapping_sub(self.order.len());
-        self.hints.refresh(store, self.id, &self.order, gone);
+        self.hints.went(gone, before);
+    }
+
+    /// Makes its hints anew where they are old, or where that is put off, only if it pays at once.
+    /// Nothing else changes.
+    pub fn settle(&mut self, store: &SetStore, put_off: bool)
+        requires { IsOrder store.now.slots self.old.id self.old.order }
+        ensures { self.new ≡ self.old }
+    {
+        self.hints.settle(store, self.id, &self.order, put_off);
     }
 
     /// The zone goes, with all its sets. Their references are told, in zone order.

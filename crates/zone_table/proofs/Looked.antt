@@ -8,6 +8,7 @@ use Rattle.zone_list.specs.RecordSetRecord.{RecordSet}
 use Rattle.zone_list.specs.Index.{no_set}
 use Rattle.zone_list.specs.Stored.{IsKept, Kept, zone_told}
 use Rattle.zone_list.specs.Placed.{IsHere, Placed, sets_of}
+use Rattle.zone_list.specs.FoundOfSetSearch.{TypeOrNone}
 use Rattle.zone_list.specs.Sets.{IsAmong}
 use Rattle.zone_list.specs.Existing.{Exists}
 use Rattle.zone_list.proofs.ListsOfZoneModel.{take_more}
@@ -17,7 +18,7 @@ use Rattle.zone_list.proofs.Slots.{its_kept}
 use Rattle.zone_list.specs.Kept.{AreKept, Listed, zones_in}
 use Rattle.zone_list.specs.Zones.{AreZones, placed_in, StandsAlone, Zone}
 use Rattle.zone_list.proofs.Listing.{its_placed}
-use Rattle.zone_list.proofs.Members.{apex_exists, in_all}
+use Rattle.zone_list.proofs.Members.{apex_exists, filled, in_all}
 use Rattle.zone_list.specs.declared.refs.SetRef.{SetRef}
 use Rattle.zone_list.specs.RTypeRecord.{RType}
 use Rattle.zone_list.specs.Telling.{target_of}
@@ -152,3 +153,10 @@ pub number_at : (xs : List ℕ) (i : ℕ) → i < length xs → slice_get xs i �
 number_at [] i lt = absurd (omega (arith, lt))
 number_at (x ∷ xs) zero lt = refl
 number_at (x ∷ xs) (suc i) lt = number_at xs i (omega (arith, lt))
+
+-- there is a set at a place of which a type is told, and it has the name
+pub named_here : (sets : List RecordSet) (i : ℕ) (name : List (List ℕ)) (number : ℕ) → i < length sets
+    → ((set : RecordSet) → slice_get sets i ≡ Some set → TypeOrNone name set (Some number))
+    → (set : RecordSet) × (slice_get sets i ≡ Some set) × (set.name ≡ name)
+named_here sets i name number within told =
+    let it = filled sets i within in (it.0, it.1, (told it.0 it.1).0)

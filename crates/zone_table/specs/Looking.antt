@@ -1,5 +1,6 @@
 -- What is found in a table of zones.
-use Rattle.std.specs.Prelude.{◌≡◌, ◌≤◌, ◌+◌, ℕ, List, length, Bool, true, false, Option, None, Some}
+use Rattle.std.specs.Prelude.{◌≡◌, ◌≤◌, ◌+◌, ℕ, List, length, slice_get, Bool, true, false, Option, None}
+use Rattle.std.specs.Prelude.{Some}
 use Rattle.zone_list.specs.Suffix.{EndsWith}
 use Rattle.zone_list.specs.RTypeRecord.{RType}
 use Rattle.zone_list.specs.RTypeRecord.TheVariants as rtype
@@ -42,6 +43,11 @@ abbrev pub IsSetAt : List Zone → (zone i : ℕ) → Option SetRef → Type 0
 IsSetAt zones zone i (Some set) = (set.zone ≡ zone)
     × SlotAt (placed_in zones zone) i (Some set.slot)
 IsSetAt zones zone i None = SlotAt (placed_in zones zone) i None
+
+-- there is a set at place i of a zone, and it has the name
+abbrev pub HasNameAt : List Zone → (zone i : ℕ) → (name : List (List ℕ)) → Type 0
+HasNameAt zones zone i name = (set : RecordSet)
+    × (slice_get (sets_of (placed_in zones zone)) i ≡ Some set) × (set.name ≡ name)
 
 -- a reference names this set
 abbrev pub Names : List Zone → SetRef → RecordSet → Type 0

@@ -1,6 +1,6 @@
 //! A zone found by its number, with its sets in their order.
 
-ghost use Rattle.std.specs.Prelude.{◌≡◌, ◌<◌, ◌+◌, ◌^◌, ℕ, length, slice_get, Some, IfOk, false};
+ghost use Rattle.std.specs.Prelude.{◌≡◌, ◌<◌, ◌+◌, ◌^◌, ℕ, length, slice_get, Some, IfOk, IsTrue, ◌↔◌, false};
 ghost use Rattle.zone_list.specs.Stops.{bound_of};
 ghost use Rattle.zone_list.specs.Sums.{sums_of};
 ghost use Rattle.zone_list.specs.Kept.{AreKept, named_of, zones_in};
@@ -8,7 +8,8 @@ ghost use Rattle.zone_list.specs.Zones.{AreListed, placed_in};
 ghost use Rattle.zone_list.specs.Placed.{IsSlotAt, sets_of};
 ghost use Rattle.zone_list.specs.Orders.{IsOrder, placed_of};
 ghost use Rattle.zone_table.specs.Counted.{AreCounted};
-ghost use Rattle.zone_table.specs.Looking.{Loads, ServersAreAt, SlotAt, SlotBehind, Targets, Watches};
+ghost use Rattle.zone_table.specs.Looking.{HasNameAt, Loads, ServersAreAt, SlotAt, SlotBehind, Targets};
+ghost use Rattle.zone_table.specs.Looking.{Watches};
 ghost use Rattle.zone_table.specs.Stored.{GetsOrder, IsNamed, ViewsZone};
 
 use octets::OutOfMemory;
@@ -72,6 +73,24 @@ fn slot_of(order: &[u32], place: usize) -> u32
     ensures { slice_get order.now place ≡ Some result }
 {
     order[place]
+}
+
+/// Whether there is a set at a place of a zone that has the name.
+pub fn has_name(store: &SetStore, list: &[StoredZone], zone: u32, place: usize, name: &Name) -> bool
+    requires { AreKept store.now.slots list.now }
+    ensures { IsTrue result
+        ↔ HasNameAt (zones_in store.now.slots list.now) zone place name.now }
+{
+    let Some(sets) = view(store, list, zone) else {
+        return false;
+    };
+    if place >= sets.count() {
+        return false;
+    }
+    match sets.type_at(place, name) {
+        Some(_) => true,
+        None => false,
+    }
 }
 
 /// The slot of the first set of a zone behind the bound, with a hint of its place.

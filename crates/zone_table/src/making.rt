@@ -244,3 +244,25 @@ fn change(
         added: SetRefs::from_vec(added),
     }
 }
+
+/// Makes the hints of a zone anew where they are old, or where that is put off, only if it pays at
+/// once.
+pub fn settle(store: &SetStore, list: &mut [StoredZone], zone: u32, put_off: bool)
+    requires { AreKept store.now.slots list.old }
+    ensures { list.new ≡ list.old }
+{
+    if let Some(place) = find_zone(list, zone) {
+        list[place].settle(store, put_off);
+    }
+}
+
+/// Makes the hints of all zones anew that are old.
+pub fn settle_all(store: &SetStore, list: &mut [StoredZone])
+    requires { AreKept store.now.slots list.old }
+    ensures { list.new ≡ list.old }
+{
+    for place in 0..list.len() {
+        let zone = list[place].id();
+        settle(store, list, zone, false);
+    }
+}

@@ -10,7 +10,8 @@ ghost use Rattle.zone_list.specs.Zones.{AreZones, IsZoneId, placed_in};
 ghost use Rattle.zone_table.specs.Counted.{octets_in_all, sets_in_all};
 ghost use Rattle.zone_table.specs.Edits.{Edits, IsAllowed, IsReady, StayReady};
 ghost use Rattle.zone_table.specs.Edits.{collections_after};
-ghost use Rattle.zone_table.specs.Looking.{ApexOrNone, HoldsOrNone, IsApex, IsGroup, IsGroupNow};
+ghost use Rattle.zone_table.specs.Looking.{ApexOrNone, HasNameAt, HoldsOrNone, IsApex, IsGroup};
+ghost use Rattle.zone_table.specs.Looking.{IsGroupNow};
 ghost use Rattle.zone_table.specs.Looking.{IsMember, IsNextSet, IsSetAt, Loads, ServersAreAt};
 ghost use Rattle.zone_table.specs.Looking.{Targets, Watches, bound_of};
 ghost use Rattle.zone_table.specs.Tables.{HaveSlotsApart, HaveSlotsBelow};
@@ -18,10 +19,10 @@ ghost use Rattle.zone_list.specs.Stops.{bound_of as told};
 
 use crate::edits::{Ready, ZoneEdit};
 use crate::looking::{
-    copies, hint_of, load, may_have_cuts, order_of, slot_at, slot_behind, slot_in, sums_in, target,
-    view, watch,
+    copies, has_name, hint_of, load, may_have_cuts, order_of, slot_at, slot_behind, slot_in,
+    sums_in, target, view, watch,
 };
-use crate::making::{make, note_name};
+use crate::making::{make, note_name, settle, settle_all};
 use crate::needs::{need_of, reserve_for, reserve_name};
 use crate::refs::{Delta, Group};
 use cidr_routing::Collections;
@@ -46,6 +47,8 @@ pub struct Zones {
     octets: u64,
     /// How many edits were made, modulo 2^64.
     edits: u64,
+    /// Whether it is put off that hints are made anew.
+    put_off: bool,
 }
 
 impl Model for Zones {
@@ -87,6 +90,7 @@ impl Zones {
             collections: Collections::new(alloc),
             octets: 0,
             edits: 0,
+            put_off: false,
         }
     }
 
@@ -146,6 +150,13 @@ impl Zones {
             Some(slot) => Some(SetRef { zone, slot }),
             None => None,
         }
+    }
+
+    /// Whether there is a set at a place of a zone that has the name.
+    pub fn has_name(&self, zone: u32, i: usize, name: &Name) -> bool
+        ensures { IsTrue result ↔ HasNameAt self.now.zones zone i name.now }
+    {
+        has_name(&self.store, &self.list, zone, i, name)
     }
 
     /// How many octets the sets of a zone have.
@@ -374,13 +385,31 @@ impl Zones {
     {
         self.edits = self.edits.wrapping_add(1);
         note_name(&mut self.apexes, &ready.made);
-        make(
+        let delta = make(
             &mut self.store,
             &mut self.list,
             &mut self.collections,
             &mut self.octets,
             ready,
-        )
+        );
+        settle(&self.store, &mut self.list, delta.zone, self.put_off);
+        delta
+    }
+
+    /// Edits put it off from now on that hints are made anew, which only tell where to look first.
+    /// Where many edits follow one another this saves most of what they cost.
+    pub fn put_hints_off(&mut self)
+        ensures { self.new ≡ self.old }
+    {
+        self.put_off = true;
+    }
+
+    /// Makes all hints anew that are old; from now on edits do so.
+    pub fn settle_hints(&mut self)
+        ensures { self.new ≡ self.old }
+    {
+        self.put_off = false;
+        settle_all(&self.store, &mut self.list);
     }
 }
 
