@@ -86,8 +86,12 @@ fn read_on<D: Disk>(
         Err(SnapshotFault::Bad) => return Err(OpenFault::NotAStore(journal.side(), 20)),
         Err(SnapshotFault::OutOfMemory) => return Err(OpenFault::OutOfMemory),
     };
+    config.put_hints_off();
     match replay(alloc, &mut config, &mut journal, a, b) {
-        Ok(()) => Ok(ConfigJournal::new(config, journal)),
+        Ok(()) => {
+            config.settle_hints();
+            Ok(ConfigJournal::new(config, journal))
+        }
         Err(fault) => Err(fault),
     }
 }

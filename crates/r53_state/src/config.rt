@@ -194,6 +194,21 @@ impl Config {
         }
     }
 
+    /// Commands put it off from now on that hints are made anew, which only tell where to look
+    /// first: for commands that follow one another, as where a journal is read.
+    pub fn put_hints_off(&mut self)
+        ensures { self.new ≡ self.old }
+    {
+        self.zones.put_hints_off();
+    }
+
+    /// Makes all hints anew that are old; from now on commands do so.
+    pub fn settle_hints(&mut self)
+        ensures { self.new ≡ self.old }
+    {
+        self.zones.settle_hints();
+    }
+
     /// Makes the edit of the zones that is ready for a command.
     fn make_edit(&mut self, command: &Command, ready: Ready) -> Made
         requires bounded { IsBounded command.now }
