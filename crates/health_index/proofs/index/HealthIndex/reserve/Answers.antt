@@ -52,7 +52,8 @@ returns-clause-stands c zones checks reports is =
 
 pub returns-clause-ready : goal.returns-clause-ready
 returns-clause-ready c room =
-    let old = subst (λ (i : Index). HasRoom i c.args.zones.now.slots) (sym c.self.view_is) room in
+    let known = subst (λ (i : Index). HasRoom i c.args.zones.now.slots) (sym c.self.view_is) room in
+    let old = subst (HasRoom _) (sym c.slots.ensures) known in
     c.each_ok.ensures.each (c.room_for_checks-now.ensures.ready old.ids old.seen)
     (c.room_for_checks-before.ensures.ready old.ids_before old.seen_before)
     (c.room_for_slots-slots.ensures.ready old.few old.seats old.refs old.refs_before old.shapes
