@@ -1,3 +1,4 @@
+pub mod Beside
 pub mod Depth
 pub mod Labels
 pub mod Lower

@@ -1,6 +1,6 @@
 //! Zone order: labels from the root, octets compared, a parent before what is below it.
 
-ghost use Rattle.std.specs.Prelude.{◌≡◌, ℕ, ◌≤◌, List, length, drop, refl, Some};
+ghost use Rattle.std.specs.Prelude.{◌≡◌, ℕ, ◌≤◌, IfSome, List, length, drop, refl, Some};
 ghost use Rattle.std.specs.Cmp.Lexicographic.{slice_cmp};
 ghost use Rattle.std.specs.Ordering.{nat_cmp, ordering_then};
 ghost use Rattle.dns_name.specs.Labels.{wire};
@@ -12,7 +12,7 @@ ghost use Rattle.dns_name.specs.Stored.{labels_of};
 ghost use Rattle.dns_name.specs.Whole.{IsWire};
 
 use crate::Name;
-use crate::walk::{count, part, skip};
+use crate::walk::{count, is_same, part, skip};
 use octets::behind;
 use std::cmp::Ordering;
 
@@ -70,6 +70,9 @@ fn order_of(octets: &[u8], others: &[u8]) -> Ordering
     requires others { IsWire others.now }
     ensures { result ≡ zone_cmp (labels_of octets.now) (labels_of others.now) }
 {
+    if let Some(order) = order_beside(octets, others) {
+        return order;
+    }
     let n = count(octets);
     let m = count(others);
     if n < m {
@@ -83,6 +86,28 @@ fn order_of(octets: &[u8], others: &[u8]) -> Ordering
         );
     }
     order_at_depth(octets, others, Ordering::Equal)
+}
+
+/// The order of two names that are right below one name, as those of most sets of a zone are: that of
+/// their first labels. None where they aren't.
+fn order_beside(octets: &[u8], others: &[u8]) -> Option<Ordering>
+    requires octets { IsWire octets.now }
+    requires others { IsWire others.now }
+    ensures { IfSome result (λ order.
+        order ≡ zone_cmp (labels_of octets.now) (labels_of others.now)) }
+{
+    let n = octets[0] as usize;
+    let m = others[0] as usize;
+    if n == 0 {
+        return None;
+    }
+    if m == 0 {
+        return None;
+    }
+    if !is_same(behind(octets, n + 1), behind(others, m + 1)) {
+        return None;
+    }
+    Some(label_order(part(octets, 1, n), part(others, 1, m)))
 }
 
 /// The order of two names of as many labels, and `tie` where they are one.

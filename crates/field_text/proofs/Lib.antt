@@ -5,4 +5,5 @@ pub mod OneField
 pub mod Spelled
 pub mod Vectors
 pub use Rattle.rdata_layout.proofs.Labels
+pub use Rattle.rdata_layout.proofs.Beside
 pub use Rattle.rdata_layout.proofs.Depth

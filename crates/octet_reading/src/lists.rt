@@ -25,8 +25,8 @@ const AT_ONCE: usize = 10_000;
 
 /// So many of a field, and what stands behind them.
 ///
-/// Room is taken at once, for no more values than octets are left: a value may be too large to be
-/// moved each time that a list grows.
+/// Room is taken at once, for no more values than octets are left, and for 10,000 at most: a value
+/// may be too large to be moved each time that a list grows.
 pub fn so_many<'a, F: Field>(
     alloc: Global,
     field: &F,

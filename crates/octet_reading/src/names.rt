@@ -48,7 +48,7 @@ fn lower_name(bytes: &[u8]) -> Option<(Name, &[u8])>
     None
 }
 
-/// Where the fault stands in octets that begin with no name.
+/// Where the fault stands in octets that begin with no name in lower case.
 fn no_name(bytes: &[u8]) -> Fault
     requires { (left : ℕ) → front_of bytes.now ≡ Whole left → ⊥ }
     ensures { name_at bytes.now ≡ Err result.0 }

@@ -9,5 +9,6 @@ pub mod Whole
 pub mod Octets
 pub mod One
 pub mod Backs
+pub use Rattle.field_text.proofs.Beside
 pub use Rattle.field_text.proofs.Depth
 pub use Rattle.field_text.proofs.Labels

@@ -5,4 +5,5 @@ pub use Rattle.dns_name.proofs.Labels
 pub use Rattle.dns_name.proofs.Steps
 pub use Rattle.dns_name.proofs.Texts
 pub use Rattle.dns_name.proofs.Written
+pub use Rattle.dns_name.proofs.Beside
 pub use Rattle.dns_name.proofs.Depth

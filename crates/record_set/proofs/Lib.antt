@@ -1,4 +1,5 @@
 pub mod Firsts
 pub mod Times
+pub use Rattle.rdata.proofs.Beside
 pub use Rattle.rdata.proofs.Depth
 pub use Rattle.rdata.proofs.Labels

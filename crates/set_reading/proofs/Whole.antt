@@ -5,9 +5,6 @@ use Rattle.std.specs.Prelude.{nat_lt, IfOk}
 use Rattle.std.proofs.lemmas.Bool.{ltb-false, le-ltb}
 use Rattle.set_fields.proofs.Digits.{ok_is}
 use Rattle.set_fields.specs.NamesOfDnsName.{AreOctets}
-use Rattle.set_fields.specs.StopRecord.{Stop}
-use Rattle.set_fields.specs.StopRecord.TheVariants as stop
-use Rattle.set_fields.specs.Reading.{Stops}
 use Rattle.set_fields.specs.RecordSetRecord.{RecordSet}
 use Rattle.set_reading.specs.declared.faults.ReadFault.{ReadFault}
 use Rattle.set_reading.specs.Gives.{ReadsSet}
@@ -146,15 +143,3 @@ module _ (fields : FieldsAreRead) where
 
   pub sets_are_told : SetsAreTold
   sets_are_told octets are = told octets (read octets) are refl
-
-  -- what is left, and what stands from a fault on
-  pub rest_within : (octets : List ℕ) (x : RecordSet × List ℕ) → set_at octets ≡ Ok x
-      → length x.1 ≤ length octets
-  rest_within octets x e = (set_read fields).left octets x.0 x.1 e
-
-  pub fault_within : (octets : List ℕ) (e : Stop) (left : ℕ) → e ≡ stop.Bad left
-      → Stops e (set_at octets) → left ≤ length octets
-  fault_within octets (stop.Bad n) left same h =
-      let k : n ≡ left = cc in
-      subst (λ m. m ≤ length octets) k ((set_read fields).fault octets n h)
-  fault_within octets stop.OutOfMemory left same h = absurd cc

@@ -1,7 +1,7 @@
 //! Reading the octets of record sets, from left to right, with the place of the first fault.
 //!
-//! A fault is counted from the end while the fields are read, and becomes a place at last. A set
-//! that is too long is told as such behind its last field, so that a fault within it comes first.
+//! A fault is counted from the end while the fields are read, and told as a place. A set that is
+//! too long is told as such behind its last field, so that a fault within it comes first.
 #![tactic(auto)]
 
 mod faults;

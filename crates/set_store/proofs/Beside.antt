@@ -10,14 +10,13 @@ use Rattle.std.proofs.Math.Seq.{drop-append_seam, take-append_seam}
 use Rattle.set_search.specs.Labels.{IsRawLabel, frame, wire}
 use Rattle.set_search.specs.NamesOfDnsName.{IsName}
 use Rattle.set_search.specs.OrderOfDnsName.{zone_cmp}
-use Rattle.set_search.proofs.Depth.{deeper}
+use Rattle.set_search.proofs.Beside.{beside}
 use Rattle.set_search.specs.RecordSetRecord.{RecordSet}
 use Rattle.set_search.specs.SetKeyRecord.{SetKey}
 use Rattle.set_search.specs.RTypeRecord.{RType}
 use Rattle.set_search.specs.declared.bounds.Bound.TheVariants as bound
 use Rattle.set_search.specs.Bounds.{is_before}
 use Rattle.set_store.proofs.Fronts.{above_alike}
-use Rattle.set_store.proofs.Named.{as_itself}
 
 -- The first label of a name, and what stands behind it.
 record IsFirst (xs more : List ℕ) (labels : List (List ℕ)) : Type 0 where
@@ -70,18 +69,6 @@ same_first (x ∷ xs) = refl
 same_text : (n : ℕ) (xs : List ℕ) → n < 32 → take n (drop 1 (take 32 xs)) ≡ take n (drop 1 xs)
 same_text n [] lt = refl
 same_text n (x ∷ xs) lt = take_twice n 31 xs (omega (arith, lt))
-
-tied_last : (o : Ordering) → ordering_then o Equal ≡ o
-tied_last Less = refl
-tied_last Equal = refl
-tied_last Greater = refl
-
-beside : (label other : List ℕ) (above : List (List ℕ))
-    → zone_cmp (label ∷ above) (other ∷ above) ≡ slice_cmp nat_cmp label other
-beside label other above =
-    deeper (label ∷ []) (other ∷ []) above above refl
-    ∙ (ap (λ o. ordering_then o (zone_cmp (label ∷ []) (other ∷ []))) (as_itself above)
-    ∙ tied_last (slice_cmp nat_cmp label other))
 
 module _ (octets front : List ℕ) (name : List (List ℕ)) (more : List ℕ) (is : IsName name)
     (spelled : octets ≡ wire name ++ more) (there : front ≡ take 32 octets) (own : ℕ)

@@ -2,8 +2,8 @@
 //!
 //! A hint is tried and never trusted: no contract speaks of what the table holds, so nothing has to
 //! be mended where sets come and go. A name that comes is entered at its place, and the table is
-//! made anew once entries are wrong by too much. Where that is put off, it is made anew only for as
-//! many sets that were there and were changed as pay for it.
+//! made anew once entries are wrong by too much. Where that is put off, it is made anew only once a
+//! sixteenth of the sets gave way or went, which pays for it.
 
 ghost use Rattle.zone_changes.specs.Orders.{IsOrder};
 

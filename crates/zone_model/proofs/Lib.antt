@@ -5,5 +5,6 @@ pub mod Places
 pub mod Staying
 pub mod Vectors
 pub use Rattle.record_set.proofs.Firsts
+pub use Rattle.record_set.proofs.Beside
 pub use Rattle.record_set.proofs.Depth
 pub use Rattle.record_set.proofs.Labels

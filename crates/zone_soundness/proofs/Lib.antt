@@ -1,6 +1,5 @@
 pub mod Answered
 pub mod Firsts
 pub mod Rising
-mod Siblings
 pub mod There
 pub mod Whole

@@ -7,7 +7,6 @@
 mod apexes;
 mod judging;
 mod naming;
-mod neighbours;
 mod placing;
 mod setting;
 mod together;

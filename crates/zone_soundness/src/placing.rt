@@ -10,7 +10,6 @@ ghost use Rattle.config_model.specs.Zones.{IsRising};
 ghost use Rattle.zone_soundness.specs.Parts.{IsLaidOut};
 
 use crate::apexes::is_zone_name;
-use crate::neighbours::name_order;
 use config_model::{key_cmp, keys_are_ordered};
 use dns_name::Name;
 use rdata_layout::RType;
@@ -46,7 +45,7 @@ fn are_rising(sets: &[RecordSet]) -> bool
 fn is_before(set: &RecordSet, other: &RecordSet) -> bool
     ensures { IsTrue result ↔ (key_cmp (key_of set.now) (key_of other.now) ≡ Less) }
 {
-    let order = name_order(&set.name, &other.name);
+    let order = set.name.cmp(&other.name);
     if order.is_ne() {
         return order.is_lt();
     }

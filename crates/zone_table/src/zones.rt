@@ -397,7 +397,7 @@ impl Zones {
     }
 
     /// Edits put it off from now on that hints are made anew, which only tell where to look first.
-    /// Where many edits follow one another this saves most of what they cost.
+    /// Where many edits follow one another, each of them might make a table anew.
     pub fn put_hints_off(&mut self)
         ensures { self.new ≡ self.old }
     {
