@@ -5,7 +5,7 @@ pub mod Lookups
 pub mod Together
 pub mod Typed
 pub use Rattle.zone_model.proofs.Ordered
-pub use Rattle.zone_model.proofs.Beside
+pub use Rattle.zone_model.proofs.Beside as BesideOfDnsName
 pub use Rattle.zone_model.proofs.Depth
 pub use Rattle.zone_model.proofs.Labels
 pub use Rattle.zone_model.proofs.Among

@@ -10,7 +10,7 @@ use Rattle.std.proofs.Math.Seq.{drop-append_seam, take-append_seam}
 use Rattle.set_search.specs.Labels.{IsRawLabel, frame, wire}
 use Rattle.set_search.specs.NamesOfDnsName.{IsName}
 use Rattle.set_search.specs.OrderOfDnsName.{zone_cmp}
-use Rattle.set_search.proofs.Beside.{beside}
+use Rattle.set_search.proofs.BesideOfDnsName.{beside}
 use Rattle.set_search.specs.RecordSetRecord.{RecordSet}
 use Rattle.set_search.specs.SetKeyRecord.{SetKey}
 use Rattle.set_search.specs.RTypeRecord.{RType}
