@@ -33,7 +33,10 @@ pub(crate) struct Sockets {
     report: UdpSocket,
     poll: Poll,
     events: Events,
+    /// How many queries came in a row.
     queries: u32,
+    /// Whether the system told of reports, and the socket was not found empty since.
+    is_reported: bool,
 }
 
 impl Sockets {
@@ -58,6 +61,7 @@ impl Sockets {
             poll,
             events,
             queries: 0,
+            is_reported: false,
         })
     }
 
@@ -80,48 +84,52 @@ impl Sockets {
         ensures within { IfOk result (λ a. octets_given a ≤ length into.old) }
         ensures open { IfOk result IsOpen }
     {
-        if self.queries < MAX_QUERIES
-            && let Some(arrival) = self.query(into)?
-        {
+        if self.queries >= MAX_QUERIES {
+            self.queries = 0;
+            if let Some(arrival) = self.report(into)? {
+                return Ok(arrival);
+            }
+        }
+        if let Some(arrival) = self.query(into)? {
             self.queries += 1;
             return Ok(arrival);
         }
         self.queries = 0;
-        match self.either(into)? {
-            Some(arrival) => Ok(arrival),
-            None => self.wait(into),
-        }
+        self.wait(into)
     }
 
-    /// Waits for a datagram.
+    /// Waits for a datagram, where no query is there.
+    ///
+    /// The system tells once of what came: a socket of which it told is asked until nothing is there.
     fn wait(&mut self, into: &mut [u8]) -> io::Result<Arrival>
         ensures within { IfOk result (λ a. octets_given a ≤ length into.old) }
         ensures open { IfOk result IsOpen }
     {
         for _ in 0..MAX_WAITS {
-            self.poll
-                .poll(&mut self.events, Some(Duration::from_millis(WAIT)))?;
-            if let Some(arrival) = self.either(into)? {
+            if self.is_reported
+                && let Some(arrival) = self.report(into)?
+            {
                 return Ok(arrival);
             }
+            self.is_reported = false;
+            self.poll
+                .poll(&mut self.events, Some(Duration::from_millis(WAIT)))?;
             if self.events.is_empty() {
                 break;
+            }
+            self.is_reported = self.is_told(REPORT);
+            if self.is_told(QUERY)
+                && let Some(arrival) = self.query(into)?
+            {
+                return Ok(arrival);
             }
         }
         Ok(Arrival::Quiet)
     }
 
-    /// A datagram that is there, a report before a query.
-    fn either(&self, into: &mut [u8]) -> io::Result<Option<Arrival>>
-        ensures within { IfOk result (λ found.
-            IfSome found (λ a. octets_given a ≤ length into.old)) }
-        ensures open { IfOk result (λ found. IfSome found IsOpen) }
-        ensures room { length into.new ≡ length into.old }
-    {
-        match self.report(into)? {
-            Some(arrival) => Ok(Some(arrival)),
-            None => self.query(into),
-        }
+    /// Whether the system told of a socket when it was last asked.
+    fn is_told(&self, socket: Token) -> bool {
+        self.events.iter().any(|event| event.token() == socket)
     }
 
     /// A query that is there.
