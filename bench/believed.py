@@ -4,6 +4,7 @@
     python3 bench/believed.py            a table of files, with the lines of the definitions that are reached and of the file
     python3 bench/believed.py --names    each file with the definitions that are reached
     python3 bench/believed.py --rest     the files of specs/ from which nothing is reached
+    python3 bench/believed.py --page     the table with a head, as docs/BELIEVED.md has it
 
 It begins with the imports of `crates/r53_cli/src/program.rt` that the contract of `run` names, and goes on through the imports of the definitions. A
 definition's lines are its own and the comment right above it. Structs and enums of the code are named as types, and not followed.
@@ -148,8 +149,15 @@ def main():
                     if it.endswith(".antt") and it != "Lib.antt" and path not in files:
                         print(short(path), read(path).count("\n"))
         return
+    if "--page" in sys.argv:
+        print("# What a reader of the main theorem has to believe\n")
+        print("Each file of definitions that the contract of `run` reaches, with the lines of the definitions that are reached and of the whole file. `bench/believed.py")
+        print("--page` makes this page; with `--names` it lists the definitions of each. Structs and enums of the code are named as types, and not followed.\n")
+        print("| File in `crates/` | Lines reached | Lines |\n|---|---|---|")
     for path in sorted(files):
         print(f"| `{short(path)}` | {size(path)} | {file_of(path).size} |" + (" " + ", ".join(f"`{it}`" for it in sorted(files[path])) if "--names" in sys.argv else ""))
+    if "--page" in sys.argv:
+        print()
     print(f"{len(files)} files, {len(seen)} definitions, {sum(map(size, files))} lines; {sum(file_of(it).size for it in files)} lines of these files in all")
 
 

@@ -2,7 +2,7 @@
 use Rattle.std.proofs.Common.{◌≡◌, ◌≢◌, ◌<◌, ◌-◌, ℕ, Bool, true, false, List, [], ◌∷◌}
 use Rattle.std.proofs.Common.{Option, Some, None, length, refl, sym, ap, ◌∙◌, subst, arith, inl, inr}
 use Rattle.std.proofs.Common.{Less, Equal, Greater, ◌++◌, append_assoc}
-use Rattle.std.specs.Prelude.{cond, ◌==◌, ◌⊎◌}
+use Rattle.std.specs.Prelude.{cond, ◌==◌, ◌⊎◌, ◌↔◌}
 use Rattle.std.specs.List.{AllByRecursion}
 use Rattle.std.specs.Ordering.{is_lt, nat_cmp, ordering_then}
 use Rattle.std.specs.declared.cmp.Ordering.{Ordering}
@@ -14,7 +14,8 @@ use Rattle.rdata_layout.specs.declared.types.RType.{RType}
 use Rattle.rdata_layout.specs.declared.types.RType.TheVariants as rtype
 use Rattle.policy_select.specs.Sets.{ident_of}
 use Rattle.policy_select.specs.RecordSetRecord.{RecordSet}
-use Rattle.policy_select.proofs.Below.{beside, ends_itself, exists_at, no_longer}
+use Rattle.policy_select.proofs.Below.{beside, ends_itself, exists_at, first_tells, no_longer}
+use Rattle.policy_select.proofs.Below.{none_exists}
 use Rattle.policy_select.specs.FoundOfSetSearch.{IsBelowAt, IsCount, IsFirstNamed}
 use Rattle.policy_select.specs.BoundRecord.TheVariants as bound
 use Rattle.policy_select.specs.Zones.{StandsAlone, Zone, placed_in}
@@ -101,6 +102,20 @@ exists_under sets k (Some name) (set, there, same) at under =
       set,
       there,
       subst (λ (n : List (List ℕ)). EndsWith n at) (sym same) under,
+    )
+
+-- a name exists exactly where the set at its place has it or a name below it
+pub first_under : (sets : List RecordSet) (name : List (List ℕ)) (n : ℕ)
+    (found : Option (List (List ℕ))) → IsRising sets → IsFirstNamed sets name n
+    → NamedAt sets n found → IsUnder found name ↔ Exists sets name
+first_under sets name n None rising first none = (
+  λ under. absurd under,
+  λ there. absurd (none_exists sets name n rising first none there),
+)
+first_under sets name n (Some at) rising first (set, there, same) =
+    let told = first_tells sets name n rising first set there in (
+      λ under. told.0 (subst (λ (m : List (List ℕ)). EndsWith m name) (sym same) under),
+      λ exists. subst (λ (m : List (List ℕ)). EndsWith m name) same (told.1 exists),
     )
 
 as_named : (sets : List RecordSet) (n : ℕ) (found : Option (List (List ℕ))) → 0 < n

@@ -46,17 +46,6 @@ module _ (sets : List RecordSet) (name nearest : List (List ℕ)) where
     longest = λ other ends there. is.longest other (child_below label name other ends) there;
   }
 
-  -- what is closest to the name where that doesn't exist
-  pub by_name : (Exists sets name → ⊥) → IsClosest sets name nearest → IsNearest sets name nearest
-  by_name none is = record {
-    above = is.ancestor.0;
-    exists = is.exists;
-    longest = λ other ends there. is.longest other (
-      ends,
-      λ same. none (subst (Exists sets) (sym same) there),
-    ) there;
-  }
-
 -- of two ends of a name the longer one ends with the other
 nested : (first a second b : List (List ℕ)) → first ++ a ≡ second ++ b → length b ≤ length a
     → EndsWith a b

@@ -19,5 +19,4 @@ pub use policy_select::{
     names_exist, zones_are_longest,
 };
 pub use served::are_served;
-pub use source::source_of;
 pub use standing::{Found, Standing, find_asked, standing_of};

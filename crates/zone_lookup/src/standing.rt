@@ -8,6 +8,7 @@ ghost use Rattle.dns_name.specs.Suffix.{EndsWith};
 ghost use Rattle.policy_select.specs.Groups.{sets_in_zone};
 ghost use Rattle.policy_select.specs.RecordSetRecord.{RecordSet};
 ghost use Rattle.policy_select.specs.FoundOfSetSearch.{IsFirstNamed};
+ghost use Rattle.policy_select.specs.Existing.{Exists};
 ghost use Rattle.policy_select.specs.Zones.{placed_in};
 ghost use Rattle.policy_select.specs.Looking.{IsApex};
 ghost use Rattle.zone_lookup.specs.Served.{zone_of};
@@ -38,7 +39,7 @@ pub fn find_asked(zones: &Zones, zone: u32, name: &Name, qtype: u16) -> Found
     asked_groups();
     match RType::from_number(qtype) {
         Some(rtype) => find_typed(zones, zone, name, rtype),
-        None => Found::Place(place_of(zones, zone, name)),
+        None => Found::Place(place_of(zones, zone, name, None)),
     }
 }
 
@@ -52,15 +53,33 @@ fn find_typed(zones: &Zones, zone: u32, name: &Name, rtype: RType) -> Found
     }
     match rtype {
         RType::A => Found::Place(found.start),
-        _ => Found::Place(place_of(zones, zone, name)),
+        _ => Found::Place(place_of(zones, zone, name, Some(found.start))),
     }
 }
 
-/// The place of the first set of a zone whose name isn't before this one.
-fn place_of(zones: &Zones, zone: u32, name: &Name) -> usize
+/// The place of the first set of a zone whose name isn't before this one. It is looked for from a
+/// place on, where one is told that may be near.
+fn place_of(zones: &Zones, zone: u32, name: &Name, near: Option<usize>) -> usize
     ensures { IsFirstNamed (sets_in_zone zones.now.zones zone) name.now result }
 {
-    zones.group(zone, name, RType::A).start
+    zones.group_near(zone, name, RType::A, near).start
+}
+
+/// Whether a name exists in a zone. It is looked for from a place on, where one is told that may be
+/// near. The scratch holds one set at a time.
+pub(crate) fn exists_near(
+    zones: &Zones,
+    zone: u32,
+    name: &Name,
+    near: Option<usize>,
+    scratch: &mut Scratch,
+) -> bool
+    ensures { IsTrue result ↔ Exists (sets_in_zone zones.now.zones zone) name.now }
+{
+    zones.well_formed();
+    let place = place_of(zones, zone, name, near);
+    let behind = name_at(zones, zone, place, scratch);
+    is_under(&behind, name)
 }
 
 /// What a name is in a zone.
@@ -91,11 +110,18 @@ pub fn standing_of(
     ensures { Stands zones.now.zones (zone_of zones.now.zones zone apex.now) name.now result }
 {
     let nearest = nearest_of(zones, zone, apex, name, place, scratch);
-    standing_from(zones, zone, apex, name, &nearest)
+    standing_from(zones, zone, apex, name, &nearest, scratch)
 }
 
 /// The same by the longest name at or above it that exists.
-fn standing_from(zones: &Zones, zone: u32, apex: &Name, name: &Name, nearest: &Name) -> Standing
+fn standing_from(
+    zones: &Zones,
+    zone: u32,
+    apex: &Name,
+    name: &Name,
+    nearest: &Name,
+    scratch: &mut Scratch,
+) -> Standing
     requires there { IsApex zones.now.zones zone apex.now }
     requires nearest { IsNearest (sets_in_zone zones.now.zones zone) name.now nearest.now }
     requires inside { EndsWith nearest.now apex.now }
@@ -106,7 +132,7 @@ fn standing_from(zones: &Zones, zone: u32, apex: &Name, name: &Name, nearest: &N
     if let Some(cut) = cut_above(zones, zone, apex, nearest) {
         return Standing::Below(cut);
     }
-    match source_from(zones, zone, name, nearest) {
+    match source_from(zones, zone, apex, name, nearest, scratch) {
         Some(from) => Standing::Taken(from),
         None => Standing::Absent,
     }

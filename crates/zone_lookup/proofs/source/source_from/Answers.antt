@@ -18,15 +18,15 @@ returns-in_default c =
     c.args.name.now c.args.nearest.now c.requires c.enclosers_are_closest.ensures apart
     c.in_default.ensures.none
 
-pub returns-then-exists : goal.returns-then-exists
-returns-then-exists c =
+pub returns-then-exists_near : goal.returns-then-exists_near
+returns-then-exists_near c =
     let apart : c.args.nearest.now ≢ c.args.name.now = λ same.
     (let told = c.is_same.ensures.1 same in let not_so = c.if-is_same.false in
     absurd (grind (arith, told, not_so))) in
     source_wildcard c.names_exist.ensures.exist (sets_in_zone c.args.zones.now.zones c.args.zone)
     c.args.name.now c.args.nearest.now c.requires c.enclosers_are_closest.ensures apart
-    c.in-Some.wildcard c.in-Some.ensures.some c.in-Some.ensures.fits c.exists.result
-    c.exists.ensures c.if-exists.true
+    c.in-Some.wildcard c.in-Some.ensures.some c.in-Some.ensures.fits c.exists_near.result
+    c.exists_near.ensures c.if-exists_near.true
 
 pub returns : goal.returns
 returns c =
@@ -35,5 +35,5 @@ returns c =
     absurd (grind (arith, told, not_so))) in
     source_missing c.names_exist.ensures.exist (sets_in_zone c.args.zones.now.zones c.args.zone)
     c.args.name.now c.args.nearest.now c.requires c.enclosers_are_closest.ensures apart
-    c.in-Some.wildcard c.in-Some.ensures.some c.in-Some.ensures.fits c.exists.result
-    c.exists.ensures c.if-exists.false
+    c.in-Some.wildcard c.in-Some.ensures.some c.in-Some.ensures.fits c.exists_near.result
+    c.exists_near.ensures c.if-exists_near.false
