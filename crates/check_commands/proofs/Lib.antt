@@ -1,6 +1,7 @@
-mod Coming
+mod Followed
 mod Looked
-mod Named
-mod References
+mod Moves
+mod Sums
+mod Walked
 pub use Rattle.config_zones.proofs.Told
 pub use Rattle.config_zones.proofs.Zoning

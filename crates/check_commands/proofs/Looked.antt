@@ -1,6 +1,6 @@
 -- Sets that references name, and those of all zones.
 use Rattle.std.proofs.Common.{◌≡◌, ◌≢◌, ◌≤◌, ◌<◌, ℕ, Bool, true, false, cond, List, [], ◌∷◌, refl, ap, sym, ◌∙◌, subst, arith, inl, inr, Option, None, Some}
-use Rattle.std.specs.Prelude.{◌==◌, ◌||◌, is_some, slice_get, Contains}
+use Rattle.std.specs.Prelude.{◌==◌, ◌||◌, ◌↔◌, IsTrue, is_some}
 use Rattle.std.specs.List.{list_any}
 use Rattle.std.proofs.lemmas.Bool.{cases_eq, eq-eqb, false≢true, ne_eqb}
 use Rattle.std.proofs.lemmas.List.Folds.{list_any-append}
@@ -8,7 +8,7 @@ use Rattle.std.proofs.lemmas.List.Sums.{sum_by-cons}
 use Rattle.config_edits.specs.Sums.{checked_in, checked_of, one_of}
 use Rattle.config_zones.specs.Edited.{hosted_in}
 use Rattle.config_zones.specs.Configs.{all_sets}
-use Rattle.config_zones.specs.Looking.{IsSetAt, Names}
+use Rattle.config_zones.specs.Looking.{Names}
 use Rattle.config_zones.specs.Others.{is_check_named, is_number}
 use Rattle.config_zones.specs.SetRefRecord.{SetRef}
 use Rattle.config_zones.specs.Zones.{AreZones, IsOne, StandsAlone, Zone, placed_in}
@@ -18,9 +18,9 @@ use Rattle.config_zones.proofs.MembersOfZoneList.{in_all}
 use Rattle.record_set.specs.declared.sets.RecordSet.{RecordSet}
 use Rattle.zone_model.specs.Placed.{HaveOwnSlots, IsHere, Placed, sets_of}
 use Rattle.zone_model.specs.Zones.{IsAmong}
-use Rattle.check_commands.specs.Checked.{HasAllChecked, NamesCheck}
-use Rattle.check_commands.specs.declared.checked.CheckedSet.{CheckedSet}
-use Rattle.check_commands.proofs.Named.{names as names_check}
+use Rattle.check_commands.specs.Counts.{IsTold}
+use Rattle.check_commands.specs.Uses.{AreUses, IsNamedAt, KnowsUses, TellsUse}
+use Rattle.check_commands.proofs.Walked.{names as names_check}
 
 -- ---- one set a reference
 
@@ -131,56 +131,49 @@ none_checked (q ∷ placed) p zero (inr there) on =
 
 -- ---- a check
 
-module _ (zones : List Zone) (id : ℕ) where
-  -- none of the sets that are listed with the check names it
-  abbrev pub NoneNames : List CheckedSet → Type 0
-  NoneNames list = (one : CheckedSet) → Contains list one → NamesCheck zones one
-      → one.check ≡ id → ⊥
+pub named_here : (zones : List Zone) (slot check : ℕ) → IsNamedAt zones slot check
+    → is_check_named check (all_sets (hosted_in zones)) ≡ true
+named_here zones slot check (zone, named, here, is) =
+    in_zones (names_check check) zones zone (record { slot = slot; set = named }) here
+    (ap (is_number check) is ∙ eq-eqb check check refl)
 
-  pub named_here : (one : CheckedSet) → one.check ≡ id → NamesCheck zones one
-      → true ≡ is_check_named id (all_sets (hosted_in zones))
-  named_here one is names =
-      sym (in_zones (names_check id) zones one.set.zone
-      (record { slot = one.set.slot; set = names.0 }) names.1
-      (ap (is_number id) names.2 ∙ eq-eqb one.check id is))
+pub named_nowhere : (zones : List Zone) (list : List ℕ) (check : ℕ) → AreZones zones
+    → AreUses list zones → (IsTold list check → ⊥)
+    → is_check_named check (all_sets (hosted_in zones)) ≡ false
+named_nowhere zones list check are uses none =
+    not_in_zones (names_check check) zones (λ zone p there here.
+    by zone p
+    (subst (λ (l : List Placed). IsHere l p) (sym (its_placed zones are.listed zone there)) here)
+    p.set.check refl)
+  where
+    by : (zone : Zone) (p : Placed) → IsHere (placed_in zones zone.id) p
+        → (its : Option ℕ) → p.set.check ≡ its → is_number check p.set.check ≡ false
+    by zone p here None is = ap (is_number check) is
+    by zone p here (Some other) is = elim (cases_eq other check) [
+      | inl same ↦
+          let ref : SetRef = record { zone = zone.id; slot = p.slot } in
+          absurd (none (p.slot, uses.each ref p.set other here is ∙ same))
+      | inr apart ↦ ap (is_number check) is ∙ ne_eqb other check apart
+    ]
 
-  pub named_nowhere : (list : List CheckedSet) → AreZones zones → HasAllChecked zones list
-      → NoneNames list → false ≡ is_check_named id (all_sets (hosted_in zones))
-  named_nowhere list are all none =
-      sym (not_in_zones (names_check id) zones (λ zone p there here.
-      by zone p
-      (subst (λ (l : List Placed). IsHere l p) (sym (its_placed zones are.listed zone there)) here)
-      p.set.check refl))
-    where
-      by : (zone : Zone) (p : Placed) → IsHere (placed_in zones zone.id) p
-          → (check : Option ℕ) → p.set.check ≡ check → is_number id p.set.check ≡ false
-      by zone p here None is = ap (is_number id) is
-      by zone p here (Some other) is = elim (cases_eq other id) [
-        | inl same ↦
-            let one : CheckedSet =
-            record { set = record { zone = zone.id; slot = p.slot }; check = other } in
-            absurd (none one (all one (p.set, here, is)) (p.set, here, is) same)
-        | inr apart ↦ ap (is_number id) is ∙ ne_eqb other id apart
-      ]
+pub used_or_not : (zones : List Zone) (known : Option (List ℕ)) (check : ℕ) → AreZones zones
+    → KnowsUses known zones → (used : Bool) → TellsUse known check (Some used)
+    → used ≡ is_check_named check (all_sets (hosted_in zones))
+used_or_not zones known check are knows used (list, is, some, both) =
+    by used both
+  where
+    uses : AreUses list zones
+    uses = subst (λ (k : Option (List ℕ)). KnowsUses k zones) is knows
+
+    by : (used : Bool) → IsTrue used ↔ IsTold list check
+        → used ≡ is_check_named check (all_sets (hosted_in zones))
+    by true both =
+        let told = both.0 refl in
+        sym (named_here zones told.0 check (uses.only told.0 check told.1 some))
+    by false both =
+        sym (named_nowhere zones list check are uses (λ told. false≢true (both.1 told)))
 
 -- ---- zones one after another
-
--- what is told of the set at a place
-pub record IsTold (zones : List Zone) (zone i : ℕ) (ref : SetRef) : Type 0 where
-  pub its : (p : Placed) → slice_get (placed_in zones zone) i ≡ Some p
-      → record { zone = zone; slot = p.slot } ≡ ref
-
-some_same : {X : Type 0} {x y : X} → Some x ≡ Some y → x ≡ y
-some_same e = cc
-
-pub told_at : (zones : List Zone) (zone i : ℕ) (ref : SetRef) → IsSetAt zones zone i (Some ref)
-    → IsTold zones zone i ref
-told_at zones zone i ref (its_zone, (set, at)) = record {
-  its = λ p is.
-      let same : p ≡ record { slot = ref.slot; set = set } = some_same (sym is ∙ at) in
-      ap (λ (q : Placed). record { zone = zone; slot = q.slot }) same
-      ∙ ap (λ (z : ℕ). record { zone = z; slot = ref.slot }) (sym its_zone);
-}
 
 -- no zone has number 0
 pub none_at_start : (zones : List Zone) (id : ℕ) (p : Placed) → AreZones zones

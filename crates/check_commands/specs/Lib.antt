@@ -1,4 +1,5 @@
-pub mod Checked
+pub mod Counts
+pub mod Uses
 pub use Rattle.config_zones.specs.Edited
 pub use Rattle.config_zones.specs.Others
 pub use Rattle.config_zones.specs.Applying

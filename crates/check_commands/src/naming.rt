@@ -1,51 +1,27 @@
 //! The sets that name a health check.
 
-ghost use Rattle.std.specs.Prelude.{◌≡◌, ◌↔◌, IsTrue};
+ghost use Rattle.std.specs.Prelude.{◌≡◌};
 ghost use Rattle.config_zones.specs.Edited.{hosted_in};
 ghost use Rattle.config_zones.specs.Configs.{all_sets};
 ghost use Rattle.config_zones.specs.Others.{is_check_named, is_number};
 ghost use Rattle.config_zones.specs.Zones.{placed_in};
 ghost use Rattle.zone_model.specs.Placed.{sets_of};
-ghost use Rattle.check_commands.specs.Checked.{HasAllChecked, KnowsChecked, NamesCheck};
-ghost use Rattle.check_commands.specs.declared.checked.CheckedSet.{CheckedSet};
+ghost use Rattle.check_commands.specs.Uses.{KnowsUses};
 
-use crate::checked::{CheckedSet, CheckedSets, is_current};
+use crate::uses::CheckUses;
 use config_zones::{Zones, check_at, zones_follow};
 
-/// Whether a set of a zone names the health check. It looks at the sets that are listed with it, or
-/// where these aren't known at all sets.
-pub fn is_check_named(zones: &Zones, checked: &CheckedSets, id: u32) -> bool
-    requires known { KnowsChecked checked.now zones.now.zones }
-    ensures { result ≡ is_check_named id (all_sets (hosted_in zones.now.zones)) }
-{
-    match checked.known() {
-        Some(list) => is_named_by(zones, list, id),
-        None => is_named_in_any(zones, id),
-    }
-}
-
-/// Whether one of the listed sets names it, among which are all that name checks.
-fn is_named_by(zones: &Zones, list: &[CheckedSet], id: u32) -> bool
-    requires all { HasAllChecked zones.now.zones list.now }
+/// Whether a set of a zone names the health check. It looks at what is counted of it, or where this
+/// isn't known at all sets.
+pub fn is_check_named(zones: &Zones, uses: &CheckUses, id: u32) -> bool
+    requires known { KnowsUses uses.now zones.now.zones }
     ensures { result ≡ is_check_named id (all_sets (hosted_in zones.now.zones)) }
 {
     zones.well_formed();
-    for one in list {
-        if names_it(zones, *one, id) {
-            return true;
-        }
+    match uses.is_used(id) {
+        Some(used) => used,
+        None => is_named_in_any(zones, id),
     }
-    false
-}
-
-/// Whether a set that is listed with the check names it still.
-fn names_it(zones: &Zones, one: CheckedSet, id: u32) -> bool
-    ensures { IsTrue result ↔ ((one.check ≡ id) × NamesCheck zones.now.zones one) }
-{
-    if one.check != id {
-        return false;
-    }
-    is_current(zones, one)
 }
 
 /// Whether a set of a zone names it, zone after zone.

@@ -17,7 +17,7 @@ ghost use Rattle.zone_commands.specs.Edits.{Edits, IsReady as IsEditReady};
 use crate::editing::work_for;
 use crate::installing::{apply, made_by, next_after};
 use crate::prepared::Prepared;
-use check_commands::{CheckedSets, Made, Refusal, commands_keep_sound, empty_is_sound};
+use check_commands::{CheckUses, Made, Refusal, commands_keep_sound, empty_is_sound};
 use health_check::CheckTable;
 use octets::OutOfMemory;
 use std::alloc::Global;
@@ -30,16 +30,16 @@ pub struct Config {
     zones: Zones,
     checks: CheckTable,
     next_zone: u32,
-    /// The sets that name checks.
-    checked: CheckedSets,
+    /// Which sets name which checks.
+    uses: CheckUses,
     /// What the last command took away and put.
     told: Delta,
     scratch: Scratch,
 }
 
 impl Model for Config {
-    ghost use Rattle.check_commands.specs.Checked.{KnowsChecked};
     ghost use Rattle.check_commands.specs.Sound.{Sound};
+    ghost use Rattle.check_commands.specs.Uses.{KnowsUses};
     ghost use Rattle.zone_commands.specs.Configured.{config_of};
     ghost use Rattle.r53_state.specs.States.{State};
 
@@ -53,7 +53,7 @@ impl Model for Config {
     } };
 
     ghost invariant = { λ c. Sound (config_of c.zones c.checks.checks c.next_zone)
-        × KnowsChecked c.checked c.zones.zones };
+        × KnowsUses c.uses c.zones.zones };
 }
 
 impl Config {
@@ -68,7 +68,7 @@ impl Config {
             zones: Zones::new(alloc),
             checks: CheckTable::new(alloc),
             next_zone: 1,
-            checked: CheckedSets::new(alloc),
+            uses: CheckUses::new(alloc),
             told: nothing(alloc),
             scratch,
         })
@@ -91,12 +91,12 @@ impl Config {
         }) }
     {
         let scratch = Scratch::new(alloc)?;
-        let checked = CheckedSets::all_of(alloc, &zones)?;
+        let uses = CheckUses::all_of(alloc, &zones)?;
         Ok(Config {
             zones,
             checks,
             next_zone,
-            checked,
+            uses,
             told: nothing(alloc),
             scratch,
         })
@@ -158,7 +158,7 @@ impl Config {
             alloc,
             &self.zones,
             &self.checks,
-            &self.checked,
+            &self.uses,
             self.next_zone,
             &command,
             &mut self.scratch,
@@ -223,10 +223,11 @@ impl Config {
     {
         commands_keep_sound();
         self.zones.well_formed();
+        self.zones.slots_apart();
         let made = made_by(&self.zones, &self.checks, self.next_zone, command);
         self.next_zone = next_after(self.next_zone, command);
         self.told = self.zones.edit(ready);
-        self.checked.note(&self.zones, &self.told);
+        self.uses.note(&self.zones, &self.told);
         self.zones.well_formed();
         made
     }
@@ -270,7 +271,7 @@ impl Config {
         ensures ready { IfOk result (λ prepared. IsReady self.new prepared) }
         ensures others { StayReady self.old self.new }
     {
-        let Ok(()) = self.checked.reserve(&self.zones, &edit) else {
+        let Ok(()) = self.uses.reserve(&self.zones, &edit) else {
             return Err(Refusal::OutOfMemory);
         };
         let Ok(ready) = self.zones.ready(alloc, edit) else {

@@ -1,14 +1,14 @@
 //! What a command asks for: an edit of the zones, or a change of the health checks.
 
 ghost use Rattle.std.specs.Prelude.{◌≡◌};
-ghost use Rattle.check_commands.specs.Checked.{KnowsChecked};
 ghost use Rattle.check_commands.specs.Laws.{IsBounded};
 ghost use Rattle.check_commands.specs.Sound.{Sound};
+ghost use Rattle.check_commands.specs.Uses.{KnowsUses};
 ghost use Rattle.zone_commands.specs.Configured.{config_of};
 ghost use Rattle.r53_state.specs.Steps.{TellsWork};
 
 use batch_commands::change_zone;
-use check_commands::{CheckedSets, Refusal, judge_checks};
+use check_commands::{CheckUses, Refusal, judge_checks};
 use collection_commands::change_collections;
 use health_check::CheckTable;
 use std::alloc::Global;
@@ -20,13 +20,13 @@ pub fn work_for(
     alloc: Global,
     zones: &Zones,
     checks: &CheckTable,
-    checked: &CheckedSets,
+    uses: &CheckUses,
     next: u32,
     command: &Command,
     scratch: &mut Scratch,
 ) -> Result<Option<ZoneEdit>, Refusal>
     requires sound { Sound (config_of zones.now checks.now.checks next) }
-    requires known { KnowsChecked checked.now zones.now.zones }
+    requires known { KnowsUses uses.now zones.now.zones }
     requires bounded { IsBounded command.now }
     ensures { TellsWork (config_of zones.now checks.now.checks next) command.now zones.now result }
 {
@@ -36,7 +36,7 @@ pub fn work_for(
         }
         Command::DeleteZone(id) => some(delete_zone(zones, *id, scratch)),
         Command::Change(batch) => some(change_zone(alloc, zones, checks, batch, scratch)),
-        Command::Health(health) => match judge_checks(zones, checks, checked, health) {
+        Command::Health(health) => match judge_checks(zones, checks, uses, health) {
             Ok(()) => Ok(None),
             Err(why) => Err(why),
         },

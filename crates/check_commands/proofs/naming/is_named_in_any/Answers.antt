@@ -1,5 +1,5 @@
 use Rattle.std.proofs.Common.{◌∙◌, sym}
-use Rattle.check_commands.proofs.Named.{at_first, in_none, in_zone, not_in_zone}
+use Rattle.check_commands.proofs.Walked.{at_first, in_none, in_zone, not_in_zone}
 use Rattle.check_commands.proofs.naming.is_named_in_any.Goals as goal
 
 pub loop-zone-init : goal.loop-zone-init

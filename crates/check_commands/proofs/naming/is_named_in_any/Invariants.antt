@@ -1,5 +1,5 @@
 use Rattle.std.proofs.Common.{◌-◌, ◌^◌}
-use Rattle.check_commands.proofs.Named.{IsAsInZones}
+use Rattle.check_commands.proofs.Walked.{IsAsInZones}
 use Rattle.check_commands.proofs.naming.is_named_in_any.Given as goal
 
 abbrev pub invariant-loop-zone : goal.invariant-loop-zone

@@ -1,6 +1,7 @@
-use Rattle.std.proofs.Common.{subst}
+use Rattle.std.proofs.Common.{subst, sym}
 use Rattle.check_commands.specs.Sound.{Sound}
 use Rattle.zone_commands.specs.Configured.{config_of}
+use Rattle.zone_commands.specs.Edits.{IsAllowed}
 use Rattle.r53_state.specs.States.{State, config_in}
 use Rattle.r53_state.proofs.Installed.{edit_installed}
 use Rattle.r53_state.proofs.config.Config.make_edit.Goals as goal
@@ -18,6 +19,9 @@ invariant_of-self c = (
       c.edit.ensures.collections c.next_after-self-inside.ensures c.made_by-made.result
       c.made_by-made.ensures),
   c.note.ensures c.self.inside.zones.zones c.args.ready.made c.well_formed-2.ensures
+      c.slots_apart.ensures
+      (subst (λ (s : State). IsAllowed s.table.zones c.args.ready.made) (sym c.self.view_is)
+      c.requires.ready.allowed)
       c.edit.ensures.edits c.self.invariant.1,
 )
 
