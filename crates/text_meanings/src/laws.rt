@@ -1,0 +1,34 @@
+//! Laws over the definitions, each the contract of a function that does nothing.
+
+ghost use Rattle.text_meanings.specs.Laws.{FaultsAsTold, FaultsStandFirst, LabelsAsSpelled};
+ghost use Rattle.text_meanings.specs.Laws.{NamesAsSpelled, OneFaultOfAText, OneNameOfAText};
+
+/// Reading a text gives these labels exactly where it spells them.
+pub fn labels_as_spelled()
+    ensures { LabelsAsSpelled }
+{}
+
+/// Reading a text as a name gives the labels that it spells, in lower case.
+pub fn names_as_spelled()
+    ensures { NamesAsSpelled }
+{}
+
+/// A text is one name's at most.
+pub fn one_name_of_a_text()
+    ensures { OneNameOfAText }
+{}
+
+/// Reading a text tells this fault exactly where the text has it.
+pub fn faults_as_told()
+    ensures { FaultsAsTold }
+{}
+
+/// A text has one fault at most.
+pub fn one_fault_of_a_text()
+    ensures { OneFaultOfAText }
+{}
+
+/// Up to its fault a text could go on to a name's, and with what stands there it can't.
+pub fn faults_stand_first()
+    ensures { FaultsStandFirst }
+{}
