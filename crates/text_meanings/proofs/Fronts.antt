@@ -1,5 +1,5 @@
 -- What stands in front of a place, as the text of a name.
-use Rattle.std.proofs.Common.{◌≡◌, ℕ, ◌+◌, ◌-◌, ◌*◌, ◌≤◌, List, [], ◌∷◌, ◌++◌, length, arith, ap, ◌∙◌, sym, refl, subst, inl, inr}
+use Rattle.std.proofs.Common.{◌≡◌, ℕ, ◌+◌, ◌-◌, ◌*◌, ◌≤◌, List, [], ◌∷◌, ◌++◌, length, drop, arith, ap, ◌∙◌, sym, refl, subst, inl, inr}
 use Rattle.std.proofs.Common.{true, false, append-nil}
 use Rattle.std.specs.Prelude.{nat_le, ◌&&◌, slice_index}
 use Rattle.std.specs.List.{AllZip, concat, flat_map}
@@ -82,7 +82,9 @@ pub record EscapeAt (rest : List ℕ) : Type 0 where
   pub behind : List ℕ
   pub escape : IsEscape piece octet
   pub bytes : backslash ∷ rest ≡ piece ++ behind
-  pub shorter : length behind ≤ length rest
+  pub value : octal_of rest ≡ octet
+  pub later : drop 3 rest ≡ behind
+  pub size : length rest ≡ length behind + 3
 
 record AreDigits (rest : List ℕ) : Type 0 where
   first : (0x30 ≤ slice_index rest 0) × (slice_index rest 0 ≤ 0x37)
@@ -137,7 +139,9 @@ escape_at (a ∷ b ∷ c ∷ rest) e =
         spelled = refl;
       };
       bytes = cc;
-      shorter = omega arith;
+      value = refl;
+      later = refl;
+      size = omega arith;
     }
 
 -- and where none stands

@@ -137,7 +137,7 @@ module _ (text : List ℕ) (root : text ≡ dot ∷ [] → ⊥) where
             here ∙ ap (λ x. before ++ x ∷ rest) e ∙ ap (λ t. before ++ t) a.bytes in
             at_character before done label a.piece a.behind a.octet bytes f (inr a.escape)
             (λ next. scan n (before ++ a.piece) a.behind done (label ++ a.octet ∷ [])
-            (omega (arith, a.shorter)) (bytes ∙ sym (append_assoc before a.piece a.behind)) next)
+            (omega (arith, a.size)) (bytes ∙ sym (append_assoc before a.piece a.behind)) next)
         | inr none ↦
             bad_escape before done label rest (here ∙ ap (λ x. before ++ x ∷ rest) e) f none
       ]

@@ -1,18 +1,21 @@
--- Texts of names from RFC 1035 and the guide to Route 53, with what they spell; and the faults of
--- texts, each at its place.
-use Rattle.std.proofs.Common.{◌≡◌, ℕ, ◌+◌, ◌*◌, ◌<◌, ◌≤◌, List, [], ◌∷◌, ◌++◌, length, arith, refl, codes, Bool, true, false, inl, inr}
+-- Texts of names and strings from RFC 1035 and the guide to Route 53, with what they spell; and
+-- the faults of names' texts, each at its place.
+use Rattle.std.proofs.Common.{◌≡◌, ℕ, ◌+◌, ◌*◌, ◌<◌, ◌≤◌, List, [], ◌∷◌, ◌++◌, length, arith, refl, codes, Bool, true, false, inl, inr, zero, suc, None}
 use Rattle.std.proofs.Math.ListN.{replicate}
 use Rattle.std.specs.Prelude.{nat_le, nat_lt, ◌&&◌, ◌||◌}
 use Rattle.std.specs.List.{AllZip, AllByRecursion, flat_map}
 use Rattle.std.proofs.lemmas.Bool.{and_parts, or_cases, ltb-true, leb-true}
 use Rattle.dns_name.specs.Labels.{wire, IsRawLabel, IsRawName}
 use Rattle.dns_name.specs.declared.fault.NameFault.TheVariants.{BadEscape, LabelTooLong, NameTooLong, EmptyLabel, BadByte}
-use Rattle.text_meanings.specs.Characters.{dot, backslash, IsBare, IsCharacter}
+use Rattle.text_meanings.specs.Characters.{dot, backslash, IsBare, IsEscape, IsCharacter, AreCharacters}
 use Rattle.text_meanings.specs.Names.{SpellsLabel, IsTextOf}
 use Rattle.text_meanings.specs.Faults.{Stands, HasFault, labels_so_far}
 use Rattle.text_meanings.proofs.Pieces.{no_characters}
 use Rattle.text_meanings.proofs.Fronts.{no_escape}
 use Rattle.text_meanings.proofs.Told.{never_both}
+use Rattle.text_meanings.proofs.Quoted.{strings_spelled}
+use Rattle.text_meanings.specs.Strings.{quote, IsStringCharacter, SpellsString}
+use Rattle.value_text.specs.Strings.{string_of_text}
 use Rattle.octets.specs.Octal.{has_octal}
 
 -- bytes that stand for themselves: from 0x21 to 0x7E without 0x2E and 0x5C
@@ -93,13 +96,13 @@ named labels h k =
     record { each = raw_labels labels h; fits = leb-true (length (wire labels)) 255 k }
 
 -- an escape of these digits
-escape : (a b c : ℕ) → (nat_lt a 8 && nat_lt b 8 && nat_lt c 8) ≡ true
+escape_of : (a b c : ℕ) → (nat_lt a 8 && nat_lt b 8 && nat_lt c 8) ≡ true
     → nat_le (a * 64 + b * 8 + c) 255 ≡ true
-    → IsCharacter (backslash ∷ (0x30 + a) ∷ (0x30 + b) ∷ (0x30 + c) ∷ []) (a * 64 + b * 8 + c)
-escape a b c h k =
+    → IsEscape (backslash ∷ (0x30 + a) ∷ (0x30 + b) ∷ (0x30 + c) ∷ []) (a * 64 + b * 8 + c)
+escape_of a b c h k =
     let p = and_parts (nat_lt a 8 && nat_lt b 8) (nat_lt c 8) h in
     let q = and_parts (nat_lt a 8) (nat_lt b 8) p.0 in
-    inr (record {
+    record {
       first = a;
       second = b;
       third = c;
@@ -107,7 +110,43 @@ escape a b c h k =
       value = refl;
       small = leb-true (a * 64 + b * 8 + c) 255 k;
       spelled = refl;
-    })
+    }
+
+escape : (a b c : ℕ) → (nat_lt a 8 && nat_lt b 8 && nat_lt c 8) ≡ true
+    → nat_le (a * 64 + b * 8 + c) 255 ≡ true
+    → IsCharacter (backslash ∷ (0x30 + a) ∷ (0x30 + b) ∷ (0x30 + c) ∷ []) (a * 64 + b * 8 + c)
+escape a b c h k = inr (escape_of a b c h k)
+
+-- a byte that stands for itself in a string: from 0x20 to 0x7E without 0x22 and 0x5C
+abbrev bare_in_string : ℕ → Bool
+bare_in_string b = in_range 0x20 0x21 b || in_range 0x23 0x5B b || in_range 0x5D 0x7E b
+
+in_string : (b : ℕ) → bare_in_string b ≡ true → IsStringCharacter (b ∷ []) b
+in_string b h =
+    elim (or_cases (in_range 0x20 0x21 b || in_range 0x23 0x5B b) (in_range 0x5D 0x7E b) h) [
+      | inl g ↦ elim (or_cases (in_range 0x20 0x21 b) (in_range 0x23 0x5B b) g) [
+        | inl e ↦ within b 0x20 0x21 e (omega arith) (omega arith) (λ low high. omega arith)
+            (λ low high. omega arith)
+        | inr e ↦ within b 0x23 0x5B e (omega arith) (omega arith) (λ low high. omega arith)
+            (λ low high. omega arith)
+      ]
+      | inr e ↦ within b 0x5D 0x7E e (omega arith) (omega arith) (λ low high. omega arith)
+          (λ low high. omega arith)
+    ]
+  where
+    within : (b low high : ℕ) → in_range low high b ≡ true → 0x20 ≤ low → high < 0x7F
+        → (low ≤ b → b ≤ high → b ≡ quote → ⊥) → (low ≤ b → b ≤ high → b ≡ backslash → ⊥)
+        → IsStringCharacter (b ∷ []) b
+    within b low high e above below q s =
+        let p = and_parts (nat_le low b) (nat_le b high) e in
+        let x = leb-true low b p.0 in
+        let y = leb-true b high p.1 in
+        inl (record {
+          at_least_space = omega arith;
+          below_delete = omega arith;
+          no_quote = q x y;
+          no_backslash = s x y;
+        }, refl)
 
 one_character : (piece : List ℕ) (octet : ℕ) → IsCharacter piece octet
     → SpellsLabel (piece ++ []) (octet ∷ [])
@@ -395,3 +434,82 @@ label_before_name = record {
   character = inl (is_bare 0x64 refl, refl);
   full = refl;
 }
+
+-- the guide's example of an octet outside ASCII in a string, cut short; and
+-- both marks
+pub umlaut : SpellsString (0x22 ∷ codes "ex\\344m" ++ 0x22 ∷ []) (0x65 ∷ 0x78 ∷ 0xE4 ∷ 0x6D ∷ [])
+umlaut = record {
+  inside = codes "ex\\344m";
+  characters = record {
+    pieces = codes "e" ∷ codes "x" ∷ codes "\\344" ∷ codes "m" ∷ [];
+    each = (in_string 0x65 refl, (in_string 0x78 refl, (inr (inr (escape_of 3 4 4 refl refl)),
+        (in_string 0x6D refl, tt))));
+    together = refl;
+  };
+  quoted = refl;
+  short = omega arith;
+}
+
+pub marks : SpellsString (0x22 ∷ 0x5C ∷ 0x22 ∷ 0x5C ∷ 0x5C ∷ 0x20 ∷ 0x22 ∷ []) (0x22 ∷ 0x5C ∷ 0x20 ∷ [])
+marks = record {
+  inside = 0x5C ∷ 0x22 ∷ 0x5C ∷ 0x5C ∷ 0x20 ∷ [];
+  characters = record {
+    pieces = (0x5C ∷ 0x22 ∷ []) ∷ (0x5C ∷ 0x5C ∷ []) ∷ (0x20 ∷ []) ∷ [];
+    each = (inr (inl (inl refl, refl)), (inr (inl (inr refl, refl)), (in_string 0x20 refl, tt)));
+    together = refl;
+  };
+  quoted = refl;
+  short = omega arith;
+}
+
+pub empty_string : SpellsString (0x22 ∷ 0x22 ∷ []) []
+empty_string = record {
+  inside = [];
+  characters = no_characters IsStringCharacter;
+  quoted = refl;
+  short = omega arith;
+}
+
+letters : (n : ℕ) → AreCharacters IsStringCharacter (replicate n 0x61) (replicate n 0x61)
+letters zero = no_characters IsStringCharacter
+letters (suc n) =
+    let s = letters n in
+    record {
+      pieces = codes "a" ∷ s.pieces;
+      each = (in_string 0x61 refl, s.each);
+      together = let e = s.together in cc;
+    }
+
+pub longest_string : SpellsString (0x22 ∷ replicate 255 0x61 ++ 0x22 ∷ []) (replicate 255 0x61)
+longest_string = record {
+  inside = replicate 255 0x61;
+  characters = letters 255;
+  quoted = refl;
+  short = omega arith;
+}
+
+-- 256 bytes, an octal value of 256, another escape, a tab, no closing quote, none at the start,
+-- something behind the closing one
+none : (text : List ℕ) → string_of_text text ≡ None → (string : List ℕ) → SpellsString text string → ⊥
+none text e string = (strings_spelled text).1.0 e string
+
+pub too_long : (string : List ℕ) → SpellsString (0x22 ∷ replicate 256 0x61 ++ 0x22 ∷ []) string → ⊥
+too_long = none (0x22 ∷ replicate 256 0x61 ++ 0x22 ∷ []) refl
+
+pub octal_256 : (string : List ℕ) → SpellsString (0x22 ∷ codes "\\400" ++ 0x22 ∷ []) string → ⊥
+octal_256 = none (0x22 ∷ codes "\\400" ++ 0x22 ∷ []) refl
+
+pub other_escape : (string : List ℕ) → SpellsString (0x22 ∷ codes "\\a" ++ 0x22 ∷ []) string → ⊥
+other_escape = none (0x22 ∷ codes "\\a" ++ 0x22 ∷ []) refl
+
+pub tab_inside : (string : List ℕ) → SpellsString (0x22 ∷ 0x09 ∷ 0x22 ∷ []) string → ⊥
+tab_inside = none (0x22 ∷ 0x09 ∷ 0x22 ∷ []) refl
+
+pub not_closed : (string : List ℕ) → SpellsString (0x22 ∷ 0x61 ∷ []) string → ⊥
+not_closed = none (0x22 ∷ 0x61 ∷ []) refl
+
+pub not_opened : (string : List ℕ) → SpellsString (0x61 ∷ 0x22 ∷ []) string → ⊥
+not_opened = none (0x61 ∷ 0x22 ∷ []) refl
+
+pub more_behind : (string : List ℕ) → SpellsString (0x22 ∷ 0x61 ∷ 0x22 ∷ 0x62 ∷ []) string → ⊥
+more_behind = none (0x22 ∷ 0x61 ∷ 0x22 ∷ 0x62 ∷ []) refl

@@ -1,11 +1,13 @@
--- Laws over the texts of names: what the reading of a text byte by byte gives is what the text
--- spells, or its fault.
-use Rattle.std.specs.Prelude.{◌≡◌, ℕ, ◌↔◌, List, take, Ok, Err}
+-- Laws over the texts of names and strings: what the reading of a text byte by byte gives is what
+-- the text spells, or its fault.
+use Rattle.std.specs.Prelude.{◌≡◌, ℕ, ◌↔◌, List, take, Ok, Err, None, Some}
+use Rattle.value_text.specs.Strings.{string_of_text}
 use Rattle.dns_name.specs.Labels.{lowered}
 use Rattle.dns_name.specs.Text.{labels_of_text, name_of_text}
 use Rattle.dns_name.specs.declared.fault.NameFault.{NameFault}
 use Rattle.text_meanings.specs.Names.{IsTextOf, GoesOn}
 use Rattle.text_meanings.specs.Faults.{HasFault, StopsAt, place_of}
+use Rattle.text_meanings.specs.Strings.{SpellsString}
 
 -- Reading a text gives these labels exactly where it is their text.
 abbrev pub LabelsAsSpelled : Type 0
@@ -44,3 +46,16 @@ abbrev pub FaultsStandFirst : Type 0
 FaultsStandFirst =
     (text : List ℕ) (fault : NameFault) → HasFault text fault
     → GoesOn (take (place_of fault) text) × StopsAt text fault
+
+-- Reading a text gives this string exactly where it spells it, and none exactly where it spells
+-- none.
+abbrev pub StringsAsSpelled : Type 0
+StringsAsSpelled =
+    (text : List ℕ)
+    → ((string : List ℕ) → (string_of_text text ≡ Some string) ↔ SpellsString text string)
+    × ((string_of_text text ≡ None) ↔ ((string : List ℕ) → SpellsString text string → ⊥))
+
+-- A text spells one string at most.
+abbrev pub OneStringOfAText : Type 0
+OneStringOfAText = (text string other : List ℕ) → SpellsString text string
+    → SpellsString text other → string ≡ other

@@ -2,6 +2,7 @@
 
 ghost use Rattle.text_meanings.specs.Laws.{FaultsAsTold, FaultsStandFirst, LabelsAsSpelled};
 ghost use Rattle.text_meanings.specs.Laws.{NamesAsSpelled, OneFaultOfAText, OneNameOfAText};
+ghost use Rattle.text_meanings.specs.Laws.{OneStringOfAText, StringsAsSpelled};
 
 /// Reading a text gives these labels exactly where it spells them.
 pub fn labels_as_spelled()
@@ -31,4 +32,14 @@ pub fn one_fault_of_a_text()
 /// Up to its fault a text could go on to a name's, and with what stands there it can't.
 pub fn faults_stand_first()
     ensures { FaultsStandFirst }
+{}
+
+/// Reading a text gives the string that it spells, and none where it spells none.
+pub fn strings_as_spelled()
+    ensures { StringsAsSpelled }
+{}
+
+/// A text spells one string at most.
+pub fn one_string_of_a_text()
+    ensures { OneStringOfAText }
 {}
