@@ -1,5 +1,6 @@
 pub mod First
 pub mod Fronts
+pub mod Joined
 pub mod Outcomes
 pub mod Pieces
 pub mod Quoted

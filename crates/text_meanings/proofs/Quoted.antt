@@ -210,12 +210,15 @@ next_bare b rest string result q s printable h =
       piece = b ∷ [];
       octet = b;
       behind = rest;
-      character = inl (record {
-        at_least_space = low;
-        below_delete = omega arith;
-        no_quote = q;
-        no_backslash = s;
-      }, refl);
+      character = inl (
+        record {
+          at_least_space = low;
+          below_delete = omega arith;
+          no_quote = q;
+          no_backslash = s;
+        },
+        refl,
+      );
       bytes = refl;
       shorter = omega arith;
       goes = ap (λ p. at_the_end (read_from p rest)) (sym (bare_step string b rest q s printable))
@@ -302,9 +305,14 @@ string_spelled (b ∷ rest) string h = elim (cases_eq b quote) [
 pub strings_spelled : (text : List ℕ)
     → ((string : List ℕ) → (string_of_text text ≡ Some string) ↔ SpellsString text string)
     × ((string_of_text text ≡ None) ↔ ((string : List ℕ) → SpellsString text string → ⊥))
-strings_spelled text =
-    (λ string. (string_spelled text string, string_read text string), (λ e string s.
-    let k = string_read text string s in cc, λ h. go (string_of_text text) refl h))
+strings_spelled text = (
+  λ string. (string_spelled text string, string_read text string),
+  (
+    λ e string s.
+        let k = string_read text string s in cc,
+    λ h. go (string_of_text text) refl h,
+  ),
+)
   where
     go : (o : Option (List ℕ)) → string_of_text text ≡ o
         → ((string : List ℕ) → SpellsString text string → ⊥) → string_of_text text ≡ None

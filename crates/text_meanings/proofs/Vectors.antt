@@ -8,7 +8,7 @@ use Rattle.std.proofs.lemmas.Bool.{and_parts, or_cases, ltb-true, leb-true}
 use Rattle.dns_name.specs.Labels.{wire, IsRawLabel, IsRawName}
 use Rattle.dns_name.specs.declared.fault.NameFault.TheVariants.{BadEscape, LabelTooLong, NameTooLong, EmptyLabel, BadByte}
 use Rattle.text_meanings.specs.Characters.{dot, backslash, IsBare, IsEscape, IsCharacter, AreCharacters}
-use Rattle.text_meanings.specs.Names.{SpellsLabel, IsTextOf}
+use Rattle.text_meanings.specs.Names.{SpellsLabel, between, IsTextOf}
 use Rattle.text_meanings.specs.Faults.{Stands, HasFault, labels_so_far}
 use Rattle.text_meanings.proofs.Pieces.{no_characters}
 use Rattle.text_meanings.proofs.Fronts.{no_escape}
@@ -141,12 +141,15 @@ in_string b h =
         let p = and_parts (nat_le low b) (nat_le b high) e in
         let x = leb-true low b p.0 in
         let y = leb-true b high p.1 in
-        inl (record {
-          at_least_space = omega arith;
-          below_delete = omega arith;
-          no_quote = q x y;
-          no_backslash = s x y;
-        }, refl)
+        inl (
+          record {
+            at_least_space = omega arith;
+            below_delete = omega arith;
+            no_quote = q x y;
+            no_backslash = s x y;
+          },
+          refl,
+        )
 
 one_character : (piece : List ℕ) (octet : ℕ) → IsCharacter piece octet
     → SpellsLabel (piece ++ []) (octet ∷ [])
@@ -442,8 +445,16 @@ umlaut = record {
   inside = codes "ex\\344m";
   characters = record {
     pieces = codes "e" ∷ codes "x" ∷ codes "\\344" ∷ codes "m" ∷ [];
-    each = (in_string 0x65 refl, (in_string 0x78 refl, (inr (inr (escape_of 3 4 4 refl refl)),
-        (in_string 0x6D refl, tt))));
+    each = (
+      in_string 0x65 refl,
+      (
+        in_string 0x78 refl,
+        (
+          inr (inr (escape_of 3 4 4 refl refl)),
+          (in_string 0x6D refl, tt),
+        ),
+      ),
+    );
     together = refl;
   };
   quoted = refl;
@@ -513,3 +524,7 @@ not_opened = none (0x61 ∷ 0x22 ∷ []) refl
 
 pub more_behind : (string : List ℕ) → SpellsString (0x22 ∷ 0x61 ∷ 0x22 ∷ 0x62 ∷ []) string → ⊥
 more_behind = none (0x22 ∷ 0x61 ∷ 0x22 ∷ 0x62 ∷ []) refl
+
+-- the mail exchange of RFC 1035, 5.3, with one space
+pub mail_exchange : between 0x20 (codes "10" ∷ codes "VENERA" ∷ []) ≡ codes "10 VENERA"
+mail_exchange = refl

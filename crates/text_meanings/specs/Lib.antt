@@ -3,3 +3,4 @@ pub mod Faults
 pub mod Laws
 pub mod Names
 pub mod Strings
+pub mod ValueLaws

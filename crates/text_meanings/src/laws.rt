@@ -3,6 +3,7 @@
 ghost use Rattle.text_meanings.specs.Laws.{FaultsAsTold, FaultsStandFirst, LabelsAsSpelled};
 ghost use Rattle.text_meanings.specs.Laws.{NamesAsSpelled, OneFaultOfAText, OneNameOfAText};
 ghost use Rattle.text_meanings.specs.Laws.{OneStringOfAText, StringsAsSpelled};
+ghost use Rattle.text_meanings.specs.ValueLaws.{WrittenTextIsJoined};
 
 /// Reading a text gives these labels exactly where it spells them.
 pub fn labels_as_spelled()
@@ -42,4 +43,9 @@ pub fn strings_as_spelled()
 /// A text spells one string at most.
 pub fn one_string_of_a_text()
     ensures { OneStringOfAText }
+{}
+
+/// The written text of a value is its fields' texts with one space between each two.
+pub fn written_text_is_joined()
+    ensures { WrittenTextIsJoined }
 {}

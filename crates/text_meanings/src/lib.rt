@@ -8,5 +8,5 @@ mod laws;
 
 pub use laws::{
     faults_as_told, faults_stand_first, labels_as_spelled, names_as_spelled, one_fault_of_a_text,
-    one_name_of_a_text, one_string_of_a_text, strings_as_spelled,
+    one_name_of_a_text, one_string_of_a_text, strings_as_spelled, written_text_is_joined,
 };
