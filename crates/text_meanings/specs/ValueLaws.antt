@@ -1,9 +1,14 @@
 -- Laws over the texts of values.
-use Rattle.std.specs.Prelude.{◌≡◌, ℕ, List}
+use Rattle.std.specs.Prelude.{◌≡◌, ℕ, ◌↔◌, List, Result}
 use Rattle.rdata.specs.RTypeRecord.{RType}
 use Rattle.rdata.specs.Layout.{fields_of, tail_of}
+use Rattle.rdata.specs.Reading.{Reads}
+use Rattle.rdata.specs.ValueOfText.{value_of_text}
 use Rattle.rdata.specs.Written.{field_texts, text_of}
+use Rattle.rdata.specs.declared.faults.ValueFault.{ValueFault}
+use Rattle.text_meanings.specs.Fields.{Placed, HasFields}
 use Rattle.text_meanings.specs.Names.{between}
+use Rattle.text_meanings.specs.Values.{TextGives}
 
 -- The written text of a value is the texts of its fields with one space between each two (FORMATS,
 -- Texts of values).
@@ -11,3 +16,18 @@ abbrev pub WrittenTextIsJoined : Type 0
 WrittenTextIsJoined =
     (rtype : RType) (octets : List ℕ)
     → text_of rtype octets ≡ between 0x20 (field_texts (fields_of rtype) (tail_of rtype) octets)
+
+-- What is read of a text is what its fields give, and so is the value as a function of the text.
+abbrev pub ValuesAsSpelled : Type 0
+ValuesAsSpelled =
+    (rtype : RType) (text : List ℕ) (read : Result (List ℕ) ValueFault)
+    → (Reads rtype text read ↔ TextGives rtype text read)
+    × ((value_of_text rtype text ≡ read) ↔ TextGives rtype text read)
+
+-- A text has a list of fields, and no other.
+abbrev pub OneListOfFields : Type 0
+OneListOfFields =
+    (text : List ℕ)
+    → ((fields : List Placed) × HasFields 0 text fields)
+    × ((fields others : List Placed) → HasFields 0 text fields → HasFields 0 text others
+    → fields ≡ others)

@@ -3,7 +3,9 @@
 ghost use Rattle.text_meanings.specs.Laws.{FaultsAsTold, FaultsStandFirst, LabelsAsSpelled};
 ghost use Rattle.text_meanings.specs.Laws.{NamesAsSpelled, OneFaultOfAText, OneNameOfAText};
 ghost use Rattle.text_meanings.specs.Laws.{OneStringOfAText, StringsAsSpelled};
-ghost use Rattle.text_meanings.specs.ValueLaws.{WrittenTextIsJoined};
+ghost use Rattle.text_meanings.specs.ValueLaws.{OneListOfFields, ValuesAsSpelled, WrittenTextIsJoined};
+
+use rdata::value_of_text;
 
 /// Reading a text gives these labels exactly where it spells them.
 pub fn labels_as_spelled()
@@ -49,3 +51,15 @@ pub fn one_string_of_a_text()
 pub fn written_text_is_joined()
     ensures { WrittenTextIsJoined }
 {}
+
+/// A text has a list of fields, and no other.
+pub fn one_list_of_fields()
+    ensures { OneListOfFields }
+{}
+
+/// What is read of a value's text is what its fields give.
+pub fn values_as_spelled()
+    ensures { ValuesAsSpelled }
+{
+    value_of_text();
+}
