@@ -16,11 +16,13 @@ use Rattle.rdata.specs.ValueOfText.{value_of_text}
 use Rattle.rdata.specs.declared.faults.ValueFault.{ValueFault}
 use Rattle.rdata.specs.declared.faults.ValueFault.TheVariants.{BadField, MissingField, SurplusField, TooLong, OutOfMemory}
 use Rattle.rdata.proofs.One.{same_fields}
+use Rattle.text_meanings.specs.Kinds.{SpellsField}
 use Rattle.text_meanings.specs.Strings.{SpellsString}
 use Rattle.text_meanings.specs.Fields.{Placed}
 use Rattle.text_meanings.specs.Values.{Form, IsOfForm, form_in, fewest_in, AreOfForms, IsBehind, Gives, TextGives}
 use Rattle.text_meanings.specs.Values.Form.{OfKind, Counted, Alone}
 use Rattle.text_meanings.proofs.Quoted.{string_read, string_spelled, strings_spelled}
+use Rattle.text_meanings.proofs.Single.{fields_spelled}
 use Rattle.text_meanings.proofs.Splits.{places, are, HaveBytes, have_bytes, some_fields}
 
 nothing : (field : Placed) (before after : List Placed) → [] ≡ before ++ field ∷ after → ⊥
@@ -390,7 +392,8 @@ module _ (whole : List ℕ) where
             inl (
               λ octets h. w.wrong octets
                   (subst (λ f. IsOfForm f field.bytes octets) (sym same)
-                  (subst (λ t. Spells kind t octets) b.0 h)),
+                  ((fields_spelled kind field.bytes octets).0
+                  (subst (λ t. Spells kind t octets) b.0 h))),
               w.read_is,
             )
         | inr d ↦ elim d [
@@ -398,12 +401,13 @@ module _ (whole : List ℕ) where
           | inr k ↦
               let e : Some (OfKind kind) ≡ Some k.form = k.wanted in
               let same : k.form ≡ OfKind kind = cc in
-              let s : Spells kind field.bytes k.first =
+              let s : SpellsField kind field.bytes k.first =
               subst (λ f. IsOfForm f field.bytes k.first) same k.is in
               inr (
                 k.first,
                 k.rest,
-                subst (λ t. Spells kind t k.first) (sym b.0) s,
+                subst (λ t. Spells kind t k.first) (sym b.0)
+                    ((fields_spelled kind field.bytes k.first).1 s),
                 fields_read kinds end fields k.rest b.1 k.gives,
                 k.read_is,
               )
@@ -491,13 +495,15 @@ module _ (whole : List ℕ) where
         (field ∷ fields)) (sym w.1)
         (wrong_given (form_in (kind ∷ kinds) end) (fewest_in (kind ∷ kinds) end) (length whole) field
         fields (OfKind kind) refl
-        (λ octets h. w.0 octets (subst (λ t. Spells kind t octets) (sym b.0) h)))
+        (λ octets h. w.0 octets (subst (λ t. Spells kind t octets) (sym b.0)
+        ((fields_spelled kind field.bytes octets).1 h))))
     | inr k ↦
         subst
         (Gives (form_in (kind ∷ kinds) end) (fewest_in (kind ∷ kinds) end) (length whole)
         (field ∷ fields)) (sym k.4)
         (goes_given (form_in (kind ∷ kinds) end) (fewest_in (kind ∷ kinds) end) (length whole) field
-        fields (OfKind kind) k.0 k.1 refl (subst (λ t. Spells kind t k.0) b.0 k.2)
+        fields (OfKind kind) k.0 k.1 refl
+        ((fields_spelled kind field.bytes k.0).0 (subst (λ t. Spells kind t k.0) b.0 k.2))
         (fields_given kinds end fields k.1 b.1 k.3))
   ]
 

@@ -6,6 +6,7 @@ pub mod Outcomes
 pub mod Pieces
 pub mod Quoted
 pub mod Reading
+pub mod Single
 pub mod Splits
 pub mod Told
 pub mod ValueVectors

@@ -1,15 +1,17 @@
 -- Fields of values' texts, and the faults of such texts, each at its place.
-use Rattle.std.proofs.Common.{◌≡◌, ℕ, List, [], ◌∷◌, ◌++◌, arith, refl, codes, Bool, true, inl, inr, Err}
+use Rattle.std.proofs.Common.{◌≡◌, ℕ, ◌+◌, List, [], ◌∷◌, ◌++◌, map, arith, refl, codes, Bool, true, inl, inr, Err}
 use Rattle.std.proofs.Math.ListN.{replicate}
-use Rattle.std.specs.Prelude.{nat_eq, ◌&&◌, not}
-use Rattle.std.specs.List.{AllByRecursion}
-use Rattle.std.proofs.lemmas.Bool.{and_parts, not-true, eqb-false}
+use Rattle.std.specs.Prelude.{nat_eq, nat_lt, ◌&&◌, not}
+use Rattle.std.specs.List.{AllByRecursion, AllZip}
+use Rattle.std.proofs.lemmas.Bool.{and_parts, not-true, eqb-false, ltb-true}
 use Rattle.field_text.specs.FieldRecord.TheVariants as field
 use Rattle.rdata.specs.RTypeRecord.TheVariants.{A, Mx}
 use Rattle.rdata.specs.declared.faults.ValueFault.TheVariants.{BadField, MissingField, SurplusField, TooLong}
 use Rattle.text_meanings.specs.Characters.{backslash}
 use Rattle.text_meanings.specs.Strings.{quote}
 use Rattle.text_meanings.specs.Fields.{IsBlank, AreUnits, EndsField, IsField, Placed, HasFields}
+use Rattle.text_meanings.specs.Kinds.{IsDigit, SpellsNumber}
+use Rattle.text_meanings.specs.Names.{IsTextOf}
 use Rattle.text_meanings.specs.Values.{TextGives}
 use Rattle.text_meanings.specs.Values.Form.{OfKind}
 
@@ -43,6 +45,87 @@ plain_field b more rest h k ends = inl (record {
 
 abbrev at : ℕ → List ℕ → Placed
 at place bytes = record { place = place; bytes = bytes }
+
+-- numbers, with leading zeros too, and what is none
+abbrev small_digits : List ℕ → Bool
+small_digits [] = true
+small_digits (digit ∷ digits) = nat_lt digit 10 && small_digits digits
+
+abbrev digits_are : (digits : List ℕ) → List ℕ
+digits_are digits = map (λ digit. 0x30 + digit) digits
+
+all_digits : (digits : List ℕ) → small_digits digits ≡ true → AllZip IsDigit (digits_are digits) digits
+all_digits [] h = tt
+all_digits (digit ∷ digits) h =
+    let p = and_parts (nat_lt digit 10) (small_digits digits) h in
+    ((ltb-true digit 10 p.0, refl), all_digits digits p.1)
+
+pub ten : SpellsNumber 65535 (codes "10") 10
+ten = record {
+  digits = 1 ∷ 0 ∷ [];
+  each = all_digits (1 ∷ 0 ∷ []) refl;
+  some = omega arith;
+  value = refl;
+  small = omega arith;
+}
+
+pub leading_zeros : SpellsNumber 255 (codes "000255") 255
+leading_zeros = record {
+  digits = 0 ∷ 0 ∷ 0 ∷ 2 ∷ 5 ∷ 5 ∷ [];
+  each = all_digits (0 ∷ 0 ∷ 0 ∷ 2 ∷ 5 ∷ 5 ∷ []) refl;
+  some = omega arith;
+  value = refl;
+  small = omega arith;
+}
+
+-- the largest number of four octets
+pub largest : SpellsNumber 4294967295 (codes "4294967295") 4294967295
+largest = record {
+  digits = 4 ∷ 2 ∷ 9 ∷ 4 ∷ 9 ∷ 6 ∷ 7 ∷ 2 ∷ 9 ∷ 5 ∷ [];
+  each = all_digits (4 ∷ 2 ∷ 9 ∷ 4 ∷ 9 ∷ 6 ∷ 7 ∷ 2 ∷ 9 ∷ 5 ∷ []) refl;
+  some = omega arith;
+  value = refl;
+  small = omega arith;
+}
+
+no_digit : (n : ℕ) → SpellsNumber 65535 (codes "x") n → ⊥
+no_digit n s = go s.digits s.each
+  where
+    go : (digits : List ℕ) → AllZip IsDigit (codes "x") digits → ⊥
+    go [] h = h
+    go (digit ∷ []) h = omega (arith, h.0.0, h.0.1)
+    go (digit ∷ next ∷ digits) h = h.1
+
+letter_a : IsTextOf (codes "a.") (codes "a" ∷ [])
+letter_a = record {
+  spelled = record {
+    texts = codes "a" ∷ [];
+    each = (
+      record {
+        pieces = codes "a" ∷ [];
+        each = (
+          inl (
+            record {
+              above_space = omega arith;
+              below_delete = omega arith;
+              no_dot = λ e. omega arith;
+              no_backslash = λ e. omega arith;
+            },
+            refl,
+          ),
+          tt,
+        );
+        together = refl;
+      },
+      tt,
+    );
+    together = inr refl;
+  };
+  name = record {
+    each = (record { filled = omega arith; short = omega arith }, tt);
+    fits = omega arith;
+  };
+}
 
 -- the mail exchange of RFC 1035, 5.3, with six spaces, and with a tab at the end
 pub mail_exchange : HasFields 0 (codes "10      VENERA" ++ 0x09 ∷ []) (at 0 (codes "10")
@@ -158,7 +241,7 @@ bad_number = inr (
       bytes_are = refl;
     },
     refl,
-    λ octets s. let e = s.1 in cc,
+    λ octets s. no_digit s.0 s.1,
   ),
 )
 
@@ -180,7 +263,7 @@ no_name = inr (
     omega arith,
     refl,
     0 ∷ 10 ∷ [],
-    (OfKind field.Number16, 0 ∷ 10 ∷ [], [], refl, (10, refl, refl), refl, refl),
+    (OfKind field.Number16, 0 ∷ 10 ∷ [], [], refl, (10, ten, refl), refl, refl),
   ),
 )
 
@@ -220,8 +303,8 @@ one_too_many = inr (
         0 ∷ 10 ∷ [],
         1 ∷ 0x61 ∷ 0 ∷ [],
         refl,
-        (10, refl, refl),
-        (OfKind field.Name, 1 ∷ 0x61 ∷ 0 ∷ [], [], refl, (codes "a" ∷ [], refl, refl), refl, refl),
+        (10, ten, refl),
+        (OfKind field.Name, 1 ∷ 0x61 ∷ 0 ∷ [], [], refl, (codes "a" ∷ [], letter_a, refl), refl, refl),
         refl,
       );
       number_is = refl;

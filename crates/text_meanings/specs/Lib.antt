@@ -1,6 +1,7 @@
 pub mod Characters
 pub mod Faults
 pub mod Fields
+pub mod Kinds
 pub mod Laws
 pub mod Names
 pub mod Strings

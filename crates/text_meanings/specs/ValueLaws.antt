@@ -1,5 +1,8 @@
 -- Laws over the texts of values.
-use Rattle.std.specs.Prelude.{◌≡◌, ℕ, ◌↔◌, List, Result}
+use Rattle.std.specs.Prelude.{◌≡◌, ℕ, ◌↔◌, List, Result, Some}
+use Rattle.value_text.specs.Numbers.{number}
+use Rattle.field_text.specs.FieldRecord.{Field}
+use Rattle.field_text.specs.Spelling.{Spells}
 use Rattle.rdata.specs.RTypeRecord.{RType}
 use Rattle.rdata.specs.Layout.{fields_of, tail_of}
 use Rattle.rdata.specs.Reading.{Reads}
@@ -7,6 +10,7 @@ use Rattle.rdata.specs.ValueOfText.{value_of_text}
 use Rattle.rdata.specs.Written.{field_texts, text_of}
 use Rattle.rdata.specs.declared.faults.ValueFault.{ValueFault}
 use Rattle.text_meanings.specs.Fields.{Placed, HasFields}
+use Rattle.text_meanings.specs.Kinds.{SpellsNumber, SpellsField}
 use Rattle.text_meanings.specs.Names.{between}
 use Rattle.text_meanings.specs.Values.{TextGives}
 
@@ -16,6 +20,16 @@ abbrev pub WrittenTextIsJoined : Type 0
 WrittenTextIsJoined =
     (rtype : RType) (octets : List ℕ)
     → text_of rtype octets ≡ between 0x20 (field_texts (fields_of rtype) (tail_of rtype) octets)
+
+-- Reading a text gives this number exactly where it spells it.
+abbrev pub NumbersAsSpelled : Type 0
+NumbersAsSpelled =
+    (most : ℕ) (text : List ℕ) (n : ℕ) → (number most text ≡ Some n) ↔ SpellsNumber most text n
+
+-- A text spells octets as a field of a kind exactly where what is written there does.
+abbrev pub FieldsAsSpelled : Type 0
+FieldsAsSpelled =
+    (field : Field) (text octets : List ℕ) → Spells field text octets ↔ SpellsField field text octets
 
 -- What is read of a text is what its fields give, and so is the value as a function of the text.
 abbrev pub ValuesAsSpelled : Type 0

@@ -3,12 +3,12 @@ use Rattle.std.specs.Prelude.{◌≡◌, ℕ, zero, suc, ◌<◌, ◌≤◌, ◌
 use Rattle.field_text.specs.FieldRecord as kind
 use Rattle.field_text.specs.TailRecord.{Tail}
 use Rattle.field_text.specs.TailRecord.TheVariants as tail
-use Rattle.field_text.specs.Spelling.{Spells}
 use Rattle.rdata.specs.RTypeRecord.{RType}
 use Rattle.rdata.specs.Layout.{fields_of, tail_of}
 use Rattle.rdata.specs.declared.faults.ValueFault.{ValueFault}
 use Rattle.rdata.specs.declared.faults.ValueFault.TheVariants.{BadField, MissingField, SurplusField, TooLong, OutOfMemory}
 use Rattle.text_meanings.specs.Fields.{Placed, HasFields}
+use Rattle.text_meanings.specs.Kinds.{SpellsField}
 use Rattle.text_meanings.specs.Strings.{SpellsString}
 
 -- What a field has to be: of a kind; a string, behind its length on the wire; a string alone.
@@ -18,7 +18,7 @@ pub data Form : Type 0 where
   Alone : Form
 
 abbrev pub IsOfForm : Form → (bytes octets : List ℕ) → Type 0
-IsOfForm (OfKind kind) bytes octets = Spells kind bytes octets
+IsOfForm (OfKind kind) bytes octets = SpellsField kind bytes octets
 IsOfForm Counted bytes octets =
     (string : List ℕ) × SpellsString bytes string × (octets ≡ length string ∷ string)
 IsOfForm Alone bytes octets = SpellsString bytes octets

@@ -3,6 +3,7 @@
 ghost use Rattle.text_meanings.specs.Laws.{FaultsAsTold, FaultsStandFirst, LabelsAsSpelled};
 ghost use Rattle.text_meanings.specs.Laws.{NamesAsSpelled, OneFaultOfAText, OneNameOfAText};
 ghost use Rattle.text_meanings.specs.Laws.{OneStringOfAText, StringsAsSpelled};
+ghost use Rattle.text_meanings.specs.ValueLaws.{FieldsAsSpelled, NumbersAsSpelled};
 ghost use Rattle.text_meanings.specs.ValueLaws.{OneListOfFields, ValuesAsSpelled, WrittenTextIsJoined};
 
 use rdata::value_of_text;
@@ -50,6 +51,16 @@ pub fn one_string_of_a_text()
 /// The written text of a value is its fields' texts with one space between each two.
 pub fn written_text_is_joined()
     ensures { WrittenTextIsJoined }
+{}
+
+/// Reading a text gives the number that it spells.
+pub fn numbers_as_spelled()
+    ensures { NumbersAsSpelled }
+{}
+
+/// A text spells octets as a field of a kind exactly where what is written there does.
+pub fn fields_as_spelled()
+    ensures { FieldsAsSpelled }
 {}
 
 /// A text has a list of fields, and no other.
