@@ -1,24 +1,24 @@
 -- Up to its fault a text could go on to a name's, and with what stands there it can't.
-use Rattle.std.proofs.Common.{◌≡◌, ℕ, ◌+◌, ◌<◌, ◌≤◌, List, [], ◌∷◌, ◌++◌, length, take, arith, ap, ◌∙◌, sym, refl, subst, inl, inr}
-use Rattle.std.proofs.Common.{false, append_assoc, length-append}
+use Rattle.std.proofs.Common.{◌≡◌, ℕ, ◌+◌, ◌<◌, ◌≤◌, List, [], ◌∷◌, ◌++◌, length, take, drop, arith, ap, ◌∙◌, sym, refl, subst, inl, inr}
+use Rattle.std.proofs.Common.{true, false, append_assoc, length-append}
 use Rattle.std.specs.Prelude.{◌⊎◌}
 use Rattle.std.specs.Str.{bytes_eq}
-use Rattle.std.proofs.lemmas.Bool.{cases_Bool, cases_lt, both_ways, false_from_ne_true}
-use Rattle.std.proofs.lemmas.List.{take_at}
+use Rattle.std.proofs.lemmas.Bool.{cases_Bool, cases_lt, both_ways, false_from_ne_true, true_from_ne_false}
+use Rattle.std.proofs.lemmas.List.{take_at, take_all, drop_at}
 use Rattle.std.proofs.lemmas.Slice.Eq.{bytes_eq-Decides}
 use Rattle.octets.specs.Octal.{has_octal}
 use Rattle.dns_name.specs.Labels.{wire}
 use Rattle.dns_name.specs.declared.fault.NameFault.{NameFault}
 use Rattle.dns_name.specs.declared.fault.NameFault.TheVariants.{BadEscape, LabelTooLong, NameTooLong, EmptyLabel, BadByte}
-use Rattle.text_meanings.specs.Characters.{dot, backslash, IsCharacter}
+use Rattle.text_meanings.specs.Characters.{dot, backslash, IsEscape, IsCharacter}
 use Rattle.text_meanings.specs.Names.{IsTextOf, GoesOn}
-use Rattle.text_meanings.specs.Faults.{Stands, HasFault, HasBadEscape, HasBadByte, HasEmptyLabel, HasLongLabel, HasLongName, StopsAt, place_of}
+use Rattle.text_meanings.specs.Faults.{StandsAt, HasFault, HasBadEscape, HasBadByte, HasEmptyLabel, HasLongLabel, HasLongName, StopsAt, place_of}
 use Rattle.text_meanings.proofs.Pieces.{wire_push}
-use Rattle.text_meanings.proofs.Fronts.{front_goes_on, escape_at, no_escape, root_named}
+use Rattle.text_meanings.proofs.Fronts.{front_goes_on, EscapeAt, escape_at, no_escape, root_named}
 use Rattle.text_meanings.proofs.Told.{never_both, one_name}
 
 module _ (text : List ℕ) (at : ℕ) (done : List (List ℕ)) (label rest : List ℕ)
-    (s : Stands text at done label rest) where
+    (s : StandsAt text at done label rest) where
   -- the bytes before the place
   front_is : take at text ≡ s.before
   front_is = ap (λ t. take at t) s.here ∙ take_at s.before rest at (sym s.place)
@@ -37,7 +37,7 @@ module _ (text : List ℕ) (at : ℕ) (done : List (List ℕ)) (label rest : Lis
 
   -- another text with these, where others stand behind them
   others : (n : ℕ) (first behind more : List ℕ) → length first ≡ n → rest ≡ first ++ behind
-      → Stands (take (at + n) text ++ more) at done label (first ++ more)
+      → StandsAt (take (at + n) text ++ more) at done label (first ++ more)
   others n first behind more size e = record {
     before = s.before;
     front = s.front;
@@ -108,9 +108,9 @@ cut piece octet c = elim c [
 ]
 
 module _ (text : List ℕ) (at : ℕ) (done : List (List ℕ)) (label piece rest : List ℕ) (octet : ℕ)
-    (s : Stands text at done label (piece ++ rest)) (c : IsCharacter piece octet) where
+    (s : StandsAt text at done label (piece ++ rest)) (c : IsCharacter piece octet) where
   -- With its first byte no name's text begins, where no character may stand.
-  character_first : ((text piece rest : List ℕ) (octet : ℕ) → Stands text at done label (piece ++ rest)
+  character_first : ((text piece rest : List ℕ) (octet : ℕ) → StandsAt text at done label (piece ++ rest)
       → IsCharacter piece octet → (fault : NameFault) × HasFault text fault)
       → GoesOn (take (at + 1) text) → ⊥
   character_first faulty g =
@@ -118,18 +118,18 @@ module _ (text : List ℕ) (at : ℕ) (done : List (List ℕ)) (label piece rest
       let longer = take (at + 1) text ++ g.0 in
       let bytes : piece ++ rest ≡ (k.first ∷ []) ++ (k.behind ++ rest) =
       ap (λ t. t ++ rest) k.bytes in
-      let stands : Stands longer at done label (k.first ∷ g.0) =
+      let stands : StandsAt longer at done label (k.first ∷ g.0) =
       others text at done label (piece ++ rest) s 1 (k.first ∷ []) (k.behind ++ rest) g.0 refl bytes in
       elim (k.other g.0) [
         | inl a ↦
             let f = faulty longer a.piece a.behind a.octet
-            (subst (Stands longer at done label) a.bytes stands) a.character in
+            (subst (StandsAt longer at done label) a.bytes stands) a.character in
             never_both longer g.1 f.0 g.2 f.1
         | inr e ↦ never_both longer g.1 (BadEscape at) g.2 (record {
           done = done;
           label = label;
           rest = g.0;
-          stands = subst (λ b. Stands longer at done label (b ∷ g.0)) e.0 stands;
+          stands = subst (λ b. StandsAt longer at done label (b ∷ g.0)) e.0 stands;
           none = λ piece behind octet a bytes. no_escape g.0 piece behind octet e.1 a bytes;
         })
       ]
@@ -203,8 +203,8 @@ module _ (text : List ℕ) (at : ℕ) (w : HasBadEscape text at) (g : GoesOn (ta
             no_escape (a ∷ b ∷ c ∷ g.0) piece behind octet absent k bytes;
       })
 
-  escape_first : length text < at + 4
-  escape_first = elim (cases_lt (length text) (at + 4)) [
+  short_escape : length text < at + 4
+  short_escape = elim (cases_lt (length text) (at + 4)) [
     | inl h ↦ h
     | inr h ↦
         let size : length text ≡ length w.stands.before + length (backslash ∷ w.rest) =
@@ -212,6 +212,56 @@ module _ (text : List ℕ) (at : ℕ) (w : HasBadEscape text at) (g : GoesOn (ta
         let place = w.stands.place in
         absurd (whole_escape w.rest refl (omega arith))
   ]
+
+  -- with what the name's text has behind it
+  longer_is : take (at + 4) text ++ g.0 ≡ w.stands.before ++ backslash ∷ (w.rest ++ g.0)
+  longer_is =
+      ap (λ t. t ++ g.0) (take_all (at + 4) text (omega (arith, short_escape)) ∙ w.stands.here)
+      ∙ append_assoc w.stands.before (backslash ∷ w.rest) g.0
+
+  longer_escape : has_octal (w.rest ++ g.0) ≡ true
+  longer_escape = true_from_ne_false (has_octal (w.rest ++ g.0)) (λ absent.
+      never_both (take (at + 4) text ++ g.0) g.1 (BadEscape at) g.2 (record {
+        done = w.done;
+        label = w.label;
+        rest = w.rest ++ g.0;
+        stands = record {
+          before = w.stands.before;
+          front = w.stands.front;
+          place = w.stands.place;
+          here = longer_is;
+        };
+        none = λ piece behind octet k bytes.
+            no_escape (w.rest ++ g.0) piece behind octet absent k bytes;
+      }))
+
+  four : (piece : List ℕ) (octet : ℕ) → IsEscape piece octet → length piece ≡ 4
+  four piece octet e = ap length e.spelled
+
+  four_first : (rest : List ℕ) → length rest < 3 → EscapeAt (rest ++ g.0)
+      → (more : List ℕ) × (octet : ℕ) × IsEscape ((backslash ∷ rest) ++ more) octet
+  four_first rest h k = go rest h (ap (take 4) k.bytes
+      ∙ take_at k.piece k.behind 4 (four k.piece k.octet k.escape))
+    where
+      go : (rest : List ℕ) → length rest < 3 → take 4 (backslash ∷ (rest ++ g.0)) ≡ k.piece
+          → (more : List ℕ) × (octet : ℕ) × IsEscape ((backslash ∷ rest) ++ more) octet
+      go [] h e = (take 3 g.0, k.octet, subst (λ t. IsEscape t k.octet) (sym e) k.escape)
+      go (a ∷ []) h e = (take 2 g.0, k.octet, subst (λ t. IsEscape t k.octet) (sym e) k.escape)
+      go (a ∷ b ∷ []) h e =
+          (take 1 g.0, k.octet, subst (λ t. IsEscape t k.octet) (sym e) k.escape)
+      go (a ∷ b ∷ c ∷ rest) h e = absurd (omega arith)
+
+  escape_first : (more : List ℕ) × (octet : ℕ) × IsEscape (drop at text ++ more) octet
+  escape_first =
+      let size : length text ≡ length w.stands.before + length (backslash ∷ w.rest) =
+      ap length w.stands.here ∙ length-append w.stands.before (backslash ∷ w.rest) in
+      let place = w.stands.place in
+      let short = short_escape in
+      let found = four_first w.rest (omega arith) (escape_at (w.rest ++ g.0) longer_escape) in
+      let here : drop at text ≡ backslash ∷ w.rest =
+      ap (drop at) w.stands.here
+      ∙ drop_at w.stands.before (backslash ∷ w.rest) at (sym w.stands.place) in
+      (found.0, found.1, subst (λ t. IsEscape (t ++ found.0) found.1) (sym here) found.2)
 
 empty_first : (text : List ℕ) (at : ℕ) → HasEmptyLabel text at → (more : List ℕ)
     (labels : List (List ℕ)) → IsTextOf (take (at + 1) text ++ more) labels → labels ≡ []

@@ -18,20 +18,20 @@ use Rattle.rdata.specs.declared.faults.ValueFault.TheVariants.{BadField, Missing
 use Rattle.rdata.proofs.One.{same_fields}
 use Rattle.text_meanings.specs.Kinds.{SpellsField}
 use Rattle.text_meanings.specs.Strings.{SpellsString}
-use Rattle.text_meanings.specs.Fields.{Placed}
-use Rattle.text_meanings.specs.Values.{Form, IsOfForm, form_in, fewest_in, AreOfForms, IsBehind, Gives, TextGives}
+use Rattle.text_meanings.specs.Fields.{FieldText, places, HaveBytes}
+use Rattle.text_meanings.specs.Values.{Form, IsOfForm, form_in, fewest_in, AreOfForms, IsBehind, Give, Gives}
 use Rattle.text_meanings.specs.Values.Form.{OfKind, Counted, Alone}
 use Rattle.text_meanings.proofs.Quoted.{string_read, string_spelled, strings_spelled}
 use Rattle.text_meanings.proofs.Single.{fields_spelled}
-use Rattle.text_meanings.proofs.Splits.{places, are, HaveBytes, have_bytes, some_fields}
+use Rattle.text_meanings.proofs.Splits.{are, have_bytes, some_fields}
 
-nothing : (field : Placed) (before after : List Placed) → [] ≡ before ++ field ∷ after → ⊥
+nothing : (field : FieldText) (before after : List FieldText) → [] ≡ before ++ field ∷ after → ⊥
 nothing field [] after e = cc
 nothing field (f ∷ before) after e = cc
 
 -- What no fields give.
 none_give : (forms : ℕ → Option Form) (fewest size : ℕ) (read : Result (List ℕ) ValueFault)
-    → Gives forms fewest size [] read
+    → Give forms fewest size [] read
     → ((fewest ≡ 0) × (read ≡ Ok [])) ⊎ ((0 < fewest) × (read ≡ Err (MissingField size)))
 none_give forms fewest size (Ok octets) g = inl (omega (arith, g.0), ap Ok g.1)
 none_give forms fewest size (Err (BadField at)) g = absurd (nothing g.3.field g.3.before g.3.after g.3.split)
@@ -42,18 +42,18 @@ none_give forms fewest size (Err TooLong) g = absurd g
 none_give forms fewest size (Err OutOfMemory) g = absurd g
 
 -- The first field is of its form, and the others give the rest.
-record Goes (forms : ℕ → Option Form) (fewest size : ℕ) (field : Placed) (fields : List Placed)
+record Goes (forms : ℕ → Option Form) (fewest size : ℕ) (field : FieldText) (fields : List FieldText)
     (read : Result (List ℕ) ValueFault) : Type 0 where
   form : Form
   first : List ℕ
   rest : Result (List ℕ) ValueFault
   wanted : forms 0 ≡ Some form
   is : IsOfForm form field.bytes first
-  gives : Gives (λ number. forms (suc number)) (pred fewest) size fields rest
+  gives : Give (λ number. forms (suc number)) (pred fewest) size fields rest
   read_is : read ≡ in_front first rest
 
 -- It isn't.
-record Wrong (forms : ℕ → Option Form) (field : Placed) (read : Result (List ℕ) ValueFault) : Type 0
+record Wrong (forms : ℕ → Option Form) (field : FieldText) (read : Result (List ℕ) ValueFault) : Type 0
   where
     form : Form
     wanted : forms 0 ≡ Some form
@@ -61,18 +61,18 @@ record Wrong (forms : ℕ → Option Form) (field : Placed) (read : Result (List
     read_is : read ≡ Err (BadField field.place)
 
 -- There is no form for it.
-record Over (forms : ℕ → Option Form) (field : Placed) (read : Result (List ℕ) ValueFault) : Type 0
+record Over (forms : ℕ → Option Form) (field : FieldText) (read : Result (List ℕ) ValueFault) : Type 0
   where
     none : forms 0 ≡ None
     read_is : read ≡ Err (SurplusField field.place)
 
-abbrev Peeled : (forms : ℕ → Option Form) (fewest size : ℕ) (field : Placed) (fields : List Placed)
+abbrev Peeled : (forms : ℕ → Option Form) (fewest size : ℕ) (field : FieldText) (fields : List FieldText)
     (read : Result (List ℕ) ValueFault) → Type 0
 Peeled forms fewest size field fields read =
     Wrong forms field read ⊎ (Over forms field read ⊎ Goes forms fewest size field fields read)
 
 -- a field behind the first
-record Later (forms : ℕ → Option Form) (field : Placed) (fields : List Placed) (at number : ℕ)
+record Later (forms : ℕ → Option Form) (field : FieldText) (fields : List FieldText) (at number : ℕ)
     (bytes : List ℕ) : Type 0 where
   form : Form
   first : List ℕ
@@ -82,25 +82,25 @@ record Later (forms : ℕ → Option Form) (field : Placed) (fields : List Place
   number_is : number ≡ suc less
   behind : IsBehind (λ n. forms (suc n)) fields at less bytes
 
-record Here (field : Placed) (at number : ℕ) (bytes : List ℕ) : Type 0 where
+record Here (field : FieldText) (at number : ℕ) (bytes : List ℕ) : Type 0 where
   number_is : number ≡ 0
   place : at ≡ field.place
   bytes_are : bytes ≡ field.bytes
 
-first_or_later : (forms : ℕ → Option Form) (field : Placed) (fields : List Placed) (at number : ℕ)
+first_or_later : (forms : ℕ → Option Form) (field : FieldText) (fields : List FieldText) (at number : ℕ)
     (bytes : List ℕ) → IsBehind forms (field ∷ fields) at number bytes
     → Here field at number bytes ⊎ Later forms field fields at number bytes
 first_or_later forms field fields at number bytes b = go b.before b.split b.fine b.number_is
   where
-    go : (before : List Placed) → field ∷ fields ≡ before ++ b.field ∷ b.after
+    go : (before : List FieldText) → field ∷ fields ≡ before ++ b.field ∷ b.after
         → AreOfForms forms before b.octets → number ≡ length before
         → Here field at number bytes ⊎ Later forms field fields at number bytes
     go [] e fine n =
         let same : b.field ≡ field = cc in
         inl (record {
           number_is = n;
-          place = b.place ∙ ap (λ (f : Placed). f.place) same;
-          bytes_are = b.bytes_are ∙ ap (λ (f : Placed). f.bytes) same;
+          place = b.place ∙ ap (λ (f : FieldText). f.place) same;
+          bytes_are = b.bytes_are ∙ ap (λ (f : FieldText). f.bytes) same;
         })
     go (f ∷ before) e fine n =
         let same : f ≡ field = cc in
@@ -109,7 +109,7 @@ first_or_later forms field fields at number bytes b = go b.before b.split b.fine
           form = fine.0;
           first = fine.1;
           wanted = fine.3;
-          is = subst (λ (x : Placed). IsOfForm fine.0 x.bytes fine.1) same fine.4;
+          is = subst (λ (x : FieldText). IsOfForm fine.0 x.bytes fine.1) same fine.4;
           less = length before;
           number_is = n;
           behind = record {
@@ -125,8 +125,8 @@ first_or_later forms field fields at number bytes b = go b.before b.split b.fine
           };
         })
 
-peel : (forms : ℕ → Option Form) (fewest size : ℕ) (field : Placed) (fields : List Placed)
-    (read : Result (List ℕ) ValueFault) → Gives forms fewest size (field ∷ fields) read
+peel : (forms : ℕ → Option Form) (fewest size : ℕ) (field : FieldText) (fields : List FieldText)
+    (read : Result (List ℕ) ValueFault) → Give forms fewest size (field ∷ fields) read
     → Peeled forms fewest size field fields read
 peel forms fewest size field fields (Ok octets) g = inr (inr (record {
   form = g.1.0;
@@ -185,14 +185,14 @@ peel forms fewest size field fields (Err TooLong) g = absurd g
 peel forms fewest size field fields (Err OutOfMemory) g = absurd g
 
 -- the other way round
-none_given : (forms : ℕ → Option Form) (size : ℕ) → Gives forms 0 size [] (Ok [])
+none_given : (forms : ℕ → Option Form) (size : ℕ) → Give forms 0 size [] (Ok [])
 none_given forms size = (omega arith, refl)
 
 missing_given : (forms : ℕ → Option Form) (fewest size : ℕ) → 0 < fewest
-    → Gives forms fewest size [] (Err (MissingField size))
+    → Give forms fewest size [] (Err (MissingField size))
 missing_given forms fewest size h = (h, refl, [], refl)
 
-here_behind : (forms : ℕ → Option Form) (field : Placed) (fields : List Placed)
+here_behind : (forms : ℕ → Option Form) (field : FieldText) (fields : List FieldText)
     → IsBehind forms (field ∷ fields) field.place 0 field.bytes
 here_behind forms field fields = record {
   before = [];
@@ -206,19 +206,19 @@ here_behind forms field fields = record {
   bytes_are = refl;
 }
 
-wrong_given : (forms : ℕ → Option Form) (fewest size : ℕ) (field : Placed) (fields : List Placed)
+wrong_given : (forms : ℕ → Option Form) (fewest size : ℕ) (field : FieldText) (fields : List FieldText)
     (form : Form) → forms 0 ≡ Some form
     → ((octets : List ℕ) → IsOfForm form field.bytes octets → ⊥)
-    → Gives forms fewest size (field ∷ fields) (Err (BadField field.place))
+    → Give forms fewest size (field ∷ fields) (Err (BadField field.place))
 wrong_given forms fewest size field fields form e h =
     (0, form, field.bytes, here_behind forms field fields, e, h)
 
-over_given : (forms : ℕ → Option Form) (fewest size : ℕ) (field : Placed) (fields : List Placed)
-    → forms 0 ≡ None → Gives forms fewest size (field ∷ fields) (Err (SurplusField field.place))
+over_given : (forms : ℕ → Option Form) (fewest size : ℕ) (field : FieldText) (fields : List FieldText)
+    → forms 0 ≡ None → Give forms fewest size (field ∷ fields) (Err (SurplusField field.place))
 over_given forms fewest size field fields e =
     (0, field.bytes, here_behind forms field fields, e)
 
-later_behind : (forms : ℕ → Option Form) (field : Placed) (fields : List Placed) (form : Form)
+later_behind : (forms : ℕ → Option Form) (field : FieldText) (fields : List FieldText) (form : Form)
     (first : List ℕ) (at number : ℕ) (bytes : List ℕ) → forms 0 ≡ Some form
     → IsOfForm form field.bytes first → IsBehind (λ n. forms (suc n)) fields at number bytes
     → IsBehind forms (field ∷ fields) at (suc number) bytes
@@ -234,11 +234,11 @@ later_behind forms field fields form first at number bytes e is b = record {
   bytes_are = b.bytes_are;
 }
 
-goes_given : (forms : ℕ → Option Form) (fewest size : ℕ) (field : Placed) (fields : List Placed)
+goes_given : (forms : ℕ → Option Form) (fewest size : ℕ) (field : FieldText) (fields : List FieldText)
     (form : Form) (first : List ℕ) (rest : Result (List ℕ) ValueFault) → forms 0 ≡ Some form
     → IsOfForm form field.bytes first
-    → Gives (λ number. forms (suc number)) (pred fewest) size fields rest
-    → Gives forms fewest size (field ∷ fields) (in_front first rest)
+    → Give (λ number. forms (suc number)) (pred fewest) size fields rest
+    → Give forms fewest size (field ∷ fields) (in_front first rest)
 goes_given forms fewest size field fields form first (Ok rest) e is g =
     (omega (arith, g.0), (form, first, rest, e, is, g.1, refl))
 goes_given forms fewest size field fields form first (Err (BadField at)) e is g =
@@ -257,7 +257,7 @@ module _ (whole : List ℕ) where
   not_read bytes h = (strings_spelled bytes).1.1 h
 
   -- what the first field gives as a string
-  wrong_first : (field : Placed) (octets : List ℕ → List ℕ) (rest : Result (List ℕ) ValueFault)
+  wrong_first : (field : FieldText) (octets : List ℕ → List ℕ) (rest : Result (List ℕ) ValueFault)
       → bytes_of whole (places field) ≡ field.bytes
       → ((string : List ℕ) → SpellsString field.bytes string → ⊥)
       → string_first (places field) (string_of_text (bytes_of whole (places field))) octets rest
@@ -266,7 +266,7 @@ module _ (whole : List ℕ) where
       ap (λ o. string_first (places field) o octets rest)
       (ap string_of_text e ∙ not_read field.bytes h)
 
-  right_first : (field : Placed) (octets : List ℕ → List ℕ) (rest : Result (List ℕ) ValueFault)
+  right_first : (field : FieldText) (octets : List ℕ → List ℕ) (rest : Result (List ℕ) ValueFault)
       (string : List ℕ) → bytes_of whole (places field) ≡ field.bytes
       → SpellsString field.bytes string
       → string_first (places field) (string_of_text (bytes_of whole (places field))) octets rest
@@ -276,8 +276,8 @@ module _ (whole : List ℕ) where
       (ap string_of_text e ∙ string_read field.bytes string h)
 
   -- what fields give as a tail
-  nothing_read : (size : ℕ) (fields : List Placed) (read : Result (List ℕ) ValueFault)
-      → Gives (λ number. None) 0 size fields read → read ≡ at_the_end (map places fields)
+  nothing_read : (size : ℕ) (fields : List FieldText) (read : Result (List ℕ) ValueFault)
+      → Give (λ number. None) 0 size fields read → read ≡ at_the_end (map places fields)
   nothing_read size [] read g = elim (none_give (λ number. None) 0 size read g) [
     | inl e ↦ e.1
     | inr e ↦ absurd (omega (arith, e.0))
@@ -291,9 +291,9 @@ module _ (whole : List ℕ) where
         ]
       ]
 
-  strings_read : (fewest size : ℕ) (fields : List Placed) (read : Result (List ℕ) ValueFault)
+  strings_read : (fewest size : ℕ) (fields : List FieldText) (read : Result (List ℕ) ValueFault)
       → HaveBytes whole fields → fewest ≤ length fields
-      → Gives (λ number. Some Counted) fewest size fields read
+      → Give (λ number. Some Counted) fewest size fields read
       → read ≡ strings_of whole (map places fields)
   strings_read fewest size [] read b few g =
       elim (none_give (λ number. Some Counted) fewest size read g) [
@@ -325,9 +325,9 @@ module _ (whole : List ℕ) where
         ]
       ]
 
-  alone_read : (size : ℕ) (field : Placed) (fields : List Placed)
+  alone_read : (size : ℕ) (field : FieldText) (fields : List FieldText)
       (read : Result (List ℕ) ValueFault) → bytes_of whole (places field) ≡ field.bytes
-      → Gives (form_in [] tail.Value) 1 size (field ∷ fields) read
+      → Give (form_in [] tail.Value) 1 size (field ∷ fields) read
       → read ≡ tail_gives whole tail.Value (map places (field ∷ fields))
   alone_read size field fields read b g =
       elim (peel (form_in [] tail.Value) 1 size field fields read g) [
@@ -351,9 +351,9 @@ module _ (whole : List ℕ) where
         ]
       ]
 
-  tail_read : (end : Tail) (fields : List Placed) (read : Result (List ℕ) ValueFault)
+  tail_read : (end : Tail) (fields : List FieldText) (read : Result (List ℕ) ValueFault)
       → HaveBytes whole fields
-      → Gives (form_in [] end) (fewest_in [] end) (length whole) fields read
+      → Give (form_in [] end) (fewest_in [] end) (length whole) fields read
       → read ≡ tail_gives whole end (map places fields)
   tail_read tail.Nothing fields read b g = nothing_read (length whole) fields read g
   tail_read tail.Strings [] read b g =
@@ -372,9 +372,9 @@ module _ (whole : List ℕ) where
       alone_read (length whole) field fields read b.0 g
 
   -- and as these kinds and a tail
-  fields_read : (kinds : List kind.Field) (end : Tail) (fields : List Placed)
+  fields_read : (kinds : List kind.Field) (end : Tail) (fields : List FieldText)
       (read : Result (List ℕ) ValueFault) → HaveBytes whole fields
-      → Gives (form_in kinds end) (fewest_in kinds end) (length whole) fields read
+      → Give (form_in kinds end) (fewest_in kinds end) (length whole) fields read
       → ReadsFields whole kinds end (map places fields) read
   fields_read [] end fields read b g = tail_read end fields read b g
   fields_read (kind ∷ kinds) end [] read b g =
@@ -415,45 +415,45 @@ module _ (whole : List ℕ) where
       ]
 
   -- the other way round
-  nothing_given : (size : ℕ) (fields : List Placed)
-      → Gives (λ number. None) 0 size fields (at_the_end (map places fields))
+  nothing_given : (size : ℕ) (fields : List FieldText)
+      → Give (λ number. None) 0 size fields (at_the_end (map places fields))
   nothing_given size [] = none_given (λ number. None) size
   nothing_given size (field ∷ fields) = over_given (λ number. None) 0 size field fields refl
 
-  first_given : (forms : ℕ → Option Form) (fewest size : ℕ) (field : Placed) (fields : List Placed)
+  first_given : (forms : ℕ → Option Form) (fewest size : ℕ) (field : FieldText) (fields : List FieldText)
       (form : Form) (octets : List ℕ → List ℕ) (rest : Result (List ℕ) ValueFault)
       → bytes_of whole (places field) ≡ field.bytes → forms 0 ≡ Some form
       → ((string : List ℕ) → SpellsString field.bytes string
       → IsOfForm form field.bytes (octets string))
       → (((string : List ℕ) → SpellsString field.bytes string → ⊥)
       → (found : List ℕ) → IsOfForm form field.bytes found → ⊥)
-      → Gives (λ number. forms (suc number)) (pred fewest) size fields rest
-      → Gives forms fewest size (field ∷ fields)
+      → Give (λ number. forms (suc number)) (pred fewest) size fields rest
+      → Give forms fewest size (field ∷ fields)
       (string_first (places field) (string_of_text (bytes_of whole (places field))) octets rest)
   first_given forms fewest size field fields form octets rest b e yes_form no_form g =
       go (string_of_text field.bytes) refl
     where
       go : (o : Option (List ℕ)) → string_of_text field.bytes ≡ o
-          → Gives forms fewest size (field ∷ fields)
+          → Give forms fewest size (field ∷ fields)
           (string_first (places field) (string_of_text (bytes_of whole (places field))) octets rest)
       go None k =
           let none : (string : List ℕ) → SpellsString field.bytes string → ⊥ =
           (strings_spelled field.bytes).1.0 k in
-          subst (Gives forms fewest size (field ∷ fields))
+          subst (Give forms fewest size (field ∷ fields))
           (sym (wrong_first field octets rest b none))
           (wrong_given forms fewest size field fields form e (no_form none))
       go (Some string) k =
           let s = string_spelled field.bytes string k in
-          subst (Gives forms fewest size (field ∷ fields))
+          subst (Give forms fewest size (field ∷ fields))
           (sym (right_first field octets rest string b s))
           (goes_given forms fewest size field fields form (octets string) rest e (yes_form string s)
           g)
 
-  strings_given : (fewest size : ℕ) (fields : List Placed) → HaveBytes whole fields
+  strings_given : (fewest size : ℕ) (fields : List FieldText) → HaveBytes whole fields
       → fewest ≤ length fields
-      → Gives (λ number. Some Counted) fewest size fields (strings_of whole (map places fields))
+      → Give (λ number. Some Counted) fewest size fields (strings_of whole (map places fields))
   strings_given fewest size [] b few =
-      subst (λ n. Gives (λ number. Some Counted) n size [] (Ok []))
+      subst (λ n. Give (λ number. Some Counted) n size [] (Ok []))
       (let e : 0 ≡ fewest = omega arith in e) (none_given (λ number. Some Counted) size)
   strings_given fewest size (field ∷ fields) b few =
       first_given (λ number. Some Counted) fewest size field fields Counted
@@ -461,8 +461,8 @@ module _ (whole : List ℕ) where
       (λ string s. (string, s, refl)) (λ none found h. none h.0 h.1)
       (strings_given (pred fewest) size fields b.1 (omega arith))
 
-  tail_given : (end : Tail) (fields : List Placed) → HaveBytes whole fields
-      → Gives (form_in [] end) (fewest_in [] end) (length whole) fields
+  tail_given : (end : Tail) (fields : List FieldText) → HaveBytes whole fields
+      → Give (form_in [] end) (fewest_in [] end) (length whole) fields
       (tail_gives whole end (map places fields))
   tail_given tail.Nothing fields b = nothing_given (length whole) fields
   tail_given tail.Strings [] b =
@@ -476,22 +476,22 @@ module _ (whole : List ℕ) where
       (at_the_end (map places fields)) b.0 refl (λ string s. s) (λ none found h. none found h)
       (nothing_given (length whole) fields)
 
-  fields_given : (kinds : List kind.Field) (end : Tail) (fields : List Placed)
+  fields_given : (kinds : List kind.Field) (end : Tail) (fields : List FieldText)
       (read : Result (List ℕ) ValueFault) → HaveBytes whole fields
       → ReadsFields whole kinds end (map places fields) read
-      → Gives (form_in kinds end) (fewest_in kinds end) (length whole) fields read
+      → Give (form_in kinds end) (fewest_in kinds end) (length whole) fields read
   fields_given [] end fields read b r =
-      subst (Gives (form_in [] end) (fewest_in [] end) (length whole) fields) (sym r)
+      subst (Give (form_in [] end) (fewest_in [] end) (length whole) fields) (sym r)
       (tail_given end fields b)
   fields_given (kind ∷ kinds) end [] read b r =
-      subst (Gives (form_in (kind ∷ kinds) end) (fewest_in (kind ∷ kinds) end) (length whole) [])
+      subst (Give (form_in (kind ∷ kinds) end) (fewest_in (kind ∷ kinds) end) (length whole) [])
       (sym r)
       (missing_given (form_in (kind ∷ kinds) end) (fewest_in (kind ∷ kinds) end) (length whole)
       (omega arith))
   fields_given (kind ∷ kinds) end (field ∷ fields) read b r = elim r [
     | inl w ↦
         subst
-        (Gives (form_in (kind ∷ kinds) end) (fewest_in (kind ∷ kinds) end) (length whole)
+        (Give (form_in (kind ∷ kinds) end) (fewest_in (kind ∷ kinds) end) (length whole)
         (field ∷ fields)) (sym w.1)
         (wrong_given (form_in (kind ∷ kinds) end) (fewest_in (kind ∷ kinds) end) (length whole) field
         fields (OfKind kind) refl
@@ -499,7 +499,7 @@ module _ (whole : List ℕ) where
         ((fields_spelled kind field.bytes octets).1 h))))
     | inr k ↦
         subst
-        (Gives (form_in (kind ∷ kinds) end) (fewest_in (kind ∷ kinds) end) (length whole)
+        (Give (form_in (kind ∷ kinds) end) (fewest_in (kind ∷ kinds) end) (length whole)
         (field ∷ fields)) (sym k.4)
         (goes_given (form_in (kind ∷ kinds) end) (fewest_in (kind ∷ kinds) end) (length whole) field
         fields (OfKind kind) k.0 k.1 refl
@@ -509,7 +509,7 @@ module _ (whole : List ℕ) where
 
 -- What is read of a text is what its fields give.
 text_read : (rtype : RType) (text : List ℕ) (read : Result (List ℕ) ValueFault)
-    → TextGives rtype text read → Reads rtype text read
+    → Gives rtype text read → Reads rtype text read
 text_read rtype text read (inl h) = inl (record { long = h.0; fault = h.1 })
 text_read rtype text read (inr h) = inr (record {
   short = h.0;
@@ -520,7 +520,7 @@ text_read rtype text read (inr h) = inr (record {
 })
 
 text_gives : (rtype : RType) (text : List ℕ) (read : Result (List ℕ) ValueFault)
-    → Reads rtype text read → TextGives rtype text read
+    → Reads rtype text read → Gives rtype text read
 text_gives rtype text read (inl h) = inl (h.long, h.fault)
 text_gives rtype text read (inr h) =
     let s = some_fields text in
@@ -535,8 +535,8 @@ text_gives rtype text read (inr h) =
 
 pub values_spelled : laws.ValueOfText
     → (rtype : RType) (text : List ℕ) (read : Result (List ℕ) ValueFault)
-    → (Reads rtype text read ↔ TextGives rtype text read)
-    × ((value_of_text rtype text ≡ read) ↔ TextGives rtype text read)
+    → (Reads rtype text read ↔ Gives rtype text read)
+    × ((value_of_text rtype text ≡ read) ↔ Gives rtype text read)
 values_spelled law rtype text read = (
   (text_gives rtype text read, text_read rtype text read),
   (

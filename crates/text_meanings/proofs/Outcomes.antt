@@ -11,7 +11,7 @@ use Rattle.dns_name.specs.declared.fault.NameFault.{NameFault}
 use Rattle.dns_name.specs.declared.fault.NameFault.TheVariants.{BadEscape, LabelTooLong, NameTooLong, EmptyLabel, BadByte}
 use Rattle.text_meanings.specs.Characters.{dot, backslash, IsCharacter}
 use Rattle.text_meanings.specs.Names.{IsTextOf}
-use Rattle.text_meanings.specs.Faults.{IsFront, Stands, HasFault, labels_so_far}
+use Rattle.text_meanings.specs.Faults.{IsFront, StandsAt, HasFault, labels_so_far}
 use Rattle.text_meanings.proofs.Pieces.{front_start, front_character, front_dot, so_far_short}
 use Rattle.text_meanings.proofs.Fronts.{text_of_front, root_named, escape_at, no_escape}
 
@@ -27,7 +27,7 @@ Outcome text = IsWhole text ⊎ ((fault : NameFault) × HasFault text fault)
 module _ (text : List ℕ) (root : text ≡ dot ∷ [] → ⊥) where
   stands : (before : List ℕ) (done : List (List ℕ)) (label rest : List ℕ)
       → text ≡ before ++ rest → IsFront before done label
-      → Stands text (length before) done label rest
+      → StandsAt text (length before) done label rest
   stands before done label rest here f =
       record { before = before; front = f; place = refl; here = here }
 

@@ -3,7 +3,8 @@ use Rattle.std.proofs.Common.{◌≡◌, ℕ, zero, suc, ◌+◌, ◌≤◌, Lis
 use Rattle.std.proofs.Common.{true, false, append-nil, append_assoc, length-append, Option, None, Some}
 use Rattle.std.specs.Prelude.{nat_le, ◌==◌, ◌↔◌, ◌⊎◌, slice_index}
 use Rattle.std.specs.List.{AllZip, concat}
-use Rattle.std.proofs.lemmas.Bool.{and_parts, and_from, or_cases, or_left, or_right, or_from, leb-true, le-leb, eq-eqb, ne_eqb, eqb-true, cases_Bool, cases_eq, cond-true, cond-false}
+use Rattle.std.proofs.lemmas.Bool.{and_parts, and_from, or_cases, or_left, or_right, or_from, leb-true}
+use Rattle.std.proofs.lemmas.Bool.{le-leb, eq-eqb, ne_eqb, eqb-true, cases_Bool, cases_eq, cond-true, cond-false}
 use Rattle.std.proofs.lemmas.List.{drop_at}
 use Rattle.octets.specs.Octal.{has_octal, octal_of}
 use Rattle.value_text.specs.Strings.{read_from, step, is_escaped, is_printable, at_the_end, string_of_text}

@@ -1,9 +1,10 @@
 -- The fields of a text, as blanks part them and as they are looked for.
 use Rattle.std.proofs.Common.{◌≡◌, ℕ, zero, suc, ◌+◌, ◌-◌, ◌≤◌, List, [], ◌∷◌, ◌++◌, length, take, drop, arith, ap, ◌∙◌, sym, refl, subst, inl, inr}
 use Rattle.std.proofs.Common.{true, false, map, append-nil, append_assoc, length-append, drop-drop, None, Some}
-use Rattle.std.specs.Prelude.{◌⊎◌, ◌==◌}
+use Rattle.std.specs.Prelude.{◌⊎◌, ◌↔◌, ◌==◌}
 use Rattle.std.specs.List.{AllByRecursion, concat}
-use Rattle.std.proofs.lemmas.Bool.{or_cases, or_left, or_right, eq-eqb, ne_eqb, eqb-true, cond-true, cond-false, cases_Bool, cases_eq, both_ways, false_from_ne_true}
+use Rattle.std.proofs.lemmas.Bool.{or_cases, or_left, or_right, eq-eqb, ne_eqb, eqb-true}
+use Rattle.std.proofs.lemmas.Bool.{cond-true, cond-false, cases_Bool, cases_eq, both_ways, false_from_ne_true}
 use Rattle.std.proofs.lemmas.List.{drop_at, take_at}
 use Rattle.value_text.specs.declared.fields.Field.{Field}
 use Rattle.value_text.specs.Fields.{is_blank, plain_len, quoted_len, field_len, next_field}
@@ -11,7 +12,8 @@ use Rattle.rdata.specs.TextFields.{bytes_of, AreTheFields}
 use Rattle.rdata.proofs.One.{same_fields}
 use Rattle.text_meanings.specs.Characters.{backslash}
 use Rattle.text_meanings.specs.Strings.{quote}
-use Rattle.text_meanings.specs.Fields.{IsBlank, IsUnit, AreUnits, EndsField, IsPlainField, IsClosedField, IsOpenField, IsField, Placed, HasFields}
+use Rattle.text_meanings.specs.Fields.{IsBlank, IsUnit, AreUnits, EndsField, IsPlainField, IsClosedField}
+use Rattle.text_meanings.specs.Fields.{IsOpenField, IsField, FieldText, HasFields, places, HaveBytes}
 
 -- blanks
 blank_seen : (b : ℕ) → IsBlank b → is_blank b ≡ true
@@ -158,10 +160,6 @@ found bytes rest at f =
     ∙ ap (λ t. Some (record { start = at; end = at + field_len (t ++ rest) })) (sym k.all)
     ∙ ap (λ n. Some (record { start = at; end = at + n })) k.size
 
--- a field's places
-abbrev pub places : Placed → Field
-places field = record { start = field.place; end = field.place + length field.bytes }
-
 -- what stands behind fields
 record Behind (whole : List ℕ) (at : ℕ) (blanks bytes rest : List ℕ) (place : ℕ) : Type 0 where
   at_field : drop place whole ≡ bytes ++ rest
@@ -181,7 +179,7 @@ behind whole text at blanks bytes rest place e t p =
     }
 
 -- Fields that blanks part are those that are looked for.
-pub are : (whole : List ℕ) (fields : List Placed) (at : ℕ) (text : List ℕ) → drop at whole ≡ text
+pub are : (whole : List ℕ) (fields : List FieldText) (at : ℕ) (text : List ℕ) → drop at whole ≡ text
     → HasFields at text fields → AreTheFields whole at (map places fields)
 are whole [] at text e h = ap (next_field at) e ∙ blanks_alone text at h
 are whole (field ∷ fields) at text e h =
@@ -192,10 +190,7 @@ are whole (field ∷ fields) at text e h =
     )
 
 -- and these are their bytes
-abbrev pub HaveBytes : (whole : List ℕ) → List Placed → Type 0
-HaveBytes whole fields = AllByRecursion (λ field. bytes_of whole (places field) ≡ field.bytes) fields
-
-pub have_bytes : (whole : List ℕ) (fields : List Placed) (at : ℕ) (text : List ℕ)
+pub have_bytes : (whole : List ℕ) (fields : List FieldText) (at : ℕ) (text : List ℕ)
     → drop at whole ≡ text → HasFields at text fields → HaveBytes whole fields
 have_bytes whole [] at text e h = tt
 have_bytes whole (field ∷ fields) at text e h =
@@ -358,10 +353,10 @@ first b text e = elim (cases_eq b quote) [
 ]
 
 record Split (at : ℕ) (text : List ℕ) : Type 0 where
-  fields : List Placed
+  fields : List FieldText
   has : HasFields at text fields
 
-blank_front : (b : ℕ) (text : List ℕ) (at : ℕ) (fields : List Placed) → IsBlank b
+blank_front : (b : ℕ) (text : List ℕ) (at : ℕ) (fields : List FieldText) → IsBlank b
     → HasFields (at + 1) text fields → HasFields at (b ∷ text) fields
 blank_front b text at [] k h = (k, h)
 blank_front b text at (field ∷ fields) k h =
@@ -387,21 +382,21 @@ split (suc n) at (b ∷ text) h = elim (cases_Bool (is_blank b)) [
 ]
 
 -- each text has fields
-pub some_fields : (text : List ℕ) → (fields : List Placed) × HasFields 0 text fields
+pub some_fields : (text : List ℕ) → (fields : List FieldText) × HasFields 0 text fields
 some_fields text =
     let s = split (length text) 0 text (omega arith) in (s.fields, s.has)
 
 -- and one list of them
-same_placed : (whole : List ℕ) (field other : Placed) → places field ≡ places other
+same_field : (whole : List ℕ) (field other : FieldText) → places field ≡ places other
     → bytes_of whole (places field) ≡ field.bytes → bytes_of whole (places other) ≡ other.bytes
     → field ≡ other
-same_placed whole field other e a b =
+same_field whole field other e a b =
     let place : field.place ≡ other.place = ap (λ (f : Field). f.start) e in
     let bytes : field.bytes ≡ other.bytes = sym a ∙ ap (bytes_of whole) e ∙ b in
     let both : (field.place, field.bytes) ≡ (other.place, other.bytes) = cc in
     ap (λ (p : ℕ × List ℕ). record { place = p.0; bytes = p.1 }) both
 
-all_same : (whole : List ℕ) (fields others : List Placed) → map places fields ≡ map places others
+all_same : (whole : List ℕ) (fields others : List FieldText) → map places fields ≡ map places others
     → HaveBytes whole fields → HaveBytes whole others → fields ≡ others
 all_same whole [] [] e a b = refl
 all_same whole [] (other ∷ others) e a b = absurd (cc)
@@ -409,14 +404,28 @@ all_same whole (field ∷ fields) [] e a b = absurd (cc)
 all_same whole (field ∷ fields) (other ∷ others) e a b =
     let head : places field ≡ places other = cc in
     let tail : map places fields ≡ map places others = cc in
-    let x = same_placed whole field other head a.0 b.0 in
+    let x = same_field whole field other head a.0 b.0 in
     let y = all_same whole fields others tail a.1 b.1 in
     cc
 
-pub one_list : (text : List ℕ) (fields others : List Placed) → HasFields 0 text fields
+pub one_list : (text : List ℕ) (fields others : List FieldText) → HasFields 0 text fields
     → HasFields 0 text others → fields ≡ others
 one_list text fields others h k =
     all_same text fields others
     (same_fields text 0 (map places fields) (map places others) (are text fields 0 text refl h)
     (are text others 0 text refl k))
     (have_bytes text fields 0 text refl h) (have_bytes text others 0 text refl k)
+
+-- The fields that are looked for, with their bytes, are those that blanks part.
+pub as_found : (text : List ℕ) (fields : List FieldText)
+    → HasFields 0 text fields
+    ↔ (AreTheFields text 0 (map places fields) × HaveBytes text fields)
+as_found text fields = (
+  λ h. (are text fields 0 text refl h, have_bytes text fields 0 text refl h),
+  λ f.
+      let s = some_fields text in
+      subst (HasFields 0 text)
+      (all_same text s.0 fields
+      (same_fields text 0 (map places s.0) (map places fields) (are text s.0 0 text refl s.1) f.0)
+      (have_bytes text s.0 0 text refl s.1) f.1) s.1,
+)

@@ -13,14 +13,14 @@ use Rattle.dns_name.specs.declared.fault.NameFault.TheVariants.{BadEscape, Label
 use Rattle.dns_name.proofs.Reading.{at_bad_escape, at_bad_byte}
 use Rattle.text_meanings.specs.Characters.{dot, backslash}
 use Rattle.text_meanings.specs.Names.{IsTextOf}
-use Rattle.text_meanings.specs.Faults.{Stands, HasFault, HasBadEscape, HasBadByte, HasEmptyLabel, HasLongLabel, HasLongName}
+use Rattle.text_meanings.specs.Faults.{StandsAt, HasFault, HasBadEscape, HasBadByte, HasEmptyLabel, HasLongLabel, HasLongName}
 use Rattle.text_meanings.proofs.Fronts.{escape_at}
 use Rattle.text_meanings.proofs.Outcomes.{outcome}
 use Rattle.text_meanings.proofs.Reading.{front_reads, stops_at, long_label, long_name, tells, text_reads_as}
 
 -- the reading where whole labels and a part of the next stand before a place
 stands_reads : (text : List ℕ) (at : ℕ) (done : List (List ℕ)) (label rest : List ℕ)
-    → Stands text at done label rest
+    → StandsAt text at done label rest
     → read_from (Reading 0 [] []) 0 text ≡ read_from (Reading 0 done label) at rest
 stands_reads text at done label rest s =
     ap (read_from (Reading 0 [] []) 0) s.here ∙ front_reads s.before done label s.front rest

@@ -9,10 +9,10 @@ use Rattle.rdata.specs.RTypeRecord.TheVariants.{A, Mx}
 use Rattle.rdata.specs.declared.faults.ValueFault.TheVariants.{BadField, MissingField, SurplusField, TooLong}
 use Rattle.text_meanings.specs.Characters.{backslash}
 use Rattle.text_meanings.specs.Strings.{quote}
-use Rattle.text_meanings.specs.Fields.{IsBlank, AreUnits, EndsField, IsField, Placed, HasFields}
+use Rattle.text_meanings.specs.Fields.{IsBlank, AreUnits, EndsField, IsField, FieldText, HasFields}
 use Rattle.text_meanings.specs.Kinds.{IsDigit, SpellsNumber}
 use Rattle.text_meanings.specs.Names.{IsTextOf}
-use Rattle.text_meanings.specs.Values.{TextGives}
+use Rattle.text_meanings.specs.Values.{Gives}
 use Rattle.text_meanings.specs.Values.Form.{OfKind}
 
 -- bytes that are no space and no tab
@@ -43,7 +43,7 @@ plain_field b more rest h k ends = inl (record {
   ends = ends;
 })
 
-abbrev at : ℕ → List ℕ → Placed
+abbrev at : ℕ → List ℕ → FieldText
 at place bytes = record { place = place; bytes = bytes }
 
 -- numbers, with leading zeros too, and what is none
@@ -220,7 +220,7 @@ backslash_at_the_end = (
 )
 
 -- an MX value whose number is none, where the name is missing, too
-pub bad_number : TextGives Mx (codes " x") (Err (BadField 1))
+pub bad_number : Gives Mx (codes " x") (Err (BadField 1))
 bad_number = inr (
   omega arith,
   at 1 (codes "x") ∷ [],
@@ -246,7 +246,7 @@ bad_number = inr (
 )
 
 -- one without a name: the fault stands behind the last blank
-pub no_name : TextGives Mx (codes "10 ") (Err (MissingField 3))
+pub no_name : Gives Mx (codes "10 ") (Err (MissingField 3))
 no_name = inr (
   omega arith,
   at 0 (codes "10") ∷ [],
@@ -268,7 +268,7 @@ no_name = inr (
 )
 
 -- one with a field too many
-pub one_too_many : TextGives Mx (codes "10 a. b") (Err (SurplusField 6))
+pub one_too_many : Gives Mx (codes "10 a. b") (Err (SurplusField 6))
 one_too_many = inr (
   omega arith,
   at 0 (codes "10") ∷ at 3 (codes "a.") ∷ at 6 (codes "b") ∷ [],
@@ -316,5 +316,5 @@ one_too_many = inr (
 )
 
 -- 4,001 blanks
-pub too_long : TextGives A (replicate 4001 0x20) (Err TooLong)
+pub too_long : Gives A (replicate 4001 0x20) (Err TooLong)
 too_long = inl (omega arith, refl)

@@ -9,7 +9,7 @@ use Rattle.dns_name.specs.Labels.{wire, IsRawLabel, IsRawName}
 use Rattle.dns_name.specs.declared.fault.NameFault.TheVariants.{BadEscape, LabelTooLong, NameTooLong, EmptyLabel, BadByte}
 use Rattle.text_meanings.specs.Characters.{dot, backslash, IsBare, IsEscape, IsCharacter, AreCharacters}
 use Rattle.text_meanings.specs.Names.{SpellsLabel, between, IsTextOf}
-use Rattle.text_meanings.specs.Faults.{Stands, HasFault, labels_so_far}
+use Rattle.text_meanings.specs.Faults.{StandsAt, HasFault, labels_so_far}
 use Rattle.text_meanings.proofs.Pieces.{no_characters}
 use Rattle.text_meanings.proofs.Fronts.{no_escape}
 use Rattle.text_meanings.proofs.Told.{never_both}
@@ -241,7 +241,7 @@ name_of_255 = record {
 bare_stands : (done : List (List ℕ)) (label rest : List ℕ) → all_labels done ≡ true
     → all_bare label ≡ true → all_short (labels_so_far done label) ≡ true
     → nat_le (length (wire (labels_so_far done label))) 255 ≡ true
-    → Stands ((dotted done ++ label) ++ rest) (length (dotted done ++ label)) done label rest
+    → StandsAt ((dotted done ++ label) ++ rest) (length (dotted done ++ label)) done label rest
 bare_stands done label rest h k short fits = record {
   before = dotted done ++ label;
   front = record {

@@ -1,5 +1,5 @@
 -- What is wrong with a text that is no name's, and where (FORMATS, Texts of names).
-use Rattle.std.specs.Prelude.{◌≡◌, ℕ, ◌+◌, ◌<◌, ◌≤◌, ◌⊎◌, List, [], ◌∷◌, ◌++◌, length, take}
+use Rattle.std.specs.Prelude.{◌≡◌, ℕ, ◌+◌, ◌<◌, ◌≤◌, ◌⊎◌, List, [], ◌∷◌, ◌++◌, length, take, drop}
 use Rattle.std.specs.List.{AllZip, flat_map}
 use Rattle.dns_name.specs.Labels.{wire, IsRawName}
 use Rattle.dns_name.specs.declared.fault.NameFault.{NameFault}
@@ -26,7 +26,7 @@ pub record IsFront (bytes : List ℕ) (done : List (List ℕ)) (label : List ℕ
 
 -- The bytes of a text before a place are whole labels and a part of the next, and this is what
 -- stands at the place and behind it.
-pub record Stands (text : List ℕ) (at : ℕ) (done : List (List ℕ)) (label : List ℕ)
+pub record StandsAt (text : List ℕ) (at : ℕ) (done : List (List ℕ)) (label : List ℕ)
     (rest : List ℕ) : Type 0 where
   pub before : List ℕ
   pub front : IsFront before done label
@@ -38,7 +38,7 @@ pub record HasBadEscape (text : List ℕ) (at : ℕ) : Type 0 where
   pub done : List (List ℕ)
   pub label : List ℕ
   pub rest : List ℕ
-  pub stands : Stands text at done label (backslash ∷ rest)
+  pub stands : StandsAt text at done label (backslash ∷ rest)
   pub none : (piece behind : List ℕ) (octet : ℕ) → IsEscape piece octet
       → backslash ∷ rest ≡ piece ++ behind → ⊥
 
@@ -48,14 +48,14 @@ pub record HasBadByte (text : List ℕ) (at : ℕ) : Type 0 where
   pub label : List ℕ
   pub b : ℕ
   pub rest : List ℕ
-  pub stands : Stands text at done label (b ∷ rest)
+  pub stands : StandsAt text at done label (b ∷ rest)
   pub outside : (b ≤ 0x20) ⊎ (0x7F ≤ b)
 
 -- A dot where a label would begin, in a text that isn't the root's; or the empty text.
 pub record HasEmptyLabel (text : List ℕ) (at : ℕ) : Type 0 where
   pub done : List (List ℕ)
   pub rest : List ℕ
-  pub stands : Stands text at done [] (dot ∷ rest)
+  pub stands : StandsAt text at done [] (dot ∷ rest)
   pub no_root : text ≡ dot ∷ [] → ⊥
 
 -- A character, whole, behind 63 octets of its label.
@@ -65,7 +65,7 @@ pub record HasLongLabel (text : List ℕ) (at : ℕ) : Type 0 where
   pub piece : List ℕ
   pub octet : ℕ
   pub rest : List ℕ
-  pub stands : Stands text at done label (piece ++ rest)
+  pub stands : StandsAt text at done label (piece ++ rest)
   pub character : IsCharacter piece octet
   pub full : length label ≡ 63
 
@@ -77,7 +77,7 @@ pub record HasLongName (text : List ℕ) (at : ℕ) : Type 0 where
   pub piece : List ℕ
   pub octet : ℕ
   pub rest : List ℕ
-  pub stands : Stands text at done label (piece ++ rest)
+  pub stands : StandsAt text at done label (piece ++ rest)
   pub character : IsCharacter piece octet
   pub short : length label < 63
   pub long : 255 < length (wire (done ++ (label ++ octet ∷ []) ∷ []))
@@ -98,10 +98,12 @@ place_of (LabelTooLong at) = at
 place_of (NameTooLong at) = at
 
 -- No name's text begins with the bytes of a text up to its fault and with what stands there: the
--- byte at that place; of an escape all four bytes, where the text has them. A dot at the start
--- begins the root's text alone, and every name's text begins with the empty text.
+-- byte at that place; of an escape all four bytes, but for one that the text's end cuts off. A dot
+-- at the start begins the root's text alone, and every name's text begins with the empty text.
 abbrev pub StopsAt : (text : List ℕ) → NameFault → Type 0
-StopsAt text (BadEscape at) = GoesOn (take (at + 4) text) → length text < at + 4
+StopsAt text (BadEscape at) =
+    GoesOn (take (at + 4) text)
+    → (more : List ℕ) × (octet : ℕ) × IsEscape (drop at text ++ more) octet
 StopsAt text (BadByte at) = GoesOn (take (at + 1) text) → ⊥
 StopsAt text (EmptyLabel at) =
     (text ≡ [])

@@ -2,6 +2,8 @@
 -- values).
 use Rattle.std.specs.Prelude.{◌≡◌, ℕ, ◌+◌, ◌⊎◌, List, [], ◌∷◌, ◌++◌, length}
 use Rattle.std.specs.List.{AllByRecursion, concat}
+use Rattle.value_text.specs.declared.fields.Field.{Field}
+use Rattle.rdata.specs.TextFields.{bytes_of}
 use Rattle.text_meanings.specs.Characters.{backslash}
 use Rattle.text_meanings.specs.Strings.{quote}
 
@@ -53,16 +55,25 @@ abbrev pub IsField : (bytes rest : List ℕ) → Type 0
 IsField bytes rest =
     IsPlainField bytes rest ⊎ (IsClosedField bytes ⊎ IsOpenField bytes rest)
 
--- a field, and the place of its first byte
-pub record Placed : Type 0 where
+-- the bytes of a field, and the place of the first
+pub record FieldText : Type 0 where
   pub place : ℕ
   pub bytes : List ℕ
 
 -- What stands from a place on is these fields, with a run of blanks, or none, in front of each and
 -- behind the last.
-abbrev pub HasFields : (at : ℕ) (text : List ℕ) → List Placed → Type 0
+abbrev pub HasFields : (at : ℕ) (text : List ℕ) → List FieldText → Type 0
 HasFields at text [] = AllByRecursion IsBlank text
 HasFields at text (field ∷ fields) =
     (blanks : List ℕ) × (rest : List ℕ) × AllByRecursion IsBlank blanks
     × (text ≡ blanks ++ (field.bytes ++ rest)) × (field.place ≡ at + length blanks)
     × IsField field.bytes rest × HasFields (field.place + length field.bytes) rest fields
+
+-- the places of a field: of its first byte, and behind its last
+abbrev pub places : FieldText → Field
+places field = record { start = field.place; end = field.place + length field.bytes }
+
+-- Between these places of a text stand the bytes of the fields.
+abbrev pub HaveBytes : (text : List ℕ) → List FieldText → Type 0
+HaveBytes text fields =
+    AllByRecursion (λ field. bytes_of text (places field) ≡ field.bytes) fields

@@ -3,8 +3,9 @@
 ghost use Rattle.text_meanings.specs.Laws.{FaultsAsTold, FaultsStandFirst, LabelsAsSpelled};
 ghost use Rattle.text_meanings.specs.Laws.{NamesAsSpelled, OneFaultOfAText, OneNameOfAText};
 ghost use Rattle.text_meanings.specs.Laws.{OneStringOfAText, StringsAsSpelled};
-ghost use Rattle.text_meanings.specs.ValueLaws.{FieldsAsSpelled, NumbersAsSpelled};
-ghost use Rattle.text_meanings.specs.ValueLaws.{OneListOfFields, ValuesAsSpelled, WrittenTextIsJoined};
+ghost use Rattle.text_meanings.specs.ValueLaws.{FieldsAsFound, FieldsAsSpelled, NumbersAsSpelled};
+ghost use Rattle.text_meanings.specs.ValueLaws.{OneListOfFields, ValuesAsSpelled};
+ghost use Rattle.text_meanings.specs.ValueLaws.{WrittenTextIsJoined};
 
 use rdata::value_of_text;
 
@@ -66,6 +67,11 @@ pub fn fields_as_spelled()
 /// A text has a list of fields, and no other.
 pub fn one_list_of_fields()
     ensures { OneListOfFields }
+{}
+
+/// Fields that blanks part are those that are looked for.
+pub fn fields_as_found()
+    ensures { FieldsAsFound }
 {}
 
 /// What is read of a value's text is what its fields give.
