@@ -1,0 +1,13 @@
+pub mod First
+pub mod Fronts
+pub mod Given
+pub mod Joined
+pub mod Outcomes
+pub mod Pieces
+pub mod Quoted
+pub mod Reading
+pub mod Single
+pub mod Splits
+pub mod Told
+pub mod ValueVectors
+pub mod Vectors
