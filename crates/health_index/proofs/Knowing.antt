@@ -35,6 +35,7 @@ pub knows_nothing : (ids : List ℕ) (seen : List (Option Seen)) → ids ≡ []
     → Knows no_checks [] ids seen
 knows_nothing ids seen none = record {
   its_ids = none;
+  rising = tt;
   below = tt;
   its_seen = λ place id check its at is. let no : ⊥ = cc in absurd no;
   its_reports = tt;
@@ -59,6 +60,7 @@ pub knows_its : (zones : List Zone) (old : Checks) (reports : List Report) (inde
     → StandsFor zones old reports index → Knows old reports index.ids index.seen
 knows_its zones old reports index stands = record {
   its_ids = stands.ids;
+  rising = stands.are_checks.rising;
   below = all_mapped (λ (held : ℕ × Check). (1 ≤ held.0) × (held.0 < old.next)) (λ (held : ℕ × Check). held.0 < old.next)
       (λ held b. b.1) old.list stands.are_checks.ids;
   its_seen = stands.seen;

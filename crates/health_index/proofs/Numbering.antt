@@ -12,7 +12,7 @@ use Rattle.health_index.specs.Index.{Index, IsNumberOf, StandsFor}
 use Rattle.health_index.specs.Laws.{NodesAreNumbered}
 use Rattle.health_planning.specs.Wired.{IsGateFor, group_seat, is_watched, seat_of}
 use Rattle.health_planning.proofs.Places.{id_there, one_place}
-use Rattle.health_planning.proofs.Seeing.{held_there}
+use Rattle.health_planning.proofs.Places.{held_there}
 use Rattle.health_planning.proofs.Wiring.{first_same, rising_in}
 
 module _ (zones : List Zone) (checks : Checks) (reports : List Report) (index : Index)

@@ -312,6 +312,7 @@ whole_after index w place given its now gates space here fits idle = record {
   few = w.few;
   within = w.within;
   seated = w.seated;
+  given = w.given;
   alone = λ p found is. elim (cases_eq p place) [
     | inl same ↦ rw same (w.alone place its here)
     | inr apart ↦ w.alone p found (sym (set_beside index.seen place p (Some now) apart) ∙ is)

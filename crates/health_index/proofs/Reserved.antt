@@ -48,5 +48,6 @@ module _ (before after : Index) (keeps : Keeps before after)
     few = rw keeps.ids is.few;
     within = rw keeps.ids is.within;
     seated = rw keeps.seats is.seated;
+    given = rw (keeps.refs, keeps.members, keeps.seats) is.given;
     alone = rw keeps.seen is.alone;
   }

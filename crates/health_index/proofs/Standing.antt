@@ -14,21 +14,22 @@ use Rattle.health_model.specs.Statuses.{AreReports, Report}
 use Rattle.health_planning.specs.Zones.{AreZones, Zone}
 use Rattle.health_planning.specs.SetRefRecord.{SetRef}
 use Rattle.health_planning.specs.Tables.{HaveSlotsApart}
-use Rattle.health_planning.specs.Building.{AllListed, AreOfEndpoints, AreSeen, AreShaped, IsBuilt, set_shape}
+use Rattle.health_planning.specs.Building.{AllListed, AreGiven, AreOfEndpoints, AreSeen, AreShaped, IsBuilt, set_shape}
 use Rattle.health_index.specs.Index.{Index, IsWhole, Space, StandsFor}
 use Rattle.health_planning.specs.Wired.{ids_of, place_of, watched_of}
 use Rattle.health_planning.specs.declared.seats.Seat.{Seat}
 use Rattle.health_planning.proofs.Planned.{fed_by_rule}
 use Rattle.health_planning.proofs.Wiring.{ids_long, wired}
 
-module _ (zones : List Zone) (checks : Checks) (refs : List SetRef) (seats : List Seat)
+module _ (zones : List Zone) (checks : Checks) (refs members : List SetRef) (seats : List Seat)
     (plan : Planned) (gates : Gates) (ids : List ℕ) (seen : List (Option Seen)) (space : Space)
     (are_checks : AreSoundChecks checks) (ids_is : ids ≡ ids_of checks.list)
     (many : length seen ≡ length ids)
     (built : IsBuilt zones checks.list refs seats plan.shapes plan.links)
+    (given : AreGiven refs members seats)
     (fits : Fits (net_in plan) (own_in plan) gates) (idle : IsIdle gates) where
   abbrev laid : Index
-  laid = record { ids = ids; seen = seen; seats = seats; refs = refs; gates = gates; space = space }
+  laid = record { ids = ids; seen = seen; seats = seats; refs = refs; members = members; gates = gates; space = space }
 
   ids_many : length ids ≡ length checks.list
   ids_many = ap length ids_is ∙ ids_long checks.list
@@ -52,6 +53,7 @@ module _ (zones : List Zone) (checks : Checks) (refs : List SetRef) (seats : Lis
             let b = slice_get_within plan.shapes (length checks.list + o.0) (set_shape g.named) g.shape in
             let at = o.1.1 in
             omega arith;
+        given = given;
         alone = λ place its is.
             let k = kinds place its is in
             fed_by_rule (slice_get plan.shapes place) (feeders_in plan.links place)

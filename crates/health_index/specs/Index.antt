@@ -17,12 +17,12 @@ use Rattle.health_planning.specs.Zones.{AreZones, Zone, placed_in}
 use Rattle.health_planning.specs.SetRefRecord.{SetRef}
 use Rattle.zone_model.specs.Placed.{IsHere, Placed}
 use Rattle.health_planning.specs.Looking.{Names}
-use Rattle.health_planning.specs.Building.{AllListed, IsSeen}
+use Rattle.health_planning.specs.Building.{AllListed, AreGiven, IsSeen}
 use Rattle.health_planning.specs.Wired.{AreMembers, IsGroupSeat, IsWired, ids_of, open_in, place_of, seat_of, watched_of}
 use Rattle.health_planning.specs.declared.seats.Seat.{Seat}
 
 -- For how many there is room: numbers of checks and what their checkers saw, now and before a
--- command; slots; and what is planned: sets with gates, gates, and links between them.
+-- command; slots; sets with gates, and sets of groups with gates; gates, and links between them.
 pub record Space : Type 0 where
   pub ids : ℕ
   pub seen : ℕ
@@ -30,17 +30,19 @@ pub record Space : Type 0 where
   pub seen_before : ℕ
   pub seats : ℕ
   pub refs : ℕ
-  pub refs_before : ℕ
+  pub members : ℕ
   pub shapes : ℕ
   pub links : ℕ
 
 -- The numbers of the checks, what the checkers of each endpoint saw, the gates of sets by their
--- slots, the sets that have gates, the gates, and the room that there is.
+-- slots, the sets that have gates, those of groups that have one, the gates, and the room that there
+-- is.
 pub record Index : Type 0 where
   pub ids : List ℕ
   pub seen : List (Option Seen)
   pub seats : List Seat
   pub refs : List SetRef
+  pub members : List SetRef
   pub gates : Gates
   pub space : Space
 
@@ -105,7 +107,8 @@ pub record AreNumbered (zones : List Zone) (index : Index) : Type 0 where
 
 -- ---- what holds of every index
 
--- gates that stand for some net; those whose checkers are counted have no feeders
+-- Gates that stand for some net; those whose checkers are counted have no feeders. Seats tell gates
+-- only in the slots of the sets that are kept for it.
 pub record IsWhole (index : Index) : Type 0 where
   pub net : Net
   pub own : ℕ → ℕ
@@ -115,6 +118,7 @@ pub record IsWhole (index : Index) : Type 0 where
   pub few : length index.ids ≤ 200
   pub within : length index.ids ≤ net.size
   pub seated : (slot gate : ℕ) → seat_of index.seats slot ≡ suc gate → gate < net.size
+  pub given : AreGiven index.refs index.members index.seats
   pub alone : (place : ℕ) (its : Seen) → slice_get index.seen place ≡ Some (Some its)
       → (net.rule place).feeders ≡ []
 

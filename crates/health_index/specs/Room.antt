@@ -14,15 +14,17 @@ pub record HasRoom (index : Index) (slots : ℕ) : Type 0 where
   pub seen_before : 200 ≤ index.space.seen_before
   pub seats : slots ≤ index.space.seats
   pub refs : slots ≤ index.space.refs
-  pub refs_before : slots ≤ index.space.refs_before
+  pub members : slots ≤ index.space.members
   pub shapes : slots * 2 + 200 ≤ index.space.shapes
   pub links : slots * 3 + 51200 ≤ index.space.links
   pub gates : HasRoomFor index.gates (slots * 2 + 200) (slots * 3 + 51200)
 
--- Only room changes: checks, what their checkers saw, seats, listed sets and values stay.
+-- Only room changes: checks, what their checkers saw, seats, listed sets, noted members and values
+-- stay.
 pub record Keeps (before after : Index) : Type 0 where
   pub ids : after.ids ≡ before.ids
   pub seen : after.seen ≡ before.seen
   pub seats : after.seats ≡ before.seats
   pub refs : after.refs ≡ before.refs
+  pub members : after.members ≡ before.members
   pub values : (gate : ℕ) → value_of after.gates gate ≡ value_of before.gates gate

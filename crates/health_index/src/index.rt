@@ -27,7 +27,7 @@ use health_check::CheckTable;
 use health_gates::{Gates, Plan, Steps};
 use health_model::{one_health, one_more_report};
 use health_planning::{
-    Delta, HealthView, Scratch, Seat, SetRef, Zones, lay_seats, list_ids, list_seen, place_in,
+    Delta, HealthView, Scratch, Seat, SetRef, Zones, clear_seats, list_ids, list_seen, place_in,
     plan_gates, seen_at, views_agree,
 };
 use octets::OutOfMemory;
@@ -49,9 +49,10 @@ pub struct HealthIndex {
     /// The numbers of the checks before the last command, and what their checkers saw.
     ids_before: Vec<u32>,
     seen_before: Vec<Option<Checkers>>,
-    /// The sets with gates, now and before the last command.
+    /// The sets with gates.
     refs: Vec<SetRef>,
-    refs_before: Vec<SetRef>,
+    /// The sets of target groups with gates; and while all is laid out, the sets that had gates.
+    members: Vec<SetRef>,
     /// What was planned: of use while all is laid out.
     plan: Plan,
     /// Where a set that came is read.
@@ -69,6 +70,7 @@ impl Model for HealthIndex {
       seen = i.seen.items;
       seats = i.seats.items;
       refs = i.refs.items;
+      members = i.members.items;
       gates = i.gates;
       space = record {
         ids = vec_capacity i.ids;
@@ -77,7 +79,7 @@ impl Model for HealthIndex {
         seen_before = vec_capacity i.seen_before;
         seats = vec_capacity i.seats;
         refs = vec_capacity i.refs;
-        refs_before = vec_capacity i.refs_before;
+        members = vec_capacity i.members;
         shapes = i.plan.room + length i.plan.shapes;
         links = i.plan.links_room + length i.plan.links;
       };
@@ -88,6 +90,7 @@ impl Model for HealthIndex {
       seen = i.seen.items;
       seats = i.seats.items;
       refs = i.refs.items;
+      members = i.members.items;
       gates = i.gates;
       space = record {
         ids = vec_capacity i.ids;
@@ -96,7 +99,7 @@ impl Model for HealthIndex {
         seen_before = vec_capacity i.seen_before;
         seats = vec_capacity i.seats;
         refs = vec_capacity i.refs;
-        refs_before = vec_capacity i.refs_before;
+        members = vec_capacity i.members;
         shapes = i.plan.room + length i.plan.shapes;
         links = i.plan.links_room + length i.plan.links;
       };
@@ -138,7 +141,7 @@ impl HealthIndex {
             ids_before: Vec::new(alloc),
             seen_before: Vec::new(alloc),
             refs: Vec::new(alloc),
-            refs_before: Vec::new(alloc),
+            members: Vec::new(alloc),
             plan: Plan::new(alloc),
             scratch,
         }
@@ -163,7 +166,7 @@ impl HealthIndex {
         let slots = room_for_slots(
             &mut self.seats,
             &mut self.refs,
-            &mut self.refs_before,
+            &mut self.members,
             &mut self.plan,
             &mut self.gates,
             zones.slots(),
@@ -177,9 +180,9 @@ impl HealthIndex {
     /// Where sets gave way to others that the same check alone decides, or nothing, and else sets
     /// that nothing decides went and came, but in no group to which an evaluated alias leads, it
     /// costs a look at these and at their groups, and a comparison of those that came with those that
-    /// went. Otherwise all gates are laid out anew: it costs a seat for each slot, and what the
-    /// configuration has of checks and of sets that something decides, with their target groups. Of
-    /// the other sets it asks only those that came.
+    /// went. Otherwise all gates are laid out anew: it costs what the configuration has of checks and
+    /// of sets that something decides, with their target groups, and had of them before. Of the other
+    /// sets it asks only those that came, and their seats stay as they are.
     pub fn on_command(&mut self, zones: &Zones, checks: &CheckTable, delta: &Delta)
         requires room { HasRoom self.old zones.now.slots }
         requires sound { IsSound (watched_of zones.now.zones checks.now.checks) }
@@ -216,13 +219,12 @@ impl HealthIndex {
         let list = checks.as_slice();
         mem::swap(&mut self.ids, &mut self.ids_before);
         mem::swap(&mut self.seen, &mut self.seen_before);
-        mem::swap(&mut self.refs, &mut self.refs_before);
         self.ids.clear();
         list_ids(&mut self.ids, list);
         self.seen.clear();
         list_seen(&mut self.seen, list, &self.ids_before, &self.seen_before);
-        self.seats.clear();
-        lay_seats(&mut self.seats, zones.slots());
+        clear_seats(&mut self.seats, &self.refs, &self.members, zones.slots());
+        mem::swap(&mut self.refs, &mut self.members);
         self.refs.clear();
         self.plan.clear();
         plan_gates(
@@ -231,7 +233,7 @@ impl HealthIndex {
             &self.ids,
             &self.seen,
             whole,
-            &self.refs_before,
+            &mut self.members,
             came,
             &mut self.refs,
             &mut self.seats,

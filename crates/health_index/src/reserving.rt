@@ -41,18 +41,19 @@ pub fn room_for_checks(
     Ok(())
 }
 
-/// Makes room for all gates and links over so many slots. The seats, the listed sets and the gates
-/// stay as they are; nothing is planned any more.
+/// Makes room for all gates and links over so many slots. The seats, the listed sets, the noted
+/// members and the gates stay as they are; nothing is planned any more.
 pub fn room_for_slots(
     seats: &mut Vec<Seat>,
     refs: &mut Vec<SetRef>,
-    refs_before: &mut Vec<SetRef>,
+    members: &mut Vec<SetRef>,
     plan: &mut Plan,
     gates: &mut Gates,
     slots: usize,
 ) -> Result<(), OutOfMemory>
     ensures seats { seats.new.items ≡ seats.old.items }
     ensures refs { refs.new.items ≡ refs.old.items }
+    ensures members { members.new.items ≡ members.old.items }
     ensures values { gates.new.values.items ≡ gates.old.values.items }
     ensures stays { (net : Net) (own : ℕ → ℕ) → Fits net own gates.old → Fits net own gates.new }
     ensures meet { (net : Net) (own : ℕ → ℕ) → MeetAll net own gates.old
@@ -62,7 +63,7 @@ pub fn room_for_slots(
     // No room is lost.
     ensures seats_kept { vec_capacity seats.old ≤ vec_capacity seats.new }
     ensures refs_kept { vec_capacity refs.old ≤ vec_capacity refs.new }
-    ensures before_kept { vec_capacity refs_before.old ≤ vec_capacity refs_before.new }
+    ensures members_kept { vec_capacity members.old ≤ vec_capacity members.new }
     ensures plan_kept { plan.old.room + length plan.old.shapes
         ≤ plan.new.room + length plan.new.shapes }
     ensures links_kept { plan.old.links_room + length plan.old.links
@@ -72,13 +73,13 @@ pub fn room_for_slots(
     ensures few { OnOk result (slots ≤ 2 ^ 29) }
     ensures seats_room { OnOk result (slots ≤ vec_capacity seats.new) }
     ensures refs_room { OnOk result (slots ≤ vec_capacity refs.new) }
-    ensures before_room { OnOk result (slots ≤ vec_capacity refs_before.new) }
+    ensures members_room { OnOk result (slots ≤ vec_capacity members.new) }
     ensures plan_room { OnOk result (slots * 2 + 200 ≤ plan.new.room + length plan.new.shapes) }
     ensures links_room { OnOk result
         (slots * 3 + 51200 ≤ plan.new.links_room + length plan.new.links) }
     ensures gates_room { OnOk result (HasRoomFor gates.new (slots * 2 + 200) (slots * 3 + 51200)) }
     ensures ready { slots ≤ 2 ^ 29 → slots ≤ vec_capacity seats.old → slots ≤ vec_capacity refs.old
-        → slots ≤ vec_capacity refs_before.old
+        → slots ≤ vec_capacity members.old
         → slots * 2 + 200 ≤ plan.old.room + length plan.old.shapes
         → slots * 3 + 51200 ≤ plan.old.links_room + length plan.old.links
         → HasRoomFor gates.old (slots * 2 + 200) (slots * 3 + 51200) → IsOk result }
@@ -93,7 +94,7 @@ pub fn room_for_slots(
     let Ok(()) = make_room(refs, slots) else {
         return Err(OutOfMemory);
     };
-    let Ok(()) = make_room(refs_before, slots) else {
+    let Ok(()) = make_room(members, slots) else {
         return Err(OutOfMemory);
     };
     let all = slots * 2 + CHECKS;

@@ -1,6 +1,6 @@
 -- A plan, step by step.
-use Rattle.std.proofs.Common.{◌≡◌, ◌<◌, ◌≤◌, ◌+◌, ◌-◌, ◌^◌, ◌⊎◌, ℕ, zero, suc, true, List, [], length, arith, refl, ap, sym, ◌∙◌, inl, inr, Some, None, Option}
-use Rattle.std.specs.Prelude.{replicate, slice_get, slice_index_or}
+use Rattle.std.proofs.Common.{◌≡◌, ◌<◌, ◌≤◌, ◌+◌, ◌-◌, ◌^◌, ◌⊎◌, ℕ, suc, true, List, [], length, arith, refl, ap, sym, ◌∙◌, inl, inr, Some, None, Option}
+use Rattle.std.specs.Prelude.{slice_get}
 use Rattle.std.proofs.lemmas.Bool.{cases_lt}
 use Rattle.std.proofs.lemmas.List.Elements.{All-from_recursion}
 use Rattle.std.proofs.lemmas.Option.{slice_get-map, slice_get_within}
@@ -24,7 +24,7 @@ use Rattle.zone_model.specs.Placed.{sets_of}
 use Rattle.zone_model.specs.Walks.{HasNoTarget}
 use Rattle.zone_model.specs.Zones.{IsAmong}
 use Rattle.policy_select.specs.Looking.{Names}
-use Rattle.health_planning.specs.Building.{AreBelow, AreGrouped, AreListed, AreShaped, AreThere, AreWithin, FeedsSet, HasTarget, IsBuilt, IsSmallAt, SameSets, check_links, check_shape, check_shapes, group_shape, no_seat, set_shape}
+use Rattle.health_planning.specs.Building.{AreBelow, AreFree, AreGrouped, AreListed, AreShaped, AreThere, AreWithin, FeedsSet, HasTarget, IsBuilt, IsSmallAt, SameSets, check_links, check_shape, check_shapes, group_shape, set_shape}
 use Rattle.health_planning.specs.Wired.{group_seat, ids_of, place_of, plain_among, watched_of}
 use Rattle.health_planning.specs.declared.seats.Seat.{Seat}
 use Rattle.health_planning.proofs.Feeding.{check_within, children_fed}
@@ -86,19 +86,14 @@ shaped_at reports list shapes are place id check at =
 
 -- ---- no set is listed yet
 
-nothing_at : {X : Type 0} (n k : ℕ) (x : X) → slice_index_or (replicate n x) k x ≡ x
-nothing_at zero k x = refl
-nothing_at (suc n) zero x = refl
-nothing_at (suc n) (suc k) x = nothing_at n k x
-
-pub none_listed : (zones : List Zone) (slots first : ℕ) (shapes : List Shape)
-    → length shapes ≡ first → AreListed zones first [] (replicate slots no_seat) shapes
-none_listed zones slots first shapes size = record {
+pub none_listed : (zones : List Zone) (slots : ℕ) (seats : List Seat) → AreFree slots seats
+    → (first : ℕ) (shapes : List Shape)
+    → length shapes ≡ first → AreListed zones first [] seats shapes
+none_listed zones slots seats free first shapes size = record {
   size = omega arith;
   gates = λ k ref at. let no : ⊥ = cc in absurd no;
-  only = λ slot gate is.
-      let none = ap (λ (s : Seat). s.set) (nothing_at slots slot no_seat) in absurd (omega arith);
-  no_group = λ slot. ap (λ (s : Seat). s.group) (nothing_at slots slot no_seat);
+  only = λ slot gate is. let none = (free.each slot).0 in absurd (omega arith);
+  no_group = λ slot. (free.each slot).1;
 }
 
 -- the gates of listed sets are among those that there are

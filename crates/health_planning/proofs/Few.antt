@@ -54,7 +54,7 @@ upto_once zero = tt
 upto_once (suc n) = ((λ m. let b = upto_below n n m in omega arith), upto_once n)
 
 -- numbers below one number that differ, each below another one
-no_more_than : (R : ℕ → ℕ → Type 0) → ((a b x : ℕ) → R a x → R b x → a ≡ b) → (n m : ℕ)
+pub no_more_than : (R : ℕ → ℕ → Type 0) → ((a b x : ℕ) → R a x → R b x → a ≡ b) → (n m : ℕ)
     → ((a : ℕ) → a < n → (x : ℕ) × (R a x × (x < m))) → n ≤ m
 no_more_than R own n m each =
     let few = no_more R own (upto n) (upto m) (upto_once n) (λ a at.
@@ -93,7 +93,7 @@ seat_within seats slot gate is = elim (cases_lt slot (length seats)) [
       absurd (omega arith)
 ]
 
-group_within : (seats : List Seat) (slot gate : ℕ) → group_seat seats slot ≡ suc gate
+pub group_within : (seats : List Seat) (slot gate : ℕ) → group_seat seats slot ≡ suc gate
     → slot < length seats
 group_within seats slot gate is = elim (cases_lt slot (length seats)) [
   | inl within ↦ within

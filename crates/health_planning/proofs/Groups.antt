@@ -1,13 +1,13 @@
 -- The sets of a group, one more at a time.
-use Rattle.std.proofs.Common.{◌≡◌, ◌<◌, ◌≤◌, ◌+◌, ℕ, zero, suc, true, List, [], ◌∷◌, ◌++◌, take, drop, arith, refl, ap, sym, ◌∙◌, ◌≢◌, inl, inr, Some}
-use Rattle.std.specs.Prelude.{slice_get}
+use Rattle.std.proofs.Common.{◌≡◌, ◌<◌, ◌≤◌, ◌+◌, ℕ, zero, suc, Bool, true, false, List, [], ◌∷◌, ◌++◌, take, drop, arith, refl, ap, sym, ◌∙◌, ◌≢◌, inl, inr, Some, None, Option}
+use Rattle.std.specs.Prelude.{if◌then◌else◌, slice_get}
 use mathlib.Core.Path.{subst}
 use Rattle.health_gates.specs.declared.plan.Link.{Link}
 use Rattle.policy_select.specs.Groups.{members_of, sets_in, sets_in_zone}
 use Rattle.rdata_layout.specs.declared.types.RType.{RType}
 use Rattle.record_set.specs.declared.sets.Body.TheVariants.{Alias}
 use Rattle.record_set.specs.declared.sets.RecordSet.{RecordSet}
-use Rattle.policy_select.specs.Telling.{target_in, target_of}
+use Rattle.policy_select.specs.Telling.{evaluates, target_in, target_of}
 use Rattle.policy_select.specs.Zones.{Zone, placed_in}
 use Rattle.policy_select.specs.SetRefRecord.{SetRef}
 use Rattle.zone_model.proofs.Among.{among_at}
@@ -16,7 +16,7 @@ use Rattle.zone_model.specs.Zones.{IsAmong, group}
 use Rattle.policy_select.specs.Looking.{IsMember, Names}
 use Rattle.policy_select.specs.GroupRecord.{Group}
 use Rattle.health_planning.specs.Building.{links_to}
-use Rattle.health_planning.specs.Wired.{AreMembers, gates_of, plain, plain_among, seat_of, with_gate}
+use Rattle.health_planning.specs.Wired.{AreMembers, check_or_none, gates_of, only_check, plain, plain_among, seat_of, with_gate}
 use Rattle.health_planning.specs.declared.seats.Seat.{Seat}
 
 got_of_take : {X : Type 0} (xs : List X) (n i : ℕ) → i < n → slice_get (take n xs) i ≡ slice_get xs i
@@ -102,6 +102,21 @@ members_are zones g zone name rtype its are = record {
 pub some_gate : (n : ℕ) → n ≢ 0 → (gate : ℕ) × (n ≡ suc gate)
 some_gate zero some = absurd (some refl)
 some_gate (suc gate) some = (gate, refl)
+
+-- where the health of a target group counts, no check alone decides the set
+pub alias_alone : (set : RecordSet) → evaluates set.body ≡ true → only_check set ≡ 0
+alias_alone set on = rw on refl
+
+-- and where one does, no target's health counts
+pub alone_told : (set : RecordSet) → only_check set ≢ 0
+    → (evaluates set.body ≡ false) × (set.check ≡ Some (only_check set))
+alone_told set some = by (evaluates set.body) set.check some
+  where
+    by : (on : Bool) (check : Option ℕ) → (if on then 0 else check_or_none check) ≢ 0
+        → (on ≡ false) × (check ≡ Some (if on then 0 else check_or_none check))
+    by true check some = absurd (some refl)
+    by false None some = absurd (some refl)
+    by false (Some id) some = (refl, refl)
 
 -- the target that was told is the alias's
 pub told_target : (set : RecordSet) (name : List (List ℕ)) (target : List (List ℕ) × RType)

@@ -2,6 +2,7 @@ pub mod Built
 pub mod Ending
 pub mod Feeding
 pub mod Few
+pub mod Given
 pub mod Grouped
 pub mod Groups
 pub mod Joined

@@ -1,11 +1,11 @@
 -- Where the checks of numbers stand.
-use Rattle.std.proofs.Common.{◌≡◌, ◌≢◌, ◌<◌, ℕ, zero, suc, List, [], ◌∷◌, arith, refl, ap, sym, ◌∙◌, inl, inr, Some, None}
+use Rattle.std.proofs.Common.{◌≡◌, ◌≢◌, ◌<◌, ℕ, zero, suc, List, [], ◌∷◌, arith, refl, ap, sym, ◌∙◌, inl, inr, Some, None, Option}
 use Rattle.std.specs.Prelude.{slice_get}
 use Rattle.std.specs.List.{AllByRecursion}
 use Rattle.std.proofs.lemmas.Bool.{cases_eq, eq-eqb, ne_eqb}
 use Rattle.check_model.specs.Checks.{IdsRise, check_at}
 use Rattle.check_model.specs.declared.checks.Check.{Check}
-use Rattle.health_planning.specs.Wired.{ids_of, place_of}
+use Rattle.health_planning.specs.Wired.{IsPlace, StandApart, StandsAt, ids_of, place_of}
 
 some_same : {X : Type 0} {x y : X} → Some x ≡ Some y → x ≡ y
 some_same e = cc
@@ -19,6 +19,33 @@ placed_at (x ∷ ids) id zero none e = rw (eq-eqb id x (sym (some_same e))) refl
 placed_at (x ∷ ids) id (suc place) none e =
     rw (ne_eqb id x (λ same. none 0 (omega arith) (ap Some (sym same))))
     (ap suc (placed_at ids id place (λ k h is. none (suc k) (omega arith) is) e))
+
+pub stands_at : (ids : List ℕ) (id : ℕ) (at : Option ℕ) → IsPlace ids id at → StandsAt ids id at
+stands_at ids id None none = none
+stands_at ids id (Some place) is = is.0
+
+-- a number that stands somewhere stands at its first place, which is the only one among some that
+-- differ
+first_there : (ids : List ℕ) (place id : ℕ) → slice_get ids place ≡ Some id
+    → slice_get ids (place_of ids id) ≡ Some id
+first_there [] place id e = let no : ⊥ = cc in absurd no
+first_there (x ∷ ids) zero id e = rw (eq-eqb id x (sym (some_same e))) e
+first_there (x ∷ ids) (suc place) id e = elim (cases_eq id x) [
+  | inl same ↦ rw (eq-eqb id x same) (ap Some (sym same))
+  | inr apart ↦ rw (ne_eqb id x apart) (first_there ids place id e)
+]
+
+pub only_place : (ids : List ℕ) → StandApart ids → (place id : ℕ) → slice_get ids place ≡ Some id
+    → place_of ids id ≡ place
+only_place ids apart place id at = apart (place_of ids id) place id (first_there ids place id at) at
+
+-- a number that stands somewhere is that of a check
+pub held_there : (list : List (ℕ × Check)) (place id : ℕ)
+    → slice_get (ids_of list) place ≡ Some id
+    → (check : Check) × (slice_get list place ≡ Some (id, check))
+held_there [] place id e = let no : ⊥ = cc in absurd no
+held_there (held ∷ list) zero id e = (held.1, ap (λ (n : ℕ). Some (n, held.1)) (some_same e))
+held_there (held ∷ list) (suc place) id e = held_there list place id e
 
 -- the check at the place of its number is the one that is found
 past_first : (held : ℕ × Check) (list : List (ℕ × Check)) (id : ℕ) → id ≢ held.0
@@ -87,6 +114,13 @@ one_place (held ∷ list) (suc p) zero id c d rise e f =
     let b = above list held.0 p id c rise.0 e in absurd (omega arith)
 one_place (held ∷ list) (suc p) (suc q) id c d rise e f =
     ap suc (one_place list p q id c d rise.1 e f)
+
+-- the numbers of checks differ
+pub ids_apart : (list : List (ℕ × Check)) → IdsRise list → StandApart (ids_of list)
+ids_apart list rise k n id at_k at_n =
+    let one = held_there list k id at_k in
+    let other = held_there list n id at_n in
+    one_place list k n id one.0 other.0 rise one.1 other.1
 
 -- what holds of all checks holds of one
 pub of_all : (P : ℕ × Check → Type 0) (list : List (ℕ × Check)) (place : ℕ) (held : ℕ × Check)

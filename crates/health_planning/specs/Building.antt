@@ -1,5 +1,5 @@
 -- How the gates of a configuration are planned.
-use Rattle.std.specs.Prelude.{◌≡◌, ◌≤◌, ◌<◌, ◌+◌, ◌^◌, ℕ, suc, Bool, true, false, if◌then◌else◌, is_some, List, [], ◌∷◌, ◌++◌, length, map, Option, None, Some, slice_get, Contains, ◌⊎◌}
+use Rattle.std.specs.Prelude.{◌≡◌, ◌≢◌, ◌≤◌, ◌<◌, ◌+◌, ◌^◌, ℕ, suc, Bool, true, false, if◌then◌else◌, is_some, List, [], ◌∷◌, ◌++◌, length, map, Option, None, Some, slice_get, Contains, ◌⊎◌}
 use Rattle.std.specs.List.{AllByRecursion}
 use Rattle.std.specs.Option.{option_to_list}
 use Rattle.check_model.specs.Checks.{children_of}
@@ -192,9 +192,33 @@ pub record HasTarget (zones : List Zone) (seats : List Seat) (zone : ℕ) (name 
   pub gate : ℕ
   pub seat : group_seat seats slot ≡ suc gate
 
--- neither the set in the slot nor its group has a gate
-abbrev pub no_seat : Seat
-no_seat = record { set = 0; group = 0; check = 0 }
+-- one of some references is to this slot
+abbrev pub TellSlot : List SetRef → (slot : ℕ) → Type 0
+TellSlot refs slot =
+    (k : ℕ) × ((ref : SetRef) × ((slice_get refs k ≡ Some ref) × (ref.slot ≡ slot)))
+
+-- the seat in a slot tells no gate
+abbrev pub IsFree : List Seat → (slot : ℕ) → Type 0
+IsFree seats slot = (seat_of seats slot ≡ 0) × (group_seat seats slot ≡ 0)
+
+-- One seat for each slot, and none tells a gate.
+pub record AreFree (slots : ℕ) (seats : List Seat) : Type 0 where
+  pub size : length seats ≡ slots
+  pub each : (slot : ℕ) → IsFree seats slot
+
+-- A seat tells the gate of its set only in the slot of a listed set, and the gate of its group only
+-- in that of a noted member.
+pub record AreGiven (refs members : List SetRef) (seats : List Seat) : Type 0 where
+  pub sets : (slot : ℕ) → seat_of seats slot ≢ 0 → TellSlot refs slot
+  pub groups : (slot : ℕ) → group_seat seats slot ≢ 0 → TellSlot members slot
+
+-- The members of groups with gates are noted, each of them once.
+pub record AreNoted (members : List SetRef) (seats : List Seat) : Type 0 where
+  pub all : (slot : ℕ) → group_seat seats slot ≢ 0 → TellSlot members slot
+  pub each : (k : ℕ) (ref : SetRef) → slice_get members k ≡ Some ref
+      → group_seat seats ref.slot ≢ 0
+  pub once : (k n : ℕ) (one other : SetRef) → slice_get members k ≡ Some one
+      → slice_get members n ≡ Some other → one.slot ≡ other.slot → k ≡ n
 
 -- the seat in a slot
 pub record IsSeatAt (seats : List Seat) (slot : ℕ) (seat : Seat) : Type 0 where

@@ -1,7 +1,7 @@
 -- What is kept where the checks of a configuration change.
 use Rattle.std.specs.Prelude.{◌≡◌, ◌≤◌, ◌<◌, ◌⊎◌, ℕ, List, Option, None, Some, slice_get, ⊤}
 use Rattle.std.specs.List.{AllByRecursion}
-use Rattle.check_model.specs.Checks.{Checks, check_at}
+use Rattle.check_model.specs.Checks.{Checks, IdsRise, check_at}
 use Rattle.check_model.specs.declared.checks.Check.{Check}
 use Rattle.check_model.specs.declared.checks.Check.TheVariants.{Endpoint, Calculated}
 use Rattle.checker_state.specs.Standing.{Seen}
@@ -35,6 +35,7 @@ pub record Follows (old new : Checks) : Type 0 where
 pub record Knows (old : Checks) (reports : List Report) (ids : List ℕ)
     (seen : List (Option Seen)) : Type 0 where
   pub its_ids : ids ≡ ids_of old.list
+  pub rising : IdsRise old.list
   pub below : AllByRecursion (λ (held : ℕ × Check). held.0 < old.next) old.list
   pub its_seen : AreSeen reports old.list seen
   pub its_reports : AreReports old.next reports

@@ -19,10 +19,11 @@ children_among [] = 0
 children_among (held ∷ list) = length (children_of held.1) + children_among list
 
 -- all gates and links over so many slots can be planned
-pub record HasPlanRoom {Z : Type 0} (plan : Planned) (refs : Vec SetRef Z) (slots : ℕ)
+pub record HasPlanRoom {Z : Type 0} (plan : Planned) (refs known : Vec SetRef Z) (slots : ℕ)
     : Type 0 where
   pub few : slots ≤ 2 ^ 29
   pub refs_room : slots ≤ vec_capacity refs
+  pub known_room : slots ≤ vec_capacity known
   pub gates : slots * 2 + 200 ≤ plan.room
   pub links : slots * 3 + 51200 ≤ plan.links_room
 

@@ -44,6 +44,15 @@ abbrev pub IsPlace : List ℕ → (id : ℕ) → Option ℕ → Type 0
 IsPlace ids id None = (place : ℕ) → slice_get ids place ≡ Some id → ⊥
 IsPlace ids id (Some place) = (slice_get ids place ≡ Some id) × (place_of ids id ≡ place)
 
+-- a place where a number stands, and none where it stands nowhere
+abbrev pub StandsAt : List ℕ → (id : ℕ) → Option ℕ → Type 0
+StandsAt ids id None = (place : ℕ) → slice_get ids place ≡ Some id → ⊥
+StandsAt ids id (Some place) = slice_get ids place ≡ Some id
+
+-- no number stands at two places
+abbrev pub StandApart : List ℕ → Type 0
+StandApart ids = (k n id : ℕ) → slice_get ids k ≡ Some id → slice_get ids n ≡ Some id → k ≡ n
+
 -- Ten of the fifty checkers open the gate of an endpoint, so many of its children that of a
 -- calculated check, and nothing is needed where it is disabled.
 abbrev pub check_need : Check → ℕ

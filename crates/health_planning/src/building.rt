@@ -1,8 +1,10 @@
 //! The gates of checks and what feeds them, what their checkers saw, and seats before any set has a
 //! gate.
+//!
+//! Seats are cleared only where they were given: a store has many slots, and few of them have gates.
 
 ghost use Rattle.std.specs.Prelude.{◌≡◌, ◌≤◌, ◌<◌, ◌+◌, ◌++◌, ◌∷◌, [], ℕ, List, None, Some, length};
-ghost use Rattle.std.specs.Prelude.{is_some, map, replicate, slice_get, true, vec_capacity, vec_len};
+ghost use Rattle.std.specs.Prelude.{is_some, map, slice_get, true, vec_capacity, vec_len};
 ghost use Rattle.check_model.specs.declared.checks.Check.{Check};
 ghost use Rattle.check_model.specs.Checks.{Checks, IsBounded, children_of};
 ghost use Rattle.checker_state.specs.Standing.{Seen, nothing};
@@ -10,18 +12,21 @@ ghost use Rattle.checker_state.specs.Standing.{StandsFor as HasSeen};
 ghost use Rattle.health_gates.specs.Plan.{KeepsRoom};
 ghost use Rattle.health_gates.specs.declared.plan.Shape.{Shape};
 ghost use Rattle.health_planning.specs.Building.{AreSeen, AreThere, check_links, check_shape};
-ghost use Rattle.health_planning.specs.Building.{AreOfEndpoints, check_shapes, links_to, no_seat};
+ghost use Rattle.health_planning.specs.Building.{AreFree, AreGiven, AreOfEndpoints, IsFree};
+ghost use Rattle.health_planning.specs.Building.{TellSlot, check_shapes, links_to};
 ghost use Rattle.health_planning.specs.Following.{EachFollows, FollowsAt, Knows};
 ghost use Rattle.health_planning.specs.Building.{IsSeen};
 ghost use Rattle.health_planning.specs.Rooms.{children_among};
-ghost use Rattle.health_planning.specs.Wired.{check_need, check_own, ids_of, is_inverted, place_of};
+ghost use Rattle.health_planning.specs.Wired.{StandApart, StandsAt, check_need, check_own, ids_of};
+ghost use Rattle.health_planning.specs.Wired.{is_inverted, place_of};
 ghost use Rattle.health_model.specs.Statuses.{Report, passing};
 
-use crate::finding::{place_in, seen_at};
+use crate::finding::{place_from, place_near, seen_at};
 use crate::seats::Seat;
 use checker_state::Checkers;
 use health_check::Check;
 use health_gates::{Link, Plan, Shape};
+use policy_select::SetRef;
 
 /// The numbers of checks.
 pub fn list_ids(ids: &mut Vec<u32>, list: &[(u32, Check)])
@@ -109,6 +114,7 @@ pub fn add_checks(plan: &mut Plan, list: &[(u32, Check)], seen: &[Option<Checker
 /// What feeds the gate of a calculated check: those of its children.
 fn join_children(plan: &mut Plan, ids: &[u32], children: &[u32], gate: u32)
     requires there { AreThere ids.now children.now }
+    requires apart { StandApart ids.now }
     requires few { length ids.now ≤ 200 }
     requires room { length children.now ≤ plan.old.links_room }
     ensures shapes { plan.new.shapes ≡ plan.old.shapes }
@@ -118,7 +124,7 @@ fn join_children(plan: &mut Plan, ids: &[u32], children: &[u32], gate: u32)
     ensures room { plan.old.links_room ≡ plan.new.links_room + length children.now }
 {
     for child in children {
-        let Some(place) = place_in(ids, *child) else {
+        let Some(place) = place_near(ids, *child) else {
             unreachable!();
         };
         let link = Link {
@@ -133,6 +139,7 @@ fn join_children(plan: &mut Plan, ids: &[u32], children: &[u32], gate: u32)
 pub fn join_checks(plan: &mut Plan, ids: &[u32], list: &[(u32, Check)])
     requires there { (place id : ℕ) (check : Check) → slice_get list.now place ≡ Some (id, check)
         → AreThere ids.now (children_of check) }
+    requires apart { StandApart ids.now }
     requires few { length list.now ≤ 200 }
     requires few_ids { length ids.now ≤ 200 }
     requires room { children_among list.now ≤ plan.old.links_room }
@@ -151,17 +158,17 @@ pub fn join_checks(plan: &mut Plan, ids: &[u32], list: &[(u32, Check)])
     }
 }
 
-/// What the checkers of an endpoint saw: nothing yet, where its check wasn't there.
-fn checkers_of(ids: &[u32], seen: &[Option<Checkers>], id: u32, threshold: u8) -> Checkers
-    requires as_many { length seen.now ≡ length ids.now }
+/// What the checkers of an endpoint saw, whose check stood at a place: nothing yet, where it wasn't
+/// there.
+fn checkers_of(seen: &[Option<Checkers>], at: Option<usize>, threshold: u8) -> Checkers
+    requires within { (place : ℕ) → at ≡ Some place → place < length seen.now }
     requires low { 1 ≤ threshold }
     requires high { threshold ≤ 10 }
-    ensures kept { (its : Seen) → slice_get ids.now (place_of ids.now id) ≡ Some id
-        → slice_get seen.now (place_of ids.now id) ≡ Some (Some its) → result ≡ its }
-    ensures new { ((place : ℕ) → slice_get ids.now place ≡ Some id → ⊥)
-        → HasSeen threshold nothing result }
+    ensures kept { (place : ℕ) (its : Seen) → at ≡ Some place
+        → slice_get seen.now place ≡ Some (Some its) → result ≡ its }
+    ensures new { at ≡ None → HasSeen threshold nothing result }
 {
-    let Some(place) = place_in(ids, id) else {
+    let Some(place) = at else {
         return Checkers::new(threshold);
     };
     match seen[place] {
@@ -170,21 +177,32 @@ fn checkers_of(ids: &[u32], seen: &[Option<Checkers>], id: u32, threshold: u8) -
     }
 }
 
-/// What the checkers of a check saw.
-fn seen_of(ids: &[u32], seen: &[Option<Checkers>], id: u32, check: &Check) -> Option<Checkers>
-    requires as_many { length seen.now ≡ length ids.now }
+/// What the checkers of a check saw, which stood at a place.
+fn seen_of(seen: &[Option<Checkers>], at: Option<usize>, check: &Check) -> Option<Checkers>
+    requires within { (place : ℕ) → at ≡ Some place → place < length seen.now }
     requires bounded { IsBounded check.now }
-    ensures exact { (old : Checks) (reports : List Report) → Knows old reports ids.now seen.now
+    ensures exact { (old : Checks) (reports : List Report) (ids : List ℕ) (id : ℕ)
+        → Knows old reports ids seen.now → StandsAt ids id at
         → FollowsAt old id check.now → IsSeen reports id check.now result }
     ensures kind { is_some result ≡ true → children_of check.now ≡ [] }
 {
     match check {
-        Check::Endpoint { threshold, .. } => Some(checkers_of(ids, seen, id, *threshold)),
+        Check::Endpoint { threshold, .. } => Some(checkers_of(seen, at, *threshold)),
         Check::Calculated { .. } => None,
     }
 }
 
+/// The place behind one that was found, and else the place before.
+fn place_behind(at: Option<usize>, from: usize) -> usize {
+    match at {
+        Some(place) => place.saturating_add(1),
+        None => from,
+    }
+}
+
 /// What the checkers of each check saw, from what they saw of the checks before.
+///
+/// Numbers rise in both lists: so each is looked for from behind the one that was found last.
 pub fn list_seen(
     into: &mut Vec<Option<Checkers>>,
     list: &[(u32, Check)],
@@ -203,24 +221,71 @@ pub fn list_seen(
     ensures kinds { AreOfEndpoints list.now into.new.items }
     ensures room { vec_capacity into.new ≡ vec_capacity into.old }
 {
+    let mut from = 0;
     for (place, held) in list.iter().enumerate() {
-        let saw = seen_of(ids, seen, held.0, &held.1);
+        let at = place_from(ids, held.0, from);
+        let saw = seen_of(seen, at, &held.1);
         into.push_reserved(saw);
+        from = place_behind(at, from);
     }
 }
 
-/// Seats without gates, one for each slot.
-pub fn lay_seats(seats: &mut Vec<Seat>, slots: usize)
-    requires empty { seats.old.items ≡ [] }
-    requires room { slots ≤ vec_capacity seats.old }
-    ensures seats { seats.new.items ≡ replicate slots no_seat }
+/// Clears the seat in a slot, where there is one.
+fn clear_one(seats: &mut Vec<Seat>, slot: u32)
+    ensures here { IsFree seats.new.items slot }
+    ensures free { (other : ℕ) → IsFree seats.old.items other → IsFree seats.new.items other }
+    ensures size { length seats.new.items ≡ length seats.old.items }
     ensures room { vec_capacity seats.new ≡ vec_capacity seats.old }
 {
-    for _i in 0..slots {
+    let at = slot as usize;
+    if at >= seats.len() {
+        return;
+    }
+    seats[at] = Seat {
+        set: 0,
+        group: 0,
+        check: 0,
+    };
+}
+
+/// Clears the seats of some sets.
+fn clear_those(seats: &mut Vec<Seat>, those: &[SetRef])
+    ensures cleared { (slot : ℕ) → TellSlot those.now slot → IsFree seats.new.items slot }
+    ensures free { (slot : ℕ) → IsFree seats.old.items slot → IsFree seats.new.items slot }
+    ensures size { length seats.new.items ≡ length seats.old.items }
+    ensures room { vec_capacity seats.new ≡ vec_capacity seats.old }
+{
+    for set in those {
+        clear_one(seats, set.slot);
+    }
+}
+
+/// Seats for so many slots, where none tells a gate.
+fn fill_seats(seats: &mut Vec<Seat>, slots: usize)
+    requires room { slots ≤ vec_capacity seats.old }
+    requires free { (slot : ℕ) → IsFree seats.old.items slot }
+    ensures free { AreFree slots seats.new.items }
+    ensures room { vec_capacity seats.new ≡ vec_capacity seats.old }
+{
+    seats.truncate(slots);
+    for _i in seats.len()..slots {
         seats.push_reserved(Seat {
             set: 0,
             group: 0,
             check: 0,
         });
     }
+}
+
+/// Seats without gates, one for each slot: those that tell gates are cleared, which are in the slots
+/// of the listed sets and of the noted members.
+pub fn clear_seats(seats: &mut Vec<Seat>, refs: &[SetRef], members: &[SetRef], slots: usize)
+    requires given { AreGiven refs.now members.now seats.old.items }
+    requires room { slots ≤ vec_capacity seats.old }
+    ensures free { AreFree slots seats.new.items }
+    ensures room { vec_capacity seats.new ≡ vec_capacity seats.old }
+{
+    clear_those(seats, refs);
+    clear_those(seats, members);
+    fill_seats(seats, slots);
 }

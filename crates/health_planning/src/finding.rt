@@ -1,7 +1,7 @@
 //! Where checks stand by their numbers, and what their checkers saw.
 
 ghost use Rattle.std.specs.Prelude.{◌≡◌, ◌<◌, Some, length, slice_get};
-ghost use Rattle.health_planning.specs.Wired.{IsPlace};
+ghost use Rattle.health_planning.specs.Wired.{IsPlace, StandApart, StandsAt};
 
 use checker_state::Checkers;
 
@@ -15,6 +15,30 @@ pub fn place_in(ids: &[u32], id: u32) -> Option<usize>
         }
     }
     None
+}
+
+/// The place of a number among some that differ. Where they rise it is found by halving.
+pub fn place_near(ids: &[u32], id: u32) -> Option<usize>
+    requires { StandApart ids.now }
+    ensures { IsPlace ids.now id result }
+{
+    let place = ids.partition_point(|other| *other < id);
+    if place < ids.len() && ids[place] == id {
+        return Some(place);
+    }
+    place_in(ids, id)
+}
+
+/// A place of a number, which is looked for from one place on, and then from the front.
+pub fn place_from(ids: &[u32], id: u32, from: usize) -> Option<usize>
+    ensures { StandsAt ids.now id result }
+{
+    for place in from..ids.len() {
+        if ids[place] == id {
+            return Some(place);
+        }
+    }
+    place_in(ids, id)
 }
 
 /// What the checkers of the check at a place saw.

@@ -1,6 +1,6 @@
 //! The gates of target groups: one for each, whatever aliases lead to it.
 
-ghost use Rattle.std.specs.Prelude.{◌≡◌, ◌≢◌, ◌≤◌, ◌<◌, ◌+◌, ◌++◌, ◌^◌, [], ℕ, List, Some, length, slice_get, suc, true};
+ghost use Rattle.std.specs.Prelude.{◌≡◌, ◌≢◌, ◌≤◌, ◌<◌, ◌+◌, ◌++◌, ◌^◌, [], ℕ, List, Some, length, slice_get, suc, true, vec_capacity};
 ghost use Rattle.health_gates.specs.Plan.{KeepsRoom, feeders_in};
 ghost use Rattle.health_gates.specs.declared.plan.Shape.{Shape};
 ghost use Rattle.record_set.specs.declared.sets.Body.TheVariants.{Alias};
@@ -10,10 +10,11 @@ ghost use Rattle.zone_model.specs.Placed.{sets_of};
 ghost use Rattle.zone_model.specs.Walks.{HasNoTarget};
 ghost use Rattle.policy_select.specs.Looking.{Names};
 ghost use Rattle.health_planning.specs.Building.{IsSeatAt};
-ghost use Rattle.health_planning.specs.Building.{AreBelow, AreSeated, AreWithin, HasTarget};
+ghost use Rattle.health_planning.specs.Building.{AreBelow, AreNoted, AreSeated, AreWithin, HasTarget};
 ghost use Rattle.health_planning.specs.Building.{SameSets, links_to};
 ghost use Rattle.health_planning.specs.Rooms.{CanGroup, HaveGatesApart};
-ghost use Rattle.health_planning.specs.Wired.{gates_of, group_seat, plain, plain_among, with_gate};
+ghost use Rattle.health_planning.specs.Wired.{check_seat, gates_of, group_seat, only_check, plain};
+ghost use Rattle.health_planning.specs.Wired.{plain_among, with_gate};
 ghost use Rattle.policy_select.specs.Groups.{members_of};
 ghost use Rattle.policy_select.specs.Looking.{IsGroupNow};
 
@@ -27,6 +28,18 @@ pub fn seat_at(seats: &[Seat], slot: u32) -> Seat
     ensures { IsSeatAt seats.now slot result }
 {
     seats[slot as usize]
+}
+
+/// The number of the check that alone decides the set in a slot, as its seat tells it; 0 where there
+/// is none such.
+pub fn check_at(seats: &[Seat], slot: u32) -> u32
+    ensures { result ≡ check_seat seats.now slot }
+{
+    let at = slot as usize;
+    if at >= seats.len() {
+        return 0;
+    }
+    seats[at].check
 }
 
 /// Whether the set of a seat has no gate, as a number.
@@ -102,21 +115,59 @@ fn seat_one(seats: &mut Vec<Seat>, slot: u32, gate: u32)
     };
 }
 
-/// Seats the sets of a group at its gate, which is given as one more.
-fn seat_members(zones: &Zones, group: Group, gate: u32, seats: &mut Vec<Seat>)
+/// Notes a set that is about to be seated at the gate of its group, where it sat at none.
+fn note_one(set: SetRef, seats: &[Seat], members: &mut Vec<SetRef>)
+    requires slot { set.slot < length seats.now }
+    requires noted { AreNoted members.old.items seats.now }
+    requires room { length seats.now ≤ vec_capacity members.old }
+    ensures noted { (after : List Seat) → group_seat after set.slot ≢ 0
+        → ((other : ℕ) → other ≢ set.slot
+        → group_seat after other ≡ group_seat seats.now other)
+        → AreNoted members.new.items after }
+    ensures room { vec_capacity members.new ≡ vec_capacity members.old }
+{
+    let seat = seat_at(seats, set.slot);
+    if seat.group != 0 {
+        return;
+    }
+    members.push_reserved(set);
+}
+
+/// Seats the sets of a group at its gate, which is given as one more, and notes them.
+fn seat_members(
+    zones: &Zones,
+    group: Group,
+    gate: u32,
+    seats: &mut Vec<Seat>,
+    members: &mut Vec<SetRef>,
+)
     requires group { IsGroupNow zones.now.zones group }
     requires slots { length seats.old.items ≡ zones.now.slots }
-    ensures { AreSeated (members_of zones.now.zones group) gate
+    requires gate { 0 < gate }
+    requires noted { AreNoted members.old.items seats.old.items }
+    requires room { length seats.old.items ≤ vec_capacity members.old }
+    ensures seated { AreSeated (members_of zones.now.zones group) gate
         seats.old.items seats.new.items }
+    ensures noted { AreNoted members.new.items seats.new.items }
+    ensures room { vec_capacity members.new ≡ vec_capacity members.old }
 {
     zones.slots_within();
     for i in 0..group.length {
-        seat_one(seats, zones.member(group, i).slot, gate);
+        let set = zones.member(group, i);
+        note_one(set, seats, members);
+        seat_one(seats, set.slot, gate);
     }
 }
 
-/// Gives the target group of a set a gate, where its health counts and it has none.
-pub fn group_one(zones: &Zones, set: SetRef, seats: &mut Vec<Seat>, plan: &mut Plan)
+/// Gives the target group of a set a gate, where its health counts and it has none. A set that a check
+/// alone decides isn't read: its seat tells as much.
+pub fn group_one(
+    zones: &Zones,
+    set: SetRef,
+    seats: &mut Vec<Seat>,
+    plan: &mut Plan,
+    members: &mut Vec<SetRef>,
+)
     requires slots { length seats.old.items ≡ zones.now.slots }
     requires below { AreBelow seats.old.items (length plan.old.shapes) }
     requires within { AreWithin plan.old.links (length plan.old.shapes) }
@@ -124,6 +175,10 @@ pub fn group_one(zones: &Zones, set: SetRef, seats: &mut Vec<Seat>, plan: &mut P
         → HasNoTarget (sets_of (placed_in zones.now.zones set.zone)) named → ⊥ }
     requires room { (from : ℕ) × ((base : ℕ)
         × CanGroup zones.now.zones from base seats.old.items plan.old) }
+    requires noted { AreNoted members.old.items seats.old.items }
+    requires members_room { length seats.old.items ≤ vec_capacity members.old }
+    requires told { (named : RecordSet) → Names zones.now.zones set named
+        → check_seat seats.old.items set.slot ≡ only_check named }
     ensures grouped { (from base : ℕ)
         → CanGroup zones.now.zones from base seats.old.items plan.old
         → CanGroup zones.now.zones from base seats.new.items plan.new }
@@ -141,10 +196,16 @@ pub fn group_one(zones: &Zones, set: SetRef, seats: &mut Vec<Seat>, plan: &mut P
     ensures more { length plan.old.shapes ≤ length plan.new.shapes }
     ensures within { AreWithin plan.new.links (length plan.new.shapes) }
     ensures size { length seats.new.items ≡ length seats.old.items }
+    ensures noted { AreNoted members.new.items seats.new.items }
+    ensures members_room { vec_capacity members.new ≡ vec_capacity members.old }
 {
     zones.well_formed();
     zones.slots_apart();
     zones.slots_within();
+    let only = check_at(seats, set.slot);
+    if only != 0 {
+        return;
+    }
     let Some(watch) = zones.watch(set) else {
         return;
     };
@@ -172,11 +233,17 @@ pub fn group_one(zones: &Zones, set: SetRef, seats: &mut Vec<Seat>, plan: &mut P
     let gate = plan.len() as u32;
     plan.push(shape);
     join_members(zones, group, seats, gate, plan);
-    seat_members(zones, group, gate + 1, seats);
+    seat_members(zones, group, gate + 1, seats, members);
 }
 
-/// Gives the target groups of sets gates.
-pub fn group_all(zones: &Zones, refs: &[SetRef], seats: &mut Vec<Seat>, plan: &mut Plan)
+/// Gives the target groups of sets gates, and notes the sets of these groups.
+pub fn group_all(
+    zones: &Zones,
+    refs: &[SetRef],
+    seats: &mut Vec<Seat>,
+    plan: &mut Plan,
+    members: &mut Vec<SetRef>,
+)
     requires slots { length seats.old.items ≡ zones.now.slots }
     requires below { AreBelow seats.old.items (length plan.old.shapes) }
     requires within { AreWithin plan.old.links (length plan.old.shapes) }
@@ -187,6 +254,11 @@ pub fn group_all(zones: &Zones, refs: &[SetRef], seats: &mut Vec<Seat>, plan: &m
     requires links_room { length plan.old.shapes ≤ plan.old.links_room }
     requires targets { (set : SetRef) (named : RecordSet) → Names zones.now.zones set named
         → HasNoTarget (sets_of (placed_in zones.now.zones set.zone)) named → ⊥ }
+    requires none_noted { members.old.items ≡ [] }
+    requires members_room { length seats.old.items ≤ vec_capacity members.old }
+    requires told { (k : ℕ) (set : SetRef) (named : RecordSet) → slice_get refs.now k ≡ Some set
+        → Names zones.now.zones set named
+        → check_seat seats.old.items set.slot ≡ only_check named }
     ensures grouped { CanGroup zones.now.zones (length plan.old.shapes) (length plan.old.links)
         seats.new.items plan.new }
     ensures kept { KeepsRoom plan.old plan.new }
@@ -202,8 +274,9 @@ pub fn group_all(zones: &Zones, refs: &[SetRef], seats: &mut Vec<Seat>, plan: &m
     ensures more { length plan.old.shapes ≤ length plan.new.shapes }
     ensures within { AreWithin plan.new.links (length plan.new.shapes) }
     ensures size { length seats.new.items ≡ length seats.old.items }
+    ensures noted { AreNoted members.new.items seats.new.items }
 {
     for set in refs {
-        group_one(zones, *set, seats, plan);
+        group_one(zones, *set, seats, plan, members);
     }
 }

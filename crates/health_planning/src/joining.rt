@@ -6,7 +6,8 @@ ghost use Rattle.std.specs.Option.{option_to_list};
 ghost use Rattle.health_gates.specs.Plan.{KeepsRoom, feeders_in};
 ghost use Rattle.health_planning.specs.Building.{AreWithin, FeedsSet, HasTargetGate, JoinsSet};
 ghost use Rattle.health_planning.specs.Building.{links_to};
-ghost use Rattle.health_planning.specs.Wired.{group_seat, place_of, with_gate};
+ghost use Rattle.health_planning.specs.Wired.{StandApart, check_seat, group_seat, only_check, place_of};
+ghost use Rattle.health_planning.specs.Wired.{with_gate};
 ghost use Rattle.record_set.specs.declared.sets.RecordSet.{RecordSet};
 ghost use Rattle.policy_select.specs.Zones.{placed_in};
 ghost use Rattle.policy_select.specs.SetRefRecord.{SetRef};
@@ -14,8 +15,8 @@ ghost use Rattle.zone_model.specs.Placed.{sets_of};
 ghost use Rattle.zone_model.specs.Walks.{HasNoTarget};
 ghost use Rattle.policy_select.specs.Looking.{Names};
 
-use crate::finding::place_in;
-use crate::grouping::{join_seat, seat_at};
+use crate::finding::place_near;
+use crate::grouping::{check_at, join_seat, seat_at};
 use crate::seats::Seat;
 use health_gates::{Link, Plan};
 use policy_select::{SetRef, Zones, find_group};
@@ -62,6 +63,7 @@ fn check_of(zones: &Zones, set: SetRef) -> Option<u32>
 fn join_check(plan: &mut Plan, ids: &[u32], check: Option<u32>, gate: u32)
     requires there { (id : ℕ) → check ≡ Some id
         → (place : ℕ) × (slice_get ids.now place ≡ Some id) }
+    requires apart { StandApart ids.now }
     requires few { length ids.now ≤ 200 }
     requires room { 1 ≤ plan.old.links_room }
     ensures shapes { plan.new.shapes ≡ plan.old.shapes }
@@ -73,7 +75,7 @@ fn join_check(plan: &mut Plan, ids: &[u32], check: Option<u32>, gate: u32)
     let Some(id) = check else {
         return;
     };
-    let Some(place) = place_in(ids, id) else {
+    let Some(place) = place_near(ids, id) else {
         unreachable!();
     };
     plan.feed(Link {
@@ -82,7 +84,8 @@ fn join_check(plan: &mut Plan, ids: &[u32], check: Option<u32>, gate: u32)
     });
 }
 
-/// What feeds the gate of a set.
+/// What feeds the gate of a set. Where a check alone decides it the set isn't read: its seat tells
+/// which.
 fn join_set(zones: &Zones, set: SetRef, ids: &[u32], seats: &[Seat], gate: u32, plan: &mut Plan)
     requires slots { length seats.now ≡ zones.now.slots }
     requires targets { (named : RecordSet) → Names zones.now.zones set named
@@ -90,6 +93,9 @@ fn join_set(zones: &Zones, set: SetRef, ids: &[u32], seats: &[Seat], gate: u32, 
     requires named { (named : RecordSet) × Names zones.now.zones set named }
     requires there { (named : RecordSet) (id : ℕ) → Names zones.now.zones set named
         → named.check ≡ Some id → (place : ℕ) × (slice_get ids.now place ≡ Some id) }
+    requires told { (named : RecordSet) → Names zones.now.zones set named
+        → check_seat seats.now set.slot ≡ only_check named }
+    requires apart { StandApart ids.now }
     requires few { length ids.now ≤ 200 }
     requires room { 2 ≤ plan.old.links_room }
     ensures shapes { plan.new.shapes ≡ plan.old.shapes }
@@ -100,6 +106,11 @@ fn join_set(zones: &Zones, set: SetRef, ids: &[u32], seats: &[Seat], gate: u32, 
     ensures few { plan.old.links_room ≤ plan.new.links_room + 2 }
 {
     zones.well_formed();
+    let only = check_at(seats, set.slot);
+    if only != 0 {
+        join_check(plan, ids, Some(only), gate);
+        return;
+    }
     let target = target_seat(zones, set, seats);
     join_check(plan, ids, check_of(zones, set), gate);
     join_seat(target, gate, plan);
@@ -114,6 +125,9 @@ pub fn join_sets(zones: &Zones, refs: &[SetRef], ids: &[u32], seats: &[Seat], pl
         → (named : RecordSet) × Names zones.now.zones set named }
     requires there { (set : SetRef) (named : RecordSet) (id : ℕ) → Names zones.now.zones set named
         → named.check ≡ Some id → (place : ℕ) × (slice_get ids.now place ≡ Some id) }
+    requires told { (k : ℕ) (set : SetRef) (named : RecordSet) → slice_get refs.now k ≡ Some set
+        → Names zones.now.zones set named → check_seat seats.now set.slot ≡ only_check named }
+    requires apart { StandApart ids.now }
     requires few { length ids.now ≤ 200 }
     requires few_sets { length ids.now + length refs.now ≤ 2 ^ 32 }
     requires room { 2 * length refs.now ≤ plan.old.links_room }

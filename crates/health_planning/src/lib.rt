@@ -15,7 +15,7 @@ mod listing;
 mod planning;
 mod seats;
 
-pub use building::{lay_seats, list_ids, list_seen};
+pub use building::{clear_seats, list_ids, list_seen};
 pub use finding::{place_in, seen_at};
 pub use listing::{is_watched, only_check};
 pub use planning::plan_gates;

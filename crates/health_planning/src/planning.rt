@@ -1,11 +1,11 @@
 //! All gates of a configuration, and what feeds each of them.
 
-ghost use Rattle.std.specs.Prelude.{◌≡◌, ◌≤◌, ◌<◌, ◌+◌, ◌*◌, [], ℕ, List, length, replicate};
+ghost use Rattle.std.specs.Prelude.{◌≡◌, ◌≤◌, ◌<◌, ◌+◌, ◌*◌, [], ℕ, List, length};
 ghost use Rattle.health_gates.specs.Gates.{Feeds};
 ghost use Rattle.health_gates.specs.Plan.{IsPlanned, net_in};
 ghost use Rattle.health_gates.specs.Walk.{PathsEnd};
-ghost use Rattle.health_planning.specs.Building.{AllListed, AreAsked, AreSeen, AreShaped, IsBuilt, IsSmallAt};
-ghost use Rattle.health_planning.specs.Building.{no_seat};
+ghost use Rattle.health_planning.specs.Building.{AllListed, AreAsked, AreFree, AreGiven, AreSeen};
+ghost use Rattle.health_planning.specs.Building.{AreShaped, IsBuilt, IsSmallAt};
 ghost use Rattle.health_planning.specs.Rooms.{HasPlanRoom};
 ghost use Rattle.health_planning.specs.Wired.{ids_of, watched_of};
 ghost use Rattle.health_model.specs.Sound.{IsSound};
@@ -22,14 +22,15 @@ use health_gates::Plan;
 use health_model::paths_end;
 use policy_select::{SetRef, Zones};
 
-/// Plans all gates and what feeds them, one kind after another.
+/// Plans all gates and what feeds them, one kind after another. The sets of the groups with gates
+/// are noted in place of those that were known.
 fn plan_all(
     zones: &Zones,
     checks: &CheckTable,
     ids: &[u32],
     seen: &[Option<Checkers>],
     whole: bool,
-    known: &[SetRef],
+    known: &mut Vec<SetRef>,
     came: &[SetRef],
     refs: &mut Vec<SetRef>,
     seats: &mut Vec<Seat>,
@@ -39,14 +40,15 @@ fn plan_all(
     requires ids { ids.now ≡ ids_of checks.now.checks.list }
     requires as_many { length seen.now ≡ length checks.now.checks.list }
     requires no_refs { refs.old.items ≡ [] }
-    requires no_seats { seats.old.items ≡ replicate zones.now.slots no_seat }
+    requires no_seats { AreFree zones.now.slots seats.old.items }
     requires no_gates { plan.old.shapes ≡ [] }
     requires no_links { plan.old.links ≡ [] }
-    requires room { HasPlanRoom plan.old refs.old zones.now.slots }
+    requires room { HasPlanRoom plan.old refs.old known.old zones.now.slots }
     ensures built { IsBuilt zones.now.zones checks.now.checks.list refs.new.items
         seats.new.items plan.new.shapes plan.new.links }
-    ensures all { AreAsked zones.now.zones whole known.now came.now
+    ensures all { AreAsked zones.now.zones whole known.old.items came.now
         → AllListed zones.now.zones refs.new.items }
+    ensures given { AreGiven refs.new.items known.new.items seats.new.items }
     ensures checks { (reports : List Report)
         → AreSeen reports checks.now.checks.list seen.now
         → AreShaped reports checks.now.checks.list plan.new.shapes }
@@ -61,20 +63,22 @@ fn plan_all(
     add_checks(plan, list, seen);
     join_checks(plan, ids, list);
     list_asked(zones, whole, known, came, refs, seats, plan);
-    group_all(zones, refs, seats, plan);
+    known.clear();
+    group_all(zones, refs, seats, plan, known);
     join_sets(zones, refs, ids, seats, plan);
 }
 
 /// Plans the gates of a configuration, where none are planned, by what the checkers of its checks
 /// saw. All sets are asked whether something decides them, or the ones that are known and the ones
-/// that came. It takes no memory.
+/// that came. In the end the sets of the groups with gates stand in place of the known ones. It takes
+/// no memory.
 pub fn plan_gates(
     zones: &Zones,
     checks: &CheckTable,
     ids: &[u32],
     seen: &[Option<Checkers>],
     whole: bool,
-    known: &[SetRef],
+    known: &mut Vec<SetRef>,
     came: &[SetRef],
     refs: &mut Vec<SetRef>,
     seats: &mut Vec<Seat>,
@@ -84,14 +88,15 @@ pub fn plan_gates(
     requires ids { ids.now ≡ ids_of checks.now.checks.list }
     requires as_many { length seen.now ≡ length checks.now.checks.list }
     requires no_refs { refs.old.items ≡ [] }
-    requires no_seats { seats.old.items ≡ replicate zones.now.slots no_seat }
+    requires no_seats { AreFree zones.now.slots seats.old.items }
     requires no_gates { plan.old.shapes ≡ [] }
     requires no_links { plan.old.links ≡ [] }
-    requires room { HasPlanRoom plan.old refs.old zones.now.slots }
+    requires room { HasPlanRoom plan.old refs.old known.old zones.now.slots }
     ensures built { IsBuilt zones.now.zones checks.now.checks.list refs.new.items
         seats.new.items plan.new.shapes plan.new.links }
-    ensures all { AreAsked zones.now.zones whole known.now came.now
+    ensures all { AreAsked zones.now.zones whole known.old.items came.now
         → AllListed zones.now.zones refs.new.items }
+    ensures given { AreGiven refs.new.items known.new.items seats.new.items }
     ensures checks { (reports : List Report)
         → AreSeen reports checks.now.checks.list seen.now
         → AreShaped reports checks.now.checks.list plan.new.shapes }

@@ -1,8 +1,10 @@
 use Rattle.std.proofs.Common.{◌≡◌, ◌∷◌, [], ℕ, length, length-append, arith, ap, refl, sym, ◌∙◌, inl, inr, Some}
 use Rattle.std.specs.Prelude.{is_some, slice_get}
-use Rattle.std.proofs.lemmas.Option.{slice_get_read}
+use Rattle.std.proofs.lemmas.Option.{slice_get_read, slice_get_within}
+use mathlib.Core.Path.{subst}
 use Rattle.check_model.specs.declared.checks.Check.{Check}
 use Rattle.health_gates.proofs.Runs.{in_more}
+use Rattle.health_planning.specs.Wired.{StandsAt}
 use Rattle.health_planning.proofs.building.list_seen.Goals as goal
 
 some_same : {X : Type 0} {x y : X} → Some x ≡ Some y → x ≡ y
@@ -13,6 +15,13 @@ seen_of-saw-requires-clause-bounded c =
     let held = c.index-list-place.result in
     c.requires.bounded c.loop-place.place held.0 held.1
     (slice_get_read c.args.list.now _ c.loop-place.place held refl c.loop-place-test.true c.index-list-place.is)
+
+pub seen_of-saw-requires-clause-within : goal.seen_of-saw-requires-clause-within
+seen_of-saw-requires-clause-within c place is =
+    let there = subst (StandsAt c.args.ids.now c.index-list-place.result.0) is c.place_from-at.ensures in
+    let within = slice_get_within c.args.ids.now place _ there in
+    let many = c.requires.as_many in
+    omega arith
 
 pub loop-place-preserved : goal.loop-place-preserved
 loop-place-preserved c =
@@ -36,7 +45,8 @@ loop-place-preserved c =
             let same : ◌≡◌ {A = ℕ × Check} (id, check) held = some_same (sym here ∙ ap (slice_get c.args.list.now) k_is ∙ at) in
             let ids = ap (λ (h : ℕ × Check). h.0) same in
             let checks = ap (λ (h : ℕ × Check). h.1) same in
-            rw (ids, checks, last.1) (c.seen_of-saw.ensures.exact old reports knows (each place held.0 held.1 at))
+            rw (ids, checks, last.1)
+            (c.seen_of-saw.ensures.exact old reports c.args.ids.now held.0 knows c.place_from-at.ensures (each place held.0 held.1 at))
       ];
       kinds = λ k its is. elim (in_more c.loop-place.into.items saw (Some its) k (rw more at is)) [
         | inl before ↦ i.kinds k its before

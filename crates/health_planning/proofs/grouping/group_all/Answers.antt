@@ -1,10 +1,11 @@
 use Rattle.std.proofs.Common.{◌≡◌, length, arith, sym, refl, ◌∙◌, inl, inr}
 use Rattle.std.proofs.lemmas.Bool.{cases_lt}
-use Rattle.std.proofs.lemmas.Option.{get_or_from_slice_get, slice_get_within}
+use Rattle.std.proofs.lemmas.Option.{get_or_from_slice_get, slice_get-get_or, slice_get_within}
 use mathlib.Core.Path.{subst}
 use Rattle.policy_select.specs.SetRefRecord.{SetRef}
 use Rattle.policy_select.specs.Looking.{Names}
 use Rattle.health_planning.specs.Building.{HasTarget}
+use Rattle.health_planning.proofs.Given.{none_noted}
 use Rattle.health_planning.proofs.Grouped.{target_on}
 use Rattle.health_planning.proofs.Roomy.{can_start}
 use Rattle.health_planning.proofs.grouping.group_all.Goals as goal
@@ -22,6 +23,8 @@ loop-set-init c = record {
   shapes = λ n shape at. at;
   feeders = λ gate early. refl;
   more = omega arith;
+  noted = rw c.requires.none_noted (none_noted c.args.seats.now.items c.requires.none);
+  members_room = c.requires.members_room;
 }
 
 pub loop-set-preserved : goal.loop-set-preserved
@@ -57,6 +60,12 @@ loop-set-preserved c =
       shapes = λ n shape at. o.shapes n shape (i.shapes n shape at);
       feeders = λ gate early. o.feeders gate (omega arith) ∙ i.feeders gate early;
       more = omega arith;
+      noted = o.noted;
+      members_room =
+          let size = o.size in
+          let same = o.members_room in
+          let was = i.members_room in
+          omega arith;
     }
 
 pub returns-clause-all : goal.returns-clause-all
@@ -64,6 +73,11 @@ returns-clause-all c k set named name at names is =
     let b = slice_get_within c.args.refs.now k set at in
     let end = c.loop-set-test.false in
     c.loop-set.invariant.all k set named name (omega arith) at names is
+
+pub group_one-requires-clause-told : goal.group_one-requires-clause-told
+group_one-requires-clause-told c named names =
+    let here = slice_get-get_or c.args.refs.now c.loop-set.set-index (record { zone = 0; slot = 0 }) c.loop-set-test.true in
+    c.loop-set.invariant.sets.checks _ ∙ c.requires.told c.loop-set.set-index _ named here names
 
 pub group_one-requires-clause-room : goal.group_one-requires-clause-room
 group_one-requires-clause-room c =

@@ -1,12 +1,12 @@
 use Rattle.std.proofs.Common.{◌≡◌, ◌≤◌, ◌<◌, ℕ, List, true, length, Some}
-use Rattle.std.specs.Prelude.{slice_get}
+use Rattle.std.specs.Prelude.{slice_get, vec_capacity}
 use Rattle.health_gates.specs.Plan.{KeepsRoom, feeders_in}
 use Rattle.health_gates.specs.declared.plan.Shape.{Shape}
 use Rattle.record_set.specs.declared.sets.Body.TheVariants.{Alias}
 use Rattle.record_set.specs.declared.sets.RecordSet.{RecordSet}
 use Rattle.policy_select.specs.SetRefRecord.{SetRef}
 use Rattle.policy_select.specs.Looking.{Names}
-use Rattle.health_planning.specs.Building.{AreBelow, AreWithin, HasTarget, SameSets}
+use Rattle.health_planning.specs.Building.{AreBelow, AreNoted, AreWithin, HasTarget, SameSets}
 use Rattle.health_planning.specs.Rooms.{CanGroup}
 use Rattle.health_planning.proofs.grouping.group_all.Given as goal
 
@@ -27,4 +27,6 @@ invariant-loop-set l = record {
   feeders : (gate : ℕ) → gate < length l.fn.plan.shapes
       → feeders_in l.plan.links gate ≡ feeders_in l.fn.plan.links gate;
   more : length l.fn.plan.shapes ≤ length l.plan.shapes;
+  noted : AreNoted l.members.items l.seats.items;
+  members_room : length l.seats.items ≤ vec_capacity l.members;
 }

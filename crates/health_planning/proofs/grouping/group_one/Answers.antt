@@ -10,14 +10,19 @@ use Rattle.policy_select.specs.Telling.{evaluates, target_of}
 use Rattle.zone_model.proofs.Among.{among_at}
 use Rattle.policy_select.specs.Looking.{Targets, Watches}
 use Rattle.health_planning.specs.Building.{group_shape, links_to}
-use Rattle.health_planning.specs.Wired.{gates_of, group_seat, plain_among}
+use Rattle.health_planning.specs.Wired.{check_seat, gates_of, group_seat, plain_among}
 use Rattle.health_planning.specs.declared.seats.Seat.{Seat}
 use Rattle.health_planning.proofs.Few.{few_plain}
 use Rattle.health_planning.proofs.Grouped.{feeders_now, stays, within_now}
-use Rattle.health_planning.proofs.Groups.{member_at, members_are, some_gate, told_target}
+use Rattle.health_planning.proofs.Groups.{alias_alone, member_at, members_are, some_gate, told_target}
 use Rattle.health_planning.proofs.ListedOnce.{slot_below, still_at}
 use Rattle.health_planning.proofs.Roomy.{bare, can_more, gate_early, links_fit, members_few, members_own}
 use Rattle.health_planning.proofs.grouping.group_one.Goals as goal
+
+pub returns-then-only-ne0-clause-here : goal.returns-then-only-ne0-clause-here
+returns-then-only-ne0-clause-here c named name names is =
+    let told = ap (λ (l : List Seat). check_seat l c.args.set.slot) c.deref.ensures.value ∙ c.requires.told named names in
+    absurd (c.if-only-ne0.true (c.check_at-only.ensures ∙ told ∙ alias_alone named (ap evaluates is)))
 
 pub returns-then-not-watch-clause-here : goal.returns-then-not-watch-clause-here
 returns-then-not-watch-clause-here c named name names is =
@@ -34,7 +39,7 @@ seat_at-seat-requires c =
     let b = slot_below zones c.args.zones.now.slots c.member-first.result first.p.set c.slots_within.ensures.within first.names in
     let slots = c.requires.slots in
     let within : c.member-first.result.slot < length c.args.seats.now.items = omega arith in
-    let read = ap length c.deref.ensures.value in
+    let read = ap length c.deref-2.ensures.value in
     omega arith
 
 pub returns-then-seat-ne0-clause-here : goal.returns-then-seat-ne0-clause-here
@@ -46,7 +51,7 @@ returns-then-seat-ne0-clause-here c named name names is =
     let target = told_target named name _ is (ap target_of (sym same) ∙ t.2) in
     let are = members_are zones c.find_group-group.result c.args.set.zone c.in-Some-target.target.0 c.in-Some-target.target.1
     c.find_group-group.ensures.zone c.find_group-group.ensures.sets in
-    let read = c.deref.ensures.value in
+    let read = c.deref-2.ensures.value in
     let group_is = sym (c.seat_at-seat.ensures.group ∙ ap (λ (l : List Seat). group_seat l c.member-first.result.slot) read) in
     let gate = some_gate (group_seat c.args.seats.now.items c.member-first.result.slot) (λ e. c.if-seat-ne0.true (sym group_is ∙ e)) in
     rw (target.0, target.1) (record {
@@ -69,19 +74,19 @@ returns-clause-grouped c from base can =
     let seats = c.args.seats.now.items in
     let in_one = among_at members 0 first.p first.at in
     let within : first.p.slot < length seats = omega arith in
-    let read = c.deref.ensures.value in
+    let read = c.deref-2.ensures.value in
     let tested = sym (c.seat_at-seat.ensures.group ∙ ap (λ (l : List Seat). group_seat l c.member-first.result.slot) read) ∙ c.if-seat-ne0.false in
     let empty = ap (group_seat seats) first.slot ∙ tested in
     let are = members_are zones c.find_group-group.result c.args.set.zone c.in-Some-target.target.0 c.in-Some-target.target.1
     c.find_group-group.ensures.zone c.find_group-group.ensures.sets in
-    let plains = c.count_plain-plains.ensures ∙ ap (λ (l : List Seat). plain_among l members) c.deref-2.ensures.value in
+    let plains = c.count_plain-plains.ensures ∙ ap (λ (l : List Seat). plain_among l members) c.deref-3.ensures.value in
     let placed = members_few zones c.find_group-group.result c.args.zones.now.slots c.well_formed-2.ensures c.slots_within.ensures.within in
     let most = c.requires.room.1.1.few in
     let some = few_plain seats members in
     let few : plain_among seats members ≤ 2 ^ 31 = omega arith in
     let own = members_own zones c.find_group-group.result c.well_formed-2.ensures in
-    let links = c.join_members.ensures.links ∙ ap (λ (l : List Link). l ++ links_to c.len-gate.result (gates_of c.deref-3.result.now members))
-    c.push.ensures.links ∙ ap (λ (l : List Seat). c.args.plan.now.links ++ links_to c.len-gate.result (gates_of l members)) c.deref-3.ensures.value in
+    let links = c.join_members.ensures.links ∙ ap (λ (l : List Link). l ++ links_to c.len-gate.result (gates_of c.deref-4.result.now members))
+    c.push.ensures.links ∙ ap (λ (l : List Seat). c.args.plan.now.links ++ links_to c.len-gate.result (gates_of l members)) c.deref-4.ensures.value in
     let shapes = c.join_members.ensures.shapes ∙ c.push.ensures.shapes ∙ ap (λ n. c.args.plan.now.shapes ++ group_shape n ∷ []) plains in
     let gate_is = c.len-gate.ensures in
     let kept = c.join_members.ensures.kept in
@@ -93,7 +98,7 @@ returns-clause-grouped c from base can =
     let same_room = c.push.ensures.links_room in
     can_more zones c.well_formed-2.ensures c.slots_apart.ensures from base seats c.args.plan.now can c.len-gate.result c.args.set.zone
     c.in-Some-target.target.0 c.in-Some-target.target.1 members c.requires.below c.requires.within gate_is are first.p in_one within empty own few
-    c.seat_members.new.seats.items c.seat_members.ensures
+    c.seat_members.new.seats.items c.seat_members.ensures.seated
     c.join_members.new.plan shapes links (record { gates = omega arith; links = omega arith })
 
 pub returns-clause-here : goal.returns-clause-here
@@ -107,12 +112,12 @@ returns-clause-here c named name names is =
     let seats = c.args.seats.now.items in
     let in_one = among_at members 0 first.p first.at in
     let within : first.p.slot < length seats = omega arith in
-    let read = c.deref.ensures.value in
+    let read = c.deref-2.ensures.value in
     let tested = sym (c.seat_at-seat.ensures.group ∙ ap (λ (l : List Seat). group_seat l c.member-first.result.slot) read) ∙ c.if-seat-ne0.false in
     let empty = ap (group_seat seats) first.slot ∙ tested in
     let are = members_are zones c.find_group-group.result c.args.set.zone c.in-Some-target.target.0 c.in-Some-target.target.1
     c.find_group-group.ensures.zone c.find_group-group.ensures.sets in
-    let plains = c.count_plain-plains.ensures ∙ ap (λ (l : List Seat). plain_among l members) c.deref-2.ensures.value in
+    let plains = c.count_plain-plains.ensures ∙ ap (λ (l : List Seat). plain_among l members) c.deref-3.ensures.value in
     let placed = members_few zones c.find_group-group.result c.args.zones.now.slots c.well_formed-2.ensures c.slots_within.ensures.within in
     let most = c.requires.room.1.1.few in
     let some = few_plain seats members in
@@ -126,7 +131,7 @@ returns-clause-here c named name names is =
       slot = first.p.slot;
       first = (first.p, first.at, refl);
       gate = c.len-gate.result;
-      seat = c.seat_members.ensures.each first.p in_one ∙ add-one c.len-gate.result;
+      seat = c.seat_members.ensures.seated.each first.p in_one ∙ add-one c.len-gate.result;
     })
 
 pub returns-clause-goes_on : goal.returns-clause-goes_on
@@ -140,12 +145,12 @@ returns-clause-goes_on c slot gate is =
     let seats = c.args.seats.now.items in
     let in_one = among_at members 0 first.p first.at in
     let within : first.p.slot < length seats = omega arith in
-    let read = c.deref.ensures.value in
+    let read = c.deref-2.ensures.value in
     let tested = sym (c.seat_at-seat.ensures.group ∙ ap (λ (l : List Seat). group_seat l c.member-first.result.slot) read) ∙ c.if-seat-ne0.false in
     let empty = ap (group_seat seats) first.slot ∙ tested in
     let are = members_are zones c.find_group-group.result c.args.set.zone c.in-Some-target.target.0 c.in-Some-target.target.1
     c.find_group-group.ensures.zone c.find_group-group.ensures.sets in
-    let plains = c.count_plain-plains.ensures ∙ ap (λ (l : List Seat). plain_among l members) c.deref-2.ensures.value in
+    let plains = c.count_plain-plains.ensures ∙ ap (λ (l : List Seat). plain_among l members) c.deref-3.ensures.value in
     let placed = members_few zones c.find_group-group.result c.args.zones.now.slots c.well_formed-2.ensures c.slots_within.ensures.within in
     let most = c.requires.room.1.1.few in
     let some = few_plain seats members in
@@ -156,7 +161,7 @@ returns-clause-goes_on c slot gate is =
     c.in-Some-target.target.0 c.in-Some-target.target.1 are
     (bare zones c.well_formed-2.ensures c.slots_apart.ensures c.requires.room.0 c.requires.room.1.0 seats c.args.plan.now c.requires.room.1.1
     c.len-gate.result c.args.set.zone c.in-Some-target.target.0 c.in-Some-target.target.1 members c.requires.below c.requires.within gate_is are
-    first.p in_one within empty own few) first.p in_one few c.seat_members.new.seats.items c.seat_members.ensures slot gate is
+    first.p in_one within empty own few) first.p in_one few c.seat_members.new.seats.items c.seat_members.ensures.seated slot gate is
 
 pub returns-clause-shapes : goal.returns-clause-shapes
 returns-clause-shapes c n shape at = rw (c.join_members.ensures.shapes, c.push.ensures.shapes) (still_at c.args.plan.now.shapes _ shape n at)
@@ -172,18 +177,18 @@ returns-clause-feeders c gate early =
     let seats = c.args.seats.now.items in
     let in_one = among_at members 0 first.p first.at in
     let within : first.p.slot < length seats = omega arith in
-    let read = c.deref.ensures.value in
+    let read = c.deref-2.ensures.value in
     let tested = sym (c.seat_at-seat.ensures.group ∙ ap (λ (l : List Seat). group_seat l c.member-first.result.slot) read) ∙ c.if-seat-ne0.false in
     let empty = ap (group_seat seats) first.slot ∙ tested in
     let are = members_are zones c.find_group-group.result c.args.set.zone c.in-Some-target.target.0 c.in-Some-target.target.1
     c.find_group-group.ensures.zone c.find_group-group.ensures.sets in
-    let plains = c.count_plain-plains.ensures ∙ ap (λ (l : List Seat). plain_among l members) c.deref-2.ensures.value in
+    let plains = c.count_plain-plains.ensures ∙ ap (λ (l : List Seat). plain_among l members) c.deref-3.ensures.value in
     let placed = members_few zones c.find_group-group.result c.args.zones.now.slots c.well_formed-2.ensures c.slots_within.ensures.within in
     let most = c.requires.room.1.1.few in
     let some = few_plain seats members in
     let few : plain_among seats members ≤ 2 ^ 31 = omega arith in
-    let links = c.join_members.ensures.links ∙ ap (λ (l : List Link). l ++ links_to c.len-gate.result (gates_of c.deref-3.result.now members))
-    c.push.ensures.links ∙ ap (λ (l : List Seat). c.args.plan.now.links ++ links_to c.len-gate.result (gates_of l members)) c.deref-3.ensures.value in
+    let links = c.join_members.ensures.links ∙ ap (λ (l : List Link). l ++ links_to c.len-gate.result (gates_of c.deref-4.result.now members))
+    c.push.ensures.links ∙ ap (λ (l : List Seat). c.args.plan.now.links ++ links_to c.len-gate.result (gates_of l members)) c.deref-4.ensures.value in
     let shapes = c.join_members.ensures.shapes ∙ c.push.ensures.shapes ∙ ap (λ n. c.args.plan.now.shapes ++ group_shape n ∷ []) plains in
     let gate_is = c.len-gate.ensures in
     rw links (feeders_now seats c.args.plan.now.shapes c.args.plan.now.links c.len-gate.result members c.requires.below c.requires.within gate_is gate early)
@@ -199,18 +204,18 @@ returns-clause-within c =
     let seats = c.args.seats.now.items in
     let in_one = among_at members 0 first.p first.at in
     let within : first.p.slot < length seats = omega arith in
-    let read = c.deref.ensures.value in
+    let read = c.deref-2.ensures.value in
     let tested = sym (c.seat_at-seat.ensures.group ∙ ap (λ (l : List Seat). group_seat l c.member-first.result.slot) read) ∙ c.if-seat-ne0.false in
     let empty = ap (group_seat seats) first.slot ∙ tested in
     let are = members_are zones c.find_group-group.result c.args.set.zone c.in-Some-target.target.0 c.in-Some-target.target.1
     c.find_group-group.ensures.zone c.find_group-group.ensures.sets in
-    let plains = c.count_plain-plains.ensures ∙ ap (λ (l : List Seat). plain_among l members) c.deref-2.ensures.value in
+    let plains = c.count_plain-plains.ensures ∙ ap (λ (l : List Seat). plain_among l members) c.deref-3.ensures.value in
     let placed = members_few zones c.find_group-group.result c.args.zones.now.slots c.well_formed-2.ensures c.slots_within.ensures.within in
     let most = c.requires.room.1.1.few in
     let some = few_plain seats members in
     let few : plain_among seats members ≤ 2 ^ 31 = omega arith in
-    let links = c.join_members.ensures.links ∙ ap (λ (l : List Link). l ++ links_to c.len-gate.result (gates_of c.deref-3.result.now members))
-    c.push.ensures.links ∙ ap (λ (l : List Seat). c.args.plan.now.links ++ links_to c.len-gate.result (gates_of l members)) c.deref-3.ensures.value in
+    let links = c.join_members.ensures.links ∙ ap (λ (l : List Link). l ++ links_to c.len-gate.result (gates_of c.deref-4.result.now members))
+    c.push.ensures.links ∙ ap (λ (l : List Seat). c.args.plan.now.links ++ links_to c.len-gate.result (gates_of l members)) c.deref-4.ensures.value in
     let shapes = c.join_members.ensures.shapes ∙ c.push.ensures.shapes ∙ ap (λ n. c.args.plan.now.shapes ++ group_shape n ∷ []) plains in
     let gate_is = c.len-gate.ensures in
     rw (shapes, links) (within_now seats c.args.plan.now.shapes c.args.plan.now.links c.len-gate.result members c.requires.below c.requires.within gate_is)
@@ -226,12 +231,12 @@ overflow_cast-shape c =
     let seats = c.args.seats.now.items in
     let in_one = among_at members 0 first.p first.at in
     let within : first.p.slot < length seats = omega arith in
-    let read = c.deref.ensures.value in
+    let read = c.deref-2.ensures.value in
     let tested = sym (c.seat_at-seat.ensures.group ∙ ap (λ (l : List Seat). group_seat l c.member-first.result.slot) read) ∙ c.if-seat-ne0.false in
     let empty = ap (group_seat seats) first.slot ∙ tested in
     let are = members_are zones c.find_group-group.result c.args.set.zone c.in-Some-target.target.0 c.in-Some-target.target.1
     c.find_group-group.ensures.zone c.find_group-group.ensures.sets in
-    let plains = c.count_plain-plains.ensures ∙ ap (λ (l : List Seat). plain_among l members) c.deref-2.ensures.value in
+    let plains = c.count_plain-plains.ensures ∙ ap (λ (l : List Seat). plain_among l members) c.deref-3.ensures.value in
     let placed = members_few zones c.find_group-group.result c.args.zones.now.slots c.well_formed-2.ensures c.slots_within.ensures.within in
     let most = c.requires.room.1.1.few in
     let some = few_plain seats members in
@@ -249,12 +254,12 @@ overflow_cast-gate c =
     let seats = c.args.seats.now.items in
     let in_one = among_at members 0 first.p first.at in
     let within : first.p.slot < length seats = omega arith in
-    let read = c.deref.ensures.value in
+    let read = c.deref-2.ensures.value in
     let tested = sym (c.seat_at-seat.ensures.group ∙ ap (λ (l : List Seat). group_seat l c.member-first.result.slot) read) ∙ c.if-seat-ne0.false in
     let empty = ap (group_seat seats) first.slot ∙ tested in
     let are = members_are zones c.find_group-group.result c.args.set.zone c.in-Some-target.target.0 c.in-Some-target.target.1
     c.find_group-group.ensures.zone c.find_group-group.ensures.sets in
-    let plains = c.count_plain-plains.ensures ∙ ap (λ (l : List Seat). plain_among l members) c.deref-2.ensures.value in
+    let plains = c.count_plain-plains.ensures ∙ ap (λ (l : List Seat). plain_among l members) c.deref-3.ensures.value in
     let placed = members_few zones c.find_group-group.result c.args.zones.now.slots c.well_formed-2.ensures c.slots_within.ensures.within in
     let most = c.requires.room.1.1.few in
     let some = few_plain seats members in
@@ -277,12 +282,12 @@ push-requires c =
     let seats = c.args.seats.now.items in
     let in_one = among_at members 0 first.p first.at in
     let within : first.p.slot < length seats = omega arith in
-    let read = c.deref.ensures.value in
+    let read = c.deref-2.ensures.value in
     let tested = sym (c.seat_at-seat.ensures.group ∙ ap (λ (l : List Seat). group_seat l c.member-first.result.slot) read) ∙ c.if-seat-ne0.false in
     let empty = ap (group_seat seats) first.slot ∙ tested in
     let are = members_are zones c.find_group-group.result c.args.set.zone c.in-Some-target.target.0 c.in-Some-target.target.1
     c.find_group-group.ensures.zone c.find_group-group.ensures.sets in
-    let plains = c.count_plain-plains.ensures ∙ ap (λ (l : List Seat). plain_among l members) c.deref-2.ensures.value in
+    let plains = c.count_plain-plains.ensures ∙ ap (λ (l : List Seat). plain_among l members) c.deref-3.ensures.value in
     let placed = members_few zones c.find_group-group.result c.args.zones.now.slots c.well_formed-2.ensures c.slots_within.ensures.within in
     let most = c.requires.room.1.1.few in
     let some = few_plain seats members in
@@ -305,12 +310,12 @@ join_members-requires-clause-room c =
     let seats = c.args.seats.now.items in
     let in_one = among_at members 0 first.p first.at in
     let within : first.p.slot < length seats = omega arith in
-    let read = c.deref.ensures.value in
+    let read = c.deref-2.ensures.value in
     let tested = sym (c.seat_at-seat.ensures.group ∙ ap (λ (l : List Seat). group_seat l c.member-first.result.slot) read) ∙ c.if-seat-ne0.false in
     let empty = ap (group_seat seats) first.slot ∙ tested in
     let are = members_are zones c.find_group-group.result c.args.set.zone c.in-Some-target.target.0 c.in-Some-target.target.1
     c.find_group-group.ensures.zone c.find_group-group.ensures.sets in
-    let plains = c.count_plain-plains.ensures ∙ ap (λ (l : List Seat). plain_among l members) c.deref-2.ensures.value in
+    let plains = c.count_plain-plains.ensures ∙ ap (λ (l : List Seat). plain_among l members) c.deref-3.ensures.value in
     let placed = members_few zones c.find_group-group.result c.args.zones.now.slots c.well_formed-2.ensures c.slots_within.ensures.within in
     let most = c.requires.room.1.1.few in
     let some = few_plain seats members in
@@ -319,7 +324,7 @@ join_members-requires-clause-room c =
     let fit = links_fit zones c.well_formed-2.ensures c.slots_apart.ensures c.requires.room.0 c.requires.room.1.0 seats c.args.plan.now
     c.requires.room.1.1 (length c.args.plan.now.shapes) c.args.set.zone c.in-Some-target.target.0 c.in-Some-target.target.1 members c.requires.below
     c.requires.within refl are first.p in_one within empty own few in
-    let same = ap (λ (l : List Seat). length (gates_of l members)) c.deref-3.ensures.value in
+    let same = ap (λ (l : List Seat). length (gates_of l members)) c.deref-4.ensures.value in
     let room = c.push.ensures.links_room in
     omega arith
 
@@ -334,12 +339,12 @@ overflow_add-gate c =
     let seats = c.args.seats.now.items in
     let in_one = among_at members 0 first.p first.at in
     let within : first.p.slot < length seats = omega arith in
-    let read = c.deref.ensures.value in
+    let read = c.deref-2.ensures.value in
     let tested = sym (c.seat_at-seat.ensures.group ∙ ap (λ (l : List Seat). group_seat l c.member-first.result.slot) read) ∙ c.if-seat-ne0.false in
     let empty = ap (group_seat seats) first.slot ∙ tested in
     let are = members_are zones c.find_group-group.result c.args.set.zone c.in-Some-target.target.0 c.in-Some-target.target.1
     c.find_group-group.ensures.zone c.find_group-group.ensures.sets in
-    let plains = c.count_plain-plains.ensures ∙ ap (λ (l : List Seat). plain_among l members) c.deref-2.ensures.value in
+    let plains = c.count_plain-plains.ensures ∙ ap (λ (l : List Seat). plain_among l members) c.deref-3.ensures.value in
     let placed = members_few zones c.find_group-group.result c.args.zones.now.slots c.well_formed-2.ensures c.slots_within.ensures.within in
     let most = c.requires.room.1.1.few in
     let some = few_plain seats members in

@@ -1,8 +1,8 @@
 use Rattle.std.proofs.Common.{◌≡◌, ◌<◌, ℕ, Some, length}
-use Rattle.std.specs.Prelude.{slice_get}
+use Rattle.std.specs.Prelude.{slice_get, vec_capacity}
 use Rattle.policy_select.specs.Groups.{members_of}
 use Rattle.zone_model.specs.Placed.{Placed}
-use Rattle.health_planning.specs.Building.{SameSets}
+use Rattle.health_planning.specs.Building.{AreNoted, SameSets}
 use Rattle.health_planning.specs.Wired.{HasSlot, group_seat}
 use Rattle.health_planning.proofs.grouping.seat_members.Given as goal
 
@@ -14,4 +14,6 @@ invariant-loop-i l = record {
       → group_seat l.seats.items p.slot ≡ l.gate;
   others : (slot : ℕ) → (HasSlot (members_of l.zones.zones l.group) slot → ⊥)
       → group_seat l.seats.items slot ≡ group_seat l.fn.seats.items slot;
+  noted : AreNoted l.members.items l.seats.items;
+  room : vec_capacity l.members ≡ vec_capacity l.fn.members;
 }

@@ -1,13 +1,36 @@
-use Rattle.std.proofs.Common.{◌++◌, [], List, ℕ, Option, map, append_assoc, ap, refl, sym, ◌∙◌}
+use Rattle.std.proofs.Common.{◌++◌, [], List, ℕ, Option, map, append_assoc, ap, refl, sym, ◌∙◌, append-nil, Some, ◌≡◌}
 use Rattle.std.specs.Option.{option_to_list}
 use Rattle.health_gates.specs.declared.plan.Link.{Link}
 use Rattle.health_planning.specs.Building.{links_to}
 use Rattle.health_planning.specs.Wired.{place_of, with_gate}
-use Rattle.health_planning.proofs.Groups.{links_more}
+use Rattle.health_planning.proofs.Groups.{alone_told, links_more}
+use Rattle.health_planning.proofs.Joined.{no_target}
 use Rattle.health_planning.proofs.joining.join_set.Goals as goal
 
 pub join_check-requires-clause-there : goal.join_check-requires-clause-there
 join_check-requires-clause-there c id is =
+    let named = c.requires.named in
+    let told = c.check_at-only.ensures ∙ c.requires.told named.0 named.1 in
+    let alone = alone_told named.0 (λ none. c.if-only-ne0.true (told ∙ none)) in
+    c.requires.there named.0 id named.1 (alone.1 ∙ ap Some (sym told) ∙ is)
+
+pub returns-then-only-ne0-clause-links : goal.returns-then-only-ne0-clause-links
+returns-then-only-ne0-clause-links c named names =
+    let told = c.check_at-only.ensures ∙ c.requires.told named names in
+    let alone = alone_told named (λ none. c.if-only-ne0.true (told ∙ none)) in
+    let its : named.check ≡ Some c.check_at-only.result = alone.1 ∙ ap Some (sym told) in
+    let checks = map (place_of c.args.ids.now) (option_to_list named.check) in (
+      checks ++ [],
+      (
+        ([], (no_target c.args.zones.now.zones c.args.seats.now c.args.set.zone named.rtype named.body alone.0, refl)),
+        c.join_check.ensures.links
+            ∙ ap (λ (o : Option ℕ). c.args.plan.now.links ++ links_to c.args.gate (map (place_of c.args.ids.now) (option_to_list o))) (sym its)
+            ∙ ap (λ (l : List ℕ). c.args.plan.now.links ++ links_to c.args.gate l) (sym (append-nil checks)),
+      ),
+    )
+
+pub join_check-requires-2-clause-there : goal.join_check-requires-2-clause-there
+join_check-requires-2-clause-there c id is =
     let named = c.requires.named in
     c.requires.there named.0 id named.1 (sym (c.check_of.ensures named.0 named.1) ∙ is)
 
@@ -16,7 +39,7 @@ returns-clause-links c named names =
     let target = with_gate c.target_seat-target.result [] in
     let checks = map (place_of c.args.ids.now) (option_to_list named.check) in
     let check = c.check_of.ensures named names in
-    let first = c.join_check.ensures.links ∙ ap (λ (o : Option ℕ). c.args.plan.now.links ++ links_to c.args.gate
+    let first = c.join_check-2.ensures.links ∙ ap (λ (o : Option ℕ). c.args.plan.now.links ++ links_to c.args.gate
     (map (place_of c.args.ids.now) (option_to_list o))) check in (
       checks ++ target,
       (

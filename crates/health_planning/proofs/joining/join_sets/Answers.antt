@@ -19,6 +19,10 @@ pub join_set-requires-clause-named : goal.join_set-requires-clause-named
 join_set-requires-clause-named c =
     c.requires.named c.loop-k.k _ (slice_get-get_or c.args.refs.now c.loop-k.k (record { zone = 0; slot = 0 }) c.loop-k-test.true)
 
+pub join_set-requires-clause-told : goal.join_set-requires-clause-told
+join_set-requires-clause-told c named names =
+    c.requires.told c.loop-k.k _ named (slice_get-get_or c.args.refs.now c.loop-k.k (record { zone = 0; slot = 0 }) c.loop-k-test.true) names
+
 pub join_set-requires-clause-there : goal.join_set-requires-clause-there
 join_set-requires-clause-there c named id names is = c.requires.there _ named id names is
 

@@ -1,13 +1,18 @@
 use Rattle.std.proofs.Common.{◌≡◌, ◌++◌, ℕ, List, length, length-append, arith, ap, sym, ◌∙◌}
-use Rattle.std.proofs.lemmas.List.{length-replicate}
 use mathlib.Core.Path.{subst}
 use Rattle.health_gates.specs.declared.plan.Link.{Link}
 use Rattle.health_gates.specs.declared.plan.Shape.{Shape}
-use Rattle.health_planning.specs.Building.{AreListed, IsSmallAt, check_links, check_shapes, no_seat}
+use Rattle.policy_select.specs.SetRefRecord.{SetRef}
+use Rattle.health_planning.specs.Building.{AreAsked, AreListed, IsSmallAt, check_links, check_shapes}
 use Rattle.health_planning.specs.Rooms.{children_among}
+use Rattle.health_planning.specs.Wired.{check_seat, only_check}
+use Rattle.health_planning.specs.declared.seats.Seat.{Seat}
+use Rattle.policy_select.proofs.Members.{one_named}
 use Rattle.health_planning.proofs.Built.{checks_there, children_placed, is_built, links_early, listed_below, none_listed, shaped_at, small_at, targets_there}
 use Rattle.health_planning.proofs.Few.{check_links_long, children_few, few_grouped, few_listed}
+use Rattle.health_planning.proofs.Given.{all_given}
 use Rattle.health_planning.proofs.Grouped.{still_within}
+use Rattle.health_planning.proofs.Places.{ids_apart}
 use Rattle.health_planning.proofs.Roomy.{joined_few, listed_apart}
 use Rattle.health_planning.proofs.Wiring.{ids_long}
 use Rattle.health_planning.proofs.planning.plan_all.Goals as goal
@@ -17,12 +22,20 @@ join_checks-requires-clause-there c =
     rw (c.as_slice-list.ensures.checks, c.requires.ids)
     (children_placed c.args.checks.now.checks c.as_slice-list.ensures.sound)
 
+pub join_checks-requires-clause-apart : goal.join_checks-requires-clause-apart
+join_checks-requires-clause-apart c =
+    rw c.requires.ids (ids_apart c.args.checks.now.checks.list c.as_slice-list.ensures.sound.rising)
+
+pub join_sets-requires-clause-apart : goal.join_sets-requires-clause-apart
+join_sets-requires-clause-apart c =
+    rw c.requires.ids (ids_apart c.args.checks.now.checks.list c.as_slice-list.ensures.sound.rising)
+
 pub list_asked-requires-clause-listed : goal.list_asked-requires-clause-listed
 list_asked-requires-clause-listed c =
     let size = c.add_checks.ensures.size in
-    rw (c.requires.no_refs, c.requires.no_seats, c.join_checks.ensures.shapes) (
+    rw (c.requires.no_refs, c.join_checks.ensures.shapes) (
       length c.as_slice-list.result.now,
-      none_listed c.args.zones.now.zones c.args.zones.now.slots (length c.as_slice-list.result.now)
+      none_listed c.args.zones.now.zones c.args.zones.now.slots c.args.seats.now.items c.requires.no_seats (length c.as_slice-list.result.now)
           c.add_checks.new.plan.shapes size,
     )
 
@@ -31,8 +44,8 @@ group_all-requires-clause-below c =
     let list = c.args.checks.now.checks.list in
     let size = c.add_checks.ensures.size ∙ ap length c.as_slice-list.ensures.checks in
     let start : AreListed c.args.zones.now.zones (length list) c.args.refs.now.items c.args.seats.now.items c.join_checks.new.plan.shapes =
-    rw (c.requires.no_refs, c.requires.no_seats, c.join_checks.ensures.shapes)
-    (none_listed c.args.zones.now.zones c.args.zones.now.slots (length list) c.add_checks.new.plan.shapes size) in
+    rw (c.requires.no_refs, c.join_checks.ensures.shapes)
+    (none_listed c.args.zones.now.zones c.args.zones.now.slots c.args.seats.now.items c.requires.no_seats (length list) c.add_checks.new.plan.shapes size) in
     listed_below c.args.zones.now.zones (length list) c.list_asked.new.refs.items c.list_asked.new.seats.items c.list_asked.new.plan.shapes
     (c.list_asked.ensures.listed (length list) start)
 
@@ -41,8 +54,8 @@ group_all-requires-clause-none c =
     let list = c.args.checks.now.checks.list in
     let size = c.add_checks.ensures.size ∙ ap length c.as_slice-list.ensures.checks in
     let start : AreListed c.args.zones.now.zones (length list) c.args.refs.now.items c.args.seats.now.items c.join_checks.new.plan.shapes =
-    rw (c.requires.no_refs, c.requires.no_seats, c.join_checks.ensures.shapes)
-    (none_listed c.args.zones.now.zones c.args.zones.now.slots (length list) c.add_checks.new.plan.shapes size) in
+    rw (c.requires.no_refs, c.join_checks.ensures.shapes)
+    (none_listed c.args.zones.now.zones c.args.zones.now.slots c.args.seats.now.items c.requires.no_seats (length list) c.add_checks.new.plan.shapes size) in
     (c.list_asked.ensures.listed (length list) start).no_group
 
 pub group_all-requires-clause-within : goal.group_all-requires-clause-within
@@ -51,8 +64,8 @@ group_all-requires-clause-within c =
     let list = checks.list in
     let size = c.add_checks.ensures.size ∙ ap length c.as_slice-list.ensures.checks in
     let start : AreListed c.args.zones.now.zones (length list) c.args.refs.now.items c.args.seats.now.items c.join_checks.new.plan.shapes =
-    rw (c.requires.no_refs, c.requires.no_seats, c.join_checks.ensures.shapes)
-    (none_listed c.args.zones.now.zones c.args.zones.now.slots (length list) c.add_checks.new.plan.shapes size) in
+    rw (c.requires.no_refs, c.join_checks.ensures.shapes)
+    (none_listed c.args.zones.now.zones c.args.zones.now.slots c.args.seats.now.items c.requires.no_seats (length list) c.add_checks.new.plan.shapes size) in
     let listed = (c.list_asked.ensures.listed (length list) start).size in
     let links : c.list_asked.new.plan.links ≡ check_links c.args.ids.now 0 c.as_slice-list.result.now =
     c.list_asked.ensures.links ∙ c.join_checks.ensures.links
@@ -67,14 +80,38 @@ group_all-requires-clause-targets c = targets_there c.args.zones.now.zones c.arg
 pub join_sets-requires-clause-targets : goal.join_sets-requires-clause-targets
 join_sets-requires-clause-targets c = targets_there c.args.zones.now.zones c.args.checks.now.checks c.requires.sound
 
+pub group_all-requires-clause-told : goal.group_all-requires-clause-told
+group_all-requires-clause-told c k set named at names =
+    let zones = c.args.zones.now.zones in
+    let list = c.args.checks.now.checks.list in
+    let size = c.add_checks.ensures.size ∙ ap length c.as_slice-list.ensures.checks in
+    let start : AreListed c.args.zones.now.zones (length list) c.args.refs.now.items c.args.seats.now.items c.join_checks.new.plan.shapes =
+    rw (c.requires.no_refs, c.join_checks.ensures.shapes)
+    (none_listed c.args.zones.now.zones c.args.zones.now.slots c.args.seats.now.items c.requires.no_seats (length list) c.add_checks.new.plan.shapes size) in
+    let g = (c.list_asked.ensures.listed (length list) start).gates k set (rw c.deref-2.ensures.value at at) in
+    g.told ∙ ap only_check (one_named zones set g.named named c.well_formed-2.ensures g.names names)
+
+pub join_sets-requires-clause-told : goal.join_sets-requires-clause-told
+join_sets-requires-clause-told c k set named at names =
+    let zones = c.args.zones.now.zones in
+    let list = c.args.checks.now.checks.list in
+    let size = c.add_checks.ensures.size ∙ ap length c.as_slice-list.ensures.checks in
+    let start : AreListed c.args.zones.now.zones (length list) c.args.refs.now.items c.args.seats.now.items c.join_checks.new.plan.shapes =
+    rw (c.requires.no_refs, c.join_checks.ensures.shapes)
+    (none_listed c.args.zones.now.zones c.args.zones.now.slots c.args.seats.now.items c.requires.no_seats (length list) c.add_checks.new.plan.shapes size) in
+    let g = (c.list_asked.ensures.listed (length list) start).gates k set (rw c.deref-3.ensures.value at at) in
+    ap (λ (l : List Seat). check_seat l set.slot) c.deref-4.ensures.value
+    ∙ c.group_all.ensures.sets.checks set.slot
+    ∙ g.told ∙ ap only_check (one_named zones set g.named named c.well_formed-2.ensures g.names names)
+
 pub join_sets-requires-clause-named : goal.join_sets-requires-clause-named
 join_sets-requires-clause-named c k set at =
     let list = c.args.checks.now.checks.list in
     let size = c.add_checks.ensures.size ∙ ap length c.as_slice-list.ensures.checks in
     let start : AreListed c.args.zones.now.zones (length list) c.args.refs.now.items c.args.seats.now.items c.join_checks.new.plan.shapes =
-    rw (c.requires.no_refs, c.requires.no_seats, c.join_checks.ensures.shapes)
-    (none_listed c.args.zones.now.zones c.args.zones.now.slots (length list) c.add_checks.new.plan.shapes size) in
-    let g = (c.list_asked.ensures.listed (length list) start).gates k set (rw c.deref-2.ensures.value at at) in
+    rw (c.requires.no_refs, c.join_checks.ensures.shapes)
+    (none_listed c.args.zones.now.zones c.args.zones.now.slots c.args.seats.now.items c.requires.no_seats (length list) c.add_checks.new.plan.shapes size) in
+    let g = (c.list_asked.ensures.listed (length list) start).gates k set (rw c.deref-3.ensures.value at at) in
     (g.named, g.names)
 
 pub join_sets-requires-clause-there : goal.join_sets-requires-clause-there
@@ -90,8 +127,8 @@ returns-clause-built c =
     let j = c.join_sets.ensures in
     let size = c.add_checks.ensures.size ∙ ap length c.as_slice-list.ensures.checks in
     let start : AreListed zones (length list) c.args.refs.now.items c.args.seats.now.items c.join_checks.new.plan.shapes =
-    rw (c.requires.no_refs, c.requires.no_seats, c.join_checks.ensures.shapes)
-    (none_listed zones c.args.zones.now.slots (length list) c.add_checks.new.plan.shapes size) in
+    rw (c.requires.no_refs, c.join_checks.ensures.shapes)
+    (none_listed zones c.args.zones.now.slots c.args.seats.now.items c.requires.no_seats (length list) c.add_checks.new.plan.shapes size) in
     let links : c.list_asked.new.plan.links ≡ check_links c.args.ids.now 0 c.as_slice-list.result.now =
     l.links ∙ c.join_checks.ensures.links
     ∙ ap (λ (x : List Link). x ++ check_links c.args.ids.now 0 c.as_slice-list.result.now) (c.add_checks.ensures.links ∙ c.requires.no_links) in
@@ -99,10 +136,28 @@ returns-clause-built c =
     c.list_asked.new.plan.shapes c.group_all.new.plan.shapes c.list_asked.new.plan.links c.group_all.new.plan.links c.join_sets.new.plan.links
     (children_placed checks c.as_slice-list.ensures.sound)
     (links ∙ ap (λ (x : List ℕ). check_links x 0 c.as_slice-list.result.now) c.requires.ids ∙ ap (check_links _ 0) c.as_slice-list.ensures.checks)
-    (l.listed (length list) start) g.grouped.grouped (rw c.deref.ensures.value at g.all) g.sets g.shapes g.feeders g.more g.within
-    (rw (c.requires.ids, c.deref-2.ensures.value, c.deref-3.ensures.value) at j.joined)
-    (rw (c.requires.ids, c.deref-2.ensures.value) at j.others)
-    (rw (c.requires.ids, c.deref-2.ensures.value, c.deref-3.ensures.value) at j.within))
+    (l.listed (length list) start) g.grouped.grouped (rw c.deref-2.ensures.value at g.all) g.sets g.shapes g.feeders g.more g.within
+    (rw (c.requires.ids, c.deref-3.ensures.value, c.deref-4.ensures.value) at j.joined)
+    (rw (c.requires.ids, c.deref-3.ensures.value) at j.others)
+    (rw (c.requires.ids, c.deref-3.ensures.value, c.deref-4.ensures.value) at j.within))
+
+pub returns-clause-given : goal.returns-clause-given
+returns-clause-given c =
+    all_given c.args.zones.now.zones c.args.checks.now.checks.list c.list_asked.new.refs.items c.group_all.new.members.items c.group_all.new.seats.items
+    c.join_sets.new.plan.shapes c.join_sets.new.plan.links (returns-clause-built c) c.group_all.ensures.noted
+
+pub returns-clause-all : goal.returns-clause-all
+returns-clause-all c asked =
+    c.list_asked.ensures.all
+    (subst (λ (l : List SetRef). AreAsked c.args.zones.now.zones c.args.whole l c.args.came.now) (sym c.deref.ensures.value) asked)
+
+pub group_all-requires-clause-members_room : goal.group_all-requires-clause-members_room
+group_all-requires-clause-members_room c =
+    let seats = c.list_asked.ensures.size in
+    let long = c.requires.no_seats.size in
+    let room = c.requires.room.known_room in
+    let cleared = c.clear.ensures.capacity in
+    omega arith
 
 pub returns-clause-checks : goal.returns-clause-checks
 returns-clause-checks c reports are place id check at =
@@ -150,7 +205,7 @@ join_checks-requires-clause-room c =
     let no_links = ap length c.requires.no_links in
     let children = children_few list sound.bounded in
     let same_children = ap children_among c.as_slice-list.ensures.checks in
-    let long_seats = ap length c.requires.no_seats ∙ length-replicate c.args.zones.now.slots no_seat in
+    let long_seats = c.requires.no_seats.size in
     let no_refs = ap length c.requires.no_refs in
     let added = c.add_checks.ensures.size in
     let added_gates = c.add_checks.ensures.kept.gates in
@@ -173,7 +228,7 @@ list_asked-requires-clause-room c =
     let no_links = ap length c.requires.no_links in
     let children = children_few list sound.bounded in
     let same_children = ap children_among c.as_slice-list.ensures.checks in
-    let long_seats = ap length c.requires.no_seats ∙ length-replicate c.args.zones.now.slots no_seat in
+    let long_seats = c.requires.no_seats.size in
     let no_refs = ap length c.requires.no_refs in
     let added = c.add_checks.ensures.size in
     let added_gates = c.add_checks.ensures.kept.gates in
@@ -203,7 +258,7 @@ group_all-requires-clause-apart c =
     let no_links = ap length c.requires.no_links in
     let children = children_few list sound.bounded in
     let same_children = ap children_among c.as_slice-list.ensures.checks in
-    let long_seats = ap length c.requires.no_seats ∙ length-replicate c.args.zones.now.slots no_seat in
+    let long_seats = c.requires.no_seats.size in
     let no_refs = ap length c.requires.no_refs in
     let added = c.add_checks.ensures.size in
     let added_gates = c.add_checks.ensures.kept.gates in
@@ -216,8 +271,8 @@ group_all-requires-clause-apart c =
     (check_links c.args.ids.now 0 c.as_slice-list.result.now) in
     let joined_long = check_links_long c.args.ids.now 0 c.as_slice-list.result.now in
     let start : AreListed c.args.zones.now.zones (length list) c.args.refs.now.items c.args.seats.now.items c.join_checks.new.plan.shapes =
-    rw (c.requires.no_refs, c.requires.no_seats, c.join_checks.ensures.shapes)
-    (none_listed c.args.zones.now.zones c.args.zones.now.slots (length list) c.add_checks.new.plan.shapes (added ∙ as_list)) in
+    rw (c.requires.no_refs, c.join_checks.ensures.shapes)
+    (none_listed c.args.zones.now.zones c.args.zones.now.slots c.args.seats.now.items c.requires.no_seats (length list) c.add_checks.new.plan.shapes (added ∙ as_list)) in
     let is_listed = c.list_asked.ensures.listed (length list) start in
     let listed_size = is_listed.size in
     let listed_few = few_listed c.args.zones.now.zones (length list) c.list_asked.new.refs.items c.list_asked.new.seats.items c.list_asked.new.plan.shapes
@@ -243,7 +298,7 @@ group_all-requires-clause-few c =
     let no_links = ap length c.requires.no_links in
     let children = children_few list sound.bounded in
     let same_children = ap children_among c.as_slice-list.ensures.checks in
-    let long_seats = ap length c.requires.no_seats ∙ length-replicate c.args.zones.now.slots no_seat in
+    let long_seats = c.requires.no_seats.size in
     let no_refs = ap length c.requires.no_refs in
     let added = c.add_checks.ensures.size in
     let added_gates = c.add_checks.ensures.kept.gates in
@@ -256,8 +311,8 @@ group_all-requires-clause-few c =
     (check_links c.args.ids.now 0 c.as_slice-list.result.now) in
     let joined_long = check_links_long c.args.ids.now 0 c.as_slice-list.result.now in
     let start : AreListed c.args.zones.now.zones (length list) c.args.refs.now.items c.args.seats.now.items c.join_checks.new.plan.shapes =
-    rw (c.requires.no_refs, c.requires.no_seats, c.join_checks.ensures.shapes)
-    (none_listed c.args.zones.now.zones c.args.zones.now.slots (length list) c.add_checks.new.plan.shapes (added ∙ as_list)) in
+    rw (c.requires.no_refs, c.join_checks.ensures.shapes)
+    (none_listed c.args.zones.now.zones c.args.zones.now.slots c.args.seats.now.items c.requires.no_seats (length list) c.add_checks.new.plan.shapes (added ∙ as_list)) in
     let is_listed = c.list_asked.ensures.listed (length list) start in
     let listed_size = is_listed.size in
     let listed_few = few_listed c.args.zones.now.zones (length list) c.list_asked.new.refs.items c.list_asked.new.seats.items c.list_asked.new.plan.shapes
@@ -283,7 +338,7 @@ group_all-requires-clause-room c =
     let no_links = ap length c.requires.no_links in
     let children = children_few list sound.bounded in
     let same_children = ap children_among c.as_slice-list.ensures.checks in
-    let long_seats = ap length c.requires.no_seats ∙ length-replicate c.args.zones.now.slots no_seat in
+    let long_seats = c.requires.no_seats.size in
     let no_refs = ap length c.requires.no_refs in
     let added = c.add_checks.ensures.size in
     let added_gates = c.add_checks.ensures.kept.gates in
@@ -296,8 +351,8 @@ group_all-requires-clause-room c =
     (check_links c.args.ids.now 0 c.as_slice-list.result.now) in
     let joined_long = check_links_long c.args.ids.now 0 c.as_slice-list.result.now in
     let start : AreListed c.args.zones.now.zones (length list) c.args.refs.now.items c.args.seats.now.items c.join_checks.new.plan.shapes =
-    rw (c.requires.no_refs, c.requires.no_seats, c.join_checks.ensures.shapes)
-    (none_listed c.args.zones.now.zones c.args.zones.now.slots (length list) c.add_checks.new.plan.shapes (added ∙ as_list)) in
+    rw (c.requires.no_refs, c.join_checks.ensures.shapes)
+    (none_listed c.args.zones.now.zones c.args.zones.now.slots c.args.seats.now.items c.requires.no_seats (length list) c.add_checks.new.plan.shapes (added ∙ as_list)) in
     let is_listed = c.list_asked.ensures.listed (length list) start in
     let listed_size = is_listed.size in
     let listed_few = few_listed c.args.zones.now.zones (length list) c.list_asked.new.refs.items c.list_asked.new.seats.items c.list_asked.new.plan.shapes
@@ -323,7 +378,7 @@ group_all-requires-clause-links_room c =
     let no_links = ap length c.requires.no_links in
     let children = children_few list sound.bounded in
     let same_children = ap children_among c.as_slice-list.ensures.checks in
-    let long_seats = ap length c.requires.no_seats ∙ length-replicate c.args.zones.now.slots no_seat in
+    let long_seats = c.requires.no_seats.size in
     let no_refs = ap length c.requires.no_refs in
     let added = c.add_checks.ensures.size in
     let added_gates = c.add_checks.ensures.kept.gates in
@@ -336,8 +391,8 @@ group_all-requires-clause-links_room c =
     (check_links c.args.ids.now 0 c.as_slice-list.result.now) in
     let joined_long = check_links_long c.args.ids.now 0 c.as_slice-list.result.now in
     let start : AreListed c.args.zones.now.zones (length list) c.args.refs.now.items c.args.seats.now.items c.join_checks.new.plan.shapes =
-    rw (c.requires.no_refs, c.requires.no_seats, c.join_checks.ensures.shapes)
-    (none_listed c.args.zones.now.zones c.args.zones.now.slots (length list) c.add_checks.new.plan.shapes (added ∙ as_list)) in
+    rw (c.requires.no_refs, c.join_checks.ensures.shapes)
+    (none_listed c.args.zones.now.zones c.args.zones.now.slots c.args.seats.now.items c.requires.no_seats (length list) c.add_checks.new.plan.shapes (added ∙ as_list)) in
     let is_listed = c.list_asked.ensures.listed (length list) start in
     let listed_size = is_listed.size in
     let listed_few = few_listed c.args.zones.now.zones (length list) c.list_asked.new.refs.items c.list_asked.new.seats.items c.list_asked.new.plan.shapes
@@ -363,7 +418,7 @@ join_sets-requires-clause-few_sets c =
     let no_links = ap length c.requires.no_links in
     let children = children_few list sound.bounded in
     let same_children = ap children_among c.as_slice-list.ensures.checks in
-    let long_seats = ap length c.requires.no_seats ∙ length-replicate c.args.zones.now.slots no_seat in
+    let long_seats = c.requires.no_seats.size in
     let no_refs = ap length c.requires.no_refs in
     let added = c.add_checks.ensures.size in
     let added_gates = c.add_checks.ensures.kept.gates in
@@ -376,8 +431,8 @@ join_sets-requires-clause-few_sets c =
     (check_links c.args.ids.now 0 c.as_slice-list.result.now) in
     let joined_long = check_links_long c.args.ids.now 0 c.as_slice-list.result.now in
     let start : AreListed c.args.zones.now.zones (length list) c.args.refs.now.items c.args.seats.now.items c.join_checks.new.plan.shapes =
-    rw (c.requires.no_refs, c.requires.no_seats, c.join_checks.ensures.shapes)
-    (none_listed c.args.zones.now.zones c.args.zones.now.slots (length list) c.add_checks.new.plan.shapes (added ∙ as_list)) in
+    rw (c.requires.no_refs, c.join_checks.ensures.shapes)
+    (none_listed c.args.zones.now.zones c.args.zones.now.slots c.args.seats.now.items c.requires.no_seats (length list) c.add_checks.new.plan.shapes (added ∙ as_list)) in
     let is_listed = c.list_asked.ensures.listed (length list) start in
     let listed_size = is_listed.size in
     let listed_few = few_listed c.args.zones.now.zones (length list) c.list_asked.new.refs.items c.list_asked.new.seats.items c.list_asked.new.plan.shapes
@@ -386,7 +441,7 @@ join_sets-requires-clause-few_sets c =
     let listed_gates = c.list_asked.ensures.kept.gates in
     let listed_links = c.list_asked.ensures.kept.links in
     let listed_same = ap length c.list_asked.ensures.links in
-    let refs = ap length c.deref-2.ensures.value in
+    let refs = ap length c.deref-3.ensures.value in
     let ids = ap length c.requires.ids ∙ ids_long list in
     omega arith
 
@@ -405,7 +460,7 @@ join_sets-requires-clause-room c =
     let no_links = ap length c.requires.no_links in
     let children = children_few list sound.bounded in
     let same_children = ap children_among c.as_slice-list.ensures.checks in
-    let long_seats = ap length c.requires.no_seats ∙ length-replicate c.args.zones.now.slots no_seat in
+    let long_seats = c.requires.no_seats.size in
     let no_refs = ap length c.requires.no_refs in
     let added = c.add_checks.ensures.size in
     let added_gates = c.add_checks.ensures.kept.gates in
@@ -418,8 +473,8 @@ join_sets-requires-clause-room c =
     (check_links c.args.ids.now 0 c.as_slice-list.result.now) in
     let joined_long = check_links_long c.args.ids.now 0 c.as_slice-list.result.now in
     let start : AreListed c.args.zones.now.zones (length list) c.args.refs.now.items c.args.seats.now.items c.join_checks.new.plan.shapes =
-    rw (c.requires.no_refs, c.requires.no_seats, c.join_checks.ensures.shapes)
-    (none_listed c.args.zones.now.zones c.args.zones.now.slots (length list) c.add_checks.new.plan.shapes (added ∙ as_list)) in
+    rw (c.requires.no_refs, c.join_checks.ensures.shapes)
+    (none_listed c.args.zones.now.zones c.args.zones.now.slots c.args.seats.now.items c.requires.no_seats (length list) c.add_checks.new.plan.shapes (added ∙ as_list)) in
     let is_listed = c.list_asked.ensures.listed (length list) start in
     let listed_size = is_listed.size in
     let listed_few = few_listed c.args.zones.now.zones (length list) c.list_asked.new.refs.items c.list_asked.new.seats.items c.list_asked.new.plan.shapes
@@ -436,7 +491,7 @@ join_sets-requires-clause-room c =
     c.group_all.new.plan.links can.joined in
     let grouped_gates = c.group_all.ensures.kept.gates in
     let grouped_links = c.group_all.ensures.kept.links in
-    let refs = ap length c.deref-2.ensures.value in
+    let refs = ap length c.deref-3.ensures.value in
     omega arith
 
 pub returns-clause-few_gates : goal.returns-clause-few_gates
@@ -454,7 +509,7 @@ returns-clause-few_gates c =
     let no_links = ap length c.requires.no_links in
     let children = children_few list sound.bounded in
     let same_children = ap children_among c.as_slice-list.ensures.checks in
-    let long_seats = ap length c.requires.no_seats ∙ length-replicate c.args.zones.now.slots no_seat in
+    let long_seats = c.requires.no_seats.size in
     let no_refs = ap length c.requires.no_refs in
     let added = c.add_checks.ensures.size in
     let added_gates = c.add_checks.ensures.kept.gates in
@@ -467,8 +522,8 @@ returns-clause-few_gates c =
     (check_links c.args.ids.now 0 c.as_slice-list.result.now) in
     let joined_long = check_links_long c.args.ids.now 0 c.as_slice-list.result.now in
     let start : AreListed c.args.zones.now.zones (length list) c.args.refs.now.items c.args.seats.now.items c.join_checks.new.plan.shapes =
-    rw (c.requires.no_refs, c.requires.no_seats, c.join_checks.ensures.shapes)
-    (none_listed c.args.zones.now.zones c.args.zones.now.slots (length list) c.add_checks.new.plan.shapes (added ∙ as_list)) in
+    rw (c.requires.no_refs, c.join_checks.ensures.shapes)
+    (none_listed c.args.zones.now.zones c.args.zones.now.slots c.args.seats.now.items c.requires.no_seats (length list) c.add_checks.new.plan.shapes (added ∙ as_list)) in
     let is_listed = c.list_asked.ensures.listed (length list) start in
     let listed_size = is_listed.size in
     let listed_few = few_listed c.args.zones.now.zones (length list) c.list_asked.new.refs.items c.list_asked.new.seats.items c.list_asked.new.plan.shapes
@@ -503,7 +558,7 @@ returns-clause-few_links c =
     let no_links = ap length c.requires.no_links in
     let children = children_few list sound.bounded in
     let same_children = ap children_among c.as_slice-list.ensures.checks in
-    let long_seats = ap length c.requires.no_seats ∙ length-replicate c.args.zones.now.slots no_seat in
+    let long_seats = c.requires.no_seats.size in
     let no_refs = ap length c.requires.no_refs in
     let added = c.add_checks.ensures.size in
     let added_gates = c.add_checks.ensures.kept.gates in
@@ -516,8 +571,8 @@ returns-clause-few_links c =
     (check_links c.args.ids.now 0 c.as_slice-list.result.now) in
     let joined_long = check_links_long c.args.ids.now 0 c.as_slice-list.result.now in
     let start : AreListed c.args.zones.now.zones (length list) c.args.refs.now.items c.args.seats.now.items c.join_checks.new.plan.shapes =
-    rw (c.requires.no_refs, c.requires.no_seats, c.join_checks.ensures.shapes)
-    (none_listed c.args.zones.now.zones c.args.zones.now.slots (length list) c.add_checks.new.plan.shapes (added ∙ as_list)) in
+    rw (c.requires.no_refs, c.join_checks.ensures.shapes)
+    (none_listed c.args.zones.now.zones c.args.zones.now.slots c.args.seats.now.items c.requires.no_seats (length list) c.add_checks.new.plan.shapes (added ∙ as_list)) in
     let is_listed = c.list_asked.ensures.listed (length list) start in
     let listed_size = is_listed.size in
     let listed_few = few_listed c.args.zones.now.zones (length list) c.list_asked.new.refs.items c.list_asked.new.seats.items c.list_asked.new.plan.shapes
@@ -534,7 +589,7 @@ returns-clause-few_links c =
     c.group_all.new.plan.links can.joined in
     let grouped_gates = c.group_all.ensures.kept.gates in
     let grouped_links = c.group_all.ensures.kept.links in
-    let refs = ap length c.deref-2.ensures.value in
+    let refs = ap length c.deref-3.ensures.value in
     let last = c.join_sets.ensures.few in
     let last_links = c.join_sets.ensures.kept.links in
     omega arith

@@ -1,5 +1,7 @@
-use Rattle.std.proofs.Common.{arith, ap, length, ◌∙◌, sym}
+use Rattle.std.proofs.Common.{List, arith, ap, length, ◌∙◌, sym}
 use Rattle.health_gates.specs.Plan.{net_in, no_plan, own_in}
+use Rattle.health_planning.specs.Wired.{group_seat, seat_of}
+use Rattle.health_planning.specs.declared.seats.Seat.{Seat}
 use Rattle.health_index.proofs.index.HealthIndex.empty.Goals as goal
 
 pub invariant_of-result : goal.invariant_of-result
@@ -12,5 +14,9 @@ invariant_of-result c = record {
   few = let none = ap length c.new.ensures.items in omega arith;
   within = let none = ap length c.new.ensures.items in omega arith;
   seated = λ slot gate is. absurd (grind (arith, is, c.new-3.ensures.items));
+  given = record {
+    sets = λ slot some. absurd (some (ap (λ (l : List Seat). seat_of l slot) c.new-3.ensures.items));
+    groups = λ slot some. absurd (some (ap (λ (l : List Seat). group_seat l slot) c.new-3.ensures.items));
+  };
   alone = λ place its is. absurd (grind (arith, is, c.new-2.ensures.items));
 }

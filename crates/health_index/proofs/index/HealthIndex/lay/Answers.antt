@@ -55,17 +55,19 @@ list_seen-requires-clause-bounded c place id check at =
     of_all (λ (held : ℕ × Check). IsBounded held.1) c.args.checks.now.checks.list place (id, check) c.as_slice-list.ensures.sound.bounded
     (rw c.as_slice-list.ensures.checks at at)
 
-pub lay_seats-requires-clause-room : goal.lay_seats-requires-clause-room
-lay_seats-requires-clause-room c =
+pub clear_seats-requires-clause-room : goal.clear_seats-requires-clause-room
+clear_seats-requires-clause-room c =
     let zones = c.args.zones.now.zones in
     let checks = c.args.checks.now.checks in
     let list = c.as_slice-list.ensures.checks in
     let sound = c.as_slice-list.ensures.sound in
     let room = subst (λ (i : Index). HasRoom i c.args.zones.now.slots) (sym c.self.view_is) c.requires.room in
-    let cleared = c.clear-3.ensures.capacity in
     let slots = c.slots.ensures in
     let most = room.seats in
     omega arith
+
+pub clear_seats-requires-clause-given : goal.clear_seats-requires-clause-given
+clear_seats-requires-clause-given c = rw (c.deref-3.ensures.value, c.deref-4.ensures.value) c.self.invariant.given
 
 pub plan_gates-requires-clause-room : goal.plan_gates-requires-clause-room
 plan_gates-requires-clause-room c =
@@ -75,13 +77,21 @@ plan_gates-requires-clause-room c =
     let sound = c.as_slice-list.ensures.sound in
     let room = subst (λ (i : Index). HasRoom i c.args.zones.now.slots) (sym c.self.view_is) c.requires.room in
     let swapped = ap (λ v. vec_capacity v) c.swap-3.ensures.x_after in
-    let refs = c.clear-4.ensures.capacity in
-    let gates = c.clear-5.ensures.room in
-    let links = c.clear-5.ensures.links_room in
-    let refs_room = room.refs_before in
+    let swapped_too = ap (λ v. vec_capacity v) c.swap-3.ensures.y_after in
+    let refs = c.clear-3.ensures.capacity in
+    let gates = c.clear-4.ensures.room in
+    let links = c.clear-4.ensures.links_room in
+    let refs_room = room.refs in
+    let members_room = room.members in
     let shapes = room.shapes in
     let most = room.links in
-    record { few = room.few; refs_room = omega arith; gates = omega arith; links = omega arith }
+    record {
+      few = room.few;
+      refs_room = omega arith;
+      known_room = omega arith;
+      gates = omega arith;
+      links = omega arith;
+    }
 
 pub lay_out-requires-clause-room : goal.lay_out-requires-clause-room
 lay_out-requires-clause-room c =
@@ -101,9 +111,9 @@ invariant_of-self c =
     let room = subst (λ (i : Index). HasRoom i c.args.zones.now.slots) (sym c.self.view_is) c.requires.room in
     let ids = c.list_ids.ensures.ids ∙ ap ids_of list in
     let many = c.list_seen.ensures.size ∙ ap length list ∙ sym (ids_long checks.list) ∙ sym (ap length ids) in
-    whole zones checks c.plan_gates.new.refs.items c.plan_gates.new.seats.items c.plan_gates.new.plan c.lay_out.new.self
+    whole zones checks c.plan_gates.new.refs.items c.plan_gates.new.known.items c.plan_gates.new.seats.items c.plan_gates.new.plan c.lay_out.new.self
     c.list_ids.new.ids.items c.list_seen.new.into.items _ sound ids many
-    c.plan_gates.ensures.built c.lay_out.ensures.fits c.lay_out.ensures.idle
+    c.plan_gates.ensures.built c.plan_gates.ensures.given c.lay_out.ensures.fits c.lay_out.ensures.idle
     (rw list at c.list_seen.ensures.kinds)
 
 pub returns-clause-stands : goal.returns-clause-stands
@@ -120,16 +130,16 @@ returns-clause-stands c before old reports is follows asked =
     let seen_before = ap (λ (i : Index). i.seen) (sym c.self.view_is) ∙ sym (c.deref-2.ensures.value ∙ ap (λ v. v.items) c.swap-2.ensures.y_after) in
     let knows = subst (λ l. Knows old reports l c.deref-2.result.now) ids_before (subst (Knows old reports c.args.self.now.ids) seen_before its) in
     let each = each_follows old checks sound follows in
-    let refs_before = ap (λ (i : Index). i.refs) (sym c.self.view_is) ∙ sym (c.deref-5.ensures.value ∙ ap (λ v. v.items) c.swap-3.ensures.y_after) in
+    let refs_before = ap (λ (i : Index). i.refs) (sym c.self.view_is) ∙ sym (ap (λ v. v.items) c.swap-3.ensures.y_after) in
     let all = c.plan_gates.ensures.all (subst (λ (l : List SetRef). AreAsked zones c.args.whole l c.args.came.now) refs_before asked) in
     let are = subst (λ l. AreSeen reports l c.list_seen.new.into.items) list
     (c.list_seen.ensures.seen old reports knows (subst (EachFollows old) (sym list) each)) in
-    stands zones checks c.plan_gates.new.refs.items c.plan_gates.new.seats.items c.plan_gates.new.plan c.lay_out.new.self
+    stands zones checks c.plan_gates.new.refs.items c.plan_gates.new.known.items c.plan_gates.new.seats.items c.plan_gates.new.plan c.lay_out.new.self
     c.list_ids.new.ids.items c.list_seen.new.into.items _ sound ids many
-    c.plan_gates.ensures.built c.lay_out.ensures.fits c.lay_out.ensures.idle
+    c.plan_gates.ensures.built c.plan_gates.ensures.given c.lay_out.ensures.fits c.lay_out.ensures.idle
     reports c.well_formed-2.ensures c.slots_apart.ensures c.requires.sound
     (still_reports old.next checks.next reports follows.next knows.its_reports) all are
-    (c.plan_gates.ensures.checks reports (subst (AreSeen reports checks.list) (sym c.deref-4.ensures.value) are))
+    (c.plan_gates.ensures.checks reports (subst (AreSeen reports checks.list) (sym c.deref-6.ensures.value) are))
     c.lay_out.ensures.meet
 
 pub returns-clause-first : goal.returns-clause-first
@@ -146,9 +156,9 @@ returns-clause-first c none whole =
     let knows = knows_nothing c.deref.result.now c.deref-2.result.now ids_before in
     let are = subst (λ l. AreSeen [] l c.list_seen.new.into.items) list
     (c.list_seen.ensures.seen no_checks [] knows (subst (EachFollows no_checks) (sym list) each)) in
-    stands zones checks c.plan_gates.new.refs.items c.plan_gates.new.seats.items c.plan_gates.new.plan c.lay_out.new.self
+    stands zones checks c.plan_gates.new.refs.items c.plan_gates.new.known.items c.plan_gates.new.seats.items c.plan_gates.new.plan c.lay_out.new.self
     c.list_ids.new.ids.items c.list_seen.new.into.items _ sound ids many
-    c.plan_gates.ensures.built c.lay_out.ensures.fits c.lay_out.ensures.idle
+    c.plan_gates.ensures.built c.plan_gates.ensures.given c.lay_out.ensures.fits c.lay_out.ensures.idle
     [] c.well_formed-2.ensures c.slots_apart.ensures c.requires.sound tt (c.plan_gates.ensures.all (λ zone p here on. inl whole)) are
-    (c.plan_gates.ensures.checks [] (subst (AreSeen [] checks.list) (sym c.deref-4.ensures.value) are))
+    (c.plan_gates.ensures.checks [] (subst (AreSeen [] checks.list) (sym c.deref-6.ensures.value) are))
     c.lay_out.ensures.meet

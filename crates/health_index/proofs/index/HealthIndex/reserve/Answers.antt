@@ -15,6 +15,7 @@ invariant_of-self c =
       seen = now.seen;
       seats = slots.seats;
       refs = slots.refs;
+      members = slots.members;
       values = λ gate. ap (λ v. value_in v gate) slots.values;
     }) slots.stays slots.meet slots.idle c.self.invariant
 
@@ -32,7 +33,7 @@ returns-clause-kept c n room =
       seen_before = omega (arith, old.seen_before, before.seen_kept);
       seats = omega (arith, old.seats, slots.seats_kept);
       refs = omega (arith, old.refs, slots.refs_kept);
-      refs_before = omega (arith, old.refs_before, slots.before_kept);
+      members = omega (arith, old.members, slots.members_kept);
       shapes = omega (arith, old.shapes, slots.plan_kept);
       links = omega (arith, old.links, slots.links_kept);
       gates = slots.gates_kept _ _ old.gates;
@@ -47,6 +48,7 @@ returns-clause-stands c zones checks reports is =
       seen = now.seen;
       seats = slots.seats;
       refs = slots.refs;
+      members = slots.members;
       values = λ gate. ap (λ v. value_in v gate) slots.values;
     }) slots.stays slots.meet slots.idle zones checks reports (subst (StandsFor zones checks reports) (sym c.self.view_is) is)
 
@@ -56,5 +58,5 @@ returns-clause-ready c room =
     let old = subst (HasRoom _) (sym c.slots.ensures) known in
     c.each_ok.ensures.each (c.room_for_checks-now.ensures.ready old.ids old.seen)
     (c.room_for_checks-before.ensures.ready old.ids_before old.seen_before)
-    (c.room_for_slots-slots.ensures.ready old.few old.seats old.refs old.refs_before old.shapes
+    (c.room_for_slots-slots.ensures.ready old.few old.seats old.refs old.members old.shapes
     old.links old.gates)

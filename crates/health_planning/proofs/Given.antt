@@ -1,0 +1,174 @@
+-- Seats that are given, and cleared again: each is told by a set that is listed or noted.
+use Rattle.std.proofs.Common.{◌≡◌, ◌≢◌, ◌<◌, ◌≤◌, ◌+◌, ℕ, zero, suc, List, [], ◌∷◌, ◌++◌, length, length-append, length-set, set, get_or-set_same, get_or-set_other, take, arith, refl, ap, sym, ◌∙◌, inl, inr, Some}
+use Rattle.std.specs.Prelude.{slice_get}
+use Rattle.std.proofs.lemmas.Bool.{cases_eq}
+use Rattle.std.proofs.lemmas.List.{get_or_past}
+use Rattle.check_model.specs.declared.checks.Check.{Check}
+use Rattle.health_gates.proofs.Runs.{in_more}
+use Rattle.health_gates.specs.declared.plan.Link.{Link}
+use Rattle.health_gates.specs.declared.plan.Shape.{Shape}
+use Rattle.policy_select.proofs.MembersOfZoneList.{filled}
+use Rattle.policy_select.specs.SetRefRecord.{SetRef}
+use Rattle.policy_select.specs.Zones.{Zone}
+use Rattle.health_planning.specs.Building.{AreGiven, AreNoted, IsBuilt, IsFree, TellSlot}
+use Rattle.health_planning.specs.Wired.{check_seat, group_seat, seat_of}
+use Rattle.health_planning.specs.declared.seats.Seat.{Seat}
+use Rattle.health_planning.proofs.Few.{group_within, no_more_than}
+use Rattle.health_planning.proofs.Grouped.{group_beside, seat_now, seated}
+use Rattle.health_planning.proofs.Groups.{some_gate}
+use Rattle.health_planning.proofs.ListedOnce.{last_at, still_at}
+
+some_same : {X : Type 0} {x y : X} → Some x ≡ Some y → x ≡ y
+some_same e = cc
+
+abbrev pub bare_seat : Seat
+bare_seat = record { set = 0; group = 0; check = 0 }
+
+-- ---- seats that are cleared
+
+pub free_past : (seats : List Seat) (slot : ℕ) → length seats ≤ slot → IsFree seats slot
+free_past seats slot past =
+    let none = get_or_past seats slot bare_seat past in
+    (ap (λ (s : Seat). s.set) none, ap (λ (s : Seat). s.group) none)
+
+pub free_here : (seats : List Seat) (slot : ℕ) → slot < length seats
+    → IsFree (set seats slot bare_seat) slot
+free_here seats slot within =
+    let now = get_or-set_same seats slot bare_seat bare_seat within in
+    (ap (λ (s : Seat). s.set) now, ap (λ (s : Seat). s.group) now)
+
+pub free_still : (seats : List Seat) (slot other : ℕ) → slot < length seats → IsFree seats other
+    → IsFree (set seats slot bare_seat) other
+free_still seats slot other within free = elim (cases_eq other slot) [
+  | inl same ↦ rw same (free_here seats slot within)
+  | inr apart ↦
+      let now = get_or-set_other seats slot other bare_seat bare_seat apart in
+      (ap (λ (s : Seat). s.set) now ∙ free.0, ap (λ (s : Seat). s.group) now ∙ free.1)
+]
+
+pub free_more : (seats : List Seat) (slot : ℕ) → IsFree seats slot
+    → IsFree (seats ++ bare_seat ∷ []) slot
+free_more [] zero free = (refl, refl)
+free_more [] (suc slot) free = (refl, refl)
+free_more (s ∷ seats) zero free = free
+free_more (s ∷ seats) (suc slot) free = free_more seats slot free
+
+pub free_front : (n : ℕ) (seats : List Seat) (slot : ℕ) → IsFree seats slot
+    → IsFree (take n seats) slot
+free_front zero seats slot free = (refl, refl)
+free_front (suc n) [] slot free = free
+free_front (suc n) (s ∷ seats) zero free = free
+free_front (suc n) (s ∷ seats) (suc slot) free = free_front n seats slot free
+
+-- where the listed sets and the noted members are cleared, no seat tells a gate
+pub all_free : (refs members : List SetRef) (seats once twice : List Seat)
+    → AreGiven refs members seats
+    → ((slot : ℕ) → TellSlot refs slot → IsFree once slot)
+    → ((slot : ℕ) → IsFree seats slot → IsFree once slot)
+    → ((slot : ℕ) → TellSlot members slot → IsFree twice slot)
+    → ((slot : ℕ) → IsFree once slot → IsFree twice slot)
+    → (slot : ℕ) → IsFree twice slot
+all_free refs members seats once twice given first first_stays second second_stays slot = elim (cases_eq (seat_of seats slot) 0) [
+  | inr some ↦ second_stays slot (first slot (given.sets slot some))
+  | inl bare ↦ elim (cases_eq (group_seat seats slot) 0) [
+    | inr some ↦ second slot (given.groups slot some)
+    | inl none ↦ second_stays slot (first_stays slot (bare, none))
+  ]
+]
+
+-- ---- members that are noted
+
+pub none_noted : (seats : List Seat) → ((slot : ℕ) → group_seat seats slot ≡ 0) → AreNoted [] seats
+none_noted seats none = record {
+  all = λ slot some. absurd (some (none slot));
+  each = λ k ref at. let no : ⊥ = cc in absurd no;
+  once = λ k n one other at. let no : ⊥ = cc in absurd no;
+}
+
+-- no more are noted than there are slots
+noted_few : (members : List SetRef) (seats : List Seat) → AreNoted members seats
+    → length members ≤ length seats
+noted_few members seats noted =
+    no_more_than (λ (k slot : ℕ). (ref : SetRef) × ((slice_get members k ≡ Some ref) × (ref.slot ≡ slot)))
+    (λ a b slot e f. noted.once a b e.0 f.0 e.1.0 f.1.0 (e.1.1 ∙ sym f.1.1))
+    (length members) (length seats) (λ k early.
+    let ref = filled members k early in
+    let gate = some_gate (group_seat seats ref.0.slot) (noted.each k ref.0 ref.1) in
+    (ref.0.slot, ((ref.0, (ref.1, refl)), group_within seats ref.0.slot gate.0 gate.1)))
+
+module _ (members : List SetRef) (seats : List Seat) (noted : AreNoted members seats) (ref : SetRef)
+    (after : List Seat) (now : group_seat after ref.slot ≢ 0)
+    (others : (other : ℕ) → other ≢ ref.slot → group_seat after other ≡ group_seat seats other) where
+  -- a seat that told a gate tells one
+  tells_on : (slot : ℕ) → group_seat seats slot ≢ 0 → group_seat after slot ≢ 0
+  tells_on slot some = elim (cases_eq slot ref.slot) [
+    | inl same ↦ (λ none. now (ap (group_seat after) (sym same) ∙ none))
+    | inr apart ↦ (λ none. some (sym (others slot apart) ∙ none))
+  ]
+
+  -- a set whose seat told the gate of its group is noted already
+  pub noted_still : group_seat seats ref.slot ≢ 0 → AreNoted members after
+  noted_still some = record {
+    all = λ slot tells. elim (cases_eq slot ref.slot) [
+      | inl same ↦ noted.all slot (λ none. some (ap (group_seat seats) (sym same) ∙ none))
+      | inr apart ↦ noted.all slot (λ none. tells (others slot apart ∙ none))
+    ];
+    each = λ k one at. tells_on one.slot (noted.each k one at);
+    once = noted.once;
+  }
+
+  -- one whose seat told none is noted now
+  pub noted_more : group_seat seats ref.slot ≡ 0 → AreNoted (members ++ ref ∷ []) after
+  noted_more empty = record {
+    all = λ slot tells. elim (cases_eq slot ref.slot) [
+      | inl same ↦ (length members, (ref, (last_at members ref (length members) refl, sym same)))
+      | inr apart ↦
+          let old = noted.all slot (λ none. tells (others slot apart ∙ none)) in
+          (old.0, (old.1.0, (still_at members ref old.1.0 old.0 old.1.1.0, old.1.1.1)))
+    ];
+    each = λ k one at. elim (in_more members ref one k at) [
+      | inl old ↦ tells_on one.slot (noted.each k one old)
+      | inr last ↦ (λ none. now (ap (λ (r : SetRef). group_seat after r.slot) (sym last.1) ∙ none))
+    ];
+    once = λ k n one other at_one at_other same. elim (in_more members ref one k at_one) [
+      | inl old ↦ elim (in_more members ref other n at_other) [
+        | inl old_too ↦ noted.once k n one other old old_too same
+        | inr last ↦
+            let slots = same ∙ ap (λ (r : SetRef). r.slot) last.1 in
+            absurd (noted.each k one old (ap (group_seat seats) slots ∙ empty))
+      ]
+      | inr last ↦ elim (in_more members ref other n at_other) [
+        | inl old ↦
+            let slots = sym same ∙ ap (λ (r : SetRef). r.slot) last.1 in
+            absurd (noted.each n other old (ap (group_seat seats) slots ∙ empty))
+        | inr last_too ↦ last.0 ∙ sym last_too.0
+      ]
+    ];
+  }
+
+-- there is room for one more
+pub one_noted : (members : List SetRef) (seats : List Seat) → AreNoted members seats → (ref : SetRef)
+    → ref.slot < length seats → group_seat seats ref.slot ≡ 0
+    → length members + 1 ≤ length seats
+one_noted members seats noted ref within empty =
+    let after = seated seats ref.slot 1 within in
+    let now = seat_now seats ref.slot 1 within in
+    let more = noted_more members seats noted ref after (λ none. omega arith) (group_beside seats ref.slot 1 within) empty in
+    let few = noted_few (members ++ ref ∷ []) after more in
+    let longer = length-append members (ref ∷ []) in
+    let as_long = length-set seats ref.slot (record { set = seat_of seats ref.slot; group = 1; check = check_seat seats ref.slot }) in
+    omega arith
+
+-- ---- what a plan gives
+
+pub all_given : (zones : List Zone) (list : List (ℕ × Check)) (refs members : List SetRef)
+    (seats : List Seat) (shapes : List Shape) (links : List Link)
+    → IsBuilt zones list refs seats shapes links → AreNoted members seats
+    → AreGiven refs members seats
+all_given zones list refs members seats shapes links built noted = record {
+  sets = λ slot some.
+      let gate = some_gate (seat_of seats slot) some in
+      let o = built.only slot gate.0 gate.1 in
+      (o.0, (o.1.0, (o.1.2, o.1.3)));
+  groups = noted.all;
+}
