@@ -1,5 +1,5 @@
 -- Where lists, optional parts and kinds stop.
-use Rattle.std.proofs.Common.{◌≡◌, ℕ, zero, suc, inl, inr, Bool, true, false, List, [], ◌∷◌, length, arith, ap, ◌∙◌, sym, refl, subst, cond, eqb, append-nil, Option, None, Some, Result, Ok, Err}
+use Rattle.std.proofs.Common.{◌≡◌, ℕ, zero, suc, inl, inr, Bool, true, false, List, [], ◌∷◌, ◌++◌, length, arith, ap, ◌∙◌, sym, refl, subst, cond, eqb, append-nil, Option, None, Some, Result, Ok, Err}
 use Rattle.std.specs.Prelude.{◌⊎◌, ◌||◌}
 use Rattle.std.specs.List.{AllByRecursion, flat_map}
 use Rattle.std.proofs.lemmas.Bool.{eqb-true}
@@ -9,21 +9,39 @@ use Rattle.octet_reading.specs.Reading.{◌>>=◌, octet_at}
 use Rattle.octet_reading.specs.Rules.{IsReadAs, AreListed, WhereSome, flag_octet}
 use Rattle.octet_reading.proofs.Base.{two_read, flag_read}
 use Rattle.octet_reading.proofs.Composed.{seen_in_turn, tested_read}
-use Rattle.fault_places.specs.Fields.{Field, spelling}
+use Rattle.fault_places.specs.Fields.{Field, spelling, StandsBehind}
 use Rattle.fault_places.specs.Fields.Ending.{Sized}
 use Rattle.fault_places.proofs.Leaves.{octet_read, two_faults, flag_faults, tested_octet}
 use Rattle.fault_places.proofs.Steps.{Faults, seen_faults, alike_faults, so_faults, in_turn_faults, then_faults}
 
 -- nothing is read, and nothing stops
+nowhere : (before : List ℕ) (f : Field) (fields : List Field) → fields ≡ []
+    → StandsBehind before f fields → ⊥
+nowhere before f fields none s = go s.front (sym none ∙ s.parts)
+  where
+    go : (front : List Field) → [] ≡ front ++ f ∷ s.others → ⊥
+    go [] e = absurd cc
+    go (g ∷ front) e = absurd cc
+
 pub nothing_faults : {A : Type 0} (is : A → Type 0) (fields : A → List Field) (x : A)
-    → Faults is fields (λ octets. Ok (x, octets))
-nothing_faults is fields x = record { told = λ octets left are e. absurd cc }
+    → ((y : A) → is y → fields y ≡ []) → Faults is fields (λ octets. Ok (x, octets))
+nothing_faults is fields x none = record {
+  places = record {
+    meet = λ y z before here rest f h k at same.
+        absurd (nowhere before f (fields y) (none y h) at);
+  };
+  told = λ octets left are e. absurd cc;
+}
 
 -- so many of one field
 module _ {A : Type 0} {is : A → Type 0} {octets_of : A → List ℕ} {fields : A → List Field}
     {read : Reader A} (item : IsReadAs is octets_of read)
     (spells : (x : A) → spelling (fields x) ≡ octets_of x) (told : Faults is fields read)
     (least : A) (is_least : is least) where
+  none_left : (xs : List A) → length xs ≡ 0 → flat_map fields xs ≡ []
+  none_left [] e = refl
+  none_left (x ∷ xs) e = absurd (omega (arith, e))
+
   some_of : (n : ℕ) → (xs : List A) × (AllByRecursion is xs × (length xs ≡ n))
   some_of zero = ([], (tt, refl))
   some_of (suc n) =
@@ -38,7 +56,7 @@ module _ {A : Type 0} {is : A → Type 0} {octets_of : A → List ℕ} {fields :
       → Faults (λ xs. AllByRecursion is xs × (length xs ≡ n)) (λ xs. flat_map fields xs)
       (so_many read n)
   so_many_faults zero = nothing_faults (λ xs. AllByRecursion is xs × (length xs ≡ zero))
-      (λ xs. flat_map fields xs) []
+      (λ xs. flat_map fields xs) [] (λ xs h. none_left xs h.1)
   so_many_faults (suc n) = so_faults
       (seen_faults (λ (p : A × List A). p.0 ∷ p.1)
       (λ p h. (((h.0, h.1.0), ap suc h.1.1), refl)) (first_of n) (in_turn read (so_many read n))
@@ -69,12 +87,16 @@ module _ {A : Type 0} {is : A → Type 0} {fields : A → List Field} {read : Re
   some_there None h = absurd (let k : false ≡ true = h.1 in cc)
   some_there (Some x) h = (x, h.0, refl)
 
+  none_there : (found : Option A) → is_there found ≡ false → fields_there fields found ≡ []
+  none_there None e = refl
+  none_there (Some x) e = absurd (let k : true ≡ false = e in cc)
+
   part_faults : (flag : Bool)
       → Faults (λ found. WhereSome is found × (is_there found ≡ flag)) (fields_there fields)
       (where_one read flag)
   part_faults false =
       nothing_faults (λ found. WhereSome is found × (is_there found ≡ false))
-      (fields_there fields) None
+      (fields_there fields) None (λ found h. none_there found h.1)
   part_faults true =
       seen_faults (λ (x : A). Some x) (λ x h. ((h, refl), refl)) some_there read told
 

@@ -1,6 +1,7 @@
 pub mod Composed
 pub mod Filled
 pub mod Leaves
+pub mod Places
 pub mod Sets
 pub mod Steps
 pub mod Texts

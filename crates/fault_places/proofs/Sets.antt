@@ -1,8 +1,8 @@
 -- Where sets stop: places, policies, what sets answer, and sets as a whole.
 use Rattle.std.proofs.Common.{◌≡◌, ℕ, ◌-◌, ◌<◌, ◌^◌, inl, inr, Bool, true, false, List, [], ◌∷◌, ◌++◌, length, arith, ap, ◌∙◌, sym, refl, cond, append_assoc, append-nil, length-append, Option, None, Some, Result, Ok, Err}
-use Rattle.std.specs.Prelude.{⊤, ◌⊎◌, map, nat_lt}
+use Rattle.std.specs.Prelude.{⊤, map, nat_lt}
 use Rattle.std.specs.List.{flat_map}
-use Rattle.std.proofs.lemmas.Bool.{ltb-true}
+use Rattle.std.proofs.lemmas.Bool.{ltb-true, lt-ltb}
 use Rattle.octets.specs.Numbers.{two_octets, four_octets}
 use Rattle.octet_reading.specs.Readers.{has_kind}
 use Rattle.octet_reading.specs.Rules.{IsReadAs, AreListed, WhereSome, flag_octet}
@@ -37,12 +37,14 @@ use Rattle.set_reading.specs.Reading.{subdivision_at, places, place_at, weighted
 use Rattle.set_reading.proofs.Answering.{IsGoodBody, set_read}
 use Rattle.set_reading.proofs.Policies.{first, others, four_read, IsGoodPlace, IsGoodRouting, routing_read}
 use Rattle.set_reading.proofs.ValueLists.{IsValue, are_values, of_type, in_layout, value_read}
-use Rattle.fault_places.specs.Fields.{Field, spelling}
+use Rattle.fault_places.specs.Fields.{Field, spelling, StopsIn}
 use Rattle.fault_places.specs.Fields.Ending.{Sized}
 use Rattle.fault_places.specs.Sets.{sized, open_ended, counted, place_fields, routing_fields, body_fields, check_fields, set_fields, IsInGrammar, BeginsWithLongSet}
-use Rattle.fault_places.specs.Laws.{SetStopsAt, SetFaultsStandFirst, SetsAreFields}
+use Rattle.fault_places.specs.Laws.{SetStopsAt, HasFaultAt, SetFaultsAsTold, OneFaultOfOctets, SetsAreFields}
 use Rattle.fault_places.proofs.Composed.{kinds_faults, list_faults, optional_faults, nothing_faults, is_there, fields_there}
+use Rattle.fault_places.proofs.Filled.{no_field_is_empty}
 use Rattle.fault_places.proofs.Leaves.{octet_faults, four_faults, flag_faults, type_faults, continent_faults, role_faults, ttl_faults}
+use Rattle.fault_places.proofs.Places.{none_begins, one_stop}
 use Rattle.fault_places.proofs.Steps.{Faults, seen_faults, alike_faults, in_turn_faults, in_turn_by_faults, spelling_append, one_field}
 use Rattle.fault_places.proofs.Texts.{name_faults, country_faults, ident_faults, region_faults, sub_faults, location_faults, root_is}
 use Rattle.fault_places.proofs.Values.{value_faults, some_value, some_is_value}
@@ -88,6 +90,12 @@ subdivision_from (place.Subdivision letters part) h =
     ((letters, part), (record { two = h.0.0.0; capital = h.0.1 }, h.0.0.1), refl)
 subdivision_from place.Anywhere h = absurd cc
 
+none_anywhere : (x : Place) → PlaceOf 4 x → place_later x ≡ []
+none_anywhere (place.Continent where_to) h = absurd cc
+none_anywhere (place.Country letters) h = absurd cc
+none_anywhere (place.Subdivision letters part) h = absurd cc
+none_anywhere place.Anywhere h = refl
+
 place_there : (x : Place) → has_kind places (place_kind x) ≡ true
 place_there (place.Continent where_to) = refl
 place_there (place.Country letters) = refl
@@ -103,6 +111,15 @@ place_parts place.Anywhere = refl
 -- the policies of a kind
 abbrev Of : ℕ → Routing → Type 0
 Of n policy = IsGoodRouting policy × (kind policy ≡ n)
+
+none_simple : (x : Routing) → Of 0 x → later x ≡ []
+none_simple routing.Simple h = refl
+none_simple (routing.Weighted ident weight) h = absurd cc
+none_simple (routing.Failover ident part) h = absurd cc
+none_simple (routing.Geolocation ident where_to) h = absurd cc
+none_simple (routing.Latency ident region) h = absurd cc
+none_simple (routing.Multivalue ident) h = absurd cc
+none_simple (routing.Cidr ident collection location) h = absurd cc
 
 weighted_from : (x : Routing) → Of 1 x → (p : List ℕ × ℕ) × (IsIdent p.0 × ⊤)
     × (routing.Weighted p.0 p.1 ≡ x)
@@ -235,7 +252,7 @@ place_faults = alike_faults
           ),
           (
             (
-              nothing_faults (PlaceOf 4) place_later place.Anywhere,
+              nothing_faults (PlaceOf 4) place_later place.Anywhere none_anywhere,
               (place.Anywhere, ((tt, tt), refl)),
             ),
             tt,
@@ -296,7 +313,7 @@ routing_faults : Faults IsGoodRouting routing_fields routing_at
 unfolding routing_at
 routing_faults = alike_faults
     (kinds_faults kind IsGoodRouting later policies (
-      (nothing_faults (Of 0) later routing.Simple, (routing.Simple, ((tt, tt), refl))),
+      (nothing_faults (Of 0) later routing.Simple none_simple, (routing.Simple, ((tt, tt), refl))),
       (
         (weighted_faults, (routing.Weighted an_a 0, ((ident_is, tt), refl))),
         (
@@ -593,8 +610,7 @@ too_long true y place e = (refl, err_is {A = RecordSet × ℕ} 0 place e)
 too_long false y place e = absurd (let k : Ok y ≡ Err place = e in cc)
 
 told : (octets : List ℕ) (place : ℕ) (parts : Result (RecordSet × List ℕ) ℕ) → AreOctets octets
-    → set_at octets ≡ parts → placed (length octets) parts ≡ Err place
-    → SetStopsAt octets place ⊎ ((place ≡ 0) × BeginsWithLongSet octets)
+    → set_at octets ≡ parts → placed (length octets) parts ≡ Err place → HasFaultAt octets place
 told octets place (Ok x) are s e =
     let t = too_long (nat_lt most_octets (length octets - length x.1))
     (x.0, length octets - length x.1) place e in
@@ -627,6 +643,72 @@ told octets place (Err left) are s e =
       stops = set_faults.told octets left are s;
     })
 
-pub set_faults_stand_first : SetFaultsStandFirst
+-- octets that stop begin with no set, however long
+no_set : (octets : List ℕ) (left : ℕ) → StopsIn IsInGrammar set_fields octets left
+    → (set : RecordSet) (rest : List ℕ) → IsInGrammar set → octets ≡ set_octets set ++ rest → ⊥
+no_set octets left s set rest is e =
+    none_begins set_faults.places no_field_is_empty octets left s set rest is
+    (e ∙ ap (λ t. t ++ rest) (sets_are_fields set))
+
+one_place : (octets : List ℕ) (place other : ℕ) → SetStopsAt octets place
+    → SetStopsAt octets other → place ≡ other
+one_place octets place other s t =
+    omega (
+      arith,
+      s.behind,
+      t.behind,
+      one_stop set_faults.places no_field_is_empty octets s.left t.left s.stops t.stops,
+    )
+
+pub one_fault_of_octets : OneFaultOfOctets
+one_fault_of_octets octets place other (inl s) (inl t) = one_place octets place other s t
+one_fault_of_octets octets place other (inl s) (inr t) =
+    absurd (no_set octets s.left s.stops t.1.set t.1.rest t.1.is t.1.spelled)
+one_fault_of_octets octets place other (inr s) (inl t) =
+    absurd (no_set octets t.left t.stops s.1.set s.1.rest s.1.is s.1.spelled)
+one_fault_of_octets octets place other (inr s) (inr t) = s.0 ∙ sym t.0
+
+-- a set that is too long is told as such
+long_told : (octets : List ℕ) → BeginsWithLongSet octets
+    → placed (length octets) (set_at octets) ≡ Err 0
+long_told octets b =
+    let parts : set_at octets ≡ Ok (b.set, b.rest) =
+    ap set_at b.spelled
+    ∙ (set_read fields_are_read).again b.set b.rest
+    (record {
+      is = b.is.is;
+      routing = b.is.routing;
+      body = b.is.body;
+      of_type = b.is.of_type;
+    }) in
+    let long : nat_lt most_octets (length octets - length b.rest) ≡ true =
+    lt-ltb most_octets (length octets - length b.rest)
+    (omega (arith, ap length b.spelled, length-append (set_octets b.set) b.rest, b.long)) in
+    ap (placed (length octets)) parts
+    ∙ ap (λ t. cond {A = Result (RecordSet × ℕ) ℕ} t (Err 0)
+    (Ok (b.set, length octets - length b.rest))) long
+
+none_read : (octets : List ℕ) (place : ℕ) → AreOctets octets → SetStopsAt octets place
+    → (parts : Result (RecordSet × List ℕ) ℕ) → set_at octets ≡ parts
+    → placed (length octets) parts ≡ Err place
+none_read octets place are s (Ok x) e =
+    let there = (set_read fields_are_read).stands octets x.0 x.1 are e in
+    absurd (no_set octets s.left s.stops x.0 x.1 (record {
+      is = there.1.is;
+      routing = there.1.routing;
+      body = there.1.body;
+      of_type = there.1.of_type;
+    }) there.0)
+none_read octets place are s (Err left) e =
+    let h = told octets (length octets - left) (Err left) are e refl in
+    ap Err (one_fault_of_octets octets (length octets - left) place h (inl s))
+
+has_told : (octets : List ℕ) (place : ℕ) → AreOctets octets → HasFaultAt octets place
+    → placed (length octets) (set_at octets) ≡ Err place
+has_told octets place are (inl s) = none_read octets place are s (set_at octets) refl
+has_told octets place are (inr b) = long_told octets b.1 ∙ ap Err (sym b.0)
+
+pub set_faults_as_told : SetFaultsAsTold
 unfolding read
-set_faults_stand_first octets place are e = told octets place (set_at octets) are refl e
+set_faults_as_told octets place are =
+    (λ e. told octets place (set_at octets) are refl e, has_told octets place are)

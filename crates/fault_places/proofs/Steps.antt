@@ -5,11 +5,26 @@ use Rattle.octet_reading.specs.Readers.{Reader, seen, in_turn, in_turn_by}
 use Rattle.octet_reading.specs.Reading.{◌>>=◌}
 use Rattle.octet_reading.specs.Rules.{IsReadAs}
 use Rattle.octet_reading.proofs.Rules.{bind_err, behind_octets, one_spelling}
-use Rattle.fault_places.specs.Fields.{Ending, Field, spelling, StandsBehind, NoneFits, Stops, StopsIn}
+use Rattle.fault_places.specs.Fields.{Ending, Field, spelling, StandsBehind, IsMissing, NoneFits, Stops, StopsIn}
+use Rattle.fault_places.specs.Fields.Ending.{Sized, Open}
+
+-- Two fields that stand behind the same octets: they end alike, and where one of them stands the
+-- other isn't missing.
+pub record Meets (f g : Field) : Type 0 where
+  pub ending : f.ending ≡ g.ending
+  pub size : f.ending ≡ Sized → length f.octets ≡ length g.octets
+  pub there : (rest : List ℕ) → IsMissing f.ending f.octets (g.octets ++ rest) → ⊥
+
+-- A place behind whole fields is one in all that goes on from there.
+pub record Together {A : Type 0} (is : A → Type 0) (fields : A → List Field) : Type 0 where
+  pub meet : (x y : A) (before here rest : List ℕ) (f : Field) → is x → is y
+      → StandsBehind before f (fields x) → before ++ here ≡ spelling (fields y) ++ rest
+      → (g : Field) × StandsBehind before g (fields y) × Meets f g
 
 -- where a reader stops
 pub record Faults {A : Type 0} (is : A → Type 0) (fields : A → List Field) (read : Reader A)
     : Type 0 where
+  pub places : Together is fields
   pub told : (octets : List ℕ) (left : ℕ) → AreOctets octets → read octets ≡ Err left
       → StopsIn is fields octets left
 
@@ -205,9 +220,35 @@ module _ {A C : Type 0} {is : A → Type 0} {octets_of : A → List ℕ} {fields
             (none_later x t.before t.here s.1);
       }
 
+  then_meet : (x y : C) (before here rest : List ℕ) (f : Field) → good x → good y
+      → StandsBehind before f (whole x) → before ++ here ≡ spelling (whole y) ++ rest
+      → (g : Field) × StandsBehind before g (whole y) × Meets f g
+  then_meet x y before here rest f h k at same =
+      elim (split_stands before f (fields (part x)) (later x) at) [
+        | inl a ↦
+            let m =
+            told.places.meet (part x) (part y) before here (spelling (later y) ++ rest) f h.0 k.0 a
+            (same ∙ regrouped y rest) in
+            (m.0, stands_in_front before m.0 (fields (part y)) (later y) m.1, m.2)
+        | inr b ↦
+            let o =
+            one_first (part x) (part y) (b.0 ++ here) (spelling (later y) ++ rest) h.0 k.0
+            (sym (append_assoc (spelling (fields (part x))) b.0 here)
+            ∙ ap (λ t. t ++ here) (sym b.1) ∙ same ∙ regrouped y rest) in
+            let m =
+            (each (part x) h.0).places.meet x y b.0 here rest f (h.1, refl) (k.1, sym o.0) b.2 o.1 in (
+              m.0,
+              subst (λ t. StandsBehind t m.0 (whole y))
+                  (ap (λ v. spelling (fields v) ++ b.0) (sym o.0) ∙ sym b.1)
+                  (stands_later b.0 m.0 (fields (part y)) (later y) m.1),
+              m.2,
+            )
+      ]
+
   pub then_faults : Faults (λ c. is (part c) × later_is c) (λ c. fields (part c) ++ later c)
       (λ octets. read octets >>= λ x. next x.0 x.1)
   then_faults = record {
+    places = record { meet = then_meet };
     told = λ octets left are e.
         elim (bind_err (read octets) (λ x. next x.0 x.1) left e) [
           | inl f ↦ from_first octets left are f
@@ -246,9 +287,25 @@ module _ {A C : Type 0} {is : A → Type 0} {fields : A → List Field} {view_is
         (NoneFits view_is views s.before s.here) s.why (none_seen s.before s.here);
   }
 
+  pub seen_together : Together is fields → Together view_is views
+  seen_together h = record {
+    meet = λ c d before here rest f k l at same.
+        let x = from c k in
+        let y = from d l in
+        let m =
+        h.meet x.0 y.0 before here rest f x.1 y.1
+        (subst (StandsBehind before f) (sym (ap views x.2) ∙ sym (into x.0 x.1).1) at)
+        (same ∙ ap (λ t. spelling t ++ rest) (sym (ap views y.2) ∙ sym (into y.0 y.1).1)) in (
+          m.0,
+          subst (StandsBehind before m.0) ((into y.0 y.1).1 ∙ ap views y.2) m.1,
+          m.2,
+        );
+  }
+
   pub seen_faults : (read : Reader A) → Faults is fields read
       → Faults view_is views (seen view read)
   seen_faults read h = record {
+    places = seen_together h.places;
     told = λ octets left are e.
         elim (bind_err (read octets) (λ x. Ok (view x.0, x.1)) left e) [
           | inl f ↦ stops_seen octets left (h.told octets left are f)
@@ -262,6 +319,7 @@ pub alike_faults : {A : Type 0} {is other_is : A → Type 0} {fields others : A 
     → ((x : A) → is x → other_is x × (fields x ≡ others x)) → ((x : A) → other_is x → is x)
     → Faults other_is others read
 alike_faults h into from = record {
+  places = seen_together (λ x. x) into (λ c k. (c, from c k, refl)) h.places;
   told = λ octets left are e.
       stops_seen (λ x. x) into (λ c k. (c, from c k, refl)) octets left (h.told octets left are e);
 }
@@ -271,6 +329,7 @@ pub so_faults : {A : Type 0} {is : A → Type 0} {fields : A → List Field} {re
     → Faults is fields read → ((octets : List ℕ) → other octets ≡ read octets)
     → Faults is fields other
 so_faults h so = record {
+  places = h.places;
   told = λ octets left are e. h.told octets left are (sym (so octets) ∙ e);
 }
 
@@ -321,20 +380,35 @@ abbrev pub one_field : {A : Type 0} → (A → List ℕ) → Ending → A → Li
 one_field octets_of ending x = record { ending = ending; octets = octets_of x } ∷ []
 
 only_here : (f : Field) (before : List ℕ) (g : Field) → StandsBehind before g (f ∷ [])
-    → g.octets ≡ f.octets
-only_here f before g s = go s.front s.parts
+    → (g ≡ f) × (before ≡ [])
+only_here f before g s = go s.front s.parts s.are_before
   where
-    go : (front : List Field) → f ∷ [] ≡ front ++ g ∷ s.others → g.octets ≡ f.octets
-    go [] e = let same : f ≡ g = cc in sym (ap (λ (k : Field). k.octets) same)
-    go (k ∷ []) e = absurd cc
-    go (k ∷ l ∷ front) e = absurd cc
+    go : (front : List Field) → f ∷ [] ≡ front ++ g ∷ s.others → before ≡ spelling front
+        → (g ≡ f) × (before ≡ [])
+    go [] e b = let same : f ≡ g = cc in (sym same, b)
+    go (k ∷ []) e b = absurd cc
+    go (k ∷ l ∷ front) e b = absurd cc
+
+only_octets : (f : Field) (g : Field) → StandsBehind [] g (f ∷ []) → g.octets ≡ f.octets
+only_octets f g s = ap (λ (k : Field). k.octets) (only_here f [] g s).0
 
 pub field_faults : {A : Type 0} {is : A → Type 0} (octets_of : A → List ℕ) (ending : Ending)
     (read : Reader A)
+    → ((x y : A) → is x → is y → Meets (record { ending = ending; octets = octets_of x })
+    (record { ending = ending; octets = octets_of y }))
     → ((octets : List ℕ) (left : ℕ) → AreOctets octets → read octets ≡ Err left
     → (x : A) × is x × Stops ending (octets_of x) octets left (Dead is octets_of octets))
     → Faults is (one_field octets_of ending) read
-field_faults {is = is} octets_of ending read h = record {
+field_faults {is = is} octets_of ending read meets h = record {
+  places = record {
+    meet = λ x y before here rest f k l at same.
+        let o = only_here (record { ending = ending; octets = octets_of x }) before f at in (
+          record { ending = ending; octets = octets_of y },
+          record { front = []; others = []; parts = refl; are_before = o.1 },
+          subst (λ t. Meets t (record { ending = ending; octets = octets_of y })) (sym o.0)
+              (meets x y k l),
+        );
+  };
   told = λ octets left are e.
       let s = h octets left are e in
       record {
@@ -351,9 +425,36 @@ field_faults {is = is} octets_of ending read h = record {
               field = λ x g more rest k at filled same.
                   dead x more rest k (same
                   ∙ ap (λ t. t ++ rest)
-                  (only_here (record { ending = ending; octets = octets_of x }) [] g at));
+                  (only_octets (record { ending = ending; octets = octets_of x }) g at));
               whole = λ x more rest k same.
                   dead x more rest k (same ∙ ap (λ t. t ++ rest) (append-nil (octets_of x)));
             });
       };
+}
+
+-- fields of one size
+pub sized_meets : {A : Type 0} {is : A → Type 0} (octets_of : A → List ℕ) (size : ℕ)
+    → ((x : A) → is x → length (octets_of x) ≡ size) → (x y : A) → is x → is y
+    → Meets (record { ending = Sized; octets = octets_of x })
+    (record { ending = Sized; octets = octets_of y })
+sized_meets octets_of size long x y h k = record {
+  ending = refl;
+  size = λ e. long x h ∙ sym (long y k);
+  there = λ rest few. let r : ⊥ =
+      omega (arith, few, long x h, long y k, length-append (octets_of y) rest) in r;
+}
+
+-- fields of which none begins another
+pub open_meets : {A : Type 0} {is : A → Type 0} (octets_of : A → List ℕ) {read : Reader A}
+    → IsReadAs is octets_of read → (x y : A) → is x → is y
+    → Meets (record { ending = Open; octets = octets_of x })
+    (record { ending = Open; octets = octets_of y })
+open_meets octets_of reads x y h k = record {
+  ending = refl;
+  size = λ e. absurd cc;
+  there = λ rest m.
+      let o =
+      one_spelling reads y x (rest ++ m.0) [] k h
+      (sym (append_assoc (octets_of y) rest m.0) ∙ m.2 ∙ sym (append-nil (octets_of x))) in
+      let r : ⊥ = omega (arith, ap length o.1, length-append rest m.0, m.1) in r;
 }

@@ -8,6 +8,7 @@ use Rattle.rdata_layout.specs.Names.{IsName}
 use Rattle.octet_reading.specs.Names.{name_at}
 use Rattle.octet_reading.specs.Laws.{TellsName}
 use Rattle.octet_reading.specs.Readers.{text_at}
+use Rattle.octet_reading.proofs.Base.{name_read}
 use Rattle.octet_reading.proofs.Rules.{err_is}
 use Rattle.octet_reading.proofs.Texts.{all_from}
 use Rattle.octet_reading.proofs.Told.{names_are_told}
@@ -19,7 +20,7 @@ use Rattle.set_fields.specs.Laws.{IsCountry}
 use Rattle.set_fields.specs.Texts.{country_at, ident_at, region_at, sub_at, begins_with_star, location_at}
 use Rattle.fault_places.specs.Fields.{Stops}
 use Rattle.fault_places.specs.Fields.Ending.{Open}
-use Rattle.fault_places.proofs.Steps.{Faults, Dead, dead_by, one_field, field_faults}
+use Rattle.fault_places.proofs.Steps.{Faults, Dead, dead_by, one_field, field_faults, open_meets}
 
 -- why one of these fields stops
 abbrev Stopping : {A : Type 0} → (A → Type 0) → (A → List ℕ) → List ℕ → ℕ → Type 0
@@ -65,7 +66,7 @@ name_told octets left (inr t) =
     (λ labels more rest is e. t.1 more labels rest (record { name = is; spelled = e }))
 
 pub name_faults : Faults IsName (one_field wire Open) name_at
-name_faults = field_faults wire Open name_at (λ octets left are e.
+name_faults = field_faults wire Open name_at (open_meets wire name_read) (λ octets left are e.
     name_told octets left (subst (TellsName octets) e (names_are_told octets are)))
 
 -- the letters of a country
@@ -114,7 +115,7 @@ country_stops (a ∷ b ∷ rest) left e =
     both_letters a b rest left (is_capital a && is_capital b) refl e
 
 pub country_faults : Faults IsCountry (one_field (λ letters. letters) Open) country_at
-country_faults = field_faults (λ letters. letters) Open country_at
+country_faults = field_faults (λ letters. letters) Open country_at (open_meets (λ letters. letters) fields_are_read.countries)
     (λ octets left are e. country_stops octets left e)
 
 -- so many of one byte
@@ -238,7 +239,7 @@ module _ (is_plain : ℕ → Bool) (most plain_byte : ℕ) (is_plain_byte : is_p
 
   pub text_faults : Faults (IsText is_plain most) (one_field text_octets Open)
       (text_at is_plain most)
-  text_faults = field_faults text_octets Open (text_at is_plain most)
+  text_faults = field_faults text_octets Open (text_at is_plain most) (open_meets text_octets (texts_read is_plain most))
       (λ octets left are e. text_stops octets left e)
 
 pub ident_faults : Faults IsIdent (one_field text_octets Open) ident_at
@@ -301,5 +302,5 @@ unfolding location_at
 location_stops octets left e = by_star octets left (begins_with_star octets) refl e
 
 pub location_faults : Faults IsLocation (one_field text_octets Open) location_at
-location_faults = field_faults text_octets Open location_at
+location_faults = field_faults text_octets Open location_at (open_meets text_octets fields_are_read.locations)
     (λ octets left are e. location_stops octets left e)

@@ -2,6 +2,7 @@
 use Rattle.std.proofs.Common.{◌≡◌, ℕ, zero, suc, ◌+◌, ◌*◌, ◌≤◌, inl, inr, Bool, true, false, List, [], ◌∷◌, ◌++◌, length, take, drop, arith, ap, ◌∙◌, sym, refl, cond, length-append, Result, Ok, Err}
 use Rattle.std.specs.Prelude.{nat_lt}
 use Rattle.std.proofs.lemmas.Bool.{ltb-true, ltb-false, le-ltb}
+use Rattle.octets.specs.Numbers.{two_octets}
 use Rattle.rdata_layout.specs.Names.{AreOctets}
 use Rattle.octet_reading.specs.Layouts.{is_layout}
 use Rattle.octet_reading.proofs.Layouts.{layout_is}
@@ -15,7 +16,7 @@ use Rattle.set_reading.specs.Reading.{value_at}
 use Rattle.set_reading.proofs.ValueLists.{IsValue, value_read}
 use Rattle.fault_places.specs.Fields.{Stops, IsCutOff}
 use Rattle.fault_places.specs.Fields.Ending.{Counted}
-use Rattle.fault_places.proofs.Steps.{Faults, Dead, dead_by, one_field, field_faults}
+use Rattle.fault_places.proofs.Steps.{Faults, Dead, dead_by, one_field, field_faults, Meets}
 
 -- some value of each type: 0.0.0.0, the root, ::, an empty string, and so on
 abbrev least : RType → List ℕ
@@ -131,6 +132,21 @@ module _ (type : RType) where
       by_tests a b rest left (nat_lt (length rest) (a * 256 + b))
       (is_layout type (take (a * 256 + b) rest)) refl refl e
 
+  whole_value : (wire rest : List ℕ)
+      → IsCutOff ((two_octets (length wire) ++ wire) ++ rest) → ⊥
+  whole_value wire rest cut =
+      let n = length wire in
+      let k : ⊥ = omega (arith, cut, length-append wire rest) in k
+
+  value_meets : (x y : Datum) → IsValue type x → IsValue type y
+      → Meets (record { ending = Counted; octets = value_octets x })
+      (record { ending = Counted; octets = value_octets y })
+  value_meets x y h k = record {
+    ending = refl;
+    size = λ e. absurd cc;
+    there = λ rest cut. whole_value y.wire rest cut;
+  }
+
   pub value_faults : Faults (IsValue type) (one_field value_octets Counted) (value_at type)
-  value_faults = field_faults value_octets Counted (value_at type)
+  value_faults = field_faults value_octets Counted (value_at type) value_meets
       (λ octets left are e. value_stops octets left e)

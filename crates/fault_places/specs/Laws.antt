@@ -1,5 +1,5 @@
 -- Where the first fault of the octets of a set stands.
-use Rattle.std.specs.Prelude.{◌≡◌, ℕ, ◌+◌, ◌<◌, ◌⊎◌, List, length, Err}
+use Rattle.std.specs.Prelude.{◌≡◌, ℕ, ◌+◌, ◌<◌, ◌⊎◌, ◌↔◌, List, length, Err}
 use Rattle.std.specs.List.{AllByRecursion}
 use Rattle.set_fields.specs.NamesOfDnsName.{AreOctets}
 use Rattle.set_fields.specs.RecordSetRecord.{RecordSet}
@@ -23,9 +23,20 @@ pub record SetStopsAt (octets : List ℕ) (place : ℕ) : Type 0 where
   pub behind : place + left ≡ length octets
   pub stops : StopsIn IsInGrammar set_fields octets left
 
--- The place that reading tells is where octets stop on their way to a set. Of a set that is longer
--- than sets may be it is the first octet.
-abbrev pub SetFaultsStandFirst : Type 0
-SetFaultsStandFirst =
-    (octets : List ℕ) (place : ℕ) → AreOctets octets → read octets ≡ Err place
-    → SetStopsAt octets place ⊎ ((place ≡ 0) × BeginsWithLongSet octets)
+-- Where octets stop on their way to a set; for a set that is longer than sets may be, and has its
+-- fields in the grammar, the first octet.
+abbrev pub HasFaultAt : (octets : List ℕ) (place : ℕ) → Type 0
+HasFaultAt octets place =
+    SetStopsAt octets place ⊎ ((place ≡ 0) × BeginsWithLongSet octets)
+
+-- Reading tells this place exactly where octets have their fault at it.
+abbrev pub SetFaultsAsTold : Type 0
+SetFaultsAsTold =
+    (octets : List ℕ) (place : ℕ) → AreOctets octets
+    → (read octets ≡ Err place) ↔ HasFaultAt octets place
+
+-- Octets have one fault at most.
+abbrev pub OneFaultOfOctets : Type 0
+OneFaultOfOctets =
+    (octets : List ℕ) (place other : ℕ) → HasFaultAt octets place → HasFaultAt octets other
+    → place ≡ other

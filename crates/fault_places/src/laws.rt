@@ -1,6 +1,7 @@
 //! Laws over the definitions, each the contract of a function that does nothing.
 
-ghost use Rattle.fault_places.specs.Laws.{NoFieldIsEmpty, SetFaultsStandFirst, SetsAreFields};
+ghost use Rattle.fault_places.specs.Laws.{NoFieldIsEmpty, OneFaultOfOctets, SetFaultsAsTold};
+ghost use Rattle.fault_places.specs.Laws.{SetsAreFields};
 
 /// The octets of a set are its fields, one behind another.
 pub fn sets_are_fields()
@@ -12,7 +13,12 @@ pub fn no_field_is_empty()
     ensures { NoFieldIsEmpty }
 {}
 
-/// Up to its place octets could go on to a set, and with what stands there they can't.
-pub fn set_faults_stand_first()
-    ensures { SetFaultsStandFirst }
+/// Reading tells a place exactly where octets stop at it on their way to a set.
+pub fn set_faults_as_told()
+    ensures { SetFaultsAsTold }
+{}
+
+/// Octets have one fault at most.
+pub fn one_fault_of_octets()
+    ensures { OneFaultOfOctets }
 {}

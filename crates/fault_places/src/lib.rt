@@ -6,4 +6,4 @@
 
 mod laws;
 
-pub use laws::{no_field_is_empty, set_faults_stand_first, sets_are_fields};
+pub use laws::{no_field_is_empty, one_fault_of_octets, set_faults_as_told, sets_are_fields};
