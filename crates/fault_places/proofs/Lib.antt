@@ -6,3 +6,4 @@ pub mod Sets
 pub mod Steps
 pub mod Texts
 pub mod Values
+pub mod Vectors

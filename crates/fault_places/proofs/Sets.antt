@@ -1,5 +1,5 @@
 -- Where sets stop: places, policies, what sets answer, and sets as a whole.
-use Rattle.std.proofs.Common.{◌≡◌, ℕ, ◌-◌, ◌<◌, ◌^◌, inl, inr, Bool, true, false, List, [], ◌∷◌, ◌++◌, length, arith, ap, ◌∙◌, sym, refl, cond, append_assoc, append-nil, length-append, Option, None, Some, Result, Ok, Err}
+use Rattle.std.proofs.Common.{◌≡◌, ℕ, ◌+◌, ◌-◌, ◌<◌, ◌≤◌, ◌^◌, inl, inr, Bool, true, false, List, [], ◌∷◌, ◌++◌, length, arith, ap, ◌∙◌, sym, refl, cond, append_assoc, append-nil, length-append, Option, None, Some, Result, Ok, Err}
 use Rattle.std.specs.Prelude.{⊤, map, nat_lt}
 use Rattle.std.specs.List.{flat_map}
 use Rattle.std.proofs.lemmas.Bool.{ltb-true, lt-ltb}
@@ -37,15 +37,15 @@ use Rattle.set_reading.specs.Reading.{subdivision_at, places, place_at, weighted
 use Rattle.set_reading.proofs.Answering.{IsGoodBody, set_read}
 use Rattle.set_reading.proofs.Policies.{first, others, four_read, IsGoodPlace, IsGoodRouting, routing_read}
 use Rattle.set_reading.proofs.ValueLists.{IsValue, are_values, of_type, in_layout, value_read}
-use Rattle.fault_places.specs.Fields.{Field, spelling, StopsIn}
+use Rattle.fault_places.specs.Fields.{Field, spelling, StandsBehind, StopsIn, led_by}
 use Rattle.fault_places.specs.Fields.Ending.{Sized}
 use Rattle.fault_places.specs.Sets.{sized, open_ended, counted, place_fields, routing_fields, body_fields, check_fields, set_fields, IsInGrammar, BeginsWithLongSet}
-use Rattle.fault_places.specs.Laws.{SetStopsAt, HasFaultAt, SetFaultsAsTold, OneFaultOfOctets, SetsAreFields}
+use Rattle.fault_places.specs.Laws.{SetStopsAt, GoesOn, FaultsStandFirst, HasFaultAt, SetFaultsAsTold, OneFaultOfOctets, SetsAreFields}
 use Rattle.fault_places.proofs.Composed.{kinds_faults, list_faults, optional_faults, nothing_faults, is_there, fields_there}
 use Rattle.fault_places.proofs.Filled.{no_field_is_empty}
 use Rattle.fault_places.proofs.Leaves.{octet_faults, four_faults, flag_faults, type_faults, continent_faults, role_faults, ttl_faults}
 use Rattle.fault_places.proofs.Places.{none_begins, one_stop}
-use Rattle.fault_places.proofs.Steps.{Faults, seen_faults, alike_faults, in_turn_faults, in_turn_by_faults, spelling_append, one_field}
+use Rattle.fault_places.proofs.Steps.{Faults, seen_faults, alike_faults, in_turn_faults, in_turn_by_faults, spelling_append, stands_whole, one_field}
 use Rattle.fault_places.proofs.Texts.{name_faults, country_faults, ident_faults, region_faults, sub_faults, location_faults, root_is}
 use Rattle.fault_places.proofs.Values.{value_faults, some_value, some_is_value}
 
@@ -642,6 +642,35 @@ told octets place (Err left) are s e =
       behind = omega (arith, same, (set_read fields_are_read).fault octets left s);
       stops = set_faults.told octets left are s;
     })
+
+-- the fields before the place go on to a set
+goes_on : (before : List ℕ) (set : RecordSet) (field : Field) → IsInGrammar set
+    → StandsBehind before field (set_fields set) → GoesOn before
+goes_on before set field is stands =
+    let w = stands_whole before field (set_fields set) stands in
+    (set, field.octets ++ w.0, is, sym w.1 ∙ sym (sets_are_fields set))
+
+pub faults_stand_first : FaultsStandFirst
+faults_stand_first octets place s = (
+  goes_on s.stops.before s.stops.value s.stops.field s.stops.good s.stops.stands,
+  (elim s.stops.why [ inl m ↦ at_end m.0 | inr m ↦ at_field m.0 ]),
+  (elim s.stops.why [
+    | inl m ↦ inl (omega (arith, s.behind, m.0))
+    | inr m ↦ inr (λ set more rest is e.
+        m.2.whole set more rest is
+        (ap (λ t. t ++ more) (sym s.stops.parts) ∙ e ∙ ap (λ t. t ++ rest) (sets_are_fields set)))
+  ]),
+)
+  where
+    size : length octets ≡ length s.stops.before + length s.stops.here
+    size = ap length s.stops.parts ∙ length-append s.stops.before s.stops.here
+
+    at_end : s.left ≡ 0 → length s.stops.before ≤ place
+    at_end e = omega (arith, size, s.behind, e)
+
+    at_field : s.left + led_by s.stops.field.ending ≡ length s.stops.here
+        → length s.stops.before ≤ place
+    at_field e = omega (arith, size, s.behind, e)
 
 -- octets that stop begin with no set, however long
 no_set : (octets : List ℕ) (left : ℕ) → StopsIn IsInGrammar set_fields octets left

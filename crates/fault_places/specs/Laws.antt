@@ -1,5 +1,5 @@
 -- Where the first fault of the octets of a set stands.
-use Rattle.std.specs.Prelude.{◌≡◌, ℕ, ◌+◌, ◌<◌, ◌⊎◌, ◌↔◌, List, length, Err}
+use Rattle.std.specs.Prelude.{◌≡◌, ℕ, ◌+◌, ◌<◌, ◌≤◌, ◌⊎◌, ◌↔◌, List, ◌++◌, length, Err}
 use Rattle.std.specs.List.{AllByRecursion}
 use Rattle.set_fields.specs.NamesOfDnsName.{AreOctets}
 use Rattle.set_fields.specs.RecordSetRecord.{RecordSet}
@@ -22,6 +22,25 @@ pub record SetStopsAt (octets : List ℕ) (place : ℕ) : Type 0 where
   pub left : ℕ
   pub behind : place + left ≡ length octets
   pub stops : StopsIn IsInGrammar set_fields octets left
+
+-- octets that are the first of a set's
+abbrev pub GoesOn : List ℕ → Type 0
+GoesOn octets =
+    (set : RecordSet) × (more : List ℕ) × IsInGrammar set × (octets ++ more ≡ set_octets set)
+
+-- octets with which no set's agree as far as both go
+abbrev pub CanBeNoSet : List ℕ → Type 0
+CanBeNoSet octets =
+    (set : RecordSet) (more rest : List ℕ) → IsInGrammar set
+    → octets ++ more ≡ set_octets set ++ rest → ⊥
+
+-- Up to the field where octets stop they could go on to a set. There they end; or with what stands
+-- there they can't.
+abbrev pub FaultsStandFirst : Type 0
+FaultsStandFirst =
+    (octets : List ℕ) (place : ℕ) (stops : SetStopsAt octets place)
+    → GoesOn stops.stops.before × (length stops.stops.before ≤ place)
+    × ((place ≡ length octets) ⊎ CanBeNoSet octets)
 
 -- Where octets stop on their way to a set; for a set that is longer than sets may be, and has its
 -- fields in the grammar, the first octet.

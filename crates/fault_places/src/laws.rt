@@ -1,7 +1,7 @@
 //! Laws over the definitions, each the contract of a function that does nothing.
 
-ghost use Rattle.fault_places.specs.Laws.{NoFieldIsEmpty, OneFaultOfOctets, SetFaultsAsTold};
-ghost use Rattle.fault_places.specs.Laws.{SetsAreFields};
+ghost use Rattle.fault_places.specs.Laws.{FaultsStandFirst, NoFieldIsEmpty, OneFaultOfOctets};
+ghost use Rattle.fault_places.specs.Laws.{SetFaultsAsTold, SetsAreFields};
 
 /// The octets of a set are its fields, one behind another.
 pub fn sets_are_fields()
@@ -21,4 +21,9 @@ pub fn set_faults_as_told()
 /// Octets have one fault at most.
 pub fn one_fault_of_octets()
     ensures { OneFaultOfOctets }
+{}
+
+/// Up to where octets stop they could go on to a set; with what stands there they can't.
+pub fn faults_stand_first()
+    ensures { FaultsStandFirst }
 {}

@@ -6,4 +6,6 @@
 
 mod laws;
 
-pub use laws::{no_field_is_empty, one_fault_of_octets, set_faults_as_told, sets_are_fields};
+pub use laws::{
+    faults_stand_first, no_field_is_empty, one_fault_of_octets, set_faults_as_told, sets_are_fields,
+};
