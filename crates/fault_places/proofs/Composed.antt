@@ -12,7 +12,7 @@ use Rattle.octet_reading.proofs.Composed.{seen_in_turn, tested_read}
 use Rattle.fault_places.specs.Fields.{Field, spelling, StandsBehind}
 use Rattle.fault_places.specs.Fields.Ending.{Sized}
 use Rattle.fault_places.proofs.Leaves.{octet_read, two_faults, flag_faults, tested_octet}
-use Rattle.fault_places.proofs.Steps.{Faults, seen_faults, alike_faults, so_faults, in_turn_faults, then_faults}
+use Rattle.fault_places.proofs.Steps.{Faults, AreFilled, seen_faults, alike_faults, so_faults, in_turn_faults, then_faults}
 
 -- nothing is read, and nothing stops
 nowhere : (before : List ℕ) (f : Field) (fields : List Field) → fields ≡ []
@@ -29,6 +29,7 @@ nothing_faults is fields x none = record {
   places = record {
     meet = λ y z before here rest f h k at same.
         absurd (nowhere before f (fields y) (none y h) at);
+    filled = λ y h. subst AreFilled (sym (none y h)) tt;
   };
   told = λ octets left are e. absurd cc;
 }

@@ -46,7 +46,7 @@ octet_stops [] left e =
 octet_stops (n ∷ rest) left e = absurd cc
 
 pub octet_faults : Faults (λ n. ⊤) (one_field (λ n. n ∷ []) Sized) octet_at
-octet_faults = field_faults (λ n. n ∷ []) Sized octet_at (sized_meets (λ n. n ∷ []) 1 (λ x h. omega arith)) (λ octets left are e. octet_stops octets left e)
+octet_faults = field_faults (λ n. n ∷ []) Sized octet_at (sized_meets (λ n. n ∷ []) 1 (λ x h. omega arith)) (λ x h. omega arith) (λ octets left are e. octet_stops octets left e)
 
 two_stops : (octets : List ℕ) (left : ℕ) → two_at octets ≡ Err left
     → Stopping (λ n. n < 2 ^ 16) two_octets octets left
@@ -57,7 +57,7 @@ two_stops (a ∷ []) left e =
 two_stops (a ∷ b ∷ rest) left e = absurd cc
 
 pub two_faults : Faults (λ n. n < 2 ^ 16) (one_field two_octets Sized) two_at
-two_faults = field_faults two_octets Sized two_at (sized_meets two_octets 2 (λ x h. omega arith)) (λ octets left are e. two_stops octets left e)
+two_faults = field_faults two_octets Sized two_at (sized_meets two_octets 2 (λ x h. omega arith)) (λ x h. omega arith) (λ octets left are e. two_stops octets left e)
 
 four_stops : (octets : List ℕ) (left : ℕ) → four_at octets ≡ Err left
     → Stopping (λ n. ⊤) four_octets octets left
@@ -72,7 +72,7 @@ four_stops (a ∷ b ∷ c ∷ []) left e =
 four_stops (a ∷ b ∷ c ∷ d ∷ rest) left e = absurd cc
 
 pub four_faults : Faults (λ n. ⊤) (one_field four_octets Sized) four_at
-four_faults = field_faults four_octets Sized four_at (sized_meets four_octets 4 (λ x h. omega arith)) (λ octets left are e. four_stops octets left e)
+four_faults = field_faults four_octets Sized four_at (sized_meets four_octets 4 (λ x h. omega arith)) (λ x h. omega arith) (λ octets left are e. four_stops octets left e)
 
 flag_stops : (octets : List ℕ) (left : ℕ) → flag_at octets ≡ Err left
     → Stopping (λ flag. ⊤) (λ flag. flag_octet flag ∷ []) octets left
@@ -86,7 +86,7 @@ flag_stops (suc (suc n) ∷ rest) left e =
     (dead_by flag_read (suc (suc n) ∷ rest) (λ more. (length (rest ++ more) + 1, refl)))
 
 pub flag_faults : Faults (λ flag. ⊤) (one_field (λ flag. flag_octet flag ∷ []) Sized) flag_at
-flag_faults = field_faults (λ flag. flag_octet flag ∷ []) Sized flag_at (sized_meets (λ flag. flag_octet flag ∷ []) 1 (λ x h. omega arith))
+flag_faults = field_faults (λ flag. flag_octet flag ∷ []) Sized flag_at (sized_meets (λ flag. flag_octet flag ∷ []) 1 (λ x h. omega arith)) (λ x h. omega arith)
     (λ octets left are e. flag_stops octets left e)
 
 -- a number that stands for a value
@@ -119,7 +119,7 @@ module _ {A : Type 0} (value : ℕ → Option A) (some : A) where
 
     pub one_meaning : Faults (λ x. ⊤) (one_field (λ x. number x ∷ []) Sized)
         (meaning value octet_at)
-    one_meaning = field_faults (λ x. number x ∷ []) Sized (meaning value octet_at) (sized_meets (λ x. number x ∷ []) 1 (λ x h. omega arith))
+    one_meaning = field_faults (λ x. number x ∷ []) Sized (meaning value octet_at) (sized_meets (λ x. number x ∷ []) 1 (λ x h. omega arith)) (λ x h. omega arith)
         (λ octets left are e. one_stops octets left e)
 
   module _ (number : A → ℕ)
@@ -140,7 +140,7 @@ module _ {A : Type 0} (value : ℕ → Option A) (some : A) where
 
     pub two_meaning : Faults (λ x. ⊤) (one_field (λ x. two_octets (number x)) Sized)
         (meaning value two_at)
-    two_meaning = field_faults (λ x. two_octets (number x)) Sized (meaning value two_at) (sized_meets (λ x. two_octets (number x)) 2 (λ x h. omega arith))
+    two_meaning = field_faults (λ x. two_octets (number x)) Sized (meaning value two_at) (sized_meets (λ x. two_octets (number x)) 2 (λ x h. omega arith)) (λ x h. omega arith)
         (λ octets left are e. pair_stops octets left e)
 
 pub type_faults : Faults (λ type. ⊤) (one_field (λ type. two_octets (number_of type)) Sized) type_at
@@ -177,7 +177,7 @@ module _ (test : ℕ → Bool) {is : ℕ → Type 0} (some : ℕ) (is_some : is 
       )))
 
   pub tested_octet : Faults is (one_field (λ n. n ∷ []) Sized) (tested test octet_at)
-  tested_octet = field_faults (λ n. n ∷ []) Sized (tested test octet_at) (sized_meets (λ n. n ∷ []) 1 (λ x h. omega arith))
+  tested_octet = field_faults (λ n. n ∷ []) Sized (tested test octet_at) (sized_meets (λ n. n ∷ []) 1 (λ x h. omega arith)) (λ x h. omega arith)
       (λ octets left are e. tested_octet_stops octets left e)
 
 ttl_stops : (octets : List ℕ) (left : ℕ) → ttl_at octets ≡ Err left
@@ -202,4 +202,4 @@ ttl_stops (a ∷ b ∷ c ∷ d ∷ rest) left e =
     )))
 
 pub ttl_faults : Faults (λ ttl. ttl < 2 ^ 31) (one_field four_octets Sized) ttl_at
-ttl_faults = field_faults four_octets Sized ttl_at (sized_meets four_octets 4 (λ x h. omega arith)) (λ octets left are e. ttl_stops octets left e)
+ttl_faults = field_faults four_octets Sized ttl_at (sized_meets four_octets 4 (λ x h. omega arith)) (λ x h. omega arith) (λ octets left are e. ttl_stops octets left e)

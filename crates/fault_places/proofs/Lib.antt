@@ -1,5 +1,4 @@
 pub mod Composed
-pub mod Filled
 pub mod Leaves
 pub mod Places
 pub mod Sets

@@ -5,8 +5,7 @@ use Rattle.std.proofs.lemmas.Bool.{ltb-true, ltb-false}
 use Rattle.std.proofs.lemmas.List.{nil_from_length}
 use Rattle.fault_places.specs.Fields.{Ending, Field, spelling, StandsBehind, IsMissing, IsThere, led_by, NoneFits, Stops, StopsIn}
 use Rattle.fault_places.specs.Fields.Ending.{Sized, Open, Counted}
-use Rattle.fault_places.proofs.Filled.{AreFilled}
-use Rattle.fault_places.proofs.Steps.{Together, Meets, spelling_append, stands_whole}
+use Rattle.fault_places.proofs.Steps.{AreFilled, is_filled, Together, Meets, spelling_append, stands_whole}
 
 -- one of two beginnings of a list begins the other
 begins : (a b x y : List ℕ) → a ++ x ≡ b ++ y → length a ≤ length b
@@ -81,15 +80,6 @@ in_front a b f g fields s t less =
           ))
     ]
 
-filled_at : (front others : List Field) (f : Field) → AreFilled (front ++ f ∷ others)
-    → 0 < length f.octets
-filled_at [] others f h = h.0
-filled_at (g ∷ front) others f h = filled_at front others f h.1
-
-is_filled : (a : List ℕ) (f : Field) (fields : List Field) → AreFilled fields
-    → StandsBehind a f fields → 0 < length f.octets
-is_filled a f fields h s = filled_at s.front s.others f (subst AreFilled s.parts h)
-
 -- one field stands behind the same octets
 one_there : (a : List ℕ) (f g : Field) (fields : List Field) → AreFilled fields
     → StandsBehind a f fields → StandsBehind a g fields → f ≡ g
@@ -129,8 +119,7 @@ missing_there Sized field other here size m t none =
 missing_there Open field other here size m t none = none refl m.0 m.2
 missing_there Counted field other here size m t none = t m
 
-module _ {A : Type 0} {is : A → Type 0} {fields : A → List Field} (places : Together is fields)
-    (filled : (x : A) → is x → AreFilled (fields x)) where
+module _ {A : Type 0} {is : A → Type 0} {fields : A → List Field} (places : Together is fields) where
   -- nothing that stands whole where octets stop
   no_whole : (octets : List ℕ) (left : ℕ) (s : StopsIn is fields octets left) (y : A)
       (g : Field) (rest : List ℕ) → is y → StandsBehind s.before g (fields y)
@@ -141,7 +130,7 @@ module _ {A : Type 0} {is : A → Type 0} {fields : A → List Field} (places : 
       go (inl m) =
           meets.there rest (subst (IsMissing s.field.ending s.field.octets) same m.1)
       go (inr m) =
-          m.2.field y g [] rest h at (is_filled s.before g (fields y) (filled y h) at)
+          m.2.field y g [] rest h at
           (append-nil s.here ∙ same)
 
   -- octets that stop begin with no whole
@@ -195,7 +184,7 @@ module _ {A : Type 0} {is : A → Type 0} {fields : A → List Field} (places : 
         (ap (λ b. b ++ (t.field.octets ++ w.0)) same ∙ sym w.1
         ∙ sym (append-nil (spelling (fields t.value)))) in
         subst (Meets s.field)
-        (one_there s.before m.0 t.field (fields t.value) (filled t.value t.good) m.1
+        (one_there s.before m.0 t.field (fields t.value) (places.filled t.value t.good) m.1
         (subst (λ b. StandsBehind b t.field (fields t.value)) (sym same) t.stands)) m.2
 
     not_both_ways : IsMissing s.field.ending s.field.octets s.here
@@ -208,7 +197,6 @@ module _ {A : Type 0} {is : A → Type 0} {fields : A → List Field} (places : 
         (λ is_open more e.
         none.field s.value s.field more [] s.good
         (subst (λ b. StandsBehind b s.field (fields s.value)) same s.stands)
-        (is_filled s.before s.field (fields s.value) (filled s.value s.good) s.stands)
         (ap (λ h. h ++ more) (sym both_here) ∙ e ∙ sym (append-nil s.field.octets)))
 
   one_left : (octets : List ℕ) (left other : ℕ) (s : StopsIn is fields octets left)

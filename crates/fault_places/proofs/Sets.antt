@@ -39,10 +39,9 @@ use Rattle.set_reading.proofs.Policies.{first, others, four_read, IsGoodPlace, I
 use Rattle.set_reading.proofs.ValueLists.{IsValue, are_values, of_type, in_layout, value_read}
 use Rattle.fault_places.specs.Fields.{Field, spelling, StandsBehind, StopsIn, led_by}
 use Rattle.fault_places.specs.Fields.Ending.{Sized}
-use Rattle.fault_places.specs.Sets.{sized, open_ended, counted, place_fields, routing_fields, body_fields, check_fields, set_fields, IsInGrammar, BeginsWithLongSet}
-use Rattle.fault_places.specs.Laws.{SetStopsAt, GoesOn, FaultsStandFirst, HasFaultAt, SetFaultsAsTold, OneFaultOfOctets, SetsAreFields}
+use Rattle.fault_places.specs.Sets.{sized, open_ended, counted, place_fields, routing_fields, body_fields, check_fields, fields_of_set, IsInGrammar, BeginsWithLongSet}
+use Rattle.fault_places.specs.Laws.{NoFieldIsEmpty, SetStopsAt, GoesOn, FaultsStandFirst, HasFaultAt, SetFaultsAsTold, OneFaultOfOctets, SetsAreFields}
 use Rattle.fault_places.proofs.Composed.{kinds_faults, list_faults, optional_faults, nothing_faults, is_there, fields_there}
-use Rattle.fault_places.proofs.Filled.{no_field_is_empty}
 use Rattle.fault_places.proofs.Leaves.{octet_faults, four_faults, flag_faults, type_faults, continent_faults, role_faults, ttl_faults}
 use Rattle.fault_places.proofs.Places.{none_begins, one_stop}
 use Rattle.fault_places.proofs.Steps.{Faults, seen_faults, alike_faults, in_turn_faults, in_turn_by_faults, spelling_append, stands_whole, one_field}
@@ -548,7 +547,7 @@ sets_are_fields set =
     spelling_append (body_fields set.body) (check_fields set.check)
     ∙ ap (λ t. t ++ spelling (check_fields set.check)) (body_spelled set.body)
     ∙ ap (λ t. body_octets set.body ++ t) (check_spelled set.check) in
-    let all : spelling (set_fields set)
+    let all : spelling (fields_of_set set)
     ≡ head_octets set ++ (body_octets set.body ++ check_octets set.check) =
     spelling_append (head_fields head) (body_fields set.body ++ check_fields set.check)
     ∙ ap (λ t. t ++ spelling (body_fields set.body ++ check_fields set.check))
@@ -575,7 +574,7 @@ tail_faults : (type : RType) → Faults (GoodTail type) tail_fields (tail_at typ
 tail_faults type =
     in_turn_faults (body_read type) body_spelled (body_faults type) check_faults (None, tt)
 
-set_faults : Faults IsInGrammar set_fields set_at
+set_faults : Faults IsInGrammar fields_of_set set_at
 unfolding set_at
 set_faults = seen_faults set_of
     (λ x h. (
@@ -602,6 +601,9 @@ set_faults = seen_faults set_of
       (body.Alias [] false, None),
       (good_alias head.0.1 [] false root_is, tt),
     )))
+
+pub no_field_is_empty : NoFieldIsEmpty
+no_field_is_empty = set_faults.places.filled
 
 -- what reading tells
 too_long : (b : Bool) (y : RecordSet × ℕ) (place : ℕ)
@@ -645,9 +647,9 @@ told octets place (Err left) are s e =
 
 -- the fields before the place go on to a set
 goes_on : (before : List ℕ) (set : RecordSet) (field : Field) → IsInGrammar set
-    → StandsBehind before field (set_fields set) → GoesOn before
+    → StandsBehind before field (fields_of_set set) → GoesOn before
 goes_on before set field is stands =
-    let w = stands_whole before field (set_fields set) stands in
+    let w = stands_whole before field (fields_of_set set) stands in
     (set, field.octets ++ w.0, is, sym w.1 ∙ sym (sets_are_fields set))
 
 pub faults_stand_first : FaultsStandFirst
@@ -673,10 +675,10 @@ faults_stand_first octets place s = (
     at_field e = omega (arith, size, s.behind, e)
 
 -- octets that stop begin with no set, however long
-no_set : (octets : List ℕ) (left : ℕ) → StopsIn IsInGrammar set_fields octets left
+no_set : (octets : List ℕ) (left : ℕ) → StopsIn IsInGrammar fields_of_set octets left
     → (set : RecordSet) (rest : List ℕ) → IsInGrammar set → octets ≡ set_octets set ++ rest → ⊥
 no_set octets left s set rest is e =
-    none_begins set_faults.places no_field_is_empty octets left s set rest is
+    none_begins set_faults.places octets left s set rest is
     (e ∙ ap (λ t. t ++ rest) (sets_are_fields set))
 
 one_place : (octets : List ℕ) (place other : ℕ) → SetStopsAt octets place
@@ -686,7 +688,7 @@ one_place octets place other s t =
       arith,
       s.behind,
       t.behind,
-      one_stop set_faults.places no_field_is_empty octets s.left t.left s.stops t.stops,
+      one_stop set_faults.places octets s.left t.left s.stops t.stops,
     )
 
 pub one_fault_of_octets : OneFaultOfOctets

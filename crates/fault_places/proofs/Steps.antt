@@ -1,5 +1,6 @@
 -- Where readers that are built from readers stop.
-use Rattle.std.proofs.Common.{◌≡◌, ℕ, ◌⊎◌, inl, inr, List, [], ◌∷◌, ◌++◌, length, arith, ap, ◌∙◌, sym, refl, subst, append_assoc, append-nil, length-append, Result, Ok, Err}
+use Rattle.std.proofs.Common.{◌≡◌, ℕ, ◌<◌, ◌⊎◌, inl, inr, List, [], ◌∷◌, ◌++◌, length, arith, ap, ◌∙◌, sym, refl, subst, append_assoc, append-nil, length-append, Result, Ok, Err}
+use Rattle.std.specs.List.{AllByRecursion}
 use Rattle.rdata_layout.specs.Names.{AreOctets}
 use Rattle.octet_reading.specs.Readers.{Reader, seen, in_turn, in_turn_by}
 use Rattle.octet_reading.specs.Reading.{◌>>=◌}
@@ -15,11 +16,29 @@ pub record Meets (f g : Field) : Type 0 where
   pub size : f.ending ≡ Sized → length f.octets ≡ length g.octets
   pub there : (rest : List ℕ) → IsMissing f.ending f.octets (g.octets ++ rest) → ⊥
 
--- A place behind whole fields is one in all that goes on from there.
+-- no field is empty
+abbrev pub AreFilled : List Field → Type 0
+AreFilled fields = AllByRecursion (λ (field : Field). 0 < length field.octets) fields
+
+both_filled : (xs ys : List Field) → AreFilled xs → AreFilled ys → AreFilled (xs ++ ys)
+both_filled [] ys h k = k
+both_filled (x ∷ xs) ys h k = (h.0, both_filled xs ys h.1 k)
+
+filled_at : (front others : List Field) (f : Field) → AreFilled (front ++ f ∷ others)
+    → 0 < length f.octets
+filled_at [] others f h = h.0
+filled_at (g ∷ front) others f h = filled_at front others f h.1
+
+pub is_filled : (a : List ℕ) (f : Field) (fields : List Field) → AreFilled fields
+    → StandsBehind a f fields → 0 < length f.octets
+is_filled a f fields h s = filled_at s.front s.others f (subst AreFilled s.parts h)
+
+-- A place behind whole fields is one in all that goes on from there; and no field is empty.
 pub record Together {A : Type 0} (is : A → Type 0) (fields : A → List Field) : Type 0 where
   pub meet : (x y : A) (before here rest : List ℕ) (f : Field) → is x → is y
       → StandsBehind before f (fields x) → before ++ here ≡ spelling (fields y) ++ rest
       → (g : Field) × StandsBehind before g (fields y) × Meets f g
+  pub filled : (x : A) → is x → AreFilled (fields x)
 
 -- where a reader stops
 pub record Faults {A : Type 0} (is : A → Type 0) (fields : A → List Field) (read : Reader A)
@@ -135,9 +154,9 @@ module _ {A C : Type 0} {is : A → Type 0} {octets_of : A → List ℕ} {fields
   none_first : (octets : List ℕ) (left : ℕ) (before here : List ℕ) → octets ≡ before ++ here
       → read octets ≡ Err left → NoneFits is fields before here → NoneFits good whole before here
   none_first octets left before here e f none = record {
-    field = λ y g more rest h at filled same.
+    field = λ y g more rest h at same.
         elim (split_stands before g (fields (part y)) (later y) at) [
-          | inl a ↦ none.field (part y) g more rest h.0 a filled same
+          | inl a ↦ none.field (part y) g more rest h.0 a same
           | inr m ↦
               reads_first octets left (part y) (m.0 ++ here) h.0
               (e ∙ ap (λ t. t ++ here) m.1 ∙ append_assoc (spelling (fields (part y))) m.0 here) f
@@ -169,7 +188,7 @@ module _ {A C : Type 0} {is : A → Type 0} {octets_of : A → List ℕ} {fields
       → NoneFits (λ c. later_is c × (part c ≡ x)) later before here
       → NoneFits good whole (spelling (fields x) ++ before) here
   none_later x before here is_x none = record {
-    field = λ y g more rest h at filled same.
+    field = λ y g more rest h at same.
         elim (split_stands (spelling (fields x) ++ before) g (fields (part y)) (later y) at) [
           | inl a ↦
               let w = stands_whole (spelling (fields x) ++ before) g (fields (part y)) a in
@@ -182,12 +201,13 @@ module _ {A C : Type 0} {is : A → Type 0} {octets_of : A → List ℕ} {fields
                 ap length o.1,
                 length-append before (g.octets ++ w.0),
                 length-append g.octets w.0,
-                filled,
+                is_filled (spelling (fields x) ++ before) g (fields (part y))
+                    (told.places.filled (part y) h.0) a,
               ) in k
           | inr m ↦
               let o = one_first x (part y) before m.0 is_x h.0 m.1 in
               none.field y g more rest (h.1, sym o.0)
-              (subst (λ t. StandsBehind t g (later y)) (sym o.1) m.2) filled same
+              (subst (λ t. StandsBehind t g (later y)) (sym o.1) m.2) same
         ];
     whole = λ y more rest h same.
         let o =
@@ -248,7 +268,12 @@ module _ {A C : Type 0} {is : A → Type 0} {octets_of : A → List ℕ} {fields
   pub then_faults : Faults (λ c. is (part c) × later_is c) (λ c. fields (part c) ++ later c)
       (λ octets. read octets >>= λ x. next x.0 x.1)
   then_faults = record {
-    places = record { meet = then_meet };
+    places = record {
+      meet = then_meet;
+      filled = λ x h.
+          both_filled (fields (part x)) (later x) (told.places.filled (part x) h.0)
+          ((each (part x) h.0).places.filled x (h.1, refl));
+    };
     told = λ octets left are e.
         elim (bind_err (read octets) (λ x. next x.0 x.1) left e) [
           | inl f ↦ from_first octets left are f
@@ -264,10 +289,9 @@ module _ {A C : Type 0} {is : A → Type 0} {fields : A → List Field} {view_is
   none_seen : (before here : List ℕ) → NoneFits is fields before here
       → NoneFits view_is views before here
   none_seen before here none = record {
-    field = λ c g more rest h at filled same.
+    field = λ c g more rest h at same.
         let f = from c h in
-        none.field f.0 g more rest f.1 (subst (StandsBehind before g) (sym (ap views f.2) ∙ sym (into f.0 f.1).1) at) filled
-        same;
+        none.field f.0 g more rest f.1 (subst (StandsBehind before g) (sym (ap views f.2) ∙ sym (into f.0 f.1).1) at) same;
     whole = λ c more rest h same.
         let f = from c h in
         none.whole f.0 more rest f.1 (same ∙ ap (λ t. spelling t ++ rest) (sym (ap views f.2) ∙ sym (into f.0 f.1).1));
@@ -289,6 +313,8 @@ module _ {A C : Type 0} {is : A → Type 0} {fields : A → List Field} {view_is
 
   pub seen_together : Together is fields → Together view_is views
   seen_together h = record {
+    filled = λ c k. let x = from c k in
+        subst AreFilled ((into x.0 x.1).1 ∙ ap views x.2) (h.filled x.0 x.1);
     meet = λ c d before here rest f k l at same.
         let x = from c k in
         let y = from d l in
@@ -396,11 +422,13 @@ pub field_faults : {A : Type 0} {is : A → Type 0} (octets_of : A → List ℕ)
     (read : Reader A)
     → ((x y : A) → is x → is y → Meets (record { ending = ending; octets = octets_of x })
     (record { ending = ending; octets = octets_of y }))
+    → ((x : A) → is x → 0 < length (octets_of x))
     → ((octets : List ℕ) (left : ℕ) → AreOctets octets → read octets ≡ Err left
     → (x : A) × is x × Stops ending (octets_of x) octets left (Dead is octets_of octets))
     → Faults is (one_field octets_of ending) read
-field_faults {is = is} octets_of ending read meets h = record {
+field_faults {is = is} octets_of ending read meets filled h = record {
   places = record {
+    filled = λ x k. (filled x k, tt);
     meet = λ x y before here rest f k l at same.
         let o = only_here (record { ending = ending; octets = octets_of x }) before f at in (
           record { ending = ending; octets = octets_of y },
@@ -422,7 +450,7 @@ field_faults {is = is} octets_of ending read meets h = record {
         why = stops_for ending (octets_of s.0) octets left (Dead is octets_of octets)
             (NoneFits is (one_field octets_of ending) [] octets) s.2
             (λ dead. record {
-              field = λ x g more rest k at filled same.
+              field = λ x g more rest k at same.
                   dead x more rest k (same
                   ∙ ap (λ t. t ++ rest)
                   (only_octets (record { ending = ending; octets = octets_of x }) g at));

@@ -1,9 +1,9 @@
 -- Where the fields of sets stop whose own octets say where they end: names, letters and texts.
 use Rattle.std.proofs.Common.{◌≡◌, ℕ, zero, suc, ◌+◌, ◌-◌, ◌<◌, ◌≤◌, inl, inr, Bool, true, false, not, List, [], ◌∷◌, ◌++◌, length, take, drop, arith, ap, ◌∙◌, sym, refl, subst, cond, append-nil, length-append, Result, Ok, Err}
 use Rattle.std.specs.Prelude.{◌||◌, ◌&&◌, ◌==◌, nat_lt}
-use Rattle.std.specs.List.{list_all, AllByRecursion}
+use Rattle.std.specs.List.{list_all, AllByRecursion, flat_map}
 use Rattle.std.proofs.lemmas.Bool.{ltb-true, ltb-false, or_from, or_parts, and_parts, and_from, not_from_true}
-use Rattle.rdata_layout.specs.Labels.{wire}
+use Rattle.rdata_layout.specs.Labels.{wire, frame}
 use Rattle.rdata_layout.specs.Names.{IsName}
 use Rattle.octet_reading.specs.Names.{name_at}
 use Rattle.octet_reading.specs.Laws.{TellsName}
@@ -37,7 +37,10 @@ faulty : {A : Type 0} {is : A → Type 0} (octets_of : A → List ℕ) (octets :
     → Stopping is octets_of octets left
 faulty octets_of octets left x h e dead = (x, h, inr (omega (arith, e), tt, dead))
 
--- some name
+-- some name; and each has an octet
+some_name : (labels : List (List ℕ)) → 0 < length (wire labels)
+some_name labels = omega (arith, length-append (flat_map frame labels) (0 ∷ []))
+
 pub root_is : IsName []
 root_is = record {
   raw = record { each = tt; fits = omega arith };
@@ -66,7 +69,7 @@ name_told octets left (inr t) =
     (λ labels more rest is e. t.1 more labels rest (record { name = is; spelled = e }))
 
 pub name_faults : Faults IsName (one_field wire Open) name_at
-name_faults = field_faults wire Open name_at (open_meets wire name_read) (λ octets left are e.
+name_faults = field_faults wire Open name_at (open_meets wire name_read) (λ labels h. some_name labels) (λ octets left are e.
     name_told octets left (subst (TellsName octets) e (names_are_told octets are)))
 
 -- the letters of a country
@@ -115,7 +118,7 @@ country_stops (a ∷ b ∷ rest) left e =
     both_letters a b rest left (is_capital a && is_capital b) refl e
 
 pub country_faults : Faults IsCountry (one_field (λ letters. letters) Open) country_at
-country_faults = field_faults (λ letters. letters) Open country_at (open_meets (λ letters. letters) fields_are_read.countries)
+country_faults = field_faults (λ letters. letters) Open country_at (open_meets (λ letters. letters) fields_are_read.countries) (λ letters h. omega (arith, h.two))
     (λ octets left are e. country_stops octets left e)
 
 -- so many of one byte
@@ -239,7 +242,7 @@ module _ (is_plain : ℕ → Bool) (most plain_byte : ℕ) (is_plain_byte : is_p
 
   pub text_faults : Faults (IsText is_plain most) (one_field text_octets Open)
       (text_at is_plain most)
-  text_faults = field_faults text_octets Open (text_at is_plain most) (open_meets text_octets (texts_read is_plain most))
+  text_faults = field_faults text_octets Open (text_at is_plain most) (open_meets text_octets (texts_read is_plain most)) (λ text h. omega arith)
       (λ octets left are e. text_stops octets left e)
 
 pub ident_faults : Faults IsIdent (one_field text_octets Open) ident_at
@@ -302,5 +305,5 @@ unfolding location_at
 location_stops octets left e = by_star octets left (begins_with_star octets) refl e
 
 pub location_faults : Faults IsLocation (one_field text_octets Open) location_at
-location_faults = field_faults text_octets Open location_at (open_meets text_octets fields_are_read.locations)
+location_faults = field_faults text_octets Open location_at (open_meets text_octets fields_are_read.locations) (λ text h. omega arith)
     (λ octets left are e. location_stops octets left e)

@@ -149,4 +149,5 @@ module _ (type : RType) where
 
   pub value_faults : Faults (IsValue type) (one_field value_octets Counted) (value_at type)
   value_faults = field_faults value_octets Counted (value_at type) value_meets
+      (λ x h. omega (arith, length-append (two_octets (length x.wire)) x.wire))
       (λ octets left are e. value_stops octets left e)

@@ -55,10 +55,9 @@ led_by Counted = 2
 -- Nothing of this kind goes on with what stands here.
 pub record NoneFits {A : Type 0} (is : A → Type 0) (fields_of : A → List Field)
     (before here : List ℕ) : Type 0 where
-  -- no field that could stand behind those before it, and has an octet, agrees with what stands
-  -- there, and with more
+  -- no field that could stand behind those before it agrees with what stands there, and with more
   pub field : (x : A) (field : Field) (more rest : List ℕ) → is x
-      → StandsBehind before field (fields_of x) → 0 < length field.octets
+      → StandsBehind before field (fields_of x)
       → here ++ more ≡ field.octets ++ rest → ⊥
   -- and none at all begins with these octets, and more
   pub whole : (x : A) (more rest : List ℕ) → is x

@@ -6,22 +6,22 @@ use Rattle.set_fields.specs.RecordSetRecord.{RecordSet}
 use Rattle.set_fields.specs.Octets.{set_octets}
 use Rattle.set_reading.specs.Reading.{read}
 use Rattle.fault_places.specs.Fields.{Field, spelling, StopsIn}
-use Rattle.fault_places.specs.Sets.{set_fields, IsInGrammar, BeginsWithLongSet}
+use Rattle.fault_places.specs.Sets.{fields_of_set, IsInGrammar, BeginsWithLongSet}
 
 -- The octets of a set are its fields, one behind another.
 abbrev pub SetsAreFields : Type 0
-SetsAreFields = (set : RecordSet) → set_octets set ≡ spelling (set_fields set)
+SetsAreFields = (set : RecordSet) → set_octets set ≡ spelling (fields_of_set set)
 
 -- Each field of a set has an octet at least.
 abbrev pub NoFieldIsEmpty : Type 0
 NoFieldIsEmpty = (set : RecordSet) → IsInGrammar set
-    → AllByRecursion (λ (field : Field). 0 < length field.octets) (set_fields set)
+    → AllByRecursion (λ (field : Field). 0 < length field.octets) (fields_of_set set)
 
 -- Octets stop at this place on their way to a set.
 pub record SetStopsAt (octets : List ℕ) (place : ℕ) : Type 0 where
   pub left : ℕ
   pub behind : place + left ≡ length octets
-  pub stops : StopsIn IsInGrammar set_fields octets left
+  pub stops : StopsIn IsInGrammar fields_of_set octets left
 
 -- octets that are the first of a set's
 abbrev pub GoesOn : List ℕ → Type 0

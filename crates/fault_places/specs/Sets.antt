@@ -66,8 +66,8 @@ check_fields None = sized (0 ∷ []) ∷ []
 check_fields (Some check) = sized (1 ∷ []) ∷ sized (four_octets check) ∷ []
 
 -- name, type, policy, body and check
-abbrev pub set_fields : RecordSet → List Field
-set_fields set =
+abbrev pub fields_of_set : RecordSet → List Field
+fields_of_set set =
     (open_ended (wire set.name) ∷ sized (two_octets (number_of set.rtype))
     ∷ routing_fields set.routing)
     ++ (body_fields set.body ++ check_fields set.check)
