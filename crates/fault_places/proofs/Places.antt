@@ -22,6 +22,22 @@ same_front : (a x y : List ℕ) → a ++ x ≡ a ++ y → x ≡ y
 same_front [] x y e = e
 same_front (c ∷ a) x y e = same_front a x y cc
 
+-- what goes on behind the first of two beginnings
+through : (a k b rest all : List ℕ) → b ≡ a ++ k → all ≡ b ++ rest
+    → a ++ (k ++ rest) ≡ all ++ []
+through a k b rest all e f =
+    let regrouped : (a ++ k) ++ rest ≡ a ++ (k ++ rest) = append_assoc a k rest in
+    let whole : all ≡ (a ++ k) ++ rest = f ∙ ap (λ t. t ++ rest) e in
+    let same : a ++ (k ++ rest) ≡ all = sym (whole ∙ regrouped) in
+    same ∙ sym (append-nil all)
+
+piece_there : (a k b piece mid here later : List ℕ) → b ≡ a ++ k → b ≡ a ++ (piece ++ mid)
+    → here ≡ k ++ later → here ≡ piece ++ (mid ++ later)
+piece_there a k b piece mid here later e f g =
+    let same : k ≡ piece ++ mid = same_front a k (piece ++ mid) (sym e ∙ f) in
+    let whole : here ≡ (piece ++ mid) ++ later = g ∙ ap (λ t. t ++ later) same in
+    whole ∙ append_assoc piece mid later
+
 -- two fields of one list
 compare : (front later : List Field) (f g : Field) (others rest : List Field)
     → front ++ f ∷ others ≡ later ++ g ∷ rest
@@ -151,22 +167,16 @@ module _ {A : Type 0} {is : A → Type 0} {fields : A → List Field} (places : 
   not_earlier : (octets : List ℕ) (left other : ℕ) (s : StopsIn is fields octets left)
       (t : StopsIn is fields octets other) → length s.before < length t.before → ⊥
   not_earlier octets left other s t less =
-      let k = begins s.before t.before s.here t.here (sym s.parts ∙ t.parts) (omega (arith, less))
-      in
+      let k =
+      begins s.before t.before s.here t.here (sym s.parts ∙ t.parts) (omega (arith, less)) in
       let w = stands_whole t.before t.field (fields t.value) t.stands in
-      let through : s.before ++ (k.0 ++ (t.field.octets ++ w.0))
-      ≡ spelling (fields t.value) ++ [] =
-      sym (append_assoc s.before k.0 (t.field.octets ++ w.0))
-      ∙ ap (λ b. b ++ (t.field.octets ++ w.0)) (sym k.1) ∙ sym w.1
-      ∙ sym (append-nil (spelling (fields t.value))) in
       let m =
       places.meet s.value t.value s.before (k.0 ++ (t.field.octets ++ w.0)) [] s.field s.good t.good
-      s.stands through in
+      s.stands
+      (through s.before k.0 t.before (t.field.octets ++ w.0) (spelling (fields t.value)) k.1 w.1) in
       let f = in_front s.before t.before m.0 t.field (fields t.value) m.1 t.stands less in
-      let piece : k.0 ≡ m.0.octets ++ f.0 =
-      same_front s.before k.0 (m.0.octets ++ f.0) (sym k.1 ∙ f.1) in
       no_whole octets left s t.value m.0 (f.0 ++ t.here) t.good m.1 m.2
-      (k.2 ∙ ap (λ b. b ++ t.here) piece ∙ append_assoc m.0.octets f.0 t.here)
+      (piece_there s.before k.0 t.before m.0.octets f.0 s.here t.here k.1 f.1 k.2)
 
   -- at one field octets don't stop in two ways
   module _ (octets : List ℕ) (left other : ℕ) (s : StopsIn is fields octets left)

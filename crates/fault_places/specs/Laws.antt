@@ -23,7 +23,7 @@ pub record SetStopsAt (octets : List ℕ) (place : ℕ) : Type 0 where
   pub behind : place + left ≡ length octets
   pub stops : StopsIn IsInGrammar fields_of_set octets left
 
--- octets that are the first of a set's
+-- octets that are the first of a set's, however long the set
 abbrev pub GoesOn : List ℕ → Type 0
 GoesOn octets =
     (set : RecordSet) × (more : List ℕ) × IsInGrammar set × (octets ++ more ≡ set_octets set)
