@@ -1,0 +1,7 @@
+pub mod Blocks
+pub mod Checks
+pub mod Commands
+pub mod Long
+pub mod Parts
+pub mod SetFields
+pub mod Told

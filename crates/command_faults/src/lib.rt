@@ -1,0 +1,11 @@
+//! Where the first fault of the octets of a command stands, by what they could go on to.
+//!
+//! The crates below read octets field by field, and there a fault is where that reading stops. The
+//! laws here say it of the commands themselves and of their fields. There is no code.
+#![tactic(auto)]
+
+mod laws;
+
+pub use laws::{
+    command_faults_as_told, commands_are_fields, faults_stand_first, one_fault_of_octets,
+};
