@@ -5,3 +5,4 @@ pub mod Long
 pub mod Parts
 pub mod SetFields
 pub mod Told
+pub mod Vectors

@@ -17,12 +17,15 @@ use Rattle.fault_places.specs.Fields.{Field, StandsBehind, StopsIn, led_by}
 use Rattle.fault_places.proofs.Places.{none_begins, one_stop}
 use Rattle.fault_places.proofs.Steps.{stands_whole}
 use Rattle.command_faults.specs.Commands.{fields_of, octets_of_command, IsCommandInGrammar, HasLongSetAt, HasSurplusAt}
-use Rattle.command_faults.specs.Laws.{CommandsAreFields, CommandStopsAt, GoesOn, FaultsStandFirst, HasFaultAt, CommandFaultsAsTold, OneFaultOfOctets}
+use Rattle.command_faults.specs.Laws.{CommandsAreFields, NoFieldIsEmpty, CommandStopsAt, GoesOn, FaultsStandFirst, HasFaultAt, CommandFaultsAsTold, OneFaultOfOctets}
 use Rattle.command_faults.proofs.Commands.{any_front_at, front_part}
 use Rattle.command_faults.proofs.Long.{remains, front_agrees, long_of, long_is_front}
 
 pub commands_are_fields : CommandsAreFields
 commands_are_fields versioned = sym (front_part.spells versioned)
+
+pub no_field_is_empty : NoFieldIsEmpty
+no_field_is_empty = front_part.told.places.filled
 
 front : IsReadAs IsIn octets_in front_at
 front = front_read (written_reads_back fields_are_read) (sets_are_told fields_are_read)

@@ -1,15 +1,22 @@
 -- Where the first fault of the octets of a command stands.
 use Rattle.std.specs.Prelude.{◌≡◌, ℕ, ◌+◌, ◌<◌, ◌≤◌, ◌⊎◌, ◌↔◌, List, ◌++◌, length, Err}
+use Rattle.std.specs.List.{AllByRecursion}
 use Rattle.set_reading.specs.Names.{AreOctets}
 use Rattle.command_octets.specs.declared.commands.Command.{Command}
 use Rattle.command_codec.specs.Reading.{read}
-use Rattle.fault_places.specs.Fields.{spelling, StopsIn}
+use Rattle.fault_places.specs.Fields.{Field, spelling, StopsIn}
 use Rattle.command_faults.specs.Commands.{fields_of, octets_of_command, IsCommandInGrammar, HasLongSetAt, HasSurplusAt}
 
 -- The octets of a command are its fields, one behind another.
 abbrev pub CommandsAreFields : Type 0
 CommandsAreFields =
     (versioned : ℕ × Command) → octets_of_command versioned ≡ spelling (fields_of versioned)
+
+-- Each field of a command has an octet at least.
+abbrev pub NoFieldIsEmpty : Type 0
+NoFieldIsEmpty =
+    (versioned : ℕ × Command) → IsCommandInGrammar versioned
+    → AllByRecursion (λ (field : Field). 0 < length field.octets) (fields_of versioned)
 
 -- Octets stop at this place on their way to a command.
 pub record CommandStopsAt (octets : List ℕ) (place : ℕ) : Type 0 where

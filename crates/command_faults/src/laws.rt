@@ -1,11 +1,16 @@
 //! Laws over the definitions, each the contract of a function that does nothing.
 
 ghost use Rattle.command_faults.specs.Laws.{CommandFaultsAsTold, CommandsAreFields};
-ghost use Rattle.command_faults.specs.Laws.{FaultsStandFirst, OneFaultOfOctets};
+ghost use Rattle.command_faults.specs.Laws.{FaultsStandFirst, NoFieldIsEmpty, OneFaultOfOctets};
 
 /// The octets of a command are its fields, one behind another.
 pub fn commands_are_fields()
     ensures { CommandsAreFields }
+{}
+
+/// Each field of a command has an octet at least.
+pub fn no_field_is_empty()
+    ensures { NoFieldIsEmpty }
 {}
 
 /// Reading tells a place exactly where octets have their fault at it.

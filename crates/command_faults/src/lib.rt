@@ -7,5 +7,6 @@
 mod laws;
 
 pub use laws::{
-    command_faults_as_told, commands_are_fields, faults_stand_first, one_fault_of_octets,
+    command_faults_as_told, commands_are_fields, faults_stand_first, no_field_is_empty,
+    one_fault_of_octets,
 };
