@@ -51,7 +51,7 @@ use Rattle.command_faults.proofs.Blocks as blocks
 use Rattle.command_faults.proofs.Checks as parts
 use Rattle.command_faults.proofs.Checks.{number_part}
 use Rattle.command_faults.proofs.Parts.{Part, one_part, in_turn_part, in_turn_by_part, seen_part, alike_part, list_part, so_many_part}
-use Rattle.command_faults.proofs.SetFields.{set_faults}
+use Rattle.fault_places.proofs.Sets.{set_faults}
 
 -- ---- sets
 

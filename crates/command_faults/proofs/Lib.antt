@@ -3,6 +3,5 @@ pub mod Checks
 pub mod Commands
 pub mod Long
 pub mod Parts
-pub mod SetFields
 pub mod Told
 pub mod Vectors

@@ -574,7 +574,7 @@ tail_faults : (type : RType) → Faults (GoodTail type) tail_fields (tail_at typ
 tail_faults type =
     in_turn_faults (body_read type) body_spelled (body_faults type) check_faults (None, tt)
 
-set_faults : Faults IsInGrammar fields_of_set set_at
+pub set_faults : Faults IsInGrammar fields_of_set set_at
 unfolding set_at
 set_faults = seen_faults set_of
     (λ x h. (
