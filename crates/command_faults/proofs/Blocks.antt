@@ -215,7 +215,7 @@ has_line : (address : IpAddress) → has_kind block_lines (family_of address) �
 has_line (V4 octets) = refl
 has_line (V6 octets) = refl
 
-block_part : Part IsPrefixed block_octets block_fields block_at
+pub block_part : Part IsPrefixed block_octets block_fields block_at
 unfolding block_at
 block_part = record {
   reads = kinds_read kind_of IsPrefixed octets_later block_lines
@@ -254,13 +254,13 @@ put_part : Part (λ put. ⊤) (λ put. put_number put ∷ []) (λ put. sized (pu
     put_at
 put_part = one_part (λ put. sized (put_number put ∷ [])) (λ put. refl) put_read put_faults true tt
 
-location_part : Part IsLocationName text_octets (λ text. open_ended (text_octets text) ∷ [])
+pub location_part : Part IsLocationName text_octets (λ text. open_ended (text_octets text) ∷ [])
     location_at
 location_part = one_part (λ text. open_ended (text_octets text)) (λ text. refl) location_read
     (text_faults is_location_byte 16 0x61 refl (omega arith)) (0x61 ∷ [])
     (record { filled = omega arith; short = omega arith; plain = (refl, tt) })
 
-name_part : Part IsCollectionName text_octets (λ text. open_ended (text_octets text) ∷ []) name_at
+pub name_part : Part IsCollectionName text_octets (λ text. open_ended (text_octets text) ∷ []) name_at
 name_part = one_part (λ text. open_ended (text_octets text)) (λ text. refl) name_read
     (text_faults is_location_byte 64 0x61 refl (omega arith)) (0x61 ∷ [])
     (record { filled = omega arith; short = omega arith; plain = (refl, tt) })

@@ -242,7 +242,7 @@ kind_fields : (version : ℕ) (check : Check)
 kind_fields version (Endpoint threshold inverted disabled) = refl
 kind_fields version (Calculated threshold inverted disabled children) = refl
 
-check_part : (version : ℕ)
+pub check_part : (version : ℕ)
     → Part (IsSpelledCheck version) (check_octets version) (check_fields version) (check_at version)
 unfolding check_at
 check_part version =

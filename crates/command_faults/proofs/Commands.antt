@@ -138,7 +138,7 @@ change_part =
 abbrev IsOfKind : (version kind : ℕ) → Command → Type 0
 IsOfKind version kind what = HasGrammar version what × (kind_of what ≡ kind)
 
-name_part : Part IsName wire name_fields name_at
+pub name_part : Part IsName wire name_fields name_at
 name_part = one_part (λ name. open_ended (wire name)) (λ name. refl) name_read name_faults [] root_is
 
 servers_part : Part AreServers (λ servers. flat_map wire servers)

@@ -39,7 +39,7 @@ Agree evidence here any =
     (here ≡ any) ⊎ ((left : ℕ) × (here ≡ Err left) × evidence left × (remains any < left))
 
 -- the same of what is read behind it
-agree_then : {A B : Type 0} (evidence : ℕ → Type 0) (here any : Result (A × List ℕ) ℕ)
+pub agree_then : {A B : Type 0} (evidence : ℕ → Type 0) (here any : Result (A × List ℕ) ℕ)
     (next : A × List ℕ → Result (B × List ℕ) ℕ)
     → ((x : A × List ℕ) → remains (next x) ≤ length x.1)
     → Agree evidence here any → Agree evidence (here >>= next) (any >>= next)
@@ -49,13 +49,13 @@ agree_then evidence here (Ok x) next fewer (inr w) =
 agree_then evidence here (Err left) next fewer (inr w) =
     inr (w.0, ap (λ r. r >>= next) w.1, w.2, w.3)
 
-agree_for : {A : Type 0} (evidence other : ℕ → Type 0) (here any : Result (A × List ℕ) ℕ)
+pub agree_for : {A : Type 0} (evidence other : ℕ → Type 0) (here any : Result (A × List ℕ) ℕ)
     → ((left : ℕ) → evidence left → other left) → Agree evidence here any → Agree other here any
 agree_for evidence other here any h (inl e) = inl e
 agree_for evidence other here any h (inr w) = inr (w.0, w.1, h w.0 w.2, w.3)
 
 -- behind what both read
-agree_behind : {A B : Type 0} (evidence : ℕ → Type 0) (front : Result (A × List ℕ) ℕ)
+pub agree_behind : {A B : Type 0} (evidence : ℕ → Type 0) (front : Result (A × List ℕ) ℕ)
     (here any : A × List ℕ → Result (B × List ℕ) ℕ)
     → ((x : A × List ℕ) → front ≡ Ok x → Agree evidence (here x) (any x))
     → Agree evidence (front >>= here) (front >>= any)
@@ -107,7 +107,7 @@ by_length octets x false s e is =
     ∙ drop-append_seam (set_octets x.0) x.1 in
     inl (ap (λ (t : List ℕ). Ok (x.0, t)) behind)
 
-sets_agree : (octets : List ℕ) → AreOctets octets
+pub sets_agree : (octets : List ℕ) → AreOctets octets
     → Agree (BeginsLong octets) (set_at octets) (sets.set_at octets)
 unfolding set_at sets.read
 sets_agree octets are = go (sets.set_at octets) refl
@@ -122,7 +122,7 @@ sets_agree octets are = go (sets.set_at octets) refl
         let same : length octets - (length octets - left) ≡ left = omega (arith, f) in
         inl (ap Err same)
 
-long_is_told : (octets : List ℕ) (left : ℕ) → BeginsLong octets left → set_at octets ≡ Err left
+pub long_is_told : (octets : List ℕ) (left : ℕ) → BeginsLong octets left → set_at octets ≡ Err left
 unfolding set_at sets.read
 long_is_told octets left b =
     let read : sets.set_at octets ≡ Ok (b.set, b.rest) =
@@ -188,12 +188,12 @@ pub record AmongLong (n : ℕ) (octets : List ℕ) (left : ℕ) : Type 0 where
   pub each : AllByRecursion IsWholeChange changes
   pub parts : octets ≡ flat_map change_octets changes ++ inner
 
-remains_then : {A B : Type 0} (any : Result (A × List ℕ) ℕ) (next : A × List ℕ → Result (B × List ℕ) ℕ)
+pub remains_then : {A B : Type 0} (any : Result (A × List ℕ) ℕ) (next : A × List ℕ → Result (B × List ℕ) ℕ)
     → ((x : A × List ℕ) → remains (next x) ≤ length x.1) → remains (any >>= next) ≤ remains any
 remains_then (Ok x) next fewer = fewer x
 remains_then (Err left) next fewer = omega arith
 
-remains_read : {A : Type 0} {is : A → Type 0} {octets_of : A → List ℕ} {read : Reader A}
+pub remains_read : {A : Type 0} {is : A → Type 0} {octets_of : A → List ℕ} {read : Reader A}
     → IsReadAs is octets_of read → (octets : List ℕ) → remains (read octets) ≤ length octets
 remains_read {A = A} {read = read} reads octets = go (read octets) refl
   where
@@ -201,7 +201,7 @@ remains_read {A = A} {read = read} reads octets = go (read octets) refl
     go (Ok x) e = reads.left octets x.0 x.1 e
     go (Err left) e = reads.fault octets left e
 
-agree_stop : {A B : Type 0} (evidence : ℕ → Type 0) (here any : Result (A × List ℕ) ℕ)
+pub agree_stop : {A B : Type 0} (evidence : ℕ → Type 0) (here any : Result (A × List ℕ) ℕ)
     (next other : A × List ℕ → Result (B × List ℕ) ℕ) (left : ℕ)
     → ((x : A × List ℕ) → remains (other x) ≤ length x.1)
     → here ≡ Err left → evidence left → remains any < left

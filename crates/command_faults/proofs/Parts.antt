@@ -103,7 +103,7 @@ alike_part a into from same alike_fields = record {
 }
 
 -- lists, and what is optional
-flat_spelled : {A : Type 0} (octets_of : A → List ℕ) (fields : A → List Field)
+pub flat_spelled : {A : Type 0} (octets_of : A → List ℕ) (fields : A → List Field)
     → ((x : A) → spelling (fields x) ≡ octets_of x) → (xs : List A)
     → spelling (flat_map fields xs) ≡ flat_map octets_of xs
 flat_spelled octets_of fields spells [] = refl
@@ -161,7 +161,7 @@ module _ {A : Type 0} {is : A → Type 0} {octets_of : A → List ℕ} {fields :
   }
 
 -- a number of two octets that is tested
-refused : (b : Bool) (x : ℕ × List ℕ) (size left : ℕ)
+pub refused : (b : Bool) (x : ℕ × List ℕ) (size left : ℕ)
     → cond b (Ok x) (Err size) ≡ Err left → (b ≡ false) × (size ≡ left)
 refused true x size left e = absurd (let k : Ok x ≡ Err left = e in cc)
 refused false x size left e = (refl, err_is {A = ℕ × List ℕ} size left e)
