@@ -1,8 +1,9 @@
 -- Fields and faults of snapshots, from outside (FORMATS, Octets of snapshots).
-use Rattle.std.proofs.Common.{◌≡◌, ℕ, zero, suc, List, [], ◌∷◌, take, arith, refl, true, false, inl, inr, None, Err}
-use Rattle.std.specs.Prelude.{map, nat_lt}
-use Rattle.std.specs.List.{list_all, AllByRecursion}
+use Rattle.std.proofs.Common.{◌≡◌, ℕ, zero, suc, ◌+◌, ◌*◌, ◌<◌, ◌≤◌, ◌^◌, List, [], ◌∷◌, ◌++◌, length, take, arith, ap, sym, refl, append-nil, length-append, true, false, inl, inr, None, Err}
+use Rattle.std.specs.Prelude.{map, nat_lt, replicate}
+use Rattle.std.specs.List.{flat_map, list_all, AllByRecursion}
 use Rattle.std.proofs.lemmas.Bool.{and_parts, ltb-true}
+use Rattle.std.proofs.lemmas.List.{length-replicate}
 use Rattle.octet_reading.specs.Names.{name_at}
 use Rattle.rdata_layout.specs.Names.{AreOctets}
 use Rattle.block_octets.specs.IpAddressRecord.TheVariants.{V4}
@@ -10,6 +11,12 @@ use Rattle.check_model.specs.declared.checks.Check.TheVariants.{Endpoint}
 use Rattle.config_model.specs.RTypeRecord.TheVariants as rtype
 use Rattle.config_model.specs.BodyRecord.TheVariants as body
 use Rattle.set_fields.specs.RoutingRecord.TheVariants as routing
+use Rattle.set_fields.specs.Octets.{value_octets}
+use Rattle.set_reading.specs.Datum.{Datum}
+use Rattle.set_reading.specs.Names.{IsName}
+use Rattle.set_reading.specs.Octets.{set_octets}
+use Rattle.set_reading.specs.RecordSetRecord.{RecordSet}
+use Rattle.set_reading.specs.Values.{IsInLayout}
 use Rattle.snapshot_octets.specs.Configs.{Config, empty}
 use Rattle.snapshot_octets.specs.Reading.{read, front_at, version_at, config_at, later_at, zone_at}
 use Rattle.fault_places.specs.Fields.{Field}
@@ -181,3 +188,84 @@ unfolding read front_at version_at config_at zone_at name_at
 no_name = fault_at
     (2 ∷ 0 ∷ 0 ∷ 0 ∷ 8 ∷ 0 ∷ 0 ∷ 0 ∷ 1 ∷ 0 ∷ 0 ∷ 0 ∷ 1 ∷ 0 ∷ 0 ∷ 0 ∷ 7 ∷ 1 ∷ 0x41 ∷ 0 ∷ []) 17
     refl refl
+
+-- ---- a set that is too long
+
+-- `a` A with n times 192.0.2.1: too long from 10,921 values on
+abbrev address : Datum
+address = record { rtype = rtype.A; wire = 192 ∷ 0 ∷ 2 ∷ 1 ∷ [] }
+
+abbrev with_values : ℕ → RecordSet
+with_values n = record {
+  name = (0x61 ∷ []) ∷ [];
+  rtype = rtype.A;
+  routing = routing.Simple;
+  body = body.Values 60 (replicate n address);
+  check = None;
+}
+
+-- in zone 7, `a`, the only one and without other sets
+abbrev front : List ℕ
+front = 2 ∷ 0 ∷ 0 ∷ 0 ∷ 8 ∷ 0 ∷ 0 ∷ 0 ∷ 1 ∷ 0 ∷ 0 ∷ 0 ∷ 1
+    ∷ 0 ∷ 0 ∷ 0 ∷ 7 ∷ 1 ∷ 0x61 ∷ 0 ∷ 0 ∷ 0 ∷ 0 ∷ 1 ∷ []
+
+values_size : (n : ℕ) → length (flat_map value_octets (replicate n address)) ≡ 6 * n
+values_size zero = refl
+values_size (suc n) = omega (arith, values_size n)
+
+all_of : (P : Datum → Type 0) (n : ℕ) → P address → AllByRecursion P (replicate n address)
+all_of P zero h = tt
+all_of P (suc n) h = (h, all_of P n h)
+
+a_name : IsName ((0x61 ∷ []) ∷ [])
+a_name = record {
+  raw = record { each = (record { filled = omega arith; short = omega arith }, tt); fits = omega arith };
+  lower = (refl, tt);
+  octets = ((omega arith, tt), tt);
+}
+
+address_is : IsInLayout address
+address_is = record {
+  short = omega arith;
+  fields = (192 ∷ 0 ∷ 2 ∷ 1 ∷ [], [], refl, refl, refl);
+}
+
+set_size : (n : ℕ) → length (set_octets (with_values n)) ≡ 14 + 6 * n
+set_size n =
+    omega (
+      arith,
+      values_size n,
+      length-append (flat_map value_octets (replicate n address)) (0 ∷ []),
+    )
+
+pub long_set : (n : ℕ) → 10921 ≤ n → n < 2 ^ 16
+    → HasFaultAt (front ++ set_octets (with_values n)) 24
+long_set n many few = inr (inl (record {
+  version = 2;
+  config = record empty { next_zone = 8 };
+  zones = 1;
+  zone = record { id = 7; apex = (0x61 ∷ []) ∷ []; sets = [] };
+  sets = 1;
+  set = with_values n;
+  rest = [];
+  has = record {
+    known = inr (inl refl);
+    next = refl;
+    checks = record { count = omega arith; each = tt };
+    collections = refl;
+    zones = record { count = omega arith; each = tt };
+  };
+  few = omega arith;
+  fewer = omega arith;
+  is_zone = record { name = a_name; sets = tt };
+  fewer_sets = omega arith;
+  is = record {
+    is = record { name = a_name; routing = tt; body = all_of IsInLayout n address_is };
+    routing = tt;
+    body = (omega arith, omega (arith, few, length-replicate n address));
+    of_type = all_of (λ value. value.rtype ≡ rtype.A) n refl;
+  };
+  long = omega (arith, many, set_size n);
+  parts = ap (λ t. front ++ t) (sym (append-nil (set_octets (with_values n))));
+  behind = refl;
+}))
