@@ -1,19 +1,23 @@
 #!/usr/bin/env python3
-"""What a reader of the main theorem has to believe: each definition that the clauses of `run` reach, by file, with its lines.
+"""What a reader of the main theorem has to believe: each definition that the clauses of `run` reach, and those of the traits of what it is handed,
+by file, with its lines.
 
     python3 bench/believed.py            a table of files, with the lines of the definitions that are reached and of the file
     python3 bench/believed.py --names    each file with the definitions that are reached
     python3 bench/believed.py --rest     the files of specs/ from which nothing is reached
     python3 bench/believed.py --page     the table with a head, as docs/BELIEVED.md has it
 
-It begins with the imports of `crates/r53_cli/src/program.rt` that the contract of `run` names, and goes on through the imports of the definitions. A
-definition's lines are its own and the comment right above it. Structs and enums of the code are named as types, and not followed.
+It begins with the imports of `crates/r53_cli/src/program.rt` that the contract of `run` names, and with those that the traits of streams, disks and the
+network name in their clauses, which give what these tell its meaning (that of random words is a trait of the kit's `rand_core`). It goes on through the imports
+of the definitions. A definition's lines are its own and the comment right above it. Structs and enums of the code are named as types, and not followed.
 """
 import os
 import re
 import sys
 
 TOP = os.path.dirname(os.path.dirname(os.path.abspath(__file__)))
+# the traits of what is handed in
+TRAITS = ["r53_io/src/streams.rt", "r53_io/src/network.rt", "r53_disk/src/disk.rt"]
 NAME = r"[^\s{},;:()\[\].=]+"
 IMPORT = re.compile(r"(?:ghost )?use Rattle\.([\w.]+?)(?:\.\{([^}]*)\}|\s+as\s+(\w+))?;?\s*$", re.M)
 HEAD = re.compile(r"^(?:(?:pub|abbrev|unfoldable|opaque)\s+)*(?:(record|data)\s+)?(" + NAME + r")")
@@ -135,7 +139,12 @@ def main():
     contract = text[begin : text.index("\n{", begin)]
     names, _ = imports(text)
     words = set(re.findall(r"[\w']+", contract))
-    seen = reach(places for name, places in names.items() if name in words)
+    starts = [places for name, places in names.items() if name in words]
+    for path in TRAITS:
+        trait = read(f"{TOP}/crates/{path}")
+        words = set(re.findall(r"[\w']+", "".join(re.findall(r"^pub trait .*?^}", trait, re.M | re.S))))
+        starts += [places for name, places in imports(trait)[0].items() if name in words]
+    seen = reach(starts)
     files = {}
     for path, name in seen:
         files.setdefault(path, []).append(name)
@@ -151,8 +160,9 @@ def main():
         return
     if "--page" in sys.argv:
         print("# What a reader of the main theorem has to believe\n")
-        print("Each file of definitions that the contract of `run` reaches, with the lines of the definitions that are reached and of the whole file. `bench/believed.py")
-        print("--page` makes this page; with `--names` it lists the definitions of each. Structs and enums of the code are named as types, and not followed.\n")
+        print("Each file of definitions that the contract of `run` reaches, or the traits of the streams, the disks and the network that it is handed, with the lines of the definitions that")
+        print("are reached and of the whole file. `bench/believed.py --page` makes this page; with `--names` it lists the definitions of each. Structs and enums of the code are named as types, and")
+        print("not followed. What a random source gives is a trait of the kit's `rand_core`.\n")
         print("| File in `crates/` | Lines reached | Lines |\n|---|---|---|")
     for path in sorted(files):
         print(f"| `{short(path)}` | {size(path)} | {file_of(path).size} |" + (" " + ", ".join(f"`{it}`" for it in sorted(files[path])) if "--names" in sys.argv else ""))

@@ -1,6 +1,6 @@
 //! The checks that sets name, told by the slots of these, and how many sets name each.
 
-ghost use Rattle.std.specs.Prelude.{◌≡◌, ◌≢◌, ◌≤◌, ◌+◌, ◌<◌, ◌==◌, ◌↔◌, ℕ, [], IsTrue, false, vec_len};
+ghost use Rattle.std.specs.Prelude.{◌≡◌, ◌≢◌, ◌≤◌, ◌+◌, ◌<◌, ◌==◌, ◌↔◌, ℕ, [], IsOk, IsTrue, false, vec_len};
 ghost use Rattle.check_commands.specs.Counts.{AreCounted, IsTold, counted, one_if, times, told_at};
 
 use crate::counting::{CheckUse, fall, is_counted, rise};
@@ -43,12 +43,13 @@ impl NamedChecks {
         }
     }
 
-    /// Makes room for so many slots in all, and for so many checks more. Where no set ever named a
-    /// check, and none is to come, it takes no memory.
+    /// Makes room for so many slots in all, and for so many checks more. Where no set that comes
+    /// names one it takes no memory, since nothing is put for these.
     pub fn reserve(&mut self, slots: usize, checks: usize) -> Result<(), OutOfMemory>
-        ensures { self.new ≡ self.old }
+        ensures same { self.new ≡ self.old }
+        ensures plain { checks ≡ 0 → IsOk result }
     {
-        if checks == 0 && self.list.capacity() == 0 {
+        if checks == 0 {
             return Ok(());
         }
         make_room(&mut self.list, slots)?;
@@ -68,6 +69,7 @@ impl NamedChecks {
     /// memory: `false` where there is no room, and then all is as it was.
     pub fn put(&mut self, slot: u32, check: u32) -> bool
         ensures told { IsTrue result → told_at self.new slot ≡ check }
+        ensures same { result ≡ false → told_at self.new slot ≡ told_at self.old slot }
         ensures others { (other : ℕ) → other ≢ slot
             → told_at self.new other ≡ told_at self.old other }
     {
@@ -108,6 +110,8 @@ fn put(list: &mut Vec<u32>, uses: &mut Vec<CheckUse>, slot: u32, check: u32) -> 
     requires counted { AreCounted uses.old.items list.old.items }
     ensures counted { AreCounted uses.new.items list.new.items }
     ensures told { IsTrue result → told_at list.new.items slot ≡ check }
+    ensures same { result ≡ false
+        → told_at list.new.items slot ≡ told_at list.old.items slot }
     ensures others { (other : ℕ) → other ≢ slot
         → told_at list.new.items other ≡ told_at list.old.items other }
 {

@@ -4,7 +4,7 @@ use Rattle.std.specs.Prelude.{map}
 use Rattle.check_model.specs.declared.checks.Check.TheVariants.{Endpoint}
 use Rattle.check_model.specs.declared.checks.CheckCommand.TheVariants as check_command
 use Rattle.block_octets.specs.CidrCommandRecord.TheVariants as cidr_command
-use Rattle.block_octets.specs.IpAddressRecord.TheVariants.{V4}
+use Rattle.block_octets.specs.IpAddressRecord.TheVariants.{V4, V6}
 use Rattle.set_fields.specs.RTypeRecord.TheVariants as rtype
 use Rattle.set_fields.specs.RoutingRecord.TheVariants as routing
 use Rattle.set_fields.specs.BodyRecord.TheVariants as body
@@ -13,7 +13,7 @@ use Rattle.command_octets.specs.declared.commands.Command.{Command}
 use Rattle.command_octets.specs.declared.commands.Command.TheVariants as command
 use Rattle.fault_places.specs.Fields.{Field}
 use Rattle.fault_places.specs.Fields.Ending.{Sized, Open}
-use Rattle.command_faults.specs.Commands.{fields_of}
+use Rattle.command_faults.specs.Commands.{fields_of, octets_of_command}
 
 -- an endpoint's check of threshold 3: disabled stands in the second version alone
 abbrev endpoint : Command
@@ -39,6 +39,29 @@ pub fields_of_put : map (λ (field : Field). field.octets) (fields_of (2, put))
     ≡ (2 ∷ []) ∷ (8 ∷ []) ∷ (0 ∷ 0 ∷ 0 ∷ 1 ∷ []) ∷ (0 ∷ 1 ∷ []) ∷ (1 ∷ []) ∷ (1 ∷ 0x61 ∷ [])
     ∷ (0 ∷ 1 ∷ []) ∷ (4 ∷ []) ∷ (198 ∷ 51 ∷ 100 ∷ 0 ∷ []) ∷ (24 ∷ []) ∷ []
 fields_of_put = refl
+
+-- 2001:db8::/32 is taken from it
+abbrev taken : Command
+taken = command.Cidr (cidr_command.Change 1 (record {
+  put = false;
+  location = 0x61 ∷ [];
+  blocks = record {
+    address = V6 (0x20 ∷ 0x01 ∷ 0x0D ∷ 0xB8 ∷ 0 ∷ 0 ∷ 0 ∷ 0 ∷ 0 ∷ 0 ∷ 0 ∷ 0 ∷ 0 ∷ 0 ∷ 0 ∷ 0 ∷ []);
+    length = 32;
+  } ∷ [];
+} ∷ []))
+
+pub fields_of_taken : map (λ (field : Field). field.octets) (fields_of (2, taken))
+    ≡ (2 ∷ []) ∷ (8 ∷ []) ∷ (0 ∷ 0 ∷ 0 ∷ 1 ∷ []) ∷ (0 ∷ 1 ∷ []) ∷ (2 ∷ []) ∷ (1 ∷ 0x61 ∷ [])
+    ∷ (0 ∷ 1 ∷ []) ∷ (6 ∷ [])
+    ∷ (0x20 ∷ 0x01 ∷ 0x0D ∷ 0xB8 ∷ 0 ∷ 0 ∷ 0 ∷ 0 ∷ 0 ∷ 0 ∷ 0 ∷ 0 ∷ 0 ∷ 0 ∷ 0 ∷ 0 ∷ [])
+    ∷ (32 ∷ []) ∷ []
+fields_of_taken = refl
+
+pub octets_of_taken : octets_of_command (2, taken)
+    ≡ 2 ∷ 8 ∷ 0 ∷ 0 ∷ 0 ∷ 1 ∷ 0 ∷ 1 ∷ 2 ∷ 1 ∷ 0x61 ∷ 0 ∷ 1
+    ∷ 6 ∷ 0x20 ∷ 0x01 ∷ 0x0D ∷ 0xB8 ∷ 0 ∷ 0 ∷ 0 ∷ 0 ∷ 0 ∷ 0 ∷ 0 ∷ 0 ∷ 0 ∷ 0 ∷ 0 ∷ 0 ∷ 32 ∷ []
+octets_of_taken = refl
 
 -- zone 7: a. is made an alias of the root, without its health
 abbrev made : Command

@@ -1,6 +1,6 @@
 -- Up to its fault a text could go on to a name's, and with what stands there it can't.
 use Rattle.std.proofs.Common.{◌≡◌, ℕ, ◌+◌, ◌<◌, ◌≤◌, List, [], ◌∷◌, ◌++◌, length, take, drop, arith, ap, ◌∙◌, sym, refl, subst, inl, inr}
-use Rattle.std.proofs.Common.{true, false, append_assoc, length-append}
+use Rattle.std.proofs.Common.{true, false, zero, suc, append_assoc, length-append, length-take}
 use Rattle.std.specs.Prelude.{◌⊎◌}
 use Rattle.std.specs.Str.{bytes_eq}
 use Rattle.std.proofs.lemmas.Bool.{cases_Bool, cases_lt, both_ways, false_from_ne_true, true_from_ne_false}
@@ -281,6 +281,25 @@ empty_first text at w more labels s =
       })))
     ]
 
+-- behind other bytes a dot where a label would begin ends every text of a name
+empty_stops : (text : List ℕ) (at : ℕ) → HasEmptyLabel text at → 0 < at
+    → GoesOn (take (at + 1) text) → ⊥
+empty_stops text at w some g =
+    let none = empty_first text at w g.0 g.1 g.2 in
+    let root : take (at + 1) text ++ g.0 ≡ dot ∷ [] =
+    (subst (IsTextOf (take (at + 1) text ++ g.0)) none g.2).spelled in
+    let size : length text ≡ length w.stands.before + length (dot ∷ w.rest) =
+    ap length w.stands.here ∙ length-append w.stands.before (dot ∷ w.rest) in
+    let place = w.stands.place in
+    let taken = length-take (at + 1) text in
+    let both : length (take (at + 1) text) + length g.0 ≡ 1 =
+    sym (length-append (take (at + 1) text) g.0) ∙ ap length root in
+    omega (arith, size, place, taken, both, some)
+
+empty_stops_at : (text : List ℕ) (at : ℕ) → HasEmptyLabel text at → StopsAt text (EmptyLabel at)
+empty_stops_at text zero w = inr (inl (refl, empty_first text 0 w))
+empty_stops_at text (suc n) w = inr (inr (empty_stops text (suc n) w (omega arith)))
+
 -- Up to its fault a text could go on to a name's, and with what stands there it can't.
 pub stands_first : (text : List ℕ) (fault : NameFault) → HasFault text fault
     → GoesOn (take (place_of fault) text) × StopsAt text fault
@@ -294,7 +313,7 @@ stands_first text (EmptyLabel at) w = elim w [
     inl e.0,
   )
   | inr w ↦
-      (up_to text at w.done [] (dot ∷ w.rest) w.stands, inr (empty_first text at w))
+      (up_to text at w.done [] (dot ∷ w.rest) w.stands, empty_stops_at text at w)
 ]
 stands_first text (LabelTooLong at) w =
     (up_to text at w.done w.label (w.piece ++ w.rest) w.stands, label_first text at w)

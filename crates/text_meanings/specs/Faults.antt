@@ -98,8 +98,9 @@ place_of (LabelTooLong at) = at
 place_of (NameTooLong at) = at
 
 -- No name's text begins with the bytes of a text up to its fault and with what stands there: the
--- byte at that place; of an escape all four bytes, but for one that the text's end cuts off. A dot
--- at the start begins the root's text alone, and every name's text begins with the empty text.
+-- byte at that place; of an escape all four bytes. Three faults are apart. An escape that the text's
+-- end cuts off is the beginning of one; a dot at the start begins the root's text, and no other
+-- name's; and every name's text begins with the empty text.
 abbrev pub StopsAt : (text : List ℕ) → NameFault → Type 0
 StopsAt text (BadEscape at) =
     GoesOn (take (at + 4) text)
@@ -107,7 +108,8 @@ StopsAt text (BadEscape at) =
 StopsAt text (BadByte at) = GoesOn (take (at + 1) text) → ⊥
 StopsAt text (EmptyLabel at) =
     (text ≡ [])
-    ⊎ ((more : List ℕ) (labels : List (List ℕ))
-    → IsTextOf (take (at + 1) text ++ more) labels → labels ≡ [])
+    ⊎ (((at ≡ 0) × ((more : List ℕ) (labels : List (List ℕ))
+    → IsTextOf (take (at + 1) text ++ more) labels → labels ≡ []))
+    ⊎ (GoesOn (take (at + 1) text) → ⊥))
 StopsAt text (LabelTooLong at) = GoesOn (take (at + 1) text) → ⊥
 StopsAt text (NameTooLong at) = GoesOn (take (at + 1) text) → ⊥

@@ -40,8 +40,8 @@ abbrev pub OneFaultOfAText : Type 0
 OneFaultOfAText = (text : List ℕ) (fault other : NameFault) → HasFault text fault
     → HasFault text other → fault ≡ other
 
--- Up to its fault a text could go on to a name's, and with what stands there it can't: the fault is
--- the first.
+-- Up to its fault a text could go on to a name's, and with what stands there it can't, but for an
+-- escape that is cut off, a dot at the start and the empty text: the fault is the first.
 abbrev pub FaultsStandFirst : Type 0
 FaultsStandFirst =
     (text : List ℕ) (fault : NameFault) → HasFault text fault

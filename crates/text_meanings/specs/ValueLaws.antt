@@ -27,7 +27,8 @@ abbrev pub NumbersAsSpelled : Type 0
 NumbersAsSpelled =
     (most : ℕ) (text : List ℕ) (n : ℕ) → (number most text ≡ Some n) ↔ SpellsNumber most text n
 
--- A text spells octets as a field of a kind exactly where what is written there does.
+-- Reading a text gives octets as a field of a kind exactly where its characters spell them. Of
+-- addresses and tags both are said by the same grammar.
 abbrev pub FieldsAsSpelled : Type 0
 FieldsAsSpelled =
     (field : Field) (text octets : List ℕ)

@@ -34,7 +34,8 @@ pub fn one_fault_of_a_text()
     ensures { OneFaultOfAText }
 {}
 
-/// Up to its fault a text could go on to a name's, and with what stands there it can't.
+/// Up to its fault a text could go on to a name's, and with what stands there it can't, but for an
+/// escape that is cut off, a dot at the start and the empty text.
 pub fn faults_stand_first()
     ensures { FaultsStandFirst }
 {}

@@ -21,6 +21,6 @@ returns c = λ last next uses.
     let slots = map slot_in (placed_in zones zone) in
     next_looked zones c.slots_apart.ensures last zone next c.args.named.now c.look_at_zone.new.named uses
     slots
-    (subst (λ (l : List ℕ). LooksAt zones zone slots l c.look_at_zone.new.named) c.reserve.ensures
+    (subst (λ (l : List ℕ). LooksAt zones zone slots l c.look_at_zone.new.named) c.reserve.ensures.same
     (c.look_at_zone.ensures c.if-not-look_at_zone.false))
     (all_slots (placed_in zones zone)) (of_slots (placed_in zones zone))
