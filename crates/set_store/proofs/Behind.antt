@@ -1,10 +1,8 @@
 -- The type behind a name, told by the first octets of a set.
-use Rattle.std.proofs.Common.{◌≡◌, ℕ, ◌+◌, ◌-◌, ◌≤◌, List, take, drop, length, min, length-take, ap, ◌∙◌, sym, subst, arith, Option, None, Some}
+use Rattle.std.proofs.Common.{◌≡◌, ℕ, ◌+◌, ◌-◌, ◌≤◌, List, take, drop, length, min, length-take, ap, ◌∙◌, sym, arith, Option, None, Some}
 use Rattle.std.proofs.lemmas.List.{take-take, drop-take}
-use Rattle.octets.specs.Numbers.{number_at}
 use Rattle.set_search.specs.Labels.{wire}
 use Rattle.set_search.specs.NamesOfDnsName.{IsName}
-use Rattle.set_search.specs.Types.{number_of}
 use Rattle.set_search.specs.RecordSetRecord.{RecordSet}
 use Rattle.set_scratch.specs.Laws.{KeysAreInFront}
 use Rattle.set_scratch.specs.Spelling.{Spells}

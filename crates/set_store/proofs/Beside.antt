@@ -1,5 +1,5 @@
 -- Two names right below one name are in the order of their first labels.
-use Rattle.std.proofs.Common.{◌≡◌, ◌≢◌, ℕ, zero, suc, ◌+◌, ◌<◌, ◌≤◌, List, [], ◌∷◌, ◌++◌, take, drop, length, get_or, min, ap, ◌∙◌, sym, refl, Bool, true, false, Option, None, Some, Less, Equal, Greater, arith, append_assoc, subst}
+use Rattle.std.proofs.Common.{◌≡◌, ◌≢◌, ℕ, zero, suc, ◌+◌, ◌<◌, ◌≤◌, List, [], ◌∷◌, ◌++◌, take, drop, length, get_or, min, ap, ◌∙◌, sym, refl, Bool, true, false, Option, None, Some, Less, Greater, arith, append_assoc, subst}
 use Rattle.std.specs.Prelude.{if◌then◌else◌, IfSome, not}
 use Rattle.std.specs.List.{AllByRecursion, flat_map}
 use Rattle.std.specs.declared.cmp.Ordering.{Ordering}

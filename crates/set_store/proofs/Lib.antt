@@ -1,4 +1,5 @@
 mod Alike
+mod Policies
 mod Behind
 pub mod Named
 pub mod Lists

@@ -14,7 +14,7 @@ use Rattle.set_store.specs.Index.{HoldsAt, IsIndex, kept_in, set_of}
 use Rattle.set_store.specs.Stored.{IsKept, Kept, Spells}
 use Rattle.set_store.proofs.Keeping.{both, is_live, kept_at, kept_live, none_or_some, set_told}
 
-below_or_not : (a b : ℕ) → (a < b) ⊎ (b ≤ a)
+pub below_or_not : (a b : ℕ) → (a < b) ⊎ (b ≤ a)
 below_or_not a b = grind arith
 
 -- the octets of what is kept in a slot

@@ -1,5 +1,6 @@
 pub mod Heads
 pub mod Index
+pub mod Policies
 pub mod Servers
 pub mod Stored
 pub use Rattle.set_scratch.specs.Cells
@@ -34,3 +35,4 @@ pub use Rattle.set_scratch.specs.Bodies
 pub use Rattle.set_scratch.specs.Holding
 pub use Rattle.set_search.specs.Walks
 pub use Rattle.set_search.specs.Reasons
+pub use Rattle.set_scratch.specs.Spelling

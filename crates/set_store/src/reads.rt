@@ -1,16 +1,18 @@
 //! Sets read where they stand: compared with bounds and names, and copied.
 
-ghost use Rattle.std.specs.Prelude.{◌≡◌, ◌≤◌, ◌<◌, ◌+◌, ◌++◌, ℕ, List, drop, length, take, min};
+ghost use Rattle.std.specs.Prelude.{◌≡◌, ◌≤◌, ◌<◌, ◌+◌, ◌-◌, ◌++◌, ℕ, List, drop, length, take, min};
 ghost use Rattle.std.specs.Prelude.{slice_get, Some, IfOk, IsTrue, ◌↔◌};
 ghost use Rattle.set_search.specs.Suffix.{EndsWith};
 ghost use Rattle.set_search.specs.RecordSetRecord.{RecordSet};
 ghost use Rattle.set_scratch.specs.Octets.{most_octets, set_octets};
+ghost use Rattle.set_scratch.specs.Spelling.{IsPart, from_policy};
 ghost use Rattle.set_scratch.specs.Telling.{is_alias, target_of, watch_of};
 ghost use Rattle.set_search.specs.Bounds.{is_before};
 ghost use Rattle.set_search.specs.Found.{IsOf, TypeOrNone};
 ghost use Rattle.set_search.specs.Stops.{bound_of};
 ghost use Rattle.set_store.specs.declared.slots.Slot.{Slot};
 ghost use Rattle.set_store.specs.Index.{HoldsAt};
+ghost use Rattle.set_store.specs.Policies.{PolicyIsAt};
 ghost use Rattle.set_store.specs.Servers.{server_labels};
 ghost use Rattle.set_store.specs.Stored.{IsKept, IsSpelling, IsTaken, Kept, Spells, zone_told};
 
@@ -20,7 +22,7 @@ use crate::siblings::is_before_beside;
 use crate::slots::{NO_CELL, Slot};
 use crate::store::SetStore;
 use crate::typed::{is_of_at, type_under};
-use octets::{OutOfMemory, front, zeros};
+use octets::{OutOfMemory, behind, front, zeros};
 use set_scratch::{
     Handle, ReadFault, Region, Scratch, Watch, is_alias_in, keys_are_in_front, name_and_rest,
     read_set, target_in, watch_in, written_reads_back,
@@ -176,6 +178,27 @@ impl SetStore {
         hold_at(&self.region, &self.slots, slot, into);
     }
 
+    /// The octets of a slot's set from its policy on, as many as a buffer has room for. The caller
+    /// knows the place at which the policy stands: two octets behind the name.
+    pub fn policy<'a>(&self, slot: u32, at: usize, buffer: &'a mut [u8]) -> &'a [u8]
+        requires { IsTaken self.now.slots slot }
+        ensures { (kept : Kept) → IsKept self.now.slots slot kept → PolicyIsAt kept.set at
+            → IsPart result.now (take (length buffer.old) (from_policy kept.set)) kept.set }
+    {
+        written_reads_back();
+        part_at(&self.region, &self.slots, slot, at, buffer)
+    }
+
+    /// The same of those among the first 32 octets of the set, lent.
+    pub fn policy_front(&self, slot: u32, at: usize) -> &[u8]
+        requires { IsTaken self.now.slots slot }
+        ensures { (kept : Kept) → IsKept self.now.slots slot kept → PolicyIsAt kept.set at
+            → IsPart result.now (take (32 - at) (from_policy kept.set)) kept.set }
+    {
+        written_reads_back();
+        front_part(&self.region, &self.slots, slot, at)
+    }
+
     /// The set of a slot.
     pub fn read(&self, alloc: Global, slot: u32) -> Result<RecordSet, OutOfMemory>
         requires { IsTaken self.now.slots slot }
@@ -307,6 +330,56 @@ pub(crate) fn two_at(region: &Region, slots: &Vec<Slot>, slot: u32, offset: usiz
     let mut two = [0; 2];
     region.read_at(Handle::of(cell_at(slots, slot)), offset, &mut two);
     two
+}
+
+/// The first 32 octets of a slot's set from a place on, lent.
+fn front_part<'a>(region: &'a Region, slots: &Vec<Slot>, slot: u32, at: usize) -> &'a [u8]
+    requires { (octets : List ℕ) × HoldsAt region.now.held slots.now.items slot octets }
+    ensures { (octets : List ℕ) → HoldsAt region.now.held slots.now.items slot octets
+        → result.now ≡ drop at (take 32 octets) }
+{
+    rest_from(front_at(region, slots, slot), at)
+}
+
+/// What stands from a place on, which may be past the end.
+fn rest_from(octets: &[u8], at: usize) -> &[u8]
+    ensures { result.now ≡ drop at octets.now }
+{
+    if at > octets.len() {
+        return &[];
+    }
+    behind(octets, at)
+}
+
+/// The octets of a slot's set from a place on, as many as a buffer has room for.
+fn part_at<'a>(
+    region: &Region,
+    slots: &Vec<Slot>,
+    slot: u32,
+    offset: usize,
+    buffer: &'a mut [u8],
+) -> &'a [u8]
+    requires { (octets : List ℕ) × HoldsAt region.now.held slots.now.items slot octets }
+    ensures { (octets : List ℕ) → HoldsAt region.now.held slots.now.items slot octets
+        → result.now ≡ take (length buffer.old) (drop offset octets) }
+{
+    let size = size_at(region, slots, slot);
+    if offset > size {
+        return front(buffer, 0);
+    }
+    let count = (size - offset).min(buffer.len());
+    copy_part(region, slots, slot, offset, &mut buffer[..count]);
+    front(buffer, count)
+}
+
+/// Fills others with the octets of a slot's set from a place on.
+fn copy_part(region: &Region, slots: &Vec<Slot>, slot: u32, offset: usize, into: &mut [u8])
+    requires { (octets : List ℕ) × HoldsAt region.now.held slots.now.items slot octets
+        × (offset + length into.old ≤ length octets) }
+    ensures { (octets : List ℕ) → HoldsAt region.now.held slots.now.items slot octets
+        → into.new ≡ take (length into.old) (drop offset octets) }
+{
+    region.read_at(Handle::of(cell_at(slots, slot)), offset, into);
 }
 
 /// The first octets of a slot's set, as many as a buffer has room for.
