@@ -33,3 +33,5 @@ pub use Rattle.zone_order.specs.Holding
 pub use Rattle.zone_order.specs.Walks
 pub use Rattle.zone_order.specs.SetsOfSetReading
 pub use Rattle.zone_order.specs.Reasons
+pub use Rattle.zone_order.specs.Policies
+pub use Rattle.zone_order.specs.Spelling

@@ -36,3 +36,5 @@ pub use Rattle.zone_changes.specs.Walks
 pub use Rattle.zone_changes.specs.SetsOfSetReading
 pub use Rattle.zone_changes.specs.Reasons
 pub use Rattle.zone_changes.specs.BodyRecord
+pub use Rattle.zone_changes.specs.Policies
+pub use Rattle.zone_changes.specs.Spelling

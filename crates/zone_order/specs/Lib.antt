@@ -33,3 +33,5 @@ pub use Rattle.set_store.specs.Holding
 pub use Rattle.set_store.specs.Walks
 pub use Rattle.set_store.specs.Sets as SetsOfSetReading
 pub use Rattle.set_store.specs.Reasons
+pub use Rattle.set_store.specs.Policies
+pub use Rattle.set_store.specs.Spelling
