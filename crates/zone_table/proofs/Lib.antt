@@ -2,6 +2,7 @@ pub mod Apexes
 pub mod Apart
 pub mod Cuts
 pub mod Edited
+pub mod GroupSlots
 pub mod Holding
 pub mod Kept
 pub mod Looked

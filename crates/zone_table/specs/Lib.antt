@@ -32,3 +32,5 @@ pub use Rattle.zone_list.specs.Octets
 pub use Rattle.zone_list.specs.Reasons
 pub use Rattle.zone_list.specs.BodyRecord
 pub use Rattle.cidr_routing.specs.Choice
+pub use Rattle.zone_list.specs.Policies
+pub use Rattle.zone_list.specs.Spelling

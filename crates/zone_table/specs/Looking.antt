@@ -1,6 +1,6 @@
 -- What is found in a table of zones.
 use Rattle.std.specs.Prelude.{◌≡◌, ◌≤◌, ◌+◌, ℕ, List, length, slice_get, Bool, true, false, Option, None}
-use Rattle.std.specs.Prelude.{Some}
+use Rattle.std.specs.Prelude.{Some, drop, map, take}
 use Rattle.zone_list.specs.Suffix.{EndsWith}
 use Rattle.zone_list.specs.RTypeRecord.{RType}
 use Rattle.zone_list.specs.RTypeRecord.TheVariants as rtype
@@ -32,6 +32,11 @@ IsGroupNow zones group = (name : List (List ℕ)) × (rtype : RType)
 pub record IsMember (zones : List Zone) (group : Group) (i : ℕ) (set : SetRef) : Type 0 where
   pub zone : set.zone ≡ group.zone
   pub slot : IsSlotAt (placed_in zones group.zone) (group.start + i) set.slot
+
+-- the slots of the sets of a group, in zone order
+abbrev pub slots_in : List Zone → Group → List ℕ
+slots_in zones group =
+    map (λ (p : Placed). p.slot) (take group.length (drop group.start (placed_in zones group.zone)))
 
 -- The slot of the set at place i, or none where there are no more sets than i.
 abbrev pub SlotAt : List Placed → (i : ℕ) → Option ℕ → Type 0

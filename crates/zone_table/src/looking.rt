@@ -1,17 +1,21 @@
 //! A zone found by its number, with its sets in their order.
 
-ghost use Rattle.std.specs.Prelude.{◌≡◌, ◌<◌, ◌+◌, ◌^◌, ℕ, length, slice_get, Some, IfOk, IsTrue, ◌↔◌, false};
+ghost use Rattle.std.specs.Prelude.{◌≡◌, ◌≤◌, ◌<◌, ◌+◌, ◌-◌, ◌^◌, ℕ, length, slice_get, Some, IfOk};
+ghost use Rattle.std.specs.Prelude.{◌↔◌, IsTrue, drop, false, take};
 ghost use Rattle.zone_list.specs.Stops.{bound_of};
 ghost use Rattle.zone_list.specs.Sums.{sums_of};
 ghost use Rattle.zone_list.specs.Kept.{AreKept, named_of, zones_in};
 ghost use Rattle.zone_list.specs.Zones.{AreListed, placed_in};
 ghost use Rattle.zone_list.specs.Placed.{IsSlotAt, sets_of};
 ghost use Rattle.zone_list.specs.Orders.{IsOrder, placed_of};
+ghost use Rattle.zone_list.specs.Policies.{PolicyIsAt};
+ghost use Rattle.zone_list.specs.Spelling.{IsPart, from_policy};
 ghost use Rattle.zone_table.specs.Counted.{AreCounted};
 ghost use Rattle.zone_table.specs.Looking.{HasNameAt, Loads, ServersAreAt, SlotAt, SlotBehind, Targets};
-ghost use Rattle.zone_table.specs.Looking.{Watches};
+ghost use Rattle.zone_table.specs.Looking.{Names, Watches, slots_in};
 ghost use Rattle.zone_table.specs.Stored.{GetsOrder, IsNamed, ViewsZone};
 
+use crate::refs::Group;
 use octets::OutOfMemory;
 use std::alloc::Global;
 use zone_list::{
@@ -51,6 +55,27 @@ pub fn slot_in(store: &SetStore, list: &[StoredZone], zone: u32, start: usize, i
         Some(order) => slot_of(order, start + i),
         None => unreachable!(),
     }
+}
+
+/// The slots of the sets of a group, in zone order.
+pub fn slots_of<'a>(store: &SetStore, list: &'a [StoredZone], group: Group) -> &'a [u32]
+    requires kept { AreKept store.now.slots list.now }
+    requires within { group.start + group.length
+        ≤ length (placed_in (zones_in store.now.slots list.now) group.zone) }
+    ensures { result.now ≡ slots_in (zones_in store.now.slots list.now) group }
+{
+    match order_of(store, list, group.zone) {
+        Some(order) => part_of(order, group.start, group.length),
+        None => &[],
+    }
+}
+
+/// So many slots from a place on.
+fn part_of(order: &[u32], start: usize, count: usize) -> &[u32]
+    requires { start + count ≤ length order.now }
+    ensures { result.now ≡ take count (drop start order.now) }
+{
+    &order[start..start + count]
 }
 
 /// The slot of the set at a place of a zone.
@@ -187,6 +212,39 @@ pub fn load(store: &SetStore, list: &[StoredZone], set: SetRef, into: &mut Scrat
     }
     store.hold(set.slot, into);
     true
+}
+
+/// The octets of the set that a reference names from its policy on, as many as a buffer has room
+/// for.
+pub fn policy<'a>(
+    store: &SetStore,
+    list: &[StoredZone],
+    set: SetRef,
+    at: usize,
+    buffer: &'a mut [u8],
+) -> &'a [u8]
+    requires kept { AreKept store.now.slots list.now }
+    requires named { (named : RecordSet) × Names (zones_in store.now.slots list.now) set named }
+    ensures { (named : RecordSet) → Names (zones_in store.now.slots list.now) set named
+        → PolicyIsAt named at
+        → IsPart result.now (take (length buffer.old) (from_policy named)) named }
+{
+    store.policy(set.slot, at, buffer)
+}
+
+/// The same of those among the first 32 octets of the set, lent.
+pub fn policy_front<'a>(
+    store: &'a SetStore,
+    list: &[StoredZone],
+    set: SetRef,
+    at: usize,
+) -> &'a [u8]
+    requires kept { AreKept store.now.slots list.now }
+    requires named { (named : RecordSet) × Names (zones_in store.now.slots list.now) set named }
+    ensures { (named : RecordSet) → Names (zones_in store.now.slots list.now) set named
+        → PolicyIsAt named at → IsPart result.now (take (32 - at) (from_policy named)) named }
+{
+    store.policy_front(set.slot, at)
 }
 
 /// What decides the health of the set that a reference names.

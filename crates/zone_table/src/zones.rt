@@ -1,9 +1,12 @@
 //! The zones of a server: each look-up and each edit, one call a question.
 
-ghost use Rattle.std.specs.Prelude.{◌≡◌, ◌≢◌, ◌≤◌, ◌<◌, ◌+◌, ◌%◌, ◌^◌, length, List, ℕ, []};
-ghost use Rattle.std.specs.Prelude.{IfOk, IsTrue, ◌↔◌, false};
+ghost use Rattle.std.specs.Prelude.{◌≡◌, ◌≢◌, ◌≤◌, ◌<◌, ◌+◌, ◌-◌, ◌%◌, ◌^◌, length, List, ℕ, []};
+ghost use Rattle.std.specs.Prelude.{IfOk, IsTrue, ◌↔◌, false, take};
 ghost use Rattle.zone_list.specs.Existing.{Exists, IsAncestor, IsClosest};
 ghost use Rattle.zone_list.specs.Placed.{sets_of};
+ghost use Rattle.zone_list.specs.Policies.{PolicyIsAt};
+ghost use Rattle.zone_list.specs.RecordSetRecord.{RecordSet};
+ghost use Rattle.zone_list.specs.Spelling.{IsPart, from_policy};
 ghost use Rattle.zone_list.specs.Sums.{aliases_of, checked_of, octets_of};
 ghost use Rattle.zone_list.specs.Found.{NextZoneOrNone};
 ghost use Rattle.zone_list.specs.Zones.{AreZones, IsZoneId, placed_in};
@@ -11,7 +14,7 @@ ghost use Rattle.zone_table.specs.Counted.{octets_in_all, sets_in_all};
 ghost use Rattle.zone_table.specs.Edits.{Edits, IsAllowed, IsReady, StayReady};
 ghost use Rattle.zone_table.specs.Edits.{collections_after};
 ghost use Rattle.zone_table.specs.Looking.{ApexOrNone, HasNameAt, HoldsOrNone, IsApex, IsGroup};
-ghost use Rattle.zone_table.specs.Looking.{IsGroupNow};
+ghost use Rattle.zone_table.specs.Looking.{IsGroupNow, Names, slots_in};
 ghost use Rattle.zone_table.specs.Looking.{IsMember, IsNextSet, IsSetAt, Loads, ServersAreAt};
 ghost use Rattle.zone_table.specs.Looking.{Targets, Watches, bound_of};
 ghost use Rattle.zone_table.specs.Tables.{HaveSlotsApart, HaveSlotsBelow};
@@ -19,8 +22,8 @@ ghost use Rattle.zone_list.specs.Stops.{bound_of as told};
 
 use crate::edits::{Ready, ZoneEdit};
 use crate::looking::{
-    copies, has_name, hint_of, load, may_have_cuts, order_of, slot_at, slot_behind, slot_in,
-    sums_in, target, view, watch,
+    copies, has_name, hint_of, load, may_have_cuts, order_of, policy, policy_front, slot_at,
+    slot_behind, slot_in, slots_of, sums_in, target, view, watch,
 };
 use crate::making::{make, note_name, settle, settle_all};
 use crate::needs::{need_of, reserve_for, reserve_name};
@@ -297,11 +300,39 @@ impl Zones {
         }
     }
 
+    /// The slots of the sets of a group, in their order: with the zone's number the references.
+    pub fn slots_of(&self, group: Group) -> &[u32]
+        requires { IsGroupNow self.now.zones group }
+        ensures { result.now ≡ slots_in self.now.zones group }
+    {
+        slots_of(&self.store, &self.list, group)
+    }
+
     /// Loads the set that a reference names. Where it names none, what was held stays.
     pub fn load(&self, set: SetRef, into: &mut Scratch) -> bool
         ensures { Loads self.now.zones set into.old into.new result }
     {
         load(&self.store, &self.list, set, into)
+    }
+
+    /// The octets of the set that a reference names from its policy on, as many as a buffer has room
+    /// for: they are neither walked nor loaded. The caller knows that the reference names a set, and
+    /// the place at which its policy stands.
+    pub fn policy<'a>(&self, set: SetRef, at: usize, buffer: &'a mut [u8]) -> &'a [u8]
+        requires { (named : RecordSet) × Names self.now.zones set named }
+        ensures { (named : RecordSet) → Names self.now.zones set named → PolicyIsAt named at
+            → IsPart result.now (take (length buffer.old) (from_policy named)) named }
+    {
+        policy(&self.store, &self.list, set, at, buffer)
+    }
+
+    /// The same of those among the first 32 octets of the set, lent.
+    pub fn policy_front(&self, set: SetRef, at: usize) -> &[u8]
+        requires { (named : RecordSet) × Names self.now.zones set named }
+        ensures { (named : RecordSet) → Names self.now.zones set named → PolicyIsAt named at
+            → IsPart result.now (take (32 - at) (from_policy named)) named }
+    {
+        policy_front(&self.store, &self.list, set, at)
     }
 
     /// What decides the health of the set that a reference names. None where it names none.
