@@ -1,8 +1,9 @@
 -- Lists of fifty, an element for each checker's number.
-use Rattle.std.proofs.Common.{◌≡◌, ◌≢◌, ◌<◌, ◌+◌, cond, ◌∙◌, ℕ, Bool, List, get_or, set, map, arith, sym, inl, inr, length-set, get_or-set_same, get_or-set_other}
+use Rattle.std.proofs.Common.{◌≡◌, ◌≢◌, ◌≤◌, ◌<◌, ◌+◌, cond, ◌∙◌, ℕ, Bool, List, length, get_or, set, map, arith, sym, inl, inr, length-set, get_or-set_same, get_or-set_other}
 use Rattle.std.proofs.lemmas.Bool.{cases_eq}
 use Rattle.std.proofs.lemmas.List.FromFn.{get_or-map-range_with_len, length-map-range_with_len, fill_by_all}
 use Rattle.std.proofs.lemmas.List.Folds.{fold-map}
+use Rattle.std.proofs.lemmas.List.Sums.{count_by-le-length, sum_by-set}
 use Rattle.std.specs.List.{count_by}
 use Rattle.checker_state.specs.Standing.{numbers}
 
@@ -39,3 +40,19 @@ module _ {X : Type 0} where
   pub count_by-map : {Y : Type 0} (p : Y → Bool) (f : X → Y) (xs : List X)
       → count_by p (map f xs) ≡ count_by (λ x. p (f x)) xs
   count_by-map p f xs = fold-map (λ a y. a + cond (p y) 1 0) f 0 xs
+
+  -- how many elements pass a test, where one is another
+  pub count_by-set : (p : X → Bool) (xs : List X) (i : ℕ) (x d : X) → i < length xs
+      → count_by p (set xs i x) + cond (p (get_or xs i d)) 1 0 ≡ count_by p xs + cond (p x) 1 0
+  count_by-set p xs i x d h = sum_by-set (λ y. cond (p y) 1 0) xs i x d h
+
+  -- the count goes on from element to element
+  pub counted_on : (p : X → Bool) (xs : List X) (i : ℕ) (x d : X) (before after : ℕ) → i < length xs
+      → before ≡ count_by p xs → after + cond (p (get_or xs i d)) 1 0 ≡ before + cond (p x) 1 0
+      → after ≡ count_by p (set xs i x)
+  counted_on p xs i x d before after h was now = let s = count_by-set p xs i x d h in omega arith
+
+  -- no more than there are
+  pub counted_few : (p : X → Bool) (xs : List X) (many counted : ℕ) → length xs ≡ many
+      → counted ≡ count_by p xs → counted ≤ many
+  counted_few p xs many counted long is = let few = count_by-le-length p xs in omega arith

@@ -1,6 +1,6 @@
 //! The fifty checkers of one endpoint, each with its own view, and how many of them see a pass.
 
-ghost use Rattle.std.specs.Prelude.{◌≡◌, ◌≢◌, ◌≤◌, ◌<◌, ◌↔◌, ◌∷◌, ℕ, Bool, List, IsTrue, count_by};
+ghost use Rattle.std.specs.Prelude.{◌≡◌, ◌≢◌, ◌≤◌, ◌<◌, ◌+◌, ◌↔◌, ◌∷◌, ℕ, Bool, List, IsTrue, cond};
 ghost use Rattle.checker_state.specs.View.{view_of};
 ghost use Rattle.checker_state.specs.Standing.{StandsFor, nothing, with_result, passing_of};
 
@@ -15,22 +15,33 @@ pub const CHECKERS: u8 = 50;
 pub struct Checkers {
     threshold: u8,
     checkers: [Checker; 50],
+    /// How many of them see a pass.
+    passing: u8,
 }
 
 impl Model for Checkers {
-    ghost use Rattle.std.specs.Prelude.{◌≤◌};
-    ghost use Rattle.std.proofs.Common.{refl};
+    ghost use Rattle.std.specs.Prelude.{◌≡◌, ◌≤◌, ℕ, count_by, length};
+    ghost use Rattle.std.proofs.Common.{ap, sym};
     ghost use Rattle.checker_state.specs.Standing.{Seen};
 
     ghost Value = { Seen };
 
     ghost view = { λ a. record { threshold = a.threshold; checkers = a.checkers } };
 
-    ghost invariant = { λ a. 1 ≤ a.threshold };
+    ghost invariant = { λ a. (1 ≤ a.threshold) × (length a.checkers ≡ 50)
+        × (a.passing ≡ count_by (λ c. c.view) a.checkers) };
 
-    ghost inverse = { λ s. record { threshold = s.threshold; checkers = s.checkers } };
+    ghost inverse = { λ s. record {
+      threshold = s.threshold;
+      checkers = s.checkers;
+      passing = count_by (λ c. c.view) s.checkers;
+    } };
 
-    ghost inverse_ok = { λ a h. refl };
+    ghost inverse_ok = { λ a h. ap (λ (n : ℕ). record {
+      threshold = a.threshold;
+      checkers = a.checkers;
+      passing = n;
+    }) (sym h.2) };
 }
 
 impl Checkers {
@@ -49,6 +60,7 @@ impl Checkers {
         Checkers {
             threshold,
             checkers: [new; 50],
+            passing: CHECKERS,
         }
     }
 
@@ -64,6 +76,7 @@ impl Checkers {
         let before = self.checkers[at];
         let after = before.after(self.threshold, pass);
         self.checkers[at] = after;
+        self.passing = passing_after(self.passing, before.view, after.view);
         after.view != before.view
     }
 
@@ -82,13 +95,15 @@ impl Checkers {
         ensures exact { (n : ℕ) (results : ℕ → List Bool) → StandsFor n results self.now
             → result ≡ passing_of n results }
     {
-        passing_among(&self.checkers) as u8
+        self.passing
     }
 }
 
-/// How many of these checkers see a pass.
-fn passing_among(checkers: &[Checker]) -> usize
-    ensures { result ≡ count_by (λ c. c.view) checkers.now }
+/// How many see a pass after one view, that before was another or the same.
+fn passing_after(passing: u8, before: bool, after: bool) -> u8
+    requires counted { cond before 1 0 ≤ passing }
+    requires few { passing ≤ CHECKERS }
+    ensures { result + cond before 1 0 ≡ passing + cond after 1 0 }
 {
-    checkers.iter().filter(|c| c.view).count()
+    passing + u8::from(after) - u8::from(before)
 }
