@@ -3,6 +3,7 @@ pub mod Descending
 pub mod GroupSizes
 pub mod Members
 pub mod Noted
+mod Policies
 pub mod Targets
 pub use Rattle.zone_table.proofs.Listing
 pub use Rattle.zone_table.proofs.Looked

@@ -27,13 +27,13 @@ use Rattle.zone_table.specs.declared.refs.Group.{Group}
 use Rattle.policy_select.specs.Groups.{ViewsAgree, members_of, said_of, sets_in}
 
 module _ {X : Type 0} where
-  got_of_take : (xs : List X) (n i : ℕ) → i < n → slice_get (take n xs) i ≡ slice_get xs i
+  pub got_of_take : (xs : List X) (n i : ℕ) → i < n → slice_get (take n xs) i ≡ slice_get xs i
   got_of_take xs zero i within = absurd (omega (arith, within))
   got_of_take [] (suc n) i within = refl
   got_of_take (x ∷ xs) (suc n) zero within = refl
   got_of_take (x ∷ xs) (suc n) (suc i) within = got_of_take xs n i (omega (arith, within))
 
-  got_of_drop : (xs : List X) (s i : ℕ) → slice_get (drop s xs) i ≡ slice_get xs (s + i)
+  pub got_of_drop : (xs : List X) (s i : ℕ) → slice_get (drop s xs) i ≡ slice_get xs (s + i)
   got_of_drop xs zero i =
       let none : i ≡ zero + i = omega arith in
       ap (λ (k : ℕ). slice_get xs k) none

@@ -33,7 +33,7 @@ abbrev OneNumber : Type 0
 OneNumber = (rtype other : RType) → number_of rtype ≡ number_of other → rtype ≡ other
 
 -- a set that a test picks passes it
-picked_so : (f : RecordSet → Bool) (xs : List RecordSet) (x : RecordSet) → IsAmong (filter f xs) x
+pub picked_so : (f : RecordSet → Bool) (xs : List RecordSet) (x : RecordSet) → IsAmong (filter f xs) x
     → f x ≡ true
 picked_so f [] x there = absurd there
 picked_so f (y ∷ ys) x there = by (f y) refl (picked_so f ys x) there

@@ -1,4 +1,5 @@
 pub mod Groups
+pub mod Members
 pub mod Rules
 pub mod Seen
 pub mod Selecting

@@ -20,7 +20,7 @@ ghost use Rattle.policy_select.specs.Selecting.{AreOfGroup, GivesDescent, HoldsF
 ghost use Rattle.policy_select.specs.Selecting.{LeadsTo, TargetOf, choice_of};
 
 use crate::client::Seen;
-use crate::group::load_member;
+use crate::group::{load_member, policy_place};
 use crate::parts::is_simple_in;
 use crate::rules::rule_held;
 use crate::selection::{Selected, choose, one};
@@ -268,8 +268,9 @@ fn choose_held<V: HealthView>(
 {
     chosen_are_of_group();
     let rule = rule_held(scratch);
+    let at = policy_place(scratch);
     let selected = choose(
-        &rule, zones, group, view, tables, client, word, used, seen, scratch,
+        &rule, zones, group, view, tables, client, word, at, used, seen, scratch,
     );
     load_first(zones, &selected, scratch);
     selected

@@ -5,17 +5,22 @@ ghost use Rattle.std.specs.Option.{unwrap_or};
 ghost use Rattle.answer_model.specs.Policies.{place_of, region_of, role_of, weight_of};
 ghost use Rattle.zone_table.specs.RecordSetRecord.{RecordSet};
 ghost use Rattle.zone_table.specs.Octets.{HasSpelling};
+ghost use Rattle.zone_table.specs.Policies.{PolicyIsAt};
 ghost use Rattle.zone_table.specs.Holding.{IsHolding};
-ghost use Rattle.zone_table.specs.Looking.{IsGroupNow};
+ghost use Rattle.zone_table.specs.Looking.{IsGroupNow, slots_in};
+ghost use Rattle.policy_select.specs.Members.{AreMembers, BeginsWithPolicy};
 ghost use Rattle.policy_select.specs.Groups.{flags_in, sets_in, sets_in_zone};
 ghost use Rattle.zone_table.specs.Sets.{group};
 
-use crate::parts::{place_in, region_in, role_in, weight_in};
+use crate::parts::{is_whole, place_in, region_in, role_in, weight_in};
 use crate::view::HealthView;
 use dns_name::Name;
 use rdata_layout::RType;
 use routing::{Place, Region, Role, Routing};
-use zone_table::{Group, Scratch, Zones};
+use zone_table::{Group, Scratch, SetRef, Zones};
+
+/// Sets of fewer octets from the policy on aren't loaded to be told apart.
+const SHORT: usize = 64;
 
 /// The sets of a name and type of a zone.
 pub fn find_group(zones: &Zones, zone: u32, name: &Name, rtype: RType) -> Group
@@ -55,14 +60,101 @@ pub fn routing_at(zones: &Zones, group: Group, i: usize, scratch: &mut Scratch) 
     scratch.routing()
 }
 
+/// The place at which the policy of the set that is held stands among its octets.
+pub(crate) fn policy_place(scratch: &Scratch) -> usize
+    requires { IsHolding scratch.now }
+    ensures { IfSome scratch.now (λ set. PolicyIsAt set result) }
+{
+    scratch.bytes().len() - scratch.policy().len()
+}
+
+/// The reference of the set at a place of a group.
+fn member_at(group: Group, slots: &[u32], i: usize) -> SetRef
+    requires within { i < length slots.now }
+    ensures zone { result.zone ≡ group.zone }
+    ensures slot { slice_get slots.now i ≡ Some result.slot }
+{
+    SetRef {
+        zone: group.zone,
+        slot: slots[i],
+    }
+}
+
+/// Octets that begin with the policy of the set at a place of a group: its own ones, lent, where it
+/// stands among the first of them, or else copied to a buffer. None where there is no room for all
+/// that follow.
+fn policy_at<'a>(
+    zones: &'a Zones,
+    group: Group,
+    slots: &[u32],
+    at: usize,
+    i: usize,
+    buffer: &'a mut [u8],
+) -> Option<&'a [u8]>
+    requires group { IsGroupNow zones.now.zones group }
+    requires slots { AreMembers zones.now.zones group slots.now at }
+    requires within { i < group.length }
+    ensures { IfSome result (λ octets. (set : RecordSet)
+        × (slice_get (sets_in zones.now.zones group) i ≡ Some set)
+        × BeginsWithPolicy octets.now set) }
+{
+    let front = zones.policy_front(member_at(group, slots, i), at);
+    if is_whole(front) {
+        return Some(front);
+    }
+    policy_copied(zones, group, slots, at, i, buffer)
+}
+
+/// The same, copied wherever it stands.
+// Apart, so that most sets pass by what they don't need.
+#[inline(never)]
+fn policy_copied<'a>(
+    zones: &Zones,
+    group: Group,
+    slots: &[u32],
+    at: usize,
+    i: usize,
+    buffer: &'a mut [u8],
+) -> Option<&'a [u8]>
+    requires group { IsGroupNow zones.now.zones group }
+    requires slots { AreMembers zones.now.zones group slots.now at }
+    requires within { i < group.length }
+    ensures { IfSome result (λ octets. (set : RecordSet)
+        × (slice_get (sets_in zones.now.zones group) i ≡ Some set)
+        × BeginsWithPolicy octets.now set) }
+{
+    let room = buffer.len();
+    let octets = zones.policy(member_at(group, slots, i), at, buffer);
+    if octets.len() >= room {
+        return None;
+    }
+    Some(octets)
+}
+
 /// The weight of the set at a place of a group.
 pub(crate) fn weight_at(
     zones: &Zones,
     group: Group,
+    slots: &[u32],
+    at: usize,
     i: usize,
     first: u8,
     scratch: &mut Scratch,
 ) -> u8
+    requires group { IsGroupNow zones.now.zones group }
+    requires slots { AreMembers zones.now.zones group slots.now at }
+    requires within { i < group.length }
+    ensures { (set : RecordSet) × (slice_get (sets_in zones.now.zones group) i ≡ Some set)
+        × (result ≡ unwrap_or (weight_of set.routing) first) }
+{
+    match policy_at(zones, group, slots, at, i, &mut [0; SHORT]) {
+        Some(octets) => weight_in(octets, first),
+        None => weight_loaded(zones, group, i, first, scratch),
+    }
+}
+
+/// The same of a set of any size, which is loaded.
+fn weight_loaded(zones: &Zones, group: Group, i: usize, first: u8, scratch: &mut Scratch) -> u8
     requires group { IsGroupNow zones.now.zones group }
     requires within { i < group.length }
     ensures { (set : RecordSet) × (slice_get (sets_in zones.now.zones group) i ≡ Some set)
@@ -76,10 +168,26 @@ pub(crate) fn weight_at(
 pub(crate) fn role_at(
     zones: &Zones,
     group: Group,
+    slots: &[u32],
+    at: usize,
     i: usize,
     first: Role,
     scratch: &mut Scratch,
 ) -> Role
+    requires group { IsGroupNow zones.now.zones group }
+    requires slots { AreMembers zones.now.zones group slots.now at }
+    requires within { i < group.length }
+    ensures { (set : RecordSet) × (slice_get (sets_in zones.now.zones group) i ≡ Some set)
+        × (result ≡ unwrap_or (role_of set.routing) first) }
+{
+    match policy_at(zones, group, slots, at, i, &mut [0; SHORT]) {
+        Some(octets) => role_in(octets, first),
+        None => role_loaded(zones, group, i, first, scratch),
+    }
+}
+
+/// The same of a set of any size, which is loaded.
+fn role_loaded(zones: &Zones, group: Group, i: usize, first: Role, scratch: &mut Scratch) -> Role
     requires group { IsGroupNow zones.now.zones group }
     requires within { i < group.length }
     ensures { (set : RecordSet) × (slice_get (sets_in zones.now.zones group) i ≡ Some set)
@@ -91,6 +199,28 @@ pub(crate) fn role_at(
 
 /// The place of the set at a place of a group.
 pub(crate) fn place_at(
+    zones: &Zones,
+    group: Group,
+    slots: &[u32],
+    at: usize,
+    i: usize,
+    first: &Place,
+    scratch: &mut Scratch,
+) -> Place
+    requires group { IsGroupNow zones.now.zones group }
+    requires slots { AreMembers zones.now.zones group slots.now at }
+    requires within { i < group.length }
+    ensures { (set : RecordSet) × (slice_get (sets_in zones.now.zones group) i ≡ Some set)
+        × (result ≡ unwrap_or (place_of set.routing) first.now) }
+{
+    match policy_at(zones, group, slots, at, i, &mut [0; SHORT]) {
+        Some(octets) => place_in(octets, first),
+        None => place_loaded(zones, group, i, first, scratch),
+    }
+}
+
+/// The same of a set of any size, which is loaded.
+fn place_loaded(
     zones: &Zones,
     group: Group,
     i: usize,
@@ -108,6 +238,28 @@ pub(crate) fn place_at(
 
 /// The region of the set at a place of a group.
 pub(crate) fn region_at(
+    zones: &Zones,
+    group: Group,
+    slots: &[u32],
+    at: usize,
+    i: usize,
+    first: &Region,
+    scratch: &mut Scratch,
+) -> Region
+    requires group { IsGroupNow zones.now.zones group }
+    requires slots { AreMembers zones.now.zones group slots.now at }
+    requires within { i < group.length }
+    ensures { (set : RecordSet) × (slice_get (sets_in zones.now.zones group) i ≡ Some set)
+        × (result ≡ unwrap_or (region_of set.routing) first.now) }
+{
+    match policy_at(zones, group, slots, at, i, &mut [0; SHORT]) {
+        Some(octets) => region_in(octets, first),
+        None => region_loaded(zones, group, i, first, scratch),
+    }
+}
+
+/// The same of a set of any size, which is loaded.
+fn region_loaded(
     zones: &Zones,
     group: Group,
     i: usize,
@@ -159,12 +311,13 @@ fn region_held(scratch: &Scratch, first: &Region) -> Region
 pub(crate) fn is_member_healthy<V: HealthView>(
     zones: &Zones,
     group: Group,
+    slots: &[u32],
     view: &V,
     i: usize,
 ) -> bool
-    requires group { IsGroupNow zones.now.zones group }
-    requires within { i < group.length }
+    requires slots { slots.now ≡ slots_in zones.now.zones group }
+    requires within { i < length slots.now }
     ensures { slice_get (flags_in zones.now.zones (V.test view.now) group) i ≡ Some result }
 {
-    view.is_healthy(zones.member(group, i))
+    view.is_healthy(member_at(group, slots, i))
 }

@@ -13,6 +13,7 @@ ghost use Rattle.multivalue.specs.Answer.{picked};
 ghost use Rattle.multivalue.specs.Choice.{chosen as several_chosen};
 ghost use Rattle.weighted.specs.Choice.{chosen as weight_chosen};
 ghost use Rattle.zone_table.specs.Looking.{IsGroupNow};
+ghost use Rattle.policy_select.specs.Members.{PoliciesAreAt};
 ghost use Rattle.policy_select.specs.Groups.{flags_in, sets_in};
 ghost use Rattle.policy_select.specs.Rules.{FirstSays};
 
@@ -37,9 +38,11 @@ pub(crate) fn choose_weighted<V: HealthView>(
     view: &V,
     first: u8,
     word: u64,
+    at: usize,
     scratch: &mut Scratch,
 ) -> usize
     requires group { IsGroupNow zones.now.zones group }
+    requires at { PoliciesAreAt (sets_in zones.now.zones group) at }
     requires first { FirstSays weight_of first (sets_in zones.now.zones group) }
     requires some { 0 < group.length }
     requires few { group.length ≤ 100 }
@@ -48,9 +51,10 @@ pub(crate) fn choose_weighted<V: HealthView>(
         (flags_in zones.now.zones (V.test view.now) group) word }
 {
     let mut healthy = [false; GROUP];
-    note_healthy(zones, group, view, &mut healthy);
+    let slots = zones.slots_of(group);
+    note_healthy(zones, group, slots, view, &mut healthy);
     let mut weights = [0; GROUP];
-    note_weights(zones, group, first, scratch, &mut weights);
+    note_weights(zones, group, slots, at, first, scratch, &mut weights);
     weighted::choose(&weights[..group.length], &healthy[..group.length], word)
 }
 
@@ -60,9 +64,11 @@ pub(crate) fn choose_failover<V: HealthView>(
     group: Group,
     view: &V,
     first: Role,
+    at: usize,
     scratch: &mut Scratch,
 ) -> usize
     requires group { IsGroupNow zones.now.zones group }
+    requires at { PoliciesAreAt (sets_in zones.now.zones group) at }
     requires first { FirstSays role_of first (sets_in zones.now.zones group) }
     requires some { 0 < group.length }
     requires few { group.length ≤ 100 }
@@ -71,9 +77,10 @@ pub(crate) fn choose_failover<V: HealthView>(
         (flags_in zones.now.zones (V.test view.now) group) }
 {
     let mut healthy = [false; GROUP];
-    note_healthy(zones, group, view, &mut healthy);
+    let slots = zones.slots_of(group);
+    note_healthy(zones, group, slots, view, &mut healthy);
     let mut roles = [first; GROUP];
-    note_roles(zones, group, first, scratch, &mut roles);
+    note_roles(zones, group, slots, at, first, scratch, &mut roles);
     failover::choose(&roles[..group.length], &healthy[..group.length])
 }
 
@@ -85,9 +92,11 @@ pub(crate) fn choose_place<V: HealthView>(
     first: &Place,
     tables: &Tables,
     client: IpAddress,
+    at: usize,
     scratch: &mut Scratch,
 ) -> (Option<usize>, u8)
     requires group { IsGroupNow zones.now.zones group }
+    requires at { PoliciesAreAt (sets_in zones.now.zones group) at }
     requires first { FirstSays place_of first.now (sets_in zones.now.zones group) }
     requires some { 0 < group.length }
     requires few { group.length ≤ 100 }
@@ -97,10 +106,11 @@ pub(crate) fn choose_place<V: HealthView>(
     ensures scope { result.1 ≡ scope_in tables.now.places client }
 {
     let mut healthy = [false; GROUP];
-    note_healthy(zones, group, view, &mut healthy);
+    let slots = zones.slots_of(group);
+    note_healthy(zones, group, slots, view, &mut healthy);
     // Of zeros, which are made at once.
     let mut places = [Place::Continent(Continent::Af); GROUP];
-    note_places(zones, group, first, scratch, &mut places);
+    note_places(zones, group, slots, at, first, scratch, &mut places);
     let (location, scope) = location_of(tables, client);
     let place = answer_model::choose_place(
         &places[..group.length],
@@ -118,9 +128,11 @@ pub(crate) fn choose_region<V: HealthView>(
     first: &Region,
     tables: &Tables,
     client: IpAddress,
+    at: usize,
     scratch: &mut Scratch,
 ) -> (usize, u8)
     requires group { IsGroupNow zones.now.zones group }
+    requires at { PoliciesAreAt (sets_in zones.now.zones group) at }
     requires first { FirstSays region_of first.now (sets_in zones.now.zones group) }
     requires some { 0 < group.length }
     requires few { group.length ≤ 100 }
@@ -131,9 +143,10 @@ pub(crate) fn choose_region<V: HealthView>(
     ensures scope { result.1 ≡ scope_in tables.now.latencies client }
 {
     let mut healthy = [false; GROUP];
-    note_healthy(zones, group, view, &mut healthy);
+    let slots = zones.slots_of(group);
+    note_healthy(zones, group, slots, view, &mut healthy);
     let mut regions = [*first; GROUP];
-    note_regions(zones, group, first, scratch, &mut regions);
+    note_regions(zones, group, slots, at, first, scratch, &mut regions);
     let (latencies, scope) = latencies_of(tables, client);
     let place = answer_model::choose_region(
         &regions[..group.length],
@@ -157,7 +170,8 @@ pub(crate) fn choose_several<V: HealthView>(
         ≡ picked (several_chosen (flags_in zones.now.zones (V.test view.now) group) word) }
 {
     let mut healthy = [false; GROUP];
-    note_healthy(zones, group, view, &mut healthy);
+    let slots = zones.slots_of(group);
+    note_healthy(zones, group, slots, view, &mut healthy);
     multivalue::choose(&healthy[..group.length], word)
 }
 
@@ -177,7 +191,8 @@ pub(crate) fn choose_block<V: HealthView>(
         (flags_in zones.now.zones (V.test view.now) group) (option_copied client.entry) }
 {
     let mut healthy = [false; GROUP];
-    note_healthy(zones, group, view, &mut healthy);
+    let slots = zones.slots_of(group);
+    note_healthy(zones, group, slots, view, &mut healthy);
     let mut locations = [*first; GROUP];
     note_locations(zones, group, first, scratch, &mut locations);
     zone_table::choose_block(&locations[..group.length], &healthy[..group.length], client)

@@ -4,7 +4,8 @@
 ghost use Rattle.std.specs.Prelude.{◌≡◌, ◌<◌, ◌≤◌, length, take};
 ghost use Rattle.answer_model.specs.Choice.{each};
 ghost use Rattle.answer_model.specs.Policies.{location_of, place_of, region_of, role_of, weight_of};
-ghost use Rattle.zone_table.specs.Looking.{IsGroupNow};
+ghost use Rattle.zone_table.specs.Looking.{IsGroupNow, slots_in};
+ghost use Rattle.policy_select.specs.Members.{AreMembers};
 ghost use Rattle.policy_select.specs.Groups.{flags_in, sets_in};
 ghost use Rattle.policy_select.specs.Rules.{FirstSays};
 
@@ -18,17 +19,19 @@ use zone_table::{Group, Ident, Scratch, Zones};
 pub(crate) fn note_healthy<V: HealthView>(
     zones: &Zones,
     group: Group,
+    slots: &[u32],
     view: &V,
     healthy: &mut [bool],
 )
     requires group { IsGroupNow zones.now.zones group }
+    requires slots { slots.now ≡ slots_in zones.now.zones group }
     requires room { group.length ≤ length healthy.old }
     ensures noted { take group.length healthy.new
         ≡ flags_in zones.now.zones (V.test view.now) group }
     ensures size { length healthy.new ≡ length healthy.old }
 {
     for i in 0..group.length {
-        healthy[i] = is_member_healthy(zones, group, view, i);
+        healthy[i] = is_member_healthy(zones, group, slots, view, i);
     }
 }
 
@@ -36,11 +39,14 @@ pub(crate) fn note_healthy<V: HealthView>(
 pub(crate) fn note_weights(
     zones: &Zones,
     group: Group,
+    slots: &[u32],
+    at: usize,
     first: u8,
     scratch: &mut Scratch,
     weights: &mut [u8],
 )
     requires group { IsGroupNow zones.now.zones group }
+    requires slots { AreMembers zones.now.zones group slots.now at }
     requires first { FirstSays weight_of first (sets_in zones.now.zones group) }
     requires some { 0 < group.length }
     requires room { group.length ≤ length weights.old }
@@ -50,7 +56,7 @@ pub(crate) fn note_weights(
 {
     weights[0] = first;
     for i in 1..group.length {
-        weights[i] = weight_at(zones, group, i, first, scratch);
+        weights[i] = weight_at(zones, group, slots, at, i, first, scratch);
     }
 }
 
@@ -58,11 +64,14 @@ pub(crate) fn note_weights(
 pub(crate) fn note_roles(
     zones: &Zones,
     group: Group,
+    slots: &[u32],
+    at: usize,
     first: Role,
     scratch: &mut Scratch,
     roles: &mut [Role],
 )
     requires group { IsGroupNow zones.now.zones group }
+    requires slots { AreMembers zones.now.zones group slots.now at }
     requires first { FirstSays role_of first (sets_in zones.now.zones group) }
     requires some { 0 < group.length }
     requires room { group.length ≤ length roles.old }
@@ -72,7 +81,7 @@ pub(crate) fn note_roles(
 {
     roles[0] = first;
     for i in 1..group.length {
-        roles[i] = role_at(zones, group, i, first, scratch);
+        roles[i] = role_at(zones, group, slots, at, i, first, scratch);
     }
 }
 
@@ -80,11 +89,14 @@ pub(crate) fn note_roles(
 pub(crate) fn note_places(
     zones: &Zones,
     group: Group,
+    slots: &[u32],
+    at: usize,
     first: &Place,
     scratch: &mut Scratch,
     places: &mut [Place],
 )
     requires group { IsGroupNow zones.now.zones group }
+    requires slots { AreMembers zones.now.zones group slots.now at }
     requires first { FirstSays place_of first.now (sets_in zones.now.zones group) }
     requires some { 0 < group.length }
     requires room { group.length ≤ length places.old }
@@ -94,7 +106,7 @@ pub(crate) fn note_places(
 {
     places[0] = *first;
     for i in 1..group.length {
-        places[i] = place_at(zones, group, i, first, scratch);
+        places[i] = place_at(zones, group, slots, at, i, first, scratch);
     }
 }
 
@@ -102,11 +114,14 @@ pub(crate) fn note_places(
 pub(crate) fn note_regions(
     zones: &Zones,
     group: Group,
+    slots: &[u32],
+    at: usize,
     first: &Region,
     scratch: &mut Scratch,
     regions: &mut [Region],
 )
     requires group { IsGroupNow zones.now.zones group }
+    requires slots { AreMembers zones.now.zones group slots.now at }
     requires first { FirstSays region_of first.now (sets_in zones.now.zones group) }
     requires some { 0 < group.length }
     requires room { group.length ≤ length regions.old }
@@ -116,7 +131,7 @@ pub(crate) fn note_regions(
 {
     regions[0] = *first;
     for i in 1..group.length {
-        regions[i] = region_at(zones, group, i, first, scratch);
+        regions[i] = region_at(zones, group, slots, at, i, first, scratch);
     }
 }
 

@@ -2,7 +2,7 @@
 //! octets of the set: neither the identifier nor the rest of the policy is copied. A set of another
 //! policy counts as the first one does.
 
-ghost use Rattle.std.specs.Prelude.{◌≡◌, ◌∷◌, ◌++◌, ℕ, IsTrue, List};
+ghost use Rattle.std.specs.Prelude.{◌≡◌, ◌≤◌, ◌∷◌, ◌++◌, ℕ, IsTrue, List, length, take};
 ghost use Rattle.std.specs.Option.{unwrap_or};
 ghost use Rattle.answer_model.specs.Policies.{location_of, place_of, region_of, role_of, weight_of};
 ghost use Rattle.routing.specs.Texts.{IsLocation, IsRegion, IsSubdivision};
@@ -26,6 +26,21 @@ pub(crate) fn is_simple_in(octets: &[u8]) -> bool
         → IsTrue result → routing ≡ policy.Simple }
 {
     matches!(octets, [0, ..])
+}
+
+/// Whether a policy that begins here ends here too. It is told of policies of which little stands
+/// behind the identifier, and of no others.
+pub(crate) fn is_whole(octets: &[u8]) -> bool
+    ensures { (routing : Routing) (rest : List ℕ) (n : ℕ) → IsRouting routing
+        → octets.now ≡ take n (routing_octets routing ++ rest) → IsTrue result
+        → length (routing_octets routing) ≤ length octets.now }
+{
+    match octets {
+        [1, size, ..] => octets.len() >= usize::from(*size) + 3,
+        [2, size, ..] => octets.len() >= usize::from(*size) + 3,
+        [3, size, ..] => octets.len() >= usize::from(*size) + 9,
+        _ => false,
+    }
 }
 
 /// The weight in a policy at the front.

@@ -3,22 +3,18 @@
 //! It is told where it stands among the octets of the set, and its identifier isn't copied, which
 //! is most of a policy. A policy of address blocks alone is copied whole.
 
-ghost use Rattle.std.specs.Prelude.{◌≡◌, ◌<◌, ◌++◌, ℕ, IfSome, List, Some, slice_get};
+ghost use Rattle.std.specs.Prelude.{◌≡◌, ◌++◌, ℕ, IfSome, List};
 ghost use Rattle.routing.specs.Texts.{IsRegion};
 ghost use Rattle.routing.specs.declared.policies.Routing.{Routing};
 ghost use Rattle.zone_table.specs.Holding.{IsHolding};
-ghost use Rattle.zone_table.specs.Looking.{IsGroupNow};
 ghost use Rattle.zone_table.specs.Octets.{IsSpelledRouting, routing_octets, text_octets};
-ghost use Rattle.zone_table.specs.RecordSetRecord.{RecordSet};
 ghost use Rattle.zone_table.specs.SetsOfSetReading.{IsRouting};
-ghost use Rattle.policy_select.specs.Groups.{sets_in};
 ghost use Rattle.policy_select.specs.Rules.{IsOf};
 ghost use Rattle.policy_select.specs.declared.rules.Rule.TheVariants as rule;
 
-use crate::group::load_member;
 use crate::parts::{name_of, octet_in, place_at, role_at};
 use routing::{Place, Region, Role, Routing};
-use zone_table::{Group, Ident, Scratch, Zones, behind_text, fields_are_read, region_at};
+use zone_table::{Ident, Scratch, behind_text, fields_are_read, region_at};
 
 /// A policy without its identifier, with what the set says by it.
 #[derive(Clone, Copy)]
@@ -31,17 +27,6 @@ pub(crate) enum Rule {
     Multivalue,
     /// The number of a collection of address blocks, and one of its locations.
     Cidr(u32, Ident),
-}
-
-/// Loads the first set of a group, and tells its policy.
-pub(crate) fn first_rule(zones: &Zones, group: Group, scratch: &mut Scratch) -> Rule
-    requires group { IsGroupNow zones.now.zones group }
-    requires some { 0 < group.length }
-    ensures { (set : RecordSet) × (slice_get (sets_in zones.now.zones group) 0 ≡ Some set)
-        × IsOf result set.routing }
-{
-    load_member(zones, group, 0, scratch);
-    rule_held(scratch)
 }
 
 /// The policy of the set that is held.

@@ -8,15 +8,17 @@ ghost use Rattle.multivalue.specs.Answer.{picked};
 ghost use Rattle.zone_table.specs.RecordSetRecord.{RecordSet};
 ghost use Rattle.zone_table.specs.Looking.{IsGroupNow};
 ghost use Rattle.policy_select.specs.Groups.{sets_in};
+ghost use Rattle.policy_select.specs.Members.{PoliciesAreAt};
 ghost use Rattle.policy_select.specs.Rules.{IsOf};
 ghost use Rattle.policy_select.specs.Seen.{IsSeen};
 ghost use Rattle.policy_select.specs.Selecting.{choice_of, selected_of};
 
 use crate::client::{Seen, block_of};
+use crate::group::{load_member, policy_place};
 use crate::leaves::{
     choose_block, choose_failover, choose_place, choose_region, choose_several, choose_weighted,
 };
-use crate::rules::{Rule, first_rule};
+use crate::rules::{Rule, rule_held};
 use crate::view::HealthView;
 use address_text::IpAddress;
 use answer_model::{Tables, Used};
@@ -60,9 +62,11 @@ pub fn select<V: HealthView>(
         places: None,
         latencies: None,
     };
-    let rule = first_rule(zones, group, scratch);
+    load_member(zones, group, 0, scratch);
+    let rule = rule_held(scratch);
+    let at = policy_place(scratch);
     choose(
-        &rule, zones, group, view, tables, client, word, &mut used, &mut seen, scratch,
+        &rule, zones, group, view, tables, client, word, at, &mut used, &mut seen, scratch,
     )
 }
 
@@ -76,6 +80,7 @@ pub(crate) fn choose<V: HealthView>(
     tables: &Tables,
     client: IpAddress,
     word: u64,
+    at: usize,
     used: &mut Used,
     seen: &mut Seen,
     scratch: &mut Scratch,
@@ -84,6 +89,7 @@ pub(crate) fn choose<V: HealthView>(
     requires some { 0 < group.length }
     requires few { group.length ≤ 100 }
     requires seen { IsSeen tables.now client seen.old }
+    requires at { PoliciesAreAt (sets_in zones.now.zones group) at }
     requires first { (set : RecordSet)
         × (slice_get (sets_in zones.now.zones group) 0 ≡ Some set)
         × IsOf rule.now set.routing }
@@ -100,19 +106,26 @@ pub(crate) fn choose<V: HealthView>(
         Rule::Weighted(weight) => {
             one(
                 group,
-                choose_weighted(zones, group, view, *weight, word, scratch),
+                choose_weighted(zones, group, view, *weight, word, at, scratch),
             )
         }
-        Rule::Failover(role) => { one(group, choose_failover(zones, group, view, *role, scratch)) }
+        Rule::Failover(role) => {
+            one(
+                group,
+                choose_failover(zones, group, view, *role, at, scratch),
+            )
+        }
         Rule::Geolocation(place) => {
             used.places = true;
-            let (set, scope) = choose_place(zones, group, view, place, tables, client, scratch);
+            let (set, scope) = choose_place(zones, group, view, place, tables, client, at, scratch);
             seen.places = Some(scope);
             one_or_none(group, set)
         }
         Rule::Latency(region) => {
             used.latencies = true;
-            let (set, scope) = choose_region(zones, group, view, region, tables, client, scratch);
+            let (set, scope) = choose_region(
+                zones, group, view, region, tables, client, at, scratch,
+            );
             seen.latencies = Some(scope);
             one(group, set)
         }

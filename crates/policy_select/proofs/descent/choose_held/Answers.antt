@@ -1,6 +1,13 @@
 use Rattle.answer_model.specs.Clients.{client_at}
 use Rattle.policy_select.proofs.Choosing.{places_are}
+use Rattle.policy_select.proofs.Policies.{by_held}
 use Rattle.policy_select.proofs.descent.choose_held.Goals as goal
+
+pub choose-selected-requires-clause-at : goal.choose-selected-requires-clause-at
+choose-selected-requires-clause-at g c =
+    let first = c.requires.first in
+    by_held c.args.zones.now.zones c.args.group c.requires.group c.args.scratch.now first.0
+    c.policy_place-at.result first.1 first.2 c.policy_place-at.ensures
 
 pub load_first-requires : goal.load_first-requires
 load_first-requires g c =

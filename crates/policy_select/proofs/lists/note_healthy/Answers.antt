@@ -2,7 +2,13 @@ use Rattle.std.proofs.Common.{arith}
 use Rattle.zone_table.specs.Placed.{Placed}
 use Rattle.policy_select.specs.Groups.{flags_in, members_of}
 use Rattle.policy_select.proofs.Noted.{all_noted, few_members, noted_more}
+use Rattle.policy_select.proofs.Policies.{in_slots}
 use Rattle.policy_select.proofs.lists.note_healthy.Goals as goal
+
+pub is_member_healthy-requires-clause-within : goal.is_member_healthy-requires-clause-within
+is_member_healthy-requires-clause-within g c =
+    in_slots c.args.zones.now.zones c.args.group c.args.slots.now c.loop-i.i c.requires.group
+    c.requires.slots c.loop-i-test.true
 
 pub loop-i-preserved : goal.loop-i-preserved
 loop-i-preserved g c =

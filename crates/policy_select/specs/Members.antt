@@ -1,0 +1,27 @@
+-- The sets of a group, told by their slots and by the place of their policies.
+use Rattle.std.specs.Prelude.{◌≡◌, ◌++◌, ℕ, List}
+use Rattle.zone_table.specs.Looking.{slots_in}
+use Rattle.zone_table.specs.Octets.{routing_octets}
+use Rattle.zone_table.specs.Policies.{PolicyIsAt}
+use Rattle.zone_table.specs.RecordSetRecord.{RecordSet}
+use Rattle.zone_table.specs.Sets.{IsAmong}
+use Rattle.zone_table.specs.SetsOfSetReading.{IsRouting}
+use Rattle.zone_table.specs.Zones.{Zone}
+use Rattle.zone_table.specs.declared.refs.Group.{Group}
+use Rattle.policy_select.specs.Groups.{sets_in}
+
+-- The policy of each set stands at this place among its octets.
+abbrev pub PoliciesAreAt : List RecordSet → (place : ℕ) → Type 0
+PoliciesAreAt sets place = (set : RecordSet) → IsAmong sets set → PolicyIsAt set place
+
+-- These are the slots of a group's sets, and the place at which the policy of each stands.
+pub record AreMembers (zones : List Zone) (group : Group) (slots : List ℕ) (place : ℕ)
+    : Type 0 where
+  pub are : slots ≡ slots_in zones group
+  pub placed : PoliciesAreAt (sets_in zones group) place
+
+-- The octets begin with the policy of a set.
+pub record BeginsWithPolicy (octets : List ℕ) (set : RecordSet) : Type 0 where
+  pub is : IsRouting set.routing
+  pub rest : List ℕ
+  pub same : octets ≡ routing_octets set.routing ++ rest
