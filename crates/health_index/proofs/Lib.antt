@@ -9,5 +9,6 @@ pub mod Reporting
 pub mod Reserved
 pub mod Standing
 pub mod Staying
+pub mod Taken
 pub mod Telling
 pub mod Truth

@@ -252,6 +252,12 @@ module _ (fifty : FiftyAlone) (more : OneMoreReport) (zones : List Zone) (checks
     idle = idle;
   }
 
+  pub stands_taken : (seen : List (Option Seen)) → seen ≡ set index.seen place (Some now)
+      → StandsFor zones checks (report ∷ reports) (record index { seen = seen; gates = gates; space = space })
+  stands_taken seen is =
+      subst (λ s. StandsFor zones checks (report ∷ reports) (record index { seen = s; gates = gates; space = space })) (sym is)
+      stands_after
+
 -- ---- which checks have checkers
 
 module _ (zones : List Zone) (checks : Checks) (reports : List Report) (index : Index)
@@ -311,6 +317,7 @@ whole_after index w place given its now gates space here fits idle = record {
   fits = fits;
   idle = idle;
   as_many = length-set index.seen place (Some now) ∙ w.as_many;
+  apart = w.apart;
   few = w.few;
   within = w.within;
   seated = w.seated;

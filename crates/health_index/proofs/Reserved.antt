@@ -47,6 +47,7 @@ module _ (before after : Index) (keeps : Keeps before after)
     fits = stays is.net is.own is.fits;
     idle = idle is.idle;
     as_many = as_many is.as_many;
+    apart = rw keeps.ids is.apart;
     few = rw keeps.ids is.few;
     within = rw keeps.ids is.within;
     seated = rw keeps.seats is.seated;

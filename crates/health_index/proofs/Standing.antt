@@ -18,6 +18,7 @@ use Rattle.health_planning.specs.Building.{AllListed, AreGiven, AreOfEndpoints, 
 use Rattle.health_index.specs.Index.{Index, IsWhole, Space, StandsFor, TellApart}
 use Rattle.health_planning.specs.Wired.{ids_of, place_of, watched_of}
 use Rattle.health_planning.specs.declared.seats.Seat.{Seat}
+use Rattle.health_planning.proofs.Places.{ids_apart}
 use Rattle.health_planning.proofs.Planned.{fed_by_rule}
 use Rattle.health_planning.proofs.Wiring.{ids_long, wired}
 
@@ -48,6 +49,7 @@ module _ (zones : List Zone) (checks : Checks) (refs members : List SetRef) (sea
         fits = fits;
         idle = idle;
         as_many = many;
+        apart = rw ids_is (ids_apart checks.list are_checks.rising);
         few = omega arith;
         within = omega arith;
         seated = λ slot gate is.

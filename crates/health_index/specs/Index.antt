@@ -21,7 +21,7 @@ use Rattle.health_planning.specs.Tables.{HaveSlotsApart}
 use Rattle.zone_model.specs.Placed.{IsHere, Placed}
 use Rattle.health_planning.specs.Looking.{Names}
 use Rattle.health_planning.specs.Building.{AllListed, AreGiven, IsSeen}
-use Rattle.health_planning.specs.Wired.{AreMembers, HasSlot, IsGroupSeat, IsWired, TellGroup, group_seat, ids_of, is_watched, open_in, place_of, seat_of, watched_of}
+use Rattle.health_planning.specs.Wired.{AreMembers, HasSlot, IsGroupSeat, IsWired, StandApart, TellGroup, group_seat, ids_of, is_watched, open_in, place_of, seat_of, watched_of}
 use Rattle.health_planning.specs.declared.seats.Seat.{Seat}
 
 -- For how many there is room: numbers of checks and what their checkers saw, now and before a
@@ -157,14 +157,15 @@ pub record Tells (zones : List Zone) (checks : Checks) (reports : List Report) (
 
 -- ---- what holds of every index
 
--- Gates that stand for some net; those whose checkers are counted have no feeders. Seats tell gates
--- only in the slots of the sets that are kept for it.
+-- Gates that stand for some net; those whose checkers are counted have no feeders. No number of a
+-- check stands at two places. Seats tell gates only in the slots of the sets that are kept for it.
 pub record IsWhole (index : Index) : Type 0 where
   pub net : Net
   pub own : ℕ → ℕ
   pub fits : Fits net own index.gates
   pub idle : IsIdle index.gates
   pub as_many : length index.seen ≡ length index.ids
+  pub apart : StandApart index.ids
   pub few : length index.ids ≤ 200
   pub within : length index.ids ≤ net.size
   pub seated : (slot gate : ℕ) → seat_of index.seats slot ≡ suc gate → gate < net.size

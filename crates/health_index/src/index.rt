@@ -22,13 +22,14 @@ use crate::finding::gate_of;
 use crate::gate_leaving::leaves_gates;
 use crate::laws::index_tells_health;
 use crate::reserving::{each_ok, room_for_checks, room_for_slots};
+use crate::taking::take_result;
 use checker_state::{CHECKERS, Checkers, fifty_alone};
 use health_check::CheckTable;
 use health_gates::{Gates, Plan, Steps};
 use health_model::{one_health, one_more_report};
 use health_planning::{
-    Delta, HealthView, Scratch, Seat, SetRef, Zones, clear_seats, list_ids, list_seen, place_in,
-    plan_gates, seen_at, views_agree,
+    Delta, HealthView, Scratch, Seat, SetRef, Zones, clear_seats, list_ids, list_seen, place_near,
+    plan_gates, views_agree,
 };
 use octets::OutOfMemory;
 use std::alloc::Global;
@@ -275,15 +276,12 @@ impl HealthIndex {
         index_tells_health();
         one_more_report();
         fifty_alone();
-        let Some(place) = place_in(&self.ids, id) else {
+        let Some(place) = place_near(&self.ids, id) else {
             return false;
         };
-        let Some(mut checkers) = seen_at(&self.seen, place) else {
+        let Some(passing) = take_result(self.seen.as_mut_slice(), place, checker, pass) else {
             return false;
         };
-        checkers.report(checker, pass);
-        self.seen[place] = Some(checkers);
-        let passing = checkers.passing();
         self.gates
             .take_count(place as u32, u32::from(passing), steps)
     }
@@ -329,7 +327,7 @@ impl HealthIndex {
             → StandsFor zones checks reports self.now → result ≡ status_told checks.list reports id }
     {
         index_tells_health();
-        let Some(place) = place_in(&self.ids, id) else {
+        let Some(place) = place_near(&self.ids, id) else {
             return None;
         };
         let number = short(self.gates.count(place));

@@ -12,6 +12,7 @@ mod gate_leaving;
 mod index;
 mod laws;
 mod reserving;
+mod taking;
 
 pub use health_gates::Steps;
 pub use index::HealthIndex;

@@ -1,6 +1,6 @@
 //! Where checks stand by their numbers, and what their checkers saw.
 
-ghost use Rattle.std.specs.Prelude.{◌≡◌, ◌<◌, Some, length, slice_get};
+ghost use Rattle.std.specs.Prelude.{◌≡◌, ◌<◌, Some, length, slice_get, true};
 ghost use Rattle.health_planning.specs.Wired.{IsPlace, StandApart, StandsAt};
 
 use checker_state::Checkers;
@@ -17,16 +17,36 @@ pub fn place_in(ids: &[u32], id: u32) -> Option<usize>
     None
 }
 
-/// The place of a number among some that differ. Where they rise it is found by halving.
+/// The place of a number among some that differ. Where they rise it is found by halving, and at once
+/// where none is missing between the first one and it.
 pub fn place_near(ids: &[u32], id: u32) -> Option<usize>
     requires { StandApart ids.now }
     ensures { IsPlace ids.now id result }
 {
+    let guess = place_guessed(ids, id);
+    if is_at(ids, guess, id) {
+        return Some(guess);
+    }
     let place = ids.partition_point(|other| *other < id);
-    if place < ids.len() && ids[place] == id {
+    if is_at(ids, place, id) {
         return Some(place);
     }
     place_in(ids, id)
+}
+
+/// Where a number would stand, if none were missing between the first one and it.
+fn place_guessed(ids: &[u32], id: u32) -> usize {
+    if ids.is_empty() {
+        return 0;
+    }
+    id.wrapping_sub(ids[0]) as usize
+}
+
+/// Whether a number stands at a place.
+fn is_at(ids: &[u32], place: usize, id: u32) -> bool
+    ensures { result ≡ true → slice_get ids.now place ≡ Some id }
+{
+    place < ids.len() && ids[place] == id
 }
 
 /// A place of a number, which is looked for from one place on, and then from the front.

@@ -16,7 +16,7 @@ mod planning;
 mod seats;
 
 pub use building::{clear_seats, list_ids, list_seen};
-pub use finding::{place_in, seen_at};
+pub use finding::place_near;
 pub use listing::{is_watched, only_check};
 pub use planning::plan_gates;
 pub use policy_select::{

@@ -9,12 +9,15 @@ use Rattle.health_index.proofs.index.HealthIndex.check_status.Goals as goal
 pub returns-in_default : goal.returns-in_default
 returns-in_default c zones checks reports stands =
     let ids = ap (λ (i : Index). i.ids) (sym c.self.view_is) ∙ sym c.deref.ensures.value in
-    let none = subst (IsPlace c.deref.result.now c.args.id) c.in_default.is c.place_in.ensures in
+    let none = subst (IsPlace c.deref.result.now c.args.id) c.in_default.is c.place_near.ensures in
     nothing_told zones checks reports c.args.self.now stands c.args.id (λ place is. none place (rw ids at is))
+
+pub place_near-requires : goal.place_near-requires
+place_near-requires c = rw c.deref.ensures.value c.self.invariant.apart
 
 pub count-requires-clause-gate : goal.count-requires-clause-gate
 count-requires-clause-gate c =
-    let here = (subst (IsPlace c.deref.result.now c.args.id) c.in-Some.is c.place_in.ensures).0 in
+    let here = (subst (IsPlace c.deref.result.now c.args.id) c.in-Some.is c.place_near.ensures).0 in
     let within = slice_get_within c.deref.result.now c.in-Some.place c.args.id here in
     let ids = ap length c.deref.ensures.value in
     let size = c.self.invariant.fits.laid.size in
@@ -23,7 +26,7 @@ count-requires-clause-gate c =
 
 pub value-requires-clause-gate : goal.value-requires-clause-gate
 value-requires-clause-gate c =
-    let here = (subst (IsPlace c.deref.result.now c.args.id) c.in-Some.is c.place_in.ensures).0 in
+    let here = (subst (IsPlace c.deref.result.now c.args.id) c.in-Some.is c.place_near.ensures).0 in
     let within = slice_get_within c.deref.result.now c.in-Some.place c.args.id here in
     let ids = ap length c.deref.ensures.value in
     let size = c.self.invariant.fits.laid.size in
@@ -32,7 +35,7 @@ value-requires-clause-gate c =
 
 pub returns : goal.returns
 returns c zones checks reports stands =
-    let here = subst (IsPlace c.deref.result.now c.args.id) c.in-Some.is c.place_in.ensures in
+    let here = subst (IsPlace c.deref.result.now c.args.id) c.in-Some.is c.place_near.ensures in
     let inner = sym c.deref.ensures.value in
     let old = subst (StandsFor zones checks reports) (sym c.self.view_is) stands in
     told zones checks reports _ old c.args.id c.in-Some.place (rw inner here.0) (rw inner here.1) c.value.result c.count.result c.short-number.result

@@ -11,6 +11,7 @@ invariant_of-result c = record {
   fits = c.new-4.ensures.fits;
   idle = c.new-4.ensures.idle;
   as_many = ap length c.new-2.ensures.items ∙ sym (ap length c.new.ensures.items);
+  apart = λ k n id at also. absurd (grind (arith, at, c.new.ensures.items));
   few = let none = ap length c.new.ensures.items in omega arith;
   within = let none = ap length c.new.ensures.items in omega arith;
   seated = λ slot gate is. absurd (grind (arith, is, c.new-3.ensures.items));

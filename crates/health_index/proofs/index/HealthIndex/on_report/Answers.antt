@@ -1,5 +1,5 @@
-use Rattle.std.proofs.Common.{◌≡◌, length, arith, ap, sym, ◌∙◌, Some}
-use Rattle.std.specs.Prelude.{slice_get}
+use Rattle.std.proofs.Common.{◌≡◌, length, arith, ap, sym, ◌∙◌}
+use Rattle.std.proofs.lemmas.List.{with_items_is}
 use mathlib.Core.Path.{subst}
 use Rattle.std.proofs.lemmas.Option.{slice_get_within}
 use Rattle.health_gates.specs.Gates.{value_of}
@@ -7,60 +7,61 @@ use Rattle.health_index.specs.Index.{Index, StandsFor}
 use Rattle.health_planning.specs.Wired.{IsPlace}
 use Rattle.health_planning.specs.Wired.{place_of}
 use Rattle.health_index.proofs.Costing.{few_steps}
-use Rattle.health_index.proofs.Reporting.{alone_in_all, at_place, none_seen, not_there, some_seen, stands_after, whole_after}
+use Rattle.health_index.proofs.Reporting.{alone_in_all, at_place, none_seen, not_there, some_seen, stands_after, stands_taken}
+use Rattle.health_index.proofs.Taken.{taken, whole_taken}
 use Rattle.health_index.proofs.index.HealthIndex.on_report.Goals as goal
 
 pub returns-in_default-clause-stands : goal.returns-in_default-clause-stands
 returns-in_default-clause-stands g c zones checks reports stands endpoint =
     let ids = ap (λ (i : Index). i.ids) (sym c.self.view_is) ∙ sym c.deref.ensures.value in
-    let none = subst (IsPlace c.deref.result.now c.args.id) c.in_default.is c.place_in.ensures in
+    let none = subst (IsPlace c.deref.result.now c.args.id) c.in_default.is c.place_near.ensures in
     absurd (not_there zones checks reports c.args.self.now stands c.args.id (λ place is. none place (rw ids at is)) endpoint)
 
 pub returns-in_default-clause-changed : goal.returns-in_default-clause-changed
 returns-in_default-clause-changed g c zones checks reports stands endpoint =
     let ids = ap (λ (i : Index). i.ids) (sym c.self.view_is) ∙ sym c.deref.ensures.value in
-    let none = subst (IsPlace c.deref.result.now c.args.id) c.in_default.is c.place_in.ensures in
+    let none = subst (IsPlace c.deref.result.now c.args.id) c.in_default.is c.place_near.ensures in
     absurd (not_there zones checks reports c.args.self.now stands c.args.id (λ place is. none place (rw ids at is)) endpoint)
 
-pub seen_at-requires : goal.seen_at-requires
-seen_at-requires g c =
-    let here = (subst (IsPlace c.deref.result.now c.args.id) c.in-Some.is c.place_in.ensures).0 in
+pub place_near-requires : goal.place_near-requires
+place_near-requires g c = rw c.deref.ensures.value c.self.invariant.apart
+
+pub take_result-requires-clause-place : goal.take_result-requires-clause-place
+take_result-requires-clause-place g c =
+    let here = (subst (IsPlace c.deref.result.now c.args.id) c.in-Some.is c.place_near.ensures).0 in
     let within = slice_get_within c.deref.result.now c.in-Some.place c.args.id here in
     let as_many = c.self.invariant.as_many in
     let ids = ap length c.deref.ensures.value in
-    let seen = ap length c.deref-2.ensures.value in
+    let seen = ap length c.as_mut_slice.ensures.value in
     omega arith
 
-pub returns-in_default-seen_at-clause-stands : goal.returns-in_default-seen_at-clause-stands
-returns-in_default-seen_at-clause-stands g c zones checks reports stands endpoint =
+pub returns-in_default-take_result-clause-stands : goal.returns-in_default-take_result-clause-stands
+returns-in_default-take_result-clause-stands g c zones checks reports stands endpoint =
     let ids = ap (λ (i : Index). i.ids) (sym c.self.view_is) ∙ sym c.deref.ensures.value in
-    let seen = ap (λ (i : Index). i.seen) (sym c.self.view_is) ∙ sym c.deref-2.ensures.value in
-    let here = subst (IsPlace c.deref.result.now c.args.id) c.in-Some.is c.place_in.ensures in
-    let is = c.seen_at.ensures ∙ ap Some c.in_default-seen_at.is in
+    let seen = ap (λ (i : Index). i.seen) (sym c.self.view_is) in
+    let here = subst (IsPlace c.deref.result.now c.args.id) c.in-Some.is c.place_near.ensures in
+    let took =
+    taken c.args.checker c.args.pass c.as_mut_slice.result.now c.self.inside.seen.items c.take_result.new.seen c.in-Some.place
+    _ _ c.as_mut_slice.ensures.value c.in_default-take_result.is c.take_result.ensures
+    in
     absurd (none_seen zones checks reports c.args.self.now stands c.args.id c.in-Some.place
-    (rw ids here.0) (rw ids here.1) (rw seen is) endpoint)
+    (rw ids here.0) (rw ids here.1) (rw seen took.0) endpoint)
 
-pub returns-in_default-seen_at-clause-changed : goal.returns-in_default-seen_at-clause-changed
-returns-in_default-seen_at-clause-changed g c zones checks reports stands endpoint =
+pub returns-in_default-take_result-clause-changed : goal.returns-in_default-take_result-clause-changed
+returns-in_default-take_result-clause-changed g c zones checks reports stands endpoint =
     let ids = ap (λ (i : Index). i.ids) (sym c.self.view_is) ∙ sym c.deref.ensures.value in
-    let seen = ap (λ (i : Index). i.seen) (sym c.self.view_is) ∙ sym c.deref-2.ensures.value in
-    let here = subst (IsPlace c.deref.result.now c.args.id) c.in-Some.is c.place_in.ensures in
-    let is = c.seen_at.ensures ∙ ap Some c.in_default-seen_at.is in
+    let seen = ap (λ (i : Index). i.seen) (sym c.self.view_is) in
+    let here = subst (IsPlace c.deref.result.now c.args.id) c.in-Some.is c.place_near.ensures in
+    let took =
+    taken c.args.checker c.args.pass c.as_mut_slice.result.now c.self.inside.seen.items c.take_result.new.seen c.in-Some.place
+    _ _ c.as_mut_slice.ensures.value c.in_default-take_result.is c.take_result.ensures
+    in
     absurd (none_seen zones checks reports c.args.self.now stands c.args.id c.in-Some.place
-    (rw ids here.0) (rw ids here.1) (rw seen is) endpoint)
-
-pub index_mut-requires : goal.index_mut-requires
-index_mut-requires g c =
-    let here = (subst (IsPlace c.deref.result.now c.args.id) c.in-Some.is c.place_in.ensures).0 in
-    let within = slice_get_within c.deref.result.now c.in-Some.place c.args.id here in
-    let as_many = c.self.invariant.as_many in
-    let ids = ap length c.deref.ensures.value in
-    let len = c.self.inside.seen.ok.0 in
-    omega arith
+    (rw ids here.0) (rw ids here.1) (rw seen took.0) endpoint)
 
 pub overflow_cast-place : goal.overflow_cast-place
 overflow_cast-place g c =
-    let here = (subst (IsPlace c.deref.result.now c.args.id) c.in-Some.is c.place_in.ensures).0 in
+    let here = (subst (IsPlace c.deref.result.now c.args.id) c.in-Some.is c.place_near.ensures).0 in
     let within = slice_get_within c.deref.result.now c.in-Some.place c.args.id here in
     let ids = ap length c.deref.ensures.value in
     let few = c.self.invariant.few in
@@ -68,7 +69,7 @@ overflow_cast-place g c =
 
 pub take_count-requires-clause-gate : goal.take_count-requires-clause-gate
 take_count-requires-clause-gate g c =
-    let here = (subst (IsPlace c.deref.result.now c.args.id) c.in-Some.is c.place_in.ensures).0 in
+    let here = (subst (IsPlace c.deref.result.now c.args.id) c.in-Some.is c.place_near.ensures).0 in
     let within = slice_get_within c.deref.result.now c.in-Some.place c.args.id here in
     let ids = ap length c.deref.ensures.value in
     let size = c.self.invariant.fits.laid.size in
@@ -78,51 +79,66 @@ take_count-requires-clause-gate g c =
 pub take_count-requires-clause-alone : goal.take_count-requires-clause-alone
 take_count-requires-clause-alone g c net own fits =
     let w = c.self.invariant in
-    let here = (subst (IsPlace c.deref.result.now c.args.id) c.in-Some.is c.place_in.ensures).0 in
+    let here = (subst (IsPlace c.deref.result.now c.args.id) c.in-Some.is c.place_near.ensures).0 in
     let within = slice_get_within c.deref.result.now c.in-Some.place c.args.id here in
     let ids = ap length c.deref.ensures.value in
     let most = w.within in
-    let is : slice_get c.self.inside.seen.items c.in-Some.place ≡ Some (Some c.in-Some-seen_at.checkers) = rw c.deref-2.ensures.value at
-    (c.seen_at.ensures ∙ ap Some c.in-Some-seen_at.is) in
+    let took =
+    taken c.args.checker c.args.pass c.as_mut_slice.result.now c.self.inside.seen.items c.take_result.new.seen c.in-Some.place
+    _ _ c.as_mut_slice.ensures.value c.in-Some-take_result.is c.take_result.ensures
+    in
     alone_in_all w.net net w.own own c.self.inside.gates c.in-Some.place (omega arith) w.fits fits
-    (w.alone c.in-Some.place c.in-Some-seen_at.checkers is)
+    (w.alone c.in-Some.place took.0 took.2)
 
-pub invariant_of-self : goal.invariant_of-self
-invariant_of-self g c =
+pub invariant_of-self-2 : goal.invariant_of-self-2
+invariant_of-self-2 g c =
     let w = c.self.invariant in
-    let is : slice_get c.self.inside.seen.items c.in-Some.place ≡ Some (Some c.in-Some-seen_at.checkers) = rw c.deref-2.ensures.value at
-    (c.seen_at.ensures ∙ ap Some c.in-Some-seen_at.is) in
-    whole_after _ w c.in-Some.place c.from.result c.in-Some-seen_at.checkers c.report.new.self c.take_count.new.self _ is
+    let took =
+    taken c.args.checker c.args.pass c.as_mut_slice.result.now c.self.inside.seen.items c.take_result.new.seen c.in-Some.place
+    _ _ c.as_mut_slice.ensures.value c.in-Some-take_result.is c.take_result.ensures
+    in
+    let seen =
+    with_items_is c.self.inside.seen c.take_result.new.seen (omega (arith, c.take_result.auto.seen, c.as_mut_slice.ensures.len))
+    in
+    whole_taken _ w _ _ c.in-Some.place c.from.result took.0 took.1 c.take_count.new.self took.2 (seen ∙ took.3)
     (c.take_count.ensures.fits w.net w.own w.fits) c.take_count.ensures.idle
 
 pub returns-clause-stands : goal.returns-clause-stands
 returns-clause-stands g c zones checks reports stands endpoint =
     let place = c.in-Some.place in
     let ids = ap (λ (i : Index). i.ids) (sym c.self.view_is) ∙ sym c.deref.ensures.value in
-    let here = subst (IsPlace c.deref.result.now c.args.id) c.in-Some.is c.place_in.ensures in
+    let here = subst (IsPlace c.deref.result.now c.args.id) c.in-Some.is c.place_near.ensures in
     let old = subst (StandsFor zones checks reports) (sym c.self.view_is) stands in
     let inner = sym c.deref.ensures.value in
-    let is : slice_get c.self.inside.seen.items place ≡ Some (Some c.in-Some-seen_at.checkers) = rw c.deref-2.ensures.value at
-    (c.seen_at.ensures ∙ ap Some c.in-Some-seen_at.is) in
-    stands_after c.fifty_alone.ensures c.one_more_report.ensures zones checks reports _ old c.args.id c.args.checker c.args.pass place
-    c.in-Some-seen_at.checkers c.report.new.self c.from.result c.take_count.new.self c.requires.checker
-    (rw inner here.0) (rw inner here.1) endpoint is c.report.ensures.stands
-    (λ n results h. c.from.ensures ∙ c.passing-passing.ensures.exact n results h)
+    let took =
+    taken c.args.checker c.args.pass c.as_mut_slice.result.now c.self.inside.seen.items c.take_result.new.seen c.in-Some.place
+    _ _ c.as_mut_slice.ensures.value c.in-Some-take_result.is c.take_result.ensures
+    in
+    let seen =
+    with_items_is c.self.inside.seen c.take_result.new.seen (omega (arith, c.take_result.auto.seen, c.as_mut_slice.ensures.len))
+    in
+    stands_taken c.fifty_alone.ensures c.one_more_report.ensures zones checks reports _ old c.args.id c.args.checker c.args.pass place
+    took.0 took.1 c.from.result c.take_count.new.self c.requires.checker
+    (rw inner here.0) (rw inner here.1) endpoint took.2 took.4.takes
+    (λ n results h. c.from.ensures ∙ took.4.counts n results h)
     (c.take_count.ensures.fits old.net old.own old.fits) (c.take_count.ensures.meet old.net old.own old.fits old.meet) c.take_count.ensures.idle _
+    _ (seen ∙ took.3)
 
 pub returns-clause-changed : goal.returns-clause-changed
 returns-clause-changed g c zones checks reports stands endpoint =
     let place = c.in-Some.place in
     let ids = ap (λ (i : Index). i.ids) (sym c.self.view_is) ∙ sym c.deref.ensures.value in
-    let here = subst (IsPlace c.deref.result.now c.args.id) c.in-Some.is c.place_in.ensures in
+    let here = subst (IsPlace c.deref.result.now c.args.id) c.in-Some.is c.place_near.ensures in
     let old = subst (StandsFor zones checks reports) (sym c.self.view_is) stands in
     let inner = sym c.deref.ensures.value in
-    let is : slice_get c.self.inside.seen.items place ≡ Some (Some c.in-Some-seen_at.checkers) = rw c.deref-2.ensures.value at
-    (c.seen_at.ensures ∙ ap Some c.in-Some-seen_at.is) in
+    let took =
+    taken c.args.checker c.args.pass c.as_mut_slice.result.now c.self.inside.seen.items c.take_result.new.seen c.in-Some.place
+    _ _ c.as_mut_slice.ensures.value c.in-Some-take_result.is c.take_result.ensures
+    in
     let after = stands_after c.fifty_alone.ensures c.one_more_report.ensures zones checks reports _ old c.args.id c.args.checker c.args.pass place
-    c.in-Some-seen_at.checkers c.report.new.self c.from.result c.take_count.new.self c.requires.checker
-    (rw inner here.0) (rw inner here.1) endpoint is c.report.ensures.stands
-    (λ n results h. c.from.ensures ∙ c.passing-passing.ensures.exact n results h)
+    took.0 took.1 c.from.result c.take_count.new.self c.requires.checker
+    (rw inner here.0) (rw inner here.1) endpoint took.2 took.4.takes
+    (λ n results h. c.from.ensures ∙ took.4.counts n results h)
     (c.take_count.ensures.fits old.net old.own old.fits) (c.take_count.ensures.meet old.net old.own old.fits old.meet) c.take_count.ensures.idle
     c.args.self.now.space in
     let check = at_place zones checks reports _ old c.args.id place (rw inner here.0) (rw inner here.1) in
@@ -137,16 +153,19 @@ returns-clause-changed g c zones checks reports stands endpoint =
 pub returns-clause-other : goal.returns-clause-other
 returns-clause-other g c zones checks reports stands never =
     let ids = ap (λ (i : Index). i.ids) (sym c.self.view_is) ∙ sym c.deref.ensures.value in
-    let seen = ap (λ (i : Index). i.seen) (sym c.self.view_is) ∙ sym c.deref-2.ensures.value in
-    let here = subst (IsPlace c.deref.result.now c.args.id) c.in-Some.is c.place_in.ensures in
-    let is = c.seen_at.ensures ∙ ap Some c.in-Some-seen_at.is in
+    let seen = ap (λ (i : Index). i.seen) (sym c.self.view_is) in
+    let here = subst (IsPlace c.deref.result.now c.args.id) c.in-Some.is c.place_near.ensures in
+    let took =
+    taken c.args.checker c.args.pass c.as_mut_slice.result.now c.self.inside.seen.items c.take_result.new.seen c.in-Some.place
+    _ _ c.as_mut_slice.ensures.value c.in-Some-take_result.is c.take_result.ensures
+    in
     absurd (never (some_seen zones checks reports c.args.self.now stands c.args.id c.in-Some.place
-    (rw ids here.0) (rw ids here.1) c.in-Some-seen_at.checkers (rw seen is)))
+    (rw ids here.0) (rw ids here.1) took.0 (rw seen took.2)))
 
 pub returns-clause-cost : goal.returns-clause-cost
 returns-clause-cost g c zones checks reports stands cone has =
     let place = c.in-Some.place in
-    let here = subst (IsPlace c.deref.result.now c.args.id) c.in-Some.is c.place_in.ensures in
+    let here = subst (IsPlace c.deref.result.now c.args.id) c.in-Some.is c.place_near.ensures in
     let old = subst (StandsFor zones checks reports) (sym c.self.view_is) stands in
     let inner = sym c.deref.ensures.value in
     few_steps zones checks reports _ old c.args.id place (rw inner here.0) (rw inner here.1) cone has
