@@ -1,23 +1,49 @@
 -- Numbers of nodes.
-use Rattle.std.proofs.Common.{◌≡◌, ◌<◌, ℕ, suc, Bool, true, false, List, length, arith, refl, ap, ◌∙◌, Some}
-use Rattle.std.specs.Prelude.{slice_get}
+use Rattle.std.proofs.Common.{◌≡◌, ◌<◌, ◌≤◌, ℕ, suc, Bool, true, false, List, length, arith, refl, ap, sym, ◌∙◌, inl, inr, Option, None, Some}
+use Rattle.std.specs.Prelude.{◌||◌, is_some, slice_get}
+use Rattle.std.proofs.lemmas.Bool.{false≢true}
+use Rattle.std.proofs.lemmas.Option.{slice_get_within}
 use mathlib.Core.Path.{subst}
-use Rattle.check_model.specs.Checks.{Checks}
+use Rattle.check_model.specs.Checks.{Checks, check_at}
+use Rattle.check_model.specs.declared.checks.Check.{Check}
 use Rattle.health_model.specs.Nodes.{CheckNode, GroupNode, Node, SetNode}
 use Rattle.health_model.specs.Statuses.{Report}
+use Rattle.health_planning.proofs.ListedOnce.{one_ref}
+use Rattle.health_planning.proofs.Members.{one_named}
 use Rattle.health_planning.proofs.MembersOfZoneList.{one_of_key}
+use Rattle.health_planning.specs.Looking.{Names}
+use Rattle.health_planning.specs.SetRefRecord.{SetRef}
+use Rattle.health_planning.specs.Telling.{evaluates}
 use Rattle.health_planning.specs.Zones.{Zone, placed_in}
+use Rattle.rdata_layout.specs.declared.types.RType.{RType}
+use Rattle.record_set.specs.declared.sets.Body.{Body}
+use Rattle.record_set.specs.declared.sets.Body.TheVariants as body
+use Rattle.record_set.specs.declared.sets.RecordSet.{RecordSet}
 use Rattle.zone_model.specs.Placed.{IsHere, Placed}
-use Rattle.health_index.specs.Index.{Index, IsNumberOf, StandsFor}
+use Rattle.health_index.specs.Index.{HasNumber, Index, IsNumberOf, StandsFor}
 use Rattle.health_index.specs.Laws.{NodesAreNumbered}
-use Rattle.health_planning.specs.Wired.{IsGateFor, group_seat, is_watched, seat_of}
-use Rattle.health_planning.proofs.Places.{id_there, one_place}
-use Rattle.health_planning.proofs.Places.{held_there}
-use Rattle.health_planning.proofs.Wiring.{first_same, rising_in}
+use Rattle.health_planning.specs.Wired.{IsGateFor, IsTarget, group_seat, ids_of, is_watched, place_of, seat_of}
+use Rattle.health_planning.proofs.Places.{found, held_there, id_there, one_place}
+use Rattle.health_planning.proofs.Wiring.{first_here, first_same, rising_in, same_names}
+
+some_same : {X : Type 0} {x y : X} → Some x ≡ Some y → x ≡ y
+some_same e = cc
+
+or_true : (check : Option ℕ) → is_some check || true ≡ true
+or_true None = refl
+or_true (Some id) = refl
+
+group_nodes : (zone other : ℕ) (name name_two : List (List ℕ)) (rtype rtype_two : RType)
+    → zone ≡ other → name ≡ name_two → rtype ≡ rtype_two
+    → GroupNode zone name rtype ≡ GroupNode other name_two rtype_two
+group_nodes zone other name name_two rtype rtype_two zones names rtypes =
+    ap (λ (z : ℕ). GroupNode z name rtype) zones
+    ∙ ap (λ (n : List (List ℕ)). GroupNode other n rtype) names
+    ∙ ap (GroupNode other name_two) rtypes
 
 module _ (zones : List Zone) (checks : Checks) (reports : List Report) (index : Index)
     (stands : StandsFor zones checks reports index) where
-  of_gate : (number : ℕ) (node : Node)
+  pub of_gate : (number : ℕ) (node : Node)
       → IsGateFor zones checks.list index.seats stands.net stands.own number node
       → IsNumberOf zones index number node
   of_gate number (CheckNode id) (check, at) =
@@ -40,7 +66,7 @@ module _ (zones : List Zone) (checks : Checks) (reports : List Report) (index : 
           let b = g.2.within in
           omega arith
 
-  there : (number : ℕ) (node : Node) → IsNumberOf zones index number node
+  pub there : (number : ℕ) (node : Node) → IsNumberOf zones index number node
       → number < stands.net.size
   there number (CheckNode id) at =
       let held = held_there checks.list number id (subst (λ (l : List ℕ). slice_get l number ≡ Some id) stands.ids at) in
@@ -68,6 +94,108 @@ module _ (zones : List Zone) (checks : Checks) (reports : List Report) (index : 
       let two = second.1.1 in
       omega arith
 
+  -- ---- each number is that of one node alone
+
+  decided : (number zone : ℕ) (set : RecordSet) → IsNumberOf zones index number (SetNode zone set)
+      → is_watched set ≡ true
+  decided number zone set (slot, (here, seat)) = by (is_watched set) refl
+    where
+      by : (b : Bool) → is_watched set ≡ b → is_watched set ≡ true
+      by true on = on
+      by false off =
+          let none = (stands.wired.its_sets zone (record { slot = slot; set = set }) here).plain off in
+          absurd (omega arith)
+
+  check_early : (number id : ℕ) → IsNumberOf zones index number (CheckNode id)
+      → number < length (ids_of checks.list)
+  check_early number id at =
+      slice_get_within (ids_of checks.list) number id (subst (λ (l : List ℕ). slice_get l number ≡ Some id) stands.ids at)
+
+  set_late : (number zone : ℕ) (set : RecordSet) → IsNumberOf zones index number (SetNode zone set)
+      → length (ids_of checks.list) ≤ number
+  set_late number zone set (slot, (here, seat)) =
+      let g = (stands.wired.its_sets zone (record { slot = slot; set = set }) here).gated (decided number zone set (slot, (here, seat))) in
+      let its = g.1 in
+      let b = g.2.behind in
+      omega arith
+
+  group_late : (number zone : ℕ) (name : List (List ℕ)) (rtype : RType)
+      → IsNumberOf zones index number (GroupNode zone name rtype)
+      → length (ids_of checks.list) ≤ number
+  group_late number zone name rtype (members, (are, seat)) =
+      (stands.told.groups seat.0 number seat.1.1).behind
+
+  pub one_node : (number : ℕ) (node other : Node) → IsNumberOf zones index number node
+      → IsNumberOf zones index number other → node ≡ other
+  one_node number (CheckNode id) (CheckNode other) first second =
+      ap CheckNode (some_same (sym first ∙ second))
+  one_node number (CheckNode id) (SetNode zone set) first second =
+      let early = check_early number id first in
+      let late = set_late number zone set second in
+      absurd (omega arith)
+  one_node number (CheckNode id) (GroupNode zone name rtype) first second =
+      let early = check_early number id first in
+      let late = group_late number zone name rtype second in
+      absurd (omega arith)
+  one_node number (SetNode zone set) (CheckNode id) first second =
+      let early = check_early number id second in
+      let late = set_late number zone set first in
+      absurd (omega arith)
+  one_node number (SetNode zone set) (SetNode other set_two) (s, (here, seat)) (t, (there_too, seat_two)) =
+      let slots = stands.told.sets s t number seat seat_two in
+      let one : SetRef = record { zone = zone; slot = s } in
+      let two : SetRef = record { zone = other; slot = t } in
+      let refs : one ≡ two = one_ref zones one two set set_two stands.slots here there_too slots in
+      let sets = one_named zones two set set_two stands.are_zones (subst (λ (r : SetRef). Names zones r set) refs here) there_too in
+      ap (λ (r : SetRef). SetNode r.zone set) refs ∙ ap (SetNode other) sets
+  one_node number (SetNode zone set) (GroupNode other name rtype) (s, (here, seat)) (members, (are, its)) =
+      absurd (stands.told.kinds s its.0 number seat its.1.1)
+  one_node number (GroupNode zone name rtype) (CheckNode id) first second =
+      let early = check_early number id second in
+      let late = group_late number zone name rtype first in
+      absurd (omega arith)
+  one_node number (GroupNode zone name rtype) (SetNode other set) (members, (are, its)) (s, (here, seat)) =
+      absurd (stands.told.kinds s its.0 number seat its.1.1)
+  one_node number (GroupNode zone name rtype) (GroupNode other name_two rtype_two) (xs, (are_xs, first)) (ys, (are_ys, second)) =
+      let g = stands.told.groups first.0 number first.1.1 in
+      let p = first_here xs first.0 first.1.0 in
+      let q = first_here ys second.0 second.1.0 in
+      let a = g.only first.0 first.1.1 in
+      let b = g.only second.0 second.1.1 in
+      let one = same_names zones stands.are_zones stands.slots g.zone zone g.name name g.rtype rtype g.members xs a.0 p.0 g.are a.1 are_xs p.1
+      (a.2 ∙ sym p.2) in
+      let two = same_names zones stands.are_zones stands.slots g.zone other g.name name_two g.rtype rtype_two g.members ys b.0 q.0 g.are b.1 are_ys q.1
+      (b.2 ∙ sym q.2) in
+      group_nodes zone other name name_two rtype rtype_two (one.0 ∙ sym two.0) (one.1.0 ∙ sym two.1.0) (one.1.1 ∙ sym two.1.1)
+
+  -- ---- which nodes have numbers
+
+  check_number : (id : ℕ) (check : Check) → check_at checks.list id ≡ Some check
+      → HasNumber zones index (CheckNode id)
+  check_number id check at =
+      let place = place_of (ids_of checks.list) id in
+      (place, ap (λ (l : List ℕ). slice_get l place) stands.ids ∙ id_there checks.list place id check (found checks.list id check at))
+
+  set_number : (zone : ℕ) (p : Placed) → IsHere (placed_in zones zone) p → is_watched p.set ≡ true
+      → HasNumber zones index (SetNode zone p.set)
+  set_number zone p here on =
+      let g = (stands.wired.its_sets zone p here).gated on in
+      (g.0, (p.slot, (here, g.1)))
+
+  target_number : (zone : ℕ) (p : Placed) (name : List (List ℕ)) → IsHere (placed_in zones zone) p
+      → p.set.body ≡ body.Alias name true → HasNumber zones index (GroupNode zone name p.set.rtype)
+  target_number zone p name here is =
+      let on : is_watched p.set ≡ true = ap (λ (b : Body). is_some p.set.check || evaluates b) is ∙ or_true p.set.check in
+      let g = (stands.wired.its_sets zone p here).gated on in
+      by g.2.target (subst (λ (b : Body). IsTarget zones (length (ids_of checks.list)) index.seats stands.net stands.own zone p.set.rtype b g.2.target)
+      is g.2.its_target)
+    where
+      by : (target : List ℕ)
+          → IsTarget zones (length (ids_of checks.list)) index.seats stands.net stands.own zone p.set.rtype (body.Alias name true) target
+          → HasNumber zones index (GroupNode zone name p.set.rtype)
+      by target (inl (off, without)) = absurd (false≢true (sym off))
+      by target (inr (evaluated, (gate, target_is, (members, are, w)))) = (gate, (members, (are, w.seat)))
+
   size_same : length index.gates.rows.items ≡ stands.net.size
   size_same = stands.fits.laid.size
 
@@ -82,4 +210,9 @@ nodes_are_numbered zones checks reports index stands = record {
       let b = there zones checks reports index stands number node is in
       omega arith;
   one = one_number zones checks reports index stands;
+  apart = one_node zones checks reports index stands;
+  its_checks = check_number zones checks reports index stands;
+  its_sets = set_number zones checks reports index stands;
+  decided = decided zones checks reports index stands;
+  targets = target_number zones checks reports index stands;
 }

@@ -221,6 +221,7 @@ module _ (fifty : FiftyAlone) (more : OneMoreReport) (zones : List Zone) (checks
   pub stands_after : StandsFor zones checks (report ∷ reports) after
   stands_after = record {
     are_zones = stands.are_zones;
+    slots = stands.slots;
     are_checks = stands.are_checks;
     sound = stands.sound;
     are_reports = (
@@ -245,6 +246,7 @@ module _ (fifty : FiftyAlone) (more : OneMoreReport) (zones : List Zone) (checks
           (n.0, node_still zones checks.list index stands.net stands.own place given early gate n.0 n.1);
       its_groups = stands.wired.its_groups;
     };
+    told = stands.told;
     fits = fits;
     meet = meet;
     idle = idle;

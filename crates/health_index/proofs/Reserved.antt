@@ -6,10 +6,10 @@ use Rattle.health_gates.specs.Gates.{Fits, Net}
 use Rattle.health_gates.specs.Pass.{IsIdle, MeetAll}
 use Rattle.health_model.specs.Statuses.{Report}
 use Rattle.health_planning.specs.Zones.{Zone}
-use Rattle.health_index.specs.Index.{Index, IsWhole, StandsFor}
+use Rattle.health_index.specs.Index.{Index, IsWhole, StandsFor, TellApart}
 use Rattle.health_index.specs.Room.{Keeps}
 use Rattle.health_planning.specs.Building.{AllListed}
-use Rattle.health_planning.specs.Wired.{IsWired}
+use Rattle.health_planning.specs.Wired.{IsWired, ids_of}
 use Rattle.health_planning.specs.declared.seats.Seat.{Seat}
 
 module _ (before after : Index) (keeps : Keeps before after)
@@ -23,6 +23,7 @@ module _ (before after : Index) (keeps : Keeps before after)
       → StandsFor zones checks reports before → StandsFor zones checks reports after
   still_stands zones checks reports is = record {
     are_zones = is.are_zones;
+    slots = is.slots;
     are_checks = is.are_checks;
     sound = is.sound;
     are_reports = is.are_reports;
@@ -33,6 +34,7 @@ module _ (before after : Index) (keeps : Keeps before after)
     net = is.net;
     own = is.own;
     wired = subst (λ (seats : List Seat). IsWired zones checks.list seats is.net is.own reports) (sym keeps.seats) is.wired;
+    told = subst (TellApart zones (length (ids_of checks.list))) (sym keeps.seats) is.told;
     fits = stays is.net is.own is.fits;
     meet = meet is.net is.own is.meet;
     idle = idle is.idle;

@@ -29,12 +29,13 @@ use Rattle.zone_model.specs.Keys.{key_cmp}
 use Rattle.zone_model.specs.Placed.{IsHere, Placed, sets_of}
 use Rattle.zone_model.specs.Zones.{IsAmong, IsRising, is_of_group}
 use Rattle.health_planning.specs.DeltaRecord.{Delta}
+use Rattle.health_planning.specs.Tables.{HaveSlotsApart}
 use Rattle.health_planning.specs.Following.{Follows, FollowsAt, HasThreshold}
 use Rattle.health_planning.specs.Building.{AllListed, AreAsked, IsListed}
 use Rattle.health_planning.specs.Wired.{AreMembers, IsGateFor, IsGroupGate, IsSeated, IsTarget, TellGroup, check_or_none, check_seat, group_seat, ids_of, is_watched, only_check, place_of, seat_of, set_rule, watched_of}
 use Rattle.health_planning.specs.declared.seats.Seat.{Seat}
 use Rattle.health_planning.proofs.Wiring.{first_here, of_group, passes_it, rising_in}
-use Rattle.health_index.specs.Index.{Index, StandsFor}
+use Rattle.health_index.specs.Index.{Index, IsOfOneGroup, StandsFor, TellApart}
 use Rattle.health_index.specs.Leaving.{AllCameLeaveGates, AllWentLeaveGates, LeavesGates, AreLeft}
 use Rattle.health_index.proofs.Keyed.{HasIts, first_by_slots, gates_by_slots, grouped, grouped_sets, its, its_same, keyed, keyed_same, plain_by_slots}
 use Rattle.health_index.proofs.Moving.{Moves, kept_or_came, moved}
@@ -257,6 +258,32 @@ module _ (before after : List Zone) (are_before : AreZones before) (are_after : 
       its_own = w.its_own ∙ plain_by_slots seats members members_now same;
     }
 
+  -- the seats that tell the gate of a group are those of its sets still
+  one_group_now : (count slot gate : ℕ) → group_seat seats slot ≡ suc gate
+      → IsOfOneGroup before count seats gate → IsOfOneGroup after count seats gate
+  one_group_now count slot gate is g =
+      let f = g.only slot is in
+      record {
+        zone = g.zone;
+        name = g.name;
+        rtype = g.rtype;
+        members = members_now g.zone g.name g.rtype g.members gate g.are g.each f.0 f.1;
+        are = are_now g.zone g.name g.rtype g.members gate g.are g.each f.0 f.1;
+        behind = g.behind;
+        each = tell_now g.zone g.name g.rtype g.members gate g.are g.each f.0 f.1;
+        only = λ other tells.
+            let p = g.only other tells in
+            let q = to g.zone g.name g.rtype g.members gate g.are g.each f.0 f.1 p.0 p.1 in
+            (q.0, q.1, ap (λ (k : SetKey × ℕ). k.1) q.2 ∙ p.2);
+      }
+
+  pub told_now : (count : ℕ) → TellApart before count seats → TellApart after count seats
+  told_now count told = record {
+    sets = told.sets;
+    kinds = told.kinds;
+    groups = λ slot gate is. one_group_now count slot gate is (told.groups slot gate is);
+  }
+
   module _ (checks : List (ℕ × Check)) (net : Net) (own : ℕ → ℕ) where
     -- a group with a gate has it still
     record HasStill (count zone : ℕ) (name : List (List ℕ)) (rtype : RType) (gate : ℕ)
@@ -437,12 +464,14 @@ asked_after before old after new reports index delta are_after stands (inr (stay
     inr (inl (stands.listed zone p (subst (λ (l : List Zone). IsHere (placed_in l zone) p) stayed here) on))
 
 module _ (before after : List Zone) (reports : List Report) (index : Index) (delta : Delta)
-    (are_after : AreZones after) (gate_leaving : LeavesGates after index.seats delta) where
+    (are_after : AreZones after) (slots_after : HaveSlotsApart after)
+    (gate_leaving : LeavesGates after index.seats delta) where
   edited : (checks : Checks) → IsSound (watched_of after checks)
       → StandsFor before checks reports index
       → Moves before after delta.removed delta.added → StandsFor after checks reports index
   edited checks sound stands moves = record {
     are_zones = are_after;
+    slots = slots_after;
     are_checks = stands.are_checks;
     sound = sound;
     are_reports = stands.are_reports;
@@ -463,6 +492,8 @@ module _ (before after : List Zone) (reports : List Report) (index : Index) (del
           stands.own gate n.0 n.1;
       its_groups = stands.wired.its_groups;
     };
+    told = told_now before after stands.are_zones are_after delta.removed delta.added moves index.seats gate_leaving.went gate_leaving.came
+        (length (ids_of checks.list)) stands.told;
     fits = stands.fits;
     meet = stands.meet;
     idle = stands.idle;

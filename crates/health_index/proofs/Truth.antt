@@ -24,13 +24,16 @@ use Rattle.health_planning.specs.Telling.{evaluates}
 use Rattle.health_planning.specs.Zones.{Zone, placed_in}
 use Rattle.health_planning.specs.SetRefRecord.{SetRef}
 use Rattle.zone_model.specs.Placed.{IsHere, Placed, sets_of}
-use Rattle.zone_model.specs.Zones.{IsAmong, is_of_group}
+use Rattle.zone_model.specs.Zones.{IsAmong, group, is_of_group}
 use Rattle.health_planning.specs.Looking.{Names}
 use Rattle.health_index.specs.Index.{Index, StandsFor, healthy_in}
 use Rattle.health_index.specs.Laws.{IndexTells}
+use Rattle.health_planning.proofs.MembersOfZoneList.{set_in}
 use Rattle.health_planning.proofs.Places.{found}
 use Rattle.health_planning.proofs.Watching.{zone_sets as sets_seen}
-use Rattle.health_planning.specs.Wired.{AreMembers, IsGroupGate, IsSeated, IsTarget, check_need, check_own, check_rule, gates_of, ids_of, is_inverted, is_watched, open_in, place_of, plain_among, seat_of, watched_of, with_gate, plain}
+use Rattle.health_planning.proofs.Wiring.{first_here}
+use Rattle.health_index.proofs.Numbering.{of_gate, one_node, there}
+use Rattle.health_planning.specs.Wired.{AreMembers, IsFirstIn, IsGateFor, IsGroupGate, IsSeated, IsTarget, check_need, check_own, check_rule, gates_of, ids_of, is_inverted, is_watched, open_in, place_of, plain_among, seat_of, watched_of, with_gate, plain}
 use Rattle.health_planning.specs.declared.seats.Seat.{Seat}
 
 -- ---- lists
@@ -278,6 +281,16 @@ tells one views zones checks reports index stands =
           (of_node zones checks reports index stands agrees)
           (all_meet zones checks reports index stands agrees)
           (CheckNode id) (check, at);
+      groups = λ number zone name rtype is.
+          let n = stands.wired.its_nodes number (there zones checks reports index stands number (GroupNode zone name rtype) is) in
+          let same = one_node zones checks reports index stands number n.0 (GroupNode zone name rtype)
+          (of_gate zones checks reports index stands number n.0 n.1) is in
+          let its = subst (IsGateFor zones checks.list index.seats stands.net stands.own number) same n.1 in
+          group_meets zones checks reports index stands agrees zone name rtype its.0 number its.1.0 its.1.1
+          ∙ one (watched_of zones checks) reports stands.sound
+          (of_node zones checks reports index stands agrees)
+          (all_meet zones checks reports index stands agrees)
+          (GroupNode zone name rtype) (group_there zones checks zone name rtype its.0 its.1.1.seat.0 its.1.0 its.1.1.seat.1.0);
     }
   where
     mapped : (placed : List Placed) (p : Placed) → IsAmong placed p → IsAmong (sets_of placed) p.set
@@ -290,3 +303,14 @@ tells one views zones checks reports index stands =
     is_node zones checks set named names =
         subst (λ (sets : List RecordSet). IsAmong sets named) (sym (zone_sets zones checks set.zone))
         (mapped (placed_in zones set.zone) (record { slot = set.slot; set = named }) names)
+
+    group_there : (zones : List Zone) (checks : Checks) (zone : ℕ) (name : List (List ℕ))
+        (rtype : RType) (members : List Placed) (slot : ℕ)
+        → AreMembers zones zone name rtype members → IsFirstIn members slot
+        → IsNode (watched_of zones checks) (GroupNode zone name rtype)
+    group_there zones checks zone name rtype members slot are first =
+        let f = first_here members slot first in (
+          f.0.set,
+          subst (λ (l : List RecordSet). IsAmong (group l name rtype) f.0.set) (sym (zone_sets zones checks zone))
+              (subst (λ (l : List RecordSet). IsAmong l f.0.set) are.sets (set_in members f.0 f.1)),
+        )

@@ -1,5 +1,5 @@
 -- When an index stands for a configuration and reports.
-use Rattle.std.specs.Prelude.{◌≡◌, ◌≤◌, ◌<◌, ℕ, suc, Bool, List, [], length, Option, None, Some, slice_get, ⊤}
+use Rattle.std.specs.Prelude.{◌≡◌, ◌≤◌, ◌<◌, ℕ, suc, Bool, true, List, [], length, Option, None, Some, slice_get, ⊤}
 use Rattle.check_model.specs.Checks.{Checks, check_at}
 use Rattle.check_model.specs.Checks.{IsSound as AreSoundChecks}
 use Rattle.check_model.specs.declared.checks.Check.{Check}
@@ -8,17 +8,20 @@ use Rattle.checker_state.specs.Standing.{Seen}
 use Rattle.health_gates.specs.Gates.{Fits, Net, size_of, value_of}
 use Rattle.health_gates.specs.Pass.{IsIdle, MeetAll}
 use Rattle.health_gates.specs.declared.gates.Gates.{Gates}
-use Rattle.health_model.specs.Healthy.{healthy}
+use Rattle.health_model.specs.Healthy.{group_value, healthy, sets_of}
 use Rattle.health_model.specs.Nodes.{CheckNode, GroupNode, Node, SetNode}
 use Rattle.health_model.specs.Sound.{IsSound}
 use Rattle.health_model.specs.Statuses.{AreReports, Report, status}
+use Rattle.rdata_layout.specs.declared.types.RType.{RType}
+use Rattle.record_set.specs.declared.sets.Body.TheVariants as body
 use Rattle.record_set.specs.declared.sets.RecordSet.{RecordSet}
 use Rattle.health_planning.specs.Zones.{AreZones, Zone, placed_in}
 use Rattle.health_planning.specs.SetRefRecord.{SetRef}
+use Rattle.health_planning.specs.Tables.{HaveSlotsApart}
 use Rattle.zone_model.specs.Placed.{IsHere, Placed}
 use Rattle.health_planning.specs.Looking.{Names}
 use Rattle.health_planning.specs.Building.{AllListed, AreGiven, IsSeen}
-use Rattle.health_planning.specs.Wired.{AreMembers, IsGroupSeat, IsWired, StandApart, ids_of, open_in, place_of, seat_of, watched_of}
+use Rattle.health_planning.specs.Wired.{AreMembers, HasSlot, IsGroupSeat, IsWired, StandApart, TellGroup, group_seat, ids_of, is_watched, open_in, place_of, seat_of, watched_of}
 use Rattle.health_planning.specs.declared.seats.Seat.{Seat}
 
 -- For how many there is room: numbers of checks and what their checkers saw, now and before a
@@ -46,10 +49,33 @@ pub record Index : Type 0 where
   pub gates : Gates
   pub space : Space
 
+-- The seats that tell a gate for their groups are those of the sets of one group. The gates of checks
+-- stand before it.
+pub record IsOfOneGroup (zones : List Zone) (checks : ℕ) (seats : List Seat) (gate : ℕ)
+    : Type 0 where
+  pub zone : ℕ
+  pub name : List (List ℕ)
+  pub rtype : RType
+  pub members : List Placed
+  pub are : AreMembers zones zone name rtype members
+  pub behind : checks ≤ gate
+  pub each : TellGroup seats members gate
+  pub only : (slot : ℕ) → group_seat seats slot ≡ suc gate → HasSlot members slot
+
+-- Seats tell no gate for two sets, for a set and a group, or for two groups.
+pub record TellApart (zones : List Zone) (checks : ℕ) (seats : List Seat) : Type 0 where
+  pub sets : (slot other gate : ℕ) → seat_of seats slot ≡ suc gate
+      → seat_of seats other ≡ suc gate → slot ≡ other
+  pub kinds : (slot other gate : ℕ) → seat_of seats slot ≡ suc gate
+      → group_seat seats other ≡ suc gate → ⊥
+  pub groups : (slot gate : ℕ) → group_seat seats slot ≡ suc gate
+      → IsOfOneGroup zones checks seats gate
+
 -- The index stands for a sound configuration and reports.
 pub record StandsFor (zones : List Zone) (checks : Checks) (reports : List Report) (index : Index)
     : Type 0 where
   pub are_zones : AreZones zones
+  pub slots : HaveSlotsApart zones
   pub are_checks : AreSoundChecks checks
   pub sound : IsSound (watched_of zones checks)
   pub are_reports : AreReports checks.next reports
@@ -62,6 +88,7 @@ pub record StandsFor (zones : List Zone) (checks : Checks) (reports : List Repor
   pub net : Net
   pub own : ℕ → ℕ
   pub wired : IsWired zones checks.list index.seats net own reports
+  pub told : TellApart zones (length (ids_of checks.list)) index.seats
   pub fits : Fits net own index.gates
   pub meet : MeetAll net own index.gates
   pub idle : IsIdle index.gates
@@ -70,19 +97,10 @@ pub record StandsFor (zones : List Zone) (checks : Checks) (reports : List Repor
 abbrev pub healthy_in : Index → SetRef → Bool
 healthy_in index set = open_in (value_of index.gates) (seat_of index.seats set.slot)
 
--- What an index says of the configuration and the reports for which it stands: the status of each
--- check, and of each set whether it is healthy.
-pub record Tells (zones : List Zone) (checks : Checks) (reports : List Report) (index : Index)
-    : Type 0 where
-  pub statuses : (id : ℕ) (check : Check) → check_at checks.list id ≡ Some check
-      → value_of index.gates (place_of index.ids id) ≡ status checks.list reports id
-  pub sets : (set : SetRef) (named : RecordSet) → Names zones set named
-      → healthy_in index set ≡ healthy (watched_of zones checks) reports set.zone named
-
 -- ---- numbers of nodes
 
--- The number of a node is that of its gate. A set that nothing decides, and a group that is no
--- evaluated alias's target, have none: their health never waits to be worked out.
+-- The number of a node is that of its gate. A set that nothing decides has none: its health never
+-- waits to be worked out. Nor does a group need one where no evaluated alias leads to it.
 abbrev pub IsNumberOf : List Zone → Index → (number : ℕ) → Node → Type 0
 IsNumberOf zones index number (CheckNode id) = slice_get index.ids number ≡ Some id
 IsNumberOf zones index number (SetNode zone set) =
@@ -92,18 +110,50 @@ IsNumberOf zones index number (GroupNode zone name rtype) =
     (members : List Placed) × (AreMembers zones zone name rtype members
     × IsGroupSeat index.seats members number)
 
+abbrev pub HasNumber : List Zone → Index → Node → Type 0
+HasNumber zones index node = (number : ℕ) × IsNumberOf zones index number node
+
 -- The index has a node of the number.
 abbrev pub HasNode : Index → (number : ℕ) → Type 0
 HasNode index number = number < size_of index.gates
 
--- Each number that the index has is that of one node, and each node has one number at most.
-pub record AreNumbered (zones : List Zone) (index : Index) : Type 0 where
+-- Each number that the index has is that of one node alone, and a node has one number at most. Each
+-- check has one, each set that something decides and no other set, and each group to which an
+-- evaluated alias leads.
+pub record AreNumbered (zones : List Zone) (checks : Checks) (index : Index) : Type 0 where
   pub each : (number : ℕ) → HasNode index number
       → (node : Node) × IsNumberOf zones index number node
   pub only : (number : ℕ) (node : Node) → IsNumberOf zones index number node
       → HasNode index number
   pub one : (number other : ℕ) (node : Node) → IsNumberOf zones index number node
       → IsNumberOf zones index other node → number ≡ other
+  pub apart : (number : ℕ) (node other : Node) → IsNumberOf zones index number node
+      → IsNumberOf zones index number other → node ≡ other
+  pub its_checks : (id : ℕ) (check : Check) → check_at checks.list id ≡ Some check
+      → HasNumber zones index (CheckNode id)
+  pub its_sets : (zone : ℕ) (p : Placed) → IsHere (placed_in zones zone) p
+      → is_watched p.set ≡ true → HasNumber zones index (SetNode zone p.set)
+  pub decided : (number zone : ℕ) (set : RecordSet)
+      → IsNumberOf zones index number (SetNode zone set) → is_watched set ≡ true
+  pub targets : (zone : ℕ) (p : Placed) (name : List (List ℕ)) → IsHere (placed_in zones zone) p
+      → p.set.body ≡ body.Alias name true
+      → HasNumber zones index (GroupNode zone name p.set.rtype)
+
+-- ---- what an index tells
+
+-- What an index says of the configuration and the reports for which it stands: the status of each
+-- check, of each set whether it is healthy, and of a group with a number whether some set of it is.
+pub record Tells (zones : List Zone) (checks : Checks) (reports : List Report) (index : Index)
+    : Type 0 where
+  pub statuses : (id : ℕ) (check : Check) → check_at checks.list id ≡ Some check
+      → value_of index.gates (place_of index.ids id) ≡ status checks.list reports id
+  pub sets : (set : SetRef) (named : RecordSet) → Names zones set named
+      → healthy_in index set ≡ healthy (watched_of zones checks) reports set.zone named
+  pub groups : (number zone : ℕ) (name : List (List ℕ)) (rtype : RType)
+      → IsNumberOf zones index number (GroupNode zone name rtype)
+      → value_of index.gates number
+      ≡ group_value (healthy (watched_of zones checks) reports zone)
+      (sets_of (watched_of zones checks) zone) name rtype
 
 -- ---- what holds of every index
 

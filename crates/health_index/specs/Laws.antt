@@ -13,10 +13,11 @@ abbrev pub IndexTells : Type 0
 IndexTells = (zones : List Zone) (checks : Checks) (reports : List Report) (index : Index)
     → StandsFor zones checks reports index → Tells zones checks reports index
 
--- In an index that stands for something each node has a number of its own.
+-- In an index that stands for something each number is that of one node alone, and each node that is
+-- worked out has one.
 abbrev pub NodesAreNumbered : Type 0
 NodesAreNumbered = (zones : List Zone) (checks : Checks) (reports : List Report) (index : Index)
-    → StandsFor zones checks reports index → AreNumbered zones index
+    → StandsFor zones checks reports index → AreNumbered zones checks index
 
 -- A command on checks leaves what follows of them.
 abbrev pub CommandsFollow : Type 0

@@ -197,6 +197,7 @@ impl HealthIndex {
             → self.new ≡ self.old }
     {
         zones.well_formed();
+        zones.slots_apart();
         if leaves_gates(zones, &self.seats, delta, &mut self.scratch) {
             return;
         }
@@ -285,8 +286,8 @@ impl HealthIndex {
             .take_count(place as u32, u32::from(passing), steps)
     }
 
-    /// Whether there is a node of the number. Those with numbers are the checks, the sets that
-    /// something decides, and the target groups of evaluated aliases.
+    /// Whether there is a node of the number. The checks have numbers, the sets that something
+    /// decides and no others, and the target groups of evaluated aliases.
     pub fn has_node(&self, node: u32) -> bool
         ensures { IsTrue result ↔ HasNode self.now node }
     {

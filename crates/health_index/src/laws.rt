@@ -18,7 +18,8 @@ pub fn commands_follow()
     ensures { CommandsFollow }
 {}
 
-/// Each node with a number has one of its own.
+/// Each number is that of one node alone. Checks have one each, sets that something decides, and
+/// groups to which evaluated aliases lead.
 pub fn nodes_are_numbered()
     ensures { NodesAreNumbered }
 {}

@@ -202,6 +202,7 @@ module _ (zones : List Zone) (list : List (ℕ × Check)) (refs : List SetRef)
                 are = g.1.are;
                 here = g.1.here;
                 each = g.1.each;
+                only = g.1.only;
                 shape = g.1.shape;
                 few = g.1.few;
                 fed = others gate (inr (omega arith)) ∙ g.1.fed;

@@ -184,6 +184,9 @@ module _ (seats : List Seat) (shapes : List Shape) (links : List Link) (gate : �
         omega arith)
         ∙ is
 
+    tells : TellGroup seats_now members gate
+    tells p m = sits.each p m ∙ add-one gate
+
     old_group : (other found : ℕ) → HasGroupGate zones seats shapes links other found
         → HasGroupGate zones seats_now shapes_now links_now other found
     old_group other found h =
@@ -197,6 +200,12 @@ module _ (seats : List Seat) (shapes : List Shape) (links : List Link) (gate : �
           are = h.are;
           here = h.here;
           each = λ p m. stays p.slot found (h.each p m);
+          only = λ slot is. elim (slot_or_not members slot) [
+            | inl m ↦
+                let its : group_seat seats_now slot ≡ suc gate = ap (group_seat seats_now) (sym m.2) ∙ tells m.0 m.1 in
+                absurd (omega arith)
+            | inr none ↦ h.only slot (sym (sits.others slot none) ∙ is)
+          ];
           shape = rw (plain_same seats seats_now sits.sets h.members) (still_at shapes (group_shape (plain_among seats members))
               (group_shape (plain_among seats h.members)) found h.shape);
           few = rw (plain_same seats seats_now sits.sets h.members) h.few;
@@ -211,12 +220,17 @@ module _ (seats : List Seat) (shapes : List Shape) (links : List Link) (gate : �
         ∙ ap (λ (l : List ℕ). l ++ feeders_in (links_to gate (gates_of seats members)) gate) (none_feeds links (length shapes) gate links_within (omega arith))
         ∙ feeders_to gate (gates_of seats members) ∙ sym (gates_same seats seats_now sits.sets members)
 
-    tells : TellGroup seats_now members gate
-    tells p m = sits.each p m ∙ add-one gate
+    -- no seat told the new gate
+    none_told : (from other : ℕ) → AreGrouped zones from seats shapes links
+        → group_seat seats other ≡ suc gate → ⊥
+    none_told from other grouped is =
+        let g = (grouped.gates other gate is).1 in
+        let b = slice_get_within shapes gate (group_shape (plain_among seats g.members)) g.shape in
+        omega arith
 
-    new_group : (slot : ℕ) → HasSlot members slot
+    new_group : (from slot : ℕ) → AreGrouped zones from seats shapes links → HasSlot members slot
         → HasGroupGate zones seats_now shapes_now links_now slot gate
-    new_group slot here = record {
+    new_group from slot grouped here = record {
       zone = zone;
       name = name;
       rtype = rtype;
@@ -224,6 +238,10 @@ module _ (seats : List Seat) (shapes : List Shape) (links : List Link) (gate : �
       are = are;
       here = here;
       each = tells;
+      only = λ other is. elim (slot_or_not members other) [
+        | inl m ↦ m
+        | inr none ↦ absurd (none_told from other grouped (sym (sits.others other none) ∙ is))
+      ];
       shape = rw (plain_same seats seats_now sits.sets members) (last_at shapes (group_shape (plain_among seats members)) gate is_gate);
       few = rw (plain_same seats seats_now sits.sets members) few;
       fed = new_fed;
@@ -236,7 +254,7 @@ module _ (seats : List Seat) (shapes : List Shape) (links : List Link) (gate : �
         | inl m ↦
             let its : group_seat seats_now other ≡ suc gate = ap (group_seat seats_now) (sym m.2) ∙ tells m.0 m.1 in
             let found_is : gate ≡ found = omega arith in
-            (omega arith, subst (HasGroupGate zones seats_now shapes_now links_now other) found_is (new_group other m))
+            (omega arith, subst (HasGroupGate zones seats_now shapes_now links_now other) found_is (new_group from other grouped m))
         | inr none ↦
             let g = grouped.gates other found (sym (sits.others other none) ∙ is) in
             (g.0, old_group other found g.1)

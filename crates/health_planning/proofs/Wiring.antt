@@ -145,13 +145,13 @@ module _ (zones : List Zone) (are_zones : AreZones zones) where
       subst (IsHere ys) one q.1
 
   module _ (apart : HaveSlotsApart zones) where
-    -- groups with sets in one slot are one
-    pub same_group : (zone other : ℕ) (name name_two : List (List ℕ)) (rtype rtype_two : RType)
+    -- groups with sets in one slot have one zone, name and type
+    pub same_names : (zone other : ℕ) (name name_two : List (List ℕ)) (rtype rtype_two : RType)
         (xs ys : List Placed) (p q : Placed)
         → AreMembers zones zone name rtype xs → IsHere xs p
         → AreMembers zones other name_two rtype_two ys → IsHere ys q → p.slot ≡ q.slot
-        → AreMembers zones zone name rtype ys
-    same_group zone other name name_two rtype rtype_two xs ys p q are_xs in_xs are_ys in_ys same =
+        → (other ≡ zone) × ((name_two ≡ name) × (rtype_two ≡ rtype))
+    same_names zone other name name_two rtype rtype_two xs ys p q are_xs in_xs are_ys in_ys same =
         let a = of_group (sets_of (placed_in zones zone)) name rtype p.set
         (subst (λ (l : List RecordSet). IsAmong l p.set) are_xs.sets (set_in xs p in_xs)) in
         let b = of_group (sets_of (placed_in zones other)) name_two rtype_two q.set
@@ -159,13 +159,22 @@ module _ (zones : List Zone) (are_zones : AreZones zones) where
         let here = are_xs.here p in_xs in
         let there = are_ys.here q in_ys in
         let refs = one_ref zones (ref_in other q) (ref_in zone p) q.set p.set apart there here (sym same) in
-        let zone_is = ap (λ (r : SetRef). r.zone) refs in
-        let sets = one_named zones (ref_in zone p) q.set p.set are_zones (subst (λ (r : SetRef). Names zones r q.set) refs there) here in
-        let name_is : name_two ≡ name = b.0 ∙ ap (λ (s : RecordSet). s.name) sets ∙ sym a.0 in
-        let rtype_is : rtype_two ≡ rtype = b.1 ∙ ap (λ (s : RecordSet). s.rtype) sets ∙ sym a.1 in
-        subst (λ (z : ℕ). AreMembers zones z name rtype ys) zone_is
-        (subst (λ (n : List (List ℕ)). AreMembers zones other n rtype ys) name_is
-        (subst (λ (r : RType). AreMembers zones other name_two r ys) rtype_is are_ys))
+        let sets = one_named zones (ref_in zone p) q.set p.set are_zones (subst (λ (r : SetRef). Names zones r q.set) refs there) here in (
+          ap (λ (r : SetRef). r.zone) refs,
+          (b.0 ∙ ap (λ (s : RecordSet). s.name) sets ∙ sym a.0, b.1 ∙ ap (λ (s : RecordSet). s.rtype) sets ∙ sym a.1),
+        )
+
+    -- groups with sets in one slot are one
+    pub same_group : (zone other : ℕ) (name name_two : List (List ℕ)) (rtype rtype_two : RType)
+        (xs ys : List Placed) (p q : Placed)
+        → AreMembers zones zone name rtype xs → IsHere xs p
+        → AreMembers zones other name_two rtype_two ys → IsHere ys q → p.slot ≡ q.slot
+        → AreMembers zones zone name rtype ys
+    same_group zone other name name_two rtype rtype_two xs ys p q are_xs in_xs are_ys in_ys same =
+        let one = same_names zone other name name_two rtype rtype_two xs ys p q are_xs in_xs are_ys in_ys same in
+        subst (λ (z : ℕ). AreMembers zones z name rtype ys) one.0
+        (subst (λ (n : List (List ℕ)). AreMembers zones other n rtype ys) one.1.0
+        (subst (λ (r : RType). AreMembers zones other name_two r ys) one.1.1 are_ys))
 
 -- ---- all gates
 

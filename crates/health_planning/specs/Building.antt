@@ -142,7 +142,7 @@ AreAsked zones whole known came = (zone : ℕ) (p : Placed) → IsHere (placed_i
 abbrev pub group_shape : (plains : ℕ) → Shape
 group_shape plains = record { need = 1; inverted = false; own = plains }
 
--- the gate of the group that has a set in a slot
+-- The gate of the group that has a set in a slot. No seat in another slot tells it.
 pub record HasGroupGate (zones : List Zone) (seats : List Seat) (shapes : List Shape)
     (links : List Link) (slot gate : ℕ) : Type 0 where
   pub zone : ℕ
@@ -152,6 +152,7 @@ pub record HasGroupGate (zones : List Zone) (seats : List Seat) (shapes : List S
   pub are : AreMembers zones zone name rtype members
   pub here : HasSlot members slot
   pub each : TellGroup seats members gate
+  pub only : (other : ℕ) → group_seat seats other ≡ suc gate → HasSlot members other
   pub shape : slice_get shapes gate ≡ Some (group_shape (plain_among seats members))
   pub few : plain_among seats members ≤ 2 ^ 31
   pub fed : feeders_in links gate ≡ gates_of seats members

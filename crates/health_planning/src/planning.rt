@@ -4,8 +4,8 @@ ghost use Rattle.std.specs.Prelude.{◌≡◌, ◌≤◌, ◌<◌, ◌+◌, ◌*
 ghost use Rattle.health_gates.specs.Gates.{Feeds};
 ghost use Rattle.health_gates.specs.Plan.{IsPlanned, net_in};
 ghost use Rattle.health_gates.specs.Walk.{PathsEnd};
-ghost use Rattle.health_planning.specs.Building.{AllListed, AreAsked, AreFree, AreGiven, AreSeen};
-ghost use Rattle.health_planning.specs.Building.{AreShaped, IsBuilt, IsSmallAt};
+ghost use Rattle.health_planning.specs.Building.{AllListed, AreAsked, AreFree, AreGiven, AreNoted};
+ghost use Rattle.health_planning.specs.Building.{AreSeen, AreShaped, IsBuilt, IsSmallAt};
 ghost use Rattle.health_planning.specs.Rooms.{HasPlanRoom};
 ghost use Rattle.health_planning.specs.Wired.{ids_of, watched_of};
 ghost use Rattle.health_model.specs.Sound.{IsSound};
@@ -49,6 +49,7 @@ fn plan_all(
     ensures all { AreAsked zones.now.zones whole known.old.items came.now
         → AllListed zones.now.zones refs.new.items }
     ensures given { AreGiven refs.new.items known.new.items seats.new.items }
+    ensures noted { AreNoted known.new.items seats.new.items }
     ensures checks { (reports : List Report)
         → AreSeen reports checks.now.checks.list seen.now
         → AreShaped reports checks.now.checks.list plan.new.shapes }
@@ -97,6 +98,7 @@ pub fn plan_gates(
     ensures all { AreAsked zones.now.zones whole known.old.items came.now
         → AllListed zones.now.zones refs.new.items }
     ensures given { AreGiven refs.new.items known.new.items seats.new.items }
+    ensures noted { AreNoted known.new.items seats.new.items }
     ensures checks { (reports : List Report)
         → AreSeen reports checks.now.checks.list seen.now
         → AreShaped reports checks.now.checks.list plan.new.shapes }

@@ -15,7 +15,7 @@ returns-then-leaves_gates-clause-stands c before old reports stands leaves =
     let seats_is = c.deref.ensures.value ∙ ap (λ (i : Index). i.seats) c.self.view_is in
     let gate_leaving = subst (λ (seats : List Seat). LeavesGates zones seats c.args.delta.now) seats_is (c.if-leaves_gates.ensures.0 refl) in
     subst (StandsFor zones checks reports) (sym c.self.view_is)
-    (stands_with_gates before zones reports c.args.self.now c.args.delta.now c.well_formed-2.ensures gate_leaving old checks c.requires.sound stands leaves)
+    (stands_with_gates before zones reports c.args.self.now c.args.delta.now c.well_formed-2.ensures c.slots_apart.ensures gate_leaving old checks c.requires.sound stands leaves)
 
 pub returns-clause-stands : goal.returns-clause-stands
 returns-clause-stands c before old reports stands leaves =
