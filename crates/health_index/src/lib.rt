@@ -1,6 +1,7 @@
 //! The health of every check, set and group of a configuration, kept up to date report by report.
 //!
-//! A set that nothing decides has no gate: it is healthy, and takes no more than its seat.
+//! A set that nothing decides has no gate: it is healthy, and nothing but its seat is written for it.
+//! Room for a gate is kept all the same, so that no command wants memory.
 //!
 //! The gates are planned (`health_planning`), and then laid out. After a command this is done anew,
 //! in room that was made before (`reserving`), but where no gate changes by the sets that went and

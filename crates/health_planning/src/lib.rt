@@ -1,6 +1,7 @@
 //! How the gates of checks, sets and target groups are planned, and what feeds each of them.
 //!
-//! A set that nothing decides has no gate: it is healthy, and takes no more than its seat.
+//! A set that nothing decides has no gate: it is healthy, and nothing but its seat is written for it.
+//! Room for a gate is kept all the same, so that no command wants memory.
 //!
 //! The gates of checks and what feeds them come first (`building`), then those of sets (`listing`)
 //! and of target groups (`grouping`), and then what feeds the gates of sets (`joining`). All of it is
