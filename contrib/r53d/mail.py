@@ -5,6 +5,7 @@ Serve took it follows how many wakes were among them, and these are no unknown o
 
 The system drops what comes to a full port and tells nobody. So reports are sent while fewer than 128 datagrams are there, which fit. The program
 looks at the port after 64 queries at the latest: where it took none in 65 turns, or had a quiet turn, what was sent before is gone.
+Where wakes fill the port of a program that stands still, which of them were dropped isn't known, and some are counted as unknown ones.
 """
 import socket
 from collections import deque
