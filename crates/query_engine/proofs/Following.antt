@@ -15,7 +15,7 @@ use Rattle.zone_lookup.specs.Sections.Step.{Ends, Follows}
 use Rattle.zone_lookup.specs.Zones.{zone_for}
 use Rattle.reply_records.specs.Writing.{Writes}
 use Rattle.query_engine.specs.Adding.{Adds}
-use Rattle.query_engine.specs.Asking.{Leaves}
+use Rattle.query_engine.specs.Asking.{EndsAs}
 use Rattle.query_engine.specs.declared.asking.End.{End}
 use Rattle.query_engine.proofs.Added.{cname_before, nothing_more}
 
@@ -43,12 +43,12 @@ module _ (lookup : Lookup) (name : List (List ℕ)) (choices : Choices) (cname :
 
   -- no CNAME record more is added
   pub no_more : (most : ℕ) (old new : Draft) → most ≡ 0 → new ≡ old
-      → Leaves (look_up most lookup name choices) old new (record { aa = true; rcode = 0 })
+      → EndsAs (look_up most lookup name choices) old new (record { aa = true; rcode = 0 })
       made.used
   no_more most old new none same =
-      subst (λ (m : ℕ). Leaves (look_up m lookup name choices) old new
+      subst (λ (m : ℕ). EndsAs (look_up m lookup name choices) old new
       (record { aa = true; rcode = 0 }) made.used) (sym none)
-      (subst (λ (s : Sections). Leaves s old new (record { aa = true; rcode = 0 }) made.used)
+      (subst (λ (s : Sections). EndsAs s old new (record { aa = true; rcode = 0 }) made.used)
       (sym (ap ended is)) (record {
         adds = subst (λ (d : Draft). Adds (ends made.used) old d) (sym same)
             (nothing_more made.used old);
@@ -60,13 +60,13 @@ module _ (lookup : Lookup) (name : List (List ℕ)) (choices : Choices) (cname :
   pub outside : (most : ℕ) (old new : Draft) → 0 < most
       → is_zone lookup.zone (zone_for lookup.zones (labels_of cname.rdata)) ≡ false
       → Writes Answer (cname ∷ []) old new
-      → Leaves (look_up most lookup name choices) old new (record { aa = true; rcode = 0 })
+      → EndsAs (look_up most lookup name choices) old new (record { aa = true; rcode = 0 })
       made.used
   outside most old new some other wrote =
       let one : suc (most - 1) ≡ most = omega (arith, some) in
-      subst (λ (m : ℕ). Leaves (look_up m lookup name choices) old new
+      subst (λ (m : ℕ). EndsAs (look_up m lookup name choices) old new
       (record { aa = true; rcode = 0 }) made.used) one
-      (subst (λ (s : Sections). Leaves s old new (record { aa = true; rcode = 0 }) made.used)
+      (subst (λ (s : Sections). EndsAs s old new (record { aa = true; rcode = 0 }) made.used)
       (sym (left_zone (most - 1) other)) (record {
         adds = cname_before cname (ends made.used) old new new wrote
             (nothing_more made.used new);
@@ -79,18 +79,18 @@ module _ (lookup : Lookup) (name : List (List ℕ)) (choices : Choices) (cname :
       (used : Used) → 0 < most
       → is_zone lookup.zone (zone_for lookup.zones target) ≡ true
       → target ≡ labels_of cname.rdata → Writes Answer (cname ∷ []) old middle
-      → Leaves (look_up (most - 1) lookup target made) middle new end used
-      → Leaves (look_up most lookup name choices) old new (record { aa = true; rcode = end.rcode })
+      → EndsAs (look_up (most - 1) lookup target made) middle new end used
+      → EndsAs (look_up most lookup name choices) old new (record { aa = true; rcode = end.rcode })
       used
   onward most old middle new target end used some same named wrote rest =
       let one : suc (most - 1) ≡ most = omega (arith, some) in
       let there = subst (λ (n : List (List ℕ)).
       is_zone lookup.zone (zone_for lookup.zones n) ≡ true) named same in
-      let after = subst (λ (n : List (List ℕ)). Leaves (look_up (most - 1) lookup n made) middle
+      let after = subst (λ (n : List (List ℕ)). EndsAs (look_up (most - 1) lookup n made) middle
       new end used) named rest in
-      subst (λ (m : ℕ). Leaves (look_up m lookup name choices) old new
+      subst (λ (m : ℕ). EndsAs (look_up m lookup name choices) old new
       (record { aa = true; rcode = end.rcode }) used) one
-      (subst (λ (s : Sections). Leaves s old new (record { aa = true; rcode = end.rcode }) used)
+      (subst (λ (s : Sections). EndsAs s old new (record { aa = true; rcode = end.rcode }) used)
       (sym (in_zone (most - 1) there)) (record {
         adds = cname_before cname (look_up (most - 1) lookup (labels_of cname.rdata) made) old
             middle new wrote after.adds;

@@ -55,7 +55,7 @@ abbrev pub choices_of : Progress → Choices
 choices_of progress = record { count = progress.count; used = progress.used }
 
 -- The sections are written, and the answer ends as they say.
-pub record Leaves (s : Sections) (old new : Draft) (end : End) (used : Used) : Type 0 where
+pub record EndsAs (s : Sections) (old new : Draft) (end : End) (used : Used) : Type 0 where
   pub adds : Adds s old new
   pub aa : end.aa ≡ s.aa
   pub rcode : end.rcode ≡ s.rcode
@@ -65,7 +65,7 @@ pub record Leaves (s : Sections) (old new : Draft) (end : End) (used : Used) : T
 pub record IsEnd (step : Step) (old new : Draft) (end : End) (used : Used) : Type 0 where
   pub sections : Sections
   pub ends : step ≡ Ends sections
-  pub leaves : Leaves sections old new end used
+  pub leaves : EndsAs sections old new end used
 
 -- The step is a CNAME record, which isn't written yet: its data are the first value of the set that
 -- is held.

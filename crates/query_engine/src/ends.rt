@@ -10,7 +10,7 @@ ghost use Rattle.record_set.specs.declared.sets.RecordSet.{RecordSet};
 ghost use Rattle.reply_records.specs.Writing.{IsOpen};
 ghost use Rattle.zone_lookup.specs.Served.{zone_of};
 ghost use Rattle.zone_lookup.specs.Looking.{IsGroupNow};
-ghost use Rattle.query_engine.specs.Asking.{Leaves};
+ghost use Rattle.query_engine.specs.Asking.{EndsAs};
 
 use crate::asking::{Asked, End};
 use dns_wire::{Reply, records_add_up};
@@ -29,7 +29,7 @@ pub(crate) fn answer_nodata(
 ) -> End
     requires { IsOpen Answer reply.old }
     ensures ends { (used : Used)
-        → Leaves (no_data (zone_of zones.now.zones asked.now.zone asked.now.apex.now) used)
+        → EndsAs (no_data (zone_of zones.now.zones asked.now.zone asked.now.apex.now) used)
         reply.old reply.new result used }
     ensures rcode { result.rcode < 16 }
 {
@@ -47,7 +47,7 @@ pub(crate) fn answer_nxdomain(
 ) -> End
     requires { IsOpen Answer reply.old }
     ensures ends { (used : Used)
-        → Leaves (nxdomain (zone_of zones.now.zones asked.now.zone asked.now.apex.now) used)
+        → EndsAs (nxdomain (zone_of zones.now.zones asked.now.zone asked.now.apex.now) used)
         reply.old reply.new result used }
     ensures rcode { result.rcode < 16 }
 {
@@ -74,7 +74,7 @@ pub(crate) fn answer_referral(
     requires open { IsOpen Answer reply.old }
     ensures ends { (set : RecordSet) (used : Used)
         → slice_get (sets_in zones.now.zones cut) 0 ≡ Some set
-        → Leaves (referral (sets_in_zone zones.now.zones cut.zone) set used)
+        → EndsAs (referral (sets_in_zone zones.now.zones cut.zone) set used)
         reply.old reply.new result used }
     ensures rcode { result.rcode < 16 }
 {

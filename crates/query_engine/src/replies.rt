@@ -156,7 +156,7 @@ fn answer_query<V: HealthView>(
     match find_zone(zones, &query.name) {
         None => refuse(query, REFUSED, reply),
         Some(found) => answer_in_zone(
-            zones, found.0, &found.1, view, tables, query, peer, words, scratch, reply,
+            zones, found.0, found.1, view, tables, query, peer, words, scratch, reply,
         ),
     }
 }

@@ -25,7 +25,7 @@ ghost use Rattle.zone_model.specs.Zones.{IsAmong, group};
 ghost use Rattle.zone_lookup.specs.Looking.{IsApex, IsGroupNow};
 ghost use Rattle.zone_lookup.specs.Seen.{IsSeen};
 ghost use Rattle.query_engine.specs.Asking.{Comes, EndsWell, HoldsCname, HoldsNext, IsEnd};
-ghost use Rattle.query_engine.specs.Asking.{Leaves, asked_of, choices_of};
+ghost use Rattle.query_engine.specs.Asking.{EndsAs, asked_of, choices_of};
 
 use crate::asking::{Asked, End, Next, Progress};
 use crate::ends::{answer_nodata, answer_nxdomain, answer_referral};
@@ -103,7 +103,7 @@ fn answer_chosen(
     requires places { AreOfGroup zones.now.zones selected.now }
     requires held { HoldsFirst zones.now.zones selected.now scratch.old }
     requires open { IsOpen Answer reply.old }
-    ensures ends { (used : Used) → Leaves (record (ends used) {
+    ensures ends { (used : Used) → EndsAs (record (ends used) {
       answers = answer_records name.now (selected_sets zones.now.zones selected.now);
     }) reply.old reply.new result used }
     ensures rcode { result.rcode < 16 }
@@ -349,6 +349,7 @@ fn step_typed<V: HealthView>(
     reply: &mut Reply,
     scratch: &mut Scratch,
 ) -> Next
+    requires there { IsApex zones.now.zones asked.now.zone asked.now.apex.now }
     requires inside { EndsWith name.now asked.now.apex.now }
     requires few { FewInGroups (sets_in_zone zones.now.zones asked.now.zone) }
     requires has { HasSets zones.now.zones asked.now.zone
@@ -439,7 +440,7 @@ pub(crate) fn look_up<V: HealthView>(
     requires open { IsOpen Answer reply.old }
     ensures found { (healthy : ℕ → SetKey → Bool)
         → Agrees zones.now.zones (V.test view.now) healthy
-        → Leaves (found most (asked_of zones.now.zones zones.now.collections.list healthy tables.now
+        → EndsAs (found most (asked_of zones.now.zones zones.now.collections.list healthy tables.now
         asked.now) name.now (choices_of progress.old))
         reply.old reply.new result progress.new.used }
     ensures rcode { result.rcode < 16 }

@@ -1,5 +1,6 @@
 -- The zones from which queries are answered.
 use Rattle.std.specs.Prelude.{◌≡◌, ◌≢◌, ℕ, List, [], map, Option, None, Some}
+use Rattle.std.specs.Borrow.{Bor}
 use Rattle.policy_select.specs.Zones.{Zone, IsOne, hosted}
 use Rattle.policy_select.specs.Hosted.{HostedZone}
 use Rattle.policy_select.specs.Placed.{sets_of}
@@ -32,7 +33,7 @@ pub record IsFound (zones : List Zone) (name : List (List ℕ)) (id : ℕ) (apex
   pub zone : zone_for (hosted_of zones) name ≡ Some (zone_of zones id apex)
 
 -- it; or no zone holds the name
-abbrev pub FoundOrNone : List Zone → (name : List (List ℕ)) → (found : Option (ℕ × List (List ℕ)))
+abbrev pub FoundOrNone : List Zone → (name : List (List ℕ)) → (found : Option (ℕ × Bor (List (List ℕ))))
     → Type 0
 FoundOrNone zones name None = zone_for (hosted_of zones) name ≡ None
-FoundOrNone zones name (Some (id, apex)) = IsFound zones name id apex
+FoundOrNone zones name (Some (id, apex)) = IsFound zones name id apex.now

@@ -26,11 +26,11 @@ pub record IsNearest (sets : List RecordSet) (name nearest : List (List ℕ)) : 
       → length other ≤ length nearest
 
 -- Below or at a zone cut; else its sets are those of the source, where there is one.
-abbrev pub Stands : List Zone → HostedZone → (name : List (List ℕ)) → Standing → Type 0
-Stands zones zone name (standing.Below cut) = IsCut zones zone name cut
-Stands zones zone name (standing.Taken from) =
+abbrev pub HasStanding : List Zone → HostedZone → (name : List (List ℕ)) → Standing → Type 0
+HasStanding zones zone name (standing.Below cut) = IsCut zones zone name cut
+HasStanding zones zone name (standing.Taken from) =
     (cut_above zone name ≡ None) × (source zone.sets name ≡ Some from)
-Stands zones zone name standing.Absent =
+HasStanding zones zone name standing.Absent =
     (cut_above zone name ≡ None) × (source zone.sets name ≡ None)
 
 -- ---- by the place of a name

@@ -2,6 +2,7 @@
 
 ghost use Rattle.std.specs.Prelude.{◌≡◌, ◌+◌, length};
 ghost use Rattle.dns_name.specs.Suffix.{EndsWith};
+ghost use Rattle.policy_select.specs.Looking.{IsApex};
 ghost use Rattle.zone_lookup.specs.Cuts.{CutOrNone};
 ghost use Rattle.zone_lookup.specs.Served.{zone_of};
 
@@ -13,11 +14,12 @@ use rdata_layout::RType;
 /// The NS sets of the zone cut above or at a name of a zone: of those below the apex it is the one
 /// nearest the apex. Most zones have none, and no name is looked up then.
 pub fn cut_above(zones: &Zones, zone: u32, apex: &Name, name: &Name) -> Option<Group>
-    requires { EndsWith name.now apex.now }
+    requires there { IsApex zones.now.zones zone apex.now }
+    requires inside { EndsWith name.now apex.now }
     ensures { CutOrNone zones.now.zones (zone_of zones.now.zones zone apex.now) name.now result }
 {
     cuts_are_nearest();
-    if !zones.may_have_cuts(zone, apex) {
+    if !zones.may_have_cuts(zone) {
         return None;
     }
     cut_below(zones, zone, apex, name, name.labels() - apex.labels())

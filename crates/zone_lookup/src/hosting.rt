@@ -14,17 +14,14 @@ use policy_select::{Zones, zones_are_longest};
 
 /// The zone that holds a name, by its number and the name of its apex: that of the longest name
 /// (RFC 1034, 4.3.2, step 2).
-pub fn find_zone(zones: &Zones, name: &Name) -> Option<(u32, Name)>
+pub fn find_zone<'a>(zones: &'a Zones, name: &Name) -> Option<(u32, &'a Name)>
     ensures { FoundOrNone zones.now.zones name.now result }
 {
     zones_are_longest();
     zones.well_formed();
-    let Some(zone) = zones.zone_for(name) else {
-        return None;
-    };
-    match zones.apex(zone) {
-        Some(apex) => Some((zone, apex)),
-        None => unreachable!(),
+    match zones.holder(name) {
+        Some(found) => Some(found),
+        None => None,
     }
 }
 

@@ -13,7 +13,7 @@ ghost use Rattle.policy_select.specs.Zones.{placed_in};
 ghost use Rattle.policy_select.specs.Looking.{IsApex};
 ghost use Rattle.zone_lookup.specs.Served.{zone_of};
 ghost use Rattle.zone_lookup.specs.Standing.{AreBeside, FindsAsked, FindsTyped, IsNearest};
-ghost use Rattle.zone_lookup.specs.Standing.{IsUnder, NamedAt, NamedBefore, SomeExists, Stands};
+ghost use Rattle.zone_lookup.specs.Standing.{HasStanding, IsUnder, NamedAt, NamedBefore, SomeExists};
 
 use crate::cut::cut_above;
 use crate::served::hold_at;
@@ -107,7 +107,7 @@ pub fn standing_of(
     requires inside { EndsWith name.now apex.now }
     requires some { placed_in zones.now.zones zone ≢ [] }
     requires place { IsFirstNamed (sets_in_zone zones.now.zones zone) name.now place }
-    ensures { Stands zones.now.zones (zone_of zones.now.zones zone apex.now) name.now result }
+    ensures { HasStanding zones.now.zones (zone_of zones.now.zones zone apex.now) name.now result }
 {
     let nearest = nearest_of(zones, zone, apex, name, place, scratch);
     standing_from(zones, zone, apex, name, &nearest, scratch)
@@ -125,7 +125,7 @@ fn standing_from(
     requires there { IsApex zones.now.zones zone apex.now }
     requires nearest { IsNearest (sets_in_zone zones.now.zones zone) name.now nearest.now }
     requires inside { EndsWith nearest.now apex.now }
-    ensures { Stands zones.now.zones (zone_of zones.now.zones zone apex.now) name.now result }
+    ensures { HasStanding zones.now.zones (zone_of zones.now.zones zone apex.now) name.now result }
 {
     names_exist();
     cuts_are_nearest();

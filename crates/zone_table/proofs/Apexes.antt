@@ -55,7 +55,8 @@ module _ (before after : List Zone) (made : ZoneEdit) (delta : Delta)
     λ x. (x.0, (edits.others x.0 (λ e. apart (sym x.2 ∙ e))).1 x.1, x.2, x.3),
   )
 
-one_name : (zones : List Zone) → AreListed zones → (id other : ℕ) (name other_name : List (List ℕ))
+-- a zone has one name
+pub one_name : (zones : List Zone) → AreListed zones → (id other : ℕ) (name other_name : List (List ℕ))
     → id ≡ other → IsApex zones id name → IsApex zones other other_name → name ≡ other_name
 one_name zones listed id other name other_name e x y =
     sym x.3

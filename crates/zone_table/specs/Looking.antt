@@ -1,6 +1,7 @@
 -- What is found in a table of zones.
 use Rattle.std.specs.Prelude.{◌≡◌, ◌≤◌, ◌+◌, ℕ, List, length, slice_get, Bool, true, false, Option, None}
 use Rattle.std.specs.Prelude.{Some, drop, map, take}
+use Rattle.std.specs.Borrow.{Bor}
 use Rattle.zone_list.specs.Suffix.{EndsWith}
 use Rattle.zone_list.specs.RTypeRecord.{RType}
 use Rattle.zone_list.specs.RTypeRecord.TheVariants as rtype
@@ -115,6 +116,12 @@ IsApex zones id name = (zone : Zone) × IsOne zones zone × (zone.id ≡ id) × 
 abbrev pub ApexOrNone : List Zone → ℕ → Option (List (List ℕ)) → Type 0
 ApexOrNone zones id (Some name) = IsApex zones id name
 ApexOrNone zones id None = IsZoneId zones id → ⊥
+
+-- The zone that holds a name, with the name of its apex, or none.
+abbrev pub HolderOrNone : List Zone → (name : List (List ℕ)) → Option (ℕ × Bor (List (List ℕ)))
+    → Type 0
+HolderOrNone zones name (Some (id, apex)) = Holds zones name id × IsApex zones id apex.now
+HolderOrNone zones name None = HoldsOrNone zones name None
 
 -- No NS set of the zone has another name.
 abbrev pub ServersAreAt : List Zone → (id : ℕ) → (name : List (List ℕ)) → Type 0

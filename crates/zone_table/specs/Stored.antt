@@ -6,7 +6,7 @@ use Rattle.zone_list.specs.Stored.{IsKept, Kept}
 use Rattle.zone_list.specs.Kept.{Listed, zones_in}
 use Rattle.zone_list.specs.Zones.{IsZoneId, Zone, placed_in}
 use Rattle.zone_list.specs.declared.refs.SetRef.{SetRef}
-use Rattle.zone_table.specs.Looking.{Names}
+use Rattle.zone_table.specs.Looking.{IsApex, Names}
 use Rattle.zone_list.specs.Placed.{sets_of}
 use Rattle.zone_list.specs.Sets.{IsRising}
 use Rattle.zone_list.specs.Orders.{IsOrder, placed_of}
@@ -26,11 +26,27 @@ abbrev pub GetsOrder : List (Option Kept) → List Listed → ℕ → Option (Bo
 GetsOrder slots list id (Some order) = IsOrderIn slots list id order.now
 GetsOrder slots list id None = IsNone (zones_in slots list) id
 
+-- the same with a hint, which may be wrong
+abbrev pub GetsNear : List (Option Kept) → List Listed → ℕ
+    → Option (Bor (List ℕ) × Option ℕ) → Type 0
+GetsNear slots list id (Some (order, hint)) = IsOrderIn slots list id order.now
+GetsNear slots list id None = IsNone (zones_in slots list) id
+
+-- the name of the zone with this number
+abbrev pub GetsApex : List Zone → ℕ → Option (Bor (List (List ℕ))) → Type 0
+GetsApex zones id (Some apex) = IsApex zones id apex.now
+GetsApex zones id None = IsZoneId zones id → ⊥
+
 -- the sets of the zone with this number, which are in zone order
 abbrev pub ViewsZone : List Zone → ℕ → Option (List RecordSet) → Type 0
 ViewsZone zones id (Some sets) = (sets ≡ sets_of (placed_in zones id)) × IsRising sets
     × IsZoneId zones id
 ViewsZone zones id None = IsNone zones id
+
+-- the same with a hint, which may be wrong
+abbrev pub ViewsNear : List Zone → ℕ → Option (List RecordSet × Option ℕ) → Type 0
+ViewsNear zones id (Some (sets, hint)) = ViewsZone zones id (Some sets)
+ViewsNear zones id None = IsNone zones id
 
 -- whether a reference names a set, which its slot holds then
 abbrev pub IsNamed : List (Option Kept) → List Zone → SetRef → Bool → Type 0

@@ -1,7 +1,7 @@
 //! A zone found by its number, with its sets in their order.
 
 ghost use Rattle.std.specs.Prelude.{◌≡◌, ◌≤◌, ◌<◌, ◌+◌, ◌-◌, ◌^◌, ℕ, length, slice_get, Some, IfOk};
-ghost use Rattle.std.specs.Prelude.{◌↔◌, IsTrue, drop, false, take};
+ghost use Rattle.std.specs.Prelude.{◌↔◌, IsTrue, List, drop, false, take};
 ghost use Rattle.zone_list.specs.Stops.{bound_of};
 ghost use Rattle.zone_list.specs.Sums.{sums_of};
 ghost use Rattle.zone_list.specs.Kept.{AreKept, named_of, zones_in};
@@ -11,9 +11,10 @@ ghost use Rattle.zone_list.specs.Orders.{IsOrder, placed_of};
 ghost use Rattle.zone_list.specs.Policies.{PolicyIsAt};
 ghost use Rattle.zone_list.specs.Spelling.{IsPart, from_policy};
 ghost use Rattle.zone_table.specs.Counted.{AreCounted};
-ghost use Rattle.zone_table.specs.Looking.{HasNameAt, Loads, ServersAreAt, SlotAt, SlotBehind, Targets};
-ghost use Rattle.zone_table.specs.Looking.{Names, Watches, slots_in};
-ghost use Rattle.zone_table.specs.Stored.{GetsOrder, IsNamed, ViewsZone};
+ghost use Rattle.zone_table.specs.Looking.{HasNameAt, IsApex, Loads, ServersAreAt, SlotAt};
+ghost use Rattle.zone_table.specs.Looking.{Names, SlotBehind, Targets, Watches, slots_in};
+ghost use Rattle.zone_table.specs.Stored.{GetsApex, GetsNear, GetsOrder, IsNamed, ViewsNear};
+ghost use Rattle.zone_table.specs.Stored.{ViewsZone};
 
 use crate::refs::Group;
 use octets::OutOfMemory;
@@ -41,6 +42,53 @@ pub fn view<'a>(store: &'a SetStore, list: &'a [StoredZone], zone: u32) -> Optio
 {
     match order_of(store, list, zone) {
         Some(order) => Some(view_of(store, zone, order)),
+        None => None,
+    }
+}
+
+/// The slots of a zone's sets, in zone order, and a place at which those of a name may stand: a hint,
+/// which may be wrong.
+fn order_near<'a>(
+    store: &SetStore,
+    list: &'a [StoredZone],
+    zone: u32,
+    name: &Name,
+) -> Option<(&'a [u32], Option<usize>)>
+    requires { AreKept store.now.slots list.now }
+    ensures { GetsNear store.now.slots list.now zone result }
+{
+    match find_zone(list, zone) {
+        Some(place) => {
+            let found = &list[place];
+            Some((found.order(), found.hint(name)))
+        }
+        None => None,
+    }
+}
+
+/// The sets of a zone, looked at by their places, with such a hint.
+pub fn view_near<'a>(
+    store: &'a SetStore,
+    list: &'a [StoredZone],
+    zone: u32,
+    name: &Name,
+) -> Option<(ZoneView<'a>, Option<usize>)>
+    requires { AreKept store.now.slots list.now }
+    ensures { ViewsNear (zones_in store.now.slots list.now) zone result }
+{
+    match order_near(store, list, zone, name) {
+        Some((order, hint)) => Some((view_of(store, zone, order), hint)),
+        None => None,
+    }
+}
+
+/// The name of a zone's apex.
+pub fn apex_of<'a>(store: &SetStore, list: &'a [StoredZone], zone: u32) -> Option<&'a Name>
+    requires { AreKept store.now.slots list.now }
+    ensures { GetsApex (zones_in store.now.slots list.now) zone result }
+{
+    match find_zone(list, zone) {
+        Some(place) => Some(list[place].apex()),
         None => None,
     }
 }
@@ -161,25 +209,22 @@ pub fn sums_in(store: &SetStore, list: &[StoredZone], zone: u32) -> Sums
     }
 }
 
-/// Whether a zone may have NS sets of another name than this one. It has none where the names of
-/// all have together as many labels as if each were this one, which is the apex: no name of a zone
-/// has fewer.
-pub fn may_have_cuts(store: &SetStore, list: &[StoredZone], zone: u32, apex: &Name) -> bool
+/// Whether a zone may have NS sets of another name than its apex. It has none where the names of all
+/// have together as many labels as if each were the apex: no name of a zone has fewer.
+pub fn may_have_cuts(store: &SetStore, list: &[StoredZone], zone: u32) -> bool
     requires kept { AreKept store.now.slots list.now }
     requires counted { (octets : ℕ) × AreCounted store.now list.now octets }
     requires few { length store.now.slots < 2 ^ 32 }
-    ensures { result ≡ false
-        → ServersAreAt (zones_in store.now.slots list.now) zone apex.now }
+    ensures { result ≡ false → (apex : List (List ℕ))
+        → IsApex (zones_in store.now.slots list.now) zone apex
+        → ServersAreAt (zones_in store.now.slots list.now) zone apex }
 {
     let Some(place) = find_zone(list, zone) else {
         return false;
     };
     let found = &list[place];
-    if !found.apex().is_same(apex) {
-        return true;
-    }
     let sums = found.sums();
-    let least = sums.servers.wrapping_mul(apex.labels() as u64);
+    let least = sums.servers.wrapping_mul(found.apex().labels() as u64);
     if sums.labels == least {
         return false;
     }

@@ -13,8 +13,8 @@ ghost use Rattle.zone_list.specs.Zones.{AreZones, IsZoneId, placed_in};
 ghost use Rattle.zone_table.specs.Counted.{octets_in_all, sets_in_all};
 ghost use Rattle.zone_table.specs.Edits.{Edits, IsAllowed, IsReady, StayReady};
 ghost use Rattle.zone_table.specs.Edits.{collections_after};
-ghost use Rattle.zone_table.specs.Looking.{ApexOrNone, HasNameAt, HoldsOrNone, IsApex, IsGroup};
-ghost use Rattle.zone_table.specs.Looking.{IsGroupNow, Names, slots_in};
+ghost use Rattle.zone_table.specs.Looking.{ApexOrNone, HasNameAt, HolderOrNone, HoldsOrNone};
+ghost use Rattle.zone_table.specs.Looking.{IsApex, IsGroup, IsGroupNow, Names, slots_in};
 ghost use Rattle.zone_table.specs.Looking.{IsMember, IsNextSet, IsSetAt, Loads, ServersAreAt};
 ghost use Rattle.zone_table.specs.Looking.{Targets, Watches, bound_of};
 ghost use Rattle.zone_table.specs.Tables.{HaveSlotsApart, HaveSlotsBelow};
@@ -22,8 +22,8 @@ ghost use Rattle.zone_list.specs.Stops.{bound_of as told};
 
 use crate::edits::{Ready, ZoneEdit};
 use crate::looking::{
-    copies, has_name, hint_of, load, may_have_cuts, order_of, policy, policy_front, slot_at,
-    slot_behind, slot_in, slots_of, sums_in, target, view, watch,
+    apex_of, copies, has_name, hint_of, load, may_have_cuts, order_of, policy, policy_front,
+    slot_at, slot_behind, slot_in, slots_of, sums_in, target, view, view_near, watch,
 };
 use crate::making::{make, note_name, settle, settle_all};
 use crate::needs::{need_of, reserve_for, reserve_name};
@@ -186,13 +186,14 @@ impl Zones {
         sums_in(&self.store, &self.list, zone).checked as usize
     }
 
-    /// Whether a zone may have NS sets below its apex, which is this name. `false` is told only
-    /// where none has another name, by what is counted of the zone's sets.
-    pub fn may_have_cuts(&self, zone: u32, apex: &Name) -> bool
-        ensures { result ≡ false → ServersAreAt self.now.zones zone apex.now }
+    /// Whether a zone may have NS sets below its apex. `false` is told only where none has another
+    /// name than that, by what is counted of the zone's sets.
+    pub fn may_have_cuts(&self, zone: u32) -> bool
+        ensures { result ≡ false → (apex : List (List ℕ)) → IsApex self.now.zones zone apex
+            → ServersAreAt self.now.zones zone apex }
     {
         self.store.slots();
-        may_have_cuts(&self.store, &self.list, zone, apex)
+        may_have_cuts(&self.store, &self.list, zone)
     }
 
     /// How many sets all zones have.
@@ -241,6 +242,19 @@ impl Zones {
         }
     }
 
+    /// The same with the name of its apex, which isn't copied.
+    pub fn holder(&self, name: &Name) -> Option<(u32, &Name)>
+        ensures { HolderOrNone self.now.zones name.now result }
+    {
+        let Some(zone) = self.zone_for(name) else {
+            return None;
+        };
+        match apex_of(&self.store, &self.list, zone) {
+            Some(apex) => Some((zone, apex)),
+            None => unreachable!(),
+        }
+    }
+
     /// The next zone by number.
     pub fn zone_after(&self, zone: u32) -> Option<u32>
         ensures { NextZoneOrNone self.now.zones zone result }
@@ -270,10 +284,9 @@ impl Zones {
     pub fn group_near(&self, zone: u32, name: &Name, rtype: RType, near: Option<usize>) -> Group
         ensures { IsGroup self.now.zones zone name.now rtype result }
     {
-        match view(&self.store, &self.list, zone) {
-            Some(sets) => {
-                let hint = hint_of(&self.list, zone, name).or(near);
-                let (start, length) = group_in(&sets, name, rtype, hint);
+        match view_near(&self.store, &self.list, zone, name) {
+            Some((sets, hint)) => {
+                let (start, length) = group_in(&sets, name, rtype, hint.or(near));
                 Group {
                     zone,
                     start,

@@ -10,7 +10,7 @@ use Rattle.dns_wire.specs.Draft.{reply_to}
 use Rattle.dns_wire.specs.Limit.{limit_of}
 use Rattle.reply_records.specs.Groups.{by_key}
 use Rattle.query_engine.specs.Adding.{with_sections}
-use Rattle.query_engine.specs.Asking.{Leaves, asked_of}
+use Rattle.query_engine.specs.Asking.{EndsAs, asked_of}
 use Rattle.query_engine.proofs.Finishing.{finished, found_inside}
 use Rattle.query_engine.proofs.replies.answer_in_zone.Goals as goal
 
@@ -55,7 +55,7 @@ returns-clause-bytes g c = λ healthy agrees.
     let tables = c.args.tables.now in
     let query = c.args.query.now in
     let client = client_address (subnet_of query.edns) c.args.peer in
-    let found = subst (λ (a : IpAddress). Leaves (look_up 8 (asked_of zones collections healthy
+    let found = subst (λ (a : IpAddress). EndsAs (look_up 8 (asked_of zones collections healthy
     tables (record {
       zone = c.args.zone;
       apex = c.args.apex;

@@ -14,5 +14,5 @@ returns-in-Some-clause-bytes g c = λ healthy agrees.
     let found = c.in-Some.ensures in
     c.answer_in_zone.ensures.bytes healthy agrees
     ∙ ap (λ (m : Message). wire m (limit_of query.edns))
-    (reply_from_zone served asker query zones c.in-Some.found.0 c.in-Some.found.1
+    (reply_from_zone served asker query zones c.in-Some.found.0 c.in-Some.found.1.now
     (sym c.is_refused.ensures ∙ c.if-is_refused.false) found.zone)

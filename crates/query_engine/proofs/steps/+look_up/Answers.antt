@@ -7,7 +7,7 @@ use Rattle.dns_wire.specs.declared.reply.Section.TheVariants.{Answer}
 use Rattle.reply_records.specs.Groups.{by_key}
 use Rattle.rdata_layout.specs.declared.types.RType.TheVariants as rtype
 use Rattle.reply_records.specs.Writing.{IsOpen, Writes}
-use Rattle.query_engine.specs.Asking.{Leaves, asked_of, choices_of}
+use Rattle.query_engine.specs.Asking.{EndsAs, asked_of, choices_of}
 use Rattle.query_engine.proofs.Added.{still_open}
 use Rattle.query_engine.proofs.Following.{ends_found, no_more, onward, outside}
 use Rattle.query_engine.proofs.steps.+look_up.Goals as goal
@@ -18,7 +18,7 @@ returns-in-Ends-clause-found g t c = λ healthy agrees.
     let asked = c.args.asked.now in
     let lookup = asked_of zones c.args.zones.now.collections.list healthy c.args.tables.now asked in
     let is = c.in-Ends.ensures.comes healthy agrees in
-    subst (λ (s : Sections). Leaves s c.args.reply.now c.step.new.reply c.in-Ends.end
+    subst (λ (s : Sections). EndsAs s c.args.reply.now c.step.new.reply c.in-Ends.end
     c.step.new.progress.used)
     (sym (ends_found c.args.most lookup c.args.name.now (choices_of c.args.progress.now) is.sections
     is.ends)) is.leaves

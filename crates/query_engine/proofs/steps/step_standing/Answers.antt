@@ -2,7 +2,7 @@ use Rattle.std.proofs.Common.{◌∙◌, ap, subst, sym, List, Option, ℕ}
 use Rattle.zone_lookup.specs.Sections.{Step, nxdomain, referral, step_below, step_from}
 use Rattle.reply_records.specs.Groups.{sets_in_zone}
 use Rattle.record_set.specs.declared.sets.RecordSet.{RecordSet}
-use Rattle.query_engine.specs.Asking.{Comes, Leaves, asked_of, choices_of}
+use Rattle.query_engine.specs.Asking.{Comes, EndsAs, asked_of, choices_of}
 use Rattle.query_engine.proofs.Stepping.{first_set}
 use Rattle.query_engine.proofs.steps.step_standing.Goals as goal
 
@@ -17,7 +17,7 @@ returns-in-Below-clause-comes g c = λ healthy agrees.
       sections = referral lookup.zone.sets first.0 used;
       ends = ap (λ (o : Option RecordSet). step_below lookup c.args.name.now o
           (choices_of c.args.progress.now)) (cut.cut ∙ first.1);
-      leaves = subst (λ (z : ℕ). Leaves (referral (sets_in_zone zones z) first.0 used)
+      leaves = subst (λ (z : ℕ). EndsAs (referral (sets_in_zone zones z) first.0 used)
           c.args.reply.now c.answer_referral.new.reply c.answer_referral.result used) cut.in_zone
           (c.answer_referral.ensures.ends first.0 used first.1);
     }

@@ -7,7 +7,7 @@ use Rattle.reply_records.specs.Groups.{sets_in_zone}
 use Rattle.rdata_layout.specs.declared.types.RType.TheVariants as rtype
 use Rattle.record_set.specs.declared.sets.RecordSet.{RecordSet}
 use Rattle.zone_model.specs.Zones.{group}
-use Rattle.query_engine.specs.Asking.{Leaves, asked_of, choices_of}
+use Rattle.query_engine.specs.Asking.{EndsAs, asked_of, choices_of}
 use Rattle.query_engine.proofs.Stepping.{asked_exists, first_set, typed_step}
 use Rattle.query_engine.proofs.steps.step_typed.Goals as goal
 
@@ -22,7 +22,7 @@ returns-in-Some-clause-comes g c = λ healthy agrees.
       sections = referral lookup.zone.sets first.0 used;
       ends = ap (λ (o : Option RecordSet). step_below lookup c.args.name.now o
           (choices_of c.args.progress.now)) (cut.cut ∙ first.1);
-      leaves = subst (λ (z : ℕ). Leaves (referral (sets_in_zone zones z) first.0 used)
+      leaves = subst (λ (z : ℕ). EndsAs (referral (sets_in_zone zones z) first.0 used)
           c.args.reply.now c.answer_referral.new.reply c.answer_referral.result used) cut.in_zone
           (c.answer_referral.ensures.ends first.0 used first.1);
     }

@@ -1,7 +1,7 @@
-use Rattle.std.proofs.Common.{List, subst, sym, arith}
+use Rattle.std.proofs.Common.{List, ℕ, subst, sym, arith}
 use Rattle.zone_list.specs.Kept.{Listed, zones_in}
 use Rattle.zone_table.specs.Counted.{AreCounted}
-use Rattle.zone_table.specs.Looking.{ServersAreAt}
+use Rattle.zone_table.specs.Looking.{IsApex, ServersAreAt}
 use Rattle.zone_table.specs.Tables.{Table}
 use Rattle.zone_table.proofs.zones.Zones.may_have_cuts.Goals as goal
 
@@ -19,6 +19,8 @@ may_have_cuts-requires-clause-few c =
 pub returns : goal.returns
 returns c = λ no.
     let s = c.self.inside in
-    subst (λ (t : Table). ServersAreAt t.zones c.args.zone c.args.apex.now) c.self.view_is
-    (subst (λ (l : List Listed). ServersAreAt (zones_in s.store.slots l) c.args.zone c.args.apex.now)
+    subst (λ (t : Table). (apex : List (List ℕ)) → IsApex t.zones c.args.zone apex
+    → ServersAreAt t.zones c.args.zone apex) c.self.view_is
+    (subst (λ (l : List Listed). (apex : List (List ℕ)) → IsApex (zones_in s.store.slots l) c.args.zone apex
+    → ServersAreAt (zones_in s.store.slots l) c.args.zone apex)
     c.deref.ensures.value (c.may_have_cuts.ensures no))
