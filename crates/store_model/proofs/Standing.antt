@@ -1,5 +1,5 @@
 -- What a crash leaves of two files on which a journal stands.
-use Rattle.std.proofs.Common.{◌≡◌, ◌∙◌, inl, inr, ℕ, List, [], length, Option, Some, refl, sym}
+use Rattle.std.proofs.Common.{◌≡◌, ◌∙◌, ◌+◌, inl, inr, ℕ, List, [], length, Option, Some, refl, sym}
 use Rattle.std.proofs.Common.{subst}
 use Rattle.config_model.specs.Configs.{empty}
 use Rattle.gate_journal.proofs.Opening.{opens_to_one}
@@ -8,8 +8,8 @@ use Rattle.store_model.proofs.Readings.{opens_read, read_open}
 use Rattle.store_model.proofs.Shapes.{shape_at}
 use Rattle.store_model.proofs.Sides.{active_opens, generation_is, opens_by_active}
 use Rattle.store_model.specs.Laws.{EmptyOpens, InitOpens, NoStoreOrConfig, NoneOrEmptyOpens}
-use Rattle.store_model.specs.Laws.{StandingOpens, StandingPlace, StoreIsTold}
-use Rattle.store_model.specs.Opening.{OpensConfig}
+use Rattle.store_model.specs.Laws.{StandingOpens, StandingPlace, StandingShapes, StoreIsTold}
+use Rattle.store_model.specs.Opening.{IsShape, OpensConfig}
 use Rattle.zone_journal.proofs.Stores.{opens_empty}
 use Rattle.zone_journal.specs.Making.{empty_snapshot}
 use Rattle.zone_journal.specs.Pairs.{IsActive, OpensPair, Yields, active_of, other_of}
@@ -91,6 +91,33 @@ module _ {D : Type 0} (reading : D → Option (List ℕ)) (images : D → List �
         p.3,
         shape_at x y state.side state.generation state.at generation octets entries p.0 p.1 p.2 p.3,
       )
+
+  -- the same of what a crash leaves of the two files
+  shape_by : (side : Side) (state : State) (a b : D) → state.side ≡ side
+      → Stands reading images state (active_of side a b) (other_of side a b)
+      → (x y : List ℕ) → reading a ≡ Some x → reading b ≡ Some y
+      → (g : ℕ) (s : List ℕ) (es : List (List ℕ)) → OpensPair x y g s es
+      → (u v : List ℕ) → images a u → images b v
+      → IsShape u v side state.generation (state.at + 1)
+  shape_by A state a b is stands x y tx ty g s es opens u v of_a of_b =
+      let now = decides state a b stands x y tx ty A is y (is_image b y ty) in
+      let p = placed state a b stands x tx g s es (opens_by_active x y A g s es now opens) in
+      subst (λ l. IsShape l v A state.generation (state.at + 1))
+      (sym (stands.journal.durable x tx u of_a))
+      (shape_at x v A state.generation state.at g s es
+      (decides state a b stands x y tx ty A is v of_b) p.0 p.1 p.2)
+  shape_by B state a b is stands x y tx ty g s es opens u v of_a of_b =
+      let now = decides state b a stands y x ty tx B is x (is_image a x tx) in
+      let p = placed state b a stands y ty g s es (opens_by_active x y B g s es now opens) in
+      subst (λ l. IsShape u l B state.generation (state.at + 1))
+      (sym (stands.journal.durable y ty v of_b))
+      (shape_at u y B state.generation state.at g s es
+      (decides state b a stands y x ty tx B is u of_a) p.0 p.1 p.2)
+
+  pub standing_shapes : StandingShapes reading images
+  standing_shapes state a b x y generation octets entries stands tx ty opens u v of_a of_b =
+      shape_by state.side state a b refl stands x y tx ty generation octets entries opens u v of_a
+      of_b
 
   pub store_is_told : NoStoreOrConfig → StoreIsTold reading images
   store_is_told not_both a b x y side place store tx ty none =

@@ -244,6 +244,17 @@ StandingPlace {D = D} reading images = (state : State) (a b : D) (x y : List ℕ
     × OpensTo (active_of state.side x y) generation octets entries
     × IsShape x y state.side state.generation (state.at + 1)
 
+-- Where a journal stands, each pair of images has the shape that it tells: the side that decides, its
+-- generation, and its length with the closed gate.
+abbrev pub StandingShapes : {D : Type 0} → (reading : D → Option (List ℕ))
+    → (images : D → List ℕ → Type 0) → Type 0
+StandingShapes {D = D} reading images = (state : State) (a b : D) (x y : List ℕ) (generation : ℕ)
+    (octets : List ℕ) (entries : List (List ℕ))
+    → StandsOn reading images state a b → reading a ≡ Some x → reading b ≡ Some y
+    → OpensPair x y generation octets entries
+    → (u v : List ℕ) → images a u → images b v
+    → IsShape u v state.side state.generation (state.at + 1)
+
 -- The files of a store are not told to be none.
 abbrev pub StoreIsTold : {D : Type 0} → (reading : D → Option (List ℕ))
     → (images : D → List ℕ → Type 0) → Type 0

@@ -10,7 +10,8 @@ ghost use Rattle.store_model.specs.Laws.{PairOpensToOneConfig};
 ghost use Rattle.store_model.specs.Laws.{PiecesFollow, PiecesMayOpen, PiecesOpen, PlanBegins};
 ghost use Rattle.store_model.specs.Laws.{PlanGoesOn, PlanMakes};
 ghost use Rattle.store_model.specs.Laws.{RefusedAreRefused, SnapshotIsRead, SoundAreBases};
-ghost use Rattle.store_model.specs.Laws.{StandingOpens, StandingPlace, StoreIsTold, TakenAreSound};
+ghost use Rattle.store_model.specs.Laws.{StandingOpens, StandingPlace, StandingShapes, StoreIsTold};
+ghost use Rattle.store_model.specs.Laws.{TakenAreSound};
 ghost use Rattle.store_model.specs.Laws.{UnreadAreBaseless, UnreadAreRefused, UnsoundAreBaseless};
 
 use r53_disk::Disk;
@@ -218,6 +219,11 @@ pub fn standing_opens<D: Disk>()
 /// A journal stands at the closed gate of the file that decides, and is of its generation.
 pub fn standing_place<D: Disk>()
     ensures { StandingPlace D.reading D.images }
+{}
+
+/// Where a journal stands, each pair of images has the shape that it tells.
+pub fn standing_shapes<D: Disk>()
+    ensures { StandingShapes D.reading D.images }
 {}
 
 /// The files of a store are not told to be none.

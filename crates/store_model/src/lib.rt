@@ -21,5 +21,6 @@ pub use laws::{
     one_more_makes, one_more_opens, one_shape, opened_are_sound, pair_opens_to_one_config,
     pieces_follow, pieces_may_open, pieces_open, plan_begins, plan_goes_on, plan_makes,
     refused_are_refused, snapshot_is_read, sound_are_bases, standing_opens, standing_place,
-    store_is_told, taken_are_sound, unread_are_baseless, unread_are_refused, unsound_are_baseless,
+    standing_shapes, store_is_told, taken_are_sound, unread_are_baseless, unread_are_refused,
+    unsound_are_baseless,
 };
