@@ -10,7 +10,7 @@ use Rattle.line_splitting.specs.Reading.{Gives, IsOver, Reader, ReadsOn, Took, T
 use Rattle.r53_io.specs.Network.{Incoming}
 use Rattle.rand_core.specs.Stream.{Stream}
 use Rattle.octets.specs.Counts.{Rose}
-use Rattle.session_loop.specs.Ending.{AllTold, EventComes, FilesOpen, First, HasCause, IsAll, IsLeft, IsBroken, AreReplied}
+use Rattle.session_loop.specs.Ending.{AllTold, AreFilesOf, EventComes, First, HasCause, IsAll, IsLeft, IsBroken, AreReplied}
 use Rattle.session_loop.specs.Turning.{GoesOn, TurnLeaves, beyond, ended_of, input_of}
 use Rattle.session_loop.specs.declared.ended.Ended.{Ended}
 use Rattle.session_loop.specs.declared.ended.Ended.TheVariants as ended
@@ -100,7 +100,7 @@ module _ {D : Type 0} (images : D → List ℕ → Type 0) (a b : D) (around : S
     (stands : StandsFor start server network random) where
   -- no line more was taken
   told_now : (lines more : List Event) → lines ≡ more → out ≡ Some held → sent ≡ Some before
-      → FilesOpen images a b start.engine.config
+      → AreFilesOf images a b start.engine
       → AreReplied images a b around lines start more held before network random out sent
   told_now lines more is tells was files = record {
     session = begun start;
@@ -112,7 +112,7 @@ module _ {D : Type 0} (images : D → List ℕ → Type 0) (a b : D) (around : S
 
   pub all_now : (r : Reader) (left : List ℕ) (after : Option (List ℕ)) → after ≡ Some left
       → left ≡ beyond r left → events r left ≡ [] → out ≡ Some held → sent ≡ Some before
-      → FilesOpen images a b start.engine.config
+      → AreFilesOf images a b start.engine
       → IsAll images a b around (input_of r left) start held before after network random out sent
   all_now r left after has beyond_it none tells was files = (
     has ∙ ap Some beyond_it,
@@ -121,7 +121,7 @@ module _ {D : Type 0} (images : D → List ℕ → Type 0) (a b : D) (around : S
 
   pub broken_now : (r new : Reader) (left : List ℕ) (after : Option (List ℕ)) → ReadsOn r
       → TookNothing r left new after → out ≡ Some held → sent ≡ Some before
-      → FilesOpen images a b start.engine.config
+      → AreFilesOf images a b start.engine
       → IsBroken images a b around (input_of r left) start held before after network random out sent
   unfolding told_now some_first
   broken_now r new left after on nothing tells was files = record {
@@ -211,7 +211,7 @@ module _ {D : Type 0} (images : D → List ℕ → Type 0) (a b : D) (around : S
   cut_off : (event : Event) → Gives old event new → (step : Step)
       → EventComes around event start step → StandsFor step.new server network random
       → OutputOf held out output.Failed step.reply
-      → sent ≡ Some (before ++ step.sent) → FilesOpen images a b step.new.engine.config
+      → sent ≡ Some (before ++ step.sent) → AreFilesOf images a b step.new.engine
       → TurnLeaves (ended_of taken.WriteFault) images a b around old new left after start server
       network random held before out sent
   cut_off event gives step comes here was so files = record {
@@ -231,8 +231,8 @@ module _ {D : Type 0} (images : D → List ℕ → Type 0) (a b : D) (around : S
   pub line_turn : (octets : List ℕ) → Gives old (Line octets) new → (Given : Type 0) → Given
       → (answer : Taken)
       → ((now : State) → answer ≢ taken.DiskFault → StandsFor now server network random
-      → FilesOpen images a b now.engine.config)
-      → (answer ≡ taken.LinkFault → FilesOpen images a b start.engine.config)
+      → AreFilesOf images a b now.engine)
+      → (answer ≡ taken.LinkFault → AreFilesOf images a b start.engine)
       → (answer ≡ taken.DiskFault → IsLeft start network random)
       → (answer ≡ taken.DiskFault → OctetsAskDisk octets start.engine)
       → LineLeaves answer (OctetsStep around octets start)
@@ -278,7 +278,7 @@ module _ {D : Type 0} (images : D → List ℕ → Type 0) (a b : D) (around : S
   -- a line that is too long
   pub long_turn : Gives old TooLong new → (answer : Taken)
       → StandsFor start server network random → sent ≡ Some before
-      → FilesOpen images a b start.engine.config → Written answer held out too_long_text
+      → AreFilesOf images a b start.engine → Written answer held out too_long_text
       → TurnLeaves (ended_of answer) images a b around old new left after start server network random
       held before out sent
   long_turn gives taken.Replied stands was files told =

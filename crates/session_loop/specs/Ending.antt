@@ -6,6 +6,7 @@
 -- in hand.
 use Rattle.std.specs.Prelude.{◌≡◌, ◌⊎◌, ℕ, List, [], ◌∷◌, ◌++◌, Bool, true, false, Option, Some, ⊤}
 use Rattle.session_server.specs.Configs.{Config}
+use Rattle.engine_model.specs.Engine.{Engine}
 use Rattle.line_splitting.specs.Lines.{Event, Line, TooLong}
 use Rattle.octets.specs.Counts.{Rose}
 use Rattle.r53_io.specs.Network.{Incoming}
@@ -19,6 +20,7 @@ use Rattle.session_server.specs.Steps.{OctetsStep, State, Step, Surroundings}
 use Rattle.session_server.specs.Leaving.{ImagesOpen}
 use Rattle.session_server.specs.Taking.{OctetsAskDisk, PartOfOctets}
 use Rattle.session_server.specs.Opening.{OpensConfig}
+use Rattle.store_model.specs.Opening.{IsShape}
 use Rattle.whole_writing.specs.Output.{OutputOf}
 use Rattle.whole_writing.specs.declared.output.Output.TheVariants as output
 
@@ -50,6 +52,15 @@ abbrev pub FilesOpen : {D : Type 0} → (images : D → List ℕ → Type 0) →
 FilesOpen images a b config =
     (x y : List ℕ) → images a x → images b y → OpensConfig x y config
 
+-- Each pair of images opens to the configuration of a server, and is of the shape of its journal: of
+-- the side that decides, its generation and its length, none of which a compaction that isn't done has
+-- changed.
+pub record AreFilesOf {D : Type 0} (images : D → List ℕ → Type 0) (a b : D) (engine : Engine)
+    : Type 0 where
+  pub opens : FilesOpen images a b engine.config
+  pub shape : (x y : List ℕ) → images a x → images b y
+      → IsShape x y engine.journal.side engine.journal.generation engine.journal.length
+
 -- what comes of a line that may be too long
 abbrev pub EventComes : Surroundings → Event → (old : State) → Step → Type 0
 EventComes around (Line octets) old step =
@@ -63,7 +74,7 @@ pub record IsLeft (now : State) (network : Option (List Incoming)) (random : Str
 
 -- ---- by the answer
 
--- A session over the first lines, all told, to which the files open.
+-- A session over the first lines, all told, of which the files are.
 pub record AreReplied {D : Type 0} (images : D → List ℕ → Type 0) (a b : D) (around : Surroundings)
     (lines : List Event) (start : State) (more : List Event) (held : List ℕ)
     (before : List Datagram) (network : Option (List Incoming)) (random : Stream)
@@ -72,7 +83,7 @@ pub record AreReplied {D : Type 0} (images : D → List ℕ → Type 0) (a b : D
   pub first : First around lines start more session
   pub told : AllTold session held before out sent
   pub rest : IsLeft session.new network random
-  pub files : FilesOpen images a b session.new.engine.config
+  pub files : AreFilesOf images a b session.new.engine
 
 -- The same over the lines that end within what was read of an input, which failed behind that.
 pub record IsBroken {D : Type 0} (images : D → List ℕ → Type 0) (a b : D) (around : Surroundings)
@@ -88,7 +99,7 @@ pub record IsBroken {D : Type 0} (images : D → List ℕ → Type 0) (a b : D) 
   pub ending : all.first.done ≡ input.ending_in seen
 
 -- Behind a session over the first lines one more was taken, of whose reply a part was written that
--- isn't the whole; to where it stands then the files open.
+-- isn't the whole; the files are those of where it stands then.
 pub record IsCut {D : Type 0} (images : D → List ℕ → Type 0) (a b : D) (around : Surroundings)
     (lines : List Event) (start : State) (held : List ℕ) (before : List Datagram)
     (network : Option (List Incoming)) (random : Stream) (out : Option (List ℕ))
@@ -102,7 +113,7 @@ pub record IsCut {D : Type 0} (images : D → List ℕ → Type 0) (a b : D) (ar
   pub reply : OutputOf (held ++ session.output) out output.Failed step.reply
   pub datagrams : sent ≡ Some (before ++ session.sent ++ step.sent)
   pub rest : IsLeft step.new network random
-  pub files : FilesOpen images a b step.new.engine.config
+  pub files : AreFilesOf images a b step.new.engine
 
 -- Behind a session over the first lines, all told, a disk failed with the next, which asks one: the
 -- files open to where the session stands, or to where it would with that line.
@@ -122,7 +133,7 @@ pub record IsTorn {D : Type 0} (images : D → List ℕ → Type 0) (a b : D) (a
   pub files : ImagesOpen images a b session.new.engine.config step.new.engine.config
 
 -- Behind a session over the first lines, all told, the network failed with the next, of which a part
--- may have been sent; to where the session stands the files open.
+-- may have been sent; the files are those of where the session stands.
 pub record IsUnsent {D : Type 0} (images : D → List ℕ → Type 0) (a b : D) (around : Surroundings)
     (lines : List Event) (start : State) (held : List ℕ) (before : List Datagram)
     (network : Option (List Incoming)) (out : Option (List ℕ)) (sent : Option (List Datagram))
@@ -133,7 +144,7 @@ pub record IsUnsent {D : Type 0} (images : D → List ℕ → Type 0) (a b : D) 
   pub first : First around lines start (Line octets ∷ more) session
   pub replies : out ≡ Some (held ++ session.output)
   pub part : PartOfOctets around octets session.new (before ++ session.sent) network sent
-  pub files : FilesOpen images a b session.new.engine.config
+  pub files : AreFilesOf images a b session.new.engine
 
 -- All lines were taken, and no more of the input than that needs.
 abbrev pub IsAll : {D : Type 0} → (images : D → List ℕ → Type 0) → (a b : D) → Surroundings → Input

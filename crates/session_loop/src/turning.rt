@@ -18,6 +18,7 @@ use r53_io::{Link, Sink, Source};
 use rand_core::Rng;
 use session_server::{Server, Taken, standing_opens};
 use std::alloc::Global;
+use store_model::standing_shapes;
 
 /// Takes the next line, or reads once; and tells how the lines ended, where they did.
 pub(crate) fn take_next<S: Source, D: Disk, L: Link, R: Rng, K: Sink>(
@@ -59,6 +60,7 @@ pub(crate) fn take_next<S: Source, D: Disk, L: Link, R: Rng, K: Sink>(
         (L.faults link.new) (K.faults out.old) (K.faults out.new)) }
 {
     standing_opens::<D>();
+    standing_shapes::<D>();
     match reader.next(input) {
         Next::Line => { ended_of(server.take_line(alloc, reader.line(), a, b, link, words, out)) }
         Next::TooLong => ended_of(server.refuse_line(out)),

@@ -1,9 +1,10 @@
-use Rattle.std.proofs.Common.{◌≡◌, ◌∙◌, ℕ, List, [], Option, None, Some, ap, inl, inr, refl, subst, sym}
+use Rattle.std.proofs.Common.{◌≡◌, ◌∙◌, ◌+◌, ℕ, List, [], Option, None, Some, ap, inl, inr, refl, subst, sym}
+use Rattle.engine_model.specs.Engine.{Journal}
 use Rattle.line_splitting.specs.Lines.{Line}
 use Rattle.line_splitting.specs.Reading.{Gives, events}
-use Rattle.session_loop.proofs.Files.{files_open}
+use Rattle.session_loop.proofs.Files.{are_files}
 use Rattle.session_loop.proofs.Turns.{all_now, at_end, at_limit, cause_of, is_more, is_whole, line_turn, link_whole, long_cause, long_turn, read, never_read, broken_now, went_whole}
-use Rattle.session_loop.specs.Ending.{FilesOpen, HasCause}
+use Rattle.session_loop.specs.Ending.{HasCause}
 use Rattle.session_loop.specs.Turning.{TurnLeaves}
 use Rattle.session_loop.specs.declared.ended.Ended.{Ended}
 use Rattle.session_server.specs.Holding.{Holds}
@@ -28,13 +29,21 @@ returns-in-Line-clause-leaves g c = λ around old left held before same stands f
     c.in-Line.ensures.answers)
     (Leaves g.D.Disk.reading c.args.a.now c.args.b.now (Holds c.args.server.now.store.kept)) files
     c.take_line.result
-    (λ now whole here. files_open g.D.Disk.reading g.D.Disk.images c.standing_opens.ensures c.take_line.new.self.store.kept c.take_line.new.a c.take_line.new.b
-    (c.take_line.ensures.stands whole) (c.take_line.ensures.holds files whole) now.engine.config
-    here.store.config)
-    (λ is. files_open g.D.Disk.reading g.D.Disk.images c.standing_opens.ensures c.take_line.new.self.store.kept c.take_line.new.a c.take_line.new.b
+    (λ now whole here. are_files g.D.Disk.reading g.D.Disk.images c.standing_opens.ensures c.standing_shapes.ensures c.take_line.new.self.store.kept c.take_line.new.a c.take_line.new.b
+    (c.take_line.ensures.stands whole) (c.take_line.ensures.holds files whole) now.engine here.store.config
+    (ap (λ (j : Journal). j.side) here.store.journal)
+    (ap (λ (j : Journal). j.generation) here.store.journal)
+    (ap (λ (j : Journal). j.length) here.store.journal))
+    (λ is. are_files g.D.Disk.reading g.D.Disk.images c.standing_opens.ensures c.standing_shapes.ensures c.take_line.new.self.store.kept c.take_line.new.a c.take_line.new.b
     (c.take_line.ensures.stands (link_whole c.take_line.result is))
-    (c.take_line.ensures.holds files (link_whole c.take_line.result is)) old.engine.config
-    (stands.store.config ∙ ap (λ (k : Kept). config_of k) (sym (c.take_line.ensures.kept is))))
+    (c.take_line.ensures.holds files (link_whole c.take_line.result is)) old.engine
+    (stands.store.config ∙ ap (λ (k : Kept). config_of k) (sym (c.take_line.ensures.kept is)))
+    (ap (λ (j : Journal). j.side) stands.store.journal
+    ∙ ap (λ (k : Kept). k.journal.side) (sym (c.take_line.ensures.kept is)))
+    (ap (λ (j : Journal). j.generation) stands.store.journal
+    ∙ ap (λ (k : Kept). k.journal.generation) (sym (c.take_line.ensures.kept is)))
+    (ap (λ (j : Journal). j.length) stands.store.journal
+    ∙ ap (λ (k : Kept). k.journal.at + 1) (sym (c.take_line.ensures.kept is))))
     (λ is. record {
       coming = (c.take_line.ensures.undrawn is).0 ∙ stands.coming;
       words = stands.words ∙ sym (c.take_line.ensures.undrawn is).1;
@@ -76,7 +85,10 @@ returns-in-TooLong-clause-leaves g c = λ around old left held before same stand
     c.refuse_line.result
     (subst (λ (s : Server). StandsFor old s (g.L.Link.coming c.args.link.now) (g.R.Rng.stream c.args.words.now)) (sym c.refuse_line.ensures.same) stands)
     was
-    (files_open g.D.Disk.reading g.D.Disk.images c.standing_opens.ensures c.args.server.now.store.kept c.args.a.now c.args.b.now c.requires.stands files old.engine.config stands.store.config)
+    (are_files g.D.Disk.reading g.D.Disk.images c.standing_opens.ensures c.standing_shapes.ensures c.args.server.now.store.kept c.args.a.now c.args.b.now c.requires.stands files old.engine stands.store.config
+    (ap (λ (j : Journal). j.side) stands.store.journal)
+    (ap (λ (j : Journal). j.generation) stands.store.journal)
+    (ap (λ (j : Journal). j.length) stands.store.journal))
     (c.refuse_line.ensures.writes held tells))
 
 pub returns-in-TooLong-clause-cause : goal.returns-in-TooLong-clause-cause
@@ -106,7 +118,10 @@ returns-in-Failed-clause-leaves g c = λ around old left held before same stands
     (g.L.Link.sent c.args.link.now) c.args.server.now stands c.args.reader.now c.next.new.self left
     (g.S.Source.left c.next.new.source) c.in-Failed.ensures.answers.0
     (c.in-Failed.ensures.leaves left has) tells was
-    (files_open g.D.Disk.reading g.D.Disk.images c.standing_opens.ensures c.args.server.now.store.kept c.args.a.now c.args.b.now c.requires.stands files old.engine.config stands.store.config)
+    (are_files g.D.Disk.reading g.D.Disk.images c.standing_opens.ensures c.standing_shapes.ensures c.args.server.now.store.kept c.args.a.now c.args.b.now c.requires.stands files old.engine stands.store.config
+    (ap (λ (j : Journal). j.side) stands.store.journal)
+    (ap (λ (j : Journal). j.generation) stands.store.journal)
+    (ap (λ (j : Journal). j.length) stands.store.journal))
 
 pub returns-in-Failed-clause-going : goal.returns-in-Failed-clause-going
 returns-in-Failed-clause-going g c = λ is. c.in-Failed.ensures.answers.0.going
@@ -127,7 +142,10 @@ returns-in-Ended-clause-leaves g c = λ around old left held before same stands 
       (g.S.Source.left c.next.new.source) (c.in-Ended.ensures.leaves left has)
       (at_end c.args.reader.now left c.in-Ended.ensures.answers.1)
       (c.in-Ended.ensures.answers.0.none_left left) tells was
-      (files_open g.D.Disk.reading g.D.Disk.images c.standing_opens.ensures c.args.server.now.store.kept c.args.a.now c.args.b.now c.requires.stands files old.engine.config stands.store.config),
+      (are_files g.D.Disk.reading g.D.Disk.images c.standing_opens.ensures c.standing_shapes.ensures c.args.server.now.store.kept c.args.a.now c.args.b.now c.requires.stands files old.engine stands.store.config
+      (ap (λ (j : Journal). j.side) stands.store.journal)
+      (ap (λ (j : Journal). j.generation) stands.store.journal)
+      (ap (λ (j : Journal). j.length) stands.store.journal)),
 )
 
 pub returns-in-InputTooLong-clause-leaves : goal.returns-in-InputTooLong-clause-leaves
@@ -141,5 +159,8 @@ returns-in-InputTooLong-clause-leaves g c = λ around old left held before same 
       (at_limit c.args.reader.now left c.in-InputTooLong.ensures.answers.1
       c.in-InputTooLong.ensures.answers.2)
       (c.in-InputTooLong.ensures.answers.0.none_left left) tells was
-      (files_open g.D.Disk.reading g.D.Disk.images c.standing_opens.ensures c.args.server.now.store.kept c.args.a.now c.args.b.now c.requires.stands files old.engine.config stands.store.config),
+      (are_files g.D.Disk.reading g.D.Disk.images c.standing_opens.ensures c.standing_shapes.ensures c.args.server.now.store.kept c.args.a.now c.args.b.now c.requires.stands files old.engine stands.store.config
+      (ap (λ (j : Journal). j.side) stands.store.journal)
+      (ap (λ (j : Journal). j.generation) stands.store.journal)
+      (ap (λ (j : Journal). j.length) stands.store.journal)),
 )
