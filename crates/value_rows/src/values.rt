@@ -328,6 +328,16 @@ fn behind_another(rt: &impl Abort, alloc: Global, value: &RData) -> Vec<u8> {
     octets
 }
 
+/// The longest value and an empty string, 17 whole strings, are 4,001 octets and no value.
+fn have_an_octet_too_many(rt: &impl Abort, alloc: Global, longest: &RData) {
+    let mut octets = Vec::new(alloc);
+    assert!(rt; longest.write_wire(&mut octets).is_ok(), "memory");
+    assert!(rt; octets.push(0).is_ok(), "memory");
+    assert_eq!(rt; octets.len(), 4001, "an empty string behind");
+    let read = RData::from_wire(alloc, RType::Txt, &octets);
+    assert_eq!(rt; read.err(), Some(WireFault::Bad), "4,001 octets");
+}
+
 #[test]
 fn the_longest_values(rt: HostRuntime) {
     read_empty_strings(&rt, rt.alloc());
@@ -343,10 +353,7 @@ fn the_longest_values(rt: HostRuntime) {
     is_copied(&rt, rt.alloc(), &longest);
     let octets = behind_another(&rt, rt.alloc(), &longest);
     assert_eq!(rt; octets.len(), 4001, "behind what stands there");
-    assert!(rt;
-        RData::from_wire(rt.alloc(), RType::Txt, &octets).is_err(),
-        "4,001 octets"
-    );
+    have_an_octet_too_many(&rt, rt.alloc(), &longest);
 }
 
 #[test]
