@@ -26,7 +26,7 @@ use Rattle.policy_select.specs.Groups.{flags_in, members_of, sets_in}
 use Rattle.policy_select.specs.Rules.{IsOf}
 use Rattle.policy_select.specs.declared.rules.Rule.{Rule}
 use Rattle.policy_select.specs.declared.rules.Rule.TheVariants as rules
-use Rattle.policy_select.specs.Selecting.{AreOfGroup, HoldsFirst, IsInZone, selected_of}
+use Rattle.policy_select.specs.Selecting.{AreOfGroup, HoldsFirst, HoldsFront, IsInZone, selected_of}
 use Rattle.policy_select.proofs.Noted.{few_sets}
 
 -- the policy of the first set is that of the group
@@ -86,7 +86,7 @@ in_zone : (g : Group) (places : List ℕ) → IsInZone g.zone (selected_of g pla
 in_zone g [] = tt
 in_zone g (place ∷ places) = refl
 
-same_length : (zones : List Zone) (test : SetRef → Bool) (g : Group)
+pub same_length : (zones : List Zone) (test : SetRef → Bool) (g : Group)
     → length (flags_in zones test g) ≡ length (sets_in zones g)
 same_length zones test g =
     length-map (members_of zones g)
@@ -109,6 +109,18 @@ module _ (law : ChosenAreOfGroup) (zones : List Zone) (test : SetRef → Bool) (
   zone_is =
       subst (IsInZone g.zone) (sym is)
       (in_zone g (chosen (sets_in zones g) (flags_in zones test g) rows word))
+
+front_held : (zones : List Zone) (g : Group) (places : List ℕ) (held : Option RecordSet)
+    → held ≡ slice_get (sets_in zones g) 0 → HoldsFront zones (selected_of g places) held
+front_held zones g [] held is = tt
+front_held zones g (place ∷ places) held is = is
+
+-- the first set of the group is held
+pub holds_front : (zones : List Zone) (g : Group) (places : List ℕ) (selected : Selected)
+    (held : Option RecordSet) → selected ≡ selected_of g places
+    → held ≡ slice_get (sets_in zones g) 0 → HoldsFront zones selected held
+holds_front zones g places selected held is front =
+    subst (λ (s : Selected). HoldsFront zones s held) (sym is) (front_held zones g places held front)
 
 -- ---- a group whose first set is simple
 

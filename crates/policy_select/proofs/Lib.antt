@@ -2,6 +2,7 @@ pub mod Choosing
 pub mod Descending
 pub mod GroupSizes
 pub mod Members
+pub mod Nearby
 pub mod Noted
 mod Policies
 pub mod Targets

@@ -1,9 +1,9 @@
 -- Where the policies of a group's sets stand, and the octets from there on.
 use Rattle.std.proofs.Common.{◌≡◌, ℕ, ◌+◌, ◌-◌, ◌≤◌, ◌<◌, List, ◌++◌, length, take, drop}
-use Rattle.std.proofs.Common.{refl, sym, ap, ◌∙◌, subst, arith, length-append, length-take, Bool, Option, None, Some}
+use Rattle.std.proofs.Common.{refl, sym, ap, ◌∙◌, subst, arith, length-append, length-take, [], ◌∷◌, Bool, Option, None, Some}
 use Rattle.std.specs.Prelude.{slice_get, IfSome, option_map}
 use Rattle.std.proofs.lemmas.Bool.Decides.{Decides-and, Decides-eqb}
-use Rattle.std.proofs.lemmas.List.{length-map, take-append-drop, take-take, take_all}
+use Rattle.std.proofs.lemmas.List.{length-map, take-append-drop, take-take}
 use Rattle.std.proofs.Math.Seq.{take-append_seam}
 use Rattle.std.proofs.lemmas.Option.{slice_get-map}
 use Rattle.dns_name.specs.Labels.{wire}
@@ -13,7 +13,13 @@ use Rattle.rdata_layout.specs.declared.types.RType.{RType}
 use Rattle.zone_table.proofs.Among.{among_at}
 use Rattle.zone_table.specs.Looking.{IsGroupNow, IsMember, slots_in}
 use Rattle.zone_table.specs.Octets.{body_octets, check_octets, head_octets}
-use Rattle.zone_table.specs.Octets.{routing_octets, set_octets}
+use Rattle.octets.specs.Numbers.{four_octets}
+use Rattle.routing.specs.declared.policies.Place.{Place}
+use Rattle.routing.specs.declared.policies.Place.TheVariants as place
+use Rattle.routing.specs.declared.policies.Routing.{Routing}
+use Rattle.routing.specs.declared.policies.Routing.TheVariants as policy
+use Rattle.zone_table.specs.Octets.{place_octets, role_number, routing_octets, set_octets, text_octets}
+use Rattle.zone_table.specs.SetsOfSetReading.{IsPlace, IsRouting}
 use Rattle.zone_table.specs.Placed.{Placed}
 use Rattle.zone_table.specs.Policies.{PolicyIsAt}
 use Rattle.zone_table.specs.RecordSetRecord.{RecordSet}
@@ -149,15 +155,6 @@ by_held zones g now held set n at is its =
     all_placed zones g now set 0 n at
     (subst (λ (h : Option RecordSet). IfSome h (λ s. PolicyIsAt s n)) is its)
 
--- ---- what a piece of a buffer's length is
-
-pub whole_piece : (piece whole : List ℕ) (room : ℕ) → piece ≡ take room whole → length piece < room
-    → piece ≡ whole
-whole_piece piece whole room is short =
-    let size = ap (λ (o : List ℕ). length o) is in
-    let cut = length-take room whole in
-    is ∙ take_all room whole (omega (arith, size, cut, short))
-
 -- ---- a piece in which a policy ends
 
 -- what begins a list that was cut begins it whole, where enough was left
@@ -171,3 +168,57 @@ whole_front piece front rest n is enough =
     ∙ ap (λ (o : List ℕ). o ++ drop k piece)
     (ap (take k) is ∙ take-take k n (front ++ rest) (omega (arith, size, cut, enough))
     ∙ take-append_seam front rest)
+
+-- ---- a piece that is as long as any policy
+
+text_long : (text others : List ℕ) (most : ℕ) → length text ≤ most
+    → length (text_octets text ++ others) ≤ most + 1 + length others
+text_long text others most short =
+    let size = length-append text others in
+    omega (arith, short, size)
+
+place_short : (place : Place) → IsPlace place → length (place_octets place) ≤ 7
+place_short (place.Continent where_to) is = omega arith
+place_short (place.Country letters) is = omega (arith, is)
+place_short (place.Subdivision letters part) is =
+    let size = length-append letters (text_octets part) in
+    let country = is.0 in
+    let short = is.1.short in
+    omega (arith, size, country, short)
+place_short place.Anywhere is = omega arith
+
+-- no policy has more than 263 octets
+policy_short : (routing : Routing) → IsRouting routing → length (routing_octets routing) ≤ 263
+policy_short policy.Simple is = omega arith
+policy_short (policy.Weighted ident weight) is =
+    let long = text_long ident (weight ∷ []) 128 is.short in omega (arith, long)
+policy_short (policy.Failover ident role) is =
+    let long = text_long ident (role_number role ∷ []) 128 is.short in omega (arith, long)
+policy_short (policy.Geolocation ident place) is =
+    let long = text_long ident (place_octets place) 128 is.0.short in
+    let short = place_short place is.1 in
+    omega (arith, long, short)
+policy_short (policy.Latency ident region) is =
+    let long = text_long ident (text_octets region) 128 is.0.short in
+    let short = is.1.short in
+    omega (arith, long, short)
+policy_short (policy.Multivalue ident) is = let short = is.short in omega (arith, short)
+policy_short (policy.Cidr ident collection location) is =
+    let front = text_octets ident ++ four_octets collection in
+    let all = length-append front (text_octets location) in
+    let head = length-append (text_octets ident) (four_octets collection) in
+    let four : length (four_octets collection) ≡ 4 = refl in
+    let short = is.0.short in
+    let other = is.1.short in
+    omega (arith, all, head, four, short, other)
+
+-- a piece of so much room has all of the policy at its front
+pub in_room : (piece : List ℕ) (routing : Routing) (rest : List ℕ) (room : ℕ) → IsRouting routing
+    → piece ≡ take room (routing_octets routing ++ rest) → 263 ≤ room
+    → length (routing_octets routing) ≤ length piece
+in_room piece routing rest room is same enough =
+    let size = ap (λ (o : List ℕ). length o) same in
+    let cut = length-take room (routing_octets routing ++ rest) in
+    let whole = length-append (routing_octets routing) rest in
+    let short = policy_short routing is in
+    omega (arith, size, cut, whole, short, enough)

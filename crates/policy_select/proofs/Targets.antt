@@ -7,6 +7,7 @@ use Rattle.std.specs.List.{filter}
 use Rattle.dns_name.specs.Order.{same_labels}
 use Rattle.rdata_layout.specs.Types.{number_of}
 use Rattle.std.proofs.lemmas.List.{length-drop, length-take-le}
+use Rattle.std.proofs.lemmas.Option.{slice_get_cases}
 use Rattle.std.specs.List.{cons_option, drop-map, take-map}
 use Rattle.std.specs.Option.{option_map, unwrap_or}
 use Rattle.multivalue.specs.declared.choice.Picked.{Picked}
@@ -25,7 +26,7 @@ use Rattle.zone_table.specs.declared.refs.Group.{Group}
 use Rattle.answer_model.specs.Descent.{sets_at}
 use Rattle.policy_select.specs.declared.selection.Selected.TheVariants.{Sets}
 use Rattle.policy_select.specs.Groups.{sets_in, sets_in_zone}
-use Rattle.policy_select.specs.Selecting.{HoldsFirst, IsTargetOf, LeadsTo}
+use Rattle.policy_select.specs.Selecting.{AreOfGroup, HoldsFirst, HoldsFront, IsTargetOf, LeadsTo}
 use Rattle.policy_select.specs.Selecting.{TargetOf, places_of, selected_sets}
 
 -- no two types have one number
@@ -183,6 +184,31 @@ first_selected zones g chosen set some there =
     let head = head_of chosen.count chosen.places some in
     ap (λ (places : List ℕ). slice_get (sets_at (sets_in zones g) places) 0) head.1
     ∙ first_at (sets_in zones g) (get_or chosen.places 0 0) head.0 set there
+
+-- it is held where it is the first of its group, which is held
+pub front_selected : (zones : List Zone) (g : Group) (chosen : Picked) (held : Option RecordSet)
+    → AreOfGroup zones (Sets g chosen) → HoldsFront zones (Sets g chosen) held
+    → get_or chosen.places 0 0 ≡ 0 → HoldsFirst zones (Sets g chosen) held
+front_selected zones g chosen held there front first =
+    let sets = sets_in zones g in
+    let many = as_many zones g there.0 in
+    let below = there.2 0 0 there.1 in
+    elim (slice_get_cases sets 0).1 [
+      | inl (set, within, at, same) ↦ (
+        set,
+        front ∙ at,
+        first_selected zones g chosen set there.1 (ap (λ (k : ℕ). slice_get sets k) first ∙ at),
+      )
+      | inr (past, none) ↦ absurd (omega (arith, many, below, past))
+    ]
+
+-- and where it was loaded
+pub loaded_selected : (zones : List Zone) (g : Group) (chosen : Picked) (held : Option RecordSet)
+    (set : RecordSet) → AreOfGroup zones (Sets g chosen)
+    → held ≡ slice_get (sets_in zones g) (get_or chosen.places 0 0) → held ≡ Some set
+    → HoldsFirst zones (Sets g chosen) held
+loaded_selected zones g chosen held set there loaded is =
+    (set, is, first_selected zones g chosen set there.1 (sym loaded ∙ is))
 
 pub leads : (zones : List Zone) (zone : ℕ) (g : Group) (chosen : Picked) (held : Option RecordSet)
     (result : Option Group)

@@ -1,5 +1,6 @@
 pub mod Groups
 pub mod Members
+pub mod Nearby
 pub mod Rules
 pub mod Seen
 pub mod Selecting

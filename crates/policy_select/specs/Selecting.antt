@@ -92,6 +92,11 @@ HoldsFirst zones Nothing held = ⊤
 HoldsFirst zones (Sets g chosen) held = (set : RecordSet) × (held ≡ Some set)
     × (slice_get (selected_sets zones (Sets g chosen)) 0 ≡ Some set)
 
+-- The first set of the group that was chosen from is held.
+abbrev pub HoldsFront : List Zone → Selected → (held : Option RecordSet) → Type 0
+HoldsFront zones Nothing held = ⊤
+HoldsFront zones (Sets g chosen) held = held ≡ slice_get (sets_in zones g) 0
+
 -- what is chosen of a group by a word
 abbrev pub choice_of : List Zone → (view : SetRef → Bool) → Client → Group → (word : ℕ) → Selected
 choice_of zones view client g word =

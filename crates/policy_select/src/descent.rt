@@ -16,7 +16,8 @@ ghost use Rattle.zone_table.specs.SetRefRecord.{SetRef};
 ghost use Rattle.zone_table.specs.Looking.{IsGroupNow};
 ghost use Rattle.policy_select.specs.Groups.{FewInGroups, sets_in, sets_in_zone};
 ghost use Rattle.policy_select.specs.Seen.{IsSeen};
-ghost use Rattle.policy_select.specs.Selecting.{AreOfGroup, GivesDescent, HoldsFirst, IsInZone};
+ghost use Rattle.policy_select.specs.Selecting.{AreOfGroup, GivesDescent, HoldsFirst};
+ghost use Rattle.policy_select.specs.Selecting.{HoldsFront, IsInZone};
 ghost use Rattle.policy_select.specs.Selecting.{LeadsTo, TargetOf, choice_of};
 
 use crate::client::Seen;
@@ -276,14 +277,18 @@ fn choose_held<V: HealthView>(
     selected
 }
 
-/// Loads the first selected set.
+/// Loads the first selected set. The first one of its group is held before.
 fn load_first(zones: &Zones, selected: &Selected, scratch: &mut Scratch)
-    requires { AreOfGroup zones.now.zones selected.now }
+    requires there { AreOfGroup zones.now.zones selected.now }
+    requires front { HoldsFront zones.now.zones selected.now scratch.old }
     ensures { HoldsFirst zones.now.zones selected.now scratch.new }
 {
     let Selected::Sets(group, picked) = selected else {
         return;
     };
+    if picked.places[0] == 0 {
+        return;
+    }
     load_member(zones, *group, picked.places[0], scratch);
 }
 

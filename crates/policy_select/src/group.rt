@@ -1,26 +1,24 @@
 //! The sets of a group, one at a time.
 
-ghost use Rattle.std.specs.Prelude.{◌≡◌, ◌<◌, length, slice_get, IfSome, Some};
-ghost use Rattle.std.specs.Option.{unwrap_or};
-ghost use Rattle.answer_model.specs.Policies.{place_of, region_of, role_of, weight_of};
+ghost use Rattle.std.specs.Prelude.{◌≡◌, ◌<◌, ◌≤◌, length, slice_get, IfSome, Some};
 ghost use Rattle.zone_table.specs.RecordSetRecord.{RecordSet};
 ghost use Rattle.zone_table.specs.Octets.{HasSpelling};
 ghost use Rattle.zone_table.specs.Policies.{PolicyIsAt};
 ghost use Rattle.zone_table.specs.Holding.{IsHolding};
 ghost use Rattle.zone_table.specs.Looking.{IsGroupNow, slots_in};
-ghost use Rattle.policy_select.specs.Members.{AreMembers, BeginsWithPolicy};
+ghost use Rattle.policy_select.specs.Members.{AreMembers, BeginsWithPolicy, IsFrontOfPolicy};
 ghost use Rattle.policy_select.specs.Groups.{flags_in, sets_in, sets_in_zone};
 ghost use Rattle.zone_table.specs.Sets.{group};
 
-use crate::parts::{is_whole, place_in, region_in, role_in, weight_in};
+use crate::parts::is_whole;
 use crate::view::HealthView;
 use dns_name::Name;
 use rdata_layout::RType;
-use routing::{Place, Region, Role, Routing};
+use routing::Routing;
 use zone_table::{Group, Scratch, SetRef, Zones};
 
-/// Sets of fewer octets from the policy on aren't loaded to be told apart.
-const SHORT: usize = 64;
+/// No policy has more octets.
+pub(crate) const MOST: usize = 263;
 
 /// The sets of a name and type of a zone.
 pub fn find_group(zones: &Zones, zone: u32, name: &Name, rtype: RType) -> Group
@@ -80,27 +78,46 @@ fn member_at(group: Group, slots: &[u32], i: usize) -> SetRef
     }
 }
 
+/// What stands of the policy of the set at a place of a group among the first octets of the set,
+/// lent.
+#[inline(always)]
+pub(crate) fn policy_front<'a>(
+    zones: &'a Zones,
+    group: Group,
+    slots: &[u32],
+    at: usize,
+    i: usize,
+) -> &'a [u8]
+    requires group { IsGroupNow zones.now.zones group }
+    requires slots { AreMembers zones.now.zones group slots.now at }
+    requires within { i < group.length }
+    ensures { (set : RecordSet) × (slice_get (sets_in zones.now.zones group) i ≡ Some set)
+        × IsFrontOfPolicy result.now set }
+{
+    zones.policy_front(member_at(group, slots, i), at)
+}
+
 /// Octets that begin with the policy of the set at a place of a group: its own ones, lent, where it
-/// stands among the first of them, or else copied to a buffer. None where there is no room for all
-/// that follow.
-fn policy_at<'a>(
+/// stands among the first of them, or else copied to a buffer.
+#[inline(always)]
+pub(crate) fn policy_octets<'a>(
     zones: &'a Zones,
     group: Group,
     slots: &[u32],
     at: usize,
     i: usize,
     buffer: &'a mut [u8],
-) -> Option<&'a [u8]>
+) -> &'a [u8]
     requires group { IsGroupNow zones.now.zones group }
     requires slots { AreMembers zones.now.zones group slots.now at }
     requires within { i < group.length }
-    ensures { IfSome result (λ octets. (set : RecordSet)
-        × (slice_get (sets_in zones.now.zones group) i ≡ Some set)
-        × BeginsWithPolicy octets.now set) }
+    requires room { 263 ≤ length buffer.old }
+    ensures { (set : RecordSet) × (slice_get (sets_in zones.now.zones group) i ≡ Some set)
+        × BeginsWithPolicy result.now set }
 {
-    let front = zones.policy_front(member_at(group, slots, i), at);
+    let front = policy_front(zones, group, slots, at, i);
     if is_whole(front) {
-        return Some(front);
+        return front;
     }
     policy_copied(zones, group, slots, at, i, buffer)
 }
@@ -115,196 +132,15 @@ fn policy_copied<'a>(
     at: usize,
     i: usize,
     buffer: &'a mut [u8],
-) -> Option<&'a [u8]>
+) -> &'a [u8]
     requires group { IsGroupNow zones.now.zones group }
     requires slots { AreMembers zones.now.zones group slots.now at }
     requires within { i < group.length }
-    ensures { IfSome result (λ octets. (set : RecordSet)
-        × (slice_get (sets_in zones.now.zones group) i ≡ Some set)
-        × BeginsWithPolicy octets.now set) }
-{
-    let room = buffer.len();
-    let octets = zones.policy(member_at(group, slots, i), at, buffer);
-    if octets.len() >= room {
-        return None;
-    }
-    Some(octets)
-}
-
-/// The weight of the set at a place of a group.
-pub(crate) fn weight_at(
-    zones: &Zones,
-    group: Group,
-    slots: &[u32],
-    at: usize,
-    i: usize,
-    first: u8,
-    scratch: &mut Scratch,
-) -> u8
-    requires group { IsGroupNow zones.now.zones group }
-    requires slots { AreMembers zones.now.zones group slots.now at }
-    requires within { i < group.length }
+    requires room { 263 ≤ length buffer.old }
     ensures { (set : RecordSet) × (slice_get (sets_in zones.now.zones group) i ≡ Some set)
-        × (result ≡ unwrap_or (weight_of set.routing) first) }
+        × BeginsWithPolicy result.now set }
 {
-    match policy_at(zones, group, slots, at, i, &mut [0; SHORT]) {
-        Some(octets) => weight_in(octets, first),
-        None => weight_loaded(zones, group, i, first, scratch),
-    }
-}
-
-/// The same of a set of any size, which is loaded.
-fn weight_loaded(zones: &Zones, group: Group, i: usize, first: u8, scratch: &mut Scratch) -> u8
-    requires group { IsGroupNow zones.now.zones group }
-    requires within { i < group.length }
-    ensures { (set : RecordSet) × (slice_get (sets_in zones.now.zones group) i ≡ Some set)
-        × (result ≡ unwrap_or (weight_of set.routing) first) }
-{
-    load_member(zones, group, i, scratch);
-    weight_held(scratch, first)
-}
-
-/// The role of the set at a place of a group.
-pub(crate) fn role_at(
-    zones: &Zones,
-    group: Group,
-    slots: &[u32],
-    at: usize,
-    i: usize,
-    first: Role,
-    scratch: &mut Scratch,
-) -> Role
-    requires group { IsGroupNow zones.now.zones group }
-    requires slots { AreMembers zones.now.zones group slots.now at }
-    requires within { i < group.length }
-    ensures { (set : RecordSet) × (slice_get (sets_in zones.now.zones group) i ≡ Some set)
-        × (result ≡ unwrap_or (role_of set.routing) first) }
-{
-    match policy_at(zones, group, slots, at, i, &mut [0; SHORT]) {
-        Some(octets) => role_in(octets, first),
-        None => role_loaded(zones, group, i, first, scratch),
-    }
-}
-
-/// The same of a set of any size, which is loaded.
-fn role_loaded(zones: &Zones, group: Group, i: usize, first: Role, scratch: &mut Scratch) -> Role
-    requires group { IsGroupNow zones.now.zones group }
-    requires within { i < group.length }
-    ensures { (set : RecordSet) × (slice_get (sets_in zones.now.zones group) i ≡ Some set)
-        × (result ≡ unwrap_or (role_of set.routing) first) }
-{
-    load_member(zones, group, i, scratch);
-    role_held(scratch, first)
-}
-
-/// The place of the set at a place of a group.
-pub(crate) fn place_at(
-    zones: &Zones,
-    group: Group,
-    slots: &[u32],
-    at: usize,
-    i: usize,
-    first: &Place,
-    scratch: &mut Scratch,
-) -> Place
-    requires group { IsGroupNow zones.now.zones group }
-    requires slots { AreMembers zones.now.zones group slots.now at }
-    requires within { i < group.length }
-    ensures { (set : RecordSet) × (slice_get (sets_in zones.now.zones group) i ≡ Some set)
-        × (result ≡ unwrap_or (place_of set.routing) first.now) }
-{
-    match policy_at(zones, group, slots, at, i, &mut [0; SHORT]) {
-        Some(octets) => place_in(octets, first),
-        None => place_loaded(zones, group, i, first, scratch),
-    }
-}
-
-/// The same of a set of any size, which is loaded.
-fn place_loaded(
-    zones: &Zones,
-    group: Group,
-    i: usize,
-    first: &Place,
-    scratch: &mut Scratch,
-) -> Place
-    requires group { IsGroupNow zones.now.zones group }
-    requires within { i < group.length }
-    ensures { (set : RecordSet) × (slice_get (sets_in zones.now.zones group) i ≡ Some set)
-        × (result ≡ unwrap_or (place_of set.routing) first.now) }
-{
-    load_member(zones, group, i, scratch);
-    place_held(scratch, first)
-}
-
-/// The region of the set at a place of a group.
-pub(crate) fn region_at(
-    zones: &Zones,
-    group: Group,
-    slots: &[u32],
-    at: usize,
-    i: usize,
-    first: &Region,
-    scratch: &mut Scratch,
-) -> Region
-    requires group { IsGroupNow zones.now.zones group }
-    requires slots { AreMembers zones.now.zones group slots.now at }
-    requires within { i < group.length }
-    ensures { (set : RecordSet) × (slice_get (sets_in zones.now.zones group) i ≡ Some set)
-        × (result ≡ unwrap_or (region_of set.routing) first.now) }
-{
-    match policy_at(zones, group, slots, at, i, &mut [0; SHORT]) {
-        Some(octets) => region_in(octets, first),
-        None => region_loaded(zones, group, i, first, scratch),
-    }
-}
-
-/// The same of a set of any size, which is loaded.
-fn region_loaded(
-    zones: &Zones,
-    group: Group,
-    i: usize,
-    first: &Region,
-    scratch: &mut Scratch,
-) -> Region
-    requires group { IsGroupNow zones.now.zones group }
-    requires within { i < group.length }
-    ensures { (set : RecordSet) × (slice_get (sets_in zones.now.zones group) i ≡ Some set)
-        × (result ≡ unwrap_or (region_of set.routing) first.now) }
-{
-    load_member(zones, group, i, scratch);
-    region_held(scratch, first)
-}
-
-/// The weight of the set that is held.
-fn weight_held(scratch: &Scratch, first: u8) -> u8
-    requires { IsHolding scratch.now }
-    ensures { IfSome scratch.now (λ set. result ≡ unwrap_or (weight_of set.routing) first) }
-{
-    weight_in(scratch.policy(), first)
-}
-
-/// The role of the set that is held.
-fn role_held(scratch: &Scratch, first: Role) -> Role
-    requires { IsHolding scratch.now }
-    ensures { IfSome scratch.now (λ set. result ≡ unwrap_or (role_of set.routing) first) }
-{
-    role_in(scratch.policy(), first)
-}
-
-/// The place of the set that is held.
-fn place_held(scratch: &Scratch, first: &Place) -> Place
-    requires { IsHolding scratch.now }
-    ensures { IfSome scratch.now (λ set. result ≡ unwrap_or (place_of set.routing) first.now) }
-{
-    place_in(scratch.policy(), first)
-}
-
-/// The region of the set that is held.
-fn region_held(scratch: &Scratch, first: &Region) -> Region
-    requires { IsHolding scratch.now }
-    ensures { IfSome scratch.now (λ set. result ≡ unwrap_or (region_of set.routing) first.now) }
-{
-    region_in(scratch.policy(), first)
+    zones.policy(member_at(group, slots, i), at, buffer)
 }
 
 /// Whether the set at a place of a group is healthy.

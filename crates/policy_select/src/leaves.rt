@@ -1,7 +1,7 @@
 //! The choices of the policies, over lists of what the sets of a group say.
 
-ghost use Rattle.std.specs.Prelude.{◌≡◌, ◌<◌, ◌≤◌};
-ghost use Rattle.std.specs.Option.{option_copied};
+ghost use Rattle.std.specs.Prelude.{◌≡◌, ◌<◌, ◌≤◌, IfSome, length};
+ghost use Rattle.std.specs.Option.{option_copied, option_map};
 ghost use Rattle.answer_model.specs.Choice.{each};
 ghost use Rattle.answer_model.specs.Policies.{location_of, place_of, region_of, role_of, weight_of};
 ghost use Rattle.answer_model.specs.Location.{scope_in, told_in};
@@ -14,13 +14,15 @@ ghost use Rattle.multivalue.specs.Choice.{chosen as several_chosen};
 ghost use Rattle.weighted.specs.Choice.{chosen as weight_chosen};
 ghost use Rattle.zone_table.specs.Looking.{IsGroupNow};
 ghost use Rattle.policy_select.specs.Members.{PoliciesAreAt};
+ghost use Rattle.policy_select.specs.Nearby.{noted};
 ghost use Rattle.policy_select.specs.Groups.{flags_in, sets_in};
 ghost use Rattle.policy_select.specs.Rules.{FirstSays};
 
 use crate::client::{latencies_of, location_of};
 use crate::lists::{
-    note_healthy, note_locations, note_places, note_regions, note_roles, note_weights,
+    note_healthy, note_locations, note_near, note_regions, note_roles, note_weights,
 };
+use crate::near::nearby_decide;
 use crate::view::HealthView;
 use address_text::IpAddress;
 use answer_model::Tables;
@@ -39,7 +41,6 @@ pub(crate) fn choose_weighted<V: HealthView>(
     first: u8,
     word: u64,
     at: usize,
-    scratch: &mut Scratch,
 ) -> usize
     requires group { IsGroupNow zones.now.zones group }
     requires at { PoliciesAreAt (sets_in zones.now.zones group) at }
@@ -54,7 +55,7 @@ pub(crate) fn choose_weighted<V: HealthView>(
     let slots = zones.slots_of(group);
     note_healthy(zones, group, slots, view, &mut healthy);
     let mut weights = [0; GROUP];
-    note_weights(zones, group, slots, at, first, scratch, &mut weights);
+    note_weights(zones, group, slots, at, first, &mut weights);
     weighted::choose(&weights[..group.length], &healthy[..group.length], word)
 }
 
@@ -65,7 +66,6 @@ pub(crate) fn choose_failover<V: HealthView>(
     view: &V,
     first: Role,
     at: usize,
-    scratch: &mut Scratch,
 ) -> usize
     requires group { IsGroupNow zones.now.zones group }
     requires at { PoliciesAreAt (sets_in zones.now.zones group) at }
@@ -80,7 +80,7 @@ pub(crate) fn choose_failover<V: HealthView>(
     let slots = zones.slots_of(group);
     note_healthy(zones, group, slots, view, &mut healthy);
     let mut roles = [first; GROUP];
-    note_roles(zones, group, slots, at, first, scratch, &mut roles);
+    note_roles(zones, group, slots, at, first, &mut roles);
     failover::choose(&roles[..group.length], &healthy[..group.length])
 }
 
@@ -93,31 +93,48 @@ pub(crate) fn choose_place<V: HealthView>(
     tables: &Tables,
     client: IpAddress,
     at: usize,
-    scratch: &mut Scratch,
 ) -> (Option<usize>, u8)
     requires group { IsGroupNow zones.now.zones group }
     requires at { PoliciesAreAt (sets_in zones.now.zones group) at }
     requires first { FirstSays place_of first.now (sets_in zones.now.zones group) }
-    requires some { 0 < group.length }
     requires few { group.length ≤ 100 }
     ensures place { result.0
         ≡ place_chosen (each place_of first.now (sets_in zones.now.zones group))
         (flags_in zones.now.zones (V.test view.now) group) (told_in tables.now.places client) }
     ensures scope { result.1 ≡ scope_in tables.now.places client }
 {
-    let mut healthy = [false; GROUP];
+    nearby_decide();
+    let (location, scope) = location_of(tables, client);
     let slots = zones.slots_of(group);
-    note_healthy(zones, group, slots, view, &mut healthy);
     // Of zeros, which are made at once.
     let mut places = [Place::Continent(Continent::Af); GROUP];
-    note_places(zones, group, slots, at, first, scratch, &mut places);
-    let (location, scope) = location_of(tables, client);
-    let place = answer_model::choose_place(
-        &places[..group.length],
-        &healthy[..group.length],
+    let mut healthy = [false; GROUP];
+    let mut sets = [0; GROUP];
+    let count = note_near(
+        zones,
+        group,
+        slots,
+        view,
+        at,
+        first,
         location,
+        &mut places,
+        &mut healthy,
+        &mut sets,
     );
-    (place, scope)
+    let nearest = answer_model::choose_place(&places[..count], &healthy[..count], location);
+    (place_noted(nearest, &sets[..count]), scope)
+}
+
+/// The place in the group of a noted set.
+fn place_noted(place: Option<usize>, sets: &[usize]) -> Option<usize>
+    requires { IfSome place (λ k. k < length sets.now) }
+    ensures { result ≡ option_map (noted sets.now) place }
+{
+    match place {
+        Some(k) => Some(sets[k]),
+        None => None,
+    }
 }
 
 /// Chooses from a latency group, and tells the scope of the client's latencies.
@@ -129,7 +146,6 @@ pub(crate) fn choose_region<V: HealthView>(
     tables: &Tables,
     client: IpAddress,
     at: usize,
-    scratch: &mut Scratch,
 ) -> (usize, u8)
     requires group { IsGroupNow zones.now.zones group }
     requires at { PoliciesAreAt (sets_in zones.now.zones group) at }
@@ -146,7 +162,7 @@ pub(crate) fn choose_region<V: HealthView>(
     let slots = zones.slots_of(group);
     note_healthy(zones, group, slots, view, &mut healthy);
     let mut regions = [*first; GROUP];
-    note_regions(zones, group, slots, at, first, scratch, &mut regions);
+    note_regions(zones, group, slots, at, first, &mut regions);
     let (latencies, scope) = latencies_of(tables, client);
     let place = answer_model::choose_region(
         &regions[..group.length],

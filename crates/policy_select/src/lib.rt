@@ -9,6 +9,7 @@ mod few;
 mod group;
 mod leaves;
 mod lists;
+mod near;
 mod parts;
 mod places;
 mod rules;

@@ -5,13 +5,17 @@ ghost use Rattle.std.specs.Prelude.{◌≡◌, ◌<◌, ◌≤◌, length, take}
 ghost use Rattle.answer_model.specs.Choice.{each};
 ghost use Rattle.answer_model.specs.Policies.{location_of, place_of, region_of, role_of, weight_of};
 ghost use Rattle.zone_table.specs.Looking.{IsGroupNow, slots_in};
+ghost use Rattle.std.specs.Option.{option_copied};
 ghost use Rattle.policy_select.specs.Members.{AreMembers};
+ghost use Rattle.policy_select.specs.Nearby.{AreNoted};
 ghost use Rattle.policy_select.specs.Groups.{flags_in, sets_in};
 ghost use Rattle.policy_select.specs.Rules.{FirstSays};
 
-use crate::group::{is_member_healthy, place_at, region_at, role_at, routing_at, weight_at};
-use crate::parts::location_or;
+use crate::group::{MOST, is_member_healthy, policy_front, policy_octets, routing_at};
+use crate::near::country_of;
+use crate::parts::{is_elsewhere_in, location_or, place_in, region_in, role_in, weight_in};
 use crate::view::HealthView;
+use answer_model::Location;
 use routing::{Place, Region, Role};
 use zone_table::{Group, Ident, Scratch, Zones};
 
@@ -42,7 +46,6 @@ pub(crate) fn note_weights(
     slots: &[u32],
     at: usize,
     first: u8,
-    scratch: &mut Scratch,
     weights: &mut [u8],
 )
     requires group { IsGroupNow zones.now.zones group }
@@ -54,9 +57,13 @@ pub(crate) fn note_weights(
         ≡ each weight_of first (sets_in zones.now.zones group) }
     ensures size { length weights.new ≡ length weights.old }
 {
+    let mut buffer = [0; MOST];
     weights[0] = first;
     for i in 1..group.length {
-        weights[i] = weight_at(zones, group, slots, at, i, first, scratch);
+        weights[i] = weight_in(
+            policy_octets(zones, group, slots, at, i, &mut buffer),
+            first,
+        );
     }
 }
 
@@ -67,7 +74,6 @@ pub(crate) fn note_roles(
     slots: &[u32],
     at: usize,
     first: Role,
-    scratch: &mut Scratch,
     roles: &mut [Role],
 )
     requires group { IsGroupNow zones.now.zones group }
@@ -79,35 +85,61 @@ pub(crate) fn note_roles(
         ≡ each role_of first (sets_in zones.now.zones group) }
     ensures size { length roles.new ≡ length roles.old }
 {
+    let mut buffer = [0; MOST];
     roles[0] = first;
     for i in 1..group.length {
-        roles[i] = role_at(zones, group, slots, at, i, first, scratch);
+        roles[i] = role_in(
+            policy_octets(zones, group, slots, at, i, &mut buffer),
+            first,
+        );
     }
 }
 
-/// Notes the places of a group.
-pub(crate) fn note_places(
+/// Notes of a geolocation group the sets that may apply to the client, which a set for another
+/// country doesn't: their places, which of them are healthy, and where they stand in the group. The
+/// answer is how many they are. Nobody is asked for the health of the others.
+pub(crate) fn note_near<V: HealthView>(
     zones: &Zones,
     group: Group,
     slots: &[u32],
+    view: &V,
     at: usize,
     first: &Place,
-    scratch: &mut Scratch,
+    client: Option<&Location>,
     places: &mut [Place],
-)
+    healthy: &mut [bool],
+    sets: &mut [usize],
+) -> usize
     requires group { IsGroupNow zones.now.zones group }
     requires slots { AreMembers zones.now.zones group slots.now at }
-    requires first { FirstSays place_of first.now (sets_in zones.now.zones group) }
-    requires some { 0 < group.length }
-    requires room { group.length ≤ length places.old }
-    ensures noted { take group.length places.new
-        ≡ each place_of first.now (sets_in zones.now.zones group) }
-    ensures size { length places.new ≡ length places.old }
+    requires places { group.length ≤ length places.old }
+    requires healthy { group.length ≤ length healthy.old }
+    requires sets { group.length ≤ length sets.old }
+    ensures noted { AreNoted (option_copied client.entry)
+        (each place_of first.now (sets_in zones.now.zones group))
+        (flags_in zones.now.zones (V.test view.now) group)
+        (take result places.new) (take result healthy.new) (take result sets.new) }
+    ensures count { result ≤ group.length }
+    ensures places { length places.new ≡ length places.old }
+    ensures healthy { length healthy.new ≡ length healthy.old }
+    ensures sets { length sets.new ≡ length sets.old }
 {
-    places[0] = *first;
-    for i in 1..group.length {
-        places[i] = place_at(zones, group, slots, at, i, first, scratch);
+    let country = country_of(client);
+    let mut buffer = [0; MOST];
+    let mut count = 0;
+    for i in 0..group.length {
+        if is_elsewhere_in(policy_front(zones, group, slots, at, i), country) {
+            continue;
+        }
+        places[count] = place_in(
+            policy_octets(zones, group, slots, at, i, &mut buffer),
+            first,
+        );
+        healthy[count] = is_member_healthy(zones, group, slots, view, i);
+        sets[count] = i;
+        count += 1;
     }
+    count
 }
 
 /// Notes the regions of a group.
@@ -117,7 +149,6 @@ pub(crate) fn note_regions(
     slots: &[u32],
     at: usize,
     first: &Region,
-    scratch: &mut Scratch,
     regions: &mut [Region],
 )
     requires group { IsGroupNow zones.now.zones group }
@@ -129,9 +160,13 @@ pub(crate) fn note_regions(
         ≡ each region_of first.now (sets_in zones.now.zones group) }
     ensures size { length regions.new ≡ length regions.old }
 {
+    let mut buffer = [0; MOST];
     regions[0] = *first;
     for i in 1..group.length {
-        regions[i] = region_at(zones, group, slots, at, i, first, scratch);
+        regions[i] = region_in(
+            policy_octets(zones, group, slots, at, i, &mut buffer),
+            first,
+        );
     }
 }
 

@@ -12,10 +12,12 @@ ghost use Rattle.routing.specs.declared.policies.Place.TheVariants.{Subdivision}
 ghost use Rattle.routing.specs.declared.policies.Role.{Role};
 ghost use Rattle.routing.specs.declared.policies.Routing.{Routing};
 ghost use Rattle.routing.specs.declared.policies.Routing.TheVariants as policy;
+ghost use Rattle.policy_select.specs.Nearby.{IsOtherCountry};
 ghost use Rattle.zone_table.specs.Octets.{IsSpelledRouting, continent_number, place_octets};
 ghost use Rattle.zone_table.specs.Octets.{role_number, routing_octets, text_octets};
 ghost use Rattle.zone_table.specs.SetsOfSetReading.{IsPlace, IsRouting};
 
+use crate::near::code_number;
 use answer_model::locations_are_names;
 use routing::{Continent, Place, Region, Role, Routing};
 use zone_table::{Ident, behind_text, fields_are_read, region_at, sub_at};
@@ -41,6 +43,35 @@ pub(crate) fn is_whole(octets: &[u8]) -> bool
         [3, size, ..] => octets.len() >= usize::from(*size) + 9,
         _ => false,
     }
+}
+
+/// Whether a policy that begins here is for a country other than the one of this number. It may end
+/// behind the octets; where its country does, this isn't told.
+#[inline(always)]
+pub(crate) fn is_elsewhere_in(octets: &[u8], country: u32) -> bool
+    ensures { (routing : Routing) (rest : List ℕ) (n : ℕ) → IsRouting routing
+        → octets.now ≡ take n (routing_octets routing ++ rest) → IsTrue result
+        → (first : Place) → IsOtherCountry country (unwrap_or (place_of routing) first) }
+{
+    match octets {
+        [3, size, others @ ..] => is_other_country(others, *size, country),
+        _ => false,
+    }
+}
+
+/// Whether a place that stands so far behind the front is a country other than the one of this
+/// number.
+#[inline(always)]
+fn is_other_country(octets: &[u8], at: u8, country: u32) -> bool
+    ensures { (ident rest : List ℕ) (place : Place) (n : ℕ) → IsPlace place → at ≡ length ident
+        → octets.now ≡ take n (ident ++ (place_octets place ++ rest)) → IsTrue result
+        → IsOtherCountry country place }
+{
+    let at = usize::from(at);
+    if octets.len() < at + 3 {
+        return false;
+    }
+    octets[at] == 2 && code_number(octets[at + 1], octets[at + 2]) != country
 }
 
 /// The weight in a policy at the front.

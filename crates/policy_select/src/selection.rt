@@ -36,7 +36,7 @@ pub enum Selected {
 
 /// Chooses from a group of 1 to 100 sets by its policy.
 ///
-/// The scratch holds some set of the group then.
+/// The scratch holds the first set of the group then.
 pub fn select<V: HealthView>(
     zones: &Zones,
     group: Group,
@@ -71,7 +71,7 @@ pub fn select<V: HealthView>(
 }
 
 /// Chooses from a group by the policy of its first set, and notes what the choice used, and what it
-/// saw in the tables.
+/// saw in the tables. The scratch holds the first set, before and after.
 pub(crate) fn choose<V: HealthView>(
     rule: &Rule,
     zones: &Zones,
@@ -93,6 +93,7 @@ pub(crate) fn choose<V: HealthView>(
     requires first { (set : RecordSet)
         × (slice_get (sets_in zones.now.zones group) 0 ≡ Some set)
         × IsOf rule.now set.routing }
+    requires held { scratch.old ≡ slice_get (sets_in zones.now.zones group) 0 }
     ensures selected { result
         ≡ choice_of zones.now.zones (V.test view.now)
         (client_at tables.now zones.now.collections.list client) group word }
@@ -100,32 +101,26 @@ pub(crate) fn choose<V: HealthView>(
         ≡ group_uses (client_at tables.now zones.now.collections.list client)
         (sets_in zones.now.zones group) used.old }
     ensures seen { IsSeen tables.now client seen.new }
+    ensures held { scratch.new ≡ scratch.old }
 {
     match rule {
         Rule::Simple => one(group, 0),
         Rule::Weighted(weight) => {
             one(
                 group,
-                choose_weighted(zones, group, view, *weight, word, at, scratch),
+                choose_weighted(zones, group, view, *weight, word, at),
             )
         }
-        Rule::Failover(role) => {
-            one(
-                group,
-                choose_failover(zones, group, view, *role, at, scratch),
-            )
-        }
+        Rule::Failover(role) => { one(group, choose_failover(zones, group, view, *role, at)) }
         Rule::Geolocation(place) => {
             used.places = true;
-            let (set, scope) = choose_place(zones, group, view, place, tables, client, at, scratch);
+            let (set, scope) = choose_place(zones, group, view, place, tables, client, at);
             seen.places = Some(scope);
             one_or_none(group, set)
         }
         Rule::Latency(region) => {
             used.latencies = true;
-            let (set, scope) = choose_region(
-                zones, group, view, region, tables, client, at, scratch,
-            );
+            let (set, scope) = choose_region(zones, group, view, region, tables, client, at);
             seen.latencies = Some(scope);
             one(group, set)
         }
@@ -133,10 +128,9 @@ pub(crate) fn choose<V: HealthView>(
         Rule::Cidr(id, location) => {
             let (block, scope) = block_of(zones.collections(), *id, client);
             used.blocks = used.blocks.max(scope);
-            one_or_none(
-                group,
-                choose_block(zones, group, view, location, block, scratch),
-            )
+            let set = choose_block(zones, group, view, location, block, scratch);
+            load_member(zones, group, 0, scratch);
+            one_or_none(group, set)
         }
     }
 }

@@ -1,5 +1,8 @@
+use Rattle.std.proofs.Common.{sym, ◌∙◌}
+use Rattle.answer_model.specs.Choice.{chosen}
 use Rattle.answer_model.specs.Clients.{client_at}
-use Rattle.policy_select.proofs.Choosing.{places_are}
+use Rattle.policy_select.specs.Groups.{flags_in, sets_in}
+use Rattle.policy_select.proofs.Choosing.{holds_front, places_are}
 use Rattle.policy_select.proofs.Policies.{by_held}
 use Rattle.policy_select.proofs.descent.choose_held.Goals as goal
 
@@ -9,12 +12,23 @@ choose-selected-requires-clause-at g c =
     by_held c.args.zones.now.zones c.args.group c.requires.group c.args.scratch.now first.0
     c.policy_place-at.result first.1 first.2 c.policy_place-at.ensures
 
-pub load_first-requires : goal.load_first-requires
-load_first-requires g c =
+pub load_first-requires-clause-there : goal.load_first-requires-clause-there
+load_first-requires-clause-there g c =
     places_are c.chosen_are_of_group.ensures c.args.zones.now.zones
     (g.V.HealthView.test c.args.view.now) c.args.group
     (client_at c.args.tables.now c.args.zones.now.collections.list c.args.client).rows c.args.word
     c.choose-selected.result c.choose-selected.ensures.selected c.requires.group
+
+pub load_first-requires-clause-front : goal.load_first-requires-clause-front
+load_first-requires-clause-front g c =
+    let zones = c.args.zones.now.zones in
+    let first = c.requires.first in
+    holds_front zones c.args.group
+    (chosen (sets_in zones c.args.group)
+    (flags_in zones (g.V.HealthView.test c.args.view.now) c.args.group)
+    (client_at c.args.tables.now c.args.zones.now.collections.list c.args.client).rows c.args.word)
+    c.choose-selected.result c.choose-selected.new.scratch c.choose-selected.ensures.selected
+    (c.choose-selected.ensures.held ∙ first.2 ∙ sym first.1)
 
 pub returns-clause-places : goal.returns-clause-places
 returns-clause-places g c =

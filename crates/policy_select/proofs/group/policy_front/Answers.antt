@@ -1,11 +1,9 @@
-use Rattle.std.proofs.Common.{drop, length}
 use Rattle.zone_table.proofs.Among.{among_at}
-use Rattle.zone_table.specs.Octets.{routing_octets}
 use Rattle.zone_table.specs.Spelling.{from_body}
 use Rattle.policy_select.specs.Groups.{sets_in}
 use Rattle.policy_select.proofs.Members.{named}
-use Rattle.policy_select.proofs.Policies.{in_slots, member_of, whole_front}
-use Rattle.policy_select.proofs.group.policy_at.Goals as goal
+use Rattle.policy_select.proofs.Policies.{in_slots, member_of}
+use Rattle.policy_select.proofs.group.policy_front.Goals as goal
 
 pub member_at-requires : goal.member_at-requires
 member_at-requires c =
@@ -15,8 +13,8 @@ member_at-requires c =
           c.requires.slots.are c.requires.within;
     }
 
-pub policy_front-front-requires : goal.policy_front-front-requires
-policy_front-front-requires c =
+pub policy_front-requires : goal.policy_front-requires
+policy_front-requires c =
     let zones = c.args.zones.now.zones in
     let ref = c.member_at.result in
     let m = named zones c.args.group c.args.i ref
@@ -24,24 +22,16 @@ policy_front-front-requires c =
     c.requires.within c.member_at.ensures.zone c.member_at.ensures.slot) c.requires.within in
     (m.set, m.names)
 
-pub returns-then-is_whole : goal.returns-then-is_whole
-returns-then-is_whole c =
+pub returns : goal.returns
+returns c =
     let zones = c.args.zones.now.zones in
     let ref = c.member_at.result in
     let m = named zones c.args.group c.args.i ref
     (member_of zones c.args.group c.args.slots.now c.requires.slots.are c.args.i ref
     c.requires.within c.member_at.ensures.zone c.member_at.ensures.slot) c.requires.within in
-    let part = c.policy_front-front.ensures m.set m.names
-    (c.requires.slots.placed m.set (among_at (sets_in zones c.args.group) c.args.i m.set m.at)) in
-    let policy = routing_octets m.set.routing in (
+    let part = c.policy_front.ensures m.set m.names
+    (c.requires.slots.placed m.set (among_at (sets_in zones c.args.group) c.args.i m.set m.at)) in (
       m.set,
       m.at,
-      record {
-        is = part.is.routing;
-        rest = drop (length policy) c.policy_front-front.result.now;
-        same =
-            whole_front c.policy_front-front.result.now policy (from_body m.set) _ part.same
-            (c.is_whole.ensures m.set.routing (from_body m.set) _ part.is.routing part.same
-            c.if-is_whole.true);
-      },
+      record { is = part.is.routing; rest = from_body m.set; size = _; same = part.same },
     )

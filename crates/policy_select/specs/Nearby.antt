@@ -1,0 +1,46 @@
+-- The sets of a geolocation group that may apply to a client, and those that are for another country.
+use Rattle.std.specs.Prelude.{◌≡◌, ◌≢◌, ◌<◌, ℕ, Bool, false, Option, List, [], ◌∷◌, length, map}
+use Rattle.std.specs.Option.{option_map}
+use Rattle.std.proofs.Math.ListN.{get_or}
+use Rattle.considered_sets.specs.Considered.{places_from}
+use Rattle.geo_latency.specs.Nearest.{code_number}
+use Rattle.geo_latency.specs.Places.{chosen, in_order}
+use Rattle.geo_latency.specs.declared.location.Location.{Location}
+use Rattle.routing.specs.declared.policies.Place.{Place}
+use Rattle.routing.specs.declared.policies.Place.TheVariants.{Country}
+
+-- a place of a group, by its number among the noted sets
+abbrev pub noted : (sets : List ℕ) → ℕ → ℕ
+noted sets k = get_or sets k 0
+
+-- a place is a country other than the one of this number
+abbrev pub IsOtherCountry : (country : ℕ) → Place → Type 0
+IsOtherCountry country place =
+    (letters : List ℕ) × (place ≡ Country letters) × (code_number letters ≢ country)
+
+-- Alone in a group, a set with this place would not answer the client.
+abbrev pub IsElsewhere : Option Location → Place → Type 0
+IsElsewhere client place = in_order client (place ∷ []) ≡ []
+
+-- A test of places that only those pass that answer the client.
+abbrev pub IsForClient : Option Location → (Place → Bool) → Type 0
+IsForClient client test = (place : Place) → IsElsewhere client place → test place ≡ false
+
+-- Of some sets with these places and flags those that may apply are noted: their places, their flags, and
+-- where they stand. The others don't apply to the client.
+pub record AreNoted (client : Option Location) (places : List Place) (flags : List Bool)
+    (near : List Place) (healthy : List Bool) (sets : List ℕ) : Type 0 where
+  pub as_many_flags : length flags ≡ length places
+  pub as_many_healthy : length healthy ≡ length near
+  pub as_many_sets : length sets ≡ length near
+  pub apply : (test : Place → Bool) → IsForClient client test
+      → places_from 0 (map test places) ≡ map (noted sets) (places_from 0 (map test near))
+  pub within : (k : ℕ) → k < length near → noted sets k < length places
+  pub said : (k : ℕ) → k < length near → get_or flags (noted sets k) false ≡ get_or healthy k false
+
+-- The choice among all of them is that among the noted ones: it doesn't depend on the health of the others.
+abbrev pub NearbyDecide : Type 0
+NearbyDecide = (client : Option Location) (places : List Place) (flags : List Bool)
+    (near : List Place) (healthy : List Bool) (sets : List ℕ)
+    → AreNoted client places flags near healthy sets
+    → chosen places flags client ≡ option_map (noted sets) (chosen near healthy client)

@@ -1,0 +1,45 @@
+//! The sets of a geolocation group that may apply to a client. The others, which are for another
+//! country, don't decide.
+
+ghost use Rattle.std.specs.Prelude.{◌≡◌, ◌∷◌, []};
+ghost use Rattle.std.specs.Option.{option_copied};
+ghost use Rattle.geo_latency.specs.Nearest.{code_number, wanted};
+ghost use Rattle.policy_select.specs.Nearby.{NearbyDecide};
+
+use answer_model::Location;
+
+/// The choice among the sets of a group is that among those that may apply to the client; it does
+/// nothing.
+pub(crate) fn nearby_decide()
+    ensures { NearbyDecide }
+{}
+
+/// The number of the client's country, and one that no country has where none is told.
+#[inline(always)]
+pub(crate) fn country_of(client: Option<&Location>) -> u32
+    ensures { result ≡ wanted (option_copied client.entry) }
+{
+    let Some(client) = client else {
+        return 65_536;
+    };
+    match &client.country {
+        Some(code) => number_of(code),
+        None => 65_536,
+    }
+}
+
+/// The number of a country's code.
+#[inline(always)]
+fn number_of(code: &[u8; 2]) -> u32
+    ensures { result ≡ code_number code.now }
+{
+    code_number(code[0], code[1])
+}
+
+/// The number of a country whose code has these letters.
+#[inline(always)]
+pub(crate) fn code_number(first: u8, second: u8) -> u32
+    ensures { result ≡ code_number (first ∷ second ∷ []) }
+{
+    u32::from(first) + u32::from(second) * 256
+}
