@@ -13,7 +13,7 @@ ghost use Rattle.multivalue.specs.Answer.{picked};
 ghost use Rattle.multivalue.specs.Choice.{chosen as several_chosen};
 ghost use Rattle.weighted.specs.Choice.{chosen as weight_chosen};
 ghost use Rattle.zone_table.specs.Looking.{IsGroupNow};
-ghost use Rattle.policy_select.specs.Members.{PoliciesAreAt};
+ghost use Rattle.policy_select.specs.Members.{AreMembers, PoliciesAreAt};
 ghost use Rattle.policy_select.specs.Nearby.{noted};
 ghost use Rattle.policy_select.specs.Groups.{flags_in, sets_in};
 ghost use Rattle.policy_select.specs.Rules.{FirstSays};
@@ -25,13 +25,17 @@ use crate::lists::{
 use crate::near::nearby_decide;
 use crate::view::HealthView;
 use address_text::IpAddress;
-use answer_model::Tables;
+use answer_model::{Latencies, Tables};
 use multivalue::Picked;
 use routing::{Continent, Place, Region, Role};
 use zone_table::{Group, Ident, Scratch, Zones};
 
 /// The most sets of a group (Route 53 quotas).
 const GROUP: usize = 100;
+
+/// The sets of most groups. Room for the regions of more takes thousands of octets, which are all
+/// filled.
+const FEW: usize = 24;
 
 /// Chooses from a weighted group.
 pub(crate) fn choose_weighted<V: HealthView>(
@@ -158,18 +162,65 @@ pub(crate) fn choose_region<V: HealthView>(
         (told_in tables.now.latencies client) }
     ensures scope { result.1 ≡ scope_in tables.now.latencies client }
 {
-    let mut healthy = [false; GROUP];
-    let slots = zones.slots_of(group);
-    note_healthy(zones, group, slots, view, &mut healthy);
-    let mut regions = [*first; GROUP];
-    note_regions(zones, group, slots, at, first, &mut regions);
     let (latencies, scope) = latencies_of(tables, client);
-    let place = answer_model::choose_region(
+    let slots = zones.slots_of(group);
+    if group.length <= FEW {
+        let mut regions = [*first; FEW];
+        let set = nearest_region(
+            zones,
+            group,
+            slots,
+            view,
+            first,
+            latencies,
+            at,
+            &mut regions,
+        );
+        return (set, scope);
+    }
+    let mut regions = [*first; GROUP];
+    let set = nearest_region(
+        zones,
+        group,
+        slots,
+        view,
+        first,
+        latencies,
+        at,
+        &mut regions,
+    );
+    (set, scope)
+}
+
+/// Chooses from a latency group by the latencies of the client, in room for the regions.
+fn nearest_region<V: HealthView>(
+    zones: &Zones,
+    group: Group,
+    slots: &[u32],
+    view: &V,
+    first: &Region,
+    latencies: Option<&Latencies>,
+    at: usize,
+    regions: &mut [Region],
+) -> usize
+    requires group { IsGroupNow zones.now.zones group }
+    requires slots { AreMembers zones.now.zones group slots.now at }
+    requires first { FirstSays region_of first.now (sets_in zones.now.zones group) }
+    requires some { 0 < group.length }
+    requires few { group.length ≤ 100 }
+    requires room { group.length ≤ length regions.old }
+    ensures { result
+        ≡ region_chosen (each region_of first.now (sets_in zones.now.zones group))
+        (flags_in zones.now.zones (V.test view.now) group) (option_copied latencies.entry) }
+{
+    let mut healthy = [false; GROUP];
+    note_healthy(zones, group, slots, view, &mut healthy);
+    note_regions(zones, group, slots, at, first, regions);
+    answer_model::choose_region(
         &regions[..group.length],
         &healthy[..group.length],
         latencies,
-    );
-    (place, scope)
+    )
 }
 
 /// Chooses from a multivalue answer group.
