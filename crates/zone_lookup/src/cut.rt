@@ -13,6 +13,7 @@ use rdata_layout::RType;
 
 /// The NS sets of the zone cut above or at a name of a zone: of those below the apex it is the one
 /// nearest the apex. Most zones have none, and no name is looked up then.
+#[inline(always)]
 pub fn cut_above(zones: &Zones, zone: u32, apex: &Name, name: &Name) -> Option<Group>
     requires there { IsApex zones.now.zones zone apex.now }
     requires inside { EndsWith name.now apex.now }
@@ -26,6 +27,8 @@ pub fn cut_above(zones: &Zones, zone: u32, apex: &Name, name: &Name) -> Option<G
 }
 
 /// The same for a name with so many labels below the apex.
+// Apart from the way that most queries take, which is inlined.
+#[inline(never)]
 fn cut_below(zones: &Zones, zone: u32, apex: &Name, name: &Name, labels: usize) -> Option<Group>
     requires inside { EndsWith name.now apex.now }
     requires labels { length name.now ≡ length apex.now + labels }

@@ -33,6 +33,7 @@ pub enum Found {
 
 /// The sets of a name by the number of their type, or where it has none of that type the place that
 /// it has in the zone.
+#[inline(always)]
 pub fn find_asked(zones: &Zones, zone: u32, name: &Name, qtype: u16) -> Found
     ensures { FindsAsked zones.now.zones zone name.now qtype result }
 {
