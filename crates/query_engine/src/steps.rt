@@ -2,7 +2,7 @@
 
 ghost use Rattle.std.specs.Prelude.{◌≡◌, ◌≢◌, ◌<◌, ◌≤◌, ◌+◌, ◌*◌, ◌∷◌, [], ℕ, Bool, List, Some};
 ghost use Rattle.std.specs.Prelude.{slice_get};
-ghost use Rattle.zone_lookup.specs.Descent.{descend as descended};
+ghost use Rattle.zone_lookup.specs.Descent.{Choices, descend as descended};
 ghost use Rattle.zone_lookup.specs.Records.{answer_records, data_of};
 ghost use Rattle.zone_lookup.specs.Sections.{asked as answered, asked_group, canonical, ends};
 ghost use Rattle.zone_lookup.specs.Sections.{look_up as found, step as step_at};
@@ -24,8 +24,8 @@ ghost use Rattle.zone_lookup.specs.Served.{AreServed};
 ghost use Rattle.zone_model.specs.Zones.{IsAmong, group};
 ghost use Rattle.zone_lookup.specs.Looking.{IsApex, IsGroupNow};
 ghost use Rattle.zone_lookup.specs.Seen.{IsSeen};
-ghost use Rattle.query_engine.specs.Asking.{Comes, EndsWell, HoldsCname, HoldsNext, IsEnd};
-ghost use Rattle.query_engine.specs.Asking.{EndsAs, asked_of, choices_of};
+ghost use Rattle.query_engine.specs.Asking.{Comes, EndsWell, HoldsCname, HoldsNext, IsCname};
+ghost use Rattle.query_engine.specs.Asking.{EndsAs, IsEnd, asked_of, choices_of};
 
 use crate::asking::{Asked, End, Next, Progress};
 use crate::ends::{answer_nodata, answer_nxdomain, answer_referral};
@@ -421,6 +421,8 @@ fn step<V: HealthView>(
 }
 
 /// Looks a name up, and answers, with so many CNAME records more at most.
+#[cycle(look_up)]
+#[inline(always)]
 pub(crate) fn look_up<V: HealthView>(
     most: u8,
     zones: &Zones,
@@ -450,31 +452,67 @@ pub(crate) fn look_up<V: HealthView>(
     zones.well_formed();
     match step(zones, view, tables, asked, name, progress, reply, scratch) {
         Next::Ends(end) => end,
-        Next::Follows(ttl) => {
-            if most == 0 {
-                return End { aa: true, rcode: 0 };
-            }
-            write_cname(name, ttl, reply, scratch);
-            let target = target_held(scratch);
-            if !is_held_by(zones, &target, asked.zone) {
-                return End { aa: true, rcode: 0 };
-            }
-            let end = look_up(
-                most - 1,
-                zones,
-                view,
-                tables,
-                asked,
-                &target,
-                progress,
-                reply,
-                scratch,
-            );
-            End {
-                aa: true,
-                rcode: end.rcode,
-            }
-        }
+        Next::Follows(ttl) => follow(
+            most, zones, view, tables, asked, name, ttl, progress, reply, scratch,
+        ),
+    }
+}
+
+/// Writes the CNAME record to which a name came, whose set is held, and answers by what its target
+/// comes to.
+// Apart from the way that most queries take: it copies names.
+#[cycle(look_up)]
+#[inline(never)]
+fn follow<V: HealthView>(
+    most: u8,
+    zones: &Zones,
+    view: &V,
+    tables: &Tables,
+    asked: &Asked,
+    name: &Name,
+    ttl: u32,
+    progress: &mut Progress,
+    reply: &mut Reply,
+    scratch: &mut Scratch,
+) -> End
+    requires served { AreServed zones.now.zones }
+    requires there { IsApex zones.now.zones asked.now.zone asked.now.apex.now }
+    requires held { HoldsCname scratch.old }
+    requires room { progress.old.count + 17 * most ≤ 255 }
+    requires seen { IsSeen tables.now asked.now.client progress.old.seen }
+    requires open { IsOpen Answer reply.old }
+    ensures found { (healthy : ℕ → SetKey → Bool) (choices : Choices)
+        → Agrees zones.now.zones (V.test view.now) healthy
+        → IsCname (step_at (asked_of zones.now.zones zones.now.collections.list healthy tables.now
+        asked.now) name.now choices) name.now scratch.old ttl (choices_of progress.old)
+        → EndsAs (found most (asked_of zones.now.zones zones.now.collections.list healthy tables.now
+        asked.now) name.now choices)
+        reply.old reply.new result progress.new.used }
+    ensures rcode { result.rcode < 16 }
+    ensures seen { IsSeen tables.now asked.now.client progress.new.seen }
+{
+    if most == 0 {
+        return End { aa: true, rcode: 0 };
+    }
+    write_cname(name, ttl, reply, scratch);
+    let target = target_held(scratch);
+    if !is_held_by(zones, &target, asked.zone) {
+        return End { aa: true, rcode: 0 };
+    }
+    let end = look_up(
+        most - 1,
+        zones,
+        view,
+        tables,
+        asked,
+        &target,
+        progress,
+        reply,
+        scratch,
+    );
+    End {
+        aa: true,
+        rcode: end.rcode,
     }
 }
 

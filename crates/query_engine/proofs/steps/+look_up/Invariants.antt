@@ -1,4 +1,8 @@
+use Rattle.std.proofs.Common.{◌+◌, ◌*◌}
 use Rattle.query_engine.proofs.steps.+look_up.Given as goal
 
 abbrev pub decreases-look_up : goal.decreases-look_up
-decreases-look_up g l = l.most
+decreases-look_up g l = 2 * l.most + 1
+
+abbrev pub decreases-follow : goal.decreases-follow
+decreases-follow g l = 2 * l.most
