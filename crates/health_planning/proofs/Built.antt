@@ -200,6 +200,7 @@ module _ (zones : List Zone) (list : List (ℕ × Check)) (refs : List SetRef)
                 rtype = g.1.rtype;
                 members = g.1.members;
                 are = g.1.are;
+                led = g.1.led;
                 here = g.1.here;
                 each = g.1.each;
                 only = g.1.only;

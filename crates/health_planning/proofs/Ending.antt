@@ -145,11 +145,11 @@ module _ (zones : List Zone) (checks : Checks) (seats : List Seat) (net : Net) (
     IsGate gate node = IsGateFor zones checks.list seats net own gate node
 
     -- a node, whose gate feeds that of another
-    record IsFeeder (gate : ℕ) (m : Node) : Type 0 where
-      there : IsNode watched m
-      node : Node
-      its : IsGate gate node
-      feeds : Contains (feeders watched m) node
+    pub record IsFeeder (gate : ℕ) (m : Node) : Type 0 where
+      pub there : IsNode watched m
+      pub node : Node
+      pub its : IsGate gate node
+      pub feeds : Contains (feeders watched m) node
 
     -- the gate of a check that is there
     check_gate : (id gate : ℕ) → IsId checks.list id → gate ≡ place_of its_ids id
@@ -262,7 +262,7 @@ module _ (zones : List Zone) (checks : Checks) (seats : List Seat) (net : Net) (
         }
 
     -- what feeds the gate of a node is the gate of one that feeds the node
-    feeder : (gate x : ℕ) (m : Node) → IsGate gate m → Feeds net x gate → IsFeeder x m
+    pub feeder : (gate x : ℕ) (m : Node) → IsGate gate m → Feeds net x gate → IsFeeder x m
     feeder gate x (CheckNode id) (check, at) m = feeds_check id gate check x at m
     feeder gate x (SetNode zone set) (slot, (here, seat)) m =
         feeds_set zone (record { slot = slot; set = set }) gate x here seat m

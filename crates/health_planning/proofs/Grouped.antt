@@ -12,7 +12,7 @@ use Rattle.rdata_layout.specs.declared.types.RType.{RType}
 use Rattle.policy_select.specs.Zones.{Zone}
 use Rattle.zone_model.specs.Placed.{IsHere, Placed}
 use Rattle.health_planning.specs.Building.{AreBelow, AreGrouped, AreSeated, AreWithin, HasGroupGate, HasTarget, SameSets, group_shape, links_to}
-use Rattle.health_planning.specs.Wired.{AreMembers, HasSlot, TellGroup, gates_of, group_seat, check_seat, plain, plain_among, seat_of, with_gate}
+use Rattle.health_planning.specs.Wired.{AreMembers, HasSlot, IsLedTo, TellGroup, gates_of, group_seat, check_seat, plain, plain_among, seat_of, with_gate}
 use Rattle.health_planning.specs.declared.seats.Seat.{Seat}
 use Rattle.health_planning.proofs.ListedOnce.{last_at, still_at}
 
@@ -198,6 +198,7 @@ module _ (seats : List Seat) (shapes : List Shape) (links : List Link) (gate : �
           rtype = h.rtype;
           members = h.members;
           are = h.are;
+          led = h.led;
           here = h.here;
           each = λ p m. stays p.slot found (h.each p m);
           only = λ slot is. elim (slot_or_not members slot) [
@@ -228,14 +229,16 @@ module _ (seats : List Seat) (shapes : List Shape) (links : List Link) (gate : �
         let b = slice_get_within shapes gate (group_shape (plain_among seats g.members)) g.shape in
         omega arith
 
-    new_group : (from slot : ℕ) → AreGrouped zones from seats shapes links → HasSlot members slot
+    new_group : (from slot : ℕ) → IsLedTo zones zone name rtype
+        → AreGrouped zones from seats shapes links → HasSlot members slot
         → HasGroupGate zones seats_now shapes_now links_now slot gate
-    new_group from slot grouped here = record {
+    new_group from slot led grouped here = record {
       zone = zone;
       name = name;
       rtype = rtype;
       members = members;
       are = are;
+      led = led;
       here = here;
       each = tells;
       only = λ other is. elim (slot_or_not members other) [
@@ -247,14 +250,15 @@ module _ (seats : List Seat) (shapes : List Shape) (links : List Link) (gate : �
       fed = new_fed;
     }
 
-    pub grouped_more : (from : ℕ) → from ≤ length shapes → AreGrouped zones from seats shapes links
+    pub grouped_more : (from : ℕ) → from ≤ length shapes → IsLedTo zones zone name rtype
+        → AreGrouped zones from seats shapes links
         → AreGrouped zones from seats_now shapes_now links_now
-    grouped_more from least grouped = record {
+    grouped_more from least led grouped = record {
       gates = λ other found is. elim (slot_or_not members other) [
         | inl m ↦
             let its : group_seat seats_now other ≡ suc gate = ap (group_seat seats_now) (sym m.2) ∙ tells m.0 m.1 in
             let found_is : gate ≡ found = omega arith in
-            (omega arith, subst (HasGroupGate zones seats_now shapes_now links_now other) found_is (new_group from other grouped m))
+            (omega arith, subst (HasGroupGate zones seats_now shapes_now links_now other) found_is (new_group from other led grouped m))
         | inr none ↦
             let g = grouped.gates other found (sym (sits.others other none) ∙ is) in
             (g.0, old_group other found g.1)

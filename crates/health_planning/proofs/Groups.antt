@@ -5,7 +5,8 @@ use mathlib.Core.Path.{subst}
 use Rattle.health_gates.specs.declared.plan.Link.{Link}
 use Rattle.policy_select.specs.Groups.{members_of, sets_in, sets_in_zone}
 use Rattle.rdata_layout.specs.declared.types.RType.{RType}
-use Rattle.record_set.specs.declared.sets.Body.TheVariants.{Alias}
+use Rattle.record_set.specs.declared.sets.Body.{Body}
+use Rattle.record_set.specs.declared.sets.Body.TheVariants.{Alias, Values}
 use Rattle.record_set.specs.declared.sets.RecordSet.{RecordSet}
 use Rattle.policy_select.specs.Telling.{evaluates, target_in, target_of}
 use Rattle.policy_select.specs.Zones.{Zone, placed_in}
@@ -117,6 +118,24 @@ alone_told set some = by (evaluates set.body) set.check some
     by true check some = absurd (some refl)
     by false None some = absurd (some refl)
     by false (Some id) some = (refl, refl)
+
+-- an alias whose target's health counts leads to the target that was told
+pub leads_to : (set : RecordSet) (target : List (List ℕ) × RType) → evaluates set.body ≡ true
+    → target_of set ≡ Some target
+    → (set.body ≡ Alias target.0 true) × (set.rtype ≡ target.1)
+leads_to set target on told = by set.body on told
+  where
+    some_same : {X : Type 0} {x y : X} → Some x ≡ Some y → x ≡ y
+    some_same e = cc
+
+    by : (its : Body) → evaluates its ≡ true → target_in set.rtype its ≡ Some target
+        → (its ≡ Alias target.0 true) × (set.rtype ≡ target.1)
+    by (Values ttl values) on told = let no : ⊥ = cc in absurd no
+    by (Alias name evaluate) on told =
+        let same : ◌≡◌ {A = List (List ℕ) × RType} (name, set.rtype) target = some_same told in (
+          ap (λ (b : Bool). Alias name b) on ∙ ap (λ (t : List (List ℕ) × RType). Alias t.0 true) same,
+          ap (λ (t : List (List ℕ) × RType). t.1) same,
+        )
 
 -- the target that was told is the alias's
 pub told_target : (set : RecordSet) (name : List (List ℕ)) (target : List (List ℕ) × RType)

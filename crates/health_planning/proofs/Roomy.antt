@@ -26,7 +26,7 @@ use Rattle.policy_select.specs.GroupRecord.{Group}
 use Rattle.policy_select.specs.Tables.{HaveSlotsApart, HaveSlotsBelow}
 use Rattle.health_planning.specs.Building.{AreBelow, AreListed, AreSeated, AreWithin, group_shape, links_to}
 use Rattle.health_planning.specs.Rooms.{AreJoined, CanGroup, HasListRoom, HaveGatesApart}
-use Rattle.health_planning.specs.Wired.{AreMembers, check_seat, gates_of, group_seat, is_watched, only_check, plain_among, seat_of}
+use Rattle.health_planning.specs.Wired.{AreMembers, IsLedTo, check_seat, gates_of, group_seat, is_watched, only_check, plain_among, seat_of}
 use Rattle.health_planning.specs.declared.seats.Seat.{Seat}
 use Rattle.health_planning.proofs.Ending.{member_gate}
 use Rattle.health_planning.proofs.Few.{few_gates, few_listed, few_once, few_placed, gates_once, links_long, once_both, own_among}
@@ -229,9 +229,9 @@ module _ (zones : List Zone) (are_zones : AreZones zones) (apart : HaveSlotsApar
       ];
     }
 
-    pub can_more : (after : Planned) → after.shapes ≡ shapes_now → after.links ≡ links_now
-        → KeepsRoom plan after → CanGroup zones from base seats_now after
-    can_more after shapes links kept =
+    pub can_more : IsLedTo zones zone name rtype → (after : Planned) → after.shapes ≡ shapes_now
+        → after.links ≡ links_now → KeepsRoom plan after → CanGroup zones from base seats_now after
+    can_more led after shapes links kept =
         let longer = ap length shapes ∙ length-append plan.shapes (group_shape (plain_among seats members) ∷ []) in
         let as_long = sits.size in
         let least = can.least in
@@ -247,7 +247,7 @@ module _ (zones : List Zone) (are_zones : AreZones zones) (apart : HaveSlotsApar
           apart = λ first second found first_is second_is.
               can.apart first second found (sym (same.gates first) ∙ first_is) (sym (same.gates second) ∙ second_is);
           grouped = rw (shapes, links) (grouped_more seats plan.shapes plan.links gate members below links_within is_gate zones zone name rtype are bare
-              one in_one few seats_now sits from can.least can.grouped);
+              one in_one few seats_now sits from can.least led can.grouped);
           joined = rw links joined_now;
           gates_room = omega arith;
           links_room = omega arith;

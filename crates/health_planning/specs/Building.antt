@@ -21,7 +21,7 @@ use Rattle.policy_select.specs.Zones.{Zone, placed_in}
 use Rattle.policy_select.specs.SetRefRecord.{SetRef}
 use Rattle.zone_model.specs.Placed.{IsHere, Placed}
 use Rattle.policy_select.specs.Looking.{Names}
-use Rattle.health_planning.specs.Wired.{AreMembers, HasSlot, IsFirstIn, TellGroup, check_need, check_own, check_seat, gates_of, group_seat, ids_of, is_inverted, is_watched, only_check, place_of, plain_among, seat_of, with_gate}
+use Rattle.health_planning.specs.Wired.{AreMembers, HasSlot, IsFirstIn, IsLedTo, TellGroup, check_need, check_own, check_seat, gates_of, group_seat, ids_of, is_inverted, is_watched, only_check, place_of, plain_among, seat_of, with_gate}
 use Rattle.health_planning.specs.declared.seats.Seat.{Seat}
 
 -- some gates feed one
@@ -142,7 +142,8 @@ AreAsked zones whole known came = (zone : ℕ) (p : Placed) → IsHere (placed_i
 abbrev pub group_shape : (plains : ℕ) → Shape
 group_shape plains = record { need = 1; inverted = false; own = plains }
 
--- The gate of the group that has a set in a slot. No seat in another slot tells it.
+-- The gate of the group that has a set in a slot: an evaluated alias leads to that group. No seat in
+-- another slot tells it.
 pub record HasGroupGate (zones : List Zone) (seats : List Seat) (shapes : List Shape)
     (links : List Link) (slot gate : ℕ) : Type 0 where
   pub zone : ℕ
@@ -150,6 +151,7 @@ pub record HasGroupGate (zones : List Zone) (seats : List Seat) (shapes : List S
   pub rtype : RType
   pub members : List Placed
   pub are : AreMembers zones zone name rtype members
+  pub led : IsLedTo zones zone name rtype
   pub here : HasSlot members slot
   pub each : TellGroup seats members gate
   pub only : (other : ℕ) → group_seat seats other ≡ suc gate → HasSlot members other

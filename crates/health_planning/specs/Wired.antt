@@ -112,6 +112,11 @@ pub record AreMembers (zones : List Zone) (zone : ℕ) (name : List (List ℕ)) 
   pub sets : sets_of members ≡ group (sets_of (placed_in zones zone)) name rtype
   pub here : (p : Placed) → IsHere members p → IsHere (placed_in zones zone) p
 
+-- The group is the target group of an alias of the zone with Evaluate Target Health.
+abbrev pub IsLedTo : List Zone → (zone : ℕ) → (name : List (List ℕ)) → RType → Type 0
+IsLedTo zones zone name rtype = (p : Placed) × (IsHere (placed_in zones zone) p
+    × ((p.set.body ≡ body.Alias name true) × (p.set.rtype ≡ rtype)))
+
 -- the gates of those of some sets that have one, and how many have none
 abbrev pub with_gate : (seat : ℕ) → List ℕ → List ℕ
 with_gate zero gates = gates

@@ -1,4 +1,4 @@
-use Rattle.std.proofs.Common.{◌≡◌, ◌<◌, ◌≤◌, ◌^◌, ◌∷◌, ◌++◌, [], add-one, true, List, arith, ap, refl, sym, ◌∙◌, length, length-append}
+use Rattle.std.proofs.Common.{◌≡◌, ◌<◌, ◌≤◌, ◌^◌, ◌∷◌, ◌++◌, [], add-one, Bool, false, true, List, arith, ap, refl, sym, ◌∙◌, length, length-append}
 use Rattle.std.specs.Prelude.{not}
 use mathlib.Core.Path.{subst}
 use Rattle.std.proofs.lemmas.Bool.{false≢true}
@@ -10,11 +10,11 @@ use Rattle.policy_select.specs.Telling.{evaluates, target_of}
 use Rattle.zone_model.proofs.Among.{among_at}
 use Rattle.policy_select.specs.Looking.{Targets, Watches}
 use Rattle.health_planning.specs.Building.{group_shape, links_to}
-use Rattle.health_planning.specs.Wired.{check_seat, gates_of, group_seat, plain_among}
+use Rattle.health_planning.specs.Wired.{IsLedTo, check_seat, gates_of, group_seat, plain_among}
 use Rattle.health_planning.specs.declared.seats.Seat.{Seat}
 use Rattle.health_planning.proofs.Few.{few_plain}
 use Rattle.health_planning.proofs.Grouped.{feeders_now, stays, within_now}
-use Rattle.health_planning.proofs.Groups.{alias_alone, member_at, members_are, some_gate, told_target}
+use Rattle.health_planning.proofs.Groups.{alias_alone, leads_to, member_at, members_are, some_gate, told_target}
 use Rattle.health_planning.proofs.ListedOnce.{slot_below, still_at}
 use Rattle.health_planning.proofs.Roomy.{bare, can_more, gate_early, links_fit, members_few, members_own}
 use Rattle.health_planning.proofs.grouping.group_one.Goals as goal
@@ -63,6 +63,11 @@ returns-then-seat-ne0-clause-here c named name names is =
       seat = gate.1;
     })
 
+-- what isn't not so is so
+truth : (b : Bool) → not b ≡ false → b ≡ true
+truth true e = refl
+truth false e = absurd (false≢true (sym e))
+
 pub returns-clause-grouped : goal.returns-clause-grouped
 returns-clause-grouped c from base can =
     let zones = c.args.zones.now.zones in
@@ -96,9 +101,17 @@ returns-clause-grouped c from base can =
     let same_links = ap length c.push.ensures.links in
     let one = c.push.ensures.room in
     let same_room = c.push.ensures.links_room in
+    let w = subst (Watches zones c.args.set) c.in-Some.is c.watch.ensures in
+    let t = subst (Targets zones c.args.set) c.in-Some-target.is c.target.ensures in
+    let same = one_named zones c.args.set w.0 t.0 c.well_formed-2.ensures w.1 t.1 in
+    let on : evaluates t.0.body ≡ true =
+    ap (λ (s : RecordSet). evaluates s.body) (sym same) ∙ sym (ap (λ x. x.evaluates) w.2) ∙ truth c.in-Some.watch.evaluates c.if-not-watch.false in
+    let to = leads_to t.0 c.in-Some-target.target on t.2 in
+    let led : IsLedTo zones c.args.set.zone c.in-Some-target.target.0 c.in-Some-target.target.1 =
+    (record { slot = c.args.set.slot; set = t.0 }, (t.1, to)) in
     can_more zones c.well_formed-2.ensures c.slots_apart.ensures from base seats c.args.plan.now can c.len-gate.result c.args.set.zone
     c.in-Some-target.target.0 c.in-Some-target.target.1 members c.requires.below c.requires.within gate_is are first.p in_one within empty own few
-    c.seat_members.new.seats.items c.seat_members.ensures.seated
+    c.seat_members.new.seats.items c.seat_members.ensures.seated led
     c.join_members.new.plan shapes links (record { gates = omega arith; links = omega arith })
 
 pub returns-clause-here : goal.returns-clause-here
