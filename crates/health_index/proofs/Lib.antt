@@ -1,6 +1,7 @@
 pub mod Bare
 pub mod Commanding
 pub mod Costing
+pub mod Evaluating
 pub mod Keyed
 pub mod Knowing
 pub mod Moving

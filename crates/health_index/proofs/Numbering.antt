@@ -20,9 +20,9 @@ use Rattle.record_set.specs.declared.sets.Body.{Body}
 use Rattle.record_set.specs.declared.sets.Body.TheVariants as body
 use Rattle.record_set.specs.declared.sets.RecordSet.{RecordSet}
 use Rattle.zone_model.specs.Placed.{IsHere, Placed}
-use Rattle.health_index.specs.Index.{HasNumber, Index, IsNumberOf, StandsFor}
+use Rattle.health_index.specs.Index.{HasNumber, Index, IsLaidFor, IsNumberOf}
 use Rattle.health_index.specs.Laws.{NodesAreNumbered}
-use Rattle.health_planning.specs.Wired.{IsGateFor, IsTarget, group_seat, ids_of, is_watched, place_of, seat_of}
+use Rattle.health_planning.specs.Wired.{IsGateFor, IsLedTo, IsTarget, group_seat, ids_of, is_watched, place_of, seat_of}
 use Rattle.health_planning.proofs.Places.{found, held_there, id_there, one_place}
 use Rattle.health_planning.proofs.Wiring.{first_here, first_same, rising_in, same_names}
 
@@ -42,53 +42,53 @@ group_nodes zone other name name_two rtype rtype_two zones names rtypes =
     ∙ ap (GroupNode other name_two) rtypes
 
 module _ (zones : List Zone) (checks : Checks) (reports : List Report) (index : Index)
-    (stands : StandsFor zones checks reports index) where
+    (laid : IsLaidFor zones checks reports index) where
   pub of_gate : (number : ℕ) (node : Node)
-      → IsGateFor zones checks.list index.seats stands.net stands.own number node
+      → IsGateFor zones checks.list index.seats laid.net laid.own number node
       → IsNumberOf zones index number node
   of_gate number (CheckNode id) (check, at) =
-      ap (λ (l : List ℕ). slice_get l number) stands.ids ∙ id_there checks.list number id check at
+      ap (λ (l : List ℕ). slice_get l number) laid.ids ∙ id_there checks.list number id check at
   of_gate number (SetNode zone set) its = its
   of_gate number (GroupNode zone name rtype) (members, (are, w)) = (members, (are, w.seat))
 
   -- the gate of a set is there
   seat_there : (zone : ℕ) (p : Placed) (gate : ℕ) → IsHere (placed_in zones zone) p
-      → seat_of index.seats p.slot ≡ suc gate → gate < stands.net.size
+      → seat_of index.seats p.slot ≡ suc gate → gate < laid.net.size
   seat_there zone p gate here seat = by (is_watched p.set) refl
     where
-      by : (b : Bool) → is_watched p.set ≡ b → gate < stands.net.size
+      by : (b : Bool) → is_watched p.set ≡ b → gate < laid.net.size
       by false off =
-          let none = (stands.wired.its_sets zone p here).plain off in
+          let none = (laid.wired.its_sets zone p here).plain off in
           absurd (omega arith)
       by true on =
-          let g = (stands.wired.its_sets zone p here).gated on in
+          let g = (laid.wired.its_sets zone p here).gated on in
           let other = g.1 in
           let b = g.2.within in
           omega arith
 
   pub there : (number : ℕ) (node : Node) → IsNumberOf zones index number node
-      → number < stands.net.size
+      → number < laid.net.size
   there number (CheckNode id) at =
-      let held = held_there checks.list number id (subst (λ (l : List ℕ). slice_get l number ≡ Some id) stands.ids at) in
-      (stands.wired.its_checks number id held.0 held.1).within
+      let held = held_there checks.list number id (subst (λ (l : List ℕ). slice_get l number ≡ Some id) laid.ids at) in
+      (laid.wired.its_checks number id held.0 held.1).within
   there number (SetNode zone set) (slot, (here, seat)) =
       seat_there zone (record { slot = slot; set = set }) number here seat
   there number (GroupNode zone name rtype) (members, (are, seat)) =
-      stands.wired.its_groups seat.0 number seat.1.1
+      laid.wired.its_groups seat.0 number seat.1.1
 
   one_number : (a b : ℕ) (node : Node) → IsNumberOf zones index a node
       → IsNumberOf zones index b node → a ≡ b
   one_number a b (CheckNode id) first second =
-      let one = held_there checks.list a id (subst (λ (l : List ℕ). slice_get l a ≡ Some id) stands.ids first) in
-      let two = held_there checks.list b id (subst (λ (l : List ℕ). slice_get l b ≡ Some id) stands.ids second) in
-      one_place checks.list a b id one.0 two.0 stands.are_checks.rising one.1 two.1
+      let one = held_there checks.list a id (subst (λ (l : List ℕ). slice_get l a ≡ Some id) laid.ids first) in
+      let two = held_there checks.list b id (subst (λ (l : List ℕ). slice_get l b ≡ Some id) laid.ids second) in
+      one_place checks.list a b id one.0 two.0 laid.are_checks.rising one.1 two.1
   one_number a b (SetNode zone set) (s, (here, seat)) (t, (there_too, seat_two)) =
-      let p = one_of_key (placed_in zones zone) (rising_in zones stands.are_zones.each zone) (record { slot = s; set = set })
+      let p = one_of_key (placed_in zones zone) (rising_in zones laid.are_zones.each zone) (record { slot = s; set = set })
       (record { slot = t; set = set }) here there_too refl in
       let seats_same = ap (λ (q : Placed). seat_of index.seats q.slot) p in
       omega arith
   one_number a b (GroupNode zone name rtype) (xs, (are_xs, first)) (ys, (are_ys, second)) =
-      let same = first_same zones stands.are_zones zone name rtype xs ys first.0 second.0 are_xs first.1.0 are_ys second.1.0 in
+      let same = first_same zones laid.are_zones zone name rtype xs ys first.0 second.0 are_xs first.1.0 are_ys second.1.0 in
       let seats_same = ap (group_seat index.seats) same in
       let one = first.1.1 in
       let two = second.1.1 in
@@ -103,18 +103,18 @@ module _ (zones : List Zone) (checks : Checks) (reports : List Report) (index : 
       by : (b : Bool) → is_watched set ≡ b → is_watched set ≡ true
       by true on = on
       by false off =
-          let none = (stands.wired.its_sets zone (record { slot = slot; set = set }) here).plain off in
+          let none = (laid.wired.its_sets zone (record { slot = slot; set = set }) here).plain off in
           absurd (omega arith)
 
   check_early : (number id : ℕ) → IsNumberOf zones index number (CheckNode id)
       → number < length (ids_of checks.list)
   check_early number id at =
-      slice_get_within (ids_of checks.list) number id (subst (λ (l : List ℕ). slice_get l number ≡ Some id) stands.ids at)
+      slice_get_within (ids_of checks.list) number id (subst (λ (l : List ℕ). slice_get l number ≡ Some id) laid.ids at)
 
   set_late : (number zone : ℕ) (set : RecordSet) → IsNumberOf zones index number (SetNode zone set)
       → length (ids_of checks.list) ≤ number
   set_late number zone set (slot, (here, seat)) =
-      let g = (stands.wired.its_sets zone (record { slot = slot; set = set }) here).gated (decided number zone set (slot, (here, seat))) in
+      let g = (laid.wired.its_sets zone (record { slot = slot; set = set }) here).gated (decided number zone set (slot, (here, seat))) in
       let its = g.1 in
       let b = g.2.behind in
       omega arith
@@ -123,7 +123,7 @@ module _ (zones : List Zone) (checks : Checks) (reports : List Report) (index : 
       → IsNumberOf zones index number (GroupNode zone name rtype)
       → length (ids_of checks.list) ≤ number
   group_late number zone name rtype (members, (are, seat)) =
-      (stands.told.groups seat.0 number seat.1.1).behind
+      (laid.told.groups seat.0 number seat.1.1).behind
 
   pub one_node : (number : ℕ) (node other : Node) → IsNumberOf zones index number node
       → IsNumberOf zones index number other → node ≡ other
@@ -142,31 +142,39 @@ module _ (zones : List Zone) (checks : Checks) (reports : List Report) (index : 
       let late = set_late number zone set first in
       absurd (omega arith)
   one_node number (SetNode zone set) (SetNode other set_two) (s, (here, seat)) (t, (there_too, seat_two)) =
-      let slots = stands.told.sets s t number seat seat_two in
+      let slots = laid.told.sets s t number seat seat_two in
       let one : SetRef = record { zone = zone; slot = s } in
       let two : SetRef = record { zone = other; slot = t } in
-      let refs : one ≡ two = one_ref zones one two set set_two stands.slots here there_too slots in
-      let sets = one_named zones two set set_two stands.are_zones (subst (λ (r : SetRef). Names zones r set) refs here) there_too in
+      let refs : one ≡ two = one_ref zones one two set set_two laid.slots here there_too slots in
+      let sets = one_named zones two set set_two laid.are_zones (subst (λ (r : SetRef). Names zones r set) refs here) there_too in
       ap (λ (r : SetRef). SetNode r.zone set) refs ∙ ap (SetNode other) sets
   one_node number (SetNode zone set) (GroupNode other name rtype) (s, (here, seat)) (members, (are, its)) =
-      absurd (stands.told.kinds s its.0 number seat its.1.1)
+      absurd (laid.told.kinds s its.0 number seat its.1.1)
   one_node number (GroupNode zone name rtype) (CheckNode id) first second =
       let early = check_early number id second in
       let late = group_late number zone name rtype first in
       absurd (omega arith)
   one_node number (GroupNode zone name rtype) (SetNode other set) (members, (are, its)) (s, (here, seat)) =
-      absurd (stands.told.kinds s its.0 number seat its.1.1)
+      absurd (laid.told.kinds s its.0 number seat its.1.1)
   one_node number (GroupNode zone name rtype) (GroupNode other name_two rtype_two) (xs, (are_xs, first)) (ys, (are_ys, second)) =
-      let g = stands.told.groups first.0 number first.1.1 in
+      let g = laid.told.groups first.0 number first.1.1 in
       let p = first_here xs first.0 first.1.0 in
       let q = first_here ys second.0 second.1.0 in
       let a = g.only first.0 first.1.1 in
       let b = g.only second.0 second.1.1 in
-      let one = same_names zones stands.are_zones stands.slots g.zone zone g.name name g.rtype rtype g.members xs a.0 p.0 g.are a.1 are_xs p.1
+      let one = same_names zones laid.are_zones laid.slots g.zone zone g.name name g.rtype rtype g.members xs a.0 p.0 g.are a.1 are_xs p.1
       (a.2 ∙ sym p.2) in
-      let two = same_names zones stands.are_zones stands.slots g.zone other g.name name_two g.rtype rtype_two g.members ys b.0 q.0 g.are b.1 are_ys q.1
+      let two = same_names zones laid.are_zones laid.slots g.zone other g.name name_two g.rtype rtype_two g.members ys b.0 q.0 g.are b.1 are_ys q.1
       (b.2 ∙ sym q.2) in
       group_nodes zone other name name_two rtype rtype_two (one.0 ∙ sym two.0) (one.1.0 ∙ sym two.1.0) (one.1.1 ∙ sym two.1.1)
+
+  -- the gate of the number of a node is that of the node
+  pub gate_for : (number : ℕ) (node : Node) → IsNumberOf zones index number node
+      → IsGateFor zones checks.list index.seats laid.net laid.own number node
+  gate_for number node is =
+      let n = laid.wired.its_nodes number (there number node is) in
+      subst (IsGateFor zones checks.list index.seats laid.net laid.own number)
+      (one_node number n.0 node (of_gate number n.0 n.1) is) n.1
 
   -- ---- which nodes have numbers
 
@@ -174,45 +182,59 @@ module _ (zones : List Zone) (checks : Checks) (reports : List Report) (index : 
       → HasNumber zones index (CheckNode id)
   check_number id check at =
       let place = place_of (ids_of checks.list) id in
-      (place, ap (λ (l : List ℕ). slice_get l place) stands.ids ∙ id_there checks.list place id check (found checks.list id check at))
+      (place, ap (λ (l : List ℕ). slice_get l place) laid.ids ∙ id_there checks.list place id check (found checks.list id check at))
 
   set_number : (zone : ℕ) (p : Placed) → IsHere (placed_in zones zone) p → is_watched p.set ≡ true
       → HasNumber zones index (SetNode zone p.set)
   set_number zone p here on =
-      let g = (stands.wired.its_sets zone p here).gated on in
+      let g = (laid.wired.its_sets zone p here).gated on in
       (g.0, (p.slot, (here, g.1)))
 
   target_number : (zone : ℕ) (p : Placed) (name : List (List ℕ)) → IsHere (placed_in zones zone) p
       → p.set.body ≡ body.Alias name true → HasNumber zones index (GroupNode zone name p.set.rtype)
   target_number zone p name here is =
       let on : is_watched p.set ≡ true = ap (λ (b : Body). is_some p.set.check || evaluates b) is ∙ or_true p.set.check in
-      let g = (stands.wired.its_sets zone p here).gated on in
-      by g.2.target (subst (λ (b : Body). IsTarget zones (length (ids_of checks.list)) index.seats stands.net stands.own zone p.set.rtype b g.2.target)
+      let g = (laid.wired.its_sets zone p here).gated on in
+      by g.2.target (subst (λ (b : Body). IsTarget zones (length (ids_of checks.list)) index.seats laid.net laid.own zone p.set.rtype b g.2.target)
       is g.2.its_target)
     where
       by : (target : List ℕ)
-          → IsTarget zones (length (ids_of checks.list)) index.seats stands.net stands.own zone p.set.rtype (body.Alias name true) target
+          → IsTarget zones (length (ids_of checks.list)) index.seats laid.net laid.own zone p.set.rtype (body.Alias name true) target
           → HasNumber zones index (GroupNode zone name p.set.rtype)
       by target (inl (off, without)) = absurd (false≢true (sym off))
       by target (inr (evaluated, (gate, target_is, (members, are, w)))) = (gate, (members, (are, w.seat)))
 
-  size_same : length index.gates.rows.items ≡ stands.net.size
-  size_same = stands.fits.laid.size
+  -- an evaluated alias leads to a group with a number
+  led_to : (number zone : ℕ) (name : List (List ℕ)) (rtype : RType)
+      → IsNumberOf zones index number (GroupNode zone name rtype) → IsLedTo zones zone name rtype
+  led_to number zone name rtype (members, (are, seat)) =
+      let g = laid.told.groups seat.0 number seat.1.1 in
+      let p = first_here members seat.0 seat.1.0 in
+      let q = g.only seat.0 seat.1.1 in
+      let one = same_names zones laid.are_zones laid.slots zone g.zone name g.name rtype g.rtype members g.members p.0 q.0 are p.1 g.are q.1
+      (p.2 ∙ sym q.2) in
+      subst (λ (r : RType). IsLedTo zones zone name r) one.1.1
+      (subst (λ (n : List (List ℕ)). IsLedTo zones zone n g.rtype) one.1.0
+      (subst (λ (z : ℕ). IsLedTo zones z g.name g.rtype) one.0 g.led))
+
+  size_same : length index.gates.rows.items ≡ laid.net.size
+  size_same = laid.fits.laid.size
 
 pub nodes_are_numbered : NodesAreNumbered
-nodes_are_numbered zones checks reports index stands = record {
+nodes_are_numbered zones checks reports index laid = record {
   each = λ number has.
-      let size = size_same zones checks reports index stands in
-      let n = stands.wired.its_nodes number (omega arith) in
-      (n.0, of_gate zones checks reports index stands number n.0 n.1);
+      let size = size_same zones checks reports index laid in
+      let n = laid.wired.its_nodes number (omega arith) in
+      (n.0, of_gate zones checks reports index laid number n.0 n.1);
   only = λ number node is.
-      let size = size_same zones checks reports index stands in
-      let b = there zones checks reports index stands number node is in
+      let size = size_same zones checks reports index laid in
+      let b = there zones checks reports index laid number node is in
       omega arith;
-  one = one_number zones checks reports index stands;
-  apart = one_node zones checks reports index stands;
-  its_checks = check_number zones checks reports index stands;
-  its_sets = set_number zones checks reports index stands;
-  decided = decided zones checks reports index stands;
-  targets = target_number zones checks reports index stands;
+  one = one_number zones checks reports index laid;
+  apart = one_node zones checks reports index laid;
+  its_checks = check_number zones checks reports index laid;
+  its_sets = set_number zones checks reports index laid;
+  decided = decided zones checks reports index laid;
+  targets = target_number zones checks reports index laid;
+  led = led_to zones checks reports index laid;
 }

@@ -94,6 +94,7 @@ module _ (zones : List Zone) (checks : Checks) (refs members : List SetRef) (sea
           rtype = g.1.rtype;
           members = g.1.members;
           are = g.1.are;
+          led = g.1.led;
           behind = omega arith;
           each = g.1.each;
           only = g.1.only;

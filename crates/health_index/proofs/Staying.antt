@@ -32,8 +32,9 @@ use Rattle.health_planning.specs.DeltaRecord.{Delta}
 use Rattle.health_planning.specs.Tables.{HaveSlotsApart}
 use Rattle.health_planning.specs.Following.{Follows, FollowsAt, HasThreshold}
 use Rattle.health_planning.specs.Building.{AllListed, AreAsked, IsListed}
-use Rattle.health_planning.specs.Wired.{AreMembers, IsGateFor, IsGroupGate, IsSeated, IsTarget, TellGroup, check_or_none, check_seat, group_seat, ids_of, is_watched, only_check, place_of, seat_of, set_rule, watched_of}
+use Rattle.health_planning.specs.Wired.{AreMembers, IsGateFor, IsGroupGate, IsLedTo, IsSeated, IsTarget, TellGroup, check_or_none, check_seat, group_seat, ids_of, is_watched, only_check, place_of, seat_of, set_rule, watched_of}
 use Rattle.health_planning.specs.declared.seats.Seat.{Seat}
+use Rattle.health_planning.proofs.Groups.{alias_alone}
 use Rattle.health_planning.proofs.Wiring.{first_here, of_group, passes_it, rising_in}
 use Rattle.health_index.specs.Index.{Index, IsOfOneGroup, StandsFor, TellApart}
 use Rattle.health_index.specs.Leaving.{AllCameLeaveGates, AllWentLeaveGates, LeavesGates, AreLeft}
@@ -258,31 +259,55 @@ module _ (before after : List Zone) (are_before : AreZones before) (are_after : 
       its_own = w.its_own ∙ plain_by_slots seats members members_now same;
     }
 
-  -- the seats that tell the gate of a group are those of its sets still
-  one_group_now : (count slot gate : ℕ) → group_seat seats slot ≡ suc gate
-      → IsOfOneGroup before count seats gate → IsOfOneGroup after count seats gate
-  one_group_now count slot gate is g =
-      let f = g.only slot is in
-      record {
-        zone = g.zone;
-        name = g.name;
-        rtype = g.rtype;
-        members = members_now g.zone g.name g.rtype g.members gate g.are g.each f.0 f.1;
-        are = are_now g.zone g.name g.rtype g.members gate g.are g.each f.0 f.1;
-        behind = g.behind;
-        each = tell_now g.zone g.name g.rtype g.members gate g.are g.each f.0 f.1;
-        only = λ other tells.
-            let p = g.only other tells in
-            let q = to g.zone g.name g.rtype g.members gate g.are g.each f.0 f.1 p.0 p.1 in
-            (q.0, q.1, ap (λ (k : SetKey × ℕ). k.1) q.2 ∙ p.2);
-      }
+  -- an alias whose target's health counts has a seat that names no check
+  abbrev HasAliasSeat : Placed → Type 0
+  HasAliasSeat p = (seat_of seats p.slot ≢ 0) × (check_seat seats p.slot ≡ 0)
 
-  pub told_now : (count : ℕ) → TellApart before count seats → TellApart after count seats
-  told_now count told = record {
-    sets = told.sets;
-    kinds = told.kinds;
-    groups = λ slot gate is. one_group_now count slot gate is (told.groups slot gate is);
-  }
+  module _ (alias : (zone : ℕ) (p : Placed) → IsHere (placed_in before zone) p
+      → evaluates p.set.body ≡ true → HasAliasSeat p) where
+    -- so none such goes, and it leads where it led
+    led_now : (zone : ℕ) (name : List (List ℕ)) (rtype : RType) → IsLedTo before zone name rtype
+        → IsLedTo after zone name rtype
+    led_now zone name rtype (p, (here, is)) = elim (moves.stays zone p here) [
+      | inl told ↦ elim (went told.0 (ref_in zone p) told.1) [
+        | inl none ↦ absurd ((alias zone p here (ap evaluates is.0)).0 none.0)
+        | inr other ↦
+            let c = came other.0 (ref_in zone p) other.1 in
+            let its_seat = alias zone p here (ap evaluates is.0) in
+            elim c.as_seated [
+              | inl plain ↦ absurd (its_seat.0 plain.0)
+              | inr same ↦ absurd (same.1 (sym same.2 ∙ its_seat.1))
+            ]
+      ]
+      | inr there ↦ (p, (there, is))
+    ]
+
+    -- the seats that tell the gate of a group are those of its sets still
+    one_group_now : (count slot gate : ℕ) → group_seat seats slot ≡ suc gate
+        → IsOfOneGroup before count seats gate → IsOfOneGroup after count seats gate
+    one_group_now count slot gate is g =
+        let f = g.only slot is in
+        record {
+          zone = g.zone;
+          name = g.name;
+          rtype = g.rtype;
+          members = members_now g.zone g.name g.rtype g.members gate g.are g.each f.0 f.1;
+          are = are_now g.zone g.name g.rtype g.members gate g.are g.each f.0 f.1;
+          led = led_now g.zone g.name g.rtype g.led;
+          behind = g.behind;
+          each = tell_now g.zone g.name g.rtype g.members gate g.are g.each f.0 f.1;
+          only = λ other tells.
+              let p = g.only other tells in
+              let q = to g.zone g.name g.rtype g.members gate g.are g.each f.0 f.1 p.0 p.1 in
+              (q.0, q.1, ap (λ (k : SetKey × ℕ). k.1) q.2 ∙ p.2);
+        }
+
+    pub told_now : (count : ℕ) → TellApart before count seats → TellApart after count seats
+    told_now count told = record {
+      sets = told.sets;
+      kinds = told.kinds;
+      groups = λ slot gate is. one_group_now count slot gate is (told.groups slot gate is);
+    }
 
   module _ (checks : List (ℕ × Check)) (net : Net) (own : ℕ → ℕ) where
     -- a group with a gate has it still
@@ -463,6 +488,21 @@ asked_after before old after new reports index delta are_after stands (inl (made
 asked_after before old after new reports index delta are_after stands (inr (stayed, follows, none)) zone p here on =
     inr (inl (stands.listed zone p (subst (λ (l : List Zone). IsHere (placed_in l zone) p) stayed here) on))
 
+-- the seat of an alias whose target's health counts tells a gate, and names no check
+alias_seated : (zones : List Zone) (checks : Checks) (reports : List Report) (index : Index)
+    → StandsFor zones checks reports index → (zone : ℕ) (p : Placed)
+    → IsHere (placed_in zones zone) p → evaluates p.set.body ≡ true
+    → (seat_of index.seats p.slot ≢ 0) × (check_seat index.seats p.slot ≡ 0)
+alias_seated zones checks reports index stands zone p here on =
+    let w = stands.wired.its_sets zone p here in
+    let decided : is_watched p.set ≡ true = ap (λ (b : Bool). is_some p.set.check || b) on ∙ or_true p.set.check in
+    let seat = (w.gated decided).1 in
+    (λ none. omega arith, w.told decided ∙ alias_alone p.set on)
+  where
+    or_true : (check : Option ℕ) → is_some check || true ≡ true
+    or_true None = refl
+    or_true (Some id) = refl
+
 module _ (before after : List Zone) (reports : List Report) (index : Index) (delta : Delta)
     (are_after : AreZones after) (slots_after : HaveSlotsApart after)
     (gate_leaving : LeavesGates after index.seats delta) where
@@ -493,7 +533,7 @@ module _ (before after : List Zone) (reports : List Report) (index : Index) (del
       its_groups = stands.wired.its_groups;
     };
     told = told_now before after stands.are_zones are_after delta.removed delta.added moves index.seats gate_leaving.went gate_leaving.came
-        (length (ids_of checks.list)) stands.told;
+        (alias_seated before checks reports index stands) (length (ids_of checks.list)) stands.told;
     fits = stands.fits;
     meet = stands.meet;
     idle = stands.idle;

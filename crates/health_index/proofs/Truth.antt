@@ -1,6 +1,6 @@
 -- An index that stands for a configuration tells its health.
 use Rattle.std.proofs.Common.{◌≡◌, ◌<◌, ◌+◌, ◌*◌, ℕ, zero, suc, Bool, true, false, List, [], ◌∷◌, ◌++◌, length, map, add-one, arith, refl, ap, sym, ◌∙◌, inl, inr, Some, None, Option}
-use Rattle.std.specs.Prelude.{◌&&◌, ◌||◌, nat_le, nat_lt, is_some}
+use Rattle.std.specs.Prelude.{◌&&◌, ◌||◌, ◌⊎◌, nat_le, nat_lt, is_some, slice_get}
 use Rattle.std.specs.List.{filter, list_any}
 use Rattle.std.specs.Option.{option_to_list}
 use Rattle.std.proofs.lemmas.Bool.{cases_lt, false≢true, le-leb, le-ltb, lt-leb, lt-ltb}
@@ -9,10 +9,12 @@ use Rattle.calculated_health.specs.Status.{swapped_if}
 use Rattle.check_model.specs.Checks.{Checks, check_at, children_of}
 use Rattle.check_model.specs.declared.checks.Check.{Check}
 use Rattle.check_model.specs.declared.checks.Check.TheVariants.{Endpoint, Calculated}
-use Rattle.health_gates.specs.Gates.{Rule, count, value_of}
+use Rattle.health_gates.specs.Gates.{MeetsEquation, Rule, count, equation, value_of}
+use Rattle.health_gates.specs.Pass.{MeetAll}
+use Rattle.health_model.proofs.Members.{of_filter}
 use Rattle.health_model.specs.Healthy.{Watched, by_check, by_target, group_value, set_value, sets_of as sets_at}
 use Rattle.health_model.specs.Laws.{OneHealth}
-use Rattle.health_model.specs.Nodes.{CheckNode, GroupNode, IsNode, Meets, Node, SetNode}
+use Rattle.health_model.specs.Nodes.{CheckNode, GroupNode, IsNode, Meets, Node, SetNode, local}
 use Rattle.health_model.specs.Statuses.{Report, check_value, passing, value_there}
 use Rattle.health_planning.specs.Groups.{Agrees, ViewsAgree, by_key}
 use Rattle.rdata_layout.specs.declared.types.RType.{RType}
@@ -26,14 +28,17 @@ use Rattle.health_planning.specs.SetRefRecord.{SetRef}
 use Rattle.zone_model.specs.Placed.{IsHere, Placed, sets_of}
 use Rattle.zone_model.specs.Zones.{IsAmong, group, is_of_group}
 use Rattle.health_planning.specs.Looking.{Names}
-use Rattle.health_index.specs.Index.{Index, StandsFor, healthy_in}
-use Rattle.health_index.specs.Laws.{IndexTells}
+use Rattle.health_index.specs.Index.{HasNumber, Index, IsLaidFor, StandsFor, healthy_in}
+use Rattle.health_index.specs.Laws.{IndexTells, NodesHaveValues, StandsWhereAllMeet}
+use Rattle.health_index.specs.Values.{AreValues, members_in, node_value, seat_in, value_of_set, value_or}
 use Rattle.health_planning.proofs.MembersOfZoneList.{set_in}
-use Rattle.health_planning.proofs.Places.{found}
+use Rattle.health_planning.proofs.Ending.{rule_seated}
+use Rattle.health_planning.proofs.Places.{found, id_at, one_place}
 use Rattle.health_planning.proofs.Watching.{zone_sets as sets_seen}
-use Rattle.health_planning.proofs.Wiring.{first_here}
-use Rattle.health_index.proofs.Numbering.{of_gate, one_node, there}
-use Rattle.health_planning.specs.Wired.{AreMembers, IsFirstIn, IsGateFor, IsGroupGate, IsSeated, IsTarget, check_need, check_own, check_rule, gates_of, ids_of, is_inverted, is_watched, open_in, place_of, plain_among, seat_of, watched_of, with_gate, plain}
+use Rattle.health_planning.proofs.Wiring.{first_here, first_of, member_there}
+use Rattle.health_index.proofs.Keyed.{grouped_sets}
+use Rattle.health_index.proofs.Numbering.{gate_for, of_gate, there}
+use Rattle.health_planning.specs.Wired.{AreMembers, IsFirstIn, IsGateFor, IsGroupGate, IsGroupSeat, IsTarget, check_need, check_own, check_rule, gates_of, group_seat, ids_of, is_inverted, is_watched, open_in, place_of, plain_among, seat_of, watched_of, with_gate, plain}
 use Rattle.health_planning.specs.declared.seats.Seat.{Seat}
 
 -- ---- lists
@@ -167,10 +172,57 @@ nothing_decides check healthy_group set e = go set.check set.body e
     go None (body.Alias name false) e = refl
     go (Some id) its e = absurd (false≢true (sym e))
 
--- ---- the equations of all nodes
+-- ---- the values and the equations of nodes
+
+-- the set of a list that is in it
+mapped : (placed : List Placed) (p : Placed) → IsAmong placed p → IsAmong (sets_of placed) p.set
+mapped [] p m = m
+mapped (q ∷ placed) p (inl is) = inl (ap (λ (x : Placed). x.set) is)
+mapped (q ∷ placed) p (inr m) = inr (mapped placed p m)
+
+pub is_node : (zones : List Zone) (checks : Checks) (set : SetRef) (named : RecordSet)
+    → Names zones set named → IsNode (watched_of zones checks) (SetNode set.zone named)
+is_node zones checks set named names =
+    subst (λ (sets : List RecordSet). IsAmong sets named) (sym (zone_sets zones checks set.zone))
+    (mapped (placed_in zones set.zone) (record { slot = set.slot; set = named }) names)
+
+group_there : (zones : List Zone) (checks : Checks) (zone : ℕ) (name : List (List ℕ))
+    (rtype : RType) (members : List Placed) (slot : ℕ)
+    → AreMembers zones zone name rtype members → IsFirstIn members slot
+    → IsNode (watched_of zones checks) (GroupNode zone name rtype)
+group_there zones checks zone name rtype members slot are first =
+    let f = first_here members slot first in (
+      f.0.set,
+      subst (λ (l : List RecordSet). IsAmong (group l name rtype) f.0.set) (sym (zone_sets zones checks zone))
+          (subst (λ (l : List RecordSet). IsAmong l f.0.set) are.sets (set_in members f.0 f.1)),
+    )
+
+-- the sets of a group are its members
+listed_are : (zones : List Zone) (zone : ℕ) (name : List (List ℕ)) (rtype : RType)
+    → AreMembers zones zone name rtype (members_in zones zone name rtype)
+listed_are zones zone name rtype = record {
+  sets = grouped_sets name rtype (placed_in zones zone);
+  here = λ p m. of_filter (λ (x : Placed). is_of_group name rtype x.set) (placed_in zones zone) p m;
+}
+
+-- what the seat of the first of some sets tells
+seat_first : (seats : List Seat) (members : List Placed) (p : Placed)
+    → slice_get members 0 ≡ Some p → seat_in seats members ≡ group_seat seats p.slot
+seat_first seats [] p at = let no : ⊥ = cc in absurd no
+seat_first seats (q ∷ members) p at =
+    ap (λ (o : Placed). group_seat seats o.slot) (some_same at)
+  where
+    some_same : {X : Type 0} {x y : X} → Some x ≡ Some y → x ≡ y
+    some_same e = cc
+
+-- a group whose first set's seat tells a number has that number
+first_seated : (seats : List Seat) (members : List Placed) (gate : ℕ)
+    → seat_in seats members ≡ suc gate → IsGroupSeat seats members gate
+first_seated seats [] gate is = absurd (omega arith)
+first_seated seats (p ∷ members) gate is = (p.slot, ((p, refl, refl), is))
 
 module _ (zones : List Zone) (checks : Checks) (reports : List Report) (index : Index)
-    (stands : StandsFor zones checks reports index)
+    (laid : IsLaidFor zones checks reports index)
     (agrees : Agrees zones (healthy_in index) (by_key zones (healthy_in index))) where
   abbrev gate_open : ℕ → Bool
   gate_open = value_of index.gates
@@ -181,136 +233,293 @@ module _ (zones : List Zone) (checks : Checks) (reports : List Report) (index : 
   abbrev watched : Watched
   watched = watched_of zones checks
 
+  abbrev v : Node → Bool
+  v = node_value zones index
+
   abbrev of_check : ℕ → Bool
   of_check id = gate_open (place_of its_ids id)
 
-  abbrev of_set : (zone : ℕ) → RecordSet → Bool
-  of_set zone set = by_key zones (healthy_in index) zone (key_of set)
-
   abbrev of_group : (zone : ℕ) → (name : List (List ℕ)) → RType → Bool
-  of_group zone name rtype = group_value (of_set zone) (sets_at watched zone) name rtype
+  of_group zone name rtype = v (GroupNode zone name rtype)
 
-  abbrev pub of_node : Node → Bool
-  of_node (CheckNode id) = of_check id
-  of_node (SetNode zone set) = of_set zone set
-  of_node (GroupNode zone name rtype) = of_group zone name rtype
+  abbrev IsGate : (gate : ℕ) → Node → Type 0
+  IsGate gate node = IsGateFor zones checks.list index.seats laid.net laid.own gate node
 
-  -- what a gate of so many of these feeders says
-  says : (gate own : ℕ) (rule : Rule) → gate < stands.net.size → stands.net.rule gate ≡ rule
-      → stands.own gate ≡ own
-      → gate_open gate ≡ swapped_if rule.inverted (nat_le rule.need (own + count gate_open rule.feeders))
-  says gate own rule within is its =
-      stands.meet gate within
-      ∙ ap (λ (r : Rule). swapped_if r.inverted (nat_le r.need (stands.own gate + count gate_open r.feeders))) is
-      ∙ ap (λ (n : ℕ). swapped_if rule.inverted (nat_le rule.need (n + count gate_open rule.feeders))) its
+  -- the equation of a gate with this rule
+  rule_equals : (gate own : ℕ) (rule : Rule) → laid.net.rule gate ≡ rule → laid.own gate ≡ own
+      → swapped_if rule.inverted (nat_le rule.need (own + count gate_open rule.feeders))
+      ≡ equation laid.net laid.own gate_open gate
+  rule_equals gate own rule is its = sym (
+      ap (λ (r : Rule). swapped_if r.inverted (nat_le r.need (laid.own gate + count gate_open r.feeders))) is
+      ∙ ap (λ (n : ℕ). swapped_if rule.inverted (nat_le rule.need (n + count gate_open rule.feeders))) its)
 
-  check_meets : (id : ℕ) (check : Check) → check_at checks.list id ≡ Some check
-      → of_check id ≡ check_value check (passing reports id) of_check
-  check_meets id check at =
-      let w = stands.wired.its_checks (place_of its_ids id) id check (found checks.list id check at) in
-      says (place_of its_ids id) (check_own check (passing reports id)) (check_rule its_ids check) w.within w.rule w.its_own
-      ∙ check_equation gate_open its_ids check (passing reports id)
+  -- ---- the values of nodes with gates
+
+  check_valued : (gate id : ℕ) (check : Check) → slice_get checks.list gate ≡ Some (id, check)
+      → v (CheckNode id) ≡ gate_open gate
+  check_valued gate id check at =
+      let its = id_at checks.list gate id check laid.are_checks.rising at in
+      let place = one_place checks.list (place_of its_ids id) gate id check check laid.are_checks.rising (found checks.list id check its) at in
+      ap (λ (ids : List ℕ). gate_open (place_of ids id)) laid.ids ∙ ap gate_open place
 
   seated : (zone : ℕ) (p : Placed) → IsHere (placed_in zones zone) p
-      → of_set zone p.set ≡ open_in gate_open (seat_of index.seats p.slot)
+      → v (SetNode zone p.set) ≡ open_in gate_open (seat_of index.seats p.slot)
   seated zone p here = sym (agrees (record { zone = zone; slot = p.slot }) p.set here)
 
-  group_meets : (zone : ℕ) (name : List (List ℕ)) (rtype : RType) (members : List Placed) (gate : ℕ)
+  group_valued : (zone : ℕ) (name : List (List ℕ)) (rtype : RType) (members : List Placed) (gate : ℕ)
       → AreMembers zones zone name rtype members
-      → IsGroupGate (length its_ids) index.seats stands.net stands.own members gate
-      → gate_open gate ≡ of_group zone name rtype
-  group_meets zone name rtype members gate are w =
-      says gate (plain_among index.seats members) _ w.within w.rule w.its_own
-      ∙ one_open gate_open index.seats members
-      ∙ any_same (λ (p : Placed). open_in gate_open (seat_of index.seats p.slot)) (λ (p : Placed). of_set zone p.set) members
-      (λ p m. sym (seated zone p (are.here p m)))
-      ∙ sym (any_mapped (of_set zone) members)
-      ∙ ap (list_any (of_set zone)) are.sets
-      ∙ ap (λ (sets : List RecordSet). list_any (of_set zone) (filter (is_of_group name rtype) sets)) (sym (zone_sets zones checks zone))
+      → IsGroupGate (length its_ids) index.seats laid.net laid.own members gate
+      → of_group zone name rtype ≡ gate_open gate
+  group_valued zone name rtype members gate are w =
+      let listed = members_in zones zone name rtype in
+      let are_listed = listed_are zones zone name rtype in
+      let p = first_here members w.seat.0 w.seat.1.0 in
+      let there = member_there zones laid.are_zones zone name rtype members listed p.0 are p.1 are_listed in
+      let f = first_of listed p.0 there in
+      let back = member_there zones laid.are_zones zone name rtype listed members f.p are_listed f.here are in
+      ap (λ (n : ℕ). value_or gate_open n
+      (group_value (value_of_set zones index zone) (sets_of (placed_in zones zone)) name rtype))
+      (seat_first index.seats listed f.p f.at ∙ w.each f.p back)
 
-  target_meets : (zone : ℕ) (set : RecordSet) (rtype : RType) (its : Body) (target : List ℕ)
-      → IsTarget zones (length its_ids) index.seats stands.net stands.own zone rtype its target
+  -- the value of a node with a gate is that of the gate
+  pub valued : (gate : ℕ) (n : Node) → IsGate gate n → v n ≡ gate_open gate
+  valued gate (CheckNode id) (check, at) = check_valued gate id check at
+  valued gate (SetNode zone set) (slot, (here, seat)) =
+      seated zone (record { slot = slot; set = set }) here ∙ ap (open_in gate_open) seat
+  valued gate (GroupNode zone name rtype) (members, (are, w)) =
+      group_valued zone name rtype members gate are w
+
+  -- ---- their equations
+
+  check_equals : (gate id : ℕ) (check : Check) → slice_get checks.list gate ≡ Some (id, check)
+      → local watched reports v (CheckNode id) ≡ equation laid.net laid.own gate_open gate
+  check_equals gate id check at =
+      let w = laid.wired.its_checks gate id check at in
+      ap (λ (o : Option Check). value_there o (passing reports id) (λ child. v (CheckNode child)))
+      (id_at checks.list gate id check laid.are_checks.rising at)
+      ∙ ap (λ (ids : List ℕ). check_value check (passing reports id) (λ child. gate_open (place_of ids child))) laid.ids
+      ∙ sym (check_equation gate_open its_ids check (passing reports id))
+      ∙ rule_equals gate (check_own check (passing reports id)) (check_rule its_ids check) w.rule w.its_own
+
+  group_equals : (zone : ℕ) (name : List (List ℕ)) (rtype : RType) (members : List Placed) (gate : ℕ)
+      → AreMembers zones zone name rtype members
+      → IsGroupGate (length its_ids) index.seats laid.net laid.own members gate
+      → local watched reports v (GroupNode zone name rtype)
+      ≡ equation laid.net laid.own gate_open gate
+  group_equals zone name rtype members gate are w = sym (
+      sym (rule_equals gate (plain_among index.seats members) _ w.rule w.its_own)
+      ∙ one_open gate_open index.seats members
+      ∙ any_same (λ (p : Placed). open_in gate_open (seat_of index.seats p.slot)) (λ (p : Placed). value_of_set zones index zone p.set) members
+      (λ p m. sym (seated zone p (are.here p m)))
+      ∙ sym (any_mapped (value_of_set zones index zone) members)
+      ∙ ap (list_any (value_of_set zones index zone)) are.sets
+      ∙ ap (λ (sets : List RecordSet). list_any (value_of_set zones index zone) (filter (is_of_group name rtype) sets)) (sym (zone_sets zones checks zone)))
+
+  target_equals : (zone : ℕ) (set : RecordSet) (rtype : RType) (its : Body) (target : List ℕ)
+      → IsTarget zones (length its_ids) index.seats laid.net laid.own zone rtype its target
       → nat_le (length (map (place_of its_ids) (option_to_list set.check) ++ target))
       (0 + count gate_open (map (place_of its_ids) (option_to_list set.check) ++ target))
       ≡ by_check of_check set.check && by_target (of_group zone) rtype its
-  target_meets zone set rtype (body.Values ttl values) target is =
+  target_equals zone set rtype (body.Values ttl values) target is =
       rw is (by_one gate_open (place_of its_ids) set.check)
-  target_meets zone set rtype (body.Alias name evaluate) target (inl (off, is)) =
+  target_equals zone set rtype (body.Alias name evaluate) target (inl (off, is)) =
       rw (is, off) (by_one gate_open (place_of its_ids) set.check)
-  target_meets zone set rtype (body.Alias name evaluate) target (inr (on, (gate, is, (members, are, w)))) =
-      rw (is, on, sym (group_meets zone name rtype members gate are w)) (by_both gate_open (place_of its_ids) set.check gate)
+  target_equals zone set rtype (body.Alias name evaluate) target (inr (on, (gate, is, (members, are, w)))) =
+      rw (is, on, group_valued zone name rtype members gate are w) (by_both gate_open (place_of its_ids) set.check gate)
 
-  set_meets : (zone : ℕ) (p : Placed) → IsHere (placed_in zones zone) p
-      → of_set zone p.set ≡ set_value of_check (of_group zone) p.set
-  set_meets zone p here = seated zone p here ∙ by_watch (is_watched p.set) refl
-    where
-      w : IsSeated zones its_ids index.seats stands.net stands.own zone p
-      w = stands.wired.its_sets zone p here
+  set_equals : (zone : ℕ) (p : Placed) (gate : ℕ) → IsHere (placed_in zones zone) p
+      → seat_of index.seats p.slot ≡ suc gate
+      → local watched reports v (SetNode zone p.set) ≡ equation laid.net laid.own gate_open gate
+  set_equals zone p gate here seat =
+      let w = (rule_seated zones its_ids index.seats laid.net laid.own laid.wired.its_sets zone p gate here seat).is in
+      ap (λ (ids : List ℕ). by_check (λ id. gate_open (place_of ids id)) p.set.check && by_target (of_group zone) p.set.rtype p.set.body) laid.ids
+      ∙ sym (target_equals zone p.set p.set.rtype p.set.body w.target w.its_target)
+      ∙ rule_equals gate 0 _ w.rule w.its_own
 
-      by_watch : (b : Bool) → is_watched p.set ≡ b
-          → open_in gate_open (seat_of index.seats p.slot) ≡ set_value of_check (of_group zone) p.set
-      by_watch false e =
-          rw (w.plain e) (sym (nothing_decides of_check (of_group zone) p.set e))
-      by_watch true e =
-          let g = w.gated e in
-          rw g.1 (says g.0 0 _ g.2.within g.2.rule g.2.its_own
-          ∙ target_meets zone p.set p.set.rtype p.set.body g.2.target g.2.its_target)
+  -- the local equation of a node with a gate is that of the gate
+  pub equals : (gate : ℕ) (n : Node) → IsGate gate n
+      → local watched reports v n ≡ equation laid.net laid.own gate_open gate
+  equals gate (CheckNode id) (check, at) = check_equals gate id check at
+  equals gate (SetNode zone set) (slot, (here, seat)) =
+      set_equals zone (record { slot = slot; set = set }) gate here seat
+  equals gate (GroupNode zone name rtype) (members, (are, w)) =
+      group_equals zone name rtype members gate are w
 
-  pub all_meet : (n : Node) → IsNode watched n → Meets watched reports of_node n
-  all_meet (CheckNode id) (check, at) = check_meets id check at ∙ ap (λ (o : Option Check). value_there o (passing reports id) of_check) (sym at)
-  all_meet (SetNode zone set) is =
+  pub to_meet : (gate : ℕ) (n : Node) → IsGate gate n → MeetsEquation laid.net laid.own gate_open gate
+      → Meets watched reports v n
+  to_meet gate n its meets = valued gate n its ∙ meets ∙ sym (equals gate n its)
+
+  pub of_meet : (gate : ℕ) (n : Node) → IsGate gate n → Meets watched reports v n
+      → MeetsEquation laid.net laid.own gate_open gate
+  of_meet gate n its meets = sym (valued gate n its) ∙ meets ∙ equals gate n its
+
+  -- ---- nodes without gates
+
+  bare_set : (zone : ℕ) (p : Placed) → IsHere (placed_in zones zone) p → is_watched p.set ≡ false
+      → v (SetNode zone p.set) ≡ true
+  bare_set zone p here off =
+      seated zone p here ∙ ap (open_in gate_open) ((laid.wired.its_sets zone p here).plain off)
+
+  bare_group : (zone : ℕ) (name : List (List ℕ)) (rtype : RType)
+      → seat_in index.seats (members_in zones zone name rtype) ≡ 0
+      → of_group zone name rtype ≡ local watched reports v (GroupNode zone name rtype)
+  bare_group zone name rtype none =
+      ap (λ (n : ℕ). value_or gate_open n
+      (group_value (value_of_set zones index zone) (sets_of (placed_in zones zone)) name rtype)) none
+      ∙ ap (λ (sets : List RecordSet). group_value (value_of_set zones index zone) sets name rtype) (sym (zone_sets zones checks zone))
+
+  -- a node has a gate, or it meets its local equation
+  pub gate_or_meets : (n : Node) → IsNode watched n
+      → ((gate : ℕ) × IsGate gate n) ⊎ Meets watched reports v n
+  gate_or_meets (CheckNode id) (check, at) = inl (place_of its_ids id, (check, found checks.list id check at))
+  gate_or_meets (SetNode zone set) is =
       let p = among_mapped (λ (p : Placed). p.set) (placed_in zones zone) set
       (subst (λ (sets : List RecordSet). IsAmong sets set) (zone_sets zones checks zone) is) in
-      subst (λ (s : RecordSet). of_set zone s ≡ set_value of_check (of_group zone) s) p.2 (set_meets zone p.0 p.1)
-  all_meet (GroupNode zone name rtype) is = refl
+      subst (λ (s : RecordSet). ((gate : ℕ) × IsGate gate (SetNode zone s)) ⊎ Meets watched reports v (SetNode zone s)) p.2
+      (by p.0 p.1 (is_watched p.0.set) refl)
+    where
+      by : (p : Placed) → IsHere (placed_in zones zone) p → (b : Bool) → is_watched p.set ≡ b
+          → ((gate : ℕ) × IsGate gate (SetNode zone p.set)) ⊎ Meets watched reports v (SetNode zone p.set)
+      by p here false off =
+          inr (bare_set zone p here off ∙ sym (nothing_decides (λ id. v (CheckNode id)) (of_group zone) p.set off))
+      by p here true on =
+          let g = (laid.wired.its_sets zone p here).gated on in
+          inl (g.0, (p.slot, (here, g.1)))
+  gate_or_meets (GroupNode zone name rtype) is =
+      by (seat_in index.seats (members_in zones zone name rtype)) refl
+    where
+      by : (n : ℕ) → seat_in index.seats (members_in zones zone name rtype) ≡ n
+          → ((gate : ℕ) × IsGate gate (GroupNode zone name rtype)) ⊎ Meets watched reports v (GroupNode zone name rtype)
+      by zero none = inr (bare_group zone name rtype none)
+      by (suc gate) seat =
+          inl (
+            gate,
+            gate_for zones checks reports index laid gate (GroupNode zone name rtype)
+                (members_in zones zone name rtype, (listed_are zones zone name rtype, first_seated index.seats (members_in zones zone name rtype) gate seat)),
+          )
+
+  -- what has a gate is a node
+  node_there : (gate : ℕ) (n : Node) → IsGate gate n → IsNode watched n
+  node_there gate (CheckNode id) (check, at) = (check, id_at checks.list gate id check laid.are_checks.rising at)
+  node_there gate (SetNode zone set) (slot, (here, seat)) =
+      is_node zones checks (record { zone = zone; slot = slot }) set here
+  node_there gate (GroupNode zone name rtype) (members, (are, w)) =
+      group_there zones checks zone name rtype members w.seat.0 are w.seat.1.0
+
+  -- all nodes meet their local equations where all gates meet theirs
+  pub all_meet : MeetAll laid.net laid.own index.gates → (n : Node) → IsNode watched n
+      → Meets watched reports v n
+  all_meet meet n is = elim (gate_or_meets n is) [
+    | inl has ↦
+        let within = there zones checks reports index laid has.0 n (of_gate zones checks reports index laid has.0 n has.1) in
+        to_meet has.0 n has.1 (meet has.0 within)
+    | inr meets ↦ meets
+  ]
+
+  pub gates_meet : ((n : Node) → IsNode watched n → Meets watched reports v n)
+      → MeetAll laid.net laid.own index.gates
+  gates_meet all gate within =
+      let n = laid.wired.its_nodes gate within in
+      of_meet gate n.0 n.1 (all n.0 (node_there gate n.0 n.1))
+
+  pub values : AreValues zones checks index
+  values = record {
+    numbered = λ number n is. valued number n (gate_for zones checks reports index laid number n is);
+    sets = λ zone p here none. by_watch zone p here none (is_watched p.set) refl;
+    groups = λ zone name rtype none. by_seat zone name rtype none (seat_in index.seats (members_in zones zone name rtype)) refl;
+  }
+    where
+      by_watch : (zone : ℕ) (p : Placed) → IsHere (placed_in zones zone) p
+          → (HasNumber zones index (SetNode zone p.set) → ⊥) → (b : Bool) → is_watched p.set ≡ b
+          → v (SetNode zone p.set) ≡ true
+      by_watch zone p here none false off = bare_set zone p here off
+      by_watch zone p here none true on =
+          let g = (laid.wired.its_sets zone p here).gated on in
+          absurd (none (g.0, (p.slot, (here, g.1))))
+
+      by_seat : (zone : ℕ) (name : List (List ℕ)) (rtype : RType)
+          → (HasNumber zones index (GroupNode zone name rtype) → ⊥) → (n : ℕ)
+          → seat_in index.seats (members_in zones zone name rtype) ≡ n
+          → v (GroupNode zone name rtype) ≡ local watched reports v (GroupNode zone name rtype)
+      by_seat zone name rtype none zero bare = bare_group zone name rtype bare
+      by_seat zone name rtype none (suc gate) seat =
+          absurd (none (
+            gate,
+            (
+              members_in zones zone name rtype,
+              (
+                listed_are zones zone name rtype,
+                first_seated index.seats (members_in zones zone name rtype) gate seat,
+              ),
+            ),
+          ))
+
+-- what stands is laid out
+pub laid_of : (zones : List Zone) (checks : Checks) (reports : List Report) (index : Index)
+    → StandsFor zones checks reports index → IsLaidFor zones checks reports index
+laid_of zones checks reports index stands = record {
+  are_zones = stands.are_zones;
+  slots = stands.slots;
+  are_checks = stands.are_checks;
+  sound = stands.sound;
+  are_reports = stands.are_reports;
+  ids = stands.ids;
+  seen = stands.seen;
+  as_many = stands.as_many;
+  listed = stands.listed;
+  net = stands.net;
+  own = stands.own;
+  wired = stands.wired;
+  told = stands.told;
+  fits = stands.fits;
+  idle = stands.idle;
+}
+
+pub nodes_have_values : ViewsAgree → NodesHaveValues
+nodes_have_values views zones checks reports index laid =
+    values zones checks reports index laid (views zones (healthy_in index) laid.are_zones)
+
+pub stands_where_all_meet : ViewsAgree → StandsWhereAllMeet
+unfolding laid_of
+stands_where_all_meet views zones checks reports index = (
+  λ stands. (
+    laid_of zones checks reports index stands,
+    all_meet zones checks reports index (laid_of zones checks reports index stands)
+        (views zones (healthy_in index) stands.are_zones) stands.meet,
+  ),
+  λ (laid, all). record {
+    are_zones = laid.are_zones;
+    slots = laid.slots;
+    are_checks = laid.are_checks;
+    sound = laid.sound;
+    are_reports = laid.are_reports;
+    ids = laid.ids;
+    seen = laid.seen;
+    as_many = laid.as_many;
+    listed = laid.listed;
+    net = laid.net;
+    own = laid.own;
+    wired = laid.wired;
+    told = laid.told;
+    fits = laid.fits;
+    meet = gates_meet zones checks reports index laid (views zones (healthy_in index) laid.are_zones) all;
+    idle = laid.idle;
+  },
+)
 
 -- so its values are those of the recursion
 pub tells : OneHealth → ViewsAgree → IndexTells
+unfolding laid_of
 tells one views zones checks reports index stands =
     let agrees = views zones (healthy_in index) stands.are_zones in
+    let laid = laid_of zones checks reports index stands in
+    let same = one (watched_of zones checks) reports stands.sound (node_value zones index)
+    (all_meet zones checks reports index laid agrees stands.meet) in
     record {
-      sets = λ set named names.
-          agrees set named names
-          ∙ one (watched_of zones checks) reports stands.sound
-          (of_node zones checks reports index stands agrees)
-          (all_meet zones checks reports index stands agrees)
-          (SetNode set.zone named) (is_node zones checks set named names);
-      statuses = λ id check at.
-          ap (λ (ids : List ℕ). value_of index.gates (place_of ids id)) stands.ids
-          ∙ one (watched_of zones checks) reports stands.sound
-          (of_node zones checks reports index stands agrees)
-          (all_meet zones checks reports index stands agrees)
-          (CheckNode id) (check, at);
+      sets = λ set named names. agrees set named names ∙ same (SetNode set.zone named) (is_node zones checks set named names);
+      statuses = λ id check at. same (CheckNode id) (check, at);
       groups = λ number zone name rtype is.
-          let n = stands.wired.its_nodes number (there zones checks reports index stands number (GroupNode zone name rtype) is) in
-          let same = one_node zones checks reports index stands number n.0 (GroupNode zone name rtype)
-          (of_gate zones checks reports index stands number n.0 n.1) is in
-          let its = subst (IsGateFor zones checks.list index.seats stands.net stands.own number) same n.1 in
-          group_meets zones checks reports index stands agrees zone name rtype its.0 number its.1.0 its.1.1
-          ∙ one (watched_of zones checks) reports stands.sound
-          (of_node zones checks reports index stands agrees)
-          (all_meet zones checks reports index stands agrees)
-          (GroupNode zone name rtype) (group_there zones checks zone name rtype its.0 its.1.1.seat.0 its.1.0 its.1.1.seat.1.0);
+          let its = gate_for zones checks reports index laid number (GroupNode zone name rtype) is in
+          sym (valued zones checks reports index laid agrees number (GroupNode zone name rtype) its)
+          ∙ same (GroupNode zone name rtype) (node_there zones checks reports index laid agrees number (GroupNode zone name rtype) its);
     }
-  where
-    mapped : (placed : List Placed) (p : Placed) → IsAmong placed p → IsAmong (sets_of placed) p.set
-    mapped [] p m = m
-    mapped (q ∷ placed) p (inl is) = inl (ap (λ (x : Placed). x.set) is)
-    mapped (q ∷ placed) p (inr m) = inr (mapped placed p m)
-
-    is_node : (zones : List Zone) (checks : Checks) (set : SetRef) (named : RecordSet)
-        → Names zones set named → IsNode (watched_of zones checks) (SetNode set.zone named)
-    is_node zones checks set named names =
-        subst (λ (sets : List RecordSet). IsAmong sets named) (sym (zone_sets zones checks set.zone))
-        (mapped (placed_in zones set.zone) (record { slot = set.slot; set = named }) names)
-
-    group_there : (zones : List Zone) (checks : Checks) (zone : ℕ) (name : List (List ℕ))
-        (rtype : RType) (members : List Placed) (slot : ℕ)
-        → AreMembers zones zone name rtype members → IsFirstIn members slot
-        → IsNode (watched_of zones checks) (GroupNode zone name rtype)
-    group_there zones checks zone name rtype members slot are first =
-        let f = first_here members slot first in (
-          f.0.set,
-          subst (λ (l : List RecordSet). IsAmong (group l name rtype) f.0.set) (sym (zone_sets zones checks zone))
-              (subst (λ (l : List RecordSet). IsAmong l f.0.set) are.sets (set_in members f.0 f.1)),
-        )

@@ -21,7 +21,7 @@ use Rattle.health_planning.specs.Tables.{HaveSlotsApart}
 use Rattle.zone_model.specs.Placed.{IsHere, Placed}
 use Rattle.health_planning.specs.Looking.{Names}
 use Rattle.health_planning.specs.Building.{AllListed, AreGiven, IsSeen}
-use Rattle.health_planning.specs.Wired.{AreMembers, HasSlot, IsGroupSeat, IsWired, StandApart, TellGroup, group_seat, ids_of, is_watched, open_in, place_of, seat_of, watched_of}
+use Rattle.health_planning.specs.Wired.{AreMembers, HasSlot, IsGroupSeat, IsLedTo, IsWired, StandApart, TellGroup, group_seat, ids_of, is_watched, open_in, place_of, seat_of, watched_of}
 use Rattle.health_planning.specs.declared.seats.Seat.{Seat}
 
 -- For how many there is room: numbers of checks and what their checkers saw, now and before a
@@ -49,8 +49,8 @@ pub record Index : Type 0 where
   pub gates : Gates
   pub space : Space
 
--- The seats that tell a gate for their groups are those of the sets of one group. The gates of checks
--- stand before it.
+-- The seats that tell a gate for their groups are those of the sets of one group, to which an evaluated
+-- alias leads. The gates of checks stand before it.
 pub record IsOfOneGroup (zones : List Zone) (checks : ℕ) (seats : List Seat) (gate : ℕ)
     : Type 0 where
   pub zone : ℕ
@@ -58,6 +58,7 @@ pub record IsOfOneGroup (zones : List Zone) (checks : ℕ) (seats : List Seat) (
   pub rtype : RType
   pub members : List Placed
   pub are : AreMembers zones zone name rtype members
+  pub led : IsLedTo zones zone name rtype
   pub behind : checks ≤ gate
   pub each : TellGroup seats members gate
   pub only : (slot : ℕ) → group_seat seats slot ≡ suc gate → HasSlot members slot
@@ -71,7 +72,30 @@ pub record TellApart (zones : List Zone) (checks : ℕ) (seats : List Seat) : Ty
   pub groups : (slot gate : ℕ) → group_seat seats slot ≡ suc gate
       → IsOfOneGroup zones checks seats gate
 
--- The index stands for a sound configuration and reports.
+-- The index is laid out for a sound configuration and reports: its gates are wired for them, and what
+-- is counted is of them. Values may have to be worked out still.
+pub record IsLaidFor (zones : List Zone) (checks : Checks) (reports : List Report) (index : Index)
+    : Type 0 where
+  pub are_zones : AreZones zones
+  pub slots : HaveSlotsApart zones
+  pub are_checks : AreSoundChecks checks
+  pub sound : IsSound (watched_of zones checks)
+  pub are_reports : AreReports checks.next reports
+  pub ids : index.ids ≡ ids_of checks.list
+  pub seen : (place id : ℕ) (check : Check) (its : Option Seen)
+      → slice_get checks.list place ≡ Some (id, check) → slice_get index.seen place ≡ Some its
+      → IsSeen reports id check its
+  pub as_many : length index.seen ≡ length index.ids
+  pub listed : AllListed zones index.refs
+  pub net : Net
+  pub own : ℕ → ℕ
+  pub wired : IsWired zones checks.list index.seats net own reports
+  pub told : TellApart zones (length (ids_of checks.list)) index.seats
+  pub fits : Fits net own index.gates
+  pub idle : IsIdle index.gates
+
+-- The index stands for a sound configuration and reports: it is laid out for them, and all is worked
+-- out.
 pub record StandsFor (zones : List Zone) (checks : Checks) (reports : List Report) (index : Index)
     : Type 0 where
   pub are_zones : AreZones zones
@@ -100,7 +124,7 @@ healthy_in index set = open_in (value_of index.gates) (seat_of index.seats set.s
 -- ---- numbers of nodes
 
 -- The number of a node is that of its gate. A set that nothing decides has none: its health never
--- waits to be worked out. Nor does a group need one where no evaluated alias leads to it.
+-- waits to be worked out. Nor has a group one to which no evaluated alias leads.
 abbrev pub IsNumberOf : List Zone → Index → (number : ℕ) → Node → Type 0
 IsNumberOf zones index number (CheckNode id) = slice_get index.ids number ≡ Some id
 IsNumberOf zones index number (SetNode zone set) =
@@ -119,7 +143,7 @@ HasNode index number = number < size_of index.gates
 
 -- Each number that the index has is that of one node alone, and a node has one number at most. Each
 -- check has one, each set that something decides and no other set, and each group to which an
--- evaluated alias leads.
+-- evaluated alias leads and no other group.
 pub record AreNumbered (zones : List Zone) (checks : Checks) (index : Index) : Type 0 where
   pub each : (number : ℕ) → HasNode index number
       → (node : Node) × IsNumberOf zones index number node
@@ -138,6 +162,9 @@ pub record AreNumbered (zones : List Zone) (checks : Checks) (index : Index) : T
   pub targets : (zone : ℕ) (p : Placed) (name : List (List ℕ)) → IsHere (placed_in zones zone) p
       → p.set.body ≡ body.Alias name true
       → HasNumber zones index (GroupNode zone name p.set.rtype)
+  pub led : (number zone : ℕ) (name : List (List ℕ)) (rtype : RType)
+      → IsNumberOf zones index number (GroupNode zone name rtype)
+      → IsLedTo zones zone name rtype
 
 -- ---- what an index tells
 

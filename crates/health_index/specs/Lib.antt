@@ -3,6 +3,7 @@ pub mod Laws
 pub mod Leaving
 pub mod Room
 pub mod Taking
+pub mod Values
 pub use Rattle.check_model.specs.Checks
 pub use Rattle.checker_state.specs.Standing
 pub use Rattle.health_gates.specs.Gates

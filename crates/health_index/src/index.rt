@@ -6,11 +6,12 @@ ghost use Rattle.check_model.specs.Checks.{Checks};
 ghost use Rattle.health_planning.specs.Following.{Follows};
 ghost use Rattle.health_gates.specs.Gates.{Feeds, Fits, MeetsEquation, Net, value_of};
 ghost use Rattle.health_gates.specs.Pass.{IsIdle};
-ghost use Rattle.health_index.specs.Index.{HasNode, IsEndpointOf, StandsFor};
+ghost use Rattle.health_index.specs.Index.{HasNode, IsEndpointOf, IsLaidFor, IsNumberOf, StandsFor};
 ghost use Rattle.health_index.specs.Index.{healthy_in};
 ghost use Rattle.health_index.specs.Index.{reported};
 ghost use Rattle.health_index.specs.Leaving.{LeavesGates, AreLeft};
 ghost use Rattle.health_index.specs.Room.{HasRoom, Keeps};
+ghost use Rattle.health_index.specs.Values.{WorksOut};
 ghost use Rattle.health_planning.specs.Building.{AreAsked};
 ghost use Rattle.health_planning.specs.Wired.{watched_of};
 ghost use Rattle.health_model.specs.Nodes.{CheckNode, InCone, Node};
@@ -287,7 +288,7 @@ impl HealthIndex {
     }
 
     /// Whether there is a node of the number. The checks have numbers, the sets that something
-    /// decides and no others, and the target groups of evaluated aliases.
+    /// decides and the target groups of evaluated aliases, and no others.
     pub fn has_node(&self, node: u32) -> bool
         ensures { IsTrue result ↔ HasNode self.now node }
     {
@@ -299,7 +300,13 @@ impl HealthIndex {
         requires node { HasNode self.old node }
         ensures tick { steps.new ≡ steps.old + 1 }
 
-        // It meets its equation then, and so does each other one that did, unless this one feeds it.
+        // The node of the number meets its local equation then, and so does each other node that did,
+        // unless this one feeds it. All nodes keep their numbers, and the answer is as it says.
+        ensures works_out { (zones : List Zone) (checks : Checks) (reports : List Report) (n : Node)
+            → IsLaidFor zones checks reports self.old → IsNumberOf zones self.old node n
+            → WorksOut zones checks reports n self.old self.new result }
+
+        // The same of its gate.
         ensures meets { (net : Net) (own : ℕ → ℕ) → Fits net own self.old.gates
             → MeetsEquation net own (value_of self.new.gates) node }
         ensures spares { (net : Net) (own : ℕ → ℕ) (n : ℕ) → Fits net own self.old.gates
@@ -311,12 +318,12 @@ impl HealthIndex {
         ensures changed { IsTrue result
             ↔ (value_of self.new.gates node ≢ value_of self.old.gates node) }
 
-        // All nodes keep their numbers.
         ensures rest { self.new ≡ record self.old { gates = self.new.gates } }
         ensures fits { (net : Net) (own : ℕ → ℕ) → Fits net own self.old.gates
             → Fits net own self.new.gates }
         ensures idle { IsIdle self.new.gates }
     {
+        views_agree();
         self.gates.eval_node(node, steps)
     }
 

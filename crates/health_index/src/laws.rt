@@ -1,6 +1,7 @@
 //! Laws over the definitions. Each stands as the contract of a function that does nothing.
 
 ghost use Rattle.health_index.specs.Laws.{CommandsFollow, IndexTells, NodesAreNumbered};
+ghost use Rattle.health_index.specs.Laws.{NodesHaveValues, StandsWhereAllMeet};
 
 use health_model::one_health;
 use health_planning::views_agree;
@@ -19,7 +20,16 @@ pub fn commands_follow()
 {}
 
 /// Each number is that of one node alone. Checks have one each, sets that something decides, and
-/// groups to which evaluated aliases lead.
+/// groups to which evaluated aliases lead, and no others.
 pub fn nodes_are_numbered()
     ensures { NodesAreNumbered }
 {}
+
+/// The values of nodes are those of their numbers, and an index stands where by these each node meets its
+/// local equation.
+pub fn nodes_have_values()
+    ensures values { NodesHaveValues }
+    ensures stands { StandsWhereAllMeet }
+{
+    views_agree();
+}

@@ -17,4 +17,4 @@ mod taking;
 
 pub use health_gates::Steps;
 pub use index::HealthIndex;
-pub use laws::{commands_follow, index_tells_health, nodes_are_numbered};
+pub use laws::{commands_follow, index_tells_health, nodes_are_numbered, nodes_have_values};
