@@ -13,7 +13,7 @@ use Rattle.health_planning.specs.Zones.{Zone}
 use Rattle.health_planning.specs.Wired.{ids_of, watched_of}
 use Rattle.health_planning.proofs.Ending.{feeder, rule_seated}
 use Rattle.health_index.specs.Index.{Index, IsLaidFor, IsNumberOf, healthy_in}
-use Rattle.health_index.specs.Values.{WorksOut, node_value}
+use Rattle.health_index.specs.Values.{WorksOut}
 use Rattle.health_index.proofs.Numbering.{gate_for, of_gate, one_node}
 use Rattle.health_index.proofs.Truth.{gate_or_meets, of_meet, to_meet, valued}
 

@@ -1,12 +1,12 @@
 -- An index that stands for a configuration tells its health.
-use Rattle.std.proofs.Common.{◌≡◌, ◌<◌, ◌+◌, ◌*◌, ℕ, zero, suc, Bool, true, false, List, [], ◌∷◌, ◌++◌, length, map, add-one, arith, refl, ap, sym, ◌∙◌, inl, inr, Some, None, Option}
+use Rattle.std.proofs.Common.{◌≡◌, ◌+◌, ◌*◌, ℕ, zero, suc, Bool, true, false, List, [], ◌∷◌, ◌++◌, length, map, add-one, arith, refl, ap, sym, ◌∙◌, inl, inr, Some, None, Option}
 use Rattle.std.specs.Prelude.{◌&&◌, ◌||◌, ◌⊎◌, nat_le, nat_lt, is_some, slice_get}
 use Rattle.std.specs.List.{filter, list_any}
 use Rattle.std.specs.Option.{option_to_list}
 use Rattle.std.proofs.lemmas.Bool.{cases_lt, false≢true, le-leb, le-ltb, lt-leb, lt-ltb}
 use mathlib.Core.Path.{subst}
 use Rattle.calculated_health.specs.Status.{swapped_if}
-use Rattle.check_model.specs.Checks.{Checks, check_at, children_of}
+use Rattle.check_model.specs.Checks.{Checks, children_of}
 use Rattle.check_model.specs.declared.checks.Check.{Check}
 use Rattle.check_model.specs.declared.checks.Check.TheVariants.{Endpoint, Calculated}
 use Rattle.health_gates.specs.Gates.{MeetsEquation, Rule, count, equation, value_of}
@@ -21,7 +21,6 @@ use Rattle.rdata_layout.specs.declared.types.RType.{RType}
 use Rattle.record_set.specs.declared.sets.Body.{Body}
 use Rattle.record_set.specs.declared.sets.Body.TheVariants as body
 use Rattle.record_set.specs.declared.sets.RecordSet.{RecordSet}
-use Rattle.record_set.specs.Sets.{key_of}
 use Rattle.health_planning.specs.Telling.{evaluates}
 use Rattle.health_planning.specs.Zones.{Zone, placed_in}
 use Rattle.health_planning.specs.SetRefRecord.{SetRef}
