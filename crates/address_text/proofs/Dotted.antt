@@ -10,7 +10,7 @@ use Rattle.std.specs.List.{AllByRecursion}
 use Rattle.std.specs.Net.Grammar.{IsDotted}
 use Rattle.std.specs.Str.{bytes_eq}
 use Rattle.std.specs.Str.Parse.{AllDigits, digits_value}
-use Rattle.address_text.specs.AddressOfText.{pieces, joined, just, dot, octet_of, octets_of_pieces, ipv4_of}
+use Rattle.address_text.specs.AddressOfText.{pieces, joined, just, dot, octet_of_text, octets_of_pieces, ipv4_of}
 use Rattle.address_text.proofs.Split.{behind_marks, put_together, IsPlain, at_mark, alone, digits_plain, plain_both, joins}
 
 -- one number
@@ -20,7 +20,7 @@ pub record IsNumberOf (piece octets : List ℕ) : Type 0 where
   pub written : piece ≡ decimal n
   pub is : octets ≡ n ∷ []
 
-octet_sound : (piece octets : List ℕ) → octet_of piece ≡ Some octets → IsNumberOf piece octets
+octet_sound : (piece octets : List ℕ) → octet_of_text piece ≡ Some octets → IsNumberOf piece octets
 octet_sound piece octets e =
     let n = digits_value 10 piece in
     let (test, is) = cond_some _ _ _ e in
@@ -33,7 +33,7 @@ octet_sound piece octets e =
       is = sym is;
     }
 
-octet_complete : (n : ℕ) → n < 256 → octet_of (decimal n) ≡ Some (n ∷ [])
+octet_complete : (n : ℕ) → n < 256 → octet_of_text (decimal n) ≡ Some (n ∷ [])
 octet_complete n fits =
     let value : digits_value 10 (decimal n) ≡ n = (decimal_is_IsNumeral n (omega arith)).1 in
     let same : bytes_eq (decimal n) (decimal n) ≡ true =
@@ -65,7 +65,7 @@ numbers_sound first [] octets e =
           ap (λ l. l ++ []) o.written;
     }
 numbers_sound first (next ∷ rest) octets e =
-    let j = joins (octet_of first) (octets_of_pieces next rest) octets e in
+    let j = joins (octet_of_text first) (octets_of_pieces next rest) octets e in
     let o = octet_sound first j.front j.first_is in
     let later = numbers_sound next rest j.back j.others_are in
     record {

@@ -33,14 +33,14 @@ just count None = None
 just count (Some found) = if length found == count then Some found else None
 
 -- a number of 0 to 255 in decimal digits, without leading zeros: the text that is written of it
-abbrev pub octet_of : List ℕ → Option (List ℕ)
-octet_of piece =
+abbrev pub octet_of_text : List ℕ → Option (List ℕ)
+octet_of_text piece =
     if nat_lt (digits_value 10 piece) 256 && bytes_eq piece (decimal (digits_value 10 piece))
     then Some (digits_value 10 piece ∷ []) else None
 
 abbrev pub octets_of_pieces : (first : List ℕ) → List (List ℕ) → Option (List ℕ)
-octets_of_pieces first [] = octet_of first
-octets_of_pieces first (next ∷ rest) = joined (octet_of first) (octets_of_pieces next rest)
+octets_of_pieces first [] = octet_of_text first
+octets_of_pieces first (next ∷ rest) = joined (octet_of_text first) (octets_of_pieces next rest)
 
 -- An IPv4 address: four such numbers with dots between them.
 unfoldable pub ipv4_of : List ℕ → Option (List ℕ)

@@ -15,27 +15,27 @@ use Rattle.zone_table.proofs.Members.{in_all}
 use Rattle.zone_table.specs.Zones.{AreZones, StandsAlone, Zone, placed_in}
 use Rattle.zone_table.specs.SetRefRecord.{SetRef}
 use Rattle.zone_table.proofs.Among.{among_at}
-use Rattle.zone_table.specs.Placed.{HaveOwnSlots, IsSlotAt, Placed, sets_of}
+use Rattle.zone_table.specs.Slotted.{HaveOwnSlots, IsSlotAt, Slotted, sets_of}
 use Rattle.zone_table.specs.Sets.{IsAmong, IsRising, group, target_group, target_group_of}
-use Rattle.zone_table.specs.Looking.{Names, Targets}
+use Rattle.zone_table.specs.Looking.{RefersTo, Targets}
 use Rattle.alias_links.specs.After.{sets_in}
 
 -- in slots of their own there is one set in a slot
-one_slot : (placed : List Placed) → HaveOwnSlots placed → (p q : Placed) → IsAmong placed p
+one_slot : (placed : List Slotted) → HaveOwnSlots placed → (p q : Slotted) → IsAmong placed p
     → IsAmong placed q → p.slot ≡ q.slot → p ≡ q
 one_slot [] own p q first second same = absurd first
 one_slot (x ∷ placed) own p q (inl d) (inl e) same = sym d ∙ e
 one_slot (x ∷ placed) own p q (inl d) (inr second) same =
-    absurd (in_all (λ (y : Placed). x.slot ≢ y.slot) placed q own.0 second
-    (ap (λ (y : Placed). y.slot) d ∙ same))
+    absurd (in_all (λ (y : Slotted). x.slot ≢ y.slot) placed q own.0 second
+    (ap (λ (y : Slotted). y.slot) d ∙ same))
 one_slot (x ∷ placed) own p q (inr first) (inl e) same =
-    absurd (in_all (λ (y : Placed). x.slot ≢ y.slot) placed p own.0 first
-    (ap (λ (y : Placed). y.slot) e ∙ sym same))
+    absurd (in_all (λ (y : Slotted). x.slot ≢ y.slot) placed p own.0 first
+    (ap (λ (y : Slotted). y.slot) e ∙ sym same))
 one_slot (x ∷ placed) own p q (inr first) (inr second) same =
     one_slot placed own.1 p q first second same
 
 -- the sets of a zone are in slots of their own and in zone order, whichever number it has
-record AreKept (placed : List Placed) : Type 0 where
+record AreKept (placed : List Slotted) : Type 0 where
   own : HaveOwnSlots placed
   rising : IsRising (sets_of placed)
 
@@ -54,16 +54,16 @@ sets_rise zones are id = (kept_in zones are.each id).rising
 
 -- a reference names one set
 pub one_named : (zones : List Zone) (ref : SetRef) (set other : RecordSet) → AreZones zones
-    → Names zones ref set → Names zones ref other → set ≡ other
+    → RefersTo zones ref set → RefersTo zones ref other → set ≡ other
 one_named zones ref set other are first second =
-    ap (λ (p : Placed). p.set)
+    ap (λ (p : Slotted). p.set)
     (one_slot (placed_in zones ref.zone) (kept_in zones are.each ref.zone).own
     (record { slot = ref.slot; set = set })
     (record { slot = ref.slot; set = other }) first second refl)
 
 module _ (zones : List Zone) (ref : SetRef) (id i : ℕ) (same : ref.zone ≡ id)
     (at : IsSlotAt (placed_in zones id) i ref.slot) where
-  pub names : Names zones ref at.0
+  pub names : RefersTo zones ref at.0
   names =
       subst (λ (z : ℕ). IsAmong (placed_in zones z) (record { slot = ref.slot; set = at.0 }))
       (sym same)
@@ -71,11 +71,11 @@ module _ (zones : List Zone) (ref : SetRef) (id i : ℕ) (same : ref.zone ≡ id
 
   pub here : slice_get (sets_in zones id) i ≡ Some at.0
   here =
-      slice_get-map (λ (q : Placed). q.set) (placed_in zones id) i
-      ∙ ap (option_map (λ (q : Placed). q.set)) at.1
+      slice_get-map (λ (q : Slotted). q.set) (placed_in zones id) i
+      ∙ ap (option_map (λ (q : Slotted). q.set)) at.1
 
   -- what was loaded is the set at the place
-  pub loaded : AreZones zones → (held : Option RecordSet) (set : RecordSet) → Names zones ref set
+  pub loaded : AreZones zones → (held : Option RecordSet) (set : RecordSet) → RefersTo zones ref set
       → held ≡ Some set → held ≡ slice_get (sets_in zones id) i
   loaded are held set named e = e ∙ (ap Some (one_named zones ref set at.0 are named names) ∙ sym here)
 

@@ -6,7 +6,7 @@ use Rattle.record_set.specs.Reasons.{IsAlias}
 use Rattle.record_set.specs.declared.sets.Body.{Body}
 use Rattle.record_set.specs.declared.sets.Body.TheVariants as body
 use Rattle.record_set.specs.declared.sets.RecordSet.{RecordSet}
-use Rattle.zone_table.specs.Placed.{Placed, sets_of}
+use Rattle.zone_table.specs.Slotted.{Slotted, sets_of}
 use Rattle.zone_table.specs.Sets.{IsAmong}
 use Rattle.zone_table.specs.Walks.{HasNoTarget}
 use Rattle.zone_table.specs.Sums.{aliases_in, aliases_of, one_of}
@@ -18,7 +18,7 @@ one_alias sets set (body.Values ttl values) is none has =
     subst (λ (b : Body). IsAlias b) is has.0
 one_alias sets set (body.Alias target evaluate) is none has = omega (arith, none)
 
-pub none_aliased : (sets : List RecordSet) (placed : List Placed) → aliases_of placed ≡ 0
+pub none_aliased : (sets : List RecordSet) (placed : List Slotted) → aliases_of placed ≡ 0
     → (set : RecordSet) → IsAmong (sets_of placed) set → HasNoTarget sets set → ⊥
 none_aliased sets [] none set there has = there
 none_aliased sets (p ∷ placed) none set (inl is) has =

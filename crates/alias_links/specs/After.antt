@@ -6,7 +6,7 @@ use Rattle.record_set.specs.declared.sets.RecordSet.{RecordSet}
 use Rattle.record_set.specs.declared.sets.SetKey.{SetKey}
 use Rattle.zone_table.specs.Changes.{with_all, without_all}
 use Rattle.zone_table.specs.Zones.{Zone, placed_in}
-use Rattle.zone_table.specs.Placed.{sets_of}
+use Rattle.zone_table.specs.Slotted.{sets_of}
 
 -- the sets of a zone by its number
 abbrev pub sets_in : List Zone → (id : ℕ) → List RecordSet

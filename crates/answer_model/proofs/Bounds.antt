@@ -14,7 +14,7 @@ use Rattle.answer_model.specs.Descent.{descend, descends, selected, with_choice,
 use Rattle.answer_model.specs.Laws.{FewChoices, RcodesOfSections}
 use Rattle.answer_model.specs.Names.{source}
 use Rattle.answer_model.specs.Records.{answer_records}
-use Rattle.answer_model.specs.Sections.{Ends, Follows, Lookup, Sections, Step, asked_group}
+use Rattle.answer_model.specs.Sections.{Ends, Follows, Lookup, Sections, NameOutcome, asked_group}
 use Rattle.answer_model.specs.Sections.{asked_step, cname_step, cut_above, ended, ends, followed}
 use Rattle.answer_model.specs.Sections.{is_zone, look_up, sections, step, step_below, step_from}
 use Rattle.answer_model.specs.Sections.{step_of}
@@ -60,7 +60,7 @@ few_choices by zone sets choices = few 17 by zone sets choices
 abbrev IsKnown : Sections → Type 0
 IsKnown found = (found.rcode ≡ 0) ⊎ (found.rcode ≡ 3)
 
-abbrev IsKnownStep : Step → Type 0
+abbrev IsKnownStep : NameOutcome → Type 0
 IsKnownStep (Ends found) = IsKnown found
 IsKnownStep (Follows cname choices) = ⊤
 
@@ -97,7 +97,7 @@ of_cut : (lookup : Lookup) (name : List (List ℕ)) (cut : Option RecordSet) (ch
 of_cut lookup name (Some cut) choices = inl refl
 of_cut lookup name None choices = of_source lookup name (source lookup.zone.sets name) choices
 
-of_ended : (s : Step) → IsKnownStep s → IsKnown (ended s)
+of_ended : (s : NameOutcome) → IsKnownStep s → IsKnown (ended s)
 of_ended (Ends found) known = known
 of_ended (Follows cname choices) known = inl refl
 
@@ -106,7 +106,7 @@ of_target : (b : Bool) (there here : Sections) → IsKnown there → IsKnown her
 of_target true there here first second = first
 of_target false there here first second = second
 
-of_followed : (lookup : Lookup) (rest : List (List ℕ) → Choices → Sections) (s : Step)
+of_followed : (lookup : Lookup) (rest : List (List ℕ) → Choices → Sections) (s : NameOutcome)
     → ((target : List (List ℕ)) (choices : Choices) → IsKnown (rest target choices))
     → IsKnownStep s → IsKnown (followed lookup rest s)
 of_followed lookup rest (Ends found) knows known = known

@@ -8,7 +8,7 @@ use Rattle.std.proofs.lemmas.Bool.Decides.{Decides-and, Decides-eqb, Decides-ltb
 use Rattle.address_text.specs.declared.address.IpAddress.{IpAddress}
 use Rattle.address_text.specs.declared.address.IpAddress.TheVariants.{V4, V6}
 use Rattle.cidr_blocks.specs.Places.{rows_of}
-use Rattle.cidr_blocks.specs.LawsOfIpTable.{OneLocation}
+use Rattle.cidr_blocks.specs.LawsOfIpTable.{OneRowFound}
 use Rattle.cidr_blocks.specs.Bits.{SharesFirst, first_bits, width_of}
 use Rattle.cidr_blocks.specs.Location.{HasLongerInside, IsFound, IsLonger, IsScope, length_of}
 use Rattle.cidr_blocks.specs.Prefixes.{Covers, LiesInside, Prefix}
@@ -240,7 +240,7 @@ module _ {V : Type 0} where
         (scope rows address are);
   }
 
-  pub told_once : OneLocation V → ToldOnce V
+  pub told_once : OneRowFound V → ToldOnce V
   told_once one rows address value reach are located =
       one rows address value (told_in rows address) reach (scope_in rows address) are located
       (locates_as_told rows address are)

@@ -9,7 +9,7 @@ use Rattle.address_text.specs.declared.address.IpAddress.TheVariants.{V4, V6}
 use Rattle.cidr_blocks.specs.declared.places.Collection.{Collection}
 use Rattle.dns_wire.specs.EdnsRecord.{Edns}
 use Rattle.dns_name.specs.Labels.{wire as name_wire}
-use Rattle.dns_wire.specs.Message.{Record, wire}
+use Rattle.dns_wire.specs.Message.{Record, octets_within}
 use Rattle.ecs_option.specs.declared.subnet.ClientSubnet.{ClientSubnet}
 use Rattle.choice_model.specs.LocationRecord.{Location}
 use Rattle.cidr_blocks.specs.Bits.{number_of}
@@ -121,18 +121,18 @@ with_places sets = record (serving sets) { tables = record { places = places; la
 abbrev asking : ClientSubnet → Option Edns
 asking told = Some (record { size = 1232; dnssec_ok = false; subnet = Some told })
 
-scope_told : wire (query_reply (with_places placed) asker (query www 1 (asking subnet))) 1232 ≡
+scope_told : octets_within (query_reply (with_places placed) asker (query www 1 (asking subnet))) 1232 ≡
     0x12 ∷ 0x34 ∷ 0x85 ∷ 0x00 ∷ 0x00 ∷ 0x01 ∷ 0x00 ∷ 0x01 ∷ 0x00 ∷ 0x00 ∷ 0x00 ∷ 0x01 ∷ 0x03 ∷
     0x77 ∷ 0x77 ∷ 0x77 ∷ 0x07 ∷ 0x65 ∷ 0x78 ∷ 0x61 ∷ 0x6D ∷ 0x70 ∷ 0x6C ∷ 0x65 ∷ 0x03 ∷ 0x63 ∷
     0x6F ∷ 0x6D ∷ 0x00 ∷ 0x00 ∷ 0x01 ∷ 0x00 ∷ 0x01 ∷ 0xC0 ∷ 0x0C ∷ 0x00 ∷ 0x01 ∷ 0x00 ∷ 0x01 ∷
     0x00 ∷ 0x00 ∷ 0x00 ∷ 0x3C ∷ 0x00 ∷ 0x04 ∷ 0xC0 ∷ 0x00 ∷ 0x02 ∷ 0x02 ∷ 0x00 ∷ 0x00 ∷ 0x29 ∷
     0x10 ∷ 0x00 ∷ 0x00 ∷ 0x00 ∷ 0x00 ∷ 0x00 ∷ 0x00 ∷ 0x0B ∷ 0x00 ∷ 0x08 ∷ 0x00 ∷ 0x07 ∷ 0x00 ∷
     0x01 ∷ 0x18 ∷ 0x11 ∷ 0xC6 ∷ 0x33 ∷ 0x64 ∷ []
-unfolding wire sections descend scope_in number_of
+unfolding octets_within sections descend scope_in number_of
 scope_told = refl
 
 -- of a simple group, and to a subnet of no bits, the scope is 0
-scope_of_simple : wire (query_reply (with_places (simple www rtype.A 60 (net 2 ∷ []) ∷ [])) asker
+scope_of_simple : octets_within (query_reply (with_places (simple www rtype.A 60 (net 2 ∷ []) ∷ [])) asker
     (query www 1 (asking subnet))) 1232 ≡
     0x12 ∷ 0x34 ∷ 0x85 ∷ 0x00 ∷ 0x00 ∷ 0x01 ∷ 0x00 ∷ 0x01 ∷ 0x00 ∷ 0x00 ∷ 0x00 ∷ 0x01 ∷ 0x03 ∷
     0x77 ∷ 0x77 ∷ 0x77 ∷ 0x07 ∷ 0x65 ∷ 0x78 ∷ 0x61 ∷ 0x6D ∷ 0x70 ∷ 0x6C ∷ 0x65 ∷ 0x03 ∷ 0x63 ∷
@@ -140,7 +140,7 @@ scope_of_simple : wire (query_reply (with_places (simple www rtype.A 60 (net 2 �
     0x00 ∷ 0x00 ∷ 0x00 ∷ 0x3C ∷ 0x00 ∷ 0x04 ∷ 0xC0 ∷ 0x00 ∷ 0x02 ∷ 0x02 ∷ 0x00 ∷ 0x00 ∷ 0x29 ∷
     0x10 ∷ 0x00 ∷ 0x00 ∷ 0x00 ∷ 0x00 ∷ 0x00 ∷ 0x00 ∷ 0x0B ∷ 0x00 ∷ 0x08 ∷ 0x00 ∷ 0x07 ∷ 0x00 ∷
     0x01 ∷ 0x18 ∷ 0x00 ∷ 0xC6 ∷ 0x33 ∷ 0x64 ∷ []
-unfolding wire sections descend scope_in number_of
+unfolding octets_within sections descend scope_in number_of
 scope_of_simple = refl
 
 -- no set applies to the client: no data, and the table counts as used
@@ -149,11 +149,11 @@ used_places found = found.used.places
 
 none_applies : (query_reply (with_places placed) asker (query www 1 None)).authorities
     ≡ apex_soa ∷ []
-unfolding wire sections descend scope_in number_of
+unfolding octets_within sections descend scope_in number_of
 none_applies = refl
 
 no_answer : (query_reply (with_places placed) asker (query www 1 None)).answers ≡ []
-unfolding wire sections descend scope_in number_of
+unfolding octets_within sections descend scope_in number_of
 no_answer = refl
 
 none_used : used_places (sections (within (zone_of placed) 1) www) ≡ true

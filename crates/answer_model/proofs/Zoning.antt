@@ -14,7 +14,7 @@ use Rattle.zone_model.specs.Zones.{IsAmong}
 use Rattle.answer_model.specs.Laws.{AskedGroups, IsZoneFor, ZoneOrNone, ZonesAreLongest}
 use Rattle.answer_model.specs.Sections.{asked_group}
 use Rattle.zone_model.specs.Hosted.{HostedZone}
-use Rattle.answer_model.specs.Zones.{or_else, zone_at, zone_for}
+use Rattle.answer_model.specs.Zones.{or_else, zone_with, zone_for}
 use Rattle.answer_model.proofs.Naming.{ends_shorter, ends_under, splits}
 
 -- the zone at a name is one of them and has the name; or none has it
@@ -35,11 +35,11 @@ one_more zone zones name false decides None rest = other
     other x (inr there) same = rest x there same
 one_more zone zones name false decides (Some found) rest = (inr rest.0, rest.1)
 
-at_name : (zones : List HostedZone) (name : List (List ℕ)) → IsAtName zones name (zone_at zones name)
+at_name : (zones : List HostedZone) (name : List (List ℕ)) → IsAtName zones name (zone_with zones name)
 at_name [] name = λ zone there. absurd there
 at_name (zone ∷ zones) name =
     one_more zone zones name (same_labels zone.apex name) (same_labels-Decides zone.apex name)
-    (zone_at zones name) (at_name zones name)
+    (zone_with zones name) (at_name zones name)
 
 -- of the zones that hold a name that one of them has, it is the longest
 has_name : (zones : List HostedZone) (name : List (List ℕ)) (zone : HostedZone) → IsAmong zones zone
@@ -81,9 +81,9 @@ nearer zones label name None (Some zone) none rest = record {
 }
 
 pub zones_are_longest : ZonesAreLongest
-zones_are_longest zones [] = root_zone zones (zone_at zones []) (at_name zones [])
+zones_are_longest zones [] = root_zone zones (zone_with zones []) (at_name zones [])
 zones_are_longest zones (label ∷ name) =
-    nearer zones label name (zone_at zones (label ∷ name)) (zone_for zones name)
+    nearer zones label name (zone_with zones (label ∷ name)) (zone_for zones name)
     (at_name zones (label ∷ name)) (zones_are_longest zones name)
 
 -- ---- the sets of QTYPE

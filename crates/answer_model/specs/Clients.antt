@@ -6,7 +6,7 @@ use Rattle.address_text.specs.declared.address.IpAddress.TheVariants.{V4, V6}
 use Rattle.choice_model.specs.Choice.{ClientRows}
 use Rattle.cidr_blocks.specs.declared.places.Collection.{Collection}
 use Rattle.cidr_blocks.specs.Places.{rows_of}
-use Rattle.choice_model.specs.Stored.{collection_at}
+use Rattle.choice_model.specs.Stored.{collection_with}
 use Rattle.ecs_option.specs.declared.subnet.ClientSubnet.{ClientSubnet}
 use Rattle.choice_model.specs.TablesRecord.{Tables}
 use Rattle.answer_model.specs.Location.{told_in, scope_in}
@@ -39,14 +39,14 @@ blocks_scope None address = 0
 blocks_scope (Some collection) address = scope_in (rows_of collection.locations) address
 
 -- what the tables and the collections tell of the client with an address
-abbrev pub client_at : Tables → List (ℕ × Collection) → IpAddress → Client
-client_at tables collections address = record {
+abbrev pub client_with : Tables → List (ℕ × Collection) → IpAddress → Client
+client_with tables collections address = record {
   rows = record {
     location = told_in tables.places address;
     latencies = told_in tables.latencies address;
-    block = λ id. location_in (collection_at id collections) address;
+    block = λ id. location_in (collection_with id collections) address;
   };
   places = scope_in tables.places address;
   latencies = scope_in tables.latencies address;
-  blocks = λ id. blocks_scope (collection_at id collections) address;
+  blocks = λ id. blocks_scope (collection_with id collections) address;
 }

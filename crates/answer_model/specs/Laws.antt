@@ -100,7 +100,7 @@ ToldOnceIn =
     → AreRowsIn found → LocatesIn found address name scope
     → (name ≡ location_in found address) × (scope ≡ blocks_scope found address)
 
--- A query makes at most 17 choices from group to group.
+-- From a group to the sets that answer there are at most 17 choices.
 abbrev pub FewChoices : Type 0
 FewChoices = (by : Means) (zone group_sets : List RecordSet) (choices : Choices)
     → (descend by zone group_sets choices).choices.count ≤ choices.count + 17

@@ -17,7 +17,7 @@ pub use Rattle.choice_model.specs.TablesRecord
 pub use Rattle.zone_model.specs.Existing
 pub use Rattle.zone_model.specs.Hosted
 pub use Rattle.zone_model.specs.Keys
-pub use Rattle.zone_model.specs.Placed
+pub use Rattle.zone_model.specs.Slotted
 pub use Rattle.zone_model.specs.Zones as ZonesOfZoneModel
 pub use Rattle.zone_model.specs.Sets
 pub use Rattle.zone_model.specs.RecordSetRecord

@@ -11,12 +11,12 @@ use Rattle.dns_wire.specs.QueryReadRecord.TheVariants as read
 use Rattle.dns_wire.specs.Draft.{opt_of, reply_to}
 use Rattle.dns_wire.specs.Header.{short_reply}
 use Rattle.dns_wire.specs.Limit.{limit_of, refusal_of, version_refusal_of}
-use Rattle.dns_wire.specs.Message.{Message, wire}
+use Rattle.dns_wire.specs.Message.{Message, octets_within}
 use Rattle.ecs_option.specs.declared.subnet.ClientSubnet.{ClientSubnet}
 use Rattle.choice_model.specs.TablesRecord.{Tables}
 use Rattle.zone_model.specs.SetKeyRecord.{SetKey}
 use Rattle.answer_model.specs.declared.used.Used.{Used}
-use Rattle.answer_model.specs.Clients.{Client, client_address, client_at}
+use Rattle.answer_model.specs.Clients.{Client, client_address, client_with}
 use Rattle.answer_model.specs.Sections.{Lookup, Sections, sections}
 use Rattle.zone_model.specs.Hosted.{HostedZone}
 use Rattle.answer_model.specs.Zones.{zone_for}
@@ -64,7 +64,7 @@ is_refused query = not (query.qclass == 1) || is_refused_type query.qtype
 
 abbrev pub client_of : Served → (peer : IpAddress) → Query → Client
 client_of served peer query =
-    client_at served.tables served.collections (client_address (subnet_of query.edns) peer)
+    client_with served.tables served.collections (client_address (subnet_of query.edns) peer)
 
 abbrev pub lookup_of : Served → (words : List ℕ) → Query → Client → HostedZone → Lookup
 lookup_of served words query client zone = record {
@@ -107,9 +107,9 @@ abbrev pub reply_to_read : Served → Asker → QueryRead → Option (List ℕ)
 reply_to_read served asker read.Silent = None
 reply_to_read served asker (read.Bad id opcode rd rcode) = Some (short_reply id opcode rd rcode)
 reply_to_read served asker (read.BadVersion query) =
-    Some (wire (version_refusal_of query) (limit_of query.edns))
+    Some (octets_within (version_refusal_of query) (limit_of query.edns))
 reply_to_read served asker (read.Query query) =
-    Some (wire (query_reply served asker query) (limit_of query.edns))
+    Some (octets_within (query_reply served asker query) (limit_of query.edns))
 
 -- The answer to a packet, as it is judged.
 pub record Answers (served : Served) (asker : Asker) (packet : List ℕ)

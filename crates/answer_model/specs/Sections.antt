@@ -81,49 +81,49 @@ asked_group sets name qtype =
     filter (λ (set : RecordSet). same_labels name set.name && qtype == number_of set.rtype) sets
 
 -- What a name comes to: the end of the answer, or a CNAME record whose target is looked up next.
-pub data Step : Type 0 where
-  Ends : Sections → Step
-  Follows : (cname : Record) → Choices → Step
+pub data NameOutcome : Type 0 where
+  Ends : Sections → NameOutcome
+  Follows : (cname : Record) → Choices → NameOutcome
 
 -- The chosen records of the asked type answer. Where nothing is chosen it is no data.
-abbrev pub asked_step : Lookup → (name : List (List ℕ)) → (chosen : List RecordSet) → Used → Step
+abbrev pub asked_step : Lookup → (name : List (List ℕ)) → (chosen : List RecordSet) → Used → NameOutcome
 asked_step lookup name [] used = Ends (no_data lookup.zone used)
 asked_step lookup name (set ∷ sets) used =
     Ends (record (ends used) { answers = answer_records name (set ∷ sets) })
 
 -- A CNAME record, where there is one, is followed. Else it is no data.
-abbrev pub cname_step : Lookup → List Record → Choices → Step
+abbrev pub cname_step : Lookup → List Record → Choices → NameOutcome
 cname_step lookup [] choices = Ends (no_data lookup.zone choices.used)
 cname_step lookup (cname ∷ others) choices = Follows cname choices
 
-abbrev pub asked : Lookup → (name : List (List ℕ)) → Descended → Step
+abbrev pub asked : Lookup → (name : List (List ℕ)) → Descended → NameOutcome
 asked lookup name chosen = asked_step lookup name chosen.sets chosen.choices.used
 
-abbrev pub canonical : Lookup → (name : List (List ℕ)) → Descended → Step
+abbrev pub canonical : Lookup → (name : List (List ℕ)) → Descended → NameOutcome
 canonical lookup name chosen = cname_step lookup (answer_records name chosen.sets) chosen.choices
 
 -- Of the sets of the source: those of QTYPE; where there are none of these, the CNAME sets. Records
 -- have the name that was asked for (RFC 1034, 4.3.2, steps 3a and 3c; RFC 4592, 3.3.1).
 abbrev pub step_of : Lookup → (name : List (List ℕ)) → (typed cnames : List RecordSet) → Choices
-    → Step
+    → NameOutcome
 step_of lookup name [] cnames choices =
     canonical lookup name (descend lookup.means lookup.zone.sets cnames choices)
 step_of lookup name (first ∷ others) cnames choices =
     asked lookup name (descend lookup.means lookup.zone.sets (first ∷ others) choices)
 
 abbrev pub step_from : Lookup → (name : List (List ℕ)) → (from : Option (List (List ℕ)))
-    → Choices → Step
+    → Choices → NameOutcome
 step_from lookup name None choices = Ends (nxdomain lookup.zone choices.used)
 step_from lookup name (Some from) choices =
     step_of lookup name (asked_group lookup.zone.sets from lookup.qtype)
     (group lookup.zone.sets from rtype.Cname) choices
 
-abbrev pub step_below : Lookup → (name : List (List ℕ)) → (cut : Option RecordSet) → Choices → Step
+abbrev pub step_below : Lookup → (name : List (List ℕ)) → (cut : Option RecordSet) → Choices → NameOutcome
 step_below lookup name (Some cut) choices = Ends (referral lookup.zone.sets cut choices.used)
 step_below lookup name None choices =
     step_from lookup name (source lookup.zone.sets name) choices
 
-abbrev pub step : Lookup → (name : List (List ℕ)) → Choices → Step
+abbrev pub step : Lookup → (name : List (List ℕ)) → Choices → NameOutcome
 step lookup name choices = step_below lookup name (cut_above lookup.zone name) choices
 
 -- ---- from CNAME to CNAME
@@ -145,13 +145,13 @@ target_sections lookup rest target choices =
     if is_zone lookup.zone (zone_for lookup.zones target) then rest target choices
     else ends choices.used
 
-abbrev pub followed : Lookup → (rest : List (List ℕ) → Choices → Sections) → Step → Sections
+abbrev pub followed : Lookup → (rest : List (List ℕ) → Choices → Sections) → NameOutcome → Sections
 followed lookup rest (Ends sections) = sections
 followed lookup rest (Follows cname choices) =
     with_cname cname (target_sections lookup rest (labels_of cname.rdata) choices)
 
 -- A CNAME record more isn't added.
-abbrev pub ended : Step → Sections
+abbrev pub ended : NameOutcome → Sections
 ended (Ends sections) = sections
 ended (Follows cname choices) = ends choices.used
 

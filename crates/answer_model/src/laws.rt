@@ -5,7 +5,7 @@ ghost use Rattle.answer_model.specs.Laws.{FewChoices, LocatesAsTold, NamesBelow,
 ghost use Rattle.answer_model.specs.Laws.{NoReply, OneReply, RcodesOfSections, ToldOnce};
 ghost use Rattle.answer_model.specs.Laws.{ToldOnceIn, ZonesAreLongest};
 
-use cidr_blocks::{Ident, one_location};
+use cidr_blocks::{Ident, one_row_found};
 use dns_wire::one_judgement;
 
 /// A packet has one reply, given what is served, who asks, and the words.
@@ -47,7 +47,7 @@ pub fn locates_as_told<V>()
     ensures located { LocatesAsTold V }
     ensures once { ToldOnce V }
 {
-    one_location::<V>();
+    one_row_found::<V>();
 }
 
 /// So it is in a collection of address blocks.

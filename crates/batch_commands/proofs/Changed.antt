@@ -24,7 +24,7 @@ use Rattle.config_zones.specs.Batches.{first_among, is_zone_full, location_refus
 use Rattle.config_zones.specs.Batches.{store_refusal, target_refusal}
 use Rattle.config_zones.specs.Configs.{Config, with_sets, zone_with}
 use Rattle.config_zones.specs.Sound.{IsSoundZone, Sound}
-use Rattle.config_zones.specs.Telling.{first_of, of_batch, rule, unless}
+use Rattle.config_zones.specs.Telling.{first_of, of_batch, refuse_if, unless}
 use Rattle.config_zones.specs.Told.{AreInOrder, RefusalsAreTold}
 use Rattle.config_zones.specs.MadeRecord.TheVariants as made
 use Rattle.config_zones.specs.RefusalRecord.{Refusal}
@@ -37,7 +37,7 @@ use Rattle.record_set.specs.declared.sets.SetKey.{SetKey}
 use Rattle.config_zones.proofs.Listing.{its_placed}
 use Rattle.config_zones.specs.Zones.{AreZones, IsZoneId, Zone, hosted, placed_in}
 use Rattle.zone_model.specs.Hosted.{HostedZone}
-use Rattle.zone_model.specs.Placed.{Placed, sets_of}
+use Rattle.zone_model.specs.Slotted.{Slotted, sets_of}
 use Rattle.config_zones.specs.Counted.{octets_in_all, sets_in_all}
 use Rattle.config_zones.specs.Edits.{IsAllowed}
 use Rattle.config_zones.specs.LawsOfZoneTable.{OneApex}
@@ -82,7 +82,7 @@ module _ (table : Table) (checks : Checks) (next id : ℕ) (sound : Sound (confi
 
   pub last : sets_refusal checks.list table.collections.list sets ≡ None
   last =
-      subst (λ (ps : List Placed).
+      subst (λ (ps : List Slotted).
       sets_refusal checks.list table.collections.list (sets_of ps) ≡ None) its_sets
       its_soundness.last
 
@@ -91,14 +91,14 @@ module _ (table : Table) (checks : Checks) (next id : ℕ) (sound : Sound (confi
       × (first_among (location_refusal table.collections.list) sets ≡ None)
       × (first_among (target_refusal sets) sets ≡ None)
       × (first_among (depth_refusal sets) sets ≡ None)
-      × (rule (is_zone_full sets) refusal.ZoneFull ≡ None)
+      × (refuse_if (is_zone_full sets) refusal.ZoneFull ≡ None)
   last_parts =
       parts (first_among (check_refusal checks.list) sets)
       (first_among (collection_refusal table.collections.list) sets)
       (first_among (location_refusal table.collections.list) sets)
       (first_among (target_refusal sets) sets)
       (first_among (depth_refusal sets) sets)
-      (rule (is_zone_full sets) refusal.ZoneFull) last
+      (refuse_if (is_zone_full sets) refusal.ZoneFull) last
 
   pub in_order : RefusalsAreTold → AreInOrder checks.list table.collections.list sets
   in_order told = (told.none checks.list table.collections.list sets).0 last
@@ -109,7 +109,7 @@ module _ (table : Table) (checks : Checks) (next id : ℕ) (sound : Sound (confi
       let same : there.0.apex ≡ apex =
       one table.zones id there.0.apex apex are (there.0, there.1, there.2, refl) is in
       subst (λ (a : List (List ℕ)). MeetsAll rules sets a) same
-      (subst (λ (ps : List Placed). MeetsAll rules (sets_of ps) there.0.apex) its_sets
+      (subst (λ (ps : List Slotted). MeetsAll rules (sets_of ps) there.0.apex) its_sets
       its_soundness.rules)
 
   -- ---- what is looked at behind the last change
@@ -137,7 +137,7 @@ module _ (table : Table) (checks : Checks) (next id : ℕ) (sound : Sound (confi
         ∷ first_among (depth_refusal after) after ∷ [])
 
     abbrev of_sizes : Option Refusal
-    of_sizes = first_of (rule (is_zone_full after) refusal.ZoneFull
+    of_sizes = first_of (refuse_if (is_zone_full after) refusal.ZoneFull
         ∷ store_refusal (with_sets (hosted_in table.zones) id after) ∷ [])
 
     new_names : first_of (first_among (check_refusal checks.list) after
@@ -167,7 +167,7 @@ module _ (table : Table) (checks : Checks) (next id : ℕ) (sound : Sound (confi
         (first_among (location_refusal table.collections.list) after)
         (first_among (target_refusal after) after)
         (first_among (depth_refusal after) after)
-        (rule (is_zone_full after) refusal.ZoneFull)
+        (refuse_if (is_zone_full after) refusal.ZoneFull)
         (store_refusal (with_sets (hosted_in table.zones) id after))
         ∙ ap (λ (t : Option Refusal). first_of (t ∷ of_links ∷ of_sizes ∷ [])) new_names
 

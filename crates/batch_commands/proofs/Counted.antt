@@ -30,12 +30,12 @@ use Rattle.zone_model.proofs.Among.{place_of}
 use Rattle.zone_model.proofs.Ordered.{keys_total}
 use Rattle.zone_model.proofs.Places.{rising_at}
 use Rattle.zone_model.specs.Keys.{key_cmp}
-use Rattle.zone_model.specs.Placed.{Placed, sets_of}
-use Rattle.zone_model.specs.Placing.{IsThere, Keeps}
+use Rattle.zone_model.specs.Slotted.{Slotted, sets_of}
+use Rattle.zone_model.specs.Placing.{IsThere, IsSetOf}
 use Rattle.zone_model.specs.Zones.{IsRising}
 use Rattle.config_zones.specs.Counted.{octets_in_all, sets_in_all}
 use Rattle.config_zones.specs.Edits.{IsAllowed}
-use Rattle.config_zones.specs.Looking.{IsNextSet, Names}
+use Rattle.config_zones.specs.Looking.{IsNextSet, RefersTo}
 use Rattle.config_zones.specs.ZoneEditRecord.TheVariants.{Change}
 use Rattle.batch_commands.specs.Sizes.{octets_in}
 use Rattle.batch_commands.proofs.Fullness.{part_of_all, with_other}
@@ -84,7 +84,7 @@ module _ (zones : List Zone) (are : AreZones zones) (id : ℕ) (remove : List Se
       omega (arith, come, e)
 
   pub as_many : length sets ≡ length (placed_in zones id)
-  as_many = length-map (placed_in zones id) (λ (p : Placed). p.set)
+  as_many = length-map (placed_in zones id) (λ (p : Slotted). p.set)
 
   its_sets : sets ≡ sets_of allowed.0.0.placed
   its_sets =
@@ -170,7 +170,7 @@ module _ (sets : List RecordSet) (key : SetKey) (has : IsThere sets key) where
 
   -- the first set that doesn't stand before it is the one of the key
   pub found_at : (at : ℕ) → IsRising sets → IsCount sets (bound.From key) at
-      → (set : RecordSet) → slice_get sets at ≡ Some set → Keeps sets key set
+      → (set : RecordSet) → slice_get sets at ≡ Some set → IsSetOf sets key set
   found_at at rising count set there =
       elim (cases_lt its_place.0 at) [
         | inl lt ↦
@@ -189,7 +189,7 @@ module _ (sets : List RecordSet) (key : SetKey) (has : IsThere sets key) where
               let here : slice_get sets at ≡ Some has.0 =
               subst (λ k. slice_get sets k ≡ Some has.0) same its_place.1 in
               let one : has.0 ≡ set = grind (arith, here, there) in
-              subst (λ (s : RecordSet). Keeps sets key s) one has.1)
+              subst (λ (s : RecordSet). IsSetOf sets key s) one has.1)
         ]
       ]
 
@@ -199,17 +199,17 @@ module _ (zones : List Zone) (are : AreZones zones) (id : ℕ) (key : SetKey)
     (has : IsThere (sets_in zones id) key) where
   pub some_next : IsNextSet zones id (bound.From key) None → ⊥
   some_next none =
-      let size = length-map (placed_in zones id) (λ (p : Placed). p.set) in
+      let size = length-map (placed_in zones id) (λ (p : Slotted). p.set) in
       not_all_before (sets_in zones id) key has (length (placed_in zones id)) none
       (omega (arith, size))
 
   module _ (ref : SetRef) (next : IsNextSet zones id (bound.From key) (Some ref)) where
-    pub names_it : Names zones ref next.1.2.0
+    pub names_it : RefersTo zones ref next.1.2.0
     names_it = named zones are id next.1.0 ref next.0 next.1.2
 
     pub loads_it : (held : Option RecordSet)
-        → ((other : RecordSet) × Names zones ref other × (held ≡ Some other))
-        → (set : RecordSet) × Keeps (sets_in zones id) key set × (held ≡ Some set)
+        → ((other : RecordSet) × RefersTo zones ref other × (held ≡ Some other))
+        → (set : RecordSet) × IsSetOf (sets_in zones id) key set × (held ≡ Some set)
     loads_it held found =
         let it = held_there zones are id next.1.0 ref next.0 next.1.2 held found in (
           it.0,

@@ -12,7 +12,7 @@ use Rattle.config_zones.proofs.Listing.{its_placed}
 use Rattle.config_zones.proofs.MembersOfZoneList.{in_all}
 use Rattle.config_zones.specs.Zones.{AreListed, IsOne, IsZoneId, Zone, hosted, placed_in}
 use Rattle.zone_model.specs.Hosted.{HostedZone}
-use Rattle.zone_model.specs.Placed.{Placed, sets_of}
+use Rattle.zone_model.specs.Slotted.{Slotted, sets_of}
 
 at_id : (id : ℕ) (sets : List RecordSet) (z : HostedZone) → z.id ≡ id
     → with_sets_at id sets z ≡ record z { sets = sets }
@@ -78,7 +78,7 @@ module _ (g : HostedZone → ℕ) (h : List RecordSet → ℕ) (told : (z : Host
   with_other zones listed id (zone, there, its_id) =
       let one = with_one zones listed zone there in
       let same = ap (λ n. sum_by g (with_sets (hosted_in zones) n after)) its_id in
-      let placed = ap (λ (ps : List Placed). h (sets_of ps))
+      let placed = ap (λ (ps : List Slotted). h (sets_of ps))
       (sym (its_placed zones listed zone there) ∙ ap (placed_in zones) its_id) in
       omega (arith, one, same, placed)
 

@@ -9,7 +9,7 @@ use Rattle.alias_links.specs.Laws.{NoneHas}
 use Rattle.config_zones.proofs.Told.{none_of_all}
 use Rattle.config_zones.specs.Batches.{depth_refusal, first_among, is_alias, is_empty, is_too_deep}
 use Rattle.config_zones.specs.Batches.{leads_on, target_refusal}
-use Rattle.config_zones.specs.Telling.{rule}
+use Rattle.config_zones.specs.Telling.{refuse_if}
 use Rattle.config_zones.specs.Told.{RefusalsAreTold}
 use Rattle.config_zones.specs.RefusalRecord.{Refusal}
 use Rattle.config_zones.specs.RefusalRecord.TheVariants.{AliasTargetMissing}
@@ -48,28 +48,28 @@ module _ (zone : List RecordSet) where
   refused_target : (set : RecordSet) → HasNoTarget zone set
       → target_refusal zone set ≡ Some (AliasTargetMissing (key_of set))
   refused_target set (alias, empty) =
-      ap (λ b. rule (b && is_empty (target_group zone set)) (AliasTargetMissing (key_of set)))
+      ap (λ b. refuse_if (b && is_empty (target_group zone set)) (AliasTargetMissing (key_of set)))
       (of_alias set.body alias)
-      ∙ ap (λ (sets : List RecordSet). rule (is_empty sets) (AliasTargetMissing (key_of set))) empty
+      ∙ ap (λ (sets : List RecordSet). refuse_if (is_empty sets) (AliasTargetMissing (key_of set))) empty
 
   led : (set : RecordSet) → (HasNoTarget zone set → ⊥) → target_refusal zone set ≡ None
   led set has = by (is_alias set.body) (is_empty (target_group zone set)) refl refl
     where
       by : (alias empty : Bool) → is_alias set.body ≡ alias
           → is_empty (target_group zone set) ≡ empty
-          → rule (is_alias set.body && is_empty (target_group zone set))
+          → refuse_if (is_alias set.body && is_empty (target_group zone set))
           (AliasTargetMissing (key_of set)) ≡ None
       by false empty a e =
-          ap (λ b. rule (b && is_empty (target_group zone set)) (AliasTargetMissing (key_of set))) a
+          ap (λ b. refuse_if (b && is_empty (target_group zone set)) (AliasTargetMissing (key_of set))) a
       by true false a e =
-          ap (λ b. rule (b && is_empty (target_group zone set)) (AliasTargetMissing (key_of set))) a
-          ∙ ap (λ b. rule b (AliasTargetMissing (key_of set))) e
+          ap (λ b. refuse_if (b && is_empty (target_group zone set)) (AliasTargetMissing (key_of set))) a
+          ∙ ap (λ b. refuse_if b (AliasTargetMissing (key_of set))) e
       by true true a e = absurd (has (alias_of set.body a, of_empty (target_group zone set) e))
 
   refused_depth : RefusalsAreTold → (set : RecordSet) → IsAmong zone set → IsTooDeep zone set
       → depth_refusal zone set ≡ Some (AliasTooDeep (key_of set))
   refused_depth told set there deep =
-      ap (λ b. rule b (AliasTooDeep (key_of set)))
+      ap (λ b. refuse_if b (AliasTooDeep (key_of set)))
       (too_deep_is zone set ∙ (told.walks 16 zone set there).1 deep)
 
   shallow : RefusalsAreTold → (set : RecordSet) → IsAmong zone set → (IsTooDeep zone set → ⊥)
@@ -77,8 +77,8 @@ module _ (zone : List RecordSet) where
   shallow told set there has = by (is_too_deep zone set) refl
     where
       by : (b : Bool) → is_too_deep zone set ≡ b
-          → rule (is_too_deep zone set) (AliasTooDeep (key_of set)) ≡ None
-      by false e = ap (λ b. rule b (AliasTooDeep (key_of set))) e
+          → refuse_if (is_too_deep zone set) (AliasTooDeep (key_of set)) ≡ None
+      by false e = ap (λ b. refuse_if b (AliasTooDeep (key_of set))) e
       by true e =
           absurd (has ((told.walks 16 zone set there).0 (sym (too_deep_is zone set) ∙ e)))
 

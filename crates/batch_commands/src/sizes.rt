@@ -5,10 +5,10 @@ ghost use Rattle.alias_links.specs.After.{changed_in, sets_in};
 ghost use Rattle.config_zones.specs.Edited.{hosted_in};
 ghost use Rattle.config_zones.specs.Batches.{is_store_full, is_zone_full, store_refusal};
 ghost use Rattle.config_zones.specs.Configs.{with_sets};
-ghost use Rattle.config_zones.specs.Telling.{first_of, rule};
+ghost use Rattle.config_zones.specs.Telling.{first_of, refuse_if};
 ghost use Rattle.config_zones.specs.RefusalRecord.TheVariants as refusal;
 ghost use Rattle.config_zones.specs.Changes.{AreThere, without_all};
-ghost use Rattle.zone_model.specs.Placing.{IsThere, Keeps};
+ghost use Rattle.zone_model.specs.Placing.{IsThere, IsSetOf};
 ghost use Rattle.config_zones.specs.Counted.{octets_in_all, sets_in_all};
 ghost use Rattle.config_zones.specs.Edits.{IsAllowed};
 ghost use Rattle.config_zones.specs.ZoneEditRecord.TheVariants.{Change};
@@ -34,7 +34,7 @@ pub fn size_refusal(
     requires sets { sets_in_all zones.now.zones ≤ 100000 }
     requires octets { octets_in_all zones.now.zones ≤ 67108864 }
     ensures { result ≡ first_of (
-        rule (is_zone_full (changed_in zones.now.zones zone remove.now add.now)) refusal.ZoneFull
+        refuse_if (is_zone_full (changed_in zones.now.zones zone remove.now add.now)) refusal.ZoneFull
         ∷ store_refusal (with_sets (hosted_in zones.now.zones) zone
         (changed_in zones.now.zones zone remove.now add.now))
         ∷ []) }
@@ -124,7 +124,7 @@ fn octets_of_keys(zones: &Zones, zone: u32, keys: &[SetKey], scratch: &mut Scrat
 /// How many octets the set of a key has, which is there.
 fn octets_of_key(zones: &Zones, zone: u32, key: &SetKey, scratch: &mut Scratch) -> u64
     requires { IsThere (sets_in zones.now.zones zone) key.now }
-    ensures { (set : RecordSet) × Keeps (sets_in zones.now.zones zone) key.now set
+    ensures { (set : RecordSet) × IsSetOf (sets_in zones.now.zones zone) key.now set
         × (result ≡ length (set_octets set)) }
 {
     zones.well_formed();

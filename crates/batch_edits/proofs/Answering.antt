@@ -6,7 +6,7 @@ use Rattle.record_set.specs.declared.sets.RecordSet.{RecordSet}
 use Rattle.record_set.specs.declared.sets.SetKey.{SetKey}
 use Rattle.record_set.specs.Sets.{key_of}
 use Rattle.batch_names.specs.AllZones.{Zone, placed_in}
-use Rattle.config_model.specs.Placed.{sets_of}
+use Rattle.config_model.specs.Slotted.{sets_of}
 use Rattle.change_batch.specs.ChangeRecord.{Change}
 use Rattle.change_batch.specs.BatchRefusalRecord.{BatchRefusal}
 use Rattle.change_batch.specs.BatchRefusalRecord.TheVariants as batch

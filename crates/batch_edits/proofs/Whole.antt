@@ -11,7 +11,7 @@ use Rattle.config_model.specs.OctetsOfSetOctets.{HasSpelling, most_octets, set_o
 use Rattle.config_model.specs.Keys.{key_cmp}
 use Rattle.config_model.specs.Placing.{IsThere, placed}
 use Rattle.config_model.specs.Zones.{IsAmong, IsRising, IsZone}
-use Rattle.config_model.specs.Placed.{Placed, sets_of}
+use Rattle.config_model.specs.Slotted.{Slotted, sets_of}
 use Rattle.config_model.proofs.Among.{place_of}
 use Rattle.config_model.proofs.Ordered.{keys_tie}
 use Rattle.batch_names.specs.Changes.{AreThere, CanChange, DifferByKey, IsKeyOf, without_all}
@@ -420,7 +420,7 @@ module _ (sets : List RecordSet) (apex : List (List ℕ)) (changes : List Change
         ];
       })
 
-  pub can_change : AllByRecursion HasBoundedSet changes → (placed : List Placed)
+  pub can_change : AllByRecursion HasBoundedSet changes → (placed : List Slotted)
       → sets_of placed ≡ sets → CanChange apex placed edit.remove edit.add
   can_change bounded placed are = record {
     there = subst (λ s. AreThere s edit.remove) (sym are)
@@ -462,13 +462,13 @@ zone_is law zones id apex are (zone, there, its_id, its_apex) =
     let alone : StandsAlone zone = in_all StandsAlone zones zone are.each there in
     let placed : placed_in zones id ≡ zone.placed =
     subst (λ n. placed_in zones n ≡ zone.placed) its_id (law zones zone are.listed there) in
-    subst (λ (p : List Placed). IsZone (sets_of p) apex) (sym placed)
+    subst (λ (p : List Slotted). IsZone (sets_of p) apex) (sym placed)
     (subst (λ a. IsZone (sets_of zone.placed) a) its_apex (record {
       rising = alone.sets.rising;
       inside = all_in (λ set. EndsWith set.name zone.apex) (sets_of zone.placed)
           (λ set at.
           let p = placed_with zone.placed set at in
-          let can = in_all (λ (q : Placed). CanStand zone.apex q.set) zone.placed p.0 alone.each
+          let can = in_all (λ (q : Slotted). CanStand zone.apex q.set) zone.placed p.0 alone.each
           p.1 in
           subst (λ s. EndsWith s.name zone.apex) p.2 can.inside);
     }))

@@ -9,7 +9,7 @@ use Rattle.change_batch.specs.Batches.{Prepares}
 use Rattle.change_batch.specs.Rules.{MeetsAll, rules}
 use Rattle.batch_names.specs.Changes.{IsKeyOf, with_all, without_all}
 use Rattle.batch_names.specs.AllZones.{Zone, placed_in}
-use Rattle.config_model.specs.Placed.{sets_of}
+use Rattle.config_model.specs.Slotted.{sets_of}
 use Rattle.config_model.specs.Zones.{IsAmong}
 use Rattle.batch_names.specs.ZoneEditRecord.TheVariants.{Change as ChangeZone}
 use Rattle.batch_names.specs.Edits.{IsAllowed}

@@ -4,7 +4,7 @@ ghost use Rattle.std.specs.Prelude.{◌≡◌, IfOk, IfErr, IfSome, IfNone};
 ghost use Rattle.serde_json.specs.Data.{Data};
 ghost use Rattle.serde_json.specs.Find.{as_object};
 ghost use Rattle.serde_json.specs.View.{view};
-ghost use Rattle.line_reading.specs.Reading.{Reads, bad};
+ghost use Rattle.line_reading.specs.Reading.{Gives, bad};
 ghost use Rattle.line_faults.specs.declared.member.Member.TheVariants as m;
 ghost use Rattle.line_faults.specs.declared.fault.LineReason.TheVariants as reason;
 ghost use Rattle.line_faults.specs.declared.fault.LineFault.TheVariants.{OutOfMemory};
@@ -33,9 +33,9 @@ use zone_lines::{create_hosted_zone, delete_hosted_zone, list_sets};
 /// one member whose name is that of a line; of equal names the last counts. Then the faults are
 /// those of the member's value, in the order of its members.
 pub fn read_line(alloc: Global, line: &[u8]) -> Result<Line, LineFault>
-    ensures json { (value : Data) → IsJson line.now value → Reads result (line_of value) }
+    ensures json { (value : Data) → IsJson line.now value → Gives result (line_of value) }
     ensures not_json { ((value : Data) → IsJson line.now value → ⊥)
-        → Reads result (bad reason.NotJson m.Line) }
+        → Gives result (bad reason.NotJson m.Line) }
 {
     match json_of(alloc, line)? {
         Some(value) => line_of(alloc, &value),
@@ -64,7 +64,7 @@ fn json_of(alloc: Global, line: &[u8]) -> Result<Option<Value>, LineFault>
 /// What a JSON value asks for.
 #[tactic(auto, unfolding(crate::specs::Lines::line_of))]
 fn line_of(alloc: Global, value: &Value) -> Result<Line, LineFault>
-    ensures { Reads result (line_of (view value.now)) }
+    ensures { Gives result (line_of (view value.now)) }
 {
     one_member(value)?;
     line_named(alloc, value)
@@ -73,7 +73,7 @@ fn line_of(alloc: Global, value: &Value) -> Result<Line, LineFault>
 /// That a value is an object of one member.
 #[tactic(auto, using(crate::proofs::One::counted))]
 fn one_member(value: &Value) -> Result<(), LineFault>
-    ensures { Reads result (one_member (as_object (view value.now))) }
+    ensures { Gives result (one_member (as_object (view value.now))) }
 {
     let Some(map) = value.as_object() else {
         return Err(LineFault::bad(LineReason::UnknownLine, Member::Line));
@@ -87,7 +87,7 @@ fn one_member(value: &Value) -> Result<(), LineFault>
 /// What the line of this name asks for.
 #[tactic(auto, unfolding(crate::specs::Lines::line_named))]
 fn line_named(alloc: Global, value: &Value) -> Result<Line, LineFault>
-    ensures { Reads result (line_named (view value.now)) }
+    ensures { Gives result (line_named (view value.now)) }
 {
     if let Some(line) = zone_line(alloc, value)? {
         return Ok(line);
@@ -107,7 +107,7 @@ fn line_named(alloc: Global, value: &Value) -> Result<Line, LineFault>
 /// A line on hosted zones and their sets.
 #[tactic(auto, unfolding(crate::specs::Lines::zone_line))]
 fn zone_line(alloc: Global, value: &Value) -> Result<Option<Line>, LineFault>
-    ensures { Reads result (zone_line (view value.now)) }
+    ensures { Gives result (zone_line (view value.now)) }
 {
     if let Some(line) = value.get(Member::CreateHostedZone.text()) {
         let zone = create_hosted_zone(line)?;
@@ -131,7 +131,7 @@ fn zone_line(alloc: Global, value: &Value) -> Result<Option<Line>, LineFault>
 /// A line on health checks.
 #[tactic(auto, unfolding(crate::specs::Lines::check_line))]
 fn check_line(alloc: Global, value: &Value) -> Result<Option<Line>, LineFault>
-    ensures { Reads result (check_line (view value.now)) }
+    ensures { Gives result (check_line (view value.now)) }
 {
     if let Some(line) = value.get(Member::CreateHealthCheck.text()) {
         let check = create_health_check(alloc, line)?;
@@ -159,7 +159,7 @@ fn check_line(alloc: Global, value: &Value) -> Result<Option<Line>, LineFault>
 /// A line on collections of address blocks.
 #[tactic(auto, unfolding(crate::specs::Lines::collection_line))]
 fn collection_line(alloc: Global, value: &Value) -> Result<Option<Line>, LineFault>
-    ensures { Reads result (collection_line (view value.now)) }
+    ensures { Gives result (collection_line (view value.now)) }
 {
     if let Some(line) = value.get(Member::CreateCidrCollection.text()) {
         let command = create_collection(line)?;
@@ -179,7 +179,7 @@ fn collection_line(alloc: Global, value: &Value) -> Result<Option<Line>, LineFau
 /// A line that asks, serves or compacts.
 #[tactic(auto, unfolding(crate::specs::Lines::serving_line))]
 fn serving_line(alloc: Global, value: &Value) -> Result<Option<Line>, LineFault>
-    ensures { Reads result (serving_line (view value.now)) }
+    ensures { Gives result (serving_line (view value.now)) }
 {
     if let Some(line) = value.get(Member::Query.text()) {
         let asked = query(alloc, line)?;

@@ -16,7 +16,7 @@ use Rattle.batch_model.specs.declared.refusals.ChangeRefusal.{ChangeRefusal}
 use Rattle.batch_model.specs.declared.refusals.ChangeRefusal.TheVariants as refusal
 use Rattle.batch_model.specs.Batches.{IsFirstInvalid, IsValid, IsWithinLimits, Leaves, IsRefusedAt, BreaksAfter, Prepares}
 use Rattle.zone_model.specs.Placing.{IsThere}
-use Rattle.batch_model.specs.Changing.{IsThereAsGiven, Makes, Gives}
+use Rattle.batch_model.specs.Changing.{IsThereAsGiven, Makes, Applies}
 use Rattle.batch_model.specs.Limits.{HasTooManyValues, HasTooManyCharacters, HasLongSet}
 use Rattle.batch_model.specs.Rules.{Rule, OnePolicy, CnameAlone, OwnPlace, GroupSize, NoneBreaksBefore, MeetsAll, IsFirstBreak, rules}
 
@@ -52,8 +52,8 @@ not_both e = subst (λ a. is_create a) e tt
 -- a change that is made isn't refused
 gives_clash : (sets : List RecordSet) (apex : List (List ℕ)) (change : Change)
     (after : List RecordSet) (why : ChangeRefusal)
-    → why ≢ refusal.OutOfMemory → Gives sets apex change (Ok after)
-    → Gives sets apex change (Err why) → ⊥
+    → why ≢ refusal.OutOfMemory → Applies sets apex change (Ok after)
+    → Applies sets apex change (Err why) → ⊥
 gives_clash sets apex change after refusal.NotInZone memory g f = f g.0
 gives_clash sets apex change after refusal.AlreadyExists memory g f =
     let made = subst (λ a. Makes a change.set sets apex after) f.1 g.1 in made.0 f.2
@@ -76,15 +76,15 @@ makes_one action.Upsert given sets apex after other g h = g ∙ sym h
 
 gives_one : (sets : List RecordSet) (apex : List (List ℕ)) (change : Change)
     (after other : List RecordSet)
-    → Gives sets apex change (Ok after) → Gives sets apex change (Ok other) → after ≡ other
+    → Applies sets apex change (Ok after) → Applies sets apex change (Ok other) → after ≡ other
 gives_one sets apex change after other g h =
     makes_one change.action change.set sets apex after other g.1 h.1
 
 -- a change is refused for one reason
 one_refusal : (sets : List RecordSet) (apex : List (List ℕ)) (change : Change)
     (why other : ChangeRefusal)
-    → why ≢ refusal.OutOfMemory → other ≢ refusal.OutOfMemory → Gives sets apex change (Err why)
-    → Gives sets apex change (Err other) → why ≡ other
+    → why ≢ refusal.OutOfMemory → other ≢ refusal.OutOfMemory → Applies sets apex change (Err why)
+    → Applies sets apex change (Err other) → why ≡ other
 one_refusal sets apex change refusal.NotInZone refusal.NotInZone memory enough f g = refl
 one_refusal sets apex change refusal.NotInZone refusal.AlreadyExists memory enough f g =
     absurd (f g.0)
@@ -155,23 +155,23 @@ pub record FirstRefused (sets : List RecordSet) (apex : List (List ℕ)) (change
   pub there : slice_get changes i ≡ Some change
   pub before : List RecordSet
   pub applied : Leaves sets apex (take i changes) before
-  pub refused : Gives before apex change (Err why)
+  pub refused : Applies before apex change (Err why)
   pub memory : why ≢ refusal.OutOfMemory
 
 -- it is refused at the first place
 at_first : (sets : List RecordSet) (apex : List (List ℕ)) (change : Change) (changes : List Change)
     (why : ChangeRefusal)
-    → FirstRefused sets apex (change ∷ changes) 0 why → Gives sets apex change (Err why)
+    → FirstRefused sets apex (change ∷ changes) 0 why → Applies sets apex change (Err why)
 at_first sets apex change changes why f =
     let same : f.change ≡ change = (let e = f.there in grind (arith, e)) in
-    subst (λ (c : Change). Gives sets apex c (Err why)) same
-    (subst (λ s. Gives s apex f.change (Err why)) f.applied f.refused)
+    subst (λ (c : Change). Applies sets apex c (Err why)) same
+    (subst (λ s. Applies s apex f.change (Err why)) f.applied f.refused)
 
 -- the first change is made
 past_first : (sets : List RecordSet) (apex : List (List ℕ)) (change : Change)
     (changes : List Change) (i : ℕ) (why : ChangeRefusal)
     → FirstRefused sets apex (change ∷ changes) (suc i) why
-    → (middle : List RecordSet) × Gives sets apex change (Ok middle)
+    → (middle : List RecordSet) × Applies sets apex change (Ok middle)
     × FirstRefused middle apex changes i why
 past_first sets apex change changes i why f = (
   f.applied.0,

@@ -8,7 +8,7 @@ use Rattle.zone_model.proofs.Staying.{placed_zone, without_zone}
 use Rattle.batch_model.specs.declared.batches.Action.{Action}
 use Rattle.batch_model.specs.declared.batches.Action.TheVariants as action
 use Rattle.batch_model.specs.declared.batches.Change.{Change}
-use Rattle.batch_model.specs.Changing.{Makes, Gives}
+use Rattle.batch_model.specs.Changing.{Makes, Applies}
 
 made_zone : (which : Action) (given : RecordSet) (sets : List RecordSet) (apex : List (List ℕ))
     (after : List RecordSet)
@@ -23,6 +23,6 @@ made_zone action.Upsert given sets apex after inside zone h =
 
 pub zones_stay : (sets : List RecordSet) (apex : List (List ℕ)) (change : Change)
     (after : List RecordSet)
-    → IsZone sets apex → Gives sets apex change (Ok after) → IsZone after apex
+    → IsZone sets apex → Applies sets apex change (Ok after) → IsZone after apex
 zones_stay sets apex change after zone h =
     made_zone change.action change.set sets apex after h.0 zone h.1

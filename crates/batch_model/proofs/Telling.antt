@@ -6,16 +6,16 @@ use Rattle.batch_model.specs.declared.batches.Change.{Change}
 use Rattle.batch_model.specs.declared.refusals.ChangeRefusal.{ChangeRefusal}
 use Rattle.batch_model.specs.declared.refusals.ChangeRefusal.TheVariants as refusal
 use Rattle.batch_model.specs.Batches.{IsWithinLimits, Leaves, Prepares}
-use Rattle.batch_model.specs.Changing.{Gives}
+use Rattle.batch_model.specs.Changing.{Applies}
 use Rattle.batch_model.specs.Telling.{refusal_at}
 
 -- one change more
 pub leaves_more : (sets : List RecordSet) (apex : List (List ℕ)) (changes : List Change)
     (change : Change) (middle after : List RecordSet)
-    → Leaves sets apex changes middle → Gives middle apex change (Ok after)
+    → Leaves sets apex changes middle → Applies middle apex change (Ok after)
     → Leaves sets apex (changes ++ change ∷ []) after
 leaves_more sets apex [] change middle after l g =
-    (after, subst (λ s. Gives s apex change (Ok after)) l g, refl)
+    (after, subst (λ s. Applies s apex change (Ok after)) l g, refl)
 leaves_more sets apex (first ∷ changes) change middle after l g =
     (l.0, l.1, leaves_more l.0 apex changes change middle after l.2 g)
 
@@ -23,7 +23,7 @@ leaves_more sets apex (first ∷ changes) change middle after l g =
 pub refused_told : (sets : List RecordSet) (apex : List (List ℕ)) (changes : List Change) (i : ℕ)
     (change : Change) (before : List RecordSet) (why : ChangeRefusal)
     → IsWithinLimits changes apex → slice_get changes i ≡ Some change
-    → Leaves sets apex (take i changes) before → Gives before apex change (Err why)
+    → Leaves sets apex (take i changes) before → Applies before apex change (Err why)
     → Prepares sets apex changes (Err (refusal_at i why))
 refused_told sets apex changes i change before refusal.NotInZone limits there applied refused =
     record {

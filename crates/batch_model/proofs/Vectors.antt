@@ -13,7 +13,7 @@ use Rattle.zone_model.specs.RecordSetRecord.{RecordSet}
 use Rattle.zone_model.specs.BodyRecord.TheVariants as body
 use Rattle.batch_model.specs.declared.batches.Action.TheVariants as action
 use Rattle.batch_model.specs.Limits.{elements_of, characters_of}
-use Rattle.batch_model.specs.Rules.{AreOnePlace, policy_of}
+use Rattle.batch_model.specs.Rules.{AreRivals, policy_of}
 
 -- example.com
 abbrev apex : List (List ℕ)
@@ -93,18 +93,18 @@ own_policies = refl
 abbrev us : Routing
 us = routing.Geolocation (codes "a") (place.Country (codes "US"))
 
-one_role : AreOnePlace (routing.Failover (codes "a") role.Primary)
+one_role : AreRivals (routing.Failover (codes "a") role.Primary)
     (routing.Failover ident role.Primary)
 one_role = refl
 
-one_country : AreOnePlace us (routing.Geolocation ident (place.Country (codes "US")))
+one_country : AreRivals us (routing.Geolocation ident (place.Country (codes "US")))
 one_country = refl
 
-one_region : AreOnePlace (routing.Latency (codes "a") (codes "us-east-1"))
+one_region : AreRivals (routing.Latency (codes "a") (codes "us-east-1"))
     (routing.Latency ident (codes "us-east-1"))
 one_region = refl
 
-other_role : AreOnePlace (routing.Failover (codes "a") role.Primary)
+other_role : AreRivals (routing.Failover (codes "a") role.Primary)
     (routing.Failover ident role.Secondary) → ⊥
 other_role e = absurd cc
 
@@ -114,18 +114,18 @@ first_letter (place.Country letters) = slice_index letters 0
 first_letter (place.Subdivision letters part) = slice_index letters 0
 first_letter place.Anywhere = 0
 
-other_country : AreOnePlace us (routing.Geolocation ident (place.Country (codes "CA"))) → ⊥
+other_country : AreRivals us (routing.Geolocation ident (place.Country (codes "CA"))) → ⊥
 other_country e = let first : 0x55 ≡ 0x43 = ap first_letter e in omega (arith, first)
 
-other_region : AreOnePlace (routing.Latency (codes "a") (codes "us-east-1"))
+other_region : AreRivals (routing.Latency (codes "a") (codes "us-east-1"))
     (routing.Latency ident (codes "eu-west-1")) → ⊥
 other_region e = let first : 0x75 ≡ 0x65 = ap (λ (text : List ℕ). slice_index text 0) e in
     omega (arith, first)
 
 -- a weighted set has no place that another could have
-no_place : AreOnePlace (routing.Weighted ident 7) (routing.Weighted ident 7) → ⊥
+no_place : AreRivals (routing.Weighted ident 7) (routing.Weighted ident 7) → ⊥
 no_place e = e
 
 -- equal locations are one place, whatever the collection
-one_location : AreOnePlace (office 1 (codes "office")) (office 2 (codes "office"))
+one_location : AreRivals (office 1 (codes "office")) (office 2 (codes "office"))
 one_location = refl

@@ -9,7 +9,7 @@ use Rattle.batch_model.specs.declared.refusals.BatchRefusal.{BatchRefusal}
 use Rattle.batch_model.specs.declared.refusals.BatchRefusal.TheVariants as batch
 use Rattle.batch_model.specs.declared.refusals.ChangeRefusal.{ChangeRefusal}
 use Rattle.batch_model.specs.declared.refusals.ChangeRefusal.TheVariants as refusal
-use Rattle.batch_model.specs.Changing.{Gives}
+use Rattle.batch_model.specs.Changing.{Applies}
 use Rattle.batch_model.specs.Limits.{HasTooManyValues, HasTooManyCharacters, HasLongSet}
 use Rattle.batch_model.specs.Rules.{Rule, OnePolicy, CnameAlone, OwnPlace, GroupSize, MeetsAll, IsFirstBreak, rules}
 
@@ -41,7 +41,7 @@ pub record IsWithinLimits (changes : List Change) (apex : List (List ℕ)) : Typ
 abbrev pub Leaves : List RecordSet → (apex : List (List ℕ)) → List Change → (after : List RecordSet) → Type 0
 Leaves sets apex [] after = after ≡ sets
 Leaves sets apex (change ∷ changes) after =
-    (middle : List RecordSet) × Gives sets apex change (Ok middle) × Leaves middle apex changes after
+    (middle : List RecordSet) × Applies sets apex change (Ok middle) × Leaves middle apex changes after
 
 -- The change at place i is the first that is refused, and why.
 pub record IsRefusedAt (sets : List RecordSet) (apex : List (List ℕ)) (changes : List Change) (i : ℕ) (why : ChangeRefusal) : Type 0 where
@@ -50,7 +50,7 @@ pub record IsRefusedAt (sets : List RecordSet) (apex : List (List ℕ)) (changes
   pub there : slice_get changes i ≡ Some change
   pub before : List RecordSet
   pub applied : Leaves sets apex (take i changes) before
-  pub refused : Gives before apex change (Err why)
+  pub refused : Applies before apex change (Err why)
 
 -- The set is the first one that breaks this rule after the last change.
 pub record BreaksAfter (sets : List RecordSet) (apex : List (List ℕ)) (changes : List Change) (rule : Rule) (set : RecordSet) : Type 0 where

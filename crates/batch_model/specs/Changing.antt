@@ -5,7 +5,7 @@ use Rattle.zone_model.specs.RecordSetRecord.{RecordSet}
 use Rattle.zone_model.specs.Reasons.{IsOfZone}
 use Rattle.zone_model.specs.Sameness.{Same}
 use Rattle.zone_model.specs.Sets.{key_of}
-use Rattle.zone_model.specs.Placing.{placed, without, Keeps, IsThere}
+use Rattle.zone_model.specs.Placing.{placed, without, IsSetOf, IsThere}
 use Rattle.batch_model.specs.declared.batches.Action.{Action}
 use Rattle.batch_model.specs.declared.batches.Action.TheVariants as action
 use Rattle.batch_model.specs.declared.batches.Change.{Change}
@@ -14,7 +14,7 @@ use Rattle.batch_model.specs.declared.refusals.ChangeRefusal.TheVariants as refu
 
 -- a set of this key is there, and it is equal to the one that is given
 abbrev pub IsThereAsGiven : List RecordSet → (given : RecordSet) → Type 0
-IsThereAsGiven sets given = (kept : RecordSet) × Keeps sets (key_of given) kept × Same kept given
+IsThereAsGiven sets given = (kept : RecordSet) × IsSetOf sets (key_of given) kept × Same kept given
 
 -- The NS and SOA sets at the apex can't be deleted.
 abbrev pub IsProtected : RecordSet → (apex : List (List ℕ)) → Type 0
@@ -31,19 +31,19 @@ Makes action.Delete given sets apex after =
 Makes action.Upsert given sets apex after = after ≡ placed given sets
 
 -- One change: the sets after it, or why it is refused. Memory may be wanted at any point.
-abbrev pub Gives : List RecordSet → (apex : List (List ℕ)) → Change → Result (List RecordSet) ChangeRefusal → Type 0
-Gives sets apex change (Ok after) =
+abbrev pub Applies : List RecordSet → (apex : List (List ℕ)) → Change → Result (List RecordSet) ChangeRefusal → Type 0
+Applies sets apex change (Ok after) =
     EndsWith change.set.name apex × Makes change.action change.set sets apex after
-Gives sets apex change (Err refusal.NotInZone) =
+Applies sets apex change (Err refusal.NotInZone) =
     EndsWith change.set.name apex → ⊥
-Gives sets apex change (Err refusal.AlreadyExists) =
+Applies sets apex change (Err refusal.AlreadyExists) =
     EndsWith change.set.name apex × (change.action ≡ action.Create) × IsThere sets (key_of change.set)
-Gives sets apex change (Err refusal.NotFound) =
+Applies sets apex change (Err refusal.NotFound) =
     EndsWith change.set.name apex × (change.action ≡ action.Delete) × (IsThere sets (key_of change.set) → ⊥)
-Gives sets apex change (Err refusal.ValuesDiffer) =
+Applies sets apex change (Err refusal.ValuesDiffer) =
     EndsWith change.set.name apex × (change.action ≡ action.Delete) × IsThere sets (key_of change.set)
     × (IsThereAsGiven sets change.set → ⊥)
-Gives sets apex change (Err refusal.ApexProtected) =
+Applies sets apex change (Err refusal.ApexProtected) =
     EndsWith change.set.name apex × (change.action ≡ action.Delete) × IsThereAsGiven sets change.set
     × IsProtected change.set apex
-Gives sets apex change (Err refusal.OutOfMemory) = ⊤
+Applies sets apex change (Err refusal.OutOfMemory) = ⊤

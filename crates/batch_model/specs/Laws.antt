@@ -5,12 +5,12 @@ use Rattle.batch_model.specs.declared.batches.Change.{Change}
 use Rattle.batch_model.specs.declared.refusals.BatchRefusal.{BatchRefusal}
 use Rattle.batch_model.specs.declared.refusals.BatchRefusal.TheVariants as batch
 use Rattle.batch_model.specs.Batches.{Prepares}
-use Rattle.batch_model.specs.Changing.{Gives}
+use Rattle.batch_model.specs.Changing.{Applies}
 use Rattle.zone_model.specs.Zones.{IsZone}
 
 -- A batch has one answer, but for want of memory.
-abbrev pub OneAnswer : Type 0
-OneAnswer =
+abbrev pub OneBatchOutcome : Type 0
+OneBatchOutcome =
     (sets : List RecordSet) (apex : List (List ℕ)) (changes : List Change) (answer other : Result (List RecordSet) BatchRefusal)
     → Prepares sets apex changes answer → Prepares sets apex changes other
     → answer ≢ Err batch.OutOfMemory → other ≢ Err batch.OutOfMemory → answer ≡ other
@@ -19,4 +19,4 @@ OneAnswer =
 abbrev pub ZonesStay : Type 0
 ZonesStay =
     (sets : List RecordSet) (apex : List (List ℕ)) (change : Change) (after : List RecordSet)
-    → IsZone sets apex → Gives sets apex change (Ok after) → IsZone after apex
+    → IsZone sets apex → Applies sets apex change (Ok after) → IsZone after apex

@@ -22,5 +22,5 @@ pub use Rattle.zone_model.specs.Hosted
 pub use Rattle.zone_model.specs.Keys
 pub use Rattle.zone_model.specs.Walks
 pub use Rattle.set_octets.specs.SetKeyRecord
-pub use Rattle.zone_model.specs.Placed
+pub use Rattle.zone_model.specs.Slotted
 pub use Rattle.zone_model.specs.Differences

@@ -40,13 +40,13 @@ abbrev pub HasCnameConflict : List RecordSet → (apex name : List (List ℕ)) �
 HasCnameConflict sets apex name = HasCname sets name × (HasOtherType sets name ⊎ (name ≡ apex))
 
 -- Two policies have one place, one failover role, one region or one location.
-abbrev pub AreOnePlace : (policy other : Routing) → Type 0
-AreOnePlace (routing.Failover ident role) (routing.Failover other_ident other_role) = role ≡ other_role
-AreOnePlace (routing.Geolocation ident place) (routing.Geolocation other_ident other_place) = place ≡ other_place
-AreOnePlace (routing.Latency ident region) (routing.Latency other_ident other_region) = region ≡ other_region
-AreOnePlace (routing.Cidr ident collection location) (routing.Cidr other_ident other_collection other_location) =
+abbrev pub AreRivals : (policy other : Routing) → Type 0
+AreRivals (routing.Failover ident role) (routing.Failover other_ident other_role) = role ≡ other_role
+AreRivals (routing.Geolocation ident place) (routing.Geolocation other_ident other_place) = place ≡ other_place
+AreRivals (routing.Latency ident region) (routing.Latency other_ident other_region) = region ≡ other_region
+AreRivals (routing.Cidr ident collection location) (routing.Cidr other_ident other_collection other_location) =
     location ≡ other_location
-AreOnePlace policy other = ⊥
+AreRivals policy other = ⊥
 
 -- The set at place i has the place, failover role, region or location of an earlier set of its group.
 pub record HasSamePlace (sets : List RecordSet) (i : ℕ) (set : RecordSet) : Type 0 where
@@ -55,7 +55,7 @@ pub record HasSamePlace (sets : List RecordSet) (i : ℕ) (set : RecordSet) : Ty
   pub other : RecordSet
   pub there : slice_get sets at ≡ Some other
   pub one_group : AreOneGroup other set
-  pub one_place : AreOnePlace other.routing set.routing
+  pub one_place : AreRivals other.routing set.routing
 
 -- The set is of a group of more than 100 (Route 53 quotas).
 abbrev pub IsInFullGroup : List RecordSet → RecordSet → Type 0

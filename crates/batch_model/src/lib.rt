@@ -9,7 +9,7 @@ mod laws;
 mod refusals;
 
 pub use batches::{Action, Batch, Change, Changes};
-pub use laws::{one_answer, zones_stay};
+pub use laws::{one_batch_outcome, zones_stay};
 pub use refusals::{BatchRefusal, ChangeRefusal};
 pub use set_octets::{
     Body, Place, RData, RType, Reason, RecordSet, Role, Routing, ValueFault, Values, check_set,

@@ -19,7 +19,7 @@ use Rattle.batch_model.specs.declared.batches.Change.{Change}
 use Rattle.batch_model.specs.declared.refusals.ChangeRefusal.{ChangeRefusal}
 use Rattle.batch_model.specs.declared.refusals.ChangeRefusal.TheVariants as refusal
 use Rattle.batch_model.specs.Batches.{Leaves}
-use Rattle.batch_model.specs.Changing.{Gives, Makes, IsThereAsGiven}
+use Rattle.batch_model.specs.Changing.{Applies, Makes, IsThereAsGiven}
 use Rattle.batch_model.proofs.Staying.{zones_stay}
 use Rattle.batch_names.proofs.Filtered.{either_first, in_filter, of_filter, passes, fails}
 
@@ -120,21 +120,21 @@ module _ (kept : (name : List (List ℕ)) → Bool) where
         (placed given sets, refl, made ∙ sym (placed_few given sets good))
 
     pub gives_few : (change : Change) (sets after : List RecordSet) → kept change.set.name ≡ true
-        → Gives sets apex change (Ok after) → Gives (filter keeps sets) apex change (Ok
+        → Applies sets apex change (Ok after) → Applies (filter keeps sets) apex change (Ok
         (filter keeps after))
     gives_few change sets after good g =
         (g.0, makes_few change.action change.set sets after good g.1)
 
     pub gives_all : (change : Change) (sets few : List RecordSet) → kept change.set.name ≡ true
-        → Gives (filter keeps sets) apex change (Ok few)
-        → (after : List RecordSet) × Gives sets apex change (Ok after) × (few ≡ filter keeps after)
+        → Applies (filter keeps sets) apex change (Ok few)
+        → (after : List RecordSet) × Applies sets apex change (Ok after) × (few ≡ filter keeps after)
     gives_all change sets few good g =
         let made = makes_all change.action change.set sets few good g.1 in
         (made.0, (g.0, made.1), made.2)
 
     pub refused_few : (change : Change) (sets : List RecordSet) (why : ChangeRefusal)
-        → kept change.set.name ≡ true → Gives sets apex change (Err why)
-        → Gives (filter keeps sets) apex change (Err why)
+        → kept change.set.name ≡ true → Applies sets apex change (Err why)
+        → Applies (filter keeps sets) apex change (Err why)
     refused_few change sets refusal.NotInZone good g = g
     refused_few change sets refusal.AlreadyExists good g =
         (g.0, g.1, there_few (key_of change.set) sets good g.2)
@@ -151,8 +151,8 @@ module _ (kept : (name : List (List ℕ)) → Bool) where
     refused_few change sets refusal.OutOfMemory good g = g
 
     pub refused_all : (change : Change) (sets : List RecordSet) (why : ChangeRefusal)
-        → kept change.set.name ≡ true → Gives (filter keeps sets) apex change (Err why)
-        → Gives sets apex change (Err why)
+        → kept change.set.name ≡ true → Applies (filter keeps sets) apex change (Err why)
+        → Applies sets apex change (Err why)
     refused_all change sets refusal.NotInZone good g = g
     refused_all change sets refusal.AlreadyExists good g =
         (g.0, g.1, there_all (key_of change.set) sets g.2)

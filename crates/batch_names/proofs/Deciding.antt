@@ -15,7 +15,7 @@ use Rattle.batch_model.specs.declared.refusals.BatchRefusal.TheVariants as batch
 use Rattle.batch_model.specs.declared.refusals.ChangeRefusal.{ChangeRefusal}
 use Rattle.batch_model.specs.declared.refusals.ChangeRefusal.TheVariants as refusal
 use Rattle.batch_model.specs.Batches.{BreaksAfter, IsRefusedAt, Leaves, Prepares}
-use Rattle.batch_model.specs.Changing.{Gives}
+use Rattle.batch_model.specs.Changing.{Applies}
 use Rattle.batch_model.specs.Rules.{IsFirstBreak, Rule, OnePolicy, CnameAlone, OwnPlace, GroupSize}
 use Rattle.batch_model.specs.Rules.{MeetsAll, rules}
 use Rattle.batch_names.specs.Laws.{NamesDecide}
@@ -133,7 +133,7 @@ module _ (sets : List RecordSet) (apex : List (List ℕ)) (changes : List Change
         refused = refused_all its_names apex r.change left.0 why
             (all_at (λ (change : Change). its_names change.set.name ≡ true) changes i r.change
             (all_named changes) r.there)
-            (subst (λ s. Gives s apex r.change (Err why)) left.2 r.refused);
+            (subst (λ s. Applies s apex r.change (Err why)) left.2 r.refused);
       }
 
   breaks_few : (rule : Rule) (set : RecordSet) → BreaksAfter sets apex changes rule set

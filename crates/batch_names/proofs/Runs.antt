@@ -14,9 +14,9 @@ use Rattle.zone_table.specs.Sets.{IsAmong, IsRising}
 use Rattle.zone_table.proofs.Places.{name_between}
 use Rattle.batch_model.specs.declared.batches.Change.{Change}
 use Rattle.batch_names.specs.Named.{named_in, names}
-use Rattle.batch_names.specs.Starts.{IsNamed, IsNamedStart, IsStart, ReadsNamed}
+use Rattle.batch_names.specs.Starts.{IsNamed, IsNamedStart, IsStart, AppendsNamed}
 use Rattle.batch_names.proofs.Filtered.{below_or_not, fails, passes}
-use Rattle.batch_names.specs.Starts.{ReadsNamed}
+use Rattle.batch_names.specs.Starts.{AppendsNamed}
 use Rattle.zone_table.specs.Sets.{IsRising}
 use Rattle.std.proofs.lemmas.Option.{slice_get_within}
 use Rattle.zone_table.proofs.Places.{name_between}
@@ -233,7 +233,7 @@ module _ (sets : List RecordSet) (changes : List Change) where
 
   module _ (rising : IsRising sets) (start : ℕ) (left : List ℕ) (found more : List RecordSet)
       (so_far : HasRead (start ∷ left) found) (name : List (List ℕ)) (s : IsStart sets name start)
-      (named : IsNamed changes name) (r : ReadsNamed sets s.set.name start found more) where
+      (named : IsNamed changes name) (r : AppendsNamed sets s.set.name start found more) where
     abbrev reached : ℕ
     reached = r.end
 
@@ -444,7 +444,7 @@ so_more sets name start before place now more set so_far there its_name e =
 pub so_ends : (sets : List RecordSet) (name : List (List ℕ)) (start : ℕ) (before : List RecordSet)
     (place : ℕ) (now : List RecordSet) → ReadSo sets name start before place now
     → ((set : RecordSet) → slice_get sets place ≡ Some set → set.name ≢ name)
-    → ReadsNamed sets name start before now
+    → AppendsNamed sets name start before now
 so_ends sets name start before place now so_far ends = record {
   end = place;
   run = record { order = so_far.order; within = so_far.within; its = so_far.its; ends = ends };

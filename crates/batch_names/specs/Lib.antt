@@ -5,7 +5,7 @@ pub use Rattle.batch_model.specs.Batches
 pub use Rattle.batch_model.specs.Rules
 pub use Rattle.zone_table.specs.Sets as Zones
 pub use Rattle.zone_table.specs.Zones as AllZones
-pub use Rattle.zone_table.specs.Placed
+pub use Rattle.zone_table.specs.Slotted
 pub use Rattle.zone_table.specs.Changes
 pub use Rattle.zone_table.specs.Edits
 pub use Rattle.zone_table.specs.Laws as LawsOfZoneTable

@@ -61,7 +61,7 @@ pub record IsRun (sets : List RecordSet) (name : List (List ℕ)) (start end : �
   pub ends : (set : RecordSet) → slice_get sets end ≡ Some set → set.name ≢ name
 
 -- The sets of a name that begin at a place were added to others.
-pub record ReadsNamed (sets : List RecordSet) (name : List (List ℕ)) (start : ℕ)
+pub record AppendsNamed (sets : List RecordSet) (name : List (List ℕ)) (start : ℕ)
     (before after : List RecordSet) : Type 0 where
   pub end : ℕ
   pub run : IsRun sets name start end
@@ -70,5 +70,5 @@ pub record ReadsNamed (sets : List RecordSet) (name : List (List ℕ)) (start : 
 -- The same, of the name of the set that stands there.
 abbrev pub ReadsRun : List RecordSet → (start : ℕ) → (before after : List RecordSet) → Type 0
 ReadsRun sets start before after =
-    (set : RecordSet) → slice_get sets start ≡ Some set → ReadsNamed sets set.name start before
+    (set : RecordSet) → slice_get sets start ≡ Some set → AppendsNamed sets set.name start before
     after

@@ -2,9 +2,9 @@
 
 ghost use Rattle.std.specs.Prelude.{◌≡◌, ◌≤◌, length, IfOk, OnOk};
 ghost use Rattle.zone_table.specs.Zones.{placed_in};
-ghost use Rattle.zone_table.specs.Placed.{sets_of};
+ghost use Rattle.zone_table.specs.Slotted.{sets_of};
 ghost use Rattle.batch_names.specs.Named.{named_in};
-ghost use Rattle.batch_names.specs.Starts.{ReadsNamed, ReadsRun};
+ghost use Rattle.batch_names.specs.Starts.{AppendsNamed, ReadsRun};
 
 use crate::held::{hold_at, hold_named, read_held};
 use crate::starts::rising_starts;
@@ -67,7 +67,7 @@ fn read_named(
     found: &mut Vec<RecordSet>,
 ) -> Result<(), OutOfMemory>
     requires { start ≤ length (sets_of (placed_in zones.now.zones zone)) }
-    ensures { OnOk result (ReadsNamed (sets_of (placed_in zones.now.zones zone)) name.now start
+    ensures { OnOk result (AppendsNamed (sets_of (placed_in zones.now.zones zone)) name.now start
         found.old.items found.new.items) }
 {
     for place in start..zones.count(zone) {

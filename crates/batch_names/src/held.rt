@@ -5,7 +5,7 @@ ghost use Rattle.batch_model.specs.RecordSetRecord.{RecordSet};
 ghost use Rattle.batch_model.specs.Octets.{HasSpelling};
 ghost use Rattle.zone_table.specs.Bodies.{values_of};
 ghost use Rattle.zone_table.specs.Zones.{placed_in};
-ghost use Rattle.zone_table.specs.Placed.{sets_of};
+ghost use Rattle.zone_table.specs.Slotted.{sets_of};
 ghost use Rattle.batch_names.specs.Starts.{HoldsAt, HoldsNamed};
 
 use batch_model::{Body, RecordSet, Values};

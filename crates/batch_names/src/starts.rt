@@ -3,7 +3,7 @@
 ghost use Rattle.std.specs.Prelude.{◌≡◌, ◌↔◌, ℕ, List, IfOk};
 ghost use Rattle.std.specs.List.Sorted.{IsStrictlyIncreasing};
 ghost use Rattle.zone_table.specs.Zones.{placed_in};
-ghost use Rattle.zone_table.specs.Placed.{sets_of};
+ghost use Rattle.zone_table.specs.Slotted.{sets_of};
 ghost use Rattle.zone_table.specs.Sets.{IsAmong};
 ghost use Rattle.batch_names.specs.Starts.{AreRisingStarts, AreStarts, StartOrNone};
 

@@ -50,11 +50,11 @@ abbrev pub HasFewBlocks : CidrChange → Type 0
 HasFewBlocks change = length change.blocks < 2 ^ 16
 
 -- no longer lists than can be counted
-abbrev pub IsListed : CidrCommand → Type 0
-IsListed (Create name) = ⊤
-IsListed (Change id changes) = (length changes < 2 ^ 16) × AllByRecursion HasFewBlocks changes
-IsListed (Delete id) = ⊤
+abbrev pub IsListable : CidrCommand → Type 0
+IsListable (Create name) = ⊤
+IsListable (Change id changes) = (length changes < 2 ^ 16) × AllByRecursion HasFewBlocks changes
+IsListable (Delete id) = ⊤
 
 -- The names are those of collections and of locations, and the lists can be counted.
 abbrev pub HasSpelling : CidrCommand → Type 0
-HasSpelling command = HasNames command × IsListed command
+HasSpelling command = HasNames command × IsListable command

@@ -2,7 +2,7 @@
 
 ghost use Rattle.std.specs.Prelude.{◌<◌, ◌^◌, length, IsTrue, ◌↔◌};
 ghost use Rattle.std.specs.List.{AllByRecursion};
-ghost use Rattle.block_octets.specs.Octets.{HasFewBlocks, IsListed, HasSpelling};
+ghost use Rattle.block_octets.specs.Octets.{HasFewBlocks, IsListable, HasSpelling};
 
 use cidr_commands::{CidrChange, CidrCommand, has_names};
 
@@ -16,7 +16,7 @@ pub fn has_cidr_spelling(command: &CidrCommand) -> bool
 
 /// Whether the lists of a command can be counted.
 fn is_listed(command: &CidrCommand) -> bool
-    ensures { IsTrue result ↔ IsListed command.now }
+    ensures { IsTrue result ↔ IsListable command.now }
 {
     match command {
         CidrCommand::Change { changes, .. } => are_listed(changes.as_slice()),

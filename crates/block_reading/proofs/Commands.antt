@@ -6,7 +6,7 @@ use Rattle.std.specs.Prelude.{⊤}
 use Rattle.std.specs.List.{AllByRecursion}
 use Rattle.octets.specs.Numbers.{four_octets}
 use Rattle.block_octets.specs.Reading.{four_at}
-use Rattle.block_octets.specs.Rules.{IsReadAs, AreListed, list_octets}
+use Rattle.block_octets.specs.Rules.{IsReadAs, AreListable, list_octets}
 use Rattle.block_octets.proofs.Base.{read_as, octet_read}
 use Rattle.block_octets.proofs.Composed.{in_turn_read}
 use Rattle.block_octets.proofs.Digits.{four_is, four_again}
@@ -63,7 +63,7 @@ change_read =
   where
     from : (change : CidrChange) → IsSpelledChange change
         → (p : (Bool × List ℕ) × List Prefix)
-        × ((⊤ × IsLocationName p.0.1) × AreListed IsPrefixed p.1) × (changed p ≡ change)
+        × ((⊤ × IsLocationName p.0.1) × AreListable IsPrefixed p.1) × (changed p ≡ change)
     from change h = (
       ((change.put, change.location), change.blocks),
       ((tt, h.0.name), record { count = h.1; each = h.0.prefixes }),
@@ -100,7 +100,7 @@ unfolding change_collection_at
 change_collection_read =
     seen_read changing (in_turn_read number_read (list_read change_read)) into from
   where
-    into : (p : ℕ × List CidrChange) → ⊤ × AreListed IsSpelledChange p.1
+    into : (p : ℕ × List CidrChange) → ⊤ × AreListable IsSpelledChange p.1
         → IsOfKind 8 (changing p)
         × (four_octets p.0 ++ list_octets change_octets p.1 ≡ field_octets (changing p))
     into p h =
@@ -108,7 +108,7 @@ change_collection_read =
         (((split.0, (h.1.count, split.1)), refl), refl)
 
     from : (command : CidrCommand) → IsOfKind 8 command
-        → (p : ℕ × List CidrChange) × (⊤ × AreListed IsSpelledChange p.1)
+        → (p : ℕ × List CidrChange) × (⊤ × AreListable IsSpelledChange p.1)
         × (changing p ≡ command)
     from (Create name) h = absurd (omega (arith, h.1))
     from (Change id changes) h = (

@@ -2,7 +2,7 @@
 use Rattle.std.specs.Prelude.{◌==◌, ℕ, ◌-◌, ◌%◌, ◌^◌, List, [], ◌∷◌, length, take, drop, Bool}
 use Rattle.std.specs.Prelude.{nat_le, nat_lt, ◌&&◌, if◌then◌else◌, Result, Ok, Err}
 use Rattle.block_octets.specs.Reading.{octet_at}
-use Rattle.block_octets.specs.Readers.{Reader, seen, in_turn_by, tested, kinds}
+use Rattle.block_octets.specs.Readers.{Reader, mapped, in_turn_by, tested, kinds}
 use Rattle.block_octets.specs.IpAddressRecord.{IpAddress}
 use Rattle.block_octets.specs.IpAddressRecord.TheVariants.{V4, V6}
 use Rattle.block_octets.specs.Bits.{width_of, number_of}
@@ -15,10 +15,10 @@ octets_at count octets =
 
 -- an address of either version
 abbrev pub short_address_at : Reader IpAddress
-short_address_at octets = seen V4 (octets_at 4) octets
+short_address_at octets = mapped V4 (octets_at 4) octets
 
 abbrev pub long_address_at : Reader IpAddress
-long_address_at octets = seen V6 (octets_at 16) octets
+long_address_at octets = mapped V6 (octets_at 16) octets
 
 -- The length of a prefix: it has no more bits than its address, and no later bit is set.
 abbrev pub is_length : IpAddress → ℕ → Bool
@@ -34,13 +34,13 @@ prefix_of fields = record { address = fields.0; length = fields.1 }
 
 -- a prefix whose address was read
 abbrev pub prefix_at : IpAddress → Reader Prefix
-prefix_at address octets = seen (λ length. prefix_of (address, length)) (length_at address) octets
+prefix_at address octets = mapped (λ length. prefix_of (address, length)) (length_at address) octets
 
 unfoldable pub short_at : List ℕ → Result (Prefix × List ℕ) ℕ
-short_at octets = seen prefix_of (in_turn_by short_address_at length_at) octets
+short_at octets = mapped prefix_of (in_turn_by short_address_at length_at) octets
 
 unfoldable pub long_at : List ℕ → Result (Prefix × List ℕ) ℕ
-long_at octets = seen prefix_of (in_turn_by long_address_at length_at) octets
+long_at octets = mapped prefix_of (in_turn_by long_address_at length_at) octets
 
 -- the versions of addresses, a line each
 abbrev pub block_lines : List (ℕ × Reader Prefix)

@@ -6,7 +6,7 @@ ghost use Rattle.dns_name.specs.Suffix.{EndsWith};
 ghost use Rattle.set_search.specs.Reasons.{IsOfZone};
 ghost use Rattle.set_search.specs.Sets.{key_of};
 ghost use Rattle.batch_limits.specs.ActionRecord.TheVariants.{Create, Delete, Upsert};
-ghost use Rattle.batch_limits.specs.Changing.{Gives, IsProtected, IsThereAsGiven};
+ghost use Rattle.batch_limits.specs.Changing.{Applies, IsProtected, IsThereAsGiven};
 ghost use Rattle.set_search.specs.Zones.{IsRising};
 ghost use Rattle.set_search.specs.Found.{Finds, FindsAt};
 
@@ -28,8 +28,8 @@ pub fn apply(
     hint: &mut Option<usize>,
 ) -> Result<(), ChangeRefusal>
     requires { IsRising sets.old.items }
-    ensures ok { OnOk result (Gives sets.old.items apex.now change.now (Ok sets.new.items)) }
-    ensures err { IfErr result (λ why. Gives sets.old.items apex.now change.now (Err why)) }
+    ensures ok { OnOk result (Applies sets.old.items apex.now change.now (Ok sets.new.items)) }
+    ensures err { IfErr result (λ why. Applies sets.old.items apex.now change.now (Err why)) }
 {
     if !change.set.name.ends_with(apex) {
         return Err(ChangeRefusal::NotInZone);
@@ -52,8 +52,8 @@ fn create(
     requires rising { IsRising sets.old.items }
     requires inside { EndsWith change.now.set.name apex.now }
     requires action { change.now.action ≡ Create }
-    ensures ok { OnOk result (Gives sets.old.items apex.now change.now (Ok sets.new.items)) }
-    ensures err { IfErr result (λ why. Gives sets.old.items apex.now change.now (Err why)) }
+    ensures ok { OnOk result (Applies sets.old.items apex.now change.now (Ok sets.new.items)) }
+    ensures err { IfErr result (λ why. Applies sets.old.items apex.now change.now (Err why)) }
 {
     let place = match find_set(sets, &change.set, hint) {
         Ok(_) => return Err(ChangeRefusal::AlreadyExists),
@@ -75,8 +75,8 @@ fn delete(
     requires rising { IsRising sets.old.items }
     requires inside { EndsWith change.now.set.name apex.now }
     requires action { change.now.action ≡ Delete }
-    ensures ok { OnOk result (Gives sets.old.items apex.now change.now (Ok sets.new.items)) }
-    ensures err { IfErr result (λ why. Gives sets.old.items apex.now change.now (Err why)) }
+    ensures ok { OnOk result (Applies sets.old.items apex.now change.now (Ok sets.new.items)) }
+    ensures err { IfErr result (λ why. Applies sets.old.items apex.now change.now (Err why)) }
 {
     let place = match find_set(sets, &change.set, hint) {
         Ok(place) => place,
@@ -103,8 +103,8 @@ fn upsert(
     requires rising { IsRising sets.old.items }
     requires inside { EndsWith change.now.set.name apex.now }
     requires action { change.now.action ≡ Upsert }
-    ensures ok { OnOk result (Gives sets.old.items apex.now change.now (Ok sets.new.items)) }
-    ensures err { IfErr result (λ why. Gives sets.old.items apex.now change.now (Err why)) }
+    ensures ok { OnOk result (Applies sets.old.items apex.now change.now (Ok sets.new.items)) }
+    ensures err { IfErr result (λ why. Applies sets.old.items apex.now change.now (Err why)) }
 {
     match find_set(sets, &change.set, hint) {
         Ok(place) => match replace_by_copy(alloc, sets, place, &change.set) {

@@ -11,14 +11,14 @@ use Rattle.config_zones.specs.Tables.{HaveSlotsApart}
 use Rattle.config_zones.specs.ZoneEditRecord.{ZoneEdit}
 use Rattle.config_zones.specs.Zones.{AreZones, IsOne, Zone, placed_in}
 use Rattle.zone_model.proofs.Among.{place_of}
-use Rattle.zone_model.specs.Placed.{IsHere, Placed}
+use Rattle.zone_model.specs.Slotted.{IsHere, Slotted}
 use Rattle.check_commands.specs.Counts.{told_at}
 use Rattle.check_commands.specs.Uses.{AreUses, AreUsesTo, IsOneOf, KnowsUses, LooksAt, TellsCheck, slot_in}
 use Rattle.check_commands.proofs.Looked.{its_zone, none_at_start, up_to}
 use Rattle.check_commands.proofs.Moves.{Moves, elsewhere, moves, slots}
 
 -- a slot is of one zone
-pub apart_here : (zones : List Zone) → HaveSlotsApart zones → (one other : ℕ) (p q : Placed)
+pub apart_here : (zones : List Zone) → HaveSlotsApart zones → (one other : ℕ) (p q : Slotted)
     → IsHere (placed_in zones one) p → IsHere (placed_in zones other) q → p.slot ≡ q.slot
     → one ≡ other
 apart_here zones apart one other p q here there same =
@@ -98,12 +98,12 @@ module _ (before after : List Zone) (are : AreZones before) (apart : HaveSlotsAp
   its : Moves (placed_in before zone) (placed_in after zone) went came
   its = moves before after are delta made allowed edits
 
-  other_zone : (id : ℕ) → id ≢ zone → (p : Placed) → IsHere (placed_in after id) p
+  other_zone : (id : ℕ) → id ≢ zone → (p : Slotted) → IsHere (placed_in after id) p
       → IsHere (placed_in before id) p
   other_zone id other p here = (elsewhere before after are delta made edits are_after id other p).1 here
 
   -- a set that stands in a slot that is told is of the zone
-  of_zone : (id : ℕ) (p : Placed) → IsHere (placed_in after id) p
+  of_zone : (id : ℕ) (p : Slotted) → IsHere (placed_in after id) p
       → IsOneOf went p.slot ⊎ IsOneOf came p.slot → id ≡ zone
   of_zone id p here (inr new) =
       let q = its.come p.slot new in
@@ -116,7 +116,7 @@ module _ (before after : List Zone) (are : AreZones before) (apart : HaveSlotsAp
   ]
 
   -- of a slot that isn't told the set was there, and is
-  was_here : (id : ℕ) (p : Placed) → IsHere (placed_in after id) p → (IsOneOf came p.slot → ⊥)
+  was_here : (id : ℕ) (p : Slotted) → IsHere (placed_in after id) p → (IsOneOf came p.slot → ⊥)
       → IsHere (placed_in before id) p
   was_here id p here old = elim (cases_eq id zone) [
     | inl is ↦
@@ -127,7 +127,7 @@ module _ (before after : List Zone) (are : AreZones before) (apart : HaveSlotsAp
     | inr other ↦ other_zone id other p here
   ]
 
-  is_here : (id : ℕ) (p : Placed) → IsHere (placed_in before id) p → (IsOneOf went p.slot → ⊥)
+  is_here : (id : ℕ) (p : Slotted) → IsHere (placed_in before id) p → (IsOneOf went p.slot → ⊥)
       → IsHere (placed_in after id) p
   is_here id p here stays = elim (cases_eq id zone) [
     | inl is ↦
@@ -169,11 +169,11 @@ module _ (before after : List Zone) (are : AreZones before) (apart : HaveSlotsAp
     noted uses = record {
       each = λ ref named check names is. elim (looked ref.slot) [
         | inl done ↦
-            let p : Placed = record { slot = ref.slot; set = named } in
+            let p : Slotted = record { slot = ref.slot; set = named } in
             let same = of_zone ref.zone p names done.0 in
             done.1.its named check (subst (λ (n : ℕ). IsHere (placed_in after n) p) same names) is
         | inr left ↦
-            let p : Placed = record { slot = ref.slot; set = named } in
+            let p : Slotted = record { slot = ref.slot; set = named } in
             left.2 ∙ uses.each ref named check (was_here ref.zone p names left.1) is
       ];
       only = λ slot check told some. elim (looked slot) [
@@ -182,7 +182,7 @@ module _ (before after : List Zone) (are : AreZones before) (apart : HaveSlotsAp
             (zone, named.0, named.1, named.2 ∙ ap Some told)
         | inr left ↦
             let named = uses.only slot check (sym left.2 ∙ told) some in
-            let p : Placed = record { slot = slot; set = named.1 } in
+            let p : Slotted = record { slot = slot; set = named.1 } in
             (named.0, named.1, is_here named.0 p named.2 left.0, named.3)
       ];
     }
@@ -198,7 +198,7 @@ still_lost false old new zones now so knows = so knows
 module _ (zones : List Zone) (apart : HaveSlotsApart zones) (last zone : ℕ)
     (next : IsNextZone zones last zone) (old new : List ℕ) (uses : AreUsesTo last old zones) where
   -- a zone that isn't behind the next one is that, or stands before it
-  is_before : (id : ℕ) (p : Placed) → IsHere (placed_in zones id) p → id ≤ zone → id ≢ zone
+  is_before : (id : ℕ) (p : Slotted) → IsHere (placed_in zones id) p → id ≤ zone → id ≢ zone
       → id ≤ last
   is_before id p here to other = elim (cases_lt last id) [
     | inl past ↦
@@ -210,13 +210,13 @@ module _ (zones : List Zone) (apart : HaveSlotsApart zones) (last zone : ℕ)
   ]
 
   pub next_looked : (slots : List ℕ) → LooksAt zones zone slots old new
-      → ((p : Placed) → IsHere (placed_in zones zone) p → IsOneOf slots p.slot)
-      → ((slot : ℕ) → IsOneOf slots slot → (p : Placed) × IsHere (placed_in zones zone) p
+      → ((p : Slotted) → IsHere (placed_in zones zone) p → IsOneOf slots p.slot)
+      → ((slot : ℕ) → IsOneOf slots slot → (p : Slotted) × IsHere (placed_in zones zone) p
       × (p.slot ≡ slot))
       → AreUsesTo zone new zones
   next_looked slots looks all of = record {
     each = λ ref named check to names is.
-        let p : Placed = record { slot = ref.slot; set = named } in
+        let p : Slotted = record { slot = ref.slot; set = named } in
         elim (looks ref.slot) [
           | inl done ↦
               let q = of ref.slot done.0 in
@@ -236,11 +236,11 @@ module _ (zones : List Zone) (apart : HaveSlotsApart zones) (last zone : ℕ)
   }
 
   -- of a zone of which no set names a check
-  pub next_none : ((p : Placed) (check : ℕ) → IsHere (placed_in zones zone) p
+  pub next_none : ((p : Slotted) (check : ℕ) → IsHere (placed_in zones zone) p
       → p.set.check ≡ Some check → ⊥) → old ≡ new → AreUsesTo zone new zones
   next_none none same = record {
     each = λ ref named check to names is.
-        let p : Placed = record { slot = ref.slot; set = named } in
+        let p : Slotted = record { slot = ref.slot; set = named } in
         let other : ref.zone ≢ zone = λ e.
         none p check (subst (λ (n : ℕ). IsHere (placed_in zones n) p) e names) is in
         ap (λ (l : List ℕ). told_at l ref.slot) (sym same)
@@ -275,23 +275,23 @@ module _ (zones : List Zone) (are : AreZones zones) where
     only = uses.only;
   }
 
-pub slot_at : (placed : List Placed) (i : ℕ) (p : Placed) → slice_get placed i ≡ Some p
+pub slot_at : (placed : List Slotted) (i : ℕ) (p : Slotted) → slice_get placed i ≡ Some p
     → slice_get (map slot_in placed) i ≡ Some p.slot
 slot_at placed i p at = slice_get-map slot_in placed i ∙ ap (option_map slot_in) at
 
-pub all_slots : (placed : List Placed) (p : Placed) → IsHere placed p
+pub all_slots : (placed : List Slotted) (p : Slotted) → IsHere placed p
     → IsOneOf (map slot_in placed) p.slot
 all_slots placed p here = let k = place_of placed p here in (k.0, slot_at placed k.0 p k.1)
 
-slots_of : (placed : List Placed) (slot i : ℕ) → slice_get (map slot_in placed) i ≡ Some slot
-    → (p : Placed) × IsHere placed p × (p.slot ≡ slot)
+slots_of : (placed : List Slotted) (slot i : ℕ) → slice_get (map slot_in placed) i ≡ Some slot
+    → (p : Slotted) × IsHere placed p × (p.slot ≡ slot)
 slots_of [] slot i at = absurd (grind (arith, at))
 slots_of (p ∷ placed) slot zero at = (p, inl refl, some_same at)
 slots_of (p ∷ placed) slot (suc i) at =
     let rest = slots_of placed slot i at in (rest.0, inr rest.1, rest.2)
 
-pub of_slots : (placed : List Placed) (slot : ℕ) → IsOneOf (map slot_in placed) slot
-    → (p : Placed) × IsHere placed p × (p.slot ≡ slot)
+pub of_slots : (placed : List Slotted) (slot : ℕ) → IsOneOf (map slot_in placed) slot
+    → (p : Slotted) × IsHere placed p × (p.slot ≡ slot)
 of_slots placed slot one = slots_of placed slot one.0 one.1
 
 -- as many slots as are looked at

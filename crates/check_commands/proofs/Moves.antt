@@ -17,7 +17,7 @@ use Rattle.record_set.specs.Sets.{key_of}
 use Rattle.record_set.specs.declared.sets.RecordSet.{RecordSet}
 use Rattle.record_set.specs.declared.sets.SetKey.{SetKey}
 use Rattle.zone_model.proofs.Among.{place_of}
-use Rattle.zone_model.specs.Placed.{IsHere, Placed, sets_of}
+use Rattle.zone_model.specs.Slotted.{IsHere, Slotted, sets_of}
 use Rattle.zone_model.specs.Zones.{IsRising}
 use Rattle.check_commands.specs.Uses.{IsOneOf, slot_of}
 use Rattle.check_commands.proofs.Looked.{its_zone}
@@ -54,9 +54,9 @@ one_or_not (m ∷ xs) n = elim (cases_eq m n) [
     behind zero at apart none = apart (some_same at)
     behind (suc i) at apart none = none (i, at)
 
-got_of_all : (zone : ℕ) (placed : List Placed) (i : ℕ) (ref : SetRef)
+got_of_all : (zone : ℕ) (placed : List Slotted) (i : ℕ) (ref : SetRef)
     → slice_get (map (ref_in zone) placed) i ≡ Some ref
-    → (p : Placed) × IsHere placed p × (ref_in zone p ≡ ref)
+    → (p : Slotted) × IsHere placed p × (ref_in zone p ≡ ref)
 got_of_all zone [] i ref at = absurd (grind (arith, at))
 got_of_all zone (q ∷ placed) zero ref at = (q, inl refl, some_same at)
 got_of_all zone (q ∷ placed) (suc i) ref at =
@@ -66,18 +66,18 @@ got_of_all zone (q ∷ placed) (suc i) ref at =
 
 -- Each set was there, or its slot is told; and what is told are slots of sets that were there, and
 -- of sets that are.
-pub record Moves (was now : List Placed) (went came : List ℕ) : Type 0 where
-  pub from : (p : Placed) → IsHere now p → IsHere was p ⊎ IsOneOf came p.slot
-  pub to : (p : Placed) → IsHere was p → IsHere now p ⊎ IsOneOf went p.slot
-  pub gone : (slot : ℕ) → IsOneOf went slot → (p : Placed) × IsHere was p × (p.slot ≡ slot)
-  pub come : (slot : ℕ) → IsOneOf came slot → (p : Placed) × IsHere now p × (p.slot ≡ slot)
+pub record Moves (was now : List Slotted) (went came : List ℕ) : Type 0 where
+  pub from : (p : Slotted) → IsHere now p → IsHere was p ⊎ IsOneOf came p.slot
+  pub to : (p : Slotted) → IsHere was p → IsHere now p ⊎ IsOneOf went p.slot
+  pub gone : (slot : ℕ) → IsOneOf went slot → (p : Slotted) × IsHere was p × (p.slot ≡ slot)
+  pub come : (slot : ℕ) → IsOneOf came slot → (p : Slotted) × IsHere now p × (p.slot ≡ slot)
 
 none_told : (refs : List SetRef) (slot : ℕ) → refs ≡ [] → IsOneOf (slots refs) slot → ⊥
 none_told [] slot none told = let at = told.1 in absurd (grind (arith, at))
 none_told (ref ∷ refs) slot none told = absurd (grind (arith, none))
 
-changed : (zone : ℕ) (was : List Placed) (remove : List SetKey) (add : List RecordSet)
-    (removed added : List SetRef) (now : List Placed) → IsRising (sets_of was)
+changed : (zone : ℕ) (was : List Slotted) (remove : List SetKey) (add : List RecordSet)
+    (removed added : List SetRef) (now : List Slotted) → IsRising (sets_of was)
     → Changes zone was remove add removed added now → Moves was now (slots removed) (slots added)
 changed zone was remove add removed added now rising changes = record {
   from = λ p here. elim (changes.only p here) [
@@ -90,7 +90,7 @@ changed zone was remove add removed added now rising changes = record {
         let k = place_of remove (key_of p.set) m in
         let g = changes.goes k.0 (key_of p.set) k.1 in
         let one = one_of_key was rising g.0 p g.1 here g.2 in
-        none (k.0, at_slot removed k.0 (ref_in zone g.0) g.3 ∙ ap (λ (q : Placed). Some q.slot) one)))
+        none (k.0, at_slot removed k.0 (ref_in zone g.0) g.3 ∙ ap (λ (q : Slotted). Some q.slot) one)))
   ];
   gone = λ slot told.
       let r = of_slot removed slot told.0 told.1 in
@@ -108,10 +108,10 @@ changed zone was remove add removed added now rising changes = record {
       (record { slot = c.0; set = set.0 }, c.2, ap slot_of (some_same (sym c.1 ∙ r.1)) ∙ r.2);
 }
 
-closed : (zone : ℕ) (was now : List Placed) (removed added : List SetRef) → now ≡ []
+closed : (zone : ℕ) (was now : List Slotted) (removed added : List SetRef) → now ≡ []
     → removed ≡ map (ref_in zone) was → added ≡ [] → Moves was now (slots removed) (slots added)
 closed zone was now removed added none all no_more = record {
-  from = λ p here. absurd (subst (λ (l : List Placed). IsHere l p) none here);
+  from = λ p here. absurd (subst (λ (l : List Slotted). IsHere l p) none here);
   to = λ p here.
       let k = place_of was p here in
       inr (
@@ -134,11 +134,11 @@ module _ (before after : List Zone) (are : AreZones before) (delta : Delta) wher
   pub moves : (made : ZoneEdit) → IsAllowed before made → Edits before made after delta
       → Moves (placed_in before (zone_of made)) (placed_in after (zone_of made))
       (slots delta.removed) (slots delta.added)
-  moves (edit.Open zone name sets) allowed edits =
-      subst (λ (l : List Placed). Moves l (placed_in after zone) (slots delta.removed) (slots delta.added))
+  moves (edit.Begin zone name sets) allowed edits =
+      subst (λ (l : List Slotted). Moves l (placed_in after zone) (slots delta.removed) (slots delta.added))
       (sym (none_placed before zone allowed.0))
       (changed zone [] [] sets delta.removed delta.added (placed_in after zone) tt edits.its.1)
-  moves (edit.Close zone) allowed edits =
+  moves (edit.End zone) allowed edits =
       closed zone (placed_in before zone) (placed_in after zone) delta.removed delta.added
       (none_placed after zone edits.its.0) edits.its.1 edits.its.2
   moves (edit.Change zone remove add) allowed edits =
@@ -154,17 +154,17 @@ module _ (before after : List Zone) (are : AreZones before) (delta : Delta) wher
 
   -- in another zone all is as it was
   pub elsewhere : (made : ZoneEdit) → Edits before made after delta → AreZones after → (zone : ℕ)
-      → zone ≢ zone_of made → (p : Placed)
+      → zone ≢ zone_of made → (p : Slotted)
       → IsHere (placed_in before zone) p ↔ IsHere (placed_in after zone) p
   elsewhere made edits are_after zone apart p = (
     λ here.
         let z = its_zone before zone p here in
         let there = (edits.others z.0 (λ e. apart (sym z.2 ∙ e))).0 z.1 in
         subst (λ (id : ℕ). IsHere (placed_in after id) p) z.2
-        (subst (λ (l : List Placed). IsHere l p) (sym (its_placed after are_after.listed z.0 there)) z.3),
+        (subst (λ (l : List Slotted). IsHere l p) (sym (its_placed after are_after.listed z.0 there)) z.3),
     λ here.
         let z = its_zone after zone p here in
         let there = (edits.others z.0 (λ e. apart (sym z.2 ∙ e))).1 z.1 in
         subst (λ (id : ℕ). IsHere (placed_in before id) p) z.2
-        (subst (λ (l : List Placed). IsHere l p) (sym (its_placed before are.listed z.0 there)) z.3),
+        (subst (λ (l : List Slotted). IsHere l p) (sym (its_placed before are.listed z.0 there)) z.3),
   )

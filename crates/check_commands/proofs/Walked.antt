@@ -13,14 +13,14 @@ use Rattle.config_zones.specs.Walks.{above}
 use Rattle.record_set.specs.declared.sets.RecordSet.{RecordSet}
 use Rattle.config_zones.specs.Found.{IsNextZone, NextZoneOrNone}
 use Rattle.config_zones.specs.Zones.{AreZones, Zone, placed_in}
-use Rattle.zone_model.specs.Placed.{Placed, sets_of}
+use Rattle.zone_model.specs.Slotted.{Slotted, sets_of}
 
 abbrev pub names : ℕ → RecordSet → Bool
 names id set = is_number id set.check
 
 -- ---- sets of which none names a check
 
-pub none_names : (id : ℕ) (placed : List Placed) → checked_of placed ≡ 0
+pub none_names : (id : ℕ) (placed : List Slotted) → checked_of placed ≡ 0
     → false ≡ is_check_named id (sets_of placed)
 none_names id [] none = refl
 none_names id (p ∷ placed) none =

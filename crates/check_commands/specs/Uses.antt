@@ -1,21 +1,21 @@
 -- Which sets of zones name which health checks, by the slots of these.
 use Rattle.std.specs.Prelude.{◌≡◌, ◌≢◌, ◌≤◌, ◌⊎◌, ◌↔◌, ℕ, List, Option, None, Some, Bool, IsTrue, slice_get, ⊤}
-use Rattle.config_zones.specs.Looking.{Names}
+use Rattle.config_zones.specs.Looking.{RefersTo}
 use Rattle.config_zones.specs.SetRefRecord.{SetRef}
 use Rattle.config_zones.specs.Zones.{Zone}
 use Rattle.record_set.specs.declared.sets.RecordSet.{RecordSet}
-use Rattle.zone_model.specs.Placed.{Placed}
+use Rattle.zone_model.specs.Slotted.{Slotted}
 use Rattle.check_commands.specs.Counts.{IsTold, told_at}
 
 -- the set in a slot of some zone names the check
 abbrev pub IsNamedAt : List Zone → (slot check : ℕ) → Type 0
 IsNamedAt zones slot check = (zone : ℕ) × (named : RecordSet)
-    × Names zones (record { zone = zone; slot = slot }) named × (named.check ≡ Some check)
+    × RefersTo zones (record { zone = zone; slot = slot }) named × (named.check ≡ Some check)
 
 -- By the slot of each set the number of the check that it names. No slot stands in two zones.
 pub record AreUses (list : List ℕ) (zones : List Zone) : Type 0 where
   -- where the set of a reference names a check, this one is told at its slot
-  pub each : (ref : SetRef) (named : RecordSet) (check : ℕ) → Names zones ref named
+  pub each : (ref : SetRef) (named : RecordSet) (check : ℕ) → RefersTo zones ref named
       → named.check ≡ Some check → told_at list ref.slot ≡ check
   -- and a check that is told at a slot is named by the set that stands there
   pub only : (slot check : ℕ) → told_at list slot ≡ check → check ≢ 0
@@ -37,15 +37,15 @@ TellsUse known check None = (known ≡ None) ⊎ (check ≡ 0)
 abbrev pub slot_of : SetRef → ℕ
 slot_of ref = ref.slot
 
-abbrev pub slot_in : Placed → ℕ
+abbrev pub slot_in : Slotted → ℕ
 slot_in placed = placed.slot
 
 -- The number of the check that the set names which a reference names; 0 where it names no set, or
 -- one without a check.
 pub record TellsCheck (zones : List Zone) (ref : SetRef) (told : ℕ) : Type 0 where
-  pub its : (named : RecordSet) (check : ℕ) → Names zones ref named
+  pub its : (named : RecordSet) (check : ℕ) → RefersTo zones ref named
       → named.check ≡ Some check → told ≡ check
-  pub only : told ≢ 0 → (named : RecordSet) × Names zones ref named
+  pub only : told ≢ 0 → (named : RecordSet) × RefersTo zones ref named
       × (named.check ≡ Some told)
 
 abbrev pub IsOneOf : List ℕ → (slot : ℕ) → Type 0
@@ -62,6 +62,6 @@ LooksAt zones zone slots before after = (slot : ℕ)
 -- the same of the zones up to a number, and of no others
 pub record AreUsesTo (last : ℕ) (list : List ℕ) (zones : List Zone) : Type 0 where
   pub each : (ref : SetRef) (named : RecordSet) (check : ℕ) → ref.zone ≤ last
-      → Names zones ref named → named.check ≡ Some check → told_at list ref.slot ≡ check
+      → RefersTo zones ref named → named.check ≡ Some check → told_at list ref.slot ≡ check
   pub only : (slot check : ℕ) → told_at list slot ≡ check → check ≢ 0
       → IsNamedAt zones slot check

@@ -5,7 +5,7 @@ ghost use Rattle.config_zones.specs.Edited.{hosted_in};
 ghost use Rattle.config_zones.specs.Configs.{all_sets};
 ghost use Rattle.config_zones.specs.Others.{is_check_named, is_number};
 ghost use Rattle.config_zones.specs.Zones.{placed_in};
-ghost use Rattle.zone_model.specs.Placed.{sets_of};
+ghost use Rattle.zone_model.specs.Slotted.{sets_of};
 ghost use Rattle.check_commands.specs.Uses.{KnowsUses};
 
 use crate::uses::CheckUses;

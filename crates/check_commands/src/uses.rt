@@ -106,9 +106,9 @@ impl CheckUses {
 /// The sets that an edit puts.
 fn sets_put(edit: &ZoneEdit) -> &[RecordSet] {
     match edit {
-        ZoneEdit::Open { sets, .. } => sets.as_slice(),
+        ZoneEdit::Begin { sets, .. } => sets.as_slice(),
         ZoneEdit::Change { add, .. } => add.as_slice(),
-        ZoneEdit::Close(_) | ZoneEdit::Collections(_) => &[],
+        ZoneEdit::End(_) | ZoneEdit::Collections(_) => &[],
     }
 }
 

@@ -2,7 +2,7 @@
 
 ghost use Rattle.std.specs.Prelude.{◌≡◌};
 ghost use Rattle.serde_json.specs.View.{view};
-ghost use Rattle.line_reading.specs.Reading.{Reads};
+ghost use Rattle.line_reading.specs.Reading.{Gives};
 ghost use Rattle.check_lines.specs.Checks.{create_health_check, health_check_config, endpoint};
 ghost use Rattle.check_lines.specs.Checks.{calculated, check_of};
 
@@ -36,7 +36,7 @@ pub enum NewCheck {
 /// The line CreateHealthCheck.
 #[tactic(auto, unfolding(crate::specs::Checks::create_health_check))]
 pub fn create_health_check(alloc: Global, value: &Value) -> Result<NewCheck, LineFault>
-    ensures { Reads result (create_health_check (view value.now)) }
+    ensures { Gives result (create_health_check (view value.now)) }
 {
     object(
         value,
@@ -51,7 +51,7 @@ pub fn create_health_check(alloc: Global, value: &Value) -> Result<NewCheck, Lin
 /// The settings of a check.
 #[tactic(auto, unfolding(crate::specs::Checks::health_check_config))]
 fn health_check_config(alloc: Global, member: Member, value: &Value) -> Result<NewCheck, LineFault>
-    ensures { Reads result (health_check_config member (view value.now)) }
+    ensures { Gives result (health_check_config member (view value.now)) }
 {
     object(
         value,

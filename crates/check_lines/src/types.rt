@@ -2,7 +2,7 @@
 
 ghost use Rattle.std.specs.Prelude.{◌≡◌, ◌<◌, length};
 ghost use Rattle.serde_json.specs.View.{view, items_view};
-ghost use Rattle.line_reading.specs.Reading.{Reads, each};
+ghost use Rattle.line_reading.specs.Reading.{Gives, each};
 ghost use Rattle.line_reading.specs.Kinds.{check_id};
 ghost use Rattle.check_lines.specs.Checks.{check_type, kind_of, children, is_endpoint_type};
 ghost use Rattle.check_lines.specs.Checks.{is_unsupported_type};
@@ -69,7 +69,7 @@ fn is_unsupported_type(text: &str) -> bool
 /// A list of checks.
 #[tactic(auto, unfolding(crate::specs::Checks::children))]
 pub(crate) fn children(alloc: Global, member: Member, value: &Value) -> Result<Ids, LineFault>
-    ensures { Reads result (children member (view value.now)) }
+    ensures { Gives result (children member (view value.now)) }
 {
     let items = list(0, 255, member, value)?;
     ids_of(alloc, member, items)
@@ -78,7 +78,7 @@ pub(crate) fn children(alloc: Global, member: Member, value: &Value) -> Result<I
 /// The ids of a list.
 fn ids_of(alloc: Global, member: Member, items: &[Value]) -> Result<Ids, LineFault>
     requires { length items.now < 65536 }
-    ensures { Reads result (each (λ _. check_id member) 0 (items_view items.now)) }
+    ensures { Gives result (each (λ _. check_id member) 0 (items_view items.now)) }
 {
     match each(alloc, items, |_, item| check_id(member, item)) {
         Ok(ids) => Ok(Ids::from_vec(ids)),

@@ -1,7 +1,7 @@
 //! The line that updates a health check.
 
 ghost use Rattle.serde_json.specs.View.{view};
-ghost use Rattle.line_reading.specs.Reading.{Reads};
+ghost use Rattle.line_reading.specs.Reading.{Gives};
 ghost use Rattle.check_lines.specs.Checks.{update_health_check};
 
 use crate::ids::Ids;
@@ -27,7 +27,7 @@ pub struct CheckUpdate {
 /// The line UpdateHealthCheck.
 #[tactic(auto, unfolding(crate::specs::Checks::update_health_check))]
 pub fn update_health_check(alloc: Global, value: &Value) -> Result<CheckUpdate, LineFault>
-    ensures { Reads result (update_health_check (view value.now)) }
+    ensures { Gives result (update_health_check (view value.now)) }
 {
     object(
         value,

@@ -4,7 +4,7 @@ use Rattle.std.specs.Prelude.{not, nat_eq, option_map}
 use Rattle.std.proofs.lemmas.Bool.{eqb-true, ne_eqb, false≢true}
 use Rattle.check_model.specs.declared.checks.Check.{Check}
 use Rattle.check_model.specs.declared.checks.Check.TheVariants.{Endpoint, Calculated}
-use Rattle.check_model.specs.Checks.{IsCalculated, IsId, check_at, children_of}
+use Rattle.check_model.specs.Checks.{IsCalculated, IsId, check_with, children_of}
 use Rattle.check_model.specs.Commands.{Given, updated_at, updated_check, without}
 use Rattle.check_model.proofs.Walks.{Held}
 
@@ -25,10 +25,10 @@ more_by true held rest more other e = refl
 more_by false held rest more other e = e
 
 pub at_more : (new : Held) (list : List Held) (id : ℕ)
-    → check_at (list ++ new ∷ []) id ≡ or_else (check_at list id) (alone new id)
+    → check_with (list ++ new ∷ []) id ≡ or_else (check_with list id) (alone new id)
 at_more new [] id = refl
 at_more new (held ∷ list) id =
-    more_by (nat_eq id held.0) held (check_at list id) (check_at (list ++ new ∷ []) id)
+    more_by (nat_eq id held.0) held (check_with list id) (check_with (list ++ new ∷ []) id)
     (alone new id) (at_more new list id)
 
 module _ (id : ℕ) (given : Given) where
@@ -57,12 +57,12 @@ module _ (id : ℕ) (given : Given) where
   updated_by false its k held rest more e f same = same
 
   pub at_updated : (list : List Held) (k : ℕ)
-      → check_at (map (updated_at id given) list) k
-      ≡ cond (nat_eq k id) (option_map (updated_check given) (check_at list k)) (check_at list k)
+      → check_with (map (updated_at id given) list) k
+      ≡ cond (nat_eq k id) (option_map (updated_check given) (check_with list k)) (check_with list k)
   at_updated [] k = none_both (nat_eq k id)
   at_updated (held ∷ list) k =
-      updated_by (nat_eq k held.0) (nat_eq k id) k held (check_at list k)
-      (check_at (map (updated_at id given) list) k) refl refl (at_updated list k)
+      updated_by (nat_eq k held.0) (nat_eq k id) k held (check_with list k)
+      (check_with (map (updated_at id given) list) k) refl refl (at_updated list k)
 
 module _ (id : ℕ) where
   none_at : (b : Bool) → no_check ≡ cond b no_check no_check
@@ -71,9 +71,9 @@ module _ (id : ℕ) where
 
   without_by : (gone is its : Bool) (k : ℕ) (held : Held) (list : List Held)
       → nat_eq held.0 id ≡ gone → nat_eq k held.0 ≡ is → nat_eq k id ≡ its
-      → check_at (without id list) k ≡ cond its None (check_at list k)
-      → check_at (cond (not gone) (held ∷ without id list) (without id list)) k
-      ≡ cond its None (cond is (Some held.1) (check_at list k))
+      → check_with (without id list) k ≡ cond its None (check_with list k)
+      → check_with (cond (not gone) (held ∷ without id list) (without id list)) k
+      ≡ cond its None (cond is (Some held.1) (check_with list k))
   without_by true true true k held list g e f same = same
   without_by true true false k held list g e f same =
       let at : k ≡ held.0 = eqb-true k held.0 e in
@@ -86,7 +86,7 @@ module _ (id : ℕ) where
   without_by false false its k held list g e f same = rw e same
 
   pub at_without : (list : List Held) (k : ℕ)
-      → check_at (without id list) k ≡ cond (nat_eq k id) None (check_at list k)
+      → check_with (without id list) k ≡ cond (nat_eq k id) None (check_with list k)
   at_without [] k = none_at (nat_eq k id)
   at_without (held ∷ list) k =
       without_by (nat_eq held.0 id) (nat_eq k held.0) (nat_eq k id) k held list refl refl refl
@@ -120,14 +120,14 @@ pub there_without : (id : ℕ) (list : List Held) (k : ℕ) → k ≢ id → IsI
 there_without id list k other (check, at) = (
   check,
   at_without id list k
-      ∙ ap (λ (b : Bool). cond b None (check_at list k)) (ne_eqb k id other) ∙ at,
+      ∙ ap (λ (b : Bool). cond b None (check_with list k)) (ne_eqb k id other) ∙ at,
 )
 
 -- ---- what was there before
 
 abbrev pub IsAsBefore : List Held → ℕ → Check → Type 0
 IsAsBefore list k check =
-    (before : Check) × (check_at list k ≡ Some before)
+    (before : Check) × (check_with list k ≡ Some before)
     × (children_of before ≡ children_of check) × (IsCalculated check → IsCalculated before)
 
 same_children : (given : Given) (check : Check) → given.children ≡ None
@@ -141,7 +141,7 @@ was_calculated given (Endpoint threshold inverted disabled) is = is
 was_calculated given (Calculated threshold inverted disabled children) is = tt
 
 updated_before : (b : Bool) (given : Given) (list : List Held) (k : ℕ) (check : Check)
-    (found : Option Check) → given.children ≡ None → check_at list k ≡ found
+    (found : Option Check) → given.children ≡ None → check_with list k ≡ found
     → cond b (option_map (updated_check given) found) found ≡ Some check
     → IsAsBefore list k check
 updated_before true given list k check None none at is = let no : ⊥ = cc in absurd no
@@ -158,18 +158,18 @@ updated_before false given list k check (Some before) none at is =
     (before, at, ap children_of one, (λ now. subst IsCalculated (sym one) now))
 
 pub before_updated : (id : ℕ) (given : Given) (list : List Held) → given.children ≡ None
-    → (k : ℕ) (check : Check) → check_at (map (updated_at id given) list) k ≡ Some check
+    → (k : ℕ) (check : Check) → check_with (map (updated_at id given) list) k ≡ Some check
     → IsAsBefore list k check
 before_updated id given list none k check is =
-    updated_before (nat_eq k id) given list k check (check_at list k) none refl
+    updated_before (nat_eq k id) given list k check (check_with list k) none refl
     (sym (at_updated id given list k) ∙ is)
 
 without_before : (b : Bool) (list : List Held) (k : ℕ) (check : Check)
-    → cond b None (check_at list k) ≡ Some check → IsAsBefore list k check
+    → cond b None (check_with list k) ≡ Some check → IsAsBefore list k check
 without_before true list k check is = let no : ⊥ = cc in absurd no
 without_before false list k check is = (check, is, refl, (λ now. now))
 
 pub before_without : (id : ℕ) (list : List Held) (k : ℕ) (check : Check)
-    → check_at (without id list) k ≡ Some check → IsAsBefore list k check
+    → check_with (without id list) k ≡ Some check → IsAsBefore list k check
 before_without id list k check is =
     without_before (nat_eq k id) list k check (sym (at_without id list k) ∙ is)

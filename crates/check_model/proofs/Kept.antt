@@ -10,9 +10,9 @@ use Rattle.check_model.specs.declared.checks.CheckCommand.{CheckCommand}
 use Rattle.check_model.specs.declared.checks.CheckCommand.TheVariants.{Create, Update, Delete}
 use Rattle.check_model.specs.declared.refusals.CheckRefusal.{CheckRefusal}
 use Rattle.check_model.specs.declared.refusals.CheckRefusal.TheVariants.{ChildRepeated, ChildTooDeep, WrongMember, HealthCheckInUse, TooManyHealthChecks, IdsEnded}
-use Rattle.check_model.specs.Checks.{AreChildren, AreDistinct, Checks, IdsRise, IsBounded, IsId, IsSound, IsWalk, check_at, children_of}
-use Rattle.check_model.specs.Commands.{Given, IsBoundedCommand, IsThreshold, answer, checks_after, create_refusal, created, delete_refusal, deleted, first_missing, first_of, given_by, given_rules, has_repeated, is_named, is_too_deep, is_wrong_member, missing, number_of, of_there, refusal_of, rule, unless, update_refusal, updated, updated_at, updated_check, without}
-use Rattle.check_model.specs.Kept.{KeepsSound, LeavesRest, its_check}
+use Rattle.check_model.specs.Checks.{AreChildren, AreDistinct, Checks, IdsRise, IsBounded, IsId, IsSound, IsWalk, check_with, children_of}
+use Rattle.check_model.specs.Commands.{Given, IsBoundedCommand, IsThreshold, outcome, checks_after, create_refusal, created, delete_refusal, deleted, first_missing, first_of, given_by, given_rules, has_repeated, is_named, is_too_deep, is_wrong_member, missing, number_of, of_there, refusal_of, refuse_if, unless, update_refusal, updated, updated_at, updated_check, without}
+use Rattle.check_model.specs.Kept.{KeepsSound, KeepsRest, its_check}
 use Rattle.check_model.proofs.Found.{alone, at_more, at_updated, at_without, before_updated, before_without, or_else, IsAsBefore, there_more, there_updated, there_without}
 use Rattle.check_model.proofs.Members.{all_at, all_from, all_mapped, distinct_of, none_of}
 use Rattle.check_model.proofs.Told.{all_there}
@@ -21,7 +21,7 @@ use Rattle.check_model.proofs.Walks.{Held, shallow_of}
 -- ---- rules that refuse nothing
 
 module _ (refusal : CheckRefusal) (rules : List (Option CheckRefusal)) where
-  pub passes : (b : Bool) → first_of (rule b refusal ∷ rules) ≡ None
+  pub passes : (b : Bool) → first_of (refuse_if b refusal ∷ rules) ≡ None
       → (b ≡ false) × (first_of rules ≡ None)
   passes true e = let no : ⊥ = cc in absurd no
   passes false e = (refl, e)
@@ -38,15 +38,15 @@ pub record Pass (list after : List Held) (children : List ℕ) : Type 0 where
   pub shallow : (walk : List ℕ) → IsWalk after walk → length walk ≢ 5
 
 module _ (list after : List Held) (children : List ℕ) (rules : List (Option CheckRefusal)) where
-  pub children_pass : first_of (rule (has_repeated children) ChildRepeated
-      ∷ missing (first_missing list children) ∷ rule (is_too_deep after) ChildTooDeep ∷ rules)
+  pub children_pass : first_of (refuse_if (has_repeated children) ChildRepeated
+      ∷ missing (first_missing list children) ∷ refuse_if (is_too_deep after) ChildTooDeep ∷ rules)
       ≡ None
       → Pass list after children × (first_of rules ≡ None)
   children_pass e =
       let one = passes ChildRepeated (missing (first_missing list children)
-      ∷ rule (is_too_deep after) ChildTooDeep ∷ rules) (has_repeated children) e in
+      ∷ refuse_if (is_too_deep after) ChildTooDeep ∷ rules) (has_repeated children) e in
       let two = none_missing (first_missing list children)
-      (rule (is_too_deep after) ChildTooDeep ∷ rules) one.1 in
+      (refuse_if (is_too_deep after) ChildTooDeep ∷ rules) one.1 in
       let three = passes ChildTooDeep rules (is_too_deep after) two.1 in (
         record {
           there = all_there list children two.0;
@@ -124,7 +124,7 @@ module _ (id : ℕ) (given : Given) where
 fewer_by : (gone is : Bool) (id : ℕ) (held : Held) (list : List Held)
     → nat_eq held.0 id ≡ gone → nat_eq id held.0 ≡ is
     → (IsId list id → length (without id list) < length list)
-    → (check : Check) → cond is (Some held.1) (check_at list id) ≡ Some check
+    → (check : Check) → cond is (Some held.1) (check_with list id) ≡ Some check
     → length (cond (not gone) (held ∷ without id list) (without id list)) < length (held ∷ list)
 fewer_by true is id held list g e rest check at =
     let le = count_fewer (λ held. not (nat_eq held.0 id)) list in omega (arith, le)
@@ -157,7 +157,7 @@ few_children (child ∷ children) list distinct there =
 -- ---- walks of what was there before
 
 module _ (before after : List Held)
-    (was : (k : ℕ) (check : Check) → check_at after k ≡ Some check → IsAsBefore before k check)
+    (was : (k : ℕ) (check : Check) → check_with after k ≡ Some check → IsAsBefore before k check)
   where
     walk_before : (walk : List ℕ) → IsWalk after walk → IsWalk before walk
     walk_before [] is = tt
@@ -175,8 +175,8 @@ module _ (before after : List Held)
 
 module _ (checks : Checks) (sound : IsSound checks) where
   fresh_by : (b : Bool) (held : Held) (list : List Held) → nat_eq checks.next held.0 ≡ b
-      → held.0 < checks.next → check_at list checks.next ≡ None
-      → cond b (Some held.1) (check_at list checks.next) ≡ None
+      → held.0 < checks.next → check_with list checks.next ≡ None
+      → cond b (Some held.1) (check_with list checks.next) ≡ None
   fresh_by true held list e low rest =
       let same : checks.next ≡ held.0 = eqb-true checks.next held.0 e in
       absurd (omega (arith, same, low))
@@ -184,12 +184,12 @@ module _ (checks : Checks) (sound : IsSound checks) where
 
   fresh_in : (list : List Held)
       → AllByRecursion (λ held. (1 ≤ held.0) × (held.0 < checks.next)) list
-      → check_at list checks.next ≡ None
+      → check_with list checks.next ≡ None
   fresh_in [] ids = refl
   fresh_in (held ∷ list) ids =
       fresh_by (nat_eq checks.next held.0) held list refl ids.0.1 (fresh_in list ids.1)
 
-  pub fresh : check_at checks.list checks.next ≡ None
+  pub fresh : check_with checks.list checks.next ≡ None
   fresh = fresh_in checks.list sound.ids
 
   more_children : (new : Held) (children : List ℕ) → AreChildren checks.list children
@@ -204,8 +204,8 @@ module _ (checks : Checks) (sound : IsSound checks) where
       → IsSound (created checks check)
   kept_created check bounded e =
       let new : Held = (checks.next, check) in
-      let last = rule (nat_eq checks.next 4294967295) IdsEnded in
-      let many = rule (nat_le 200 (length checks.list)) TooManyHealthChecks in
+      let last = refuse_if (nat_eq checks.next 4294967295) IdsEnded in
+      let many = refuse_if (nat_le 200 (length checks.list)) TooManyHealthChecks in
       let children = children_pass checks.list (checks.list ++ new ∷ []) (children_of check)
       (many ∷ last ∷ []) e in
       let few = passes TooManyHealthChecks (last ∷ []) (nat_le 200 (length checks.list))
@@ -423,11 +423,11 @@ pub kept_by : (checks : Checks) → IsSound checks → (command : CheckCommand)
 kept_by checks sound (Create check) bounded e = kept_created checks sound check bounded e
 kept_by checks sound (Update id inverted disabled threshold children) bounded e =
     let given : Given = given_by inverted disabled threshold children in
-    let its = there_and id (check_at checks.list id) (update_refusal checks id given) e in
+    let its = there_and id (check_with checks.list id) (update_refusal checks id given) e in
     kept_updated checks sound id given its.0 bounded its.2
 kept_by checks sound (Delete id) bounded e =
     kept_deleted checks sound id
-    (there_and id (check_at checks.list id) (λ check. delete_refusal checks id) e).2
+    (there_and id (check_with checks.list id) (λ check. delete_refusal checks id) e).2
 
 pub kept : KeepsSound
 kept checks after command id sound bounded e =
@@ -441,7 +441,7 @@ kept checks after command id sound bounded e =
 
 module _ (checks : Checks) (sound : IsSound checks) where
   new_there : (check : Check)
-      → check_at (created checks check).list checks.next ≡ Some check
+      → check_with (created checks check).list checks.next ≡ Some check
   new_there check =
       at_more (checks.next, check) checks.list checks.next
       ∙ ap (λ (o : Option Check). or_else o (alone (checks.next, check) checks.next))
@@ -453,61 +453,61 @@ module _ (checks : Checks) (sound : IsSound checks) where
   nothing_else (Some check) = refl
 
   old_there : (check : Check) (other : ℕ) → other ≢ checks.next
-      → check_at (created checks check).list other ≡ check_at checks.list other
+      → check_with (created checks check).list other ≡ check_with checks.list other
   old_there check other ne =
       at_more (checks.next, check) checks.list other
-      ∙ ap (λ (b : Bool). or_else (check_at checks.list other) (cond b (Some check) None))
+      ∙ ap (λ (b : Bool). or_else (check_with checks.list other) (cond b (Some check) None))
       (ne_eqb other checks.next ne)
-      ∙ nothing_else (check_at checks.list other)
+      ∙ nothing_else (check_with checks.list other)
 
   its_by : (command : CheckCommand)
-      → check_at (checks_after checks command).list (number_of checks command)
-      ≡ its_check command (check_at checks.list (number_of checks command))
+      → check_with (checks_after checks command).list (number_of checks command)
+      ≡ its_check command (check_with checks.list (number_of checks command))
   its_by (Create check) = new_there check
   its_by (Update id inverted disabled threshold children) =
       let given : Given = given_by inverted disabled threshold children in
       at_updated id given checks.list id
-      ∙ ap (λ (b : Bool). cond b (option_map (updated_check given) (check_at checks.list id))
-      (check_at checks.list id)) (eq-eqb id id refl)
+      ∙ ap (λ (b : Bool). cond b (option_map (updated_check given) (check_with checks.list id))
+      (check_with checks.list id)) (eq-eqb id id refl)
   its_by (Delete id) =
       at_without id checks.list id
-      ∙ ap (λ (b : Bool). cond b None (check_at checks.list id)) (eq-eqb id id refl)
+      ∙ ap (λ (b : Bool). cond b None (check_with checks.list id)) (eq-eqb id id refl)
 
   others_by : (command : CheckCommand) (other : ℕ) → other ≢ number_of checks command
-      → check_at (checks_after checks command).list other ≡ check_at checks.list other
+      → check_with (checks_after checks command).list other ≡ check_with checks.list other
   others_by (Create check) other ne = old_there check other ne
   others_by (Update id inverted disabled threshold children) other ne =
       let given : Given = given_by inverted disabled threshold children in
       at_updated id given checks.list other
-      ∙ ap (λ (b : Bool). cond b (option_map (updated_check given) (check_at checks.list other))
-      (check_at checks.list other)) (ne_eqb other id ne)
+      ∙ ap (λ (b : Bool). cond b (option_map (updated_check given) (check_with checks.list other))
+      (check_with checks.list other)) (ne_eqb other id ne)
   others_by (Delete id) other ne =
       at_without id checks.list other
-      ∙ ap (λ (b : Bool). cond b None (check_at checks.list other)) (ne_eqb other id ne)
+      ∙ ap (λ (b : Bool). cond b None (check_with checks.list other)) (ne_eqb other id ne)
 
-pub left : LeavesRest
+pub left : KeepsRest
 left = record { its = its_made; others = others_made }
   where
     its_made : (checks after : Checks) (command : CheckCommand) (id : ℕ)
-        → IsSound checks → answer checks command ≡ Ok (after, id)
-        → check_at after.list id ≡ its_check command (check_at checks.list id)
+        → IsSound checks → outcome checks command ≡ Ok (after, id)
+        → check_with after.list id ≡ its_check command (check_with checks.list id)
     its_made checks after command id sound e =
         let m = made (refusal_of checks command) (
           checks_after checks command,
           number_of checks command,
         ) (after, id) e in
         subst (λ (p : Checks × ℕ).
-        check_at p.0.list p.1 ≡ its_check command (check_at checks.list p.1)) m.1
+        check_with p.0.list p.1 ≡ its_check command (check_with checks.list p.1)) m.1
         (its_by checks sound command)
 
     others_made : (checks after : Checks) (command : CheckCommand) (id other : ℕ)
-        → IsSound checks → answer checks command ≡ Ok (after, id) → other ≢ id
-        → check_at after.list other ≡ check_at checks.list other
+        → IsSound checks → outcome checks command ≡ Ok (after, id) → other ≢ id
+        → check_with after.list other ≡ check_with checks.list other
     others_made checks after command id other sound e ne =
         let m = made (refusal_of checks command) (
           checks_after checks command,
           number_of checks command,
         ) (after, id) e in
-        ap (λ (p : Checks × ℕ). check_at p.0.list other) (sym m.1)
+        ap (λ (p : Checks × ℕ). check_with p.0.list other) (sym m.1)
         ∙ others_by checks sound command other
         (λ same. ne (same ∙ ap (λ (p : Checks × ℕ). p.1) m.1))

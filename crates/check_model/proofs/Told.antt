@@ -4,20 +4,20 @@ use Rattle.std.specs.Prelude.{Contains, nat_eq, is_some}
 use Rattle.std.specs.List.{AllByRecursion, list_any}
 use Rattle.std.proofs.lemmas.Bool.{eq-eqb, eqb-true, ne_eqb, false≢true}
 use Rattle.check_model.specs.declared.checks.Check.{Check}
-use Rattle.check_model.specs.Checks.{IdsRise, IsId, check_at, children_of}
+use Rattle.check_model.specs.Checks.{IdsRise, IsId, check_with, children_of}
 use Rattle.check_model.specs.Commands.{first_missing, is_named, is_there}
-use Rattle.check_model.specs.Told.{IsFirstMissing, IsNamed, RefusalsAreTold}
+use Rattle.check_model.specs.Told.{IsFirstMissing, IsReferredTo, RefusalsAreTold}
 use Rattle.check_model.proofs.Members.{all_at, any_from, any_of, repeated_told}
 use Rattle.check_model.proofs.Walks.{Held, stands_there}
 
 -- whether a check is there
-id_by : (found : Option Check) (list : List Held) (id : ℕ) → check_at list id ≡ found
+id_by : (found : Option Check) (list : List Held) (id : ℕ) → check_with list id ≡ found
     → is_some found ≡ true → IsId list id
 id_by None list id at e = absurd (false≢true e)
 id_by (Some check) list id at e = (check, at)
 
 pub id_of : (list : List Held) (id : ℕ) → is_there list id ≡ true → IsId list id
-id_of list id e = id_by (check_at list id) list id refl e
+id_of list id e = id_by (check_with list id) list id refl e
 
 pub there_of : (list : List Held) (id : ℕ) → IsId list id → is_there list id ≡ true
 there_of list id is = ap is_some is.1
@@ -62,10 +62,10 @@ above_not held list other above m =
     ne_eqb other.0 held.0 (λ e. omega (arith, low, e))
 
 pub one_of_id : (list : List Held) (held : Held) → IdsRise list → Contains list held
-    → check_at list held.0 ≡ Some held.1
+    → check_with list held.0 ≡ Some held.1
 one_of_id [] held rise (k, lt, is) = absurd (omega (arith, lt))
 one_of_id (first ∷ list) held rise (zero, lt, is) =
-    subst (λ (h : Held). check_at (first ∷ list) h.0 ≡ Some h.1) is
+    subst (λ (h : Held). check_with (first ∷ list) h.0 ≡ Some h.1) is
     (rw (eq-eqb first.0 first.0 refl) refl)
 one_of_id (first ∷ list) held rise (suc k, lt, is) =
     let m : Contains list held = (k, omega (arith, lt), is) in
@@ -75,7 +75,7 @@ names : (id : ℕ) → Held → Bool
 names id held = list_any (nat_eq id) (children_of held.1)
 
 named_from : (list : List Held) (id : ℕ) → IdsRise list → is_named id list ≡ true
-    → IsNamed list id
+    → IsReferredTo list id
 named_from list id rise e =
     let m = any_from (λ (held : Held). list_any (nat_eq id) (children_of held.1)) list e in
     let child = any_from (nat_eq id) (children_of m.0.1) m.2 in (
@@ -87,7 +87,7 @@ named_from list id rise e =
       ),
     )
 
-pub named_of : (list : List Held) (id : ℕ) → IsNamed list id → is_named id list ≡ true
+pub named_of : (list : List Held) (id : ℕ) → IsReferredTo list id → is_named id list ≡ true
 named_of list id (parent, (check, at, m)) =
     any_of (λ (held : Held). list_any (nat_eq id) (children_of held.1)) list (parent, check)
     (stands_there list parent check at)

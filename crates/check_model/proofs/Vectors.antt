@@ -7,8 +7,8 @@ use Rattle.check_model.specs.declared.checks.Check.TheVariants.{Endpoint, Calcul
 use Rattle.check_model.specs.declared.checks.CheckCommand.TheVariants.{Create, Update, Delete}
 use Rattle.check_model.specs.declared.refusals.CheckRefusal.TheVariants.{ChildRepeated, ChildTooDeep, WrongMember, NoSuchHealthCheck, HealthCheckInUse, TooManyHealthChecks, IdsEnded}
 use Rattle.check_model.proofs.Walks.{shallow_of}
-use Rattle.check_model.specs.Checks.{AreChildren, IsSound, check_at, Checks, IsBounded, IsCalculated, IsCalculatedAt, IsWalk}
-use Rattle.check_model.specs.Commands.{IsBoundedCommand, answer, checks_after, is_too_deep, refusal_of}
+use Rattle.check_model.specs.Checks.{AreChildren, IsSound, check_with, Checks, IsBounded, IsCalculated, IsCalculatedAt, IsWalk}
+use Rattle.check_model.specs.Commands.{IsBoundedCommand, outcome, checks_after, is_too_deep, refusal_of}
 
 -- of an endpoint, as it is made without members: three in a row turn a view
 abbrev endpoint : Check
@@ -22,7 +22,7 @@ abbrev none : Checks
 none = record { next = 1; list = [] }
 
 -- the first check is h1
-first : answer none (Create endpoint)
+first : outcome none (Create endpoint)
     ≡ Ok (record { next = 2; list = (1, endpoint) ∷ [] }, 1)
 unfolding is_too_deep
 first = refl
@@ -42,12 +42,12 @@ nested = record {
       ∷ (6, over 5) ∷ [];
 }
 
-four : answer chain (Create (over 5)) ≡ Ok (nested, 6)
+four : outcome chain (Create (over 5)) ≡ Ok (nested, 6)
 unfolding is_too_deep
 four = refl
 
 -- h7 over h6 would make one of five
-five : answer nested (Create (over 6)) ≡ Err ChildTooDeep
+five : outcome nested (Create (over 6)) ≡ Err ChildTooDeep
 unfolding is_too_deep
 five = refl
 
@@ -68,11 +68,11 @@ unfolding is_too_deep
 another_four = refl
 
 -- h3 over h6 would be a cycle
-cycle : answer nested (Update 3 None None None (Some (6 ∷ []))) ≡ Err ChildTooDeep
+cycle : outcome nested (Update 3 None None None (Some (6 ∷ []))) ≡ Err ChildTooDeep
 unfolding is_too_deep
 cycle = refl
 
-over_itself : answer nested (Update 3 None None None (Some (3 ∷ []))) ≡ Err ChildTooDeep
+over_itself : outcome nested (Update 3 None None None (Some (3 ∷ []))) ≡ Err ChildTooDeep
 unfolding is_too_deep
 over_itself = refl
 
@@ -181,7 +181,7 @@ four_are_sound = record {
     none_of_endpoint : AreChildren nested.list []
     none_of_endpoint = record { there = tt; distinct = tt }
 
-    one : (id : ℕ) (check : Check) → check_at nested.list id ≡ Some check
+    one : (id : ℕ) (check : Check) → check_with nested.list id ≡ Some check
         → AreChildren nested.list (id ∷ [])
     one id check at = record { there = ((check, at), tt); distinct = (tt, tt) }
 
@@ -258,18 +258,18 @@ no_such_child : refusal_of nested (Update 3 None None None (Some (6 ∷ 9 ∷ []
 no_such_child = refl
 
 -- a calculated check names h1; none names h6
-in_use : answer nested (Delete 1) ≡ Err (HealthCheckInUse 1)
+in_use : outcome nested (Delete 1) ≡ Err (HealthCheckInUse 1)
 in_use = refl
 
-not_in_use : answer nested (Delete 6) ≡ Ok (record chain { next = 7 }, 6)
+not_in_use : outcome nested (Delete 6) ≡ Ok (record chain { next = 7 }, 6)
 not_in_use = refl
 
-no_such_end : answer nested (Delete 7) ≡ Err (NoSuchHealthCheck 7)
+no_such_end : outcome nested (Delete 7) ≡ Err (NoSuchHealthCheck 7)
 no_such_end = refl
 
 -- ---- what is given is changed, the rest is left
 
-given_alone : answer chain (Update 4 None (Some true) None None)
+given_alone : outcome chain (Update 4 None (Some true) None None)
     ≡ Ok (
       record {
         next = 6;

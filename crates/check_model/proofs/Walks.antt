@@ -4,7 +4,7 @@ use Rattle.std.specs.Prelude.{Contains, nat_eq}
 use Rattle.std.proofs.lemmas.Bool.{eqb-true, false≢true, cases_Bool}
 use Rattle.check_model.specs.declared.checks.Check.{Check}
 use Rattle.check_model.specs.declared.checks.Check.TheVariants.{Endpoint, Calculated}
-use Rattle.check_model.specs.Checks.{IsCalculated, IsCalculatedAt, IsWalk, check_at, children_of}
+use Rattle.check_model.specs.Checks.{IsCalculated, IsCalculatedAt, IsWalk, check_with, children_of}
 use Rattle.check_model.specs.Commands.{children_there, has_walk, is_calculated, is_calculated_there, is_too_deep, starts_walk}
 use Rattle.check_model.specs.Told.{HasWalk, HasWalkFrom, WalksAreTold}
 use Rattle.check_model.proofs.Members.{any_from, any_of, further}
@@ -14,8 +14,8 @@ Held = ℕ × Check
 
 -- the check of a number stands in the list
 there_by : (b : Bool) (id : ℕ) (held : Held) (list : List Held) (check : Check)
-    → nat_eq id held.0 ≡ b → cond b (Some held.1) (check_at list id) ≡ Some check
-    → (check_at list id ≡ Some check → Contains list (id, check))
+    → nat_eq id held.0 ≡ b → cond b (Some held.1) (check_with list id) ≡ Some check
+    → (check_with list id ≡ Some check → Contains list (id, check))
     → Contains (held ∷ list) (id, check)
 there_by true id held list check e is rest =
     let same : id ≡ held.0 = eqb-true id held.0 e in
@@ -23,7 +23,7 @@ there_by true id held list check e is rest =
     (zero, omega arith, ap (λ (n : ℕ). (n, held.1)) (sym same) ∙ ap (λ (c : Check). (id, c)) one)
 there_by false id held list check e is rest = further held list (id, check) (rest is)
 
-pub stands_there : (list : List Held) (id : ℕ) (check : Check) → check_at list id ≡ Some check
+pub stands_there : (list : List Held) (id : ℕ) (check : Check) → check_with list id ≡ Some check
     → Contains list (id, check)
 stands_there [] id check is = absurd (let no : ⊥ = cc in no)
 stands_there (held ∷ list) id check is =
@@ -44,18 +44,18 @@ has_children (Endpoint threshold inverted disabled) child m =
 has_children (Calculated threshold inverted disabled children) child m = tt
 
 module _ (list : List Held) where
-  alone : (found : Option Check) (id : ℕ) → check_at list id ≡ found
+  alone : (found : Option Check) (id : ℕ) → check_with list id ≡ found
       → is_calculated_there found ≡ true → HasWalkFrom zero list id
   alone None id at e = absurd (false≢true e)
   alone (Some check) id at e = ([], (check, at, calculated_told check e), refl)
 
   alone_back : (id : ℕ) → HasWalkFrom zero list id
-      → is_calculated_there (check_at list id) ≡ true
+      → is_calculated_there (check_with list id) ≡ true
   alone_back id ([], (check, at, is), length) =
       ap is_calculated_there at ∙ told_calculated check is
   alone_back id (next ∷ walk, is, length) = let no : ⊥ = omega (arith, length) in absurd no
 
-  longer : (found : Option Check) (id steps : ℕ) → check_at list id ≡ found
+  longer : (found : Option Check) (id steps : ℕ) → check_with list id ≡ found
       → (child : ℕ) → Contains (children_there found) child → HasWalkFrom steps list child
       → HasWalkFrom (suc steps) list id
   longer None id steps at child m rest = let lt = m.1 in absurd (omega (arith, lt))
@@ -66,17 +66,17 @@ module _ (list : List Held) where
   )
 
   starts_from : (steps id : ℕ) → starts_walk steps list id ≡ true → HasWalkFrom steps list id
-  starts_from zero id e = alone (check_at list id) id refl e
+  starts_from zero id e = alone (check_with list id) id refl e
   starts_from (suc steps) id e =
-      let m = any_from (starts_walk steps list) (children_there (check_at list id)) e in
-      longer (check_at list id) id steps refl m.0 m.1 (starts_from steps m.0 m.2)
+      let m = any_from (starts_walk steps list) (children_there (check_with list id)) e in
+      longer (check_with list id) id steps refl m.0 m.1 (starts_from steps m.0 m.2)
 
   starts_of : (steps id : ℕ) → HasWalkFrom steps list id → starts_walk steps list id ≡ true
   starts_of zero id from = alone_back id from
   starts_of (suc steps) id ([], is, length) =
       let no : ⊥ = omega (arith, length) in absurd no
   starts_of (suc steps) id (next ∷ walk, (calculated, (check, at, m), is), length) =
-      any_of (starts_walk steps list) (children_there (check_at list id)) next
+      any_of (starts_walk steps list) (children_there (check_with list id)) next
       (subst (λ found. Contains (children_there found) next) (sym at) m)
       (starts_of steps next (walk, is, (omega (arith, length))))
 

@@ -12,12 +12,12 @@ pub record Checks : Type 0 where
   pub list : List (ℕ × Check)
 
 -- the check of a number
-abbrev pub check_at : List (ℕ × Check) → ℕ → Option Check
-check_at list id = lookup (nat_eq id) list
+abbrev pub check_with : List (ℕ × Check) → ℕ → Option Check
+check_with list id = lookup (nat_eq id) list
 
 -- a check has the number
 abbrev pub IsId : List (ℕ × Check) → ℕ → Type 0
-IsId list id = (check : Check) × (check_at list id ≡ Some check)
+IsId list id = (check : Check) × (check_with list id ≡ Some check)
 
 -- the children of a check; one of an endpoint has none
 abbrev pub children_of : Check → List ℕ
@@ -32,12 +32,12 @@ IsCalculated (Calculated threshold inverted disabled children) = ⊤
 
 -- the number is that of a calculated check
 abbrev pub IsCalculatedAt : List (ℕ × Check) → ℕ → Type 0
-IsCalculatedAt list id = (check : Check) × (check_at list id ≡ Some check) × IsCalculated check
+IsCalculatedAt list id = (check : Check) × (check_with list id ≡ Some check) × IsCalculated check
 
 -- the check of the first number has the other one among its children
 abbrev pub IsChildOf : List (ℕ × Check) → (id child : ℕ) → Type 0
 IsChildOf list id child =
-    (check : Check) × (check_at list id ≡ Some check) × Contains (children_of check) child
+    (check : Check) × (check_with list id ≡ Some check) × Contains (children_of check) child
 
 -- A walk of checks: each is calculated, and each but the first is a child of the one before.
 abbrev pub IsWalk : List (ℕ × Check) → (walk : List ℕ) → Type 0

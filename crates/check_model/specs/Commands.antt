@@ -9,13 +9,13 @@ use Rattle.check_model.specs.declared.checks.CheckCommand.{CheckCommand}
 use Rattle.check_model.specs.declared.checks.CheckCommand.TheVariants.{Create, Update, Delete}
 use Rattle.check_model.specs.declared.refusals.CheckRefusal.{CheckRefusal}
 use Rattle.check_model.specs.declared.refusals.CheckRefusal.TheVariants.{ChildRepeated, ChildTooDeep, WrongMember, NoSuchHealthCheck, HealthCheckInUse, TooManyHealthChecks, IdsEnded}
-use Rattle.check_model.specs.Checks.{Checks, IsBounded, check_at, children_of}
+use Rattle.check_model.specs.Checks.{Checks, IsBounded, check_with, children_of}
 
 -- ---- rules in their order
 
 -- a refusal, where a rule holds
-abbrev pub rule : Bool → CheckRefusal → Option CheckRefusal
-rule holds refusal = if holds then Some refusal else None
+abbrev pub refuse_if : Bool → CheckRefusal → Option CheckRefusal
+refuse_if holds refusal = if holds then Some refusal else None
 
 -- the first of several
 abbrev pub first_of : List (Option CheckRefusal) → Option CheckRefusal
@@ -32,7 +32,7 @@ has_repeated (child ∷ children) = list_any (nat_eq child) children || has_repe
 
 -- a check has the number
 abbrev pub is_there : List (ℕ × Check) → ℕ → Bool
-is_there list id = is_some (check_at list id)
+is_there list id = is_some (check_with list id)
 
 -- the first of these numbers that no check has
 abbrev pub first_missing : List (ℕ × Check) → (children : List ℕ) → Option ℕ
@@ -60,9 +60,9 @@ children_there (Some check) = children_of check
 
 -- A walk of checks starts at the check of the number, from one to its child so many times.
 abbrev pub starts_walk : (steps : ℕ) → List (ℕ × Check) → (id : ℕ) → Bool
-starts_walk zero list id = is_calculated_there (check_at list id)
+starts_walk zero list id = is_calculated_there (check_with list id)
 starts_walk (suc steps) list id =
-    list_any (starts_walk steps list) (children_there (check_at list id))
+    list_any (starts_walk steps list) (children_there (check_with list id))
 
 abbrev pub has_walk : (steps : ℕ) → List (ℕ × Check) → Bool
 has_walk steps list = list_any (λ (held : ℕ × Check). starts_walk steps list held.0) list
@@ -75,9 +75,9 @@ is_too_deep list = has_walk 4 list
 abbrev pub children_rules : (list after : List (ℕ × Check)) → (children : List ℕ)
     → List (Option CheckRefusal)
 children_rules list after children =
-    rule (has_repeated children) ChildRepeated
+    refuse_if (has_repeated children) ChildRepeated
     ∷ missing (first_missing list children)
-    ∷ rule (is_too_deep after) ChildTooDeep
+    ∷ refuse_if (is_too_deep after) ChildTooDeep
     ∷ []
 
 -- ---- a new check
@@ -93,8 +93,8 @@ created checks check = record {
 abbrev pub create_refusal : Checks → Check → Option CheckRefusal
 create_refusal checks check = first_of (
     children_rules checks.list (created checks check).list (children_of check)
-    ++ rule (nat_le 200 (length checks.list)) TooManyHealthChecks
-    ∷ rule (nat_eq checks.next 4294967295) IdsEnded
+    ++ refuse_if (nat_le 200 (length checks.list)) TooManyHealthChecks
+    ∷ refuse_if (nat_eq checks.next 4294967295) IdsEnded
     ∷ [])
 
 -- ---- changes of a check
@@ -136,7 +136,7 @@ given_rules list after (Some children) = children_rules list after children
 -- the first refusal of changes of a check that is there
 abbrev pub update_refusal : Checks → (id : ℕ) → Given → Check → Option CheckRefusal
 update_refusal checks id given check = first_of (
-    rule (is_wrong_member given check) WrongMember
+    refuse_if (is_wrong_member given check) WrongMember
     ∷ given_rules checks.list (updated checks id given).list given.children)
 
 -- ---- the end of a check
@@ -154,7 +154,7 @@ is_named id list = list_any (λ (held : ℕ × Check). list_any (nat_eq id) (chi
 
 -- the first refusal of the end of a check that is there
 abbrev pub delete_refusal : Checks → (id : ℕ) → Option CheckRefusal
-delete_refusal checks id = first_of (rule (is_named id checks.list) (HealthCheckInUse id) ∷ [])
+delete_refusal checks id = first_of (refuse_if (is_named id checks.list) (HealthCheckInUse id) ∷ [])
 
 -- ---- commands
 
@@ -178,10 +178,10 @@ given_by inverted disabled threshold children = record {
 abbrev pub refusal_of : Checks → CheckCommand → Option CheckRefusal
 refusal_of checks (Create check) = create_refusal checks check
 refusal_of checks (Update id inverted disabled threshold children) =
-    of_there id (check_at checks.list id)
+    of_there id (check_with checks.list id)
     (update_refusal checks id (given_by inverted disabled threshold children))
 refusal_of checks (Delete id) =
-    of_there id (check_at checks.list id) (λ check. delete_refusal checks id)
+    of_there id (check_with checks.list id) (λ check. delete_refusal checks id)
 
 -- The checks after a command that isn't refused.
 abbrev pub checks_after : Checks → CheckCommand → Checks
@@ -202,8 +202,8 @@ unless None answer = Ok answer
 unless (Some refusal) answer = Err refusal
 
 -- The checks after a command and the number of its check, or the command's first refusal.
-abbrev pub answer : Checks → CheckCommand → Result (Checks × ℕ) CheckRefusal
-answer checks command =
+abbrev pub outcome : Checks → CheckCommand → Result (Checks × ℕ) CheckRefusal
+outcome checks command =
     unless (refusal_of checks command) (checks_after checks command, number_of checks command)
 
 -- A check that is made is within its bounds; a number of healthy children is at most 256.

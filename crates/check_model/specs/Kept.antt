@@ -3,14 +3,14 @@ use Rattle.std.specs.Prelude.{◌≡◌, ◌≢◌, ℕ, [], Option, None, Some,
 use Rattle.check_model.specs.declared.checks.Check.{Check}
 use Rattle.check_model.specs.declared.checks.CheckCommand.{CheckCommand}
 use Rattle.check_model.specs.declared.checks.CheckCommand.TheVariants.{Create, Update, Delete}
-use Rattle.check_model.specs.Checks.{Checks, IsSound, check_at}
-use Rattle.check_model.specs.Commands.{IsBoundedCommand, answer, given_by, updated_check}
+use Rattle.check_model.specs.Checks.{Checks, IsSound, check_with}
+use Rattle.check_model.specs.Commands.{IsBoundedCommand, outcome, given_by, updated_check}
 
 -- What a command makes of sound checks is sound.
 abbrev pub KeepsSound : Type 0
 KeepsSound =
     (checks after : Checks) (command : CheckCommand) (id : ℕ)
-    → IsSound checks → IsBoundedCommand command → answer checks command ≡ Ok (after, id)
+    → IsSound checks → IsBoundedCommand command → outcome checks command ≡ Ok (after, id)
     → IsSound after
 
 -- No checks, the first of which gets number 1, are sound.
@@ -25,10 +25,10 @@ its_check (Update id inverted disabled threshold children) before =
 its_check (Delete id) before = None
 
 -- A command makes that of the check that it names, and leaves the others.
-pub record LeavesRest : Type 0 where
+pub record KeepsRest : Type 0 where
   pub its : (checks after : Checks) (command : CheckCommand) (id : ℕ)
-      → IsSound checks → answer checks command ≡ Ok (after, id)
-      → check_at after.list id ≡ its_check command (check_at checks.list id)
+      → IsSound checks → outcome checks command ≡ Ok (after, id)
+      → check_with after.list id ≡ its_check command (check_with checks.list id)
   pub others : (checks after : Checks) (command : CheckCommand) (id other : ℕ)
-      → IsSound checks → answer checks command ≡ Ok (after, id) → other ≢ id
-      → check_at after.list other ≡ check_at checks.list other
+      → IsSound checks → outcome checks command ≡ Ok (after, id) → other ≢ id
+      → check_with after.list other ≡ check_with checks.list other

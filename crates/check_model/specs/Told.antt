@@ -29,8 +29,8 @@ IsFirstMissing list children (Some child) =
     × AllByRecursion (IsId list) before × (IsId list child → ⊥)
 
 -- a check has this one among its children
-abbrev pub IsNamed : List (ℕ × Check) → (id : ℕ) → Type 0
-IsNamed list id = (parent : ℕ) × IsChildOf list parent id
+abbrev pub IsReferredTo : List (ℕ × Check) → (id : ℕ) → Type 0
+IsReferredTo list id = (parent : ℕ) × IsChildOf list parent id
 
 -- Each rule holds exactly where its words say.
 pub record RefusalsAreTold : Type 0 where
@@ -38,4 +38,4 @@ pub record RefusalsAreTold : Type 0 where
   pub missing : (list : List (ℕ × Check)) (children : List ℕ)
       → IsFirstMissing list children (first_missing list children)
   pub named : (list : List (ℕ × Check)) (id : ℕ) → IdsRise list
-      → IsTrue (is_named id list) ↔ IsNamed list id
+      → IsTrue (is_named id list) ↔ IsReferredTo list id

@@ -1,6 +1,6 @@
 //! Laws over the definitions, each the contract of a function that does nothing.
 
-ghost use Rattle.check_model.specs.Kept.{KeepsSound, LeavesRest, NoneAreSound};
+ghost use Rattle.check_model.specs.Kept.{KeepsSound, KeepsRest, NoneAreSound};
 ghost use Rattle.check_model.specs.Told.{RefusalsAreTold, WalksAreTold};
 
 /// What a command makes of sound checks is sound, where the command is within its bounds.
@@ -15,7 +15,7 @@ pub fn no_checks_are_sound()
 
 /// A command changes the check that it names, and leaves the others.
 pub fn rest_is_left()
-    ensures { LeavesRest }
+    ensures { KeepsRest }
 {}
 
 /// A walk of so many checks starts at a check exactly where there is such a list of checks.

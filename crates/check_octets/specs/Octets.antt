@@ -12,19 +12,19 @@ use Rattle.check_model.specs.Checks.{IsBounded}
 use Rattle.check_model.specs.Commands.{IsThreshold}
 
 -- Disabled is told from the second version on.
-abbrev pub tells_disabled : (version : ℕ) → Bool
-tells_disabled version = nat_lt 1 version
+abbrev pub spells_disabled : (version : ℕ) → Bool
+spells_disabled version = nat_lt 1 version
 
 -- what stands there where it is told
-abbrev pub where_told : (told : Bool) → List ℕ → List ℕ
-where_told true octets = octets
-where_told false octets = []
+abbrev pub where_spelled : (told : Bool) → List ℕ → List ℕ
+where_spelled true octets = octets
+where_spelled false octets = []
 
 abbrev pub flag_octets : Bool → List ℕ
 flag_octets flag = flag_octet flag ∷ []
 
 abbrev pub disabled_octets : (version : ℕ) → Bool → List ℕ
-disabled_octets version disabled = where_told (tells_disabled version) (flag_octets disabled)
+disabled_octets version disabled = where_spelled (spells_disabled version) (flag_octets disabled)
 
 -- A check is 1 for an endpoint's, with its threshold in one octet, or 2 for a calculated one, with
 -- its threshold in two; then inverted and disabled; and children.
@@ -46,7 +46,7 @@ abbrev pub field_octets : (version : ℕ) → CheckCommand → List ℕ
 field_octets version (Create check) = check_octets version check
 field_octets version (Update id inverted disabled threshold children) =
     four_octets id ++ optional_octets flag_octets inverted
-    ++ where_told (tells_disabled version) (optional_octets flag_octets disabled)
+    ++ where_spelled (spells_disabled version) (optional_octets flag_octets disabled)
     ++ optional_octets two_octets threshold
     ++ optional_octets (list_octets four_octets) children
 field_octets version (Delete id) = four_octets id
@@ -54,8 +54,8 @@ field_octets version (Delete id) = four_octets id
 -- ---- which commands have a spelling
 
 -- What isn't told is as it is left.
-abbrev pub IsTold : {A : Type 0} → (version : ℕ) → (left : A) → A → Type 0
-IsTold version left disabled = tells_disabled version ≡ false → disabled ≡ left
+abbrev pub IsSpelledOrLeft : {A : Type 0} → (version : ℕ) → (left : A) → A → Type 0
+IsSpelledOrLeft version left disabled = spells_disabled version ≡ false → disabled ≡ left
 
 -- whether a check is disabled
 abbrev pub disabled_of : Check → Bool
@@ -65,7 +65,7 @@ disabled_of (Calculated threshold inverted disabled children) = disabled
 -- A check is within its bounds; in the first version it isn't disabled.
 pub record IsSpelledCheck (version : ℕ) (check : Check) : Type 0 where
   pub bounded : IsBounded check
-  pub told : IsTold version false (disabled_of check)
+  pub told : IsSpelledOrLeft version false (disabled_of check)
 
 -- no more children than can be counted
 abbrev pub IsListable : List ℕ → Type 0
@@ -77,7 +77,7 @@ pub record IsSpelledUpdate (version : ℕ) (disabled : Option Bool) (threshold :
     (children : Option (List ℕ)) : Type 0 where
   pub threshold_is : IsThreshold threshold
   pub listable : WhereSome IsListable children
-  pub told : IsTold version None disabled
+  pub told : IsSpelledOrLeft version None disabled
 
 -- What has a spelling in a version.
 abbrev pub HasSpelling : (version : ℕ) → CheckCommand → Type 0

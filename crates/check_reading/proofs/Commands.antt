@@ -16,10 +16,10 @@ use Rattle.check_model.specs.declared.checks.CheckCommand.{CheckCommand}
 use Rattle.check_model.specs.declared.checks.CheckCommand.TheVariants.{Create, Update, Delete}
 use Rattle.check_model.specs.Commands.{IsThreshold}
 use Rattle.check_octets.specs.Octets.{disabled_octets, check_octets, field_octets}
-use Rattle.check_octets.specs.Octets.{IsTold, IsListable, IsSpelledCheck}
+use Rattle.check_octets.specs.Octets.{IsSpelledOrLeft, IsListable, IsSpelledCheck}
 use Rattle.check_reading.specs.Laws.{IsOfKind, CheckCommandsAreRead}
 use Rattle.check_reading.specs.Reading.{endpoint, endpoint_at, calculated, calculated_at}
-use Rattle.check_reading.specs.Reading.{check_lines, check_at, create_at, updated, update_at}
+use Rattle.check_reading.specs.Reading.{check_kinds, check_at, create_at, updated, update_at}
 use Rattle.check_reading.specs.Reading.{delete_at}
 use Rattle.check_reading.proofs.Parts.{number_read, failures_read, threshold_read, children_read}
 use Rattle.check_reading.proofs.Parts.{inverting_read, thresholds_read, given_children_read}
@@ -51,7 +51,7 @@ endpoint_read version =
     (λ p h. ((record { bounded = h.0.0; told = h.1 }, refl), refl)) from
   where
     from : (check : Check) → IsCheckOf version 1 check
-        → (p : (ℕ × Bool) × Bool) × ((((1 ≤ p.0.0) × (p.0.0 ≤ 10)) × ⊤) × IsTold version false p.1)
+        → (p : (ℕ × Bool) × Bool) × ((((1 ≤ p.0.0) × (p.0.0 ≤ 10)) × ⊤) × IsSpelledOrLeft version false p.1)
         × (endpoint p ≡ check)
     from (Endpoint threshold inverted disabled) h =
         (((threshold, inverted), disabled), ((h.0.bounded, tt), h.0.told), refl)
@@ -68,7 +68,7 @@ calculated_read version =
   where
     from : (check : Check) → IsCheckOf version 2 check
         → (p : ((ℕ × Bool) × Bool) × List ℕ)
-        × ((((p.0.0.0 ≤ 256) × ⊤) × IsTold version false p.0.1) × (length p.1 ≤ 255))
+        × ((((p.0.0.0 ≤ 256) × ⊤) × IsSpelledOrLeft version false p.0.1) × (length p.1 ≤ 255))
         × (calculated p ≡ check)
     from (Endpoint threshold inverted disabled) h = absurd (omega (arith, h.1))
     from (Calculated threshold inverted disabled children) h = (
@@ -77,7 +77,7 @@ calculated_read version =
       refl,
     )
 
-has_line : (version : ℕ) (check : Check) → has_kind (check_lines version) (check_kind check) ≡ true
+has_line : (version : ℕ) (check : Check) → has_kind (check_kinds version) (check_kind check) ≡ true
 has_line version (Endpoint threshold inverted disabled) = refl
 has_line version (Calculated threshold inverted disabled children) = refl
 
@@ -91,7 +91,7 @@ pub check_read : (version : ℕ)
 unfolding check_at
 check_read version =
     alike
-    (kinds_read check_kind (IsSpelledCheck version) (check_fields version) (check_lines version)
+    (kinds_read check_kind (IsSpelledCheck version) (check_fields version) (check_kinds version)
     (endpoint_read version, (calculated_read version, tt)) (λ check h. has_line version check))
     (λ check h. (h, spelled version check)) (λ check h. h)
 
@@ -122,7 +122,7 @@ update_read version =
   where
     from : (command : CheckCommand) → IsOfKind version 5 command
         → (p : (((ℕ × Option Bool) × Option Bool) × Option ℕ) × Option (List ℕ))
-        × ((((⊤ × ⊤) × IsTold version None p.0.0.1) × IsThreshold p.0.1) × WhereSome IsListable p.1)
+        × ((((⊤ × ⊤) × IsSpelledOrLeft version None p.0.0.1) × IsThreshold p.0.1) × WhereSome IsListable p.1)
         × (updated p ≡ command)
     from (Create check) h = absurd (omega (arith, h.1))
     from (Update id inverted disabled threshold children) h = (

@@ -15,10 +15,10 @@ use Rattle.check_octets.proofs.Optional.{list_read, optional_read}
 use Rattle.check_octets.proofs.Rules.{alike, nothing_read, then_read}
 use Rattle.check_octets.proofs.Within.{four_within}
 use Rattle.check_model.specs.Commands.{IsThreshold}
-use Rattle.check_octets.specs.Octets.{tells_disabled, where_told, flag_octets, disabled_octets}
-use Rattle.check_octets.specs.Octets.{IsTold, IsListable}
+use Rattle.check_octets.specs.Octets.{spells_disabled, where_spelled, flag_octets, disabled_octets}
+use Rattle.check_octets.specs.Octets.{IsSpelledOrLeft, IsListable}
 use Rattle.check_reading.specs.Fields.{is_failures, failures_at, is_threshold, threshold_at}
-use Rattle.check_reading.specs.Fields.{told_at, disabled_at, disabling_at, is_few, few_at}
+use Rattle.check_reading.specs.Fields.{spelled_at, disabled_at, disabling_at, is_few, few_at}
 use Rattle.check_reading.specs.Fields.{children_at}
 
 -- ---- numbers
@@ -94,21 +94,21 @@ given_children_read = optional_read any_children_read
 -- a field that stands there where it is told
 pub told_read : {A : Type 0} {is : A → Type 0} {octets_of : A → List ℕ} {read : Reader A}
     (told : Bool) (left : A) → IsReadAs is octets_of read → ((x : A) → is x)
-    → IsReadAs (λ x. told ≡ false → x ≡ left) (λ x. where_told told (octets_of x))
-    (told_at told left read)
+    → IsReadAs (λ x. told ≡ false → x ≡ left) (λ x. where_spelled told (octets_of x))
+    (spelled_at told left read)
 told_read true left inside each =
     alike inside (λ x h. (λ e. absurd (let k : true ≡ false = e in cc), refl)) (λ x h. each x)
 told_read false left inside each =
     alike (nothing_read left) (λ x h. (λ e. h, refl)) (λ x h. h refl)
 
 pub disabled_read : (version : ℕ)
-    → IsReadAs (IsTold version false) (disabled_octets version) (disabled_at version)
+    → IsReadAs (IsSpelledOrLeft version false) (disabled_octets version) (disabled_at version)
 unfolding disabled_at
-disabled_read version = told_read (tells_disabled version) false flag_read (λ flag. tt)
+disabled_read version = told_read (spells_disabled version) false flag_read (λ flag. tt)
 
 pub disabling_read : (version : ℕ)
-    → IsReadAs (IsTold version None)
-    (λ disabled. where_told (tells_disabled version) (optional_octets flag_octets disabled))
+    → IsReadAs (IsSpelledOrLeft version None)
+    (λ disabled. where_spelled (spells_disabled version) (optional_octets flag_octets disabled))
     (disabling_at version)
 unfolding disabling_at
-disabling_read version = told_read (tells_disabled version) None inverting_read (λ flag. tt)
+disabling_read version = told_read (spells_disabled version) None inverting_read (λ flag. tt)

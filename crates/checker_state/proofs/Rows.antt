@@ -2,7 +2,7 @@
 use Rattle.std.proofs.Common.{◌≡◌, ◌≤◌, ◌<◌, ℕ, zero, suc, Bool, true, false, List, [], ◌∷◌, take, drop, replicate, arith, refl, sym, ap, ◌∙◌, inl, inr, subst, if◌then◌else◌}
 use Rattle.std.proofs.lemmas.Bool.{le-leb, lt-leb, cases_order}
 use Rattle.std.proofs.lemmas.Bool.Decides.{leb_tells}
-use Rattle.checker_state.specs.View.{same, run_of, view_of, EndsRow, IsLastRow, IsView}
+use Rattle.checker_state.specs.View.{same, run_of, view_of, EndsRun, IsLastRow, IsView}
 
 same_refl : (r : Bool) → same r r ≡ true
 same_refl true = refl
@@ -29,7 +29,7 @@ run_of_row (suc n) false (false ∷ xs) h = let rest : take n xs ≡ replicate n
     omega (arith, run_of_row n false xs rest)
 
 -- no row of one or more ends in nothing
-no_row : (n : ℕ) (r : Bool) (place : ℕ) → 0 < n → ¬ EndsRow n r [] place
+no_row : (n : ℕ) (r : Bool) (place : ℕ) → 0 < n → ¬ EndsRun n r [] place
 no_row zero r place h row = absurd (omega arith)
 no_row (suc n) r zero h row = let e : ⊥ = cc in e
 no_row (suc n) r (suc place) h row = let e : ⊥ = cc in e
@@ -60,7 +60,7 @@ stays n r before few =
 module _ (n : ℕ) (some : 0 < n) where
   -- where no row ends in front, all stays
   none_in_front : (r : Bool) (before : List Bool) → run_of r (r ∷ before) < n → (other : Bool)
-      → ¬ EndsRow n other (r ∷ before) 0
+      → ¬ EndsRun n other (r ∷ before) 0
   none_in_front r before few other row =
       let e : other ≡ r = front_result n r other before some row in
       let same_row : take n (r ∷ before) ≡ replicate n r = row ∙ ap (replicate n) e in
@@ -75,11 +75,11 @@ module _ (n : ℕ) (some : 0 < n) where
       none_newer = newer;
     },
   ) where
-    newer : (k : ℕ) (other : Bool) → k < suc place → ¬ EndsRow n other (r ∷ before) k
+    newer : (k : ℕ) (other : Bool) → k < suc place → ¬ EndsRun n other (r ∷ before) k
     newer zero other h = none_in_front r before few other
     newer (suc k) other h = last.none_newer k other (omega arith)
   further r before view few (inr (none, e)) = inr (nowhere, e) where
-    nowhere : (place : ℕ) (other : Bool) → ¬ EndsRow n other (r ∷ before) place
+    nowhere : (place : ℕ) (other : Bool) → ¬ EndsRun n other (r ∷ before) place
     nowhere zero other = none_in_front r before few other
     nowhere (suc k) other = none k other
 
@@ -117,11 +117,11 @@ module _ (n : ℕ) (some : 0 < n) where
   one_view results a b (inr (none, e)) (inr (none', e')) = e ∙ sym e'
 
 -- what one more result does, said by rows
-pub row_turns : (n : ℕ) (r : Bool) (results : List Bool) → EndsRow n r (r ∷ results) 0
+pub row_turns : (n : ℕ) (r : Bool) (results : List Bool) → EndsRun n r (r ∷ results) 0
     → view_of n (r ∷ results) ≡ r
 row_turns n r results row = turns n r results (run_of_row n r (r ∷ results) row)
 
-pub no_row_stays : (n : ℕ) (r : Bool) (results : List Bool) → ¬ EndsRow n r (r ∷ results) 0
+pub no_row_stays : (n : ℕ) (r : Bool) (results : List Bool) → ¬ EndsRun n r (r ∷ results) 0
     → view_of n (r ∷ results) ≡ view_of n results
 no_row_stays n r results none = elim (leb_tells n (run_of r (r ∷ results))) [
   | inl (_, long) ↦ absurd (none (row_of_run n r (r ∷ results) long))

@@ -1,6 +1,6 @@
 -- The definitions at values from outside: the rules' own examples. Results stand newest first.
 use Rattle.std.proofs.Common.{◌≡◌, ℕ, Bool, true, false, List, [], ◌∷◌, refl, nat_lt, if◌then◌else◌}
-use Rattle.checker_state.specs.View.{view_of, EndsRow}
+use Rattle.checker_state.specs.View.{view_of, EndsRun}
 use Rattle.checker_state.specs.Standing.{kept, numbers, nothing, with_result, passing_of}
 
 -- a new checker sees a pass
@@ -32,7 +32,7 @@ nine : view_of 10 (false ∷ false ∷ false ∷ false ∷ false ∷ false ∷ f
 nine = refl
 
 -- a row of three ends at the second newest result
-row : EndsRow 3 false (true ∷ false ∷ false ∷ false ∷ true ∷ []) 1
+row : EndsRun 3 false (true ∷ false ∷ false ∷ false ∷ true ∷ []) 1
 row = refl
 
 -- what is kept after a pass and two fails

@@ -1,6 +1,6 @@
 -- Laws on views and on what stands for results.
 use Rattle.std.specs.Prelude.{◌≡◌, ◌<◌, ℕ, Bool, List, ◌∷◌}
-use Rattle.checker_state.specs.View.{view_of, EndsRow, IsView}
+use Rattle.checker_state.specs.View.{view_of, EndsRun, IsView}
 use Rattle.checker_state.specs.Standing.{Seen, StandsFor}
 
 -- The view is the result of the last place at which n equal results in a row end, and pass where there is none.
@@ -15,9 +15,9 @@ OneView = (n : ℕ) (results : List Bool) (a b : Bool) → 0 < n
 
 -- One more result becomes the view where it ends a row of n, and else leaves the view.
 pub record OneMoreResult : Type 0 where
-  pub turns : (n : ℕ) (r : Bool) (results : List Bool) → EndsRow n r (r ∷ results) 0
+  pub turns : (n : ℕ) (r : Bool) (results : List Bool) → EndsRun n r (r ∷ results) 0
       → view_of n (r ∷ results) ≡ r
-  pub stays : (n : ℕ) (r : Bool) (results : List Bool) → ¬ EndsRow n r (r ∷ results) 0
+  pub stays : (n : ℕ) (r : Bool) (results : List Bool) → ¬ EndsRun n r (r ∷ results) 0
       → view_of n (r ∷ results) ≡ view_of n results
 
 -- What stands for lists of results is one value.

@@ -17,15 +17,15 @@ view_of n [] = true
 view_of n (r ∷ before) = if nat_le n (run_of r (r ∷ before)) then r else view_of n before
 
 -- n results r in a row end at this place: it and the n - 1 before it in time, which stand behind it.
-abbrev pub EndsRow : (n : ℕ) → Bool → List Bool → (place : ℕ) → Type 0
-EndsRow n r results place = take n (drop place results) ≡ replicate n r
+abbrev pub EndsRun : (n : ℕ) → Bool → List Bool → (place : ℕ) → Type 0
+EndsRun n r results place = take n (drop place results) ≡ replicate n r
 
 -- the last such place: no row of n, of passes or of fails, ends at a newer one
 pub record IsLastRow (n : ℕ) (r : Bool) (results : List Bool) (place : ℕ) : Type 0 where
-  pub ends : EndsRow n r results place
-  pub none_newer : (newer : ℕ) (other : Bool) → newer < place → ¬ EndsRow n other results newer
+  pub ends : EndsRun n r results place
+  pub none_newer : (newer : ℕ) (other : Bool) → newer < place → ¬ EndsRun n other results newer
 
 -- what it is to be the view, said place by place
 abbrev pub IsView : (n : ℕ) → List Bool → Bool → Type 0
 IsView n results view = ((place : ℕ) × IsLastRow n view results place)
-    ⊎ (((place : ℕ) (r : Bool) → ¬ EndsRow n r results place) × (view ≡ true))
+    ⊎ (((place : ℕ) (r : Bool) → ¬ EndsRun n r results place) × (view ≡ true))

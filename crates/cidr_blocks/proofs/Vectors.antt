@@ -15,7 +15,7 @@ use Rattle.cidr_blocks.specs.Places.{IsCidrLocation, IsCollection, StandOnce, bl
 star_text : codes "*" ≡ star
 star_text = refl
 
--- `*` is what a set names for all other clients
+-- `*` is what a set names that applies to each client
 star_location : IsLocation (codes "*")
 star_location = inr refl
 

@@ -3,7 +3,7 @@
 use Rattle.std.specs.Prelude.{◌≡◌, ℕ, ◌⊎◌, List, [], ◌∷◌}
 use Rattle.routing.specs.Texts.{IsText, is_location_byte}
 
--- `*`, which names no location: it stands for all clients that no other set is for
+-- `*`, which names no location: a set of it applies to each client, behind the set of its location
 abbrev pub star : List ℕ
 star = 0x2A ∷ []
 

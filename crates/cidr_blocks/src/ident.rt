@@ -1,4 +1,4 @@
-//! The names of collections and of their locations, and `*` for all other clients.
+//! The names of collections and of their locations, and `*`, which stands for no location.
 
 ghost use Rattle.std.specs.Prelude.{◌≡◌, ◌↔◌, ◌∷◌, [], true, IsTrue, SomeIff};
 ghost use Rattle.std.specs.List.{AllByRecursion};

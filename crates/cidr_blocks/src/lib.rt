@@ -12,7 +12,7 @@ mod places;
 mod tables;
 
 pub use ident::Ident;
-pub use ip_table::{IpAddress, IpPrefix, IpTable, one_location};
+pub use ip_table::{IpAddress, IpPrefix, IpTable, one_row_found};
 pub use judging::is_collection;
 pub use laws::{locations_are_names, one_listing, one_order};
 pub use lists::{Blocks, Locations};

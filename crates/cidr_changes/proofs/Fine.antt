@@ -11,7 +11,7 @@ use Rattle.cidr_blocks.specs.declared.places.CidrLocation.{CidrLocation}
 use Rattle.cidr_changes.specs.Changed.{after_changes, with_locations}
 use Rattle.cidr_changes.specs.Changes.{Rows, changed, has_bad_length, has_block_in_use, put_all, removed_all}
 use Rattle.cidr_blocks.specs.Places.{IsBlock, IsCidrLocation, is_block}
-use Rattle.cidr_changes.specs.Refusals.{first_of, rule, unless}
+use Rattle.cidr_changes.specs.Refusals.{first_of, refuse_if, unless}
 use Rattle.cidr_changes.proofs.Rising.{AreFine, put_fine, removed_fine}
 
 -- all are prefixes
@@ -56,7 +56,7 @@ the_ok x y e = cc
 module _ (after : Rows) where
   step : (b in_use : Bool) (change : CidrChange) (rest : Result Rows CidrFault)
       → has_bad_length change.blocks ≡ b
-      → unless (first_of (rule b BlockLength ∷ rule in_use CidrBlockInUse ∷ [])) rest ≡ Ok after
+      → unless (first_of (refuse_if b BlockLength ∷ refuse_if in_use CidrBlockInUse ∷ [])) rest ≡ Ok after
       → (has_bad_length change.blocks ≡ false) × (rest ≡ Ok after)
   step true in_use change rest e ok = absurd (let no : ⊥ = cc in no)
   step false true change rest e ok = absurd (let no : ⊥ = cc in no)

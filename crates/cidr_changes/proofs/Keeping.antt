@@ -10,7 +10,7 @@ use Rattle.cidr_changes.specs.Changes.{Rows}
 use Rattle.cidr_changes.specs.Gathered.{locations_of}
 use Rattle.cidr_changes.specs.Laws.{KeepCollections}
 use Rattle.cidr_blocks.specs.Places.{IsCollection}
-use Rattle.cidr_changes.specs.Refusals.{first_of, rule, unless}
+use Rattle.cidr_changes.specs.Refusals.{first_of, refuse_if, unless}
 use Rattle.cidr_changes.proofs.Fine.{after_fine, the_ok, with_fine}
 use Rattle.cidr_changes.proofs.Gather.{gathered_all, gathered_count, none_gathered}
 use Rattle.cidr_changes.proofs.Rising.{AreFine, none_fine}
@@ -32,7 +32,7 @@ module _ (collection : Collection) (id : ℕ) (used : List (ℕ × List ℕ)) (a
 
   by_rules : (many : Bool) (unplaced : Option (List ℕ)) (rows : Rows) → AreFine rows
       → nat_lt 1000 (length rows) ≡ many
-      → unless (first_of (rule many TooManyCidrBlocks ∷ option_map CidrLocationInUse unplaced ∷ []))
+      → unless (first_of (refuse_if many TooManyCidrBlocks ∷ option_map CidrLocationInUse unplaced ∷ []))
       (Ok (record collection { locations = locations_of rows })) ≡ Ok after
       → IsCollection after
   by_rules true unplaced rows fine e ok = absurd (let no : ⊥ = cc in no)

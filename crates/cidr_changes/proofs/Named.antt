@@ -16,7 +16,7 @@ use Rattle.cidr_changes.specs.Changes.{Rows}
 use Rattle.cidr_changes.specs.Gathered.{locations_of}
 use Rattle.cidr_blocks.specs.Listing.{SameMembers}
 use Rattle.cidr_changes.specs.Laws.{OnlyNamedCount}
-use Rattle.cidr_changes.specs.Refusals.{first_of, rule, unless}
+use Rattle.cidr_changes.specs.Refusals.{first_of, refuse_if, unless}
 use Rattle.cidr_blocks.proofs.Elements.{first, later, none, which}
 
 abbrev Text : Type 0
@@ -228,7 +228,7 @@ module _ (collection : Collection) (id : ℕ) (used other : List (ℕ × Text))
       → finished collection id used result ≡ finished collection id other result
   same_end (Err fault) = refl
   same_end (Ok rows) =
-      ap (λ (left : Option Text). unless (first_of (rule (nat_lt 1000 (length rows)) TooManyCidrBlocks
+      ap (λ (left : Option Text). unless (first_of (refuse_if (nat_lt 1000 (length rows)) TooManyCidrBlocks
       ∷ option_map CidrLocationInUse left ∷ []))
       (Ok (record collection { locations = locations_of rows }))) (same_least (locations_of rows))
 

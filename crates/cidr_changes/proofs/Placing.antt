@@ -14,8 +14,8 @@ use Rattle.cidr_blocks.specs.Places.{names_of}
 use Rattle.cidr_changes.specs.Changed.{after_changes, finished, is_unplaced, least, unplaced, with_locations}
 use Rattle.cidr_changes.specs.Changes.{Rows}
 use Rattle.cidr_changes.specs.Gathered.{locations_of}
-use Rattle.cidr_changes.specs.Laws.{IsPlaced, KeepPlaced}
-use Rattle.cidr_changes.specs.Refusals.{first_of, rule, unless}
+use Rattle.cidr_changes.specs.Laws.{IsStarOrLocation, KeepPlaced}
+use Rattle.cidr_changes.specs.Refusals.{first_of, refuse_if, unless}
 use Rattle.cidr_changes.proofs.Fine.{the_ok}
 use Rattle.cidr_blocks.proofs.Elements.{first, later, none, which}
 
@@ -45,14 +45,14 @@ module _ (id : ℕ) (ls : List CidrLocation) where
   module _ (name : List ℕ) where
     by_tests : (own stars there : Bool) → nat_eq id id ≡ own → bytes_eq name star ≡ stars
         → list_any (bytes_eq name) (names_of ls) ≡ there
-        → (own && not stars && not there) ≡ false → IsPlaced ls name
+        → (own && not stars && not there) ≡ false → IsStarOrLocation ls name
     by_tests false stars there e s t told =
         absurd (let f = eq-eqb id id refl in let no : ⊥ = cc in no)
     by_tests true true there e s t told = inl ((bytes_eq-Decides name star).0 s)
     by_tests true false true e s t told = inr (among name (names_of ls) t)
     by_tests true false false e s t told = absurd (let no : ⊥ = cc in no)
 
-    placed : is_unplaced id ls (id, name) ≡ false → IsPlaced ls name
+    placed : is_unplaced id ls (id, name) ≡ false → IsStarOrLocation ls name
     placed = by_tests (nat_eq id id) (bytes_eq name star)
         (list_any (bytes_eq name) (names_of ls)) refl refl refl
 
@@ -65,14 +65,14 @@ module _ (id : ℕ) (ls : List CidrLocation) where
   none_by false u used e left = (e, left)
 
   all_placed : (used : List Named) → least (unplaced id ls used) ≡ None → (name : List ℕ)
-      → Contains used (id, name) → IsPlaced ls name
+      → Contains used (id, name) → IsStarOrLocation ls name
   all_placed [] left name there = absurd (none (id, name) there)
   all_placed (u ∷ used) left name there =
       let apart = none_by (is_unplaced id ls u) u used refl left in
       go apart.0 (all_placed used apart.1 name) (which u (id, name) used there)
     where
-      go : is_unplaced id ls u ≡ false → (Contains used (id, name) → IsPlaced ls name)
-          → (u ≡ (id, name)) ⊎ Contains used (id, name) → IsPlaced ls name
+      go : is_unplaced id ls u ≡ false → (Contains used (id, name) → IsStarOrLocation ls name)
+          → (u ≡ (id, name)) ⊎ Contains used (id, name) → IsStarOrLocation ls name
       go not_left rest (inl e) = placed name (subst (λ n. is_unplaced id ls n ≡ false) e not_left)
       go not_left rest (inr c) = rest c
 
@@ -80,18 +80,18 @@ module _ (collection : Collection) (id : ℕ) (used : List Named) (after : Colle
     (name : List ℕ) (there : Contains used (id, name)) where
   by_rules : (many : Bool) (left : Option (List ℕ)) (rows : Rows)
       → least (unplaced id (locations_of rows) used) ≡ left
-      → unless (first_of (rule many TooManyCidrBlocks ∷ option_map CidrLocationInUse left ∷ []))
+      → unless (first_of (refuse_if many TooManyCidrBlocks ∷ option_map CidrLocationInUse left ∷ []))
       (Ok (record collection { locations = locations_of rows })) ≡ Ok after
-      → IsPlaced after.locations name
+      → IsStarOrLocation after.locations name
   by_rules true left rows e ok = absurd (let no : ⊥ = cc in no)
   by_rules false (Some other) rows e ok = absurd (let no : ⊥ = cc in no)
   by_rules false None rows e ok =
-      subst (λ (c : Collection). IsPlaced c.locations name)
+      subst (λ (c : Collection). IsStarOrLocation c.locations name)
       (the_ok (record collection { locations = locations_of rows }) after ok)
       (all_placed id (locations_of rows) used e name there)
 
   by_changes : (result : Result Rows CidrFault) → finished collection id used result ≡ Ok after
-      → IsPlaced after.locations name
+      → IsStarOrLocation after.locations name
   by_changes (Err fault) ok = absurd (let no : ⊥ = cc in no)
   by_changes (Ok rows) ok =
       by_rules (nat_lt 1000 (length rows)) (least (unplaced id (locations_of rows) used)) rows refl ok

@@ -13,13 +13,13 @@ use Rattle.cidr_changes.specs.Changes.{Rows, changed, has_bad_length, has_block_
 use Rattle.cidr_changes.specs.Gathered.{locations_of}
 use Rattle.cidr_blocks.specs.Idents.{star}
 use Rattle.cidr_blocks.specs.Places.{name_cmp, names_of}
-use Rattle.cidr_changes.specs.Refusals.{first_of, rule, unless}
+use Rattle.cidr_changes.specs.Refusals.{first_of, refuse_if, unless}
 
 -- The first refusal of one change.
 abbrev pub change_refusal : CidrChange → Rows → Option CidrFault
 change_refusal change rows = first_of (
-    rule (has_bad_length change.blocks) BlockLength
-    ∷ rule (has_block_in_use change rows) CidrBlockInUse
+    refuse_if (has_bad_length change.blocks) BlockLength
+    ∷ refuse_if (has_block_in_use change rows) CidrBlockInUse
     ∷ [])
 
 -- The blocks after changes, each of what the ones before it leave; or the first refusal.
@@ -59,7 +59,7 @@ least (name ∷ names) = Some (lesser name (least names))
 -- block; of several the least is told.
 abbrev pub last_refusal : (id : ℕ) → (used : List (ℕ × List ℕ)) → Rows → Option CidrFault
 last_refusal id used rows = first_of (
-    rule (nat_lt 1000 (length rows)) TooManyCidrBlocks
+    refuse_if (nat_lt 1000 (length rows)) TooManyCidrBlocks
     ∷ option_map CidrLocationInUse (least (unplaced id (locations_of rows) used))
     ∷ [])
 

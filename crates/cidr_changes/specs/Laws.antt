@@ -29,15 +29,15 @@ KeepCollections =
     → changed_collection collection changes id used ≡ Ok after → IsCollection after
 
 -- What a set names in a collection is `*`, or one of its locations.
-abbrev pub IsPlaced : List CidrLocation → (name : List ℕ) → Type 0
-IsPlaced locations name = (name ≡ star) ⊎ Contains (names_of locations) name
+abbrev pub IsStarOrLocation : List CidrLocation → (name : List ℕ) → Type 0
+IsStarOrLocation locations name = (name ≡ star) ⊎ Contains (names_of locations) name
 
 -- Changes that are carried out leave a location for each set.
 abbrev pub KeepPlaced : Type 0
 KeepPlaced =
     (collection : Collection) (changes : List CidrChange) (id : ℕ) (used : List (ℕ × List ℕ))
     (after : Collection) → changed_collection collection changes id used ≡ Ok after
-    → (name : List ℕ) → Contains used (id, name) → IsPlaced after.locations name
+    → (name : List ℕ) → Contains used (id, name) → IsStarOrLocation after.locations name
 
 -- It counts what sets name, and neither the order of the sets nor how many name the same.
 abbrev pub OnlyNamedCount : Type 0

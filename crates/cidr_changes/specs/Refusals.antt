@@ -4,8 +4,8 @@ use Rattle.cidr_changes.specs.declared.faults.CidrFault.{CidrFault}
 use Rattle.cidr_changes.specs.declared.faults.CidrFault.TheVariants.{OutOfMemory}
 
 -- a refusal, where a rule holds
-abbrev pub rule : Bool → CidrFault → Option CidrFault
-rule holds fault = if holds then Some fault else None
+abbrev pub refuse_if : Bool → CidrFault → Option CidrFault
+refuse_if holds fault = if holds then Some fault else None
 
 -- the first of several
 abbrev pub first_of : List (Option CidrFault) → Option CidrFault

@@ -15,7 +15,7 @@ pub use changes::{Changes, CidrChange};
 pub use changing::change_collection;
 pub use cidr_blocks::{
     Blocks, CidrLocation, Collection, Ident, IpAddress, IpPrefix, IpTable, Locations,
-    is_collection, is_location_byte, locations_are_names, one_listing, one_location, table_of,
+    is_collection, is_location_byte, locations_are_names, one_listing, one_row_found, table_of,
 };
 pub use faults::CidrFault;
 pub use laws::{

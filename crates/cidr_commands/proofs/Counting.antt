@@ -11,13 +11,13 @@ use Rattle.cidr_changes.specs.Changed.{changed_collection}
 use Rattle.cidr_changes.specs.Listing.{HoldSame, OneListing, SameMembers}
 use Rattle.cidr_changes.specs.Places.{IsCollection}
 use Rattle.cidr_changes.specs.Laws.{OnlyNamedCount}
-use Rattle.cidr_changes.specs.Refusals.{first_of, rule, unless}
+use Rattle.cidr_changes.specs.Refusals.{first_of, refuse_if, unless}
 use Rattle.cidr_changes.proofs.Named.{same_any}
 use Rattle.cidr_commands.specs.declared.command.CidrCommand.{CidrCommand}
 use Rattle.cidr_commands.specs.declared.command.CidrCommand.TheVariants.{Create, Change, Delete}
-use Rattle.cidr_commands.specs.Commands.{answer, any_has_block, delete_refusal, deleted, is_used, of_there, put_back}
+use Rattle.cidr_commands.specs.Commands.{outcome, any_has_block, delete_refusal, deleted, is_used, of_there, put_back}
 use Rattle.cidr_commands.specs.Kept.{HoldAlike, HoldSameAt, OnlyMembersCount}
-use Rattle.cidr_commands.specs.Stored.{IdsRise, IsSound, Stored, collection_at}
+use Rattle.cidr_commands.specs.Stored.{IdsRise, IsSound, Stored, collection_with}
 use Rattle.cidr_commands.proofs.Ids.{Held}
 
 module _ (stored : Stored) (id : ℕ) (used other : List (ℕ × List ℕ)) (same : SameMembers used other)
@@ -36,32 +36,32 @@ module _ (stored : Stored) (id : ℕ) (used other : List (ℕ × List ℕ)) (sam
         ≡ of_there id found (λ c. unless (delete_refusal id other c) (Ok (deleted stored id)))
     of_end None = refl
     of_end (Some c) =
-        ap (λ in_use. unless (first_of (rule (any_has_block c.locations || in_use) CidrCollectionInUse
+        ap (λ in_use. unless (first_of (refuse_if (any_has_block c.locations || in_use) CidrCollectionInUse
         ∷ [])) (Ok (deleted stored id))) same_used
 
 told_alike : OnlyNamedCount → (stored : Stored) (command : CidrCommand) (used other : List (ℕ × List ℕ))
-    → SameMembers used other → answer stored command used ≡ answer stored command other
+    → SameMembers used other → outcome stored command used ≡ outcome stored command other
 told_alike law stored (Create name) used other same = refl
 told_alike law stored (Change id changes) used other same =
-    of_change stored id used other same law changes (collection_at id stored.list)
+    of_change stored id used other same law changes (collection_with id stored.list)
 told_alike law stored (Delete id) used other same =
-    of_end stored id used other same (collection_at id stored.list)
+    of_end stored id used other same (collection_with id stored.list)
 
 -- lists by rising numbers
 none_by : (b : Bool) (id : ℕ) (held : Held) (list : List Held) → nat_eq id held.0 ≡ b → id < held.0
-    → collection_at id list ≡ None → cond b (Some held.1) (collection_at id list) ≡ None
+    → collection_with id list ≡ None → cond b (Some held.1) (collection_with id list) ≡ None
 none_by true id held list e low rest =
     let same : id ≡ held.0 = eqb-true id held.0 e in absurd (omega (arith, same, low))
 none_by false id held list e low rest = rest
 
 none_at : (id : ℕ) (list : List Held) → AllByRecursion (λ other. id < other.0) list
-    → collection_at id list ≡ None
+    → collection_with id list ≡ None
 none_at id [] above = refl
 none_at id (held ∷ list) above =
     none_by (nat_eq id held.0) id held list refl above.0 (none_at id list above.1)
 
 some_at : (id : ℕ) (held : Held) (list : List Held) → id ≡ held.0
-    → collection_at id (held ∷ list) ≡ Some held.1
+    → collection_with id (held ∷ list) ≡ Some held.1
 some_at id held list same = rw (eq-eqb id held.0 same) refl
 
 further_above : (id : ℕ) (held : Held) (list : List Held) → id < held.0
@@ -78,17 +78,17 @@ module _ (law : OneListing) (h k : Held) (xs ys : List Held)
     (above_h : AllByRecursion (λ other. h.0 < other.0) xs)
     (above_k : AllByRecursion (λ other. k.0 < other.0) ys)
     (is_h : IsCollection h.1) (is_k : IsCollection k.1)
-    (at : (id : ℕ) → HoldSameAt (collection_at id (h ∷ xs)) (collection_at id (k ∷ ys))) where
+    (at : (id : ℕ) → HoldSameAt (collection_with id (h ∷ xs)) (collection_with id (k ∷ ys))) where
   not_less : h.0 < k.0 → ⊥
   not_less low =
       subst (HoldSameAt (Some h.1)) (none_at h.0 (k ∷ ys) (further_above h.0 k ys low above_k))
-      (subst (λ o. HoldSameAt o (collection_at h.0 (k ∷ ys))) (some_at h.0 h xs refl) (at h.0))
+      (subst (λ o. HoldSameAt o (collection_with h.0 (k ∷ ys))) (some_at h.0 h xs refl) (at h.0))
 
   not_greater : k.0 < h.0 → ⊥
   not_greater low =
       subst (λ o. HoldSameAt o (Some k.1))
       (none_at k.0 (h ∷ xs) (further_above k.0 h xs low above_h))
-      (subst (HoldSameAt (collection_at k.0 (h ∷ xs))) (some_at k.0 k ys refl) (at k.0))
+      (subst (HoldSameAt (collection_with k.0 (h ∷ xs))) (some_at k.0 k ys refl) (at k.0))
 
   one_id : h.0 ≡ k.0
   one_id = elim (cases_lt h.0 k.0) [
@@ -102,7 +102,7 @@ module _ (law : OneListing) (h k : Held) (xs ys : List Held)
   same_there : HoldSame h.1 k.1
   same_there =
       subst (HoldSameAt (Some h.1)) (some_at h.0 k ys one_id)
-      (subst (λ o. HoldSameAt o (collection_at h.0 (k ∷ ys))) (some_at h.0 h xs refl) (at h.0))
+      (subst (λ o. HoldSameAt o (collection_with h.0 (k ∷ ys))) (some_at h.0 h xs refl) (at h.0))
 
   one_held : h ≡ k
   one_held =
@@ -110,28 +110,28 @@ module _ (law : OneListing) (h k : Held) (xs ys : List Held)
       ∙ ap (λ (c : Collection). (k.0, c)) (law h.1 k.1 is_h is_k same_there)
 
   rest_by : (b : Bool) (id : ℕ) → nat_eq id h.0 ≡ b
-      → HoldSameAt (cond b (Some h.1) (collection_at id xs)) (cond b (Some k.1) (collection_at id ys))
-      → HoldSameAt (collection_at id xs) (collection_at id ys)
+      → HoldSameAt (cond b (Some h.1) (collection_with id xs)) (cond b (Some k.1) (collection_with id ys))
+      → HoldSameAt (collection_with id xs) (collection_with id ys)
   rest_by true id e held =
       let same : id ≡ h.0 = eqb-true id h.0 e in
-      let no_x : collection_at id xs ≡ None =
-      subst (λ n. collection_at n xs ≡ None) (sym same) (none_at h.0 xs above_h) in
-      let no_y : collection_at id ys ≡ None =
-      subst (λ n. collection_at n ys ≡ None) (sym (same ∙ one_id)) (none_at k.0 ys above_k) in
-      subst (λ o. HoldSameAt o (collection_at id ys)) (sym no_x)
+      let no_x : collection_with id xs ≡ None =
+      subst (λ n. collection_with n xs ≡ None) (sym same) (none_at h.0 xs above_h) in
+      let no_y : collection_with id ys ≡ None =
+      subst (λ n. collection_with n ys ≡ None) (sym (same ∙ one_id)) (none_at k.0 ys above_k) in
+      subst (λ o. HoldSameAt o (collection_with id ys)) (sym no_x)
       (subst (HoldSameAt None) (sym no_y) tt)
   rest_by false id e held = held
 
-  rest : (id : ℕ) → HoldSameAt (collection_at id xs) (collection_at id ys)
+  rest : (id : ℕ) → HoldSameAt (collection_with id xs) (collection_with id ys)
   rest id =
       rest_by (nat_eq id h.0) id refl
-      (subst (λ n. HoldSameAt (collection_at id (h ∷ xs))
-      (cond (nat_eq id n) (Some k.1) (collection_at id ys))) (sym one_id) (at id))
+      (subst (λ n. HoldSameAt (collection_with id (h ∷ xs))
+      (cond (nat_eq id n) (Some k.1) (collection_with id ys))) (sym one_id) (at id))
 
 lists_same : OneListing → (xs ys : List Held) → IdsRise xs → IdsRise ys
     → AllByRecursion (λ held. IsCollection held.1) xs
     → AllByRecursion (λ held. IsCollection held.1) ys
-    → ((id : ℕ) → HoldSameAt (collection_at id xs) (collection_at id ys)) → xs ≡ ys
+    → ((id : ℕ) → HoldSameAt (collection_with id xs) (collection_with id ys)) → xs ≡ ys
 lists_same law [] [] rise rises are_x are_y at = refl
 lists_same law [] (k ∷ ys) rise rises are_x are_y at =
     absurd (subst (HoldSameAt None) (some_at k.0 k ys refl) (at k.0))
@@ -155,5 +155,5 @@ one_stored law x y sound_x sound_y alike =
 pub only_members : OneListing → OnlyNamedCount → OnlyMembersCount
 only_members listing law stored other command used named sound_x sound_y alike same =
     told_alike law stored command used named same
-    ∙ ap (λ (s : Stored). answer s command named)
+    ∙ ap (λ (s : Stored). outcome s command named)
     (one_stored listing stored other sound_x sound_y alike)

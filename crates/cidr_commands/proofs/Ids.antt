@@ -6,7 +6,7 @@ use Rattle.std.proofs.lemmas.Bool.{eq-eqb}
 use Rattle.std.proofs.lemmas.List.{drop_more, length-drop}
 use Rattle.std.proofs.lemmas.Option.{slice_get_read}
 use Rattle.cidr_changes.specs.CollectionRecord.{Collection}
-use Rattle.cidr_commands.specs.Stored.{IdsRise, IsId, IsNextId, NextIdOrNone, PlaceOrNone, collection_at}
+use Rattle.cidr_commands.specs.Stored.{IdsRise, IsId, IsNextId, NextIdOrNone, PlaceOrNone, collection_with}
 
 abbrev pub Held : Type 0
 Held = ℕ × Collection
@@ -79,13 +79,13 @@ module _ (list : List Held) (id i : ℕ) (held : Held) (lt : i < length list)
 
 module _ (list : List Held) (i id : ℕ) (held : Held) (lt : i < length list)
     (is : held ≡ get_or list i held) (same : held.0 ≡ id)
-    (left : collection_at id (drop i list) ≡ collection_at id list) where
+    (left : collection_with id (drop i list) ≡ collection_with id list) where
   pub found_here : PlaceOrNone list id (Some i)
   found_here = (
     held.1,
     slice_get_read list (length list) i held refl lt is ∙ ap (λ n. Some (n, held.1)) same,
-    sym left ∙ ap (collection_at id) (rest list id i held lt is)
-        ∙ ap (λ b. cond b (Some held.1) (collection_at id (drop (i + 1) list)))
+    sym left ∙ ap (collection_with id) (rest list id i held lt is)
+        ∙ ap (λ b. cond b (Some held.1) (collection_with id (drop (i + 1) list)))
         (eq-eqb id held.0 (sym same)),
   )
 

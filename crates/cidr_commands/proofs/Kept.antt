@@ -16,11 +16,11 @@ use Rattle.cidr_changes.specs.Changed.{changed_collection}
 use Rattle.cidr_changes.specs.Laws.{HaveNames, KeepCollections}
 use Rattle.cidr_changes.specs.Idents.{IsCollectionName}
 use Rattle.cidr_changes.specs.Places.{IsCollection}
-use Rattle.cidr_changes.specs.Refusals.{first_of, rule, unless}
+use Rattle.cidr_changes.specs.Refusals.{first_of, refuse_if, unless}
 use Rattle.cidr_commands.specs.declared.command.CidrCommand.TheVariants.{Create, Change, Delete}
-use Rattle.cidr_commands.specs.Commands.{any_has_block, created, delete_refusal, deleted, is_taken, is_used, of_there, put_back, replaced, with_locations_at}
+use Rattle.cidr_commands.specs.Commands.{any_has_block, created, delete_refusal, deleted, is_there, is_used, of_there, put_back, replaced, with_locations_at}
 use Rattle.cidr_commands.specs.Kept.{KeepsSound}
-use Rattle.cidr_commands.specs.Stored.{IdsRise, IsSound, NamesDiffer, Stored, collection_at}
+use Rattle.cidr_commands.specs.Stored.{IdsRise, IsSound, NamesDiffer, Stored, collection_with}
 use Rattle.cidr_commands.proofs.Ids.{Held}
 
 each : (P Q : Held → Type 0) → ((held : Held) → P held → Q held) → (list : List Held)
@@ -155,8 +155,8 @@ without_blocks name named = record {
 }
 
 not_taken_by : (b : Bool) (held : Held) (name : List ℕ) (list : List Held)
-    → bytes_eq held.1.name name ≡ b → (b || is_taken name list) ≡ false
-    → (is_taken name list ≡ false → AllByRecursion (λ held. name ≢ held.1.name) list)
+    → bytes_eq held.1.name name ≡ b → (b || is_there name list) ≡ false
+    → (is_there name list ≡ false → AllByRecursion (λ held. name ≢ held.1.name) list)
     → AllByRecursion (λ held. name ≢ held.1.name) (held ∷ list)
 not_taken_by true held name list e none rest = absurd (let no : ⊥ = cc in no)
 not_taken_by false held name list e none rest = (
@@ -165,7 +165,7 @@ not_taken_by false held name list e none rest = (
   rest none,
 )
 
-not_taken : (name : List ℕ) (list : List Held) → is_taken name list ≡ false
+not_taken : (name : List ℕ) (list : List Held) → is_there name list ≡ false
     → AllByRecursion (λ held. name ≢ held.1.name) list
 not_taken name [] none = tt
 not_taken name (held ∷ list) none =
@@ -173,7 +173,7 @@ not_taken name (held ∷ list) none =
 
 module _ (stored : Stored) (sound : IsSound stored) where
   keeps_created : (name : List ℕ) → IsCollectionName name
-      → is_taken name stored.list ≡ false → nat_le 100 (length stored.list) ≡ false
+      → is_there name stored.list ≡ false → nat_le 100 (length stored.list) ≡ false
       → nat_eq stored.next 4294967295 ≡ false → IsSound (created stored name)
   keeps_created name named fresh room more = record {
     few = (let e = length-append stored.list (new ∷ []) in
@@ -232,15 +232,15 @@ module _ (stored : Stored) (sound : IsSound stored) where
 -- the collection of a number is one
 there_by : (b : Bool) (id : ℕ) (held : Held) (list : List Held) (collection : Collection)
     → IsCollection held.1
-    → (collection_at id list ≡ Some collection → IsCollection collection)
-    → cond b (Some held.1) (collection_at id list) ≡ Some collection → IsCollection collection
+    → (collection_with id list ≡ Some collection → IsCollection collection)
+    → cond b (Some held.1) (collection_with id list) ≡ Some collection → IsCollection collection
 there_by true id held list collection is rest e =
     subst IsCollection (let same : held.1 ≡ collection = cc in same) is
 there_by false id held list collection is rest e = rest e
 
 there : (id : ℕ) (list : List Held) (collection : Collection)
     → AllByRecursion (λ held. IsCollection held.1) list
-    → collection_at id list ≡ Some collection → IsCollection collection
+    → collection_with id list ≡ Some collection → IsCollection collection
 there id [] collection all e = absurd (let no : ⊥ = cc in no)
 there id (held ∷ list) collection all e =
     there_by (nat_eq id held.0) id held list collection all.0 (there id list collection all.1) e
@@ -253,10 +253,10 @@ the_ok x y e = cc
 
 module _ (stored : Stored) (sound : IsSound stored) (after : Stored) where
   by_create : (taken many last : Bool) (name : List ℕ) → IsCollectionName name
-      → is_taken name stored.list ≡ taken → nat_le 100 (length stored.list) ≡ many
+      → is_there name stored.list ≡ taken → nat_le 100 (length stored.list) ≡ many
       → nat_eq stored.next 4294967295 ≡ last
-      → unless (first_of (rule taken CollectionExists ∷ rule many TooManyCidrCollections
-      ∷ rule last IdsEnded ∷ [])) (Ok (created stored name)) ≡ Ok after
+      → unless (first_of (refuse_if taken CollectionExists ∷ refuse_if many TooManyCidrCollections
+      ∷ refuse_if last IdsEnded ∷ [])) (Ok (created stored name)) ≡ Ok after
       → IsSound after
   by_create true many last name named t m l ok = absurd (let no : ⊥ = cc in no)
   by_create false true last name named t m l ok = absurd (let no : ⊥ = cc in no)
@@ -274,7 +274,7 @@ module _ (stored : Stored) (sound : IsSound stored) (after : Stored) where
       (keeps_replaced stored sound id c (is c refl))
 
   by_change : KeepCollections → (id : ℕ) (changes : List CidrChange) (used : List (ℕ × List ℕ))
-      → HaveNames changes → (found : Option Collection) → collection_at id stored.list ≡ found
+      → HaveNames changes → (found : Option Collection) → collection_with id stored.list ≡ found
       → of_there id found
       (λ c. put_back stored id (changed_collection c changes id used)) ≡ Ok after
       → IsSound after
@@ -284,7 +284,7 @@ module _ (stored : Stored) (sound : IsSound stored) (after : Stored) where
       (λ d. law c changes id used d (there id stored.list c sound.each e) named) ok
 
   by_end : (in_use : Bool) (id : ℕ)
-      → unless (first_of (rule in_use CidrCollectionInUse ∷ [])) (Ok (deleted stored id)) ≡ Ok after
+      → unless (first_of (refuse_if in_use CidrCollectionInUse ∷ [])) (Ok (deleted stored id)) ≡ Ok after
       → IsSound after
   by_end true id ok = absurd (let no : ⊥ = cc in no)
   by_end false id ok =
@@ -299,9 +299,9 @@ module _ (stored : Stored) (sound : IsSound stored) (after : Stored) where
 
 pub kept : KeepCollections → KeepsSound
 kept law stored (Create name) used after sound named ok =
-    by_create stored sound after (is_taken name stored.list) (nat_le 100 (length stored.list))
+    by_create stored sound after (is_there name stored.list) (nat_le 100 (length stored.list))
     (nat_eq stored.next 4294967295) name named refl refl refl ok
 kept law stored (Change id changes) used after sound named ok =
-    by_change stored sound after law id changes used named (collection_at id stored.list) refl ok
+    by_change stored sound after law id changes used named (collection_with id stored.list) refl ok
 kept law stored (Delete id) used after sound named ok =
-    by_delete stored sound after id used (collection_at id stored.list) ok
+    by_delete stored sound after id used (collection_with id stored.list) ok

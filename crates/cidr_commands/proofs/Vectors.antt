@@ -12,8 +12,8 @@ use Rattle.cidr_changes.specs.CidrLocationRecord.{CidrLocation}
 use Rattle.cidr_changes.specs.CollectionRecord.{Collection}
 use Rattle.cidr_changes.specs.Places.{IsCollection, rows_of}
 use Rattle.cidr_commands.specs.declared.command.CidrCommand.TheVariants.{Create, Change, Delete}
-use Rattle.cidr_commands.specs.Commands.{HasNames, answer, create_refusal}
-use Rattle.cidr_commands.specs.Stored.{IdsRise, IsSound, NamesDiffer, Stored, collection_at}
+use Rattle.cidr_commands.specs.Commands.{HasNames, outcome, create_refusal}
+use Rattle.cidr_commands.specs.Stored.{IdsRise, IsSound, NamesDiffer, Stored, collection_with}
 use Rattle.cidr_commands.proofs.Kept.{without_blocks}
 
 abbrev none : Stored
@@ -36,11 +36,11 @@ two = record {
       ∷ (3, empty (codes "more")) ∷ [];
 }
 
-first_one : answer none (Create (codes "sites")) []
+first_one : outcome none (Create (codes "sites")) []
     ≡ Ok (record { next = 2; list = (1, empty (codes "sites")) ∷ [] })
 first_one = refl
 
-next_one : answer two (Create (codes "Sites")) []
+next_one : outcome two (Create (codes "Sites")) []
     ≡ Ok (record {
       next = 5;
       list = (1, record { name = codes "sites"; locations = office ∷ [] })
@@ -48,7 +48,7 @@ next_one : answer two (Create (codes "Sites")) []
     })
 next_one = refl
 
-name_taken : answer two (Create (codes "more")) [] ≡ Err CollectionExists
+name_taken : outcome two (Create (codes "more")) [] ≡ Err CollectionExists
 name_taken = refl
 
 -- 100 collections are the most; a name that is taken comes before that, and that before the numbers
@@ -73,7 +73,7 @@ many_next = refl
 ended : create_refusal (record { next = 4294967295; list = [] }) (codes "sites") ≡ Some IdsEnded
 ended = refl
 
-last_number : answer (record { next = 4294967294; list = [] }) (Create (codes "sites")) []
+last_number : outcome (record { next = 4294967294; list = [] }) (Create (codes "sites")) []
     ≡ Ok (record { next = 4294967295; list = (4294967294, empty (codes "sites")) ∷ [] })
 last_number = refl
 
@@ -81,23 +81,23 @@ last_number = refl
 abbrev takes : (location : List ℕ) → List Prefix → CidrChange
 takes location blocks = record { put = false; location = location; blocks = blocks }
 
-not_there : answer two (Change 2 (takes (codes "office") (v4 0 0 0 0 0 ∷ []) ∷ [])) []
+not_there : outcome two (Change 2 (takes (codes "office") (v4 0 0 0 0 0 ∷ []) ∷ [])) []
     ≡ Err (NoSuchCidrCollection 2)
 not_there = refl
 
-in_use : answer two (Change 1 (takes (codes "office") (v4 198 51 100 0 24 ∷ []) ∷ []))
+in_use : outcome two (Change 1 (takes (codes "office") (v4 198 51 100 0 24 ∷ []) ∷ []))
     ((1, codes "office") ∷ []) ≡ Err (CidrLocationInUse (codes "office"))
 in_use = refl
 
-long_block : answer two (Change 1 (takes (codes "office") (v4 198 51 100 0 25 ∷ []) ∷ [])) []
+long_block : outcome two (Change 1 (takes (codes "office") (v4 198 51 100 0 25 ∷ []) ∷ [])) []
     ≡ Err BlockLength
 long_block = refl
 
-star_block : answer two (Change 1 (takes (codes "office") (v4 0 0 0 0 0 ∷ []) ∷ [])) []
+star_block : outcome two (Change 1 (takes (codes "office") (v4 0 0 0 0 0 ∷ []) ∷ [])) []
     ≡ Err BlockLength
 star_block = refl
 
-taken : answer two (Change 1 (takes (codes "office") (v4 198 51 100 0 24 ∷ []) ∷ [])) []
+taken : outcome two (Change 1 (takes (codes "office") (v4 198 51 100 0 24 ∷ []) ∷ [])) []
     ≡ Ok (record {
       next = 4;
       list = (1, empty (codes "sites")) ∷ (3, empty (codes "more")) ∷ [];
@@ -105,26 +105,26 @@ taken : answer two (Change 1 (takes (codes "office") (v4 198 51 100 0 24 ∷ [])
 taken = refl
 
 -- the end of a collection: without a block, and named by no set
-ends : answer two (Delete 3) ((1, codes "*") ∷ [])
+ends : outcome two (Delete 3) ((1, codes "*") ∷ [])
     ≡ Ok (record {
       next = 4;
       list = (1, record { name = codes "sites"; locations = office ∷ [] }) ∷ [];
     })
 ends = refl
 
-has_a_block : answer two (Delete 1) [] ≡ Err CidrCollectionInUse
+has_a_block : outcome two (Delete 1) [] ≡ Err CidrCollectionInUse
 has_a_block = refl
 
-has_a_set : answer two (Delete 3) ((3, codes "*") ∷ []) ≡ Err CidrCollectionInUse
+has_a_set : outcome two (Delete 3) ((3, codes "*") ∷ []) ≡ Err CidrCollectionInUse
 has_a_set = refl
 
-ended_before : answer two (Delete 2) ((2, codes "*") ∷ []) ≡ Err (NoSuchCidrCollection 2)
+ended_before : outcome two (Delete 2) ((2, codes "*") ∷ []) ≡ Err (NoSuchCidrCollection 2)
 ended_before = refl
 
-at_a_number : collection_at 3 two.list ≡ Some (empty (codes "more"))
+at_a_number : collection_with 3 two.list ≡ Some (empty (codes "more"))
 at_a_number = refl
 
-at_no_number : collection_at 2 two.list ≡ None
+at_no_number : collection_with 2 two.list ≡ None
 at_no_number = refl
 
 -- as many letters a

@@ -11,21 +11,21 @@ use Rattle.cidr_changes.specs.CollectionRecord.{Collection}
 use Rattle.cidr_changes.specs.Idents.{IsCollectionName}
 use Rattle.cidr_changes.specs.Changed.{changed_collection}
 use Rattle.cidr_changes.specs.Laws.{HaveNames}
-use Rattle.cidr_changes.specs.Refusals.{first_of, rule, unless}
+use Rattle.cidr_changes.specs.Refusals.{first_of, refuse_if, unless}
 use Rattle.cidr_commands.specs.declared.command.CidrCommand.{CidrCommand}
 use Rattle.cidr_commands.specs.declared.command.CidrCommand.TheVariants.{Create, Change, Delete}
-use Rattle.cidr_commands.specs.Stored.{Stored, collection_at}
+use Rattle.cidr_commands.specs.Stored.{Stored, collection_with}
 
 -- A collection has the name.
-abbrev pub is_taken : (name : List ℕ) → List (ℕ × Collection) → Bool
-is_taken name list = list_any (λ held. bytes_eq held.1.name name) list
+abbrev pub is_there : (name : List ℕ) → List (ℕ × Collection) → Bool
+is_there name list = list_any (λ held. bytes_eq held.1.name name) list
 
 -- The first refusal of a new collection.
 abbrev pub create_refusal : Stored → (name : List ℕ) → Option CidrFault
 create_refusal stored name = first_of (
-    rule (is_taken name stored.list) CollectionExists
-    ∷ rule (nat_le 100 (length stored.list)) TooManyCidrCollections
-    ∷ rule (nat_eq stored.next 4294967295) IdsEnded
+    refuse_if (is_there name stored.list) CollectionExists
+    ∷ refuse_if (nat_le 100 (length stored.list)) TooManyCidrCollections
+    ∷ refuse_if (nat_eq stored.next 4294967295) IdsEnded
     ∷ [])
 
 -- with a new collection, which has no blocks
@@ -60,7 +60,7 @@ is_used id used = list_any (λ named. nat_eq named.0 id) used
 -- The first refusal of the end of a collection.
 abbrev pub delete_refusal : (id : ℕ) → (used : List (ℕ × List ℕ)) → Collection → Option CidrFault
 delete_refusal id used collection = first_of (
-    rule (any_has_block collection.locations || is_used id used) CidrCollectionInUse
+    refuse_if (any_has_block collection.locations || is_used id used) CidrCollectionInUse
     ∷ [])
 
 -- the collections without the one of a number
@@ -82,19 +82,19 @@ of_there id None answer = Err (NoSuchCidrCollection id)
 of_there id (Some collection) answer = answer collection
 
 -- The collections after a command, or its first refusal.
-abbrev pub answer : Stored → CidrCommand → (used : List (ℕ × List ℕ)) → Result Stored CidrFault
-answer stored (Create name) used = create_answer stored name
-answer stored (Change id changes) used = of_there id (collection_at id stored.list)
+abbrev pub outcome : Stored → CidrCommand → (used : List (ℕ × List ℕ)) → Result Stored CidrFault
+outcome stored (Create name) used = create_answer stored name
+outcome stored (Change id changes) used = of_there id (collection_with id stored.list)
     (λ collection. put_back stored id (changed_collection collection changes id used))
-answer stored (Delete id) used = of_there id (collection_at id stored.list)
+outcome stored (Delete id) used = of_there id (collection_with id stored.list)
     (λ collection. unless (delete_refusal id used collection) (Ok (deleted stored id)))
 
 -- Where memory may be wanted: where a new collection or the end of one isn't refused, and where the
 -- collection is there that is changed. What changes come to isn't known before they are tried.
 abbrev pub MayWant : Stored → CidrCommand → (used : List (ℕ × List ℕ)) → Type 0
 MayWant stored (Create name) used = IsOk (create_answer stored name)
-MayWant stored (Change id changes) used = IsSome (collection_at id stored.list)
-MayWant stored (Delete id) used = IsOk (answer stored (Delete id) used)
+MayWant stored (Change id changes) used = IsSome (collection_with id stored.list)
+MayWant stored (Delete id) used = IsOk (outcome stored (Delete id) used)
 
 -- A fault is the one that is defined, or tells that memory was wanted, where it may be.
 abbrev pub IsFaultWhere : {X : Type 0} → (may : Type 0) → (defined : Result X CidrFault) → CidrFault

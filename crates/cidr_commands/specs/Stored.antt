@@ -36,8 +36,8 @@ pub record IsSound (stored : Stored) : Type 0 where
   pub each : AllByRecursion (λ held. IsCollection held.1) stored.list
 
 -- the collection of a number
-abbrev pub collection_at : ℕ → List (ℕ × Collection) → Option Collection
-collection_at id list = lookup (nat_eq id) list
+abbrev pub collection_with : ℕ → List (ℕ × Collection) → Option Collection
+collection_with id list = lookup (nat_eq id) list
 
 -- A collection has the number.
 abbrev pub IsId : List (ℕ × Collection) → ℕ → Type 0
@@ -68,7 +68,7 @@ AreRowsIn (Some collection) = AreRows (rows_of collection.locations)
 
 -- where the collection of a number stands
 abbrev pub PlaceOrNone : List (ℕ × Collection) → (id : ℕ) → Option ℕ → Type 0
-PlaceOrNone list id None = collection_at id list ≡ None
+PlaceOrNone list id None = collection_with id list ≡ None
 PlaceOrNone list id (Some place) =
     (collection : Collection) × (slice_get list place ≡ Some (id, collection))
-    × (collection_at id list ≡ Some collection)
+    × (collection_with id list ≡ Some collection)

@@ -12,7 +12,8 @@ mod steps;
 
 pub use cidr_changes::{
     Blocks, Changes, CidrChange, CidrFault, CidrLocation, Collection, Ident, IpAddress, IpPrefix,
-    IpTable, Locations, is_location_byte, locations_are_names, one_listing, one_location, table_of,
+    IpTable, Locations, is_location_byte, locations_are_names, one_listing, one_row_found,
+    table_of,
 };
 pub use command::{CidrCommand, has_names};
 pub use finding::{id_after, place_of};

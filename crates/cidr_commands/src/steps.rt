@@ -3,10 +3,10 @@
 ghost use Rattle.std.specs.Prelude.{◌≡◌, ◌+◌, ◌<◌, ◌||◌, map, IfErr, IfOk, IsOk, IsSome, Ok};
 ghost use Rattle.cidr_commands.specs.declared.command.CidrCommand.TheVariants.{Change, Delete};
 ghost use Rattle.cidr_commands.specs.Commands.{IsFaultWhere, MayWant};
-ghost use Rattle.cidr_commands.specs.Commands.{answer, any_has_block, create_answer};
-ghost use Rattle.cidr_commands.specs.Commands.{create_refusal, is_taken, is_used};
+ghost use Rattle.cidr_commands.specs.Commands.{outcome, any_has_block, create_answer};
+ghost use Rattle.cidr_commands.specs.Commands.{create_refusal, is_there, is_used};
 ghost use Rattle.cidr_commands.specs.Commands.{with_locations_at, without};
-ghost use Rattle.cidr_commands.specs.Stored.{Stored, collection_at};
+ghost use Rattle.cidr_commands.specs.Stored.{Stored, collection_with};
 
 use crate::command::CidrCommand;
 use crate::finding::place_of;
@@ -33,11 +33,11 @@ pub fn carry_out(
     used: &[(u32, Ident)],
 ) -> Result<(u32, Vec<(u32, Collection)>), CidrFault>
     ensures ok { IfOk result (λ after.
-        answer (record { next = next; list = list.now }) command.now used.now
+        outcome (record { next = next; list = list.now }) command.now used.now
         ≡ Ok (record { next = after.0; list = after.1.items })) }
     ensures err { IfErr result (IsFaultWhere
         (MayWant (record { next = next; list = list.now }) command.now used.now)
-        (answer (record { next = next; list = list.now }) command.now used.now)) }
+        (outcome (record { next = next; list = list.now }) command.now used.now)) }
 {
     match command {
         CidrCommand::Create(name) => match create(alloc, next, list, *name) {
@@ -92,7 +92,7 @@ fn create(
 fn create_refusal(next: u32, list: &[(u32, Collection)], name: &Ident) -> Option<CidrFault>
     ensures { result ≡ create_refusal (record { next = next; list = list.now }) name.now }
 {
-    if is_taken(list, name) {
+    if is_there(list, name) {
         return Some(CidrFault::CollectionExists);
     }
     if list.len() >= MAX_COLLECTIONS {
@@ -105,8 +105,8 @@ fn create_refusal(next: u32, list: &[(u32, Collection)], name: &Ident) -> Option
 }
 
 /// Whether a collection has this name.
-fn is_taken(list: &[(u32, Collection)], name: &Ident) -> bool
-    ensures { result ≡ is_taken name.now list.now }
+fn is_there(list: &[(u32, Collection)], name: &Ident) -> bool
+    ensures { result ≡ is_there name.now list.now }
 {
     for held in list {
         if held.1.name.bytes() == name.bytes() {
@@ -137,10 +137,10 @@ fn change(
     used: &[(u32, Ident)],
 ) -> Result<Vec<(u32, Collection)>, CidrFault>
     ensures ok { IfOk result (λ v.
-        answer (record { next = next; list = list.now }) (Change id changes.now) used.now
+        outcome (record { next = next; list = list.now }) (Change id changes.now) used.now
         ≡ Ok (record { next = next; list = v.items })) }
-    ensures err { IfErr result (IsFaultWhere (IsSome (collection_at id list.now))
-        (answer (record { next = next; list = list.now }) (Change id changes.now) used.now)) }
+    ensures err { IfErr result (IsFaultWhere (IsSome (collection_with id list.now))
+        (outcome (record { next = next; list = list.now }) (Change id changes.now) used.now)) }
 {
     let Some(place) = place_of(list, id) else {
         return Err(CidrFault::NoSuchCidrCollection(id));
@@ -198,11 +198,11 @@ fn delete(
     used: &[(u32, Ident)],
 ) -> Result<Vec<(u32, Collection)>, CidrFault>
     ensures ok { IfOk result (λ v.
-        answer (record { next = next; list = list.now }) (Delete id) used.now
+        outcome (record { next = next; list = list.now }) (Delete id) used.now
         ≡ Ok (record { next = next; list = v.items })) }
     ensures err { IfErr result (IsFaultWhere
-        (IsOk (answer (record { next = next; list = list.now }) (Delete id) used.now))
-        (answer (record { next = next; list = list.now }) (Delete id) used.now)) }
+        (IsOk (outcome (record { next = next; list = list.now }) (Delete id) used.now))
+        (outcome (record { next = next; list = list.now }) (Delete id) used.now)) }
 {
     let Some(place) = place_of(list, id) else {
         return Err(CidrFault::NoSuchCidrCollection(id));

@@ -4,10 +4,10 @@ use Rattle.std.specs.Prelude.{Option, None, Some, Result, Ok}
 use Rattle.std.specs.Str.{bytes_eq}
 use Rattle.routing.specs.Texts.{is_location_byte}
 use Rattle.ip_table.specs.Prefixes.{Prefix}
-use Rattle.prefix_text.specs.Prefixes.{prefix_of}
+use Rattle.prefix_text.specs.Prefixes.{prefix_of_text}
 use Rattle.serde_json.specs.Data.{Data}
 use Rattle.line_reading.specs.Reading.{◌>>=◌, object, required, or_bad, each, in_change}
-use Rattle.line_reading.specs.Kinds.{text, list, word, collection_id}
+use Rattle.line_reading.specs.Kinds.{text, list, one_of_texts, collection_id}
 use Rattle.line_faults.specs.declared.member.Member.{Member}
 use Rattle.line_faults.specs.declared.member.Member.TheVariants as m
 use Rattle.line_faults.specs.declared.fault.LineFault.{LineFault}
@@ -33,7 +33,7 @@ is_put s =
 
 -- an address, `/` and a length
 unfoldable pub block : Member → Data → Result Prefix LineFault
-block h d = text h d >>= λ s. or_bad (prefix_of s) BadAddress h
+block h d = text h d >>= λ s. or_bad (prefix_of_text s) BadAddress h
 
 unfoldable pub blocks : Member → Data → Result (List Prefix) LineFault
 blocks h d = list 1 1000 h d >>= each (λ _. block h) 0
@@ -41,8 +41,8 @@ blocks h d = list 1 1000 h d >>= each (λ _. block h) 0
 unfoldable pub change : Member → Data → Result CidrChange LineFault
 change h o = do
   _ ← object h [] (m.Action ∷ m.LocationName ∷ m.CidrList ∷ []) o
-  puts ← required m.Action (word is_put) o
-  name ← required m.LocationName (word location_name) o
+  puts ← required m.Action (one_of_texts is_put) o
+  name ← required m.LocationName (one_of_texts location_name) o
   prefixes ← required m.CidrList blocks o
   Ok (record { put = puts; location = name; blocks = prefixes })
 
@@ -53,7 +53,7 @@ changes h d = list 1 1000 h d >>= each (λ k o. in_change k (change h o)) 0
 unfoldable pub create_collection : Data → Result CidrCommand LineFault
 create_collection o = do
   _ ← object m.CreateCidrCollection [] (m.Name ∷ m.CallerReference ∷ []) o
-  name ← required m.Name (word collection_name) o
+  name ← required m.Name (one_of_texts collection_name) o
   Ok (command.Create name)
 
 unfoldable pub change_collection : Data → Result CidrCommand LineFault

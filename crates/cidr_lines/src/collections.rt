@@ -2,7 +2,7 @@
 
 ghost use Rattle.std.specs.Prelude.{◌≡◌, ◌<◌, length};
 ghost use Rattle.serde_json.specs.View.{view, items_view};
-ghost use Rattle.line_reading.specs.Reading.{Reads, each, in_change};
+ghost use Rattle.line_reading.specs.Reading.{Gives, each, in_change};
 ghost use Rattle.cidr_lines.specs.Collections.{block, blocks, change, changes};
 ghost use Rattle.cidr_lines.specs.Collections.{create_collection, change_collection};
 ghost use Rattle.cidr_lines.specs.Collections.{delete_collection};
@@ -37,7 +37,7 @@ pub fn create_collection(value: &Value) -> Result<CidrCommand, LineFault>
 /// The line ChangeCidrCollection.
 #[tactic(auto, unfolding(crate::specs::Collections::change_collection))]
 pub fn change_collection(alloc: Global, value: &Value) -> Result<CidrCommand, LineFault>
-    ensures { Reads result (change_collection (view value.now)) }
+    ensures { Gives result (change_collection (view value.now)) }
 {
     object(
         value,
@@ -63,7 +63,7 @@ pub fn delete_collection(value: &Value) -> Result<CidrCommand, LineFault>
 /// The changes of a list.
 #[tactic(auto, unfolding(crate::specs::Collections::changes))]
 fn changes(alloc: Global, member: Member, value: &Value) -> Result<Changes, LineFault>
-    ensures { Reads result (changes member (view value.now)) }
+    ensures { Gives result (changes member (view value.now)) }
 {
     let items = list(1, 1_000, member, value)?;
     changes_in(alloc, member, items)
@@ -72,7 +72,7 @@ fn changes(alloc: Global, member: Member, value: &Value) -> Result<Changes, Line
 /// The changes, each with its index in its faults.
 fn changes_in(alloc: Global, member: Member, items: &[Value]) -> Result<Changes, LineFault>
     requires { length items.now < 65536 }
-    ensures { Reads result
+    ensures { Gives result
         (each (λ k o. in_change k (change member o)) 0 (items_view items.now)) }
 {
     match each(
@@ -92,7 +92,7 @@ fn change_at(
     index: u16,
     value: &Value,
 ) -> Result<CidrChange, LineFault>
-    ensures { Reads result (in_change index (change member (view value.now))) }
+    ensures { Gives result (in_change index (change member (view value.now))) }
 {
     match one_change(alloc, member, value) {
         Ok(change) => Ok(change),
@@ -103,7 +103,7 @@ fn change_at(
 /// A change.
 #[tactic(auto, unfolding(crate::specs::Collections::change))]
 fn one_change(alloc: Global, member: Member, value: &Value) -> Result<CidrChange, LineFault>
-    ensures { Reads result (change member (view value.now)) }
+    ensures { Gives result (change member (view value.now)) }
 {
     object(
         value,
@@ -128,7 +128,7 @@ fn one_change(alloc: Global, member: Member, value: &Value) -> Result<CidrChange
 /// The blocks of a list.
 #[tactic(auto, unfolding(crate::specs::Collections::blocks))]
 fn blocks(alloc: Global, member: Member, value: &Value) -> Result<Blocks, LineFault>
-    ensures { Reads result (blocks member (view value.now)) }
+    ensures { Gives result (blocks member (view value.now)) }
 {
     let items = list(1, 1_000, member, value)?;
     blocks_in(alloc, member, items)
@@ -137,7 +137,7 @@ fn blocks(alloc: Global, member: Member, value: &Value) -> Result<Blocks, LineFa
 /// The blocks of texts.
 fn blocks_in(alloc: Global, member: Member, items: &[Value]) -> Result<Blocks, LineFault>
     requires { length items.now < 65536 }
-    ensures { Reads result (each (λ _. block member) 0 (items_view items.now)) }
+    ensures { Gives result (each (λ _. block member) 0 (items_view items.now)) }
 {
     match each(alloc, items, |_, item| block(member, item)) {
         Ok(list) => Ok(Blocks::from_vec(list)),

@@ -5,9 +5,9 @@ ghost use Rattle.std.specs.List.{AllByRecursion};
 ghost use Rattle.std.specs.Option.{option_copied};
 ghost use Rattle.cidr_commands.specs.Places.{IsCollection};
 ghost use Rattle.cidr_commands.specs.Refusals.{Gives};
-ghost use Rattle.cidr_commands.specs.Commands.{GivesWhere, HasNames, MayWant, answer};
+ghost use Rattle.cidr_commands.specs.Commands.{GivesWhere, HasNames, MayWant, outcome};
 ghost use Rattle.cidr_commands.specs.Stored.{AreRowsIn, IsSound, LocatesIn};
-ghost use Rattle.cidr_commands.specs.Stored.{NextIdOrNone, Stored, collection_at};
+ghost use Rattle.cidr_commands.specs.Stored.{NextIdOrNone, Stored, collection_with};
 ghost use Rattle.cidr_routing.specs.Tables.{tables_of};
 
 use cidr_commands::{
@@ -66,7 +66,7 @@ impl Collections {
 
     /// The collection of a number. Its locations rise by name, and the blocks of each rise.
     pub fn get(&self, id: u32) -> Option<&Collection>
-        ensures collection { option_copied result ≡ collection_at id self.now.list }
+        ensures collection { option_copied result ≡ collection_with id self.now.list }
         ensures sound { IsSound self.now }
     {
         match place_of(&self.list, id) {
@@ -102,9 +102,9 @@ impl Collections {
     /// The location of the longest block of a collection that contains the client, and the scope of
     /// that answer. None and 0 where the collection isn't there.
     pub fn location(&self, id: u32, client: IpAddress) -> (Option<&Ident>, u8)
-        ensures located { LocatesIn (collection_at id self.now.list) client
+        ensures located { LocatesIn (collection_with id self.now.list) client
             (option_copied result.0) result.1 }
-        ensures rows { AreRowsIn (collection_at id self.now.list) }
+        ensures rows { AreRowsIn (collection_with id self.now.list) }
         ensures sound { IsSound self.now }
     {
         let Some(place) = place_of(&self.list, id) else {
@@ -131,7 +131,7 @@ impl Collections {
     ) -> Result<Collections, CidrFault>
         requires names { HasNames command.now }
         ensures { GivesWhere (MayWant self.now command.now used.now) result
-            (answer self.now command.now used.now) }
+            (outcome self.now command.now used.now) }
     {
         commands_keep_sound();
         match carry_out(alloc, self.next, &self.list, command, used) {

@@ -3,7 +3,7 @@ use Rattle.std.proofs.Common.{◌≡◌, ℕ, List, ap, ◌∙◌, refl, arith, 
 use Rattle.std.specs.Prelude.{◌⊎◌, Result, Ok, Err}
 use Rattle.check_model.specs.Checks.{Checks}
 use Rattle.cidr_changes.specs.declared.faults.CidrFault.{CidrFault}
-use Rattle.cidr_commands.specs.Commands.{GivesWhere, MayWant, answer}
+use Rattle.cidr_commands.specs.Commands.{GivesWhere, MayWant, outcome}
 use Rattle.cidr_commands.specs.Stored.{Stored}
 use Rattle.cidr_commands.specs.declared.command.CidrCommand.{CidrCommand}
 use Rattle.config_zones.specs.CommandRecord.TheVariants as command
@@ -28,16 +28,16 @@ module _ (table : Table) (given : CidrCommand) (checks : Checks) (next : ℕ) wh
   config = config_of table checks next
 
   pub made_whole : (collections : Stored) → collections ≡ table.collections → (used : Used)
-      → answer table.collections given used
-      ≡ answer table.collections given (used_by (hosted_in table.zones))
+      → outcome table.collections given used
+      ≡ outcome table.collections given (used_by (hosted_in table.zones))
       → (named : Used) → named ≡ used → (after : Stored)
-      → GivesWhere (MayWant collections given named) (Ok after) (answer collections given named)
+      → GivesWhere (MayWant collections given named) (Ok after) (outcome collections given named)
       → IsEditFor config (command.Cidr given) table (Collections after)
   made_whole collections same used as_all named is after gives =
-      let e : Ok after ≡ answer table.collections given (used_by (hosted_in table.zones)) =
-      answered (MayWant collections given named) after (answer collections given named) gives
-      ∙ (ap (λ (s : Stored). answer s given named) same
-      ∙ (ap (answer table.collections given) is ∙ as_all)) in (
+      let e : Ok after ≡ outcome table.collections given (used_by (hosted_in table.zones)) =
+      answered (MayWant collections given named) after (outcome collections given named) gives
+      ∙ (ap (λ (s : Stored). outcome s given named) same
+      ∙ (ap (outcome table.collections given) is ∙ as_all)) in (
         record config { collections = after },
         made_collection table.collections given,
         ap (with_collections config (made_collection table.collections given)) e,

@@ -16,7 +16,7 @@ use Rattle.config_zones.specs.Octets.{HasSpelling, IsSpelledRouting}
 use Rattle.config_zones.proofs.MembersOfZoneList.{left_at, nothing_left}
 use Rattle.config_zones.specs.Found.{IsNextZone, NextZoneOrNone}
 use Rattle.config_zones.specs.Zones.{AreZones, Zone, placed_in}
-use Rattle.zone_model.specs.Placed.{sets_of}
+use Rattle.zone_model.specs.Slotted.{sets_of}
 use Rattle.collection_commands.specs.Named.{named_in}
 
 abbrev Used : Type 0

@@ -3,7 +3,7 @@
 
 ghost use Rattle.std.specs.Prelude.{◌≡◌, ℕ, IfOk};
 ghost use Rattle.check_model.specs.Checks.{Checks};
-ghost use Rattle.cidr_commands.specs.Commands.{HasNames, answer};
+ghost use Rattle.cidr_commands.specs.Commands.{HasNames, outcome};
 ghost use Rattle.config_zones.specs.CommandRecord.TheVariants.{Cidr};
 ghost use Rattle.config_zones.specs.Edited.{hosted_in};
 ghost use Rattle.config_zones.specs.Others.{used_by};
@@ -46,8 +46,8 @@ fn used_for(
     command: &CidrCommand,
     scratch: &mut Scratch,
 ) -> Result<Vec<(u32, Ident)>, OutOfMemory>
-    ensures { IfOk result (λ used. answer zones.now.collections command.now used.items
-        ≡ answer zones.now.collections command.now (used_by (hosted_in zones.now.zones))) }
+    ensures { IfOk result (λ used. outcome zones.now.collections command.now used.items
+        ≡ outcome zones.now.collections command.now (used_by (hosted_in zones.now.zones))) }
 {
     match command {
         CidrCommand::Create(_) => Ok(Vec::new(alloc)),

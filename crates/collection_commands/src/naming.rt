@@ -7,7 +7,7 @@ ghost use Rattle.record_set.specs.declared.sets.RecordSet.{RecordSet};
 ghost use Rattle.routing.specs.Texts.{IsLocation};
 ghost use Rattle.config_zones.specs.Octets.{HasSpelling, IsSpelledRouting};
 ghost use Rattle.config_zones.specs.Zones.{placed_in};
-ghost use Rattle.zone_model.specs.Placed.{sets_of};
+ghost use Rattle.zone_model.specs.Slotted.{sets_of};
 ghost use Rattle.collection_commands.specs.Named.{named_in};
 
 use cidr_routing::{Ident, locations_are_names};

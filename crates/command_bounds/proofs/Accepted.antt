@@ -12,7 +12,7 @@ use Rattle.config_model.specs.ActionRecord.{Action}
 use Rattle.config_model.specs.ActionRecord.TheVariants as action
 use Rattle.config_model.specs.BatchRecord.{Batch}
 use Rattle.config_model.specs.ChangeRecord.{Change}
-use Rattle.check_model.specs.Checks.{Checks, IsBounded as IsBoundedCheck, check_at}
+use Rattle.check_model.specs.Checks.{Checks, IsBounded as IsBoundedCheck, check_with}
 use Rattle.check_model.specs.Commands.{Given, IsBoundedCommand, IsThreshold, checks_after, given_by}
 use Rattle.check_model.specs.Commands.{of_there, refusal_of, update_refusal}
 use Rattle.check_model.specs.Commands.{updated_at, updated_check}
@@ -21,7 +21,7 @@ use Rattle.check_model.specs.declared.checks.Check.TheVariants.{Calculated, Endp
 use Rattle.check_model.specs.declared.checks.CheckCommand.{CheckCommand}
 use Rattle.check_model.specs.declared.checks.CheckCommand.TheVariants as check
 use Rattle.check_model.specs.declared.refusals.CheckRefusal.{CheckRefusal}
-use Rattle.config_model.specs.Octets.{HasFewBlocks, IsListed}
+use Rattle.config_model.specs.Octets.{HasFewBlocks, IsListable}
 use Rattle.config_model.specs.OctetsOfCheckOctets as checks
 use Rattle.config_model.specs.CidrChangeRecord.{CidrChange}
 use Rattle.config_model.specs.CidrCommandRecord.{CidrCommand}
@@ -139,7 +139,7 @@ few_blocks : (changes : List CidrChange) → AllByRecursion IsShortChange change
 few_blocks [] short = tt
 few_blocks (change ∷ changes) short = (omega (arith, short.0), few_blocks changes short.1)
 
-listed_by : (given : CidrCommand) → AreShortLists given → IsListed given
+listed_by : (given : CidrCommand) → AreShortLists given → IsListable given
 listed_by (cidr.Create name) short = tt
 listed_by (cidr.Change id changes) short = (omega (arith, short.0), few_blocks changes short.1)
 listed_by (cidr.Delete id) short = tt
@@ -156,34 +156,34 @@ none_of_map (Some why) e = absurd (grind (arith, e))
 -- a check that is changed is there, and has what is given
 record IsChanged (checks : Checks) (id : ℕ) (given : Given) : Type 0 where
   pub check : Check
-  pub there : check_at checks.list id ≡ Some check
+  pub there : check_with checks.list id ≡ Some check
   pub allowed : update_refusal checks id given check ≡ None
 
 changed_by : (checks : Checks) (id : ℕ) (given : Given) (found : Option Check)
-    → check_at checks.list id ≡ found → of_there id found (update_refusal checks id given) ≡ None
+    → check_with checks.list id ≡ found → of_there id found (update_refusal checks id given) ≡ None
     → IsChanged checks id given
 changed_by checks id given None at e = absurd (grind (arith, e))
 changed_by checks id given (Some check) at e = record { check = check; there = at; allowed = e }
 
 -- where each check is within its bounds after a change, the changed one is
 changed_by_first : (id : ℕ) (given : Given) (held : ℕ × Check) (list : List (ℕ × Check))
-    (check : Check) (b : Bool) → nat_eq id held.0 ≡ b → check_at (held ∷ list) id ≡ Some check
+    (check : Check) (b : Bool) → nat_eq id held.0 ≡ b → check_with (held ∷ list) id ≡ Some check
     → IsBoundedCheck (updated_at id given held).1
-    → (check_at list id ≡ Some check → IsBoundedCheck (updated_check given check))
+    → (check_with list id ≡ Some check → IsBoundedCheck (updated_check given check))
     → IsBoundedCheck (updated_check given check)
 changed_by_first id given held list check true e at here later =
     let same : id ≡ held.0 = eqb-true id held.0 e in
     let its : held.1 ≡ check =
-    some_is (sym (ap (λ b. cond b (Some held.1) (check_at list id)) e) ∙ at) in
+    some_is (sym (ap (λ b. cond b (Some held.1) (check_with list id)) e) ∙ at) in
     let updated : updated_at id given held ≡ (held.0, updated_check given held.1) =
     ap (λ b. (held.0, cond b (updated_check given held.1) held.1)) (eq-eqb held.0 id (sym same)) in
     subst (λ (c : Check). IsBoundedCheck (updated_check given c)) its
     (subst (λ (h : ℕ × Check). IsBoundedCheck h.1) updated here)
 changed_by_first id given held list check false e at here later =
-    later (sym (ap (λ b. cond b (Some held.1) (check_at list id)) e) ∙ at)
+    later (sym (ap (λ b. cond b (Some held.1) (check_with list id)) e) ∙ at)
 
 changed_is : (id : ℕ) (given : Given) (list : List (ℕ × Check)) (check : Check)
-    → check_at list id ≡ Some check
+    → check_with list id ≡ Some check
     → AllByRecursion (λ (held : ℕ × Check). IsBoundedCheck held.1) (map (updated_at id given) list)
     → IsBoundedCheck (updated_check given check)
 changed_is id given [] check at all = absurd (grind (arith, at))
@@ -235,7 +235,7 @@ module _ (keeps : KeepsSound) (config after : Config) (what : Made) (sound : Sou
   listable id inverted disabled threshold (Some children) bounded e =
       let given = given_by inverted disabled threshold (Some children) in
       let health = check.Update id inverted disabled threshold (Some children) in
-      let is = changed_by config.checks id given (check_at config.checks.list id) refl
+      let is = changed_by config.checks id given (check_with config.checks.list id) refl
       (no_refusal health e) in
       let all = subst (λ (c : Checks). AllByRecursion (λ (held : ℕ × Check). IsBoundedCheck held.1) c.list)
       (checks_are health e)
@@ -244,7 +244,7 @@ module _ (keeps : KeepsSound) (config after : Config) (what : Made) (sound : Sou
       (changed_is id given config.checks.list is.check is.there all) in
       omega (arith, few)
 
-  told_later : {A : Type 0} (left now : A) → checks.IsTold 2 left now
+  told_later : {A : Type 0} (left now : A) → checks.IsSpelledOrLeft 2 left now
   told_later left now e = absurd (let k : true ≡ false = e in cc)
 
   health_has : (health : CheckCommand) → IsBoundedCommand health

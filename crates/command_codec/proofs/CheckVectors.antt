@@ -10,7 +10,7 @@ use Rattle.command_octets.specs.declared.commands.Command.{Command}
 use Rattle.command_octets.specs.declared.commands.Command.TheVariants as command
 use Rattle.command_octets.specs.Octets.{command_octets, spelling}
 use Rattle.command_codec.specs.Reading.{version_at, check_made_at, check_changed_at}
-use Rattle.command_codec.specs.Reading.{check_deleted_at, command_at, front_at, read}
+use Rattle.command_codec.specs.Reading.{check_deleted_at, command_at, versioned_at, read}
 
 -- an endpoint's check of threshold 3, neither inverted nor disabled
 abbrev endpoint : Command
@@ -24,7 +24,7 @@ endpoint_was_written = refl
 
 pub endpoint_is_read : map read ((2 ∷ 4 ∷ 1 ∷ 3 ∷ 0 ∷ 0 ∷ []) ∷ (1 ∷ 4 ∷ 1 ∷ 3 ∷ 0 ∷ []) ∷ [])
     ≡ Ok endpoint ∷ Ok endpoint ∷ []
-unfolding read front_at version_at command_at check_made_at checks.create_at check_at endpoint_at
+unfolding read versioned_at version_at command_at check_made_at checks.create_at check_at endpoint_at
     failures_at disabled_at
 endpoint_is_read = refl
 
@@ -39,7 +39,7 @@ pub calculated_is_written : command_octets calculated ≡ calculated_octets
 calculated_is_written = refl
 
 pub calculated_is_read : read calculated_octets ≡ Ok calculated
-unfolding read front_at version_at command_at check_made_at checks.create_at check_at calculated_at
+unfolding read versioned_at version_at command_at check_made_at checks.create_at check_at calculated_at
     threshold_at disabled_at few_at children_at
 calculated_is_read = refl
 
@@ -58,12 +58,12 @@ update_is_written = refl
 
 pub update_is_read : map read (update_octets ∷ old_update_octets ∷ [])
     ≡ Ok update ∷ Ok update ∷ []
-unfolding read front_at version_at command_at check_changed_at update_at disabling_at threshold_at
+unfolding read versioned_at version_at command_at check_changed_at update_at disabling_at threshold_at
 update_is_read = refl
 
 pub delete_is_read : map read ((2 ∷ 6 ∷ 0 ∷ 0 ∷ 0 ∷ 7 ∷ []) ∷ (1 ∷ 6 ∷ 0 ∷ 0 ∷ 0 ∷ 7 ∷ []) ∷ [])
     ≡ Ok (command.Health (Delete 7)) ∷ Ok (command.Health (Delete 7)) ∷ []
-unfolding read front_at version_at command_at check_deleted_at checks.delete_at
+unfolding read versioned_at version_at command_at check_deleted_at checks.delete_at
 delete_is_read = refl
 
 -- thresholds of 0 and 11; a check of kind 3; disabled in version 1, and none in version 2; a threshold
@@ -72,6 +72,6 @@ pub faults_in_checks : map read ((1 ∷ 4 ∷ 1 ∷ 0 ∷ 0 ∷ []) ∷ (2 ∷ 4
     ∷ (2 ∷ 4 ∷ 3 ∷ []) ∷ (1 ∷ 4 ∷ 1 ∷ 3 ∷ 0 ∷ 0 ∷ []) ∷ (2 ∷ 4 ∷ 1 ∷ 3 ∷ 0 ∷ [])
     ∷ (2 ∷ 4 ∷ 2 ∷ 1 ∷ 1 ∷ 0 ∷ 0 ∷ 0 ∷ 0 ∷ []) ∷ (2 ∷ 4 ∷ 2 ∷ 0 ∷ 1 ∷ 0 ∷ 0 ∷ 1 ∷ 0 ∷ []) ∷ [])
     ≡ Err 3 ∷ Err 3 ∷ Err 2 ∷ Err 5 ∷ Err 5 ∷ Err 3 ∷ Err 7 ∷ []
-unfolding read front_at version_at command_at check_made_at checks.create_at check_at endpoint_at
+unfolding read versioned_at version_at command_at check_made_at checks.create_at check_at endpoint_at
     calculated_at failures_at threshold_at disabled_at few_at children_at
 faults_in_checks = refl

@@ -11,15 +11,15 @@ use Rattle.command_octets.specs.declared.commands.Command.{Command}
 use Rattle.command_octets.specs.declared.commands.Command.TheVariants as command
 use Rattle.command_octets.specs.Octets.{command_octets}
 use Rattle.command_codec.specs.Reading.{version_at, collection_made_at, collection_changed_at}
-use Rattle.command_codec.specs.Reading.{collection_deleted_at, command_at, front_at, read}
+use Rattle.command_codec.specs.Reading.{collection_deleted_at, command_at, versioned_at, read}
 
 -- a collection c1, and the end of collection 1
 pub made_is_read : read (2 ∷ 7 ∷ 2 ∷ 0x63 ∷ 0x31 ∷ []) ≡ Ok (command.Cidr (Create (0x63 ∷ 0x31 ∷ [])))
-unfolding read front_at version_at command_at collection_made_at create_at text_at
+unfolding read versioned_at version_at command_at collection_made_at create_at text_at
 made_is_read = refl
 
 pub deleted_is_read : read (2 ∷ 9 ∷ 0 ∷ 0 ∷ 0 ∷ 1 ∷ []) ≡ Ok (command.Cidr (Delete 1))
-unfolding read front_at version_at command_at collection_deleted_at delete_at
+unfolding read versioned_at version_at command_at collection_deleted_at delete_at
 deleted_is_read = refl
 
 -- collection 1: a change of location a, up to its blocks; these begin at 13
@@ -39,7 +39,7 @@ pub changed_is_written : command_octets changed
 changed_is_written = refl
 
 pub changed_is_read : read (change_of_a ++ 4 ∷ 198 ∷ 51 ∷ 100 ∷ 0 ∷ 24 ∷ []) ≡ Ok changed
-unfolding read front_at version_at command_at collection_changed_at change_collection_at change_at
+unfolding read versioned_at version_at command_at collection_changed_at change_collection_at change_at
     put_at text_at block_at short_at number_of
 changed_is_read = refl
 
@@ -47,7 +47,7 @@ changed_is_read = refl
 pub faults_in_kinds : map read ((1 ∷ 7 ∷ 2 ∷ 0x63 ∷ 0x31 ∷ []) ∷ (1 ∷ 8 ∷ 0 ∷ 0 ∷ 0 ∷ 1 ∷ 0 ∷ 0 ∷ [])
     ∷ (1 ∷ 9 ∷ 0 ∷ 0 ∷ 0 ∷ 1 ∷ []) ∷ (2 ∷ 7 ∷ 0 ∷ []) ∷ (2 ∷ 7 ∷ 1 ∷ 0x2A ∷ []) ∷ [])
     ≡ Err 1 ∷ Err 1 ∷ Err 1 ∷ Err 2 ∷ Err 2 ∷ []
-unfolding read front_at version_at command_at collection_made_at create_at text_at
+unfolding read versioned_at version_at command_at collection_made_at create_at text_at
 faults_in_kinds = refl
 
 -- blocks: version 5; a bit behind the length; 33 bits; an address cut off
@@ -55,6 +55,6 @@ pub faults_in_blocks : map read ((change_of_a ++ 5 ∷ 198 ∷ 51 ∷ 100 ∷ 0 
     ∷ (change_of_a ++ 4 ∷ 198 ∷ 51 ∷ 100 ∷ 1 ∷ 24 ∷ [])
     ∷ (change_of_a ++ 4 ∷ 198 ∷ 51 ∷ 100 ∷ 0 ∷ 33 ∷ []) ∷ (change_of_a ++ 4 ∷ 198 ∷ 51 ∷ []) ∷ [])
     ≡ Err 13 ∷ Err 18 ∷ Err 18 ∷ Err 16 ∷ []
-unfolding read front_at version_at command_at collection_changed_at change_collection_at change_at
+unfolding read versioned_at version_at command_at collection_changed_at change_collection_at change_at
     put_at text_at block_at short_at number_of
 faults_in_blocks = refl

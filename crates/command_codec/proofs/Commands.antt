@@ -15,9 +15,9 @@ use Rattle.check_reading.specs.Laws as check_laws
 use Rattle.block_reading.specs.Laws as block_laws
 use Rattle.command_octets.specs.declared.commands.Command.{Command}
 use Rattle.command_codec.specs.Commands.{Spells}
-use Rattle.command_codec.specs.Gives.{ReadsCommand}
+use Rattle.command_codec.specs.Gives.{GivesCommand}
 use Rattle.command_codec.specs.Laws as laws
-use Rattle.command_codec.specs.Reading.{front_at, unversioned, read}
+use Rattle.command_codec.specs.Reading.{versioned_at, unversioned, read}
 use Rattle.command_codec.proofs.Fields.{IsIn, octets_in, front_read}
 
 -- what reading as a whole tells, with the version, it tells of the command
@@ -36,7 +36,7 @@ told_of octets (Err place) t =
 module _ (written : set_laws.WrittenReadsBack) (told : set_laws.SetsAreTold)
     (check_commands : check_laws.CheckCommandsAreRead)
     (cidr_commands : block_laws.CidrCommandsAreRead) where
-  front : IsReadAs IsIn octets_in front_at
+  front : IsReadAs IsIn octets_in versioned_at
   front = front_read written told check_commands cidr_commands
 
   -- ---- laws
@@ -49,7 +49,7 @@ module _ (written : set_laws.WrittenReadsBack) (told : set_laws.SetsAreTold)
   pub commands_are_told : laws.CommandsAreTold
   unfolding read
   commands_are_told octets are =
-      told_of octets (whole front_at octets) (tells_whole front octets are)
+      told_of octets (whole versioned_at octets) (tells_whole front octets are)
 
   read_again : (octets : List ℕ) (what : Command) → Spells octets what → read octets ≡ Ok what
   read_again octets what s = ap read s.spelled
@@ -70,12 +70,12 @@ module _ (written : set_laws.WrittenReadsBack) (told : set_laws.SetsAreTold)
   -- ---- what the call answers
 
   pub is_only : (octets : List ℕ) (result : Result Command ReadFault)
-      → ReadsCommand result (read octets) → (what : Command) → Spells octets what
-      → ReadsCommand result (Ok what)
-  is_only octets result e what s = subst (ReadsCommand result) (read_again octets what s) e
+      → GivesCommand result (read octets) → (what : Command) → Spells octets what
+      → GivesCommand result (Ok what)
+  is_only octets result e what s = subst (GivesCommand result) (read_again octets what s) e
 
   pub is_found : (octets : List ℕ) (result : Result Command ReadFault) → AreOctets octets
-      → ReadsCommand result (read octets)
+      → GivesCommand result (read octets)
       → IfOk result (λ what. Spells octets what)
   is_found octets (Ok what) are e =
       subst (laws.TellsCommand octets) e (commands_are_told octets are)
@@ -83,13 +83,13 @@ module _ (written : set_laws.WrittenReadsBack) (told : set_laws.SetsAreTold)
 
   -- what stands behind a command, or from a fault on, is no more than the octets
   pub rest_within : (octets : List ℕ) (x : ℕ × Command) (rest : List ℕ)
-      → front_at octets ≡ Ok (x, rest) → length rest ≤ length octets
+      → versioned_at octets ≡ Ok (x, rest) → length rest ≤ length octets
   rest_within octets x rest e = front.left octets x rest e
 
   pub fault_within : (octets : List ℕ) (fault : Stop) (left : ℕ) → fault ≡ stop.Bad left
-      → Stops fault (front_at octets) → left ≤ length octets
+      → Stops fault (versioned_at octets) → left ≤ length octets
   fault_within octets fault left is e =
-      front.fault octets left (subst (λ f. Stops f (front_at octets)) is e)
+      front.fault octets left (subst (λ f. Stops f (versioned_at octets)) is e)
 
 -- octets of a slice are octets
 pub are_octets : (octets : List ℕ) → ((i : ℕ) → slice_index octets i < 256) → AreOctets octets

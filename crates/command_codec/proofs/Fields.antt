@@ -9,8 +9,8 @@ use Rattle.octets.specs.Numbers.{two_octets, four_octets}
 use Rattle.set_reading.specs.Labels.{wire}
 use Rattle.set_reading.specs.Names.{IsName}
 use Rattle.set_reading.specs.ReadingOfOctetReading.{four_at}
-use Rattle.set_reading.specs.Readers.{seen, has_kind}
-use Rattle.set_reading.specs.Rules.{IsReadAs, AreListed, list_octets}
+use Rattle.set_reading.specs.Readers.{mapped, has_kind}
+use Rattle.set_reading.specs.Rules.{IsReadAs, AreListable, list_octets}
 use Rattle.set_reading.proofs.Base.{read_as, octet_read, name_read}
 use Rattle.set_reading.proofs.Digits.{ok_is, four_is, four_again}
 use Rattle.set_reading.proofs.Rules.{err_is, alike, seen_read}
@@ -42,8 +42,8 @@ use Rattle.command_codec.specs.Commands.{HasSet, AreServers, IsCommand}
 use Rattle.command_codec.specs.Reading.{is_version, version_at, servers_at, created, create_at, delete_at, actions, action_of, action_at, behind_set, set_at, changed, change_at, batched, batch_at}
 use Rattle.command_codec.specs.Reading.{check_made_at, check_changed_at, check_deleted_at}
 use Rattle.command_codec.specs.Reading.{collection_made_at, collection_changed_at}
-use Rattle.command_codec.specs.Reading.{collection_deleted_at, lines, command_at}
-use Rattle.command_codec.specs.Reading.{front_at}
+use Rattle.command_codec.specs.Reading.{collection_deleted_at, kind_table, command_at}
+use Rattle.command_codec.specs.Reading.{versioned_at}
 
 -- ---- versions
 
@@ -241,7 +241,7 @@ module _ (written : set_laws.WrittenReadsBack) (told : set_laws.SetsAreTold) whe
   unfolding batch_at
   batch_read version = seen_read batched (in_turn_read four_read (list_read change_read)) into from
     where
-      into : (p : ℕ × List Change) → ⊤ × AreListed IsSpelledChange p.1
+      into : (p : ℕ × List Change) → ⊤ × AreListable IsSpelledChange p.1
           → IsOfKind version 3 (batched p)
           × (four_octets p.0 ++ list_octets change_octets p.1 ≡ field_octets version (batched p))
       into p h =
@@ -252,7 +252,7 @@ module _ (written : set_laws.WrittenReadsBack) (told : set_laws.SetsAreTold) whe
           )
 
       from : (what : Command) → IsOfKind version 3 what
-          → (p : ℕ × List Change) × (⊤ × AreListed IsSpelledChange p.1) × (batched p ≡ what)
+          → (p : ℕ × List Change) × (⊤ × AreListable IsSpelledChange p.1) × (batched p ≡ what)
       from (command.CreateZone name servers) h = absurd (grind (arith, h.1))
       from (command.DeleteZone zone) h = absurd (grind (arith, h.1))
       from (command.Change batch) h = (
@@ -270,7 +270,7 @@ module _ (written : set_laws.WrittenReadsBack) (told : set_laws.SetsAreTold) whe
     health_read : {read : List ℕ → Result (CheckCommand × List ℕ) ℕ} (version kind : ℕ)
         → IsAmong 4 6 kind
         → IsReadAs (check_laws.IsOfKind version kind) (checks.field_octets version) read
-        → IsReadAs (IsOfKind version kind) (field_octets version) (seen command.Health read)
+        → IsReadAs (IsOfKind version kind) (field_octets version) (mapped command.Health read)
     health_read version kind k inside =
         seen_read command.Health inside (λ what h. (((tt, h.0), h.1), refl)) from
       where
@@ -285,7 +285,7 @@ module _ (written : set_laws.WrittenReadsBack) (told : set_laws.SetsAreTold) whe
 
     cidr_read : {read : List ℕ → Result (CidrCommand × List ℕ) ℕ} (kind : ℕ)
         → IsAmong 7 9 kind → IsReadAs (block_laws.IsOfKind kind) collections.field_octets read
-        → IsReadAs (IsOfKind 2 kind) (field_octets 2) (seen command.Cidr read)
+        → IsReadAs (IsOfKind 2 kind) (field_octets 2) (mapped command.Cidr read)
     cidr_read kind k inside =
         seen_read command.Cidr inside (λ what h. (((tt, (refl, h.0)), h.1), refl)) from
       where
@@ -345,7 +345,7 @@ module _ (written : set_laws.WrittenReadsBack) (told : set_laws.SetsAreTold) whe
         (collection_made_read, (collection_changed_read, (collection_deleted_read, tt)))
 
     has_line : (version : ℕ) (what : Command) → IsSpelled version what
-        → has_kind (lines version) (kind_of what) ≡ true
+        → has_kind (kind_table version) (kind_of what) ≡ true
     has_line version (command.CreateZone name servers) h = refl
     has_line version (command.DeleteZone zone) h = refl
     has_line version (command.Change batch) h = refl
@@ -353,18 +353,18 @@ module _ (written : set_laws.WrittenReadsBack) (told : set_laws.SetsAreTold) whe
     has_line version (command.Health (check_command.Update id inverted disabled threshold children)) h = refl
     has_line version (command.Health (check_command.Delete id)) h = refl
     has_line version (command.Cidr (cidr_command.Create name)) h =
-        subst (λ v. has_kind (lines v) 7 ≡ true) (sym h.1.0) refl
+        subst (λ v. has_kind (kind_table v) 7 ≡ true) (sym h.1.0) refl
     has_line version (command.Cidr (cidr_command.Change id changes)) h =
-        subst (λ v. has_kind (lines v) 8 ≡ true) (sym h.1.0) refl
+        subst (λ v. has_kind (kind_table v) 8 ≡ true) (sym h.1.0) refl
     has_line version (command.Cidr (cidr_command.Delete id)) h =
-        subst (λ v. has_kind (lines v) 9 ≡ true) (sym h.1.0) refl
+        subst (λ v. has_kind (kind_table v) 9 ≡ true) (sym h.1.0) refl
 
     command_read : (version : ℕ)
         → IsReadAs (IsSpelled version) (λ what. kind_of what
         ∷ field_octets version what) (command_at version)
     unfolding command_at
     command_read version =
-        kinds_read kind_of (IsSpelled version) (field_octets version) (lines version) (
+        kinds_read kind_of (IsSpelled version) (field_octets version) (kind_table version) (
           create_read version,
           (
             delete_read version,
@@ -385,6 +385,6 @@ module _ (written : set_laws.WrittenReadsBack) (told : set_laws.SetsAreTold) whe
         )
         (has_line version)
 
-    pub front_read : IsReadAs IsIn octets_in front_at
-    unfolding front_at
+    pub front_read : IsReadAs IsIn octets_in versioned_at
+    unfolding versioned_at
     front_read = in_turn_by_read version_read command_read

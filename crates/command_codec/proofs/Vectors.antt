@@ -7,7 +7,7 @@ use Rattle.set_reading.specs.BodyRecord.TheVariants as body
 use Rattle.command_octets.specs.ActionRecord.TheVariants as action
 use Rattle.set_reading.specs.Layouts.{is_layout}
 use Rattle.set_reading.specs.NamesOfOctetReading.{name_at}
-use Rattle.set_reading.specs.Numbers.{type_of, type_at, continent_at, role_at, ttl_at}
+use Rattle.set_reading.specs.Numbers.{type_of_number, type_at, continent_at, role_at, ttl_at}
 use Rattle.set_reading.specs.Readers.{text_at}
 use Rattle.set_reading.specs.Texts.{country_at}
 use Rattle.set_reading.specs.Reading.{subdivision_at, place_at, weighted_at, failover_at, geolocation_at, latency_at, multivalue_at, routing_at, value_at, records_at, alias_at, body_at, check_at}
@@ -15,7 +15,7 @@ use Rattle.set_reading.specs.Reading as sets
 use Rattle.command_octets.specs.declared.commands.Command.{Command}
 use Rattle.command_octets.specs.declared.commands.Command.TheVariants as command
 use Rattle.command_octets.specs.Octets.{command_octets}
-use Rattle.command_codec.specs.Reading.{version_at, servers_at, create_at, delete_at, action_at, behind_set, set_at, change_at, batch_at, command_at, front_at, read}
+use Rattle.command_codec.specs.Reading.{version_at, servers_at, create_at, delete_at, action_at, behind_set, set_at, change_at, batch_at, command_at, versioned_at, read}
 
 -- example.com, with the servers a, b, c and d; 27 octets
 abbrev create : Command
@@ -31,7 +31,7 @@ pub create_is_written : command_octets create ≡ create_octets
 create_is_written = refl
 
 pub create_is_read : read create_octets ≡ Ok create
-unfolding read front_at version_at command_at create_at delete_at batch_at servers_at name_at
+unfolding read versioned_at version_at command_at create_at delete_at batch_at servers_at name_at
 create_is_read = refl
 
 -- zones 7 and 16909060
@@ -42,7 +42,7 @@ deletes_are_written = refl
 -- in either version
 pub delete_is_read : map read ((1 ∷ 2 ∷ 1 ∷ 2 ∷ 3 ∷ 4 ∷ []) ∷ (2 ∷ 2 ∷ 1 ∷ 2 ∷ 3 ∷ 4 ∷ []) ∷ [])
     ≡ Ok (command.DeleteZone 16909060) ∷ Ok (command.DeleteZone 16909060) ∷ []
-unfolding read front_at version_at command_at create_at delete_at batch_at
+unfolding read versioned_at version_at command_at create_at delete_at batch_at
 delete_is_read = refl
 
 -- www.example.com A 192.0.2.1, simple, with a time to live of 300; 34 octets
@@ -79,8 +79,8 @@ pub upsert_is_written : command_octets upsert ≡ upsert_octets
 upsert_is_written = refl
 
 pub upsert_is_read : read upsert_octets ≡ Ok upsert
-unfolding read front_at version_at command_at create_at delete_at batch_at change_at action_at
-    set_at sets.read sets.set_at name_at type_at type_of routing_at weighted_at failover_at
+unfolding read versioned_at version_at command_at create_at delete_at batch_at change_at action_at
+    set_at sets.read sets.set_at name_at type_at type_of_number routing_at weighted_at failover_at
     geolocation_at latency_at multivalue_at place_at subdivision_at country_at continent_at role_at
     text_at body_at records_at alias_at ttl_at value_at is_layout check_at
 upsert_is_read = refl
@@ -119,8 +119,8 @@ pub two_changes_are_written : command_octets two_changes ≡ two_changes_octets
 two_changes_are_written = refl
 
 pub two_changes_are_read : read two_changes_octets ≡ Ok two_changes
-unfolding read front_at version_at command_at create_at delete_at batch_at change_at action_at
-    set_at sets.read sets.set_at name_at type_at type_of routing_at weighted_at failover_at
+unfolding read versioned_at version_at command_at create_at delete_at batch_at change_at action_at
+    set_at sets.read sets.set_at name_at type_at type_of_number routing_at weighted_at failover_at
     geolocation_at latency_at multivalue_at place_at subdivision_at country_at continent_at role_at
     text_at body_at records_at alias_at ttl_at value_at is_layout check_at
 two_changes_are_read = refl
@@ -128,7 +128,7 @@ two_changes_are_read = refl
 -- no changes at all are in the grammar
 pub no_changes : read (1 ∷ 3 ∷ 0 ∷ 0 ∷ 0 ∷ 5 ∷ 0 ∷ 0 ∷ [])
     ≡ Ok (command.Change (record { zone = 5; changes = [] }))
-unfolding read front_at version_at command_at create_at delete_at batch_at
+unfolding read versioned_at version_at command_at create_at delete_at batch_at
 no_changes = refl
 
 abbrev places : List (List ℕ) → List (Result Command ℕ)
@@ -137,7 +137,7 @@ places octets = map read octets
 -- versions: none, 0 and 3; kinds: none, 0 and 10
 pub faults_in_kinds : places ([] ∷ (0 ∷ 2 ∷ []) ∷ (3 ∷ 2 ∷ 0 ∷ 0 ∷ 0 ∷ 7 ∷ []) ∷ (1 ∷ [])
     ∷ (1 ∷ 0 ∷ []) ∷ (2 ∷ 10 ∷ 0 ∷ []) ∷ []) ≡ Err 0 ∷ Err 0 ∷ Err 0 ∷ Err 1 ∷ Err 1 ∷ Err 1 ∷ []
-unfolding read front_at version_at command_at create_at delete_at batch_at
+unfolding read versioned_at version_at command_at create_at delete_at batch_at
 faults_in_kinds = refl
 
 -- names: a capital letter in the zone's; the zone's cut off; a pointer for the second server; the
@@ -146,13 +146,13 @@ faults_in_kinds = refl
 pub faults_in_names : places ((1 ∷ 1 ∷ 1 ∷ 0x41 ∷ 0 ∷ []) ∷ take 14 create_octets
     ∷ (take 18 create_octets ++ 0xC0 ∷ 2 ∷ []) ∷ take 24 create_octets ∷ (create_octets ++ 0 ∷ [])
     ∷ []) ≡ Err 2 ∷ Err 14 ∷ Err 18 ∷ Err 24 ∷ Err 27 ∷ []
-unfolding read front_at version_at command_at create_at delete_at batch_at servers_at name_at
+unfolding read versioned_at version_at command_at create_at delete_at batch_at servers_at name_at
 faults_in_names = refl
 
 -- zones: three octets of the number; two octets behind it
 pub faults_in_zones : places ((1 ∷ 2 ∷ 0 ∷ 0 ∷ 7 ∷ []) ∷ (1 ∷ 2 ∷ 0 ∷ 0 ∷ 0 ∷ 7 ∷ 9 ∷ 9 ∷ [])
     ∷ (1 ∷ 3 ∷ 0 ∷ 0 ∷ 0 ∷ []) ∷ []) ≡ Err 5 ∷ Err 6 ∷ Err 5 ∷ []
-unfolding read front_at version_at command_at create_at delete_at batch_at
+unfolding read versioned_at version_at command_at create_at delete_at batch_at
 faults_in_zones = refl
 
 -- changes: one octet of the count; none of one; the actions 0 and 4; three octets of the
@@ -163,13 +163,13 @@ pub faults_in_changes : places (take 7 upsert_octets ∷ batch_of_one ∷ (batch
     ∷ (take 30 upsert_octets ++ 0 ∷ 0 ∷ 0 ∷ []) ∷ take 46 upsert_octets
     ∷ (upsert_octets ++ 1 ∷ 2 ∷ []) ∷ [])
     ≡ Err 7 ∷ Err 8 ∷ Err 8 ∷ Err 8 ∷ Err 12 ∷ Err 13 ∷ Err 30 ∷ Err 46 ∷ Err 47 ∷ []
-unfolding read front_at version_at command_at create_at delete_at batch_at change_at action_at
-    set_at sets.read sets.set_at name_at type_at type_of routing_at weighted_at failover_at
+unfolding read versioned_at version_at command_at create_at delete_at batch_at change_at action_at
+    set_at sets.read sets.set_at name_at type_at type_of_number routing_at weighted_at failover_at
     geolocation_at latency_at multivalue_at place_at subdivision_at country_at continent_at role_at
     text_at body_at records_at alias_at ttl_at value_at is_layout check_at
 faults_in_changes = refl
 
 -- a set of 65,537 octets is faulty from its first one on, and a set of 65,536 is not
-pub longest : (behind_set (7 ∷ 8 ∷ 9 ∷ []) (sets.placed 65537 (Ok (simple, []))) ≡ Err 3)
-    × (behind_set [] (sets.placed 65536 (Ok (simple, []))) ≡ Ok (simple, []))
+pub longest : (behind_set (7 ∷ 8 ∷ 9 ∷ []) (sets.by_place 65537 (Ok (simple, []))) ≡ Err 3)
+    × (behind_set [] (sets.by_place 65536 (Ok (simple, []))) ≡ Ok (simple, []))
 longest = (refl, refl)

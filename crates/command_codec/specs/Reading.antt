@@ -2,7 +2,7 @@
 use Rattle.std.specs.Prelude.{ℕ, ◌-◌, List, [], ◌∷◌, length, drop, Bool, ◌==◌, ◌||◌, Option, Result, Ok, Err, if◌then◌else◌}
 use Rattle.set_reading.specs.ReadingOfOctetReading.{octet_at, four_at}
 use Rattle.set_reading.specs.NamesOfOctetReading.{name_at}
-use Rattle.set_reading.specs.Readers.{seen, in_turn, in_turn_by, so_many, list_at, tested, meaning, numbered, kinds, whole}
+use Rattle.set_reading.specs.Readers.{mapped, in_turn, in_turn_by, so_many, list_at, tested, meaning, numbered, kinds, whole}
 use Rattle.command_octets.specs.ActionRecord.{Action}
 use Rattle.command_octets.specs.ActionRecord.TheVariants as action
 use Rattle.command_octets.specs.ChangeRecord.{Change}
@@ -30,11 +30,11 @@ abbrev pub created : List (List ℕ) × List (List (List ℕ)) → Command
 created fields = command.CreateZone fields.0 fields.1
 
 unfoldable pub create_at : List ℕ → Result (Command × List ℕ) ℕ
-create_at octets = seen created (in_turn name_at servers_at) octets
+create_at octets = mapped created (in_turn name_at servers_at) octets
 
 -- a zone's number
 unfoldable pub delete_at : List ℕ → Result (Command × List ℕ) ℕ
-delete_at octets = seen command.DeleteZone four_at octets
+delete_at octets = mapped command.DeleteZone four_at octets
 
 -- an action by its number
 abbrev pub actions : List Action
@@ -60,34 +60,34 @@ abbrev pub changed : (Action × ℕ) × RecordSet → Change
 changed fields = record { action = fields.0.0; characters = fields.0.1; set = fields.1 }
 
 unfoldable pub change_at : List ℕ → Result (Change × List ℕ) ℕ
-change_at octets = seen changed (in_turn (in_turn action_at four_at) set_at) octets
+change_at octets = mapped changed (in_turn (in_turn action_at four_at) set_at) octets
 
 -- a zone's number, and the list of changes
 abbrev pub batched : ℕ × List Change → Command
 batched fields = command.Change (record { zone = fields.0; changes = fields.1 })
 
 unfoldable pub batch_at : List ℕ → Result (Command × List ℕ) ℕ
-batch_at octets = seen batched (in_turn four_at (list_at change_at)) octets
+batch_at octets = mapped batched (in_turn four_at (list_at change_at)) octets
 
 -- commands on health checks, of which the first version says less
 unfoldable pub check_made_at : (version : ℕ) → List ℕ → Result (Command × List ℕ) ℕ
-check_made_at version octets = seen command.Health (checks.create_at version) octets
+check_made_at version octets = mapped command.Health (checks.create_at version) octets
 
 unfoldable pub check_changed_at : (version : ℕ) → List ℕ → Result (Command × List ℕ) ℕ
-check_changed_at version octets = seen command.Health (checks.update_at version) octets
+check_changed_at version octets = mapped command.Health (checks.update_at version) octets
 
 unfoldable pub check_deleted_at : List ℕ → Result (Command × List ℕ) ℕ
-check_deleted_at octets = seen command.Health checks.delete_at octets
+check_deleted_at octets = mapped command.Health checks.delete_at octets
 
 -- commands on collections
 unfoldable pub collection_made_at : List ℕ → Result (Command × List ℕ) ℕ
-collection_made_at octets = seen command.Cidr collections.create_at octets
+collection_made_at octets = mapped command.Cidr collections.create_at octets
 
 unfoldable pub collection_changed_at : List ℕ → Result (Command × List ℕ) ℕ
-collection_changed_at octets = seen command.Cidr collections.change_collection_at octets
+collection_changed_at octets = mapped command.Cidr collections.change_collection_at octets
 
 unfoldable pub collection_deleted_at : List ℕ → Result (Command × List ℕ) ℕ
-collection_deleted_at octets = seen command.Cidr collections.delete_at octets
+collection_deleted_at octets = mapped command.Cidr collections.delete_at octets
 
 -- the kinds, a line each: its number, and how its fields are read; those of collections stand in
 -- the second version alone
@@ -97,17 +97,17 @@ collection_lines version =
     then (7, collection_made_at) ∷ (8, collection_changed_at) ∷ (9, collection_deleted_at) ∷ []
     else []
 
-abbrev pub lines : (version : ℕ) → List (ℕ × (List ℕ → Result (Command × List ℕ) ℕ))
-lines version =
+abbrev pub kind_table : (version : ℕ) → List (ℕ × (List ℕ → Result (Command × List ℕ) ℕ))
+kind_table version =
     (1, create_at) ∷ (2, delete_at) ∷ (3, batch_at) ∷ (4, check_made_at version)
     ∷ (5, check_changed_at version) ∷ (6, check_deleted_at) ∷ collection_lines version
 
 unfoldable pub command_at : (version : ℕ) → List ℕ → Result (Command × List ℕ) ℕ
-command_at version octets = kinds (lines version) octets
+command_at version octets = kinds (kind_table version) octets
 
 -- the version and a command behind it
-unfoldable pub front_at : List ℕ → Result ((ℕ × Command) × List ℕ) ℕ
-front_at octets = in_turn_by version_at command_at octets
+unfoldable pub versioned_at : List ℕ → Result ((ℕ × Command) × List ℕ) ℕ
+versioned_at octets = in_turn_by version_at command_at octets
 
 -- the command, whatever its version
 abbrev pub unversioned : Result (ℕ × Command) ℕ → Result Command ℕ
@@ -116,4 +116,4 @@ unversioned (Err place) = Err place
 
 -- The command that octets are, in either version, with nothing behind it; or the place of the first fault.
 unfoldable pub read : List ℕ → Result Command ℕ
-read octets = unversioned (whole front_at octets)
+read octets = unversioned (whole versioned_at octets)

@@ -4,12 +4,12 @@ ghost use Rattle.std.specs.Prelude.{◌≡◌, ◌≤◌, ℕ, length, take, dro
 ghost use Rattle.set_reading.specs.ReadingOfOctetReading.{Gives, GivesOrStops};
 ghost use Rattle.command_octets.specs.declared.commands.Command.{Command};
 ghost use Rattle.command_codec.specs.Commands.{Spells};
-ghost use Rattle.command_codec.specs.Gives.{IsInside, ReadsCommand};
+ghost use Rattle.command_codec.specs.Gives.{IsInside, GivesCommand};
 ghost use Rattle.command_codec.specs.Reading.{version_at, servers_at, create_at, delete_at, action_of, action_at, set_at, change_at};
 ghost use Rattle.command_codec.specs.Reading.{batch_at, check_made_at, check_changed_at};
 ghost use Rattle.command_codec.specs.Reading.{check_deleted_at, collection_made_at};
 ghost use Rattle.command_codec.specs.Reading.{collection_changed_at, collection_deleted_at};
-ghost use Rattle.command_codec.specs.Reading.{command_at, front_at, read};
+ghost use Rattle.command_codec.specs.Reading.{command_at, versioned_at, read};
 
 use block_reading::{change_collection_at, create_collection_at, delete_collection_at};
 use check_reading::{create_check_at, delete_check_at, update_check_at};
@@ -26,9 +26,9 @@ pub fn read(alloc: Global, bytes: &[u8]) -> Result<Command, ReadFault>
     ensures found { IfOk result (λ command. Spells bytes.now command) }
     // What is spelled so is read, unless memory runs out.
     ensures only { (command : Command)
-        → Spells bytes.now command → ReadsCommand result (Ok command) }
+        → Spells bytes.now command → GivesCommand result (Ok command) }
     // Which fault it is, and at which place.
-    ensures exact { ReadsCommand result (read bytes.now) }
+    ensures exact { GivesCommand result (read bytes.now) }
     ensures inside { IsInside (length bytes.now) result }
 {
     set_reading::written_reads_back();
@@ -41,14 +41,14 @@ pub fn read(alloc: Global, bytes: &[u8]) -> Result<Command, ReadFault>
 /// The command, or the place of the first fault. Nothing may stand behind a command.
 #[tactic(auto, unfolding(crate::specs::Reading::read))]
 fn read_whole(alloc: Global, bytes: &[u8]) -> Result<Command, ReadFault>
-    ensures exact { ReadsCommand result (read bytes.now) }
+    ensures exact { GivesCommand result (read bytes.now) }
     ensures inside { IsInside (length bytes.now) result }
 {
     set_reading::written_reads_back();
     set_reading::sets_are_told();
     check_reading::check_commands_are_read();
     block_reading::cidr_commands_are_read();
-    match front_at(alloc, bytes) {
+    match versioned_at(alloc, bytes) {
         Ok((_, command, rest)) => {
             if rest.len() > 0 {
                 return Err(ReadFault::Bad(bytes.len() - rest.len()));
@@ -61,9 +61,9 @@ fn read_whole(alloc: Global, bytes: &[u8]) -> Result<Command, ReadFault>
 }
 
 /// The version and a command behind it.
-#[tactic(auto, unfolding(crate::specs::Reading::front_at))]
-fn front_at(alloc: Global, bytes: &[u8]) -> Result<(u8, Command, &[u8]), Stop>
-    ensures { GivesOrStops (λ x. ((x.0, x.1), x.2.now)) result (front_at bytes.now) }
+#[tactic(auto, unfolding(crate::specs::Reading::versioned_at))]
+fn versioned_at(alloc: Global, bytes: &[u8]) -> Result<(u8, Command, &[u8]), Stop>
+    ensures { GivesOrStops (λ x. ((x.0, x.1), x.2.now)) result (versioned_at bytes.now) }
 {
     let (version, rest) = version_at(bytes)?;
     match command_at(alloc, version, rest) {

@@ -5,9 +5,9 @@ use Rattle.std.specs.List.{AllByRecursion}
 use Rattle.std.proofs.lemmas.Bool.{leb-true, le-leb, eqb-true, eq-eqb, ltb-true, and_from, and_parts}
 use Rattle.std.proofs.Math.Nat.{mul-mod_left, mod-one}
 use Rattle.std.specs.Int.{from_be_bytes, w32, w128}
-use Rattle.octet_reading.specs.Readers.{Reader, in_turn, seen, has_kind, list_at, in_turn_by}
+use Rattle.octet_reading.specs.Readers.{Reader, in_turn, mapped, has_kind, list_at, in_turn_by}
 use Rattle.octet_reading.specs.Reading.{four_at}
-use Rattle.octet_reading.specs.Rules.{IsReadAs, AreListed, text_octets}
+use Rattle.octet_reading.specs.Rules.{IsReadAs, AreListable, text_octets}
 use Rattle.octet_reading.proofs.Base.{octet_read}
 use Rattle.octet_reading.proofs.Composed.{tested_read}
 use Rattle.octet_reading.proofs.OfKind.{kinds_read}
@@ -191,7 +191,7 @@ length_faults family address h =
 
 block_of : (family : ℕ) {read : Reader IpAddress}
     → Part (IsOf family) octets_of address_fields read
-    → Part (IsBlockOf family) octets_later later (seen prefix_of (in_turn_by read length_at))
+    → Part (IsBlockOf family) octets_later later (mapped prefix_of (in_turn_by read length_at))
 block_of family address =
     seen_part prefix_of
     (in_turn_by_part address length_read (λ a n. refl) (length_faults family) (full family))
@@ -269,7 +269,7 @@ abbrev IsSpelledChange : CidrChange → Type 0
 IsSpelledChange change = HasName change × HasFewBlocks change
 
 change_inner : Part (λ (p : (Bool × List ℕ) × List Prefix).
-    (⊤ × IsLocationName p.0.1) × AreListed IsPrefixed p.1)
+    (⊤ × IsLocationName p.0.1) × AreListable IsPrefixed p.1)
     (λ p. change_octets (changed p)) (λ p. cidr_change_fields (changed p))
     (in_turn (in_turn put_at location_at) (list_at block_at))
 change_inner = in_turn_part (in_turn_part put_part location_part) (list_part block_part)
@@ -283,7 +283,7 @@ change_part =
   where
     from : (change : CidrChange) → IsSpelledChange change
         → (p : (Bool × List ℕ) × List Prefix)
-        × ((⊤ × IsLocationName p.0.1) × AreListed IsPrefixed p.1) × (changed p ≡ change)
+        × ((⊤ × IsLocationName p.0.1) × AreListable IsPrefixed p.1) × (changed p ≡ change)
     from change h = (
       ((change.put, change.location), change.blocks),
       ((tt, h.0.name), record { count = h.1; each = h.0.prefixes }),
@@ -304,7 +304,7 @@ apart (change ∷ changes) each =
 
 -- ---- commands
 
-changing_part : Part (λ (p : ℕ × List CidrChange). ⊤ × AreListed IsSpelledChange p.1)
+changing_part : Part (λ (p : ℕ × List CidrChange). ⊤ × AreListable IsSpelledChange p.1)
     (λ p. field_octets (changing p)) (λ p. cidr_fields (changing p))
     (in_turn four_at (list_at change_at))
 changing_part = in_turn_part number_part (list_part change_part)
@@ -329,7 +329,7 @@ pub change_collection_part : Part (IsOfKind 8) field_octets cidr_fields change_c
 unfolding change_collection_at
 change_collection_part = seen_part changing changing_part into from cidr_spells
   where
-    into : (p : ℕ × List CidrChange) → ⊤ × AreListed IsSpelledChange p.1
+    into : (p : ℕ × List CidrChange) → ⊤ × AreListable IsSpelledChange p.1
         → IsOfKind 8 (changing p)
         × (field_octets (changing p) ≡ field_octets (changing p))
         × (cidr_fields (changing p) ≡ cidr_fields (changing p))
@@ -338,7 +338,7 @@ change_collection_part = seen_part changing changing_part into from cidr_spells
         (((split.0, (h.1.count, split.1)), refl), refl, refl)
 
     from : (command : CidrCommand) → IsOfKind 8 command
-        → (p : ℕ × List CidrChange) × (⊤ × AreListed IsSpelledChange p.1)
+        → (p : ℕ × List CidrChange) × (⊤ × AreListable IsSpelledChange p.1)
         × (changing p ≡ command)
     from (Create name) h = absurd (omega (arith, h.1))
     from (Change id changes) h = (

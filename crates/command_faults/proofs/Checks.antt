@@ -17,10 +17,10 @@ use Rattle.check_model.specs.declared.checks.CheckCommand.{CheckCommand}
 use Rattle.check_model.specs.declared.checks.CheckCommand.TheVariants.{Create, Update, Delete}
 use Rattle.check_model.specs.Commands.{IsThreshold}
 use Rattle.check_octets.specs.Octets as checks
-use Rattle.check_octets.specs.Octets.{tells_disabled, flag_octets, disabled_octets, check_octets, field_octets, IsTold, IsListable, IsSpelledCheck}
-use Rattle.check_reading.specs.Fields.{is_failures, failures_at, is_threshold, threshold_at, told_at, disabled_at, disabling_at, is_few, few_at, children_at}
+use Rattle.check_octets.specs.Octets.{spells_disabled, flag_octets, disabled_octets, check_octets, field_octets, IsSpelledOrLeft, IsListable, IsSpelledCheck}
+use Rattle.check_reading.specs.Fields.{is_failures, failures_at, is_threshold, threshold_at, spelled_at, disabled_at, disabling_at, is_few, few_at, children_at}
 use Rattle.check_reading.specs.Laws.{IsOfKind}
-use Rattle.check_reading.specs.Reading.{endpoint, endpoint_at, calculated, calculated_at, check_lines, check_at, create_at, updated, update_at, delete_at}
+use Rattle.check_reading.specs.Reading.{endpoint, endpoint_at, calculated, calculated_at, check_kinds, check_at, create_at, updated, update_at, delete_at}
 use Rattle.check_reading.proofs.Parts.{number_read, failures_read, threshold_read, children_read, told_read}
 use Rattle.fault_places.specs.Fields.{Field, spelling}
 use Rattle.fault_places.specs.Fields.Ending.{Sized}
@@ -28,7 +28,7 @@ use Rattle.fault_places.specs.Sets.{sized}
 use Rattle.fault_places.proofs.Composed.{nothing_faults, kinds_faults}
 use Rattle.fault_places.proofs.Leaves.{four_faults, flag_faults, tested_octet}
 use Rattle.fault_places.proofs.Steps.{Faults, one_field, alike_faults, then_faults}
-use Rattle.command_faults.specs.Commands.{flag_fields, two_fields, four_fields, list_fields, optional_fields, where_told, check_fields, health_fields}
+use Rattle.command_faults.specs.Commands.{flag_fields, two_fields, four_fields, list_fields, optional_fields, where_spelled, check_fields, health_fields}
 use Rattle.command_faults.proofs.Parts.{Part, one_part, in_turn_part, seen_part, alike_part, list_part, so_many_part, optional_part, tested_two}
 
 -- ---- numbers and flags
@@ -120,26 +120,26 @@ given_children = optional_part any_children
 told_faults : {A : Type 0} {is : A → Type 0} {octets_of : A → List ℕ} {fields : A → List Field}
     {read : Reader A} (told : Bool) (left : A) → Part is octets_of fields read
     → ((x : A) → is x)
-    → Faults (λ x. told ≡ false → x ≡ left) (λ x. where_told told (fields x))
-    (told_at told left read)
+    → Faults (λ x. told ≡ false → x ≡ left) (λ x. where_spelled told (fields x))
+    (spelled_at told left read)
 told_faults true left a each =
     alike_faults a.told
     (λ x h. (λ e. absurd (let k : true ≡ false = e in cc), refl)) (λ x h. each x)
 told_faults {A = A} {fields = fields} false left a each =
-    nothing_faults (λ x. false ≡ false → x ≡ left) (λ x. where_told false (fields x)) left
+    nothing_faults (λ x. false ≡ false → x ≡ left) (λ x. where_spelled false (fields x)) left
     (λ x h. refl)
 
 told_spells : {A : Type 0} (octets_of : A → List ℕ) (fields : A → List Field) (told : Bool)
     → ((x : A) → spelling (fields x) ≡ octets_of x) → (x : A)
-    → spelling (where_told told (fields x)) ≡ checks.where_told told (octets_of x)
+    → spelling (where_spelled told (fields x)) ≡ checks.where_spelled told (octets_of x)
 told_spells octets_of fields true spells x = spells x
 told_spells octets_of fields false spells x = refl
 
 told_part : {A : Type 0} {is : A → Type 0} {octets_of : A → List ℕ} {fields : A → List Field}
     {read : Reader A} (told : Bool) (left : A) → Part is octets_of fields read
     → ((x : A) → is x)
-    → Part (λ x. told ≡ false → x ≡ left) (λ x. checks.where_told told (octets_of x))
-    (λ x. where_told told (fields x)) (told_at told left read)
+    → Part (λ x. told ≡ false → x ≡ left) (λ x. checks.where_spelled told (octets_of x))
+    (λ x. where_spelled told (fields x)) (spelled_at told left read)
 told_part {octets_of = octets_of} {fields = fields} told left a each = record {
   reads = told_read told left a.reads each;
   spells = told_spells octets_of fields told a.spells;
@@ -148,17 +148,17 @@ told_part {octets_of = octets_of} {fields = fields} told left a each = record {
   is_some = λ e. refl;
 }
 
-disabled_part : (version : ℕ) → Part (IsTold version false) (disabled_octets version)
-    (λ disabled. where_told (tells_disabled version) (flag_fields disabled)) (disabled_at version)
+disabled_part : (version : ℕ) → Part (IsSpelledOrLeft version false) (disabled_octets version)
+    (λ disabled. where_spelled (spells_disabled version) (flag_fields disabled)) (disabled_at version)
 unfolding disabled_at
-disabled_part version = told_part (tells_disabled version) false flag_part (λ flag. tt)
+disabled_part version = told_part (spells_disabled version) false flag_part (λ flag. tt)
 
-disabling_part : (version : ℕ) → Part (IsTold version None)
-    (λ disabled. checks.where_told (tells_disabled version) (optional_octets flag_octets disabled))
-    (λ disabled. where_told (tells_disabled version) (optional_fields flag_fields disabled))
+disabling_part : (version : ℕ) → Part (IsSpelledOrLeft version None)
+    (λ disabled. checks.where_spelled (spells_disabled version) (optional_octets flag_octets disabled))
+    (λ disabled. where_spelled (spells_disabled version) (optional_fields flag_fields disabled))
     (disabling_at version)
 unfolding disabling_at
-disabling_part version = told_part (tells_disabled version) None inverting_part (λ flag. tt)
+disabling_part version = told_part (spells_disabled version) None inverting_part (λ flag. tt)
 
 -- ---- checks
 
@@ -201,7 +201,7 @@ endpoint_part version =
     (later_spells version)
   where
     from : (check : Check) → IsCheckOf version 1 check
-        → (p : (ℕ × Bool) × Bool) × ((((1 ≤ p.0.0) × (p.0.0 ≤ 10)) × ⊤) × IsTold version false p.1)
+        → (p : (ℕ × Bool) × Bool) × ((((1 ≤ p.0.0) × (p.0.0 ≤ 10)) × ⊤) × IsSpelledOrLeft version false p.1)
         × (endpoint p ≡ check)
     from (Endpoint threshold inverted disabled) h =
         (((threshold, inverted), disabled), ((h.0.bounded, tt), h.0.told), refl)
@@ -219,7 +219,7 @@ calculated_part version =
   where
     from : (check : Check) → IsCheckOf version 2 check
         → (p : ((ℕ × Bool) × Bool) × List ℕ)
-        × ((((p.0.0.0 ≤ 256) × ⊤) × IsTold version false p.0.1) × (length p.1 ≤ 255))
+        × ((((p.0.0.0 ≤ 256) × ⊤) × IsSpelledOrLeft version false p.0.1) × (length p.1 ≤ 255))
         × (calculated p ≡ check)
     from (Endpoint threshold inverted disabled) h = absurd (omega (arith, h.1))
     from (Calculated threshold inverted disabled children) h = (
@@ -228,7 +228,7 @@ calculated_part version =
       refl,
     )
 
-has_line : (version : ℕ) (check : Check) → has_kind (check_lines version) (check_kind check) ≡ true
+has_line : (version : ℕ) (check : Check) → has_kind (check_kinds version) (check_kind check) ≡ true
 has_line version (Endpoint threshold inverted disabled) = refl
 has_line version (Calculated threshold inverted disabled children) = refl
 
@@ -251,14 +251,14 @@ check_part version =
     record {
       reads = alike
           (kinds_read check_kind (IsSpelledCheck version) (octets_later version)
-          (check_lines version) (e.reads, (c.reads, tt)) (λ check h. has_line version check))
+          (check_kinds version) (e.reads, (c.reads, tt)) (λ check h. has_line version check))
           (λ check h. (h, kind_octets version check)) (λ check h. h);
       spells = λ check.
           ap spelling (sym (kind_fields version check))
           ∙ ap (λ t. check_kind check ∷ t) (later_spells version check)
           ∙ kind_octets version check;
       told = alike_faults
-          (kinds_faults check_kind (IsSpelledCheck version) (later version) (check_lines version)
+          (kinds_faults check_kind (IsSpelledCheck version) (later version) (check_kinds version)
           ((e.told, (e.some, e.is_some)), ((c.told, (c.some, c.is_some)), tt)) 1 refl
           (λ check h. has_line version check))
           (λ check h. (h, kind_fields version check)) (λ check h. h);
@@ -270,7 +270,7 @@ check_part version =
 
 update_inner : (version : ℕ) → Part
     (λ (p : (((ℕ × Option Bool) × Option Bool) × Option ℕ) × Option (List ℕ)).
-    ((((⊤ × ⊤) × IsTold version None p.0.0.1) × IsThreshold p.0.1) × WhereSome IsListable p.1))
+    ((((⊤ × ⊤) × IsSpelledOrLeft version None p.0.0.1) × IsThreshold p.0.1) × WhereSome IsListable p.1))
     (λ p. field_octets version (updated p)) (λ p. health_fields version (updated p))
     (in_turn (in_turn (in_turn (in_turn four_at (optional_at flag_at)) (disabling_at version))
     (optional_at threshold_at)) (optional_at (list_at four_at)))
@@ -310,7 +310,7 @@ update_part version =
   where
     from : (command : CheckCommand) → IsOfKind version 5 command
         → (p : (((ℕ × Option Bool) × Option Bool) × Option ℕ) × Option (List ℕ))
-        × ((((⊤ × ⊤) × IsTold version None p.0.0.1) × IsThreshold p.0.1) × WhereSome IsListable p.1)
+        × ((((⊤ × ⊤) × IsSpelledOrLeft version None p.0.0.1) × IsThreshold p.0.1) × WhereSome IsListable p.1)
         × (updated p ≡ command)
     from (Create check) h = absurd (omega (arith, h.1))
     from (Update id inverted disabled threshold children) h = (

@@ -5,9 +5,9 @@ use Rattle.std.specs.List.{flat_map}
 use Rattle.std.proofs.lemmas.Bool.{eqb-true}
 use Rattle.octets.specs.Numbers.{two_octets, four_octets}
 use Rattle.octet_reading.specs.Names.{name_at}
-use Rattle.octet_reading.specs.Readers.{Reader, seen, in_turn, in_turn_by, list_at, kinds, has_kind}
+use Rattle.octet_reading.specs.Readers.{Reader, mapped, in_turn, in_turn_by, list_at, kinds, has_kind}
 use Rattle.octet_reading.specs.Reading.{four_at}
-use Rattle.octet_reading.specs.Rules.{IsReadAs, AreListed, list_octets}
+use Rattle.octet_reading.specs.Rules.{IsReadAs, AreListable, list_octets}
 use Rattle.octet_reading.proofs.Base.{octet_read, name_read}
 use Rattle.octet_reading.proofs.OfKind.{LinesRead, kinds_read}
 use Rattle.octet_reading.proofs.Optional.{meaning_read, numbered_is}
@@ -124,7 +124,7 @@ head_part = in_turn_part action_part number_part
 
 -- changes whose sets have as many octets as you like
 abbrev pub any_change_at : Reader Change
-any_change_at octets = seen changed (in_turn (in_turn action_at four_at) sets.set_at) octets
+any_change_at octets = mapped changed (in_turn (in_turn action_at four_at) sets.set_at) octets
 
 pub change_part : Part IsChangeInGrammar change_octets change_fields any_change_at
 change_part =
@@ -154,9 +154,9 @@ create_inner : Part (λ (p : List (List ℕ) × List (List (List ℕ))). IsName 
 create_inner = in_turn_part name_part servers_part
 
 abbrev pub any_batch_at : Reader Command
-any_batch_at octets = seen batched (in_turn four_at (list_at any_change_at)) octets
+any_batch_at octets = mapped batched (in_turn four_at (list_at any_change_at)) octets
 
-batch_inner : Part (λ (p : ℕ × List Change). ⊤ × AreListed IsChangeInGrammar p.1)
+batch_inner : Part (λ (p : ℕ × List Change). ⊤ × AreListable IsChangeInGrammar p.1)
     (λ p. four_octets p.0 ++ list_octets change_octets p.1)
     (λ p. sized (four_octets p.0) ∷ list_fields change_fields p.1)
     (in_turn four_at (list_at any_change_at))
@@ -236,7 +236,7 @@ batch_part version =
     )) from (spells version)
   where
     from : (what : Command) → IsOfKind version 3 what
-        → (p : ℕ × List Change) × (⊤ × AreListed IsChangeInGrammar p.1) × (batched p ≡ what)
+        → (p : ℕ × List Change) × (⊤ × AreListable IsChangeInGrammar p.1) × (batched p ≡ what)
     from (command.CreateZone name servers) h = absurd (grind (arith, h.1))
     from (command.DeleteZone zone) h = absurd (grind (arith, h.1))
     from (command.Change batch) h =
@@ -248,7 +248,7 @@ health_part : {read : Reader CheckCommand} (version kind : ℕ) → IsAmong 4 6 
     → Part (check_laws.IsOfKind version kind) (checks.field_octets version)
     (λ what. later_fields version (command.Health what)) read
     → Part (IsOfKind version kind) (field_octets version) (later_fields version)
-    (seen command.Health read)
+    (mapped command.Health read)
 health_part version kind k inside =
     seen_part command.Health inside (λ what h. (h, refl, refl)) from (spells version)
   where
@@ -264,7 +264,7 @@ health_part version kind k inside =
 cidr_part : {read : Reader CidrCommand} (kind : ℕ) → IsAmong 7 9 kind
     → Part (block_laws.IsOfKind kind) collections.field_octets
     (λ what. later_fields 2 (command.Cidr what)) read
-    → Part (IsOfKind 2 kind) (field_octets 2) (later_fields 2) (seen command.Cidr read)
+    → Part (IsOfKind 2 kind) (field_octets 2) (later_fields 2) (mapped command.Cidr read)
 cidr_part kind k inside =
     seen_part command.Cidr inside (λ what h. (((refl, h.0), h.1), refl, refl)) from (spells 2)
   where

@@ -6,7 +6,7 @@ use Rattle.std.proofs.lemmas.Bool.{eqb-true, ltb-true, lt-ltb}
 use Rattle.std.proofs.Math.Seq.{drop-append_seam}
 use Rattle.octets.specs.Numbers.{two_octets, four_octets}
 use Rattle.rdata_layout.specs.Names.{AreOctets}
-use Rattle.octet_reading.specs.Readers.{Reader, seen, in_turn, so_many, list_at, kinds}
+use Rattle.octet_reading.specs.Readers.{Reader, mapped, in_turn, so_many, list_at, kinds}
 use Rattle.octet_reading.specs.Reading.{◌>>=◌, two_at, four_at}
 use Rattle.octet_reading.specs.Rules.{IsReadAs}
 use Rattle.octet_reading.proofs.Base.{two_read}
@@ -21,7 +21,7 @@ use Rattle.command_octets.specs.ActionRecord.{Action}
 use Rattle.command_octets.specs.ChangeRecord.{Change}
 use Rattle.command_octets.specs.declared.commands.Command.{Command}
 use Rattle.command_octets.specs.Octets.{action_number, change_octets, IsVersion}
-use Rattle.command_codec.specs.Reading.{version_at, action_at, behind_set, set_at, changed, change_at, batched, batch_at, lines, command_at, front_at}
+use Rattle.command_codec.specs.Reading.{version_at, action_at, behind_set, set_at, changed, change_at, batched, batch_at, kind_table, command_at, versioned_at}
 use Rattle.command_codec.proofs.Fields.{version_read, set_read}
 use Rattle.fault_places.specs.Sets.{IsInGrammar}
 use Rattle.command_faults.specs.Commands.{IsWholeChange, HasLongSetAt}
@@ -113,7 +113,7 @@ unfolding set_at sets.read
 sets_agree octets are = go (sets.set_at octets) refl
   where
     go : (r : Result (RecordSet × List ℕ) ℕ) → sets.set_at octets ≡ r
-        → Agree (BeginsLong octets) (behind_set octets (sets.placed (length octets) r)) r
+        → Agree (BeginsLong octets) (behind_set octets (sets.by_place (length octets) r)) r
     go (Ok x) e =
         let s = set_part.reads.stands octets x.0 x.1 are e in
         by_length octets x (nat_lt most_octets (length octets - length x.1)) refl s.0 s.1
@@ -131,7 +131,7 @@ long_is_told octets left b =
     let long : nat_lt most_octets (length octets - length b.rest) ≡ true =
     lt-ltb most_octets (length octets - length b.rest) (omega (arith, size, b.long)) in
     let all : length octets - 0 ≡ left = omega (arith, b.from) in
-    ap (λ r. behind_set octets (sets.placed (length octets) r)) read
+    ap (λ r. behind_set octets (sets.by_place (length octets) r)) read
     ∙ ap (λ t. limited octets t (b.set, b.rest)) long ∙ ap Err all
 
 -- ---- changes
@@ -171,7 +171,7 @@ change_is_told : (octets : List ℕ) (left : ℕ) → ChangesLong octets left
     → change_at octets ≡ Err left
 unfolding change_at
 change_is_told octets left c =
-    ap (λ t. seen changed (in_turn (in_turn action_at four_at) set_at) t) c.parts
+    ap (λ t. mapped changed (in_turn (in_turn action_at four_at) set_at) t) c.parts
     ∙ ap (λ (r : Result ((Action × ℕ) × List ℕ) ℕ).
     as_change (r >>= λ x. with_set x.0 (set_at x.1)))
     (head_part.reads.again c.head c.inner (tt, tt))
@@ -334,7 +334,7 @@ batch_told : (octets : List ℕ) (left : ℕ) → BatchLong octets left → batc
 unfolding batch_at
 batch_told octets left b =
     let a = b.among in
-    ap (λ t. seen batched (in_turn four_at (list_at change_at)) t) b.parts
+    ap (λ t. mapped batched (in_turn four_at (list_at change_at)) t) b.parts
     ∙ ap (λ (r : Result (ℕ × List ℕ) ℕ).
     as_batch (r >>= λ x. with_changes x.0 (list_at change_at x.1)))
     (number_part.reads.again b.zone (two_octets b.count ++ b.inner) tt)
@@ -375,7 +375,7 @@ command_told : (version : ℕ) (octets : List ℕ) (left : ℕ) → CommandLong 
     → command_at version octets ≡ Err left
 unfolding command_at
 command_told version octets left c =
-    ap (λ t. kinds (lines version) t) c.1 ∙ batch_told c.0 left c.2
+    ap (λ t. kinds (kind_table version) t) c.1 ∙ batch_told c.0 left c.2
 
 abbrev FrontLong : List ℕ → ℕ → Type 0
 FrontLong octets left =
@@ -383,8 +383,8 @@ FrontLong octets left =
     × CommandLong rest left
 
 pub front_agrees : (octets : List ℕ) → AreOctets octets
-    → Agree (FrontLong octets) (front_at octets) (any_front_at octets)
-unfolding front_at
+    → Agree (FrontLong octets) (versioned_at octets) (any_front_at octets)
+unfolding versioned_at
 front_agrees octets are =
     agree_behind (FrontLong octets) (version_at octets)
     (λ x. command_at x.0 x.1 >>= λ y. Ok ((x.0, y.0), y.1))
@@ -400,8 +400,8 @@ front_agrees octets are =
 abbrev with_command : ℕ → Result (Command × List ℕ) ℕ → Result ((ℕ × Command) × List ℕ) ℕ
 with_command version r = r >>= λ y. Ok ((version, y.0), y.1)
 
-front_told : (octets : List ℕ) (left : ℕ) → FrontLong octets left → front_at octets ≡ Err left
-unfolding front_at
+front_told : (octets : List ℕ) (left : ℕ) → FrontLong octets left → versioned_at octets ≡ Err left
+unfolding versioned_at
 front_told octets left f =
     ap (λ t. version_at t >>= λ x. with_command x.0 (command_at x.0 x.1)) f.3
     ∙ ap (λ (r : Result (ℕ × List ℕ) ℕ). r >>= λ x. with_command x.0 (command_at x.0 x.1))
@@ -474,7 +474,7 @@ long_of octets left f =
     )
 
 pub long_is_front : (octets : List ℕ) (place : ℕ) → HasLongSetAt octets place
-    → (left : ℕ) × (front_at octets ≡ Err left) × (place + left ≡ length octets)
+    → (left : ℕ) × (versioned_at octets ≡ Err left) × (place + left ≡ length octets)
 long_is_front octets place h =
     let inner = set_octets h.set ++ h.rest in
     let front = ahead h.version h.zone h.count h.changes h.action h.characters in (

@@ -2,9 +2,9 @@
 use Rattle.std.proofs.Common.{◌≡◌, ℕ, zero, suc, ◌*◌, ◌+◌, inl, inr, Bool, true, false, List, [], ◌∷◌, ◌++◌, length, arith, ap, ◌∙◌, sym, refl, cond, append-nil, Option, None, Some, Ok, Err}
 use Rattle.std.specs.List.{AllByRecursion, flat_map}
 use Rattle.octets.specs.Numbers.{two_octets}
-use Rattle.octet_reading.specs.Readers.{Reader, seen, in_turn, in_turn_by, so_many, list_at, optional_at, tested}
+use Rattle.octet_reading.specs.Readers.{Reader, mapped, in_turn, in_turn_by, so_many, list_at, optional_at, tested}
 use Rattle.octet_reading.specs.Reading.{two_at}
-use Rattle.octet_reading.specs.Rules.{IsReadAs, AreListed, WhereSome, flag_octet, list_octets, optional_octets}
+use Rattle.octet_reading.specs.Rules.{IsReadAs, AreListable, WhereSome, flag_octet, list_octets, optional_octets}
 use Rattle.octet_reading.proofs.Composed.{in_turn_read, in_turn_by_read, so_many_read}
 use Rattle.octet_reading.proofs.Optional.{list_read, optional_read}
 use Rattle.octet_reading.proofs.Rules.{err_is, alike, seen_read}
@@ -80,7 +80,7 @@ pub seen_part : {A C : Type 0} {is : A → Type 0} {octets_of : A → List ℕ} 
     → ((x : A) → is x → view_is (view x) × (octets_of x ≡ views_of (view x)) × (fields x ≡ views (view x)))
     → ((c : C) → view_is c → (x : A) × is x × (view x ≡ c))
     → ((c : C) → spelling (views c) ≡ views_of c)
-    → Part view_is views_of views (seen view read)
+    → Part view_is views_of views (mapped view read)
 seen_part {read = read} view a into from spells = record {
   reads = seen_read view a.reads (λ x h. let i = into x h in (i.0, i.1)) from;
   spells = spells;
@@ -114,7 +114,7 @@ flat_spelled octets_of fields spells (x ∷ xs) =
 
 module _ {A : Type 0} {is : A → Type 0} {octets_of : A → List ℕ} {fields : A → List Field}
     {read : Reader A} (a : Part is octets_of fields read) where
-  pub list_part : Part (AreListed is) (list_octets octets_of) (list_fields fields) (list_at read)
+  pub list_part : Part (AreListable is) (list_octets octets_of) (list_fields fields) (list_at read)
   list_part = record {
     reads = list_read a.reads;
     spells = λ xs. ap (λ t. two_octets (length xs) ++ t) (flat_spelled octets_of fields a.spells xs);

@@ -2,7 +2,7 @@
 use Rattle.std.proofs.Common.{◌≡◌, ℕ, ◌+◌, ◌-◌, ◌≤◌, ◌<◌, inl, inr, Bool, true, false, List, [], ◌∷◌, ◌++◌, length, arith, ap, ◌∙◌, sym, refl, subst, eqb, cond, length-append, Result, Ok, Err}
 use Rattle.std.proofs.lemmas.Bool.{eqb-true}
 use Rattle.rdata_layout.specs.Names.{AreOctets}
-use Rattle.octet_reading.specs.Readers.{alone, placed}
+use Rattle.octet_reading.specs.Readers.{alone, by_place}
 use Rattle.octet_reading.specs.Reading.{◌>>=◌}
 use Rattle.octet_reading.specs.Rules.{IsReadAs}
 use Rattle.octet_reading.proofs.Rules.{err_is}
@@ -11,7 +11,7 @@ use Rattle.set_reading.proofs.Whole.{written_reads_back, sets_are_told}
 use Rattle.check_reading.proofs.Commands as checks
 use Rattle.block_reading.proofs.Commands as blocks
 use Rattle.command_octets.specs.declared.commands.Command.{Command}
-use Rattle.command_codec.specs.Reading.{front_at, unversioned, read}
+use Rattle.command_codec.specs.Reading.{versioned_at, unversioned, read}
 use Rattle.command_codec.proofs.Fields.{IsIn, octets_in, front_read}
 use Rattle.fault_places.specs.Fields.{Field, StandsBehind, StopsIn, led_by}
 use Rattle.fault_places.proofs.Places.{none_begins, one_stop}
@@ -27,21 +27,21 @@ commands_are_fields versioned = sym (front_part.spells versioned)
 pub no_field_is_empty : NoFieldIsEmpty
 no_field_is_empty = front_part.told.places.filled
 
-front : IsReadAs IsIn octets_in front_at
+front : IsReadAs IsIn octets_in versioned_at
 front = front_read (written_reads_back fields_are_read) (sets_are_told fields_are_read)
     checks.commands_read blocks.commands_read
 
 -- ---- octets as a whole
 
 abbrev answer : (octets : List ℕ) → Result ((ℕ × Command) × List ℕ) ℕ → Result Command ℕ
-answer octets parts = unversioned (placed (length octets) (parts >>= alone))
+answer octets parts = unversioned (by_place (length octets) (parts >>= alone))
 
-read_is : (octets : List ℕ) → read octets ≡ answer octets (front_at octets)
+read_is : (octets : List ℕ) → read octets ≡ answer octets (versioned_at octets)
 unfolding read
 read_is octets = refl
 
 -- where reading its front stops
-front_stops : (octets : List ℕ) (place left : ℕ) → front_at octets ≡ Err left
+front_stops : (octets : List ℕ) (place left : ℕ) → versioned_at octets ≡ Err left
     → place + left ≡ length octets → read octets ≡ Err place
 front_stops octets place left e size =
     let same : length octets - left ≡ place = omega (arith, size) in
@@ -57,15 +57,15 @@ some_is n some = go (eqb n 0) refl
 behind_it : (octets surplus : List ℕ) (what : ℕ × Command) → 0 < length surplus
     → answer octets (Ok (what, surplus)) ≡ Err (length octets - length surplus)
 behind_it octets surplus what some =
-    ap (λ b. unversioned (placed (length octets)
+    ap (λ b. unversioned (by_place (length octets)
     (cond {A = Result (ℕ × Command) ℕ} b (Ok what) (Err (length surplus)))))
     (some_is (length surplus) some)
 
 surplus_is_told : (octets : List ℕ) (place : ℕ) → HasSurplusAt octets place
     → read octets ≡ Err place
 surplus_is_told octets place s =
-    let parts : front_at octets ≡ Ok ((s.spells.version, s.command), s.surplus) =
-    ap front_at (s.parts ∙ ap (λ t. t ++ s.surplus) s.spells.spelled)
+    let parts : versioned_at octets ≡ Ok ((s.spells.version, s.command), s.surplus) =
+    ap versioned_at (s.parts ∙ ap (λ t. t ++ s.surplus) s.spells.spelled)
     ∙ front.again (s.spells.version, s.command) s.surplus
     (s.spells.is_version, (s.spells.is, s.spells.has_spelling)) in
     let same : length octets - length s.surplus ≡ place =
@@ -75,7 +75,7 @@ surplus_is_told octets place s =
 
 -- ---- what reading tells
 
-none_before : (octets : List ℕ) (place left : ℕ) → front_at octets ≡ Err left
+none_before : (octets : List ℕ) (place left : ℕ) → versioned_at octets ≡ Err left
     → place + left ≡ length octets → (other : ℕ) → HasLongSetAt octets other → other < place → ⊥
 none_before octets place left e size other h less =
     let f = long_is_front octets other h in
@@ -83,7 +83,7 @@ none_before octets place left e size other h less =
     err_is {A = (ℕ × Command) × List ℕ} f.0 left (sym f.1 ∙ e) in
     let k : ⊥ = omega (arith, same, f.2, size, less) in k
 
-told_by_front : (octets : List ℕ) (place left : ℕ) → AreOctets octets → front_at octets ≡ Err left
+told_by_front : (octets : List ℕ) (place left : ℕ) → AreOctets octets → versioned_at octets ≡ Err left
     → place + left ≡ length octets → HasFaultAt octets place
 told_by_front octets place left are e size =
     elim (front_agrees octets are) [
@@ -104,7 +104,7 @@ told_by_front octets place left are e size =
     ]
 
 told : (octets : List ℕ) (place : ℕ) (parts : Result ((ℕ × Command) × List ℕ) ℕ) → AreOctets octets
-    → front_at octets ≡ parts → answer octets parts ≡ Err place → HasFaultAt octets place
+    → versioned_at octets ≡ parts → answer octets parts ≡ Err place → HasFaultAt octets place
 told octets place (Ok (what, [])) are f e =
     absurd (let k : Ok what.1 ≡ Err place = e in cc)
 told octets place (Ok (what, b ∷ surplus)) are f e =
@@ -173,7 +173,7 @@ has_told octets place are (inr (inr s)) = surplus_is_told octets place s
 
 pub command_faults_as_told : CommandFaultsAsTold
 command_faults_as_told octets place are = (
-  (λ e. told octets place (front_at octets) are refl (sym (read_is octets) ∙ e)),
+  (λ e. told octets place (versioned_at octets) are refl (sym (read_is octets) ∙ e)),
   has_told octets place are,
 )
 

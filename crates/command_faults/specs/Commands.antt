@@ -6,7 +6,7 @@ use Rattle.set_reading.specs.Labels.{wire}
 use Rattle.set_reading.specs.Octets.{set_octets, most_octets}
 use Rattle.set_reading.specs.RecordSetRecord.{RecordSet}
 use Rattle.check_octets.specs.Rules.{flag_octet, text_octets}
-use Rattle.check_octets.specs.Octets.{tells_disabled}
+use Rattle.check_octets.specs.Octets.{spells_disabled}
 use Rattle.check_octets.specs.Octets as checks
 use Rattle.check_model.specs.declared.checks.Check.{Check}
 use Rattle.check_model.specs.declared.checks.Check.TheVariants as check
@@ -47,18 +47,18 @@ optional_fields fields None = sized (0 ∷ []) ∷ []
 optional_fields fields (Some x) = sized (1 ∷ []) ∷ fields x
 
 -- fields that stand there where they are told
-abbrev pub where_told : (told : Bool) → List Field → List Field
-where_told true fields = fields
-where_told false fields = []
+abbrev pub where_spelled : (told : Bool) → List Field → List Field
+where_spelled true fields = fields
+where_spelled false fields = []
 
 -- a check: its kind, its threshold, and flags; for a calculated one its children
 abbrev pub check_fields : (version : ℕ) → Check → List Field
 check_fields version (check.Endpoint threshold inverted disabled) =
     sized (1 ∷ []) ∷ sized (threshold ∷ []) ∷ sized (flag_octet inverted ∷ [])
-    ∷ where_told (tells_disabled version) (flag_fields disabled)
+    ∷ where_spelled (spells_disabled version) (flag_fields disabled)
 check_fields version (check.Calculated threshold inverted disabled children) =
     sized (2 ∷ []) ∷ sized (two_octets threshold) ∷ sized (flag_octet inverted ∷ [])
-    ∷ (where_told (tells_disabled version) (flag_fields disabled)
+    ∷ (where_spelled (spells_disabled version) (flag_fields disabled)
     ++ list_fields four_fields children)
 
 -- a command on checks: a check; a number, and what is given; or a number
@@ -66,7 +66,7 @@ abbrev pub health_fields : (version : ℕ) → CheckCommand → List Field
 health_fields version (check_command.Create check) = check_fields version check
 health_fields version (check_command.Update id inverted disabled threshold children) =
     sized (four_octets id) ∷ (((optional_fields flag_fields inverted
-    ++ where_told (tells_disabled version) (optional_fields flag_fields disabled))
+    ++ where_spelled (spells_disabled version) (optional_fields flag_fields disabled))
     ++ optional_fields two_fields threshold)
     ++ optional_fields (list_fields four_fields) children)
 health_fields version (check_command.Delete id) = four_fields id

@@ -27,5 +27,5 @@ pub use Rattle.block_octets.specs.Prefixes
 pub use Rattle.block_octets.specs.CidrChangeRecord
 pub use Rattle.check_octets.specs.Octets as OctetsOfCheckOctets
 pub use Rattle.block_octets.specs.CidrLocationRecord
-pub use Rattle.batch_model.specs.Placed
+pub use Rattle.batch_model.specs.Slotted
 pub use Rattle.batch_model.specs.Differences

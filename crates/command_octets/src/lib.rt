@@ -9,7 +9,8 @@ mod spelling;
 mod writing;
 
 pub use batch_model::{
-    Action, Batch, BatchRefusal, Change, Changes, key_cmp, keys_are_ordered, one_answer, zones_stay,
+    Action, Batch, BatchRefusal, Change, Changes, key_cmp, keys_are_ordered, one_batch_outcome,
+    zones_stay,
 };
 pub use block_octets::{
     CidrCommand, CidrFault, Ident, commands_keep_sound, commands_keep_used, has_cidr_spelling,

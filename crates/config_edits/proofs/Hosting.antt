@@ -18,11 +18,11 @@ use Rattle.zone_table.specs.Zones.{AreListed, AreZones, IsOne, IsZoneId, Zone, h
 use Rattle.config_model.proofs.Ordered.{keys_total}
 use Rattle.config_model.specs.Hosted.{HostedZone}
 use Rattle.config_model.specs.Keys.{key_cmp}
-use Rattle.config_model.specs.Placed.{Placed, sets_of}
+use Rattle.config_model.specs.Slotted.{Slotted, sets_of}
 use Rattle.config_model.specs.Zones.{IsAmong, IsRising}
 use Rattle.zone_table.specs.Edits.{Edits}
 use Rattle.zone_table.specs.Looking.{IsApex}
-use Rattle.zone_table.specs.declared.edits.ZoneEdit.TheVariants.{Change, Close, Open}
+use Rattle.zone_table.specs.declared.edits.ZoneEdit.TheVariants.{Change, End, Begin}
 use Rattle.zone_table.specs.declared.refs.Delta.{Delta}
 use Rattle.config_model.specs.Configs.{with_sets, with_sets_at, without_zone}
 use Rattle.config_edits.specs.Laws.{EditsAreTold, changed_in, hosted_in}
@@ -188,7 +188,7 @@ seen_as : (zones : List Zone) → AreListed zones → (x : Zone) → IsOne zones
 seen_as zones listed x there id name its_id its_apex =
     ap (λ (n : ℕ). record { id = n; apex = x.apex; sets = sets_of x.placed }) its_id
     ∙ (ap (λ (a : List (List ℕ)). record { id = id; apex = a; sets = sets_of x.placed }) its_apex
-    ∙ ap (λ (ps : List Placed). record { id = id; apex = name; sets = sets_of ps })
+    ∙ ap (λ (ps : List Slotted). record { id = id; apex = name; sets = sets_of ps })
     (sym (its_placed zones listed x there) ∙ ap (placed_in zones) its_id))
 
 -- ---- a zone that is changed
@@ -284,7 +284,7 @@ among_none sets rising =
 module _ (before after : List Zone) (id : ℕ) (name : List (List ℕ)) (sets : List RecordSet)
     (told : Delta) (are : AreZones before) (are_after : AreZones after)
     (below : (zone : Zone) → IsOne before zone → zone.id < id) (rising : IsRising sets)
-    (edits : Edits before (Open id name sets) after told) where
+    (edits : Edits before (Begin id name sets) after told) where
   abbrev new : HostedZone
   new = record { id = id; apex = name; sets = sets }
 
@@ -341,7 +341,7 @@ module _ (before after : List Zone) (id : ℕ) (name : List (List ℕ)) (sets : 
 -- ---- a zone that is closed
 
 module _ (before after : List Zone) (id : ℕ) (told : Delta) (are : AreZones before)
-    (are_after : AreZones after) (edits : Edits before (Close id) after told) where
+    (are_after : AreZones after) (edits : Edits before (End id) after told) where
   abbrev stays : HostedZone → Bool
   stays zone = not (zone.id == id)
 

@@ -5,10 +5,10 @@ use Rattle.config_model.specs.SetKeyRecord.{SetKey}
 use Rattle.zone_table.specs.Changes.{with_all, without_all}
 use Rattle.zone_table.specs.Zones.{AreZones, IsOne, IsZoneId, Zone, hosted, placed_in}
 use Rattle.config_model.specs.Hosted.{HostedZone}
-use Rattle.config_model.specs.Placed.{sets_of}
+use Rattle.config_model.specs.Slotted.{sets_of}
 use Rattle.config_model.specs.Zones.{IsRising}
 use Rattle.zone_table.specs.Edits.{Edits}
-use Rattle.zone_table.specs.declared.edits.ZoneEdit.TheVariants.{Change, Close, Open}
+use Rattle.zone_table.specs.declared.edits.ZoneEdit.TheVariants.{Change, End, Begin}
 use Rattle.zone_table.specs.declared.refs.Delta.{Delta}
 use Rattle.config_model.specs.Configs.{with_sets, without_zone}
 
@@ -31,10 +31,10 @@ pub record EditsAreTold : Type 0 where
   pub opened : (before after : List Zone) (id : ℕ) (name : List (List ℕ)) (sets : List RecordSet)
       (told : Delta) → AreZones before → AreZones after
       → ((zone : Zone) → IsOne before zone → zone.id < id) → IsRising sets
-      → Edits before (Open id name sets) after told
+      → Edits before (Begin id name sets) after told
       → hosted_in after
       ≡ hosted_in before ++ record { id = id; apex = name; sets = sets } ∷ []
   -- and one that is closed is gone
   pub closed : (before after : List Zone) (id : ℕ) (told : Delta) → AreZones before
-      → AreZones after → Edits before (Close id) after told
+      → AreZones after → Edits before (End id) after told
       → hosted_in after ≡ without_zone (hosted_in before) id

@@ -22,7 +22,7 @@ pub use Rattle.zone_table.specs.WatchRecord
 pub use Rattle.config_model.specs.OctetsOfSetOctets as Octets
 pub use Rattle.config_model.specs.Differences
 pub use Rattle.config_model.specs.Hosted
-pub use Rattle.config_model.specs.Placed
+pub use Rattle.config_model.specs.Slotted
 pub use Rattle.config_model.specs.Zones as ZonesOfZoneModel
 pub use Rattle.config_model.specs.RecordSetRecord
 pub use Rattle.zone_table.specs.Laws as LawsOfZoneTable

@@ -22,7 +22,7 @@ use Rattle.r53_state.specs.Octets.{snapshot}
 use Rattle.store_model.specs.Laws.{PlanBegins, StandingPlace}
 use Rattle.store_model.specs.Leaving.{IsPlanFor}
 use Rattle.zone_journal.specs.Compacting.{Begins, with_plan}
-use Rattle.zone_journal.specs.Pairs.{Leaves}
+use Rattle.zone_journal.specs.Pairs.{BothRead}
 use Rattle.zone_journal.specs.Standing.{State as Journal, StandsOn, progress_of, progress_with}
 use Rattle.zone_journal.specs.declared.answers.Progress.{Progress}
 use Rattle.zone_journal.specs.declared.answers.Begun.TheVariants as begins
@@ -101,7 +101,7 @@ module _ (old mid : State) (none : old.journal.plan ≡ None) (config : mid.conf
   pub holds_begun : Sound (config_of old) → PlanBegins → {D : Type 0}
       → (reading : D → Option (List ℕ)) → (images : D → List ℕ → Type 0)
       → StandingPlace reading images → (a b : D) → StandsOn reading images old.journal a b
-      → Leaves reading a b (Holds old) → Leaves reading a b (Holds mid)
+      → BothRead reading a b (Holds old) → BothRead reading a b (Holds mid)
   holds_begun sound law reading images place a b stands held = record {
     x = held.x;
     y = held.y;

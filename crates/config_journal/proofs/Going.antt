@@ -16,7 +16,7 @@ use Rattle.r53_disk.specs.Disk.{Rests}
 use Rattle.r53_state.specs.States.{State as Kept, config_in}
 use Rattle.store_model.specs.Laws.{PiecesFollow, StandingOpens}
 use Rattle.store_model.specs.Opening.{OpensConfig}
-use Rattle.zone_journal.specs.Pairs.{EachPair, Leaves, active_of}
+use Rattle.zone_journal.specs.Pairs.{EachPair, BothRead, active_of}
 use Rattle.zone_journal.specs.Standing.{State as Journal, StandsOn}
 use Rattle.zone_journal.specs.declared.answers.Side.{Side}
 
@@ -111,8 +111,8 @@ module _ {D : Type 0} (reading : D → Option (List ℕ)) (images : D → List �
     pub in_progress : IsSome now.journal.plan
     pub side : now.journal.side ≡ start.journal.side
     pub stands : StandsOn reading images now.journal a b
-    pub holds : Leaves reading a_old b_old (Holds start) → Leaves reading a b (Holds now)
-    pub any_moment : Leaves reading a_old b_old (Holds start)
+    pub holds : BothRead reading a_old b_old (Holds start) → BothRead reading a b (Holds now)
+    pub any_moment : BothRead reading a_old b_old (Holds start)
         → Opens a_old b_old a b (config_of start)
     pub rests : Rested start.journal.side a_old b_old a b
     pub a_counts : faults a_old ≤ faults a
@@ -122,7 +122,7 @@ module _ {D : Type 0} (reading : D → Option (List ℕ)) (images : D → List �
   pub opens_here : StandingOpens reading images
       → ((disk : D) (c : List ℕ) → images_since disk (moment disk) c → images disk c)
       → StandsOn reading images start.journal a_old b_old
-      → Leaves reading a_old b_old (Holds start) → Opens a_old b_old a_old b_old (config_of start)
+      → BothRead reading a_old b_old (Holds start) → Opens a_old b_old a_old b_old (config_of start)
   opens_here law only_now stands held = record {
     a_later = omega arith;
     b_later = omega arith;
@@ -161,9 +161,9 @@ module _ {D : Type 0} (reading : D → Option (List ℕ)) (images : D → List �
   module _ (now : State) (a b : D) (made : ℕ) (going : Going now a b made)
       (next : State) (c d : D) (outcome : Compacted) (config : next.config ≡ now.config)
       (gives : PiecesGive outcome now.journal 1 next.journal)
-      (holds : Leaves reading a b (Holds now)
-      → UnlessFaulty outcome (Leaves reading c d (Holds next)))
-      (any_moment : Leaves reading a b (Holds now) → Opens a b c d (config_of now))
+      (holds : BothRead reading a b (Holds now)
+      → UnlessFaulty outcome (BothRead reading c d (Holds next)))
+      (any_moment : BothRead reading a b (Holds now) → Opens a b c d (config_of now))
       (rests : Rested now.journal.side a b c d)
       (a_counts : faults a ≤ faults c) (b_counts : faults b ≤ faults d) where
     pub config_stays : next.config ≡ start.config
@@ -173,8 +173,8 @@ module _ {D : Type 0} (reading : D → Option (List ℕ)) (images : D → List �
     gives_so = gives_more start.journal now.journal next.journal made going.journal going.side
         outcome gives
 
-    pub holds_so : Leaves reading a_old b_old (Holds start)
-        → UnlessFaulty outcome (Leaves reading c d (Holds next))
+    pub holds_so : BothRead reading a_old b_old (Holds start)
+        → UnlessFaulty outcome (BothRead reading c d (Holds next))
     holds_so held = holds (going.holds held)
 
     rests_now : Rested start.journal.side a b c d
@@ -184,7 +184,7 @@ module _ {D : Type 0} (reading : D → Option (List ℕ)) (images : D → List �
     rests_so = rests_joined going.rests rests_now
 
     pub any_moment_so : PiecesFollow reading images moment images_since
-        → Leaves reading a_old b_old (Holds start) → Opens a_old b_old c d (config_of start)
+        → BothRead reading a_old b_old (Holds start) → Opens a_old b_old c d (config_of start)
     any_moment_so follow held =
         follow start.journal.side (config_of start) a_old a c b_old b d going.rests rests_now
         (going.any_moment held)
@@ -207,9 +207,9 @@ module _ {D : Type 0} (reading : D → Option (List ℕ)) (images : D → List �
       (next : State) (c d : D) (left : ℕ) (config : next.config ≡ now.config)
       (gives : PiecesGive (compacted.Left left) now.journal 1 next.journal)
       (stands : StandsOn reading images next.journal c d)
-      (holds : Leaves reading a b (Holds now)
-      → UnlessFaulty (compacted.Left left) (Leaves reading c d (Holds next)))
-      (any_moment : Leaves reading a b (Holds now) → Opens a b c d (config_of now))
+      (holds : BothRead reading a b (Holds now)
+      → UnlessFaulty (compacted.Left left) (BothRead reading c d (Holds next)))
+      (any_moment : BothRead reading a b (Holds now) → Opens a b c d (config_of now))
       (rests : Rested now.journal.side a b c d)
       (a_counts : faults a ≤ faults c) (b_counts : faults b ≤ faults d) where
     no_fault : compacted.Left left ≢ compacted.DiskFault

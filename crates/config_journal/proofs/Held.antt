@@ -10,20 +10,20 @@ use Rattle.gate_journal.specs.declared.answers.Appended.TheVariants as appended
 use Rattle.store_model.proofs.Weakening.{each_pair_weakens}
 use Rattle.store_model.specs.Leaving.{IsPlanFor, MayOpen, OpensEither}
 use Rattle.store_model.specs.Laws.{AcceptedAreTaken, AppendsMayOpen, AppendsOpen, PlanGoesOn}
-use Rattle.store_model.specs.Opening.{OpensAs, TakesEntry}
+use Rattle.store_model.specs.Opening.{OpensAs, AcceptsEntry}
 use Rattle.zone_journal.specs.Appending.{AppendLeaves, MayLeave}
-use Rattle.zone_journal.specs.Pairs.{EachPair, Leaves, OpensPair}
+use Rattle.zone_journal.specs.Pairs.{EachPair, BothRead, OpensPair}
 
 module _ {D : Type 0} (reading : D → Option (List ℕ)) (old new : State)
     (generation : new.journal.generation ≡ old.journal.generation)
     (plan : new.journal.plan ≡ old.journal.plan) (entry : List ℕ)
-    (taken : TakesEntry (config_of old) entry (config_of new)) where
+    (taken : AcceptsEntry (config_of old) entry (config_of new)) where
   -- what was read holds the configuration before, and what is read is an entry more
   pub one_more : PlanGoesOn → AppendsOpen reading → (a_old a_new b_old b_new : D)
       → ((g : ℕ) (s : List ℕ) (es : List (List ℕ)) (x y : List ℕ) → reading a_old ≡ Some x
       → reading b_old ≡ Some y → OpensPair x y g s es
-      → Leaves reading a_new b_new (AppendLeaves appended.Done g s es entry))
-      → Leaves reading a_old b_old (Holds old) → Leaves reading a_new b_new (Holds new)
+      → BothRead reading a_new b_new (AppendLeaves appended.Done g s es entry))
+      → BothRead reading a_old b_old (Holds old) → BothRead reading a_new b_new (Holds new)
   one_more goes_on opens a_old a_new b_old b_new leaves held =
       let h = held.has in
       let now = opens a_new b_new appended.Done old.journal.generation h.snapshot h.entries entry
@@ -57,12 +57,12 @@ module _ {D : Type 0} (moment : D → ℕ) (images_since : D → ℕ → List �
 
   pub at_each_moment : {reading : D → Option (List ℕ)} → AppendsMayOpen moment images_since
       → (old : State) (entry : List ℕ) (after : Config)
-      → TakesEntry (config_of old) entry after → (a_old a_new b_old b_new : D)
+      → AcceptsEntry (config_of old) entry after → (a_old a_new b_old b_new : D)
       → (result : Appended)
       → ((g : ℕ) (s : List ℕ) (es : List (List ℕ)) (x y : List ℕ) → reading a_old ≡ Some x
       → reading b_old ≡ Some y → OpensPair x y g s es
       → EachPair moment images_since a_old a_new b_old b_new (MayLeave result g s es entry))
-      → Leaves reading a_old b_old (Holds old)
+      → BothRead reading a_old b_old (Holds old)
       → EachPair moment images_since a_old a_new b_old b_new
       (OpensEither (config_of old) after)
   at_each_moment may old entry after taken a_old a_new b_old b_new result leaves held =
@@ -88,7 +88,7 @@ decided inside now same its ready one outcome decides =
 pub taken_of : AcceptedAreTaken → (now : State) (ready : Ready) → IsReady now ready
     → (entry : List ℕ) → entry ≡ ready.entry → (after : Config) (what : Made)
     → Decides (config_of now) ready.prepared.command (Ok (after, what))
-    → TakesEntry (config_of now) entry after
+    → AcceptsEntry (config_of now) entry after
 taken_of law now ready is entry same after what decides =
-    subst (λ (e : List ℕ). TakesEntry (config_of now) e after) (sym (same ∙ is.entry))
+    subst (λ (e : List ℕ). AcceptsEntry (config_of now) e after) (sym (same ∙ is.entry))
     (law (config_of now) after ready.prepared.command what is.prepared.bounded is.spelled decides)

@@ -13,7 +13,7 @@ use Rattle.store_model.specs.Laws.{PiecesMayOpen, PiecesOpen, PlanMakes}
 use Rattle.store_model.specs.Leaving.{IsPlanFor, PieceOpens}
 use Rattle.store_model.specs.Opening.{MakesConfig, OpensAs, OpensConfig}
 use Rattle.zone_journal.specs.Compacting.{IsOldOrNew, PieceLeaves, PieceMoves, UnlessFault, with_plan}
-use Rattle.zone_journal.specs.Pairs.{EachPair, Leaves, OpensPair, opposite}
+use Rattle.zone_journal.specs.Pairs.{EachPair, BothRead, OpensPair, opposite}
 use Rattle.zone_journal.specs.Standing.{State as Journal, planned_length}
 use Rattle.zone_journal.specs.declared.answers.Piece.{Piece}
 use Rattle.zone_journal.specs.declared.answers.Piece.TheVariants as piece
@@ -111,12 +111,12 @@ module _ (old : State) (plan : Plan) (is : old.journal.plan ≡ Some plan) (x y 
 module _ {D : Type 0} (reading : D → Option (List ℕ)) (moment : D → ℕ)
     (images_since : D → ℕ → List ℕ → Type 0) (old : State) (plan : Plan)
     (is : old.journal.plan ≡ Some plan) (a_old a_new b_old b_new : D)
-    (result : Piece) (law : PlanMakes) (held : Leaves reading a_old b_old (Holds old)) where
+    (result : Piece) (law : PlanMakes) (held : BothRead reading a_old b_old (Holds old)) where
   abbrev pub Reads : Type 0
   Reads = (p : Plan) (g : ℕ) (s : List ℕ) (es since : List (List ℕ)) (x y : List ℕ)
       → old.journal.plan ≡ Some p → p.from ≡ length (front g s es)
       → reading a_old ≡ Some x → reading b_old ≡ Some y → OpensPair x y g s (es ++ since)
-      → Leaves reading a_new b_new (PieceLeaves result old.journal p g s es since)
+      → BothRead reading a_new b_new (PieceLeaves result old.journal p g s es since)
 
   abbrev pub Has : Type 0
   Has = (p : Plan) (g : ℕ) (s : List ℕ) (es since : List (List ℕ)) (x y : List ℕ)
@@ -125,7 +125,7 @@ module _ {D : Type 0} (reading : D → Option (List ℕ)) (moment : D → ℕ)
       → EachPair moment images_since a_old a_new b_old b_new
       (IsOldOrNew old.journal p g s es since)
 
-  pub leaves_so : PiecesOpen reading → Reads → Leaves reading a_new b_new
+  pub leaves_so : PiecesOpen reading → Reads → BothRead reading a_new b_new
       (PieceOpens result plan.snapshot old.journal.generation held.has.snapshot
       (planned old plan is held.x held.y held.has).until (planned old plan is held.x held.y held.has).since
       (config_of old))
@@ -159,10 +159,10 @@ module _ {D : Type 0} (reading : D → Option (List ℕ)) (moment : D → ℕ)
     (images_since : D → ℕ → List ℕ → Type 0) (old new : State) (plan : Plan)
     (is : old.journal.plan ≡ Some plan) (same : new.config ≡ old.config)
     (a_old a_new b_old b_new : D) (law : PlanMakes) (opens : PiecesOpen reading)
-    (held : Leaves reading a_old b_old (Holds old)) where
+    (held : BothRead reading a_old b_old (Holds old)) where
   pub holds_so : (result : Piece) → PieceMoves result old.journal plan new.journal
       → Reads reading moment images_since old plan is a_old a_new b_old b_new result law held
-      → UnlessFaulty (told_as result) (Leaves reading a_new b_new (Holds new))
+      → UnlessFaulty (told_as result) (BothRead reading a_new b_new (Holds new))
   holds_so (piece.Running left) moves reads whole =
       let its = planned old plan is held.x held.y held.has in
       leaves_weaken (PieceOpens (piece.Running left) plan.snapshot old.journal.generation

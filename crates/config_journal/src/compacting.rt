@@ -12,7 +12,7 @@ ghost use Rattle.r53_disk.specs.Disk.{Rests};
 ghost use Rattle.r53_state.specs.Octets.{snapshot};
 ghost use Rattle.store_model.specs.Opening.{OpensConfig};
 ghost use Rattle.zone_journal.specs.Compacting.{Begins};
-ghost use Rattle.zone_journal.specs.Pairs.{EachPair, Leaves, active_of};
+ghost use Rattle.zone_journal.specs.Pairs.{EachPair, BothRead, active_of};
 ghost use Rattle.zone_journal.specs.Standing.{StandsOn};
 ghost use Rattle.zone_journal.specs.declared.answers.Begun.TheVariants as Begun;
 
@@ -46,11 +46,11 @@ impl ConfigJournal {
         ensures gives { CompactGives result self.old pieces self.new }
         ensures stands { UnlessFaulty result
             (StandsOn D.reading D.images self.new.journal a.new b.new) }
-        ensures holds { Leaves D.reading a.old b.old (Holds self.old)
-            → UnlessFaulty result (Leaves D.reading a.new b.new (Holds self.new)) }
+        ensures holds { BothRead D.reading a.old b.old (Holds self.old)
+            → UnlessFaulty result (BothRead D.reading a.new b.new (Holds self.new)) }
 
         // At each moment every image pair opens to the configuration.
-        ensures any_moment { Leaves D.reading a.old b.old (Holds self.old)
+        ensures any_moment { BothRead D.reading a.old b.old (Holds self.old)
             → EachPair D.moment D.images_since a.old a.new b.old b.new
             (λ x y. OpensConfig x y (config_of self.old)) }
 
@@ -115,9 +115,9 @@ impl ConfigJournal {
         ensures gives { PiecesGive result self.old.journal pieces self.new.journal }
         ensures stands { UnlessFaulty result
             (StandsOn D.reading D.images self.new.journal a.new b.new) }
-        ensures holds { Leaves D.reading a.old b.old (Holds self.old)
-            → UnlessFaulty result (Leaves D.reading a.new b.new (Holds self.new)) }
-        ensures any_moment { Leaves D.reading a.old b.old (Holds self.old)
+        ensures holds { BothRead D.reading a.old b.old (Holds self.old)
+            → UnlessFaulty result (BothRead D.reading a.new b.new (Holds self.new)) }
+        ensures any_moment { BothRead D.reading a.old b.old (Holds self.old)
             → EachPair D.moment D.images_since a.old a.new b.old b.new
             (λ x y. OpensConfig x y (config_of self.old)) }
         ensures rests { Rests D.reading D.images D.moment D.images_since
@@ -147,9 +147,9 @@ impl ConfigJournal {
         ensures gives { PiecesGive result self.old.journal 1 self.new.journal }
         ensures stands { UnlessFaulty result
             (StandsOn D.reading D.images self.new.journal a.new b.new) }
-        ensures holds { Leaves D.reading a.old b.old (Holds self.old)
-            → UnlessFaulty result (Leaves D.reading a.new b.new (Holds self.new)) }
-        ensures any_moment { Leaves D.reading a.old b.old (Holds self.old)
+        ensures holds { BothRead D.reading a.old b.old (Holds self.old)
+            → UnlessFaulty result (BothRead D.reading a.new b.new (Holds self.new)) }
+        ensures any_moment { BothRead D.reading a.old b.old (Holds self.old)
             → EachPair D.moment D.images_since a.old a.new b.old b.new
             (λ x y. OpensConfig x y (config_of self.old)) }
         ensures rests { Rests D.reading D.images D.moment D.images_since

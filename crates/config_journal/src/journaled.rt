@@ -15,7 +15,7 @@ ghost use Rattle.octets.specs.Counts.{Rose};
 ghost use Rattle.r53_disk.specs.Disk.{Rests};
 ghost use Rattle.r53_state.specs.States.{IsReady as IsPrepared};
 ghost use Rattle.store_model.specs.Leaving.{OpensEither};
-ghost use Rattle.zone_journal.specs.Pairs.{EachPair, Leaves, OpensPair, other_of};
+ghost use Rattle.zone_journal.specs.Pairs.{EachPair, BothRead, OpensPair, other_of};
 ghost use Rattle.zone_journal.specs.Standing.{StandsOn};
 
 use crate::ready::ReadyCommand;
@@ -123,19 +123,19 @@ impl ConfigJournal {
             (StandsOn D.reading D.images self.new.journal a.new b.new) }
 
         // The files that hold the configuration before hold the one after.
-        ensures holds { Leaves D.reading a.old b.old (Holds self.old)
-            → UnlessFault result (Leaves D.reading a.new b.new (Holds self.new)) }
+        ensures holds { BothRead D.reading a.old b.old (Holds self.old)
+            → UnlessFault result (BothRead D.reading a.new b.new (Holds self.new)) }
 
         // The entry stands behind those before it.
         ensures written { (g : ℕ) (s : List ℕ) (es : List (List ℕ)) (x y : List ℕ)
             → D.reading a.old ≡ Some x → D.reading b.old ≡ Some y → OpensPair x y g s es
-            → OnMade result (Leaves D.reading a.new b.new
+            → OnMade result (BothRead D.reading a.new b.new
             (λ u v. OpensPair u v g s (es ++ ready.entry ∷ []))) }
 
         // At each moment every image pair opens to the configuration before, or to the one after.
         ensures any_moment { (after : Configuration) (what : Made)
             → Decides (config_of self.old) ready.prepared.command (Ok (after, what))
-            → Leaves D.reading a.old b.old (Holds self.old)
+            → BothRead D.reading a.old b.old (Holds self.old)
             → EachPair D.moment D.images_since a.old a.new b.old b.new
             (OpensEither (config_of self.old) after) }
 

@@ -4,10 +4,10 @@ use Rattle.std.proofs.Common.{sym, refl, subst, arith, Option, None, Some}
 use Rattle.std.specs.Prelude.{◌==◌, Contains, option_map, Ok, Err, Result}
 use Rattle.std.specs.List.{cons_option, filter_map, list_any}
 use Rattle.std.proofs.lemmas.Bool.{eq-eqb, eqb-true, false≢true}
-use Rattle.check_model.specs.Checks.{Checks, IsId, check_at}
-use Rattle.check_model.specs.Commands.{IsBoundedCommand, answer, checks_after, given_by, number_of}
+use Rattle.check_model.specs.Checks.{Checks, IsId, check_with}
+use Rattle.check_model.specs.Commands.{IsBoundedCommand, outcome, checks_after, given_by, number_of}
 use Rattle.check_model.specs.Commands.{refusal_of, unless, updated_check}
-use Rattle.check_model.specs.Kept.{LeavesRest, its_check}
+use Rattle.check_model.specs.Kept.{KeepsRest, its_check}
 use Rattle.check_model.specs.Kept as checks
 use Rattle.check_model.specs.declared.checks.Check.{Check}
 use Rattle.check_model.specs.declared.checks.CheckCommand.{CheckCommand}
@@ -15,7 +15,7 @@ use Rattle.check_model.specs.declared.checks.CheckCommand.TheVariants.{Create, U
 use Rattle.check_model.specs.declared.refusals.CheckRefusal.{CheckRefusal}
 use Rattle.check_model.proofs.Members.{further}
 use Rattle.command_octets.specs.CidrFaultRecord.{CidrFault}
-use Rattle.command_octets.specs.CommandsOfCidrCommands.{HasNames, answer as cidr_answer}
+use Rattle.command_octets.specs.CommandsOfCidrCommands.{HasNames, outcome as cidr_answer}
 use Rattle.command_octets.specs.Kept as cidr
 use Rattle.command_octets.specs.Stored.{Stored}
 use Rattle.command_octets.specs.CidrCommandRecord.{CidrCommand}
@@ -74,7 +74,7 @@ none_mapped (Some why) e = absurd (grind (arith, e))
 
 module _ (told : RefusalsAreTold) (config : Config) (sound : Sound config) where
   module _ (command : CheckCommand) (bounds : IsBoundedCommand command)
-      (keeps : checks.KeepsSound) (rest : checks.LeavesRest)
+      (keeps : checks.KeepsSound) (rest : checks.KeepsRest)
       (none : refusal_of config.checks command ≡ None)
       (unused : in_use config.zones command ≡ None) where
     abbrev now : Checks
@@ -83,7 +83,7 @@ module _ (told : RefusalsAreTold) (config : Config) (sound : Sound config) where
     abbrev id : ℕ
     id = number_of config.checks command
 
-    answered : answer config.checks command ≡ Ok (now, id)
+    answered : outcome config.checks command ≡ Ok (now, id)
     answered = ap (λ r. unless r (now, id)) none
 
     its_there : (named : CheckCommand) (before : Option Check) → ((n : ℕ) → named ≡ Delete n → ⊥)
@@ -124,10 +124,10 @@ module _ (told : RefusalsAreTold) (config : Config) (sound : Sound config) where
         )
         by true e =
             let same : c ≡ id = eqb-true c id e in
-            let its = its_there command (check_at config.checks.list id) (λ n. deletes n same)
-            check (ap (check_at config.checks.list) (sym same) ∙ at) in (
+            let its = its_there command (check_with config.checks.list id) (λ n. deletes n same)
+            check (ap (check_with config.checks.list) (sym same) ∙ at) in (
               its.0,
-              ap (check_at now.list) same
+              ap (check_with now.list) same
                   ∙ rest.its config.checks now command id sound.checks answered ∙ its.1,
             )
 
@@ -173,7 +173,7 @@ module _ (told : RefusalsAreTold) (config : Config) (sound : Sound config) where
     }
 
   pub checks_keep : (command : CheckCommand) → IsBoundedCommand command → checks.KeepsSound
-      → checks.LeavesRest → (after : Config) (what : Made)
+      → checks.KeepsRest → (after : Config) (what : Made)
       → Ok (after, what) ≡ change_checks config command → Sound after
   checks_keep command bounds keeps rest after what e =
       let now : Config = record config { checks = checks_after config.checks command } in

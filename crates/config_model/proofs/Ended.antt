@@ -10,8 +10,8 @@ use Rattle.config_model.specs.Batches.{is_store_full, store_refusal}
 use Rattle.config_model.specs.Configs.{Config, count_of, octets_of, without_zone, zone_with}
 use Rattle.config_model.specs.NewZones.{delete_zone, end_of, end_refusal}
 use Rattle.config_model.specs.Sound.{AreListed, IsSoundZone, Sound}
-use Rattle.config_model.specs.Telling.{rule}
-use Rattle.config_model.specs.Told.{HaveRoom}
+use Rattle.config_model.specs.Telling.{refuse_if}
+use Rattle.config_model.specs.Told.{AreNotFull}
 use Rattle.config_model.specs.declared.refusals.Made.{Made}
 use Rattle.config_model.specs.declared.refusals.Made.TheVariants as made
 use Rattle.config_model.specs.declared.refusals.Refusal.TheVariants.{StoreFull}
@@ -29,7 +29,7 @@ module _ {X : Type 0} (p : X → Bool) where
 
 -- a store that isn't full has room
 pub not_full : (zones : List HostedZone) → store_refusal zones ≡ None
-    → HaveRoom zones
+    → AreNotFull zones
 not_full zones e =
     let both = or_parts (nat_lt 100000 (sum_by count_of zones))
     (nat_lt 67108864 (sum_by octets_of zones))
@@ -45,7 +45,7 @@ both_false a b e f = ap (λ c. c || b) e ∙ f
 pub has_room : (zones : List HostedZone) → sum_by count_of zones ≤ 100000
     → sum_by octets_of zones ≤ 67108864 → store_refusal zones ≡ None
 has_room zones few short =
-    ap (λ b. rule b StoreFull)
+    ap (λ b. refuse_if b StoreFull)
     (both_false (nat_lt 100000 (sum_by count_of zones)) (nat_lt 67108864 (sum_by octets_of zones))
     (le-ltb 100000 (sum_by count_of zones) few)
     (le-ltb 67108864 (sum_by octets_of zones) short))

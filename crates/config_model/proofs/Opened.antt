@@ -17,7 +17,7 @@ use Rattle.config_model.specs.NewZones.{are_most, create_refusal, create_zone, h
 use Rattle.config_model.specs.NewZones.{is_repeated}
 use Rattle.config_model.specs.NewZones.{is_zone_name, new_zone, with_zone}
 use Rattle.config_model.specs.Sound.{AreListed, IsSoundZone, Sound}
-use Rattle.config_model.specs.Telling.{invalid, rule}
+use Rattle.config_model.specs.Telling.{invalid, refuse_if}
 use Rattle.config_model.specs.Told.{RefusalsAreTold}
 use Rattle.config_model.specs.declared.refusals.InputReason.TheVariants.{BadZoneName, RepeatedValue}
 use Rattle.config_model.specs.declared.refusals.InputReason.TheVariants.{ZoneExists}
@@ -101,11 +101,11 @@ module _ (told : RefusalsAreTold) (law : OneNameOfAWire) (config : Config) (soun
       let now = with_zone config name servers in
       let answer = accepted (create_refusal config name servers) (after, what)
       (now, made.Zone config.next_zone) e in
-      let none = parts (rule (not (is_zone_name name)) (invalid BadZoneName))
-      (rule (is_repeated servers) (invalid RepeatedValue))
-      (rule (has_zone config.zones name) (invalid ZoneExists))
-      (rule (are_most (length config.zones)) TooManyHostedZones)
-      (rule (config.next_zone == 4294967295) IdsEnded)
+      let none = parts (refuse_if (not (is_zone_name name)) (invalid BadZoneName))
+      (refuse_if (is_repeated servers) (invalid RepeatedValue))
+      (refuse_if (has_zone config.zones name) (invalid ZoneExists))
+      (refuse_if (are_most (length config.zones)) TooManyHostedZones)
+      (refuse_if (config.next_zone == 4294967295) IdsEnded)
       (store_refusal now.zones) answer.0 in
       subst Sound (sym (ap (λ (x : Config × Made). x.0) answer.1))
       (sound_with

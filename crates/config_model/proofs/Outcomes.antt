@@ -2,7 +2,7 @@
 use Rattle.std.proofs.Common.{◌≡◌, ◌≢◌, List, inl, inr, ap, ◌∙◌, sym, refl, arith, Option, None}
 use Rattle.std.proofs.Common.{Some}
 use Rattle.std.specs.Prelude.{Ok, Err, Result}
-use Rattle.command_octets.specs.Laws.{OneAnswer}
+use Rattle.command_octets.specs.Laws.{OneBatchOutcome}
 use Rattle.command_octets.specs.BatchRecord.{Batch}
 use Rattle.command_octets.specs.BatchRefusalRecord.{BatchRefusal}
 use Rattle.command_octets.specs.BatchRefusalRecord.TheVariants as batch
@@ -17,7 +17,7 @@ use Rattle.config_model.specs.Laws.{OneOutcome}
 use Rattle.config_model.specs.Telling.{of_batch}
 use Rattle.config_model.specs.declared.refusals.Refusal.TheVariants as refusal
 
-module _ (law : OneAnswer) where
+module _ (law : OneBatchOutcome) where
   module _ (config : Config) (changes : Batch) (outcome other : Outcome)
       (known : outcome ≢ Err refusal.OutOfMemory) (known_too : other ≢ Err refusal.OutOfMemory)
     where

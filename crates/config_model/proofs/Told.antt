@@ -7,14 +7,14 @@ use Rattle.std.specs.Str.{bytes_eq}
 use Rattle.std.proofs.lemmas.Bool.{false≢true, or_cases, ltb-false, le-ltb}
 use Rattle.std.proofs.lemmas.Map.Views.{Contains-from_any}
 use Rattle.std.proofs.lemmas.Slice.Eq.{bytes_eq-Decides}
-use Rattle.check_model.specs.Checks.{IsId, check_at}
+use Rattle.check_model.specs.Checks.{IsId, check_with}
 use Rattle.check_model.specs.Commands.{is_there}
 use Rattle.check_model.specs.declared.checks.Check.{Check}
 use Rattle.command_octets.specs.Idents.{star}
 use Rattle.command_octets.specs.Places.{names_of}
 use Rattle.command_octets.specs.CollectionRecord.{Collection}
 use Rattle.command_octets.specs.Kept.{IsThere, IsThereIn}
-use Rattle.command_octets.specs.Stored.{collection_at}
+use Rattle.command_octets.specs.Stored.{collection_with}
 use Rattle.set_reading.specs.Reasons.{IsAlias}
 use Rattle.set_reading.specs.SetsOfRecordSet.{key_of}
 use Rattle.set_reading.specs.RoutingRecord.{Routing}
@@ -31,7 +31,7 @@ use Rattle.config_model.specs.Batches.{first_among, is_alias, is_empty, is_locat
 use Rattle.config_model.specs.Batches.{is_zone_full, leads_on, location_refusal, named_check}
 use Rattle.config_model.specs.Batches.{named_collection, named_location, sets_refusal}
 use Rattle.config_model.specs.Batches.{target_refusal}
-use Rattle.config_model.specs.Telling.{first_of, rule}
+use Rattle.config_model.specs.Telling.{first_of, refuse_if}
 use Rattle.config_model.specs.Told.{AreInOrder, FirstOrNone}
 use Rattle.config_model.specs.declared.refusals.Refusal.{Refusal}
 use Rattle.config_model.specs.declared.refusals.Refusal.TheVariants.{NoSuchHealthCheck}
@@ -145,15 +145,15 @@ walks_told times zone set there =
 
 -- ---- what is there
 
-pub told_not : (b : Bool) (why : Refusal) → rule (not b) why ≡ None → b ≡ true
+pub told_not : (b : Bool) (why : Refusal) → refuse_if (not b) why ≡ None → b ≡ true
 told_not true why e = refl
 told_not false why e = absurd (grind (arith, e))
 
-not_told : (b : Bool) (why : Refusal) → b ≡ true → rule (not b) why ≡ None
-not_told b why e = ap (λ c. rule (not c) why) e
+not_told : (b : Bool) (why : Refusal) → b ≡ true → refuse_if (not b) why ≡ None
+not_told b why e = ap (λ c. refuse_if (not c) why) e
 
 module _ (checks : List (ℕ × Check)) where
-  check_by : (found : Option Check) (id : ℕ) → check_at checks id ≡ found → is_some found ≡ true
+  check_by : (found : Option Check) (id : ℕ) → check_with checks id ≡ found → is_some found ≡ true
       → IsId checks id
   check_by None id at e = absurd (false≢true e)
   check_by (Some check) id at e = (check, at)
@@ -163,7 +163,7 @@ module _ (checks : List (ℕ × Check)) where
   check_there set id none e =
       let told : named_check checks (Some id) ≡ None =
       subst (λ c. named_check checks c ≡ None) e none in
-      check_by (check_at checks id) id refl
+      check_by (check_with checks id) id refl
       (told_not (is_there checks id) (NoSuchHealthCheck id) told)
 
   no_check_refused : (set : RecordSet)
@@ -197,10 +197,10 @@ module _ (list : List (ℕ × Collection)) where
       subst (λ r. named_collection list r ≡ None) e none in
       let also_told : named_location list (Cidr ident id location) ≡ None =
       subst (λ r. named_location list r ≡ None) e also in
-      some_by (collection_at id list)
-      (told_not (is_some (collection_at id list)) (NoSuchCidrCollection id) told)
+      some_by (collection_with id list)
+      (told_not (is_some (collection_with id list)) (NoSuchCidrCollection id) told)
       location
-      (told_not (bytes_eq location star || is_location_in (collection_at id list) location)
+      (told_not (bytes_eq location star || is_location_in (collection_with id list) location)
       (NoSuchCidrLocation location) also_told)
 
   -- whatever names it
@@ -234,8 +234,8 @@ module _ (list : List (ℕ × Collection)) where
   no_collection_refused (Latency ident region) there = refl
   no_collection_refused (Multivalue ident) there = refl
   no_collection_refused (Cidr ident id location) there =
-      not_told (is_some (collection_at id list)) (NoSuchCidrCollection id)
-      (some_there (collection_at id list) location (there ident id location refl))
+      not_told (is_some (collection_with id list)) (NoSuchCidrCollection id)
+      (some_there (collection_with id list) location (there ident id location refl))
 
   no_location_refused : (r : Routing) → NamesPlaces r → named_location list r ≡ None
   no_location_refused Simple there = refl
@@ -245,13 +245,13 @@ module _ (list : List (ℕ × Collection)) where
   no_location_refused (Latency ident region) there = refl
   no_location_refused (Multivalue ident) there = refl
   no_location_refused (Cidr ident id location) there =
-      not_told (bytes_eq location star || is_location_in (collection_at id list) location)
+      not_told (bytes_eq location star || is_location_in (collection_with id list) location)
       (NoSuchCidrLocation location)
-      (placed_there (collection_at id list) location (there ident id location refl))
+      (placed_there (collection_with id list) location (there ident id location refl))
 
 -- ---- targets and depth
 
-pub told_false : (b : Bool) (why : Refusal) → rule b why ≡ None → b ≡ false
+pub told_false : (b : Bool) (why : Refusal) → refuse_if b why ≡ None → b ≡ false
 told_false true why e = absurd (grind (arith, e))
 told_false false why e = refl
 
@@ -284,7 +284,7 @@ module _ (zone : List RecordSet) where
     where
       by : (alias empty : Bool) → is_alias set.body ≡ alias
           → is_empty (target_group zone set) ≡ empty
-          → rule (alias && empty) (AliasTargetMissing (key_of set)) ≡ None
+          → refuse_if (alias && empty) (AliasTargetMissing (key_of set)) ≡ None
       by false empty a e = refl
       by true false a e = refl
       by true true a e = absurd (has (alias_of set.body a, of_empty (target_group zone set) e))
@@ -302,7 +302,7 @@ module _ (zone : List RecordSet) where
       → depth_refusal zone set ≡ None
   no_depth_refused set there shallow = by (is_too_deep zone set) (too_deep_is zone set)
     where
-      by : (b : Bool) → b ≡ leads_on 16 zone set → rule b (AliasTooDeep (key_of set)) ≡ None
+      by : (b : Bool) → b ≡ leads_on 16 zone set → refuse_if b (AliasTooDeep (key_of set)) ≡ None
       by false e = refl
       by true e = absurd (shallow (walk_of zone 16 set there (sym e)))
 
@@ -329,11 +329,11 @@ whole None None None (Some x) e f h i j k l m = absurd (grind (arith, k))
 whole None None None None (Some x) f h i j k l m = absurd (grind (arith, l))
 whole None None None None None (Some x) h i j k l m = absurd (grind (arith, m))
 
-not_full : (zone : List RecordSet) → rule (is_zone_full zone) ZoneFull ≡ None → length zone ≤ 10000
+not_full : (zone : List RecordSet) → refuse_if (is_zone_full zone) ZoneFull ≡ None → length zone ≤ 10000
 not_full zone e = ltb-false 10000 (length zone) (told_false (is_zone_full zone) ZoneFull e)
 
-full_not : (n : ℕ) → n ≤ 10000 → rule (nat_lt 10000 n) ZoneFull ≡ None
-full_not n few = ap (λ b. rule b ZoneFull) (le-ltb 10000 n few)
+full_not : (n : ℕ) → n ≤ 10000 → refuse_if (nat_lt 10000 n) ZoneFull ≡ None
+full_not n few = ap (λ b. refuse_if b ZoneFull) (le-ltb 10000 n few)
 
 module _ (checks : List (ℕ × Check)) (collections : List (ℕ × Collection)) (zone : List RecordSet)
   where
@@ -344,7 +344,7 @@ module _ (checks : List (ℕ × Check)) (collections : List (ℕ × Collection))
         (first_among (location_refusal collections) zone)
         (first_among (target_refusal zone) zone)
         (first_among (depth_refusal zone) zone)
-        (rule (is_zone_full zone) ZoneFull) e in
+        (refuse_if (is_zone_full zone) ZoneFull) e in
         record {
           checks_there = λ set id there named.
               check_there checks set id
@@ -367,7 +367,7 @@ module _ (checks : List (ℕ × Check)) (collections : List (ℕ × Collection))
         (first_among (location_refusal collections) zone)
         (first_among (target_refusal zone) zone)
         (first_among (depth_refusal zone) zone)
-        (rule (is_zone_full zone) ZoneFull)
+        (refuse_if (is_zone_full zone) ZoneFull)
         (none_of_all (check_refusal checks) zone
         (λ set there. no_check_refused checks set (λ id. o.checks_there set id there)))
         (none_of_all (collection_refusal collections) zone

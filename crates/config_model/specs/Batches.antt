@@ -17,7 +17,7 @@ use Rattle.check_model.specs.declared.checks.Check.{Check}
 use Rattle.command_octets.specs.Idents.{star}
 use Rattle.command_octets.specs.Places.{names_of}
 use Rattle.command_octets.specs.CollectionRecord.{Collection}
-use Rattle.command_octets.specs.Stored.{collection_at}
+use Rattle.command_octets.specs.Stored.{collection_with}
 use Rattle.set_reading.specs.SetsOfRecordSet.{key_of}
 use Rattle.set_reading.specs.BodyRecord.{Body}
 use Rattle.set_reading.specs.BodyRecord.TheVariants as body
@@ -27,7 +27,7 @@ use Rattle.set_reading.specs.RoutingRecord.TheVariants as routing
 use Rattle.command_octets.specs.Hosted.{HostedZone}
 use Rattle.command_octets.specs.Zones.{target_group}
 use Rattle.config_model.specs.Configs.{Config, count_of, octets_of, with_sets, zone_with}
-use Rattle.config_model.specs.Telling.{first_of, of_batch, rule, unless}
+use Rattle.config_model.specs.Telling.{first_of, of_batch, refuse_if, unless}
 use Rattle.config_model.specs.declared.refusals.Made.{Made}
 use Rattle.config_model.specs.declared.refusals.Made.TheVariants as made
 use Rattle.config_model.specs.declared.refusals.Refusal.{Refusal}
@@ -42,7 +42,7 @@ first_among refuses sets = first_of (map refuses sets)
 -- a set names a check that isn't there
 abbrev pub named_check : List (ℕ × Check) → Option ℕ → Option Refusal
 named_check checks None = None
-named_check checks (Some id) = rule (not (is_there checks id)) (refusal.NoSuchHealthCheck id)
+named_check checks (Some id) = refuse_if (not (is_there checks id)) (refusal.NoSuchHealthCheck id)
 
 abbrev pub check_refusal : List (ℕ × Check) → RecordSet → Option Refusal
 check_refusal checks set = named_check checks set.check
@@ -50,7 +50,7 @@ check_refusal checks set = named_check checks set.check
 -- or a collection that isn't there
 abbrev pub named_collection : List (ℕ × Collection) → Routing → Option Refusal
 named_collection list (routing.Cidr ident id location) =
-    rule (not (is_some (collection_at id list))) (refusal.NoSuchCidrCollection id)
+    refuse_if (not (is_some (collection_with id list))) (refusal.NoSuchCidrCollection id)
 named_collection list other = None
 
 abbrev pub collection_refusal : List (ℕ × Collection) → RecordSet → Option Refusal
@@ -64,7 +64,7 @@ is_location_in (Some collection) location =
 
 abbrev pub named_location : List (ℕ × Collection) → Routing → Option Refusal
 named_location list (routing.Cidr ident id location) =
-    rule (not (bytes_eq location star || is_location_in (collection_at id list) location))
+    refuse_if (not (bytes_eq location star || is_location_in (collection_with id list) location))
     (refusal.NoSuchCidrLocation location)
 named_location list other = None
 
@@ -82,7 +82,7 @@ is_empty (set ∷ sets) = false
 
 abbrev pub target_refusal : (zone : List RecordSet) → RecordSet → Option Refusal
 target_refusal zone set =
-    rule (is_alias set.body && is_empty (target_group zone set))
+    refuse_if (is_alias set.body && is_empty (target_group zone set))
     (refusal.AliasTargetMissing (key_of set))
 
 -- A walk of alias links starts at a set, which leads on so many times from an alias to a set of its
@@ -96,7 +96,7 @@ unfoldable pub is_too_deep : (zone : List RecordSet) → RecordSet → Bool
 is_too_deep zone set = leads_on 16 zone set
 
 abbrev pub depth_refusal : (zone : List RecordSet) → RecordSet → Option Refusal
-depth_refusal zone set = rule (is_too_deep zone set) (refusal.AliasTooDeep (key_of set))
+depth_refusal zone set = refuse_if (is_too_deep zone set) (refusal.AliasTooDeep (key_of set))
 
 -- more than 10,000 sets in a zone (Route 53 quotas)
 abbrev pub is_over_zone : (sets : ℕ) → Bool
@@ -114,7 +114,7 @@ sets_refusal checks collections zone = first_of (
     ∷ first_among (location_refusal collections) zone
     ∷ first_among (target_refusal zone) zone
     ∷ first_among (depth_refusal zone) zone
-    ∷ rule (is_zone_full zone) refusal.ZoneFull
+    ∷ refuse_if (is_zone_full zone) refusal.ZoneFull
     ∷ [])
 
 -- more than 100,000 sets, or more than 67,108,864 octets of sets, in all zones (own)
@@ -125,7 +125,7 @@ abbrev pub is_store_full : List HostedZone → Bool
 is_store_full zones = is_over (sum_by count_of zones) (sum_by octets_of zones)
 
 abbrev pub store_refusal : List HostedZone → Option Refusal
-store_refusal zones = rule (is_store_full zones) refusal.StoreFull
+store_refusal zones = refuse_if (is_store_full zones) refusal.StoreFull
 
 -- ---- a batch
 

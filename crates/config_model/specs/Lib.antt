@@ -49,7 +49,7 @@ pub use Rattle.set_reading.specs.Datum
 pub use Rattle.set_reading.specs.Written
 pub use Rattle.set_reading.specs.Types
 pub use Rattle.command_octets.specs.Placing
-pub use Rattle.command_octets.specs.Placed
+pub use Rattle.command_octets.specs.Slotted
 pub use Rattle.set_reading.specs.Layout
 pub use Rattle.command_octets.specs.declared.commands.Command as CommandRecord
 pub use Rattle.command_octets.specs.Differences

@@ -17,7 +17,7 @@ use Rattle.set_reading.specs.RoutingRecord.TheVariants.{Simple}
 use Rattle.command_octets.specs.Hosted.{HostedZone}
 use Rattle.config_model.specs.Batches.{store_refusal}
 use Rattle.config_model.specs.Configs.{Config, without_zone, zone_with}
-use Rattle.config_model.specs.Telling.{first_of, invalid, rule, unless}
+use Rattle.config_model.specs.Telling.{first_of, invalid, refuse_if, unless}
 use Rattle.config_model.specs.declared.refusals.InputReason.TheVariants as reason
 use Rattle.config_model.specs.declared.refusals.Made.{Made}
 use Rattle.config_model.specs.declared.refusals.Made.TheVariants as made
@@ -102,11 +102,11 @@ are_most zones = nat_le 500 zones
 abbrev pub create_refusal : Config → (name : List (List ℕ)) → (servers : List (List (List ℕ)))
     → Option Refusal
 create_refusal config name servers = first_of (
-    rule (not (is_zone_name name)) (invalid reason.BadZoneName)
-    ∷ rule (is_repeated servers) (invalid reason.RepeatedValue)
-    ∷ rule (has_zone config.zones name) (invalid reason.ZoneExists)
-    ∷ rule (are_most (length config.zones)) refusal.TooManyHostedZones
-    ∷ rule (config.next_zone == 4294967295) refusal.IdsEnded
+    refuse_if (not (is_zone_name name)) (invalid reason.BadZoneName)
+    ∷ refuse_if (is_repeated servers) (invalid reason.RepeatedValue)
+    ∷ refuse_if (has_zone config.zones name) (invalid reason.ZoneExists)
+    ∷ refuse_if (are_most (length config.zones)) refusal.TooManyHostedZones
+    ∷ refuse_if (config.next_zone == 4294967295) refusal.IdsEnded
     ∷ store_refusal (with_zone config name servers).zones
     ∷ [])
 
@@ -127,7 +127,7 @@ is_another apex set = not (same_labels set.name apex && is_of_zone set.rtype)
 
 abbrev pub end_refusal : HostedZone → Option Refusal
 end_refusal zone =
-    first_of (rule (list_any (is_another zone.apex) zone.sets) refusal.HostedZoneNotEmpty ∷ [])
+    first_of (refuse_if (list_any (is_another zone.apex) zone.sets) refusal.HostedZoneNotEmpty ∷ [])
 
 abbrev pub end_of : Config → Option HostedZone → Result (Config × Made) Refusal
 end_of config None = Err refusal.NoSuchHostedZone

@@ -9,7 +9,7 @@ use Rattle.check_model.specs.Commands.{checks_after, refusal_of}
 use Rattle.check_model.specs.declared.checks.CheckCommand.{CheckCommand}
 use Rattle.check_model.specs.declared.checks.CheckCommand.TheVariants as check
 use Rattle.command_octets.specs.CidrFaultRecord.{CidrFault}
-use Rattle.command_octets.specs.CommandsOfCidrCommands.{answer}
+use Rattle.command_octets.specs.CommandsOfCidrCommands.{outcome}
 use Rattle.command_octets.specs.Stored.{Stored}
 use Rattle.command_octets.specs.CidrCommandRecord.{CidrCommand}
 use Rattle.command_octets.specs.CidrCommandRecord.TheVariants as cidr
@@ -18,7 +18,7 @@ use Rattle.set_reading.specs.RoutingRecord.{Routing}
 use Rattle.set_reading.specs.RoutingRecord.TheVariants as routing
 use Rattle.command_octets.specs.Hosted.{HostedZone}
 use Rattle.config_model.specs.Configs.{Config, all_sets}
-use Rattle.config_model.specs.Telling.{first_of, of_check, of_fault, rule, unless}
+use Rattle.config_model.specs.Telling.{first_of, of_check, of_fault, refuse_if, unless}
 use Rattle.config_model.specs.declared.refusals.Made.{Made}
 use Rattle.config_model.specs.declared.refusals.Made.TheVariants as made
 use Rattle.config_model.specs.declared.refusals.Refusal.{Refusal}
@@ -39,7 +39,7 @@ abbrev pub in_use : List HostedZone → CheckCommand → Option Refusal
 in_use zones (check.Create new) = None
 in_use zones (check.Update id inverted disabled threshold children) = None
 in_use zones (check.Delete id) =
-    rule (is_check_named id (all_sets zones)) (refusal.HealthCheckInUse id)
+    refuse_if (is_check_named id (all_sets zones)) (refusal.HealthCheckInUse id)
 
 -- what a command on checks makes
 abbrev pub made_check : Checks → CheckCommand → Made
@@ -80,4 +80,4 @@ with_collections config what (Ok after) = Ok (record config { collections = afte
 abbrev pub change_collections : Config → CidrCommand → Result (Config × Made) Refusal
 change_collections config command =
     with_collections config (made_collection config.collections command)
-    (answer config.collections command (used_by config.zones))
+    (outcome config.collections command (used_by config.zones))

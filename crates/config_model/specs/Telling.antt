@@ -15,8 +15,8 @@ use Rattle.config_model.specs.declared.refusals.Refusal.TheVariants as refusal
 -- ---- the first of several
 
 -- a refusal, where a rule holds
-abbrev pub rule : Bool → Refusal → Option Refusal
-rule holds why = if holds then Some why else None
+abbrev pub refuse_if : Bool → Refusal → Option Refusal
+refuse_if holds why = if holds then Some why else None
 
 -- the first of several rules that refuses
 abbrev pub first_of : List (Option Refusal) → Option Refusal

@@ -47,7 +47,7 @@ pub record AreInOrder (checks : List (ℕ × Check)) (collections : List (ℕ ×
   pub few : length zone ≤ 10000
 
 -- The zones have at most 100,000 sets, of at most 67,108,864 octets.
-pub record HaveRoom (zones : List HostedZone) : Type 0 where
+pub record AreNotFull (zones : List HostedZone) : Type 0 where
   pub sets : sum_by count_of zones ≤ 100000
   pub octets : sum_by octets_of zones ≤ 67108864
 
@@ -63,4 +63,4 @@ pub record RefusalsAreTold : Type 0 where
       (zone : List RecordSet)
       → (sets_refusal checks collections zone ≡ None) ↔ AreInOrder checks collections zone
   -- nor where all zones have room
-  pub store : (zones : List HostedZone) → (store_refusal zones ≡ None) ↔ HaveRoom zones
+  pub store : (zones : List HostedZone) → (store_refusal zones ≡ None) ↔ AreNotFull zones

@@ -7,7 +7,7 @@ ghost use Rattle.config_model.specs.Told.{RefusalsAreTold};
 pub fn one_outcome()
     ensures { OneOutcome }
 {
-    command_octets::one_answer();
+    command_octets::one_batch_outcome();
 }
 
 /// What a command makes of a sound configuration is sound.

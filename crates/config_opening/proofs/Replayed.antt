@@ -17,7 +17,7 @@ use Rattle.octets.specs.declared.memory.OutOfMemory.{OutOfMemory}
 use Rattle.r53_disk.specs.Disk.{Rests}
 use Rattle.config_journal.specs.Laws.{DecidingOpens, FaultyIsNoStore, OneMoreMakes}
 use Rattle.config_journal.specs.Laws.{RefusedAreRefused}
-use Rattle.config_journal.specs.Opening.{IsNoStore, IsRefused, OpensAs, TakesEntry}
+use Rattle.config_journal.specs.Opening.{IsNoStore, IsRefused, OpensAs, AcceptsEntry}
 use Rattle.zone_journal.specs.Opening.{NextGives}
 use Rattle.zone_journal.specs.Pairs.{active_of}
 use Rattle.zone_journal.specs.Standing.{ReadsOn, State as Journal}
@@ -29,7 +29,7 @@ module _ (old : Journal) (before : Config) (x y : List ℕ) (r : Replays old bef
   -- with one entry more, which is taken
   at_next : (entry : List ℕ) (n : ℕ) (after : Config)
       → IsRead n (active_of old.side x y) old.generation r.snapshot (r.entries ++ entry ∷ [])
-      → TakesEntry before entry after → OneMoreMakes
+      → AcceptsEntry before entry after → OneMoreMakes
       → Replays (record old { at = n }) after x y
   at_next entry n after read taken law = record {
     active = r.active;
@@ -42,7 +42,7 @@ module _ (old : Journal) (before : Config) (x y : List ℕ) (r : Replays old bef
   pub goes_on : OneMoreMakes → (new : Journal) (n : ℕ) → new ≡ record old { at = n }
       → (entry : List ℕ) (after : Config)
       → IsRead new.at (active_of old.side x y) old.generation r.snapshot (r.entries ++ entry ∷ [])
-      → TakesEntry before entry after → Replays new after x y
+      → AcceptsEntry before entry after → Replays new after x y
   goes_on law new n moved entry after read taken =
       subst (λ (j : Journal). Replays j after x y) (sym moved)
       (at_next entry n after (subst (λ (j : Journal).

@@ -9,7 +9,7 @@ ghost use Rattle.r53_disk.specs.Disk.{Rests};
 ghost use Rattle.config_journal.specs.Kept.{config_in};
 ghost use Rattle.config_journal.specs.SnapshotFaultRecord.TheVariants.{Bad};
 ghost use Rattle.config_journal.specs.Opening.{IsBase, IsNoStore};
-ghost use Rattle.zone_journal.specs.Pairs.{Leaves, Unwritten};
+ghost use Rattle.zone_journal.specs.Pairs.{BothRead, Unwritten};
 ghost use Rattle.zone_journal.specs.Standing.{ReadsOn, StandsOn};
 ghost use Rattle.zone_journal.specs.declared.answers.OpenFault.TheVariants as OpenFault;
 
@@ -30,7 +30,7 @@ use zone_journal::{OpenFault, ZoneJournal};
 pub fn open<D: Disk>(alloc: Global, a: &mut D, b: &mut D) -> Result<ConfigJournal, OpenFault>
     ensures stands { IfOk result (λ kept. StandsOn D.reading D.images kept.journal a.new b.new) }
     ensures holds { (x y : List ℕ) → D.reading a.old ≡ Some x → D.reading b.old ≡ Some y
-        → IfOk result (λ kept. Leaves D.reading a.new b.new (Holds kept)) }
+        → IfOk result (λ kept. BothRead D.reading a.new b.new (Holds kept)) }
     ensures faulty { (x y : List ℕ) → D.reading a.old ≡ Some x → D.reading b.old ≡ Some y
         → IsFault result (IsNoStore x y) }
     ensures idle { IfOk result (λ kept. kept.journal.plan ≡ None) }
@@ -69,7 +69,7 @@ fn read_on<D: Disk>(
     ensures stands { IfOk result (λ kept. StandsOn D.reading D.images kept.journal a.new b.new) }
     ensures holds { (x y : List ℕ) → D.reading a.old ≡ Some x → D.reading b.old ≡ Some y
         → IsAtFirstGate journal octets.now x y
-        → IfOk result (λ kept. Leaves D.reading a.new b.new (Holds kept)) }
+        → IfOk result (λ kept. BothRead D.reading a.new b.new (Holds kept)) }
     ensures faulty { (x y : List ℕ) → D.reading a.old ≡ Some x → D.reading b.old ≡ Some y
         → IsAtFirstGate journal octets.now x y → IsFault result (IsNoStore x y) }
     ensures idle { IfOk result (λ kept. kept.journal.plan ≡ None) }

@@ -8,8 +8,8 @@ ghost use Rattle.config_opening.specs.Opening.{IsFault, Replays};
 ghost use Rattle.octets.specs.Counts.{Rose};
 ghost use Rattle.r53_disk.specs.Disk.{Rests};
 ghost use Rattle.config_journal.specs.Kept.{config_in};
-ghost use Rattle.config_journal.specs.Opening.{IsNoStore, IsRefused, TakesEntry};
-ghost use Rattle.zone_journal.specs.Pairs.{Leaves};
+ghost use Rattle.config_journal.specs.Opening.{IsNoStore, IsRefused, AcceptsEntry};
+ghost use Rattle.zone_journal.specs.Pairs.{BothRead};
 ghost use Rattle.zone_journal.specs.Standing.{ReadsOn, StandsOn};
 ghost use Rattle.zone_journal.specs.declared.answers.OpenFault.TheVariants as OpenFault;
 
@@ -38,7 +38,7 @@ pub(crate) fn replay<D: Disk>(
     ensures idle { IfOk result (λ done. journal.new.plan ≡ None) }
     ensures holds { (x y : List ℕ) → D.reading a.old ≡ Some x → D.reading b.old ≡ Some y
         → Replays journal.old (config_in config.old) x y → IfOk result (λ done.
-        Leaves D.reading a.new b.new (Holds (record { config = config.new; journal = journal.new }))) }
+        BothRead D.reading a.new b.new (Holds (record { config = config.new; journal = journal.new }))) }
     ensures faulty { (x y : List ℕ) → D.reading a.old ≡ Some x → D.reading b.old ≡ Some y
         → Replays journal.old (config_in config.old) x y → IsFault result (IsNoStore x y) }
     ensures a_rests { Rests D.reading D.images D.moment D.images_since a.old a.new }
@@ -77,7 +77,7 @@ fn take_next<D: Disk>(
     ensures stands { result ≡ Ok false → StandsOn D.reading D.images journal.new a.new b.new }
     ensures holds { (x y : List ℕ) → D.reading a.old ≡ Some x → D.reading b.old ≡ Some y
         → Replays journal.old (config_in config.old) x y
-        → result ≡ Ok false → Leaves D.reading a.new b.new
+        → result ≡ Ok false → BothRead D.reading a.new b.new
         (Holds (record { config = config.new; journal = journal.new })) }
     ensures faulty { (x y : List ℕ) → D.reading a.old ≡ Some x → D.reading b.old ≡ Some y
         → Replays journal.old (config_in config.old) x y → IsFault result (IsNoStore x y) }
@@ -107,7 +107,7 @@ fn take_next<D: Disk>(
 /// Makes the command of an entry, and tells whether the configuration took it.
 fn take(alloc: Global, config: &mut Config, entry: &[u8]) -> Result<bool, OutOfMemory>
     ensures taken { result ≡ Ok true
-        → TakesEntry (config_in config.old) entry.now (config_in config.new) }
+        → AcceptsEntry (config_in config.old) entry.now (config_in config.new) }
     ensures refused { result ≡ Ok false → IsRefused (config_in config.old) entry.now }
 {
     refused_are_refused();

@@ -14,7 +14,7 @@ use Rattle.config_zones.proofs.Told.{told_false}
 use Rattle.config_zones.specs.Batches.{is_over, is_store_full, store_refusal}
 use Rattle.config_zones.specs.Configs.{Config, count_of, octets_of}
 use Rattle.config_zones.specs.Sound.{AreListed, IsSoundZone, Sound}
-use Rattle.config_zones.specs.Telling.{rule}
+use Rattle.config_zones.specs.Telling.{refuse_if}
 use Rattle.config_zones.specs.RefusalRecord.TheVariants.{StoreFull}
 use Rattle.config_zones.specs.Configured.{config_of}
 use Rattle.dns_name.specs.Suffix.{EndsWith}
@@ -29,7 +29,7 @@ use Rattle.zone_model.specs.Zones.{IsAmong}
 use Rattle.config_zones.proofs.Naming.{in_map, of_map}
 use Rattle.config_zones.specs.Edits.{Edits, IsAllowed}
 use Rattle.config_zones.specs.Tables.{Table}
-use Rattle.config_zones.specs.ZoneEditRecord.TheVariants.{Open}
+use Rattle.config_zones.specs.ZoneEditRecord.TheVariants.{Begin}
 use Rattle.config_zones.specs.ZoneEditRecord.{ZoneEdit}
 use Rattle.config_zones.specs.DeltaRecord.{Delta}
 use Rattle.config_reading.specs.Reading.{OpensSoundly, with_zone}
@@ -113,7 +113,7 @@ module _ (table : Table) (checks : Checks) (next : ℕ) (id : ℕ) (name : List 
           (λ z there. comes z (of_map hosted table.zones z there)));
       few = let size = length-append before.zones (new ∷ []) in omega (arith, size, few);
       each = all_appended SoundZone before.zones (new ∷ []) sound.each (zone, tt);
-      not_full = ap (λ full. rule full StoreFull) (full_is ∙ room);
+      not_full = ap (λ full. refuse_if full StoreFull) (full_is ∙ room);
     }
 
   module _ (sound : Sound (with_zone before new)) where
@@ -160,13 +160,13 @@ module _ (table : Table) (checks : Checks) (next : ℕ) (id : ℕ) (name : List 
       (let some = numbered.0 in omega (arith, some)),
     )
 
-    pub allowed : IsAllowed table.zones (Open id name sets)
+    pub allowed : IsAllowed table.zones (Begin id name sets)
     allowed = (is_new_zone.0, is_new_zone.1, can_be_added, is_new_zone.2)
 
   -- the table once the zone is opened in it
   pub opened : EditsAreTold → (now : Table) → AreZones table.zones → AreZones now.zones
       → Sound (with_zone before new) → (told : Delta)
-      → Edits table.zones (Open id name sets) now.zones told
+      → Edits table.zones (Begin id name sets) now.zones told
       → now.collections ≡ table.collections → config_of now checks next ≡ with_zone before new
   opened law now are are_now sound told edits same =
       ap (λ (zones : List HostedZone). record {
@@ -210,7 +210,7 @@ module _ (table : Table) (checks : Checks) (next : ℕ) (id : ℕ) (name : List 
   told_room slice same has told =
       subst (λ (s : List RecordSet). IsTrue has ↔ IsRoomFor s) same told
 
-  module _ (edit : ZoneEdit) (is : edit ≡ Open id name sets) where
+  module _ (edit : ZoneEdit) (is : edit ≡ Begin id name sets) where
     pub to_sound : OpensSoundly before edit → Sound (with_zone before new)
     to_sound opens = subst (OpensSoundly before) is opens
 

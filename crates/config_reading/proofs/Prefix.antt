@@ -7,7 +7,7 @@ use Rattle.std.proofs.lemmas.List.Sums.{sum_by-append}
 use Rattle.config_zones.specs.Batches.{store_refusal}
 use Rattle.config_zones.specs.Configs.{Config, count_of, octets_of}
 use Rattle.config_zones.specs.Sound.{AreListed, IsSoundZone, Sound}
-use Rattle.config_zones.specs.Told.{HaveRoom, RefusalsAreTold}
+use Rattle.config_zones.specs.Told.{AreNotFull, RefusalsAreTold}
 use Rattle.zone_model.specs.Hosted.{HostedZone}
 
 pub all_in_front : {X : Type 0} (P : X → Type 0) (xs ys : List X) → AllByRecursion P (xs ++ ys)
@@ -23,7 +23,7 @@ listed_in_front (zone ∷ zones) more listed = (
   listed_in_front zones more listed.1,
 )
 
-room_in_front : (zones more : List HostedZone) → HaveRoom (zones ++ more) → HaveRoom zones
+room_in_front : (zones more : List HostedZone) → AreNotFull (zones ++ more) → AreNotFull zones
 room_in_front zones more room = record {
   sets = let sum = sum_by-append count_of zones more in
       let fits = room.sets in omega (arith, sum, fits);

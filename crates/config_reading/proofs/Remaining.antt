@@ -14,7 +14,7 @@ use Rattle.snapshot_reading.specs.Octets.{IsSnapshot}
 use Rattle.snapshot_reading.specs.Reading.{read, zone_at}
 use Rattle.snapshot_reading.specs.Laws.{IsReadTo, SnapshotsReadInParts}
 use Rattle.snapshot_reading.specs.Parts.{Begun, front_at, with_zones}
-use Rattle.snapshot_reading.specs.Places.{Finds, found_at}
+use Rattle.snapshot_reading.specs.Places.{GivesOrNone, found_at}
 use Rattle.snapshot_reading.specs.declared.faults.SnapshotFault.{SnapshotFault}
 use Rattle.snapshot_reading.specs.declared.faults.SnapshotFault.TheVariants.{Bad, OutOfMemory}
 use Rattle.zone_model.specs.Hosted.{HostedZone}
@@ -73,7 +73,7 @@ err_is fault other e = let same : fault ≡ other = cc in ap Err same
 
 -- a part that was not read: it isn't there, or memory ran out
 pub bad_only : {X Y Z : Type 0} (view : X → Y) (fault : SnapshotFault) (found : Option Y)
-    (octets : List ℕ) → Finds view (Err fault) found → (found ≡ None → IsOfNone octets)
+    (octets : List ℕ) → GivesOrNone view (Err fault) found → (found ≡ None → IsOfNone octets)
     → ◌≡◌ {A = Result Z SnapshotFault} (Err fault) (Err Bad) → IsOfNone octets
 bad_only view Bad found octets finds so e = so finds
 bad_only view OutOfMemory found octets finds so e = absurd (grind (arith, e))

@@ -53,8 +53,8 @@ zone_found zone = (hosted_of {A = ℕ} (zone, 0)).0
 
 -- An edit opens a zone, and with it the configuration is sound.
 abbrev pub OpensSoundly : Config → ZoneEdit → Type 0
-OpensSoundly config (edit.Open id name sets) =
+OpensSoundly config (edit.Begin id name sets) =
     Sound (with_zone config (record { id = id; apex = name; sets = sets }))
-OpensSoundly config (edit.Close id) = ⊥
+OpensSoundly config (edit.End id) = ⊥
 OpensSoundly config (edit.Change id remove add) = ⊥
 OpensSoundly config (edit.Collections now) = ⊥

@@ -32,7 +32,7 @@ pub fn open(
 {
     edits_are_told();
     zones.well_formed();
-    let edit = ZoneEdit::Open {
+    let edit = ZoneEdit::Begin {
         zone: zone.id,
         name: zone.apex,
         sets: Sets::from_vec(zone.sets),

@@ -35,7 +35,7 @@ pub fn opens_soundly(
         ↔ OpensSoundly (config_of zones.now checks.now.checks next_zone) edit.now) }
 {
     refusals_are_told();
-    let ZoneEdit::Open { zone, name, sets } = edit else {
+    let ZoneEdit::Begin { zone, name, sets } = edit else {
         return Ok(false);
     };
     let sets = sets.as_slice();

@@ -10,13 +10,13 @@ use Rattle.config_edits.specs.RecordSetRecord.{RecordSet}
 use Rattle.config_edits.specs.Octets.{set_octets}
 use Rattle.config_edits.specs.Sums.{octets_in, octets_of as octets_placed}
 use Rattle.config_edits.specs.Zones.{Zone, hosted}
-use Rattle.config_edits.specs.Placed.{Placed, sets_of}
+use Rattle.config_edits.specs.Slotted.{Slotted, sets_of}
 use Rattle.config_edits.specs.Counted.{octets_in_all, sets_in_all}
 
 abbrev size : RecordSet → ℕ
 size set = length (set_octets set)
 
-octets_in_sets : (placed : List Placed) → sum_by size (sets_of placed) ≡ octets_placed placed
+octets_in_sets : (placed : List Slotted) → sum_by size (sets_of placed) ≡ octets_placed placed
 octets_in_sets [] = refl
 octets_in_sets (p ∷ placed) =
     sum_by-cons size p.set (sets_of placed)
@@ -30,7 +30,7 @@ sets_agree [] = refl
 sets_agree (zone ∷ zones) =
     sum_by-cons count_of (hosted zone) (hosted_in zones)
     ∙ (ap (λ n. n + sum_by count_of (hosted_in zones))
-    (length-map zone.placed (λ (p : Placed). p.set))
+    (length-map zone.placed (λ (p : Slotted). p.set))
     ∙ (ap (λ n. length zone.placed + n) (sets_agree zones)
     ∙ sym (sum_by-cons placed_count zone zones)))
 

@@ -15,7 +15,7 @@ use Rattle.config_edits.proofs.Members.{in_all}
 use Rattle.config_edits.specs.Zones.{AreListed, AreZones, HasName, IsOne, IsZoneId, Zone, hosted}
 use Rattle.config_edits.specs.Zones.{placed_in}
 use Rattle.config_edits.specs.Hosted.{HostedZone}
-use Rattle.config_edits.specs.Placed.{Placed, sets_of}
+use Rattle.config_edits.specs.Slotted.{Slotted, sets_of}
 use Rattle.config_edits.specs.ZonesOfZoneModel.{IsAmong}
 use Rattle.config_edits.specs.Looking.{IsApex}
 
@@ -64,7 +64,7 @@ seen_as : (zones : List Zone) → AreListed zones → (x : Zone) → IsOne zones
 seen_as zones listed x there id name its_id its_apex =
     ap (λ (n : ℕ). record { id = n; apex = x.apex; sets = sets_of x.placed }) its_id
     ∙ (ap (λ (a : List (List ℕ)). record { id = id; apex = a; sets = sets_of x.placed }) its_apex
-    ∙ ap (λ (ps : List Placed). record { id = id; apex = name; sets = sets_of ps })
+    ∙ ap (λ (ps : List Slotted). record { id = id; apex = name; sets = sets_of ps })
     (sym (its_placed zones listed x there) ∙ ap (placed_in zones) its_id))
 
 numbered : (zones : List Zone) (id : ℕ) (apex : List (List ℕ)) → AreZones zones

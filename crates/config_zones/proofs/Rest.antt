@@ -7,7 +7,7 @@ use Rattle.std.specs.Option.{IfSome}
 use Rattle.std.proofs.lemmas.List.{length-map}
 use Rattle.config_edits.specs.RecordSetRecord.{RecordSet}
 use Rattle.config_edits.proofs.Members.{filled, left_at, nothing_left}
-use Rattle.config_edits.specs.Placed.{Placed, sets_of}
+use Rattle.config_edits.specs.Slotted.{Slotted, sets_of}
 
 module _ {X : Type 0} (f : X → Bool) (xs : List X) (i : ℕ)
     (before : list_any f (drop i xs) ≡ list_any f xs) where
@@ -33,10 +33,10 @@ pub held_so : (P : RecordSet → Type 0) (held : Option RecordSet) (set : Record
 held_so P held set e said = subst (λ (h : Option RecordSet). IfSome h P) e said
 
 -- as many sets as sets with slots
-pub as_many : (placed : List Placed) → length (sets_of placed) ≡ length placed
-as_many placed = length-map placed (λ (p : Placed). p.set)
+pub as_many : (placed : List Slotted) → length (sets_of placed) ≡ length placed
+as_many placed = length-map placed (λ (p : Slotted). p.set)
 
-pub set_at : (placed : List Placed) (i : ℕ) → i < length placed
+pub set_at : (placed : List Slotted) (i : ℕ) → i < length placed
     → (set : RecordSet) × (slice_get (sets_of placed) i ≡ Some set)
 set_at placed i lt =
     let size = as_many placed in filled (sets_of placed) i (omega (arith, lt, size))

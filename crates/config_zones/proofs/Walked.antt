@@ -13,7 +13,7 @@ use Rattle.config_edits.proofs.Members.{in_all}
 use Rattle.config_edits.specs.Found.{IsNextZone, NextZoneOrNone}
 use Rattle.config_edits.specs.Zones.{AreListed, AreZones, IsOne, StandsAlone, Zone}
 use Rattle.config_edits.specs.Zones.{placed_in}
-use Rattle.config_edits.specs.Placed.{Placed, sets_of}
+use Rattle.config_edits.specs.Slotted.{Slotted, sets_of}
 
 -- a zone of a number that isn't above another isn't among those above it
 not_above : (zone : Zone) (zones : List Zone) (id : ℕ) → zone.id ≤ id
@@ -83,7 +83,7 @@ sets_follow zones id next are is =
     let zone = is.there.0 in
     ap (λ (zs : List Zone). all_sets (hosted_in zs))
     (above_low zones id next are.listed is.least zone is.there.1 is.there.2 is.above)
-    ∙ ap (λ (ps : List Placed). sets_of ps ++ all_sets (hosted_in (above zones next)))
+    ∙ ap (λ (ps : List Slotted). sets_of ps ++ all_sets (hosted_in (above zones next)))
     (sym (its_placed zones are.listed zone is.there.1) ∙ ap (placed_in zones) is.there.2)
 
 pub follow : ZonesFollow

@@ -11,7 +11,7 @@ use Rattle.config_edits.specs.Configs.{Config}
 use Rattle.config_edits.specs.MadeRecord.{Made}
 use Rattle.config_edits.specs.RefusalRecord.{Refusal}
 use Rattle.config_edits.specs.Zones.{AreZones, Zone, placed_in}
-use Rattle.config_edits.specs.Placed.{sets_of}
+use Rattle.config_edits.specs.Slotted.{sets_of}
 use Rattle.config_edits.specs.ZonesOfZoneModel.{IsRising}
 use Rattle.config_edits.specs.Edits.{Edits, IsAllowed, collections_after, zone_of}
 use Rattle.config_edits.specs.Tables.{Table}
@@ -33,12 +33,12 @@ config_of table checks next_zone = record {
 abbrev pub IsLeast : List Zone → ZoneEdit → Type 0
 IsLeast zones (edit.Change zone remove add) =
     IsDifference (sets_of (placed_in zones zone)) (changed_in zones zone remove add) remove add
-IsLeast zones (edit.Open zone name sets) = IsRising sets
+IsLeast zones (edit.Begin zone name sets) = IsRising sets
 IsLeast zones other = ⊤
 
 -- An edit of a table is allowed, makes of its zones and collections those of a configuration, and
 -- changes no set that stays.
-pub record LeadsTo (table : Table) (made : ZoneEdit) (after : Config) : Type 0 where
+pub record EditMakes (table : Table) (made : ZoneEdit) (after : Config) : Type 0 where
   pub allowed : IsAllowed table.zones made
   pub zones : (zones : List Zone) (told : Delta) → AreZones table.zones → AreZones zones
       → Edits table.zones made zones told → hosted_in zones ≡ after.zones
@@ -57,7 +57,7 @@ zone_asked config (command.Cidr cidr) = 0
 abbrev pub IsEditFor : Config → Command → Table → ZoneEdit → Type 0
 IsEditFor config given table made =
     (after : Config) × (what : Made) × Decides config given (Ok (after, what))
-    × LeadsTo table made after × (zone_of made ≡ zone_asked config given)
+    × EditMakes table made after × (zone_of made ≡ zone_asked config given)
 
 -- It, or why the command is refused, where memory may be wanted.
 abbrev pub TellsEdit : Config → Command → Table → Result ZoneEdit Refusal → Type 0

@@ -7,7 +7,7 @@ use Rattle.config_edits.specs.NewZones.{has_zone}
 use Rattle.config_zones.specs.Walks.{above}
 use Rattle.config_edits.specs.Found.{IsNextZone, NextZoneOrNone}
 use Rattle.config_edits.specs.Zones.{AreZones, HasName, IsOne, IsZoneId, Zone, placed_in}
-use Rattle.config_edits.specs.Placed.{sets_of}
+use Rattle.config_edits.specs.Slotted.{sets_of}
 use Rattle.config_edits.specs.Counted.{octets_in_all, sets_in_all}
 use Rattle.config_edits.specs.Looking.{IsApex}
 

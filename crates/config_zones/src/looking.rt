@@ -5,7 +5,7 @@ ghost use Rattle.config_edits.specs.RecordSetRecord.{RecordSet};
 ghost use Rattle.config_edits.specs.Octets.{HasSpelling};
 ghost use Rattle.config_edits.specs.Holding.{IsHolding};
 ghost use Rattle.config_edits.specs.Zones.{placed_in};
-ghost use Rattle.config_edits.specs.Placed.{sets_of};
+ghost use Rattle.config_edits.specs.Slotted.{sets_of};
 
 use config_edits::{Scratch, Zones};
 

@@ -8,7 +8,7 @@ use Rattle.ecs_option.specs.Laws.{OneReading}
 use Rattle.ecs_option.specs.declared.subnet.ClientSubnet.{ClientSubnet}
 use Rattle.ecs_option.specs.declared.subnet.Malformed.{Malformed}
 use Rattle.dns_message.specs.Edns.{IsEdns, TellsEdns, TellsSubnet, first_body, opts_of, dnssec_ok_of}
-use Rattle.dns_message.specs.Judge.{HasQuery, Holds, IsAnsweredBy, IsFirst, Judges, NoneHolds, Point, points, query_of}
+use Rattle.dns_message.specs.Judge.{HasQuery, HoldsOf, IsAnsweredBy, IsFirst, Judges, NoneHolds, Point, points, query_of}
 use Rattle.dns_message.specs.Judge.Point.{Unheard, Kind, Counts, Question, Additionals, Version, Subnet}
 use Rattle.dns_message.specs.Laws.{OneSplit}
 use Rattle.dns_message.specs.Records.{AnyRecord, BeginsWithRecords, Split, SplitsAs}

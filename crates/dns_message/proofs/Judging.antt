@@ -7,7 +7,7 @@ use Rattle.ecs_option.specs.declared.subnet.ClientSubnet.{ClientSubnet}
 use Rattle.ecs_option.specs.declared.subnet.Malformed.{Malformed}
 use Rattle.dns_message.specs.Edns.{AreProperOpts, HasMalformedSubnet, HasNewVersion, IsMalformedOpt, TellsEdns, TellsSubnet, first_body, opts_of}
 use Rattle.dns_message.specs.Header.{arcount_of, HasQueryCounts, id_of, opcode_of, rd_of}
-use Rattle.dns_message.specs.Judge.{HasQuery, Holds, IsAnsweredBy, IsFirst, Judges, NoneHolds, Point, points, query_of}
+use Rattle.dns_message.specs.Judge.{HasQuery, HoldsOf, IsAnsweredBy, IsFirst, Judges, NoneHolds, Point, points, query_of}
 use Rattle.dns_message.specs.Judge.Point.{Unheard, Kind, Counts, Question, Additionals, Version, Subnet}
 use Rattle.dns_message.specs.Question.{Asks}
 use Rattle.dns_message.specs.Records.{AnyRecord, BeginsWithRecords, Split, SplitsAs}
@@ -56,16 +56,16 @@ told_sound told e = subst is_malformed e tt
 
 -- ---- the points of the header
 
-pub heard : (packet : List ℕ) → 12 ≤ length packet → get_or packet 2 0 < 128 → Holds Unheard packet → ⊥
+pub heard : (packet : List ℕ) → 12 ≤ length packet → get_or packet 2 0 < 128 → HoldsOf Unheard packet → ⊥
 heard packet long query (inl short) = omega (arith, long, short)
 heard packet long query (inr response) = omega (arith, query, response)
 
 -- none of the points of the header and the question holds
 pub record Sifted (packet : List ℕ) : Type 0 where
-  pub unheard : Holds Unheard packet → ⊥
-  pub kind : Holds Kind packet → ⊥
-  pub counts : Holds Counts packet → ⊥
-  pub question : Holds Question packet → ⊥
+  pub unheard : HoldsOf Unheard packet → ⊥
+  pub kind : HoldsOf Kind packet → ⊥
+  pub counts : HoldsOf Counts packet → ⊥
+  pub question : HoldsOf Question packet → ⊥
 
 pub sifted : (packet : List ℕ) → 12 ≤ length packet → get_or packet 2 0 < 128 → opcode_of packet ≡ 0
     → HasQueryCounts packet → (labels : List (List ℕ)) (n : ℕ) → Asks packet labels n → Sifted packet
@@ -77,30 +77,30 @@ sifted packet long query kind counts labels n asks = record {
 }
 
 -- the first point of each that holds
-pub first_kind : (packet : List ℕ) → (Holds Unheard packet → ⊥) → Holds Kind packet → IsFirst points Kind packet
+pub first_kind : (packet : List ℕ) → (HoldsOf Unheard packet → ⊥) → HoldsOf Kind packet → IsFirst points Kind packet
 first_kind packet unheard holds = inr (unheard, inl (holds, refl))
 
-pub first_counts : (packet : List ℕ) → (Holds Unheard packet → ⊥) → opcode_of packet ≡ 0
-    → Holds Counts packet → IsFirst points Counts packet
+pub first_counts : (packet : List ℕ) → (HoldsOf Unheard packet → ⊥) → opcode_of packet ≡ 0
+    → HoldsOf Counts packet → IsFirst points Counts packet
 first_counts packet unheard kind holds = inr (unheard, inr ((λ other. other kind), inl (holds, refl)))
 
-pub first_question : (packet : List ℕ) → (Holds Unheard packet → ⊥) → opcode_of packet ≡ 0
-    → HasQueryCounts packet → Holds Question packet → IsFirst points Question packet
+pub first_question : (packet : List ℕ) → (HoldsOf Unheard packet → ⊥) → opcode_of packet ≡ 0
+    → HasQueryCounts packet → HoldsOf Question packet → IsFirst points Question packet
 first_question packet unheard kind counts holds =
     inr (unheard, inr ((λ other. other kind), inr ((λ others. others counts), inl (holds, refl))))
 
-pub first_additionals : (packet : List ℕ) → Sifted packet → Holds Additionals packet
+pub first_additionals : (packet : List ℕ) → Sifted packet → HoldsOf Additionals packet
     → IsFirst points Additionals packet
 first_additionals packet s holds =
     inr (s.unheard, inr (s.kind, inr (s.counts, inr (s.question, inl (holds, refl)))))
 
-pub first_version : (packet : List ℕ) → Sifted packet → (Holds Additionals packet → ⊥)
-    → Holds Version packet → IsFirst points Version packet
+pub first_version : (packet : List ℕ) → Sifted packet → (HoldsOf Additionals packet → ⊥)
+    → HoldsOf Version packet → IsFirst points Version packet
 first_version packet s additionals holds =
     inr (s.unheard, inr (s.kind, inr (s.counts, inr (s.question, inr (additionals, inl (holds, refl))))))
 
-pub first_subnet : (packet : List ℕ) → Sifted packet → (Holds Additionals packet → ⊥)
-    → (Holds Version packet → ⊥) → Holds Subnet packet → IsFirst points Subnet packet
+pub first_subnet : (packet : List ℕ) → Sifted packet → (HoldsOf Additionals packet → ⊥)
+    → (HoldsOf Version packet → ⊥) → HoldsOf Subnet packet → IsFirst points Subnet packet
 first_subnet packet s additionals version holds =
     inr (
       s.unheard,
@@ -122,8 +122,8 @@ first_subnet packet s additionals version holds =
       ),
     )
 
-pub none_holds : (packet : List ℕ) → Sifted packet → (Holds Additionals packet → ⊥)
-    → (Holds Version packet → ⊥) → (Holds Subnet packet → ⊥) → NoneHolds points packet
+pub none_holds : (packet : List ℕ) → Sifted packet → (HoldsOf Additionals packet → ⊥)
+    → (HoldsOf Version packet → ⊥) → (HoldsOf Subnet packet → ⊥) → NoneHolds points packet
 none_holds packet s additionals version subnet =
     (s.unheard, (s.kind, (s.counts, (s.question, (additionals, (version, (subnet, tt)))))))
 
@@ -165,7 +165,7 @@ module _ (packet : List ℕ) (labels : List (List ℕ)) (n : ℕ) (asks : Asks p
       (subst (λ k. BeginsWithRecords (drop (12 + k) packet) split.records) len s.records) h.there
 
   -- there are no records as they have to be
-  pub broken : WalksTo behind (arcount_of packet) walked.Broken → Holds Additionals packet
+  pub broken : WalksTo behind (arcount_of packet) walked.Broken → HoldsOf Additionals packet
   broken none split s proper =
       let len : split.question_len ≡ n = only split.name split.question_len s.question in
       none split.records (record {
@@ -174,14 +174,14 @@ module _ (packet : List ℕ) (labels : List (List ℕ)) (n : ℕ) (asks : Asks p
       }) proper
 
   module _ (records : List AnyRecord) (h : HasRecords behind (arcount_of packet) records) where
-    pub unbroken : AreProperOpts (opts_of records) → Holds Additionals packet → ⊥
+    pub unbroken : AreProperOpts (opts_of records) → HoldsOf Additionals packet → ⊥
     unbroken proper none = none (split_of records) (splits records h) proper
 
-    pub no_version : (HasNewVersion (opts_of records) → ⊥) → Holds Version packet → ⊥
+    pub no_version : (HasNewVersion (opts_of records) → ⊥) → HoldsOf Version packet → ⊥
     no_version none (split, s, new) =
         none (subst (λ l. HasNewVersion (opts_of l)) (same_records records h split s) new)
 
-    pub no_fault : (HasMalformedSubnet (opts_of records) → ⊥) → Holds Subnet packet → ⊥
+    pub no_fault : (HasMalformedSubnet (opts_of records) → ⊥) → HoldsOf Subnet packet → ⊥
     no_fault none (split, s, malformed) =
         none (subst (λ l. HasMalformedSubnet (opts_of l)) (same_records records h split s) malformed)
 
@@ -325,7 +325,7 @@ module _ (packet : List ℕ) (labels : List (List ℕ)) (n : ℕ) (asks : Asks p
     is : IsOptOf r opt
     is = w.2.2
 
-    has_proper : Holds Additionals packet → ⊥
+    has_proper : HoldsOf Additionals packet → ⊥
     has_proper = unbroken packet labels n asks only records w.1 (subst AreProperOpts (sym one) (proper r opt is))
 
     query_with : HasQuery packet (query_of packet labels n (Some (edns_of opt)))
@@ -345,7 +345,7 @@ module _ (packet : List ℕ) (labels : List (List ℕ)) (n : ℕ) (asks : Asks p
           query_with,
         )
 
-    old : opt.ttl / 65536 % 256 ≤ 0 → Holds Version packet → ⊥
+    old : opt.ttl / 65536 % 256 ≤ 0 → HoldsOf Version packet → ⊥
     old h = no_version packet labels n asks only records w.1
         (λ new. no_newer r opt is h (subst HasNewVersion one new))
 

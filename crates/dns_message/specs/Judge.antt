@@ -23,14 +23,14 @@ WithSplit Has packet = (split : Split) × SplitsAs packet split × Has split
 -- counts than those of one question. Question: it lacks a whole question. Additionals: its additional records aren't whole, or the
 -- OPT records among them aren't as they have to be. Version: it asks for a newer version of EDNS than 0. Subnet: its client subnet
 -- is malformed.
-abbrev pub Holds : Point → List ℕ → Type 0
-Holds Unheard packet = (length packet < 12) ⊎ (qr_of packet ≡ 1)
-Holds Kind packet = opcode_of packet ≢ 0
-Holds Counts packet = HasQueryCounts packet → ⊥
-Holds Question packet = HasNoQuestion packet
-Holds Additionals packet = (split : Split) → SplitsAs packet split → AreProperOpts (opts_of split.records) → ⊥
-Holds Version packet = WithSplit (λ split. HasNewVersion (opts_of split.records)) packet
-Holds Subnet packet = WithSplit (λ split. HasMalformedSubnet (opts_of split.records)) packet
+abbrev pub HoldsOf : Point → List ℕ → Type 0
+HoldsOf Unheard packet = (length packet < 12) ⊎ (qr_of packet ≡ 1)
+HoldsOf Kind packet = opcode_of packet ≢ 0
+HoldsOf Counts packet = HasQueryCounts packet → ⊥
+HoldsOf Question packet = HasNoQuestion packet
+HoldsOf Additionals packet = (split : Split) → SplitsAs packet split → AreProperOpts (opts_of split.records) → ⊥
+HoldsOf Version packet = WithSplit (λ split. HasNewVersion (opts_of split.records)) packet
+HoldsOf Subnet packet = WithSplit (λ split. HasMalformedSubnet (opts_of split.records)) packet
 
 -- all points, in the order in which they are looked at
 abbrev pub points : List Point
@@ -39,13 +39,13 @@ points = Unheard ∷ Kind ∷ Counts ∷ Question ∷ Additionals ∷ Version �
 -- none of these holds
 abbrev pub NoneHolds : List Point → List ℕ → Type 0
 NoneHolds [] packet = ⊤
-NoneHolds (first ∷ others) packet = (Holds first packet → ⊥) × NoneHolds others packet
+NoneHolds (first ∷ others) packet = (HoldsOf first packet → ⊥) × NoneHolds others packet
 
 -- It holds, and is the first of these that does.
 abbrev pub IsFirst : List Point → Point → List ℕ → Type 0
 IsFirst [] point packet = ⊥
 IsFirst (first ∷ others) point packet =
-    (Holds first packet × (point ≡ first)) ⊎ ((Holds first packet → ⊥) × IsFirst others point packet)
+    (HoldsOf first packet × (point ≡ first)) ⊎ ((HoldsOf first packet → ⊥) × IsFirst others point packet)
 
 -- The response code of the header that answers a point: Format error (1) or Not Implemented (4) (RFC 1035, 4.1.1). The other
 -- points are answered otherwise.

@@ -6,14 +6,14 @@ use Rattle.std.proofs.lemmas.List.{map-append, length-map, drop-replicate}
 use Rattle.std.proofs.lemmas.Str.Ascii.{lowercase_is, lowercase-lowercase}
 use Rattle.dns_name.specs.Labels.{frame, wire, lowered, IsRawLabel, IsRawName}
 use Rattle.dns_name.specs.Wire.{BeginsWithName}
-use Rattle.dns_name.specs.Stored.{cut, labels_of, stored, IsStored, IsLowerLabel}
+use Rattle.dns_name.specs.Stored.{split, labels_of, stored, IsStored, IsLowerLabel}
 
-cut_front : (bytes : List ℕ) → (cut 0 bytes).0 ≡ []
+cut_front : (bytes : List ℕ) → (split 0 bytes).0 ≡ []
 cut_front [] = refl
 cut_front (zero ∷ bytes) = refl
 cut_front (suc n ∷ bytes) = refl
 
-cut_label : (l rest : List ℕ) → cut (length l) (l ++ rest) ≡ (l, labels_of rest)
+cut_label : (l rest : List ℕ) → split (length l) (l ++ rest) ≡ (l, labels_of rest)
 cut_label [] rest = ap (λ t. (t, labels_of rest)) (cut_front rest)
 cut_label (b ∷ l) rest = ap (λ (r : List ℕ × List (List ℕ)). (b ∷ r.0, r.1)) (cut_label l rest)
 
@@ -25,7 +25,7 @@ labels_of-wire ([] ∷ ls) rest h = absurd (let p : 0 < length {A = ℕ} [] = h.
 labels_of-wire ((b ∷ l) ∷ ls) rest h =
     let e : (l ++ flat_map frame ls ++ (0 ∷ [])) ++ rest ≡ l ++ (wire ls ++ rest) =
     simp append_assoc in
-    ap (λ t. (cut (suc (length l)) (b ∷ t)).0 ∷ (cut (suc (length l)) (b ∷ t)).1) e
+    ap (λ t. (split (suc (length l)) (b ∷ t)).0 ∷ (split (suc (length l)) (b ∷ t)).1) e
     ∙ ap (λ (r : List ℕ × List (List ℕ)). (b ∷ r.0) ∷ r.1) (cut_label l (wire ls ++ rest))
     ∙ ap (λ t. (b ∷ l) ∷ t) (labels_of-wire ls rest h.1)
 

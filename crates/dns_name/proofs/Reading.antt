@@ -12,7 +12,7 @@ use Rattle.std.proofs.lemmas.List.{take_more_set, append_cancel_left, length-set
 use Rattle.std.proofs.lemmas.List.Concat.{flat_map-append}
 use Rattle.std.proofs.Math.Seq.{drop-cons, take-add}
 use Rattle.dns_name.specs.Labels.{frame, IsRawLabel, lowered}
-use Rattle.dns_name.specs.Spelling.{Spells, Advances}
+use Rattle.dns_name.specs.Spelling.{SpellsSoFar, Advances}
 use Rattle.octets.specs.Octal.{has_octal, octal_of}
 use Rattle.dns_name.specs.Text.{read_from, take_byte, add_character, end_label, is_graphic, dot, backslash, ended, at_the_end, name_of_text, root_text}
 use Rattle.dns_name.specs.Text.Progress.{Reading, Stopped}
@@ -53,7 +53,7 @@ module _ (text : List ℕ) (done : List (List ℕ)) (label : List ℕ) (at : ℕ
   pub advances : (k : ℕ) (more_done : List (List ℕ)) (more_label bytes : List ℕ) (start end : ℕ)
       → take_byte done label at (get_or text at 0) (drop (at + 1) text)
       ≡ Reading k more_done more_label
-      → at + (k + 1) ≤ length text → Spells bytes start end more_done more_label
+      → at + (k + 1) ≤ length text → SpellsSoFar bytes start end more_done more_label
       → Advances text done label at (k + 1) bytes start end
   advances k more_done more_label bytes start end e room spells =
       let sum : at + 1 + k ≡ at + (k + 1) = omega arith in
@@ -105,7 +105,7 @@ module _ (done : List (List ℕ)) (label : List ℕ) (at b : ℕ) (rest : List �
 
 -- the octets of one label more
 module _ (bytes : List ℕ) (start end : ℕ) (done : List (List ℕ)) (label : List ℕ)
-    (spells : Spells bytes start end done label) (filled : 0 < length label) where
+    (spells : SpellsSoFar bytes start end done label) (filled : 0 < length label) where
   size : end ≡ start + 1 + length label
   size = let e = spells.size in omega arith
 
@@ -138,9 +138,9 @@ module _ (bytes : List ℕ) (start end : ℕ) (done : List (List ℕ)) (label : 
   all_push (l ∷ ls) h = (h.0, all_push ls h.1)
 
   pub one_label_more : (n : ℕ) → n ≡ length label
-      → Spells (slice_set bytes start n) end (end + 1) (done ++ label ∷ []) []
+      → SpellsSoFar (slice_set bytes start n) end (end + 1) (done ++ label ∷ []) []
   one_label_more n e =
-      subst (λ m. Spells (slice_set bytes start m) end (end + 1) (done ++ label ∷ []) []) (sym e)
+      subst (λ m. SpellsSoFar (slice_set bytes start m) end (end + 1) (done ++ label ∷ []) []) (sym e)
       (record {
         each = all_push done spells.each;
         labels = set_octets;

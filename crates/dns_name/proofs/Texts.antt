@@ -16,7 +16,7 @@ use Rattle.dns_name.specs.Whole.{IsWire}
 use Rattle.dns_name.proofs.Steps.{raw_name}
 use Rattle.std.specs.List.{flat_map}
 use Rattle.octets.specs.Octal.{has_octal, octal_of, is_octal_digit}
-use Rattle.dns_name.specs.Text.{Progress, read_from, step, take_byte, add_character, end_label, is_graphic, dot, backslash, ended}
+use Rattle.dns_name.specs.Text.{Progress, read_from, after_byte, take_byte, add_character, end_label, is_graphic, dot, backslash, ended}
 use Rattle.dns_name.specs.Text.{at_the_end, labels_of_text, name_of_text, root_text}
 use Rattle.dns_name.specs.Text.Progress.{Reading, Stopped}
 use Rattle.dns_name.specs.declared.fault.NameFault.{NameFault}
@@ -116,14 +116,14 @@ good_byte done label at b rest p =
     (Stopped (BadByte at)) IsGood (λ g. good_character done label at b 0 (small_byte b g) p)
     (λ g. tt)))
 
-good_step : (p : Progress) (at b : ℕ) (rest : List ℕ) → IsGood p → IsGood (step p at b rest)
+good_step : (p : Progress) (at b : ℕ) (rest : List ℕ) → IsGood p → IsGood (after_byte p at b rest)
 good_step (Reading zero done label) at b rest g = good_byte done label at b rest g
 good_step (Reading (suc n) done label) at b rest g = g
 good_step (Stopped fault) at b rest g = tt
 
 good_text : (p : Progress) (at : ℕ) (text : List ℕ) → IsGood p → IsGood (read_from p at text)
 good_text p at [] g = g
-good_text p at (b ∷ text) g = good_text (step p at b text) (at + 1) text (good_step p at b text g)
+good_text p at (b ∷ text) g = good_text (after_byte p at b text) (at + 1) text (good_step p at b text g)
 
 good_end : (done : List (List ℕ)) (label : List ℕ) (at : ℕ) (raw : List (List ℕ))
     → IsPart done label → ended done label at ≡ Ok raw → IsRaw raw

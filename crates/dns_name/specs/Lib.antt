@@ -3,7 +3,7 @@ pub mod Laws
 pub mod Names
 pub mod Order
 pub mod OrderLaws
-pub mod Placed
+pub mod Buffer
 pub mod Spelling
 pub mod Stored
 pub mod Suffix

@@ -7,7 +7,7 @@ use Rattle.dns_name.specs.Text.Progress.{Reading}
 
 -- The octets before `start` are whole labels; behind the octet there, up to `end`, stands a part
 -- of the next label.
-pub record Spells (bytes : List ℕ) (start end : ℕ) (done : List (List ℕ))
+pub record SpellsSoFar (bytes : List ℕ) (start end : ℕ) (done : List (List ℕ))
     (label : List ℕ) : Type 0 where
   pub each : AllByRecursion IsRawLabel done
   pub labels : take start bytes ≡ flat_map frame done
@@ -23,7 +23,7 @@ pub record Advances (text : List ℕ) (done : List (List ℕ)) (label : List ℕ
     (bytes : List ℕ) (start end : ℕ) : Type 0 where
   pub more_done : List (List ℕ)
   pub more_label : List ℕ
-  pub spells : Spells bytes start end more_done more_label
+  pub spells : SpellsSoFar bytes start end more_done more_label
   pub some : 0 < n
   pub within : at + n ≤ length text
   pub same :

@@ -6,15 +6,15 @@ use Rattle.dns_name.specs.Labels.{wire, IsRawName}
 
 -- The labels of a name on the wire, where `need` bytes of the first are still to come: that
 -- label, and those after it.
-abbrev pub cut : ℕ → List ℕ → List ℕ × List (List ℕ)
-cut need [] = ([], [])
-cut zero (zero ∷ bytes) = ([], [])
-cut zero (suc n ∷ bytes) = let r = cut (suc n) bytes in ([], r.0 ∷ r.1)
-cut (suc need) (b ∷ bytes) = let r = cut need bytes in (b ∷ r.0, r.1)
+abbrev pub split : ℕ → List ℕ → List ℕ × List (List ℕ)
+split need [] = ([], [])
+split zero (zero ∷ bytes) = ([], [])
+split zero (suc n ∷ bytes) = let r = split (suc n) bytes in ([], r.0 ∷ r.1)
+split (suc need) (b ∷ bytes) = let r = split need bytes in (b ∷ r.0, r.1)
 
 -- the labels of a name on the wire
 abbrev pub labels_of : List ℕ → List (List ℕ)
-labels_of bytes = (cut 0 bytes).1
+labels_of bytes = (split 0 bytes).1
 
 -- the bytes of a name in its array
 abbrev pub stored : List (List ℕ) → List ℕ

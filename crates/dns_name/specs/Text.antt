@@ -49,15 +49,15 @@ take_byte done label at b rest =
     else if is_graphic b then add_character done label at b 0
     else Stopped (BadByte at)
 
-abbrev pub step : Progress → (at b : ℕ) (rest : List ℕ) → Progress
-step (Reading zero done label) at b rest = take_byte done label at b rest
-step (Reading (suc passing) done label) at b rest = Reading passing done label
-step (Stopped fault) at b rest = Stopped fault
+abbrev pub after_byte : Progress → (at b : ℕ) (rest : List ℕ) → Progress
+after_byte (Reading zero done label) at b rest = take_byte done label at b rest
+after_byte (Reading (suc passing) done label) at b rest = Reading passing done label
+after_byte (Stopped fault) at b rest = Stopped fault
 
 -- from a place on
 abbrev pub read_from : Progress → (at : ℕ) → List ℕ → Progress
 read_from progress at [] = progress
-read_from progress at (b ∷ rest) = read_from (step progress at b rest) (at + 1) rest
+read_from progress at (b ∷ rest) = read_from (after_byte progress at b rest) (at + 1) rest
 
 -- at the end of a text: the label so far is the last, and behind a dot there is none more
 abbrev pub ended : (done : List (List ℕ)) (label : List ℕ) (at : ℕ)

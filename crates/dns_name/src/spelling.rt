@@ -7,7 +7,7 @@ ghost use Rattle.dns_name.specs.Text.{is_graphic};
 ghost use Rattle.std.specs.Result.{result_map_both};
 ghost use Rattle.dns_name.specs.Labels.{lowered};
 ghost use Rattle.dns_name.specs.Text.Progress.{Reading, Stopped};
-ghost use Rattle.dns_name.specs.Spelling.{Spells, Advances};
+ghost use Rattle.dns_name.specs.Spelling.{SpellsSoFar, Advances};
 
 use crate::{Name, NameFault};
 use octets::{behind, front, octal_at};
@@ -25,7 +25,7 @@ pub(crate) struct Spelling {
 impl Spelling {
     /// Nothing so far.
     pub fn new() -> Spelling
-        ensures { Spells result.bytes result.start result.end [] [] }
+        ensures { SpellsSoFar result.bytes result.start result.end [] [] }
     {
         Spelling {
             bytes: [0; 255],
@@ -37,13 +37,13 @@ impl Spelling {
     /// A character of this value, which begins at this byte of the text.
     fn add_character(&mut self, at: usize, value: u8) -> Result<(), NameFault>
         requires { (done : List (List ℕ)) × (label : List ℕ)
-            × Spells self.old.bytes self.old.start self.old.end done label }
+            × SpellsSoFar self.old.bytes self.old.start self.old.end done label }
         ensures ok { OnOk result ((done : List (List ℕ)) (label : List ℕ) (more : ℕ)
-            → Spells self.old.bytes self.old.start self.old.end done label
-            → Spells self.new.bytes self.new.start self.new.end done (label ++ value ∷ [])
+            → SpellsSoFar self.old.bytes self.old.start self.old.end done label
+            → SpellsSoFar self.new.bytes self.new.start self.new.end done (label ++ value ∷ [])
             × (add_character done label at value more ≡ Reading more done (label ++ value ∷ []))) }
         ensures err { IfErr result (λ fault. (done : List (List ℕ)) (label : List ℕ) (more : ℕ)
-            → Spells self.old.bytes self.old.start self.old.end done label
+            → SpellsSoFar self.old.bytes self.old.start self.old.end done label
             → add_character done label at value more ≡ Stopped fault) }
     {
         if self.end - self.start > 63 {
@@ -60,13 +60,13 @@ impl Spelling {
     /// The dot behind a label, at this byte of the text.
     fn end_label(&mut self, at: usize) -> Result<(), NameFault>
         requires { (done : List (List ℕ)) × (label : List ℕ)
-            × Spells self.old.bytes self.old.start self.old.end done label }
+            × SpellsSoFar self.old.bytes self.old.start self.old.end done label }
         ensures ok { OnOk result ((done : List (List ℕ)) (label : List ℕ)
-            → Spells self.old.bytes self.old.start self.old.end done label
-            → Spells self.new.bytes self.new.start self.new.end (done ++ label ∷ []) []
+            → SpellsSoFar self.old.bytes self.old.start self.old.end done label
+            → SpellsSoFar self.new.bytes self.new.start self.new.end (done ++ label ∷ []) []
             × (end_label done label at ≡ Reading 0 (done ++ label ∷ []) [])) }
         ensures err { IfErr result (λ fault. (done : List (List ℕ)) (label : List ℕ)
-            → Spells self.old.bytes self.old.start self.old.end done label
+            → SpellsSoFar self.old.bytes self.old.start self.old.end done label
             → end_label done label at ≡ Stopped fault) }
     {
         if self.end == self.start + 1 {
@@ -81,15 +81,15 @@ impl Spelling {
     /// Takes a dot or a character of the text, and says how many bytes it has.
     pub fn take(&mut self, text: &[u8], at: usize) -> Result<usize, NameFault>
         requires spelling { (done : List (List ℕ)) × (label : List ℕ)
-            × Spells self.old.bytes self.old.start self.old.end done label }
+            × SpellsSoFar self.old.bytes self.old.start self.old.end done label }
         requires within { at < length text.now }
         ensures some { IfOk result (λ n. 0 < n) }
         ensures room { IfOk result (λ n. at + n ≤ length text.now) }
         ensures ok { IfOk result (λ n. (done : List (List ℕ)) (label : List ℕ)
-            → Spells self.old.bytes self.old.start self.old.end done label
+            → SpellsSoFar self.old.bytes self.old.start self.old.end done label
             → Advances text.now done label at n self.new.bytes self.new.start self.new.end) }
         ensures err { IfErr result (λ fault. (done : List (List ℕ)) (label : List ℕ)
-            → Spells self.old.bytes self.old.start self.old.end done label
+            → SpellsSoFar self.old.bytes self.old.start self.old.end done label
             → read_from (Reading 0 done label) at (drop at text.now) ≡ Stopped fault) }
     {
         let b = text[at];
@@ -120,9 +120,9 @@ impl Spelling {
     /// The name, where the text ends at this byte.
     pub fn finish(mut self, at: usize) -> Result<Name, NameFault>
         requires { (done : List (List ℕ)) × (label : List ℕ)
-            × Spells self.bytes self.start self.end done label }
+            × SpellsSoFar self.bytes self.start self.end done label }
         ensures { (done : List (List ℕ)) (label : List ℕ)
-            → Spells self.bytes self.start self.end done label
+            → SpellsSoFar self.bytes self.start self.end done label
             → result ≡ result_map_both lowered (λ fault. fault) (ended done label at) }
     {
         if self.end == self.start + 1 {
@@ -137,8 +137,8 @@ impl Spelling {
     /// The name of the whole labels.
     fn last(&mut self, at: usize) -> Result<Name, NameFault>
         requires { (done : List (List ℕ))
-            × Spells self.old.bytes self.old.start self.old.end done [] }
-        ensures { (done : List (List ℕ)) → Spells self.old.bytes self.old.start self.old.end done []
+            × SpellsSoFar self.old.bytes self.old.start self.old.end done [] }
+        ensures { (done : List (List ℕ)) → SpellsSoFar self.old.bytes self.old.start self.old.end done []
             → result ≡ result_map_both lowered (λ fault. fault) (ended done [] at) }
     {
         if self.start == 0 {

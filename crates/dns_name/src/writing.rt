@@ -2,7 +2,7 @@
 
 ghost use Rattle.std.specs.Prelude.{◌≡◌, ℕ, ◌+◌, ◌*◌, ◌≤◌, List, length, take, drop};
 ghost use Rattle.std.specs.List.{flat_map};
-ghost use Rattle.dns_name.specs.Placed.{placed};
+ghost use Rattle.dns_name.specs.Buffer.{written};
 ghost use Rattle.dns_name.specs.Stored.{labels_of};
 ghost use Rattle.dns_name.specs.Text.{root_text};
 ghost use Rattle.dns_name.specs.Whole.{IsWire};
@@ -35,7 +35,7 @@ fn write_labels(octets: &[u8], into: &mut [u8]) -> usize
     requires octets { IsWire octets.now }
     requires room { 4 * length octets.now ≤ length into.old + 4 }
     ensures end { result ≡ length (flat_map text_of_label (labels_of octets.now)) }
-    ensures written { into.new ≡ placed into.old 0 (flat_map text_of_label (labels_of octets.now)) }
+    ensures written { into.new ≡ written into.old 0 (flat_map text_of_label (labels_of octets.now)) }
     ensures within { result ≤ length into.old }
 {
     let mut at = 0;
@@ -52,7 +52,7 @@ fn write_labels(octets: &[u8], into: &mut [u8]) -> usize
 fn write_label(label: &[u8], into: &mut [u8], at: usize) -> usize
     requires { at + 4 * length label.now + 1 ≤ length into.old }
     ensures end { result ≡ at + length (text_of_label label.now) }
-    ensures written { into.new ≡ placed into.old at (text_of_label label.now) }
+    ensures written { into.new ≡ written into.old at (text_of_label label.now) }
     ensures within { result ≤ at + 4 * length label.now + 1 }
 {
     let mut end = at;
@@ -67,7 +67,7 @@ fn write_label(label: &[u8], into: &mut [u8], at: usize) -> usize
 fn write_octet(b: u8, into: &mut [u8], at: usize) -> usize
     requires { at + 4 ≤ length into.old }
     ensures end { result ≡ at + length (text_of_octet b) }
-    ensures written { into.new ≡ placed into.old at (text_of_octet b) }
+    ensures written { into.new ≡ written into.old at (text_of_octet b) }
     ensures within { result ≤ at + 4 }
 {
     if is_plain(b) {

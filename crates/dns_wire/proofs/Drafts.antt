@@ -15,7 +15,7 @@ use Rattle.dns_wire.specs.Draft.{Draft, Follows, HoldsAll, IsEmptied, StandsFor,
 use Rattle.dns_wire.specs.Steps.{closed, counted, emptied, ended, header_of, limited, recorded}
 use Rattle.dns_wire.specs.Header.{header_octets}
 use Rattle.dns_wire.specs.Message as message
-use Rattle.dns_wire.specs.Message.{Message, Opt, Record, octets_of, opt_count, opt_octets, option_octets, record_octets, records_octets, records_of, wire, without_records}
+use Rattle.dns_wire.specs.Message.{Message, Opt, Record, octets_of, opt_count, opt_octets, option_octets, record_octets, records_octets, records_of, octets_within, without_records}
 
 -- the records with one more
 more_records : (section : Section) (r : Record) (m : Message) → Follows section m
@@ -137,7 +137,7 @@ fits_more Answer r m d f s h fits =
       question = s.question;
       records = inl (record {
         fits = fits;
-        uncut = h.uncut;
+        untruncated = h.untruncated;
         answers = omega (arith, h.answers, length-append m.answers (r ∷ []));
         authorities = h.authorities;
         additionals = h.additionals;
@@ -154,7 +154,7 @@ fits_more Authority r m d f s h fits =
       question = s.question;
       records = inl (record {
         fits = fits;
-        uncut = h.uncut;
+        untruncated = h.untruncated;
         answers = h.answers;
         authorities = omega (arith, h.authorities, length-append m.authorities (r ∷ []));
         additionals = h.additionals;
@@ -171,7 +171,7 @@ fits_more Additional r m d f s h fits =
       question = s.question;
       records = inl (record {
         fits = fits;
-        uncut = h.uncut;
+        untruncated = h.untruncated;
         answers = h.answers;
         authorities = h.authorities;
         additionals = omega (arith, h.additionals, length-append m.additionals (r ∷ []));
@@ -196,7 +196,7 @@ question_left m d s h =
 drops_all : (m : Message) (d : Draft) → StandsFor m d → HoldsAll m d → IsEmptied m (emptied d)
 drops_all m d s h =
     record {
-      is_cut = refl;
+      is_truncated = refl;
       answers = refl;
       authorities = refl;
       additionals = refl;
@@ -206,7 +206,7 @@ drops_all m d s h =
 
 drops_none : (m : Message) (d : Draft) → StandsFor m d → IsEmptied m d → IsEmptied m (emptied d)
 drops_none m d s h = record {
-  is_cut = refl;
+  is_truncated = refl;
   answers = refl;
   authorities = refl;
   additionals = refl;
@@ -229,7 +229,7 @@ none_more r m more d e o s id rd name edns question longer h = record {
     longer = longer;
     emptied =
         record {
-          is_cut = h.is_cut;
+          is_truncated = h.is_truncated;
           answers = h.answers;
           authorities = h.authorities;
           additionals =
@@ -240,13 +240,13 @@ none_more r m more d e o s id rd name edns question longer h = record {
 }
 
 -- what one more record leaves, by what was before
-when_cut : (section : Section) (r : Record) (d : Draft) → d.is_cut ≡ true → recorded section r d ≡ d
+when_cut : (section : Section) (r : Record) (d : Draft) → d.is_truncated ≡ true → recorded section r d ≡ d
 when_cut section r d h =
     ap (λ b. if b then d
     else (if nat_le (length d.bytes + length (record_octets d.name r)) d.room
     then record (counted section d) { bytes = d.bytes ++ record_octets d.name r } else emptied d)) h
 
-when_uncut : (section : Section) (r : Record) (d : Draft) (b : Bool) → d.is_cut ≡ false
+when_uncut : (section : Section) (r : Record) (d : Draft) (b : Bool) → d.is_truncated ≡ false
     → nat_le (length d.bytes + length (record_octets d.name r)) d.room ≡ b
     → recorded section r d
     ≡ (if b then record (counted section d) { bytes = d.bytes ++ record_octets d.name r }
@@ -259,7 +259,7 @@ when_uncut section r d b h k =
     ∙ ap (λ c. if c then record (counted section d) { bytes = d.bytes ++ record_octets d.name r }
     else emptied d) k
 
-pub too_long : (section : Section) (r : Record) (d : Draft) → d.is_cut ≡ false
+pub too_long : (section : Section) (r : Record) (d : Draft) → d.is_truncated ≡ false
     → d.room < length d.bytes + length (record_octets d.name r) → recorded section r d ≡ emptied d
 too_long section r d h k =
     when_uncut section r d false h
@@ -279,17 +279,17 @@ stands_on section r m d s f =
           elim (leb_tells (length d.bytes + length (record_octets d.name r)) d.room) [
             | inl t ↦
                 subst (StandsFor (with_record section r m))
-                (sym (when_uncut section r d true h.uncut t.0))
+                (sym (when_uncut section r d true h.untruncated t.0))
                 (fits_more section r m d f s h (omega (arith, now, t.1)))
             | inr t ↦
                 subst (StandsFor (with_record section r m))
-                (sym (when_uncut section r d false h.uncut t.0))
+                (sym (when_uncut section r d false h.untruncated t.0))
                 (none_more r m (with_record section r m) d (emptied d) o s refl refl refl refl refl
                 (omega (arith, now, t.1)) (drops_all m d s h))
           ]
           )
       | inr h ↦
-          subst (StandsFor (with_record section r m)) (sym (when_cut section r d h.emptied.is_cut))
+          subst (StandsFor (with_record section r m)) (sym (when_cut section r d h.emptied.is_truncated))
           (none_more r m (with_record section r m) d d o s refl refl refl refl refl
           (omega (arith, h.longer, o.size)) h.emptied)
     ]
@@ -327,15 +327,15 @@ whole_size tc m =
     )
 
 pub whole_wire : (m : Message) (limit : ℕ) → length (octets_of false m) ≤ limit
-    → wire m limit ≡ octets_of false m
-unfolding wire
+    → octets_within m limit ≡ octets_of false m
+unfolding octets_within
 whole_wire m limit h =
     ap (λ b. if b then octets_of false m else octets_of true (without_records m))
     (le-leb (length (octets_of false m)) limit h)
 
 pub cut_wire : (m : Message) (limit : ℕ) → limit < length (octets_of false m)
-    → wire m limit ≡ octets_of true (without_records m)
-unfolding wire
+    → octets_within m limit ≡ octets_of true (without_records m)
+unfolding octets_within
 cut_wire m limit h =
     ap (λ b. if b then octets_of false m else octets_of true (without_records m))
     (lt-leb (length (octets_of false m)) limit h)
@@ -353,7 +353,7 @@ whole_octets : (m : Message) (d : Draft) (aa : Bool) (rcode scope : ℕ) → Sta
 whole_octets m d aa rcode scope s h =
     let a = s.id in
     let b = s.rd in
-    let c = h.uncut in
+    let c = h.untruncated in
     let e = h.answers in
     let f = h.authorities in
     let g = h.additionals in
@@ -370,7 +370,7 @@ cut_octets : (m : Message) (d : Draft) (aa : Bool) (rcode scope : ℕ) → d.id 
     → (ended (closed (opt_octets rcode (opt_of d.edns scope)) d) aa rcode).bytes
     ≡ octets_of true (without_records (done m aa rcode (opt_of d.edns scope)))
 cut_octets m d aa rcode scope a b h =
-    let c = h.is_cut in
+    let c = h.is_truncated in
     let e = h.answers in
     let f = h.authorities in
     let g = h.additionals in
@@ -395,7 +395,7 @@ over_limit limit more d h =
 pub ends : (m : Message) (d : Draft) (aa : Bool) (rcode limit scope : ℕ) → StandsFor m d → limit ≤ d.room
     → (ended (closed (opt_octets rcode (opt_of d.edns scope))
     (limited limit (length (opt_octets rcode (opt_of d.edns scope))) d)) aa rcode).bytes
-    ≡ wire (done m aa rcode (opt_of d.edns scope)) limit
+    ≡ octets_within (done m aa rcode (opt_of d.edns scope)) limit
 ends m d aa rcode limit scope s room =
     let opt = opt_octets rcode (opt_of d.edns scope) in
     let more = length opt in

@@ -15,7 +15,7 @@ use Rattle.dns_message.specs.Edns.{AreOptions, EdnsOption, dnssec_ok_of}
 use Rattle.dns_message.specs.Laws.{OneListOfOptions, OneRecord}
 use Rattle.dns_wire.specs.Laws.{OneReading}
 use Rattle.dns_wire.specs.Message.{Message, Opt, Record, opt_count}
-use Rattle.dns_wire.specs.Reading.{DataAt, FieldAt, FieldsAt, NameAt, OptAt, OptOrEnd, PlainAt, RecordAt, RecordsAt, Stands, lower_rcode_of, pointer_octets}
+use Rattle.dns_wire.specs.Reading.{DataAt, FieldAt, FieldsAt, NameAt, OptAt, OptOrEnd, PlainAt, RecordAt, RecordsAt, StandsAt, lower_rcode_of, pointer_octets}
 use Rattle.dns_wire.specs.Reading.NameAt.{ends, goes_on, points}
 
 -- the type of a number
@@ -69,33 +69,33 @@ abbrev opt_from : (size : ℕ) → Bool → List EdnsOption → Opt
 opt_from size dnssec_ok options = record { size = size; dnssec_ok = dnssec_ok; options = options }
 
 module _ (message : List ℕ) where
-  from_place : (place : ℕ) (piece : List ℕ) (s : Stands message place piece)
+  from_place : (place : ℕ) (piece : List ℕ) (s : StandsAt message place piece)
       → drop place message ≡ piece ++ s.rest
   from_place place piece s = ap (λ m. drop place m) s.there
       ∙ drop_at s.front (piece ++ s.rest) place s.size
 
-  same_piece : (place : ℕ) (a b : List ℕ) → length a ≡ length b → Stands message place a
-      → Stands message place b → a ≡ b
+  same_piece : (place : ℕ) (a b : List ℕ) → length a ≡ length b → StandsAt message place a
+      → StandsAt message place b → a ≡ b
   same_piece place a b e s t =
       sym (take_at a s.rest (length a) refl)
       ∙ (ap (λ l. take (length a) l) (sym (from_place place a s) ∙ from_place place b t)
       ∙ take_at b t.rest (length a) (sym e))
 
-  same_first : (place x y : ℕ) (xs ys : List ℕ) → Stands message place (x ∷ xs)
-      → Stands message place (y ∷ ys) → x ≡ y
+  same_first : (place x y : ℕ) (xs ys : List ℕ) → StandsAt message place (x ∷ xs)
+      → StandsAt message place (y ∷ ys) → x ≡ y
   same_first place x y xs ys s t =
       ap (λ l. get_or l 0 0) (sym (from_place place (x ∷ xs) s) ∙ from_place place (y ∷ ys) t)
 
-  same_target : (place target other : ℕ) → Stands message place (pointer_octets target)
-      → Stands message place (pointer_octets other) → target ≡ other
+  same_target : (place target other : ℕ) → StandsAt message place (pointer_octets target)
+      → StandsAt message place (pointer_octets other) → target ≡ other
   same_target place target other s t =
       let octets = same_piece place (pointer_octets target) (pointer_octets other) refl s t in
       let first : 192 + target / 256 ≡ 192 + other / 256 = ap (λ l. get_or l 0 0) octets in
       let second : target % 256 ≡ other % 256 = ap (λ l. get_or l 1 0) octets in
       omega (arith, first, second)
 
-  same_label : (place : ℕ) (label other : List ℕ) → Stands message place (frame label)
-      → Stands message place (frame other) → label ≡ other
+  same_label : (place : ℕ) (label other : List ℕ) → StandsAt message place (frame label)
+      → StandsAt message place (frame other) → label ≡ other
   same_label place label other s t =
       let many : length label ≡ length other =
       same_first place (length label) (length other) label other s t in
@@ -106,12 +106,12 @@ module _ (message : List ℕ) where
   -- the three ways in which a name stands at a place
   abbrev Step : (place : ℕ) → List (List ℕ) → (next : ℕ) → Type 0
   Step place labels next =
-      ((labels ≡ []) × (next ≡ place + 1) × Stands message place (0 ∷ []))
+      ((labels ≡ []) × (next ≡ place + 1) × StandsAt message place (0 ∷ []))
       ⊎ ((label : List ℕ) × (rest : List (List ℕ)) × IsRawLabel label
-      × Stands message place (frame label)
+      × StandsAt message place (frame label)
       × (labels ≡ map to_ascii_lowercase label ∷ rest)
       × NameAt message (place + length (frame label)) rest next)
-      ⊎ ((target behind : ℕ) × Stands message place (pointer_octets target)
+      ⊎ ((target behind : ℕ) × StandsAt message place (pointer_octets target)
       × NameAt message target labels behind × (next ≡ place + 2))
 
   step_of : (place : ℕ) (labels : List (List ℕ)) (next : ℕ) → NameAt message place labels next
@@ -127,7 +127,7 @@ module _ (message : List ℕ) where
   Known place labels next = (other : List (List ℕ)) (other_next : ℕ)
       → NameAt message place other other_next → (labels ≡ other) × (next ≡ other_next)
 
-  at_end : (place : ℕ) → Stands message place (0 ∷ []) → (other : List (List ℕ)) (other_next : ℕ)
+  at_end : (place : ℕ) → StandsAt message place (0 ∷ []) → (other : List (List ℕ)) (other_next : ℕ)
       → Step place other other_next → ([] ≡ other) × (place + 1 ≡ other_next)
   at_end place s other other_next (inl (none, end, t)) = (sym none, sym end)
   at_end place s other other_next (inr (inl (label, rest, raw, t, e, more))) =
@@ -139,7 +139,7 @@ module _ (message : List ℕ) where
       absurd (omega (arith, first))
 
   at_label : (place next : ℕ) (label : List ℕ) (labels : List (List ℕ)) → IsRawLabel label
-      → Stands message place (frame label) → Known (place + length (frame label)) labels next
+      → StandsAt message place (frame label) → Known (place + length (frame label)) labels next
       → (other : List (List ℕ)) (other_next : ℕ) → Step place other other_next
       → (map to_ascii_lowercase label ∷ labels ≡ other) × (next ≡ other_next)
   at_label place next label labels raw s known other other_next (inl (none, end, t)) =
@@ -165,7 +165,7 @@ module _ (message : List ℕ) where
       absurd (omega (arith, first, short))
 
   at_pointer : (place target next : ℕ) (labels : List (List ℕ))
-      → Stands message place (pointer_octets target) → Known target labels next
+      → StandsAt message place (pointer_octets target) → Known target labels next
       → (other : List (List ℕ)) (other_next : ℕ) → Step place other other_next
       → (labels ≡ other) × (place + 2 ≡ other_next)
   at_pointer place target next labels s known other other_next (inl (none, end, t)) =
@@ -220,8 +220,8 @@ module _ (message : List ℕ) where
   ) ((its_tag, its_is_tag, its_spelled), its_plain) =
       let many : length tag ≡ length its_tag =
       same_first place (length tag) (length its_tag) tag its_tag
-      (subst (Stands message place) spelled plain.stands)
-      (subst (Stands message place) its_spelled its_plain.stands) in
+      (subst (StandsAt message place) spelled plain.stands)
+      (subst (StandsAt message place) its_spelled its_plain.stands) in
       sized place a b next other (ap length spelled
       ∙ (ap suc many ∙ sym (ap length its_spelled))) plain its_plain
 

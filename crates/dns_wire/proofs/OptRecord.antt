@@ -8,7 +8,7 @@ use Rattle.dns_message.specs.Records.{AnyRecord, BeginsWithRecord, record_of}
 use Rattle.dns_message.specs.Records.IsOwner.{ends}
 use Rattle.dns_wire.specs.Header.{bit_of}
 use Rattle.dns_wire.specs.Message.{Opt, opt_octets, option_octets}
-use Rattle.dns_wire.specs.Reading.{OptAt, Stands}
+use Rattle.dns_wire.specs.Reading.{OptAt, StandsAt}
 
 back : (n : ℕ) → n / 256 * 256 + n % 256 ≡ n
 back n = omega arith
@@ -89,7 +89,7 @@ do_back upper false =
     ap (λ k. k == 1) n
 
 pub opt_at : (message : List ℕ) (place rcode : ℕ) (opt : Opt)
-    → Stands message place (opt_octets rcode (Some opt))
+    → StandsAt message place (opt_octets rcode (Some opt))
     → place + length (opt_octets rcode (Some opt)) ≡ length message
     → OptAt message place opt (rcode / 16)
 opt_at message place rcode opt s end =

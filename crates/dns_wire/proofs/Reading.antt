@@ -27,15 +27,15 @@ use Rattle.dns_message.specs.Question.{IsQuestion}
 use Rattle.dns_wire.specs.Laws.{CutRepliesRead, IsProper, WholeRepliesRead}
 use Rattle.dns_wire.specs.Message.{Message, Opt, Record, fixed_octets, header_of, octets_of, opt_count, opt_octets, record_octets, records_octets, records_of, without_records}
 use Rattle.dns_wire.specs.Pointers.{as_pointer, name_octets, place_in, pointer_to}
-use Rattle.dns_wire.specs.Reading.{DataAt, FieldAt, FieldsAt, NameAt, OptOrEnd, Reads, RecordAt, RecordsAt, Stands, pointer_octets}
+use Rattle.dns_wire.specs.Reading.{DataAt, FieldAt, FieldsAt, NameAt, OptOrEnd, Reads, RecordAt, RecordsAt, StandsAt, pointer_octets}
 use Rattle.dns_wire.specs.Reading.NameAt.{ends, goes_on, points}
 use Rattle.dns_wire.proofs.Drafts.{cut_wire, whole_wire}
 use Rattle.dns_wire.proofs.OptRecord.{opt_at}
 use Rattle.dns_wire.proofs.Fields.{size_is}
 
 -- Pieces of what stands at a place.
-stands_first : (message : List ℕ) (place : ℕ) (a b : List ℕ) → Stands message place (a ++ b)
-    → Stands message place a
+stands_first : (message : List ℕ) (place : ℕ) (a b : List ℕ) → StandsAt message place (a ++ b)
+    → StandsAt message place a
 stands_first message place a b s =
     record {
       front = s.front;
@@ -45,8 +45,8 @@ stands_first message place a b s =
           ∙ ap (λ t. s.front ++ t) (append_assoc a b s.rest);
     }
 
-stands_second : (message : List ℕ) (place : ℕ) (a b : List ℕ) → Stands message place (a ++ b)
-    → Stands message (place + length a) b
+stands_second : (message : List ℕ) (place : ℕ) (a b : List ℕ) → StandsAt message place (a ++ b)
+    → StandsAt message (place + length a) b
 stands_second message place a b s = record {
   front = s.front ++ a;
   rest = s.rest;
@@ -57,13 +57,13 @@ stands_second message place a b s = record {
 
 -- A name without pointers stands as what it is in lower case.
 whole_at : (message : List ℕ) (raw : List (List ℕ)) (place : ℕ) → AllByRecursion IsRawLabel raw
-    → Stands message place (name_wire raw)
+    → StandsAt message place (name_wire raw)
     → NameAt message place (lowered raw) (place + length (name_wire raw))
 whole_at message [] place h s = ends place s
 whole_at message (l ∷ ls) place h s =
     let group : name_wire (l ∷ ls) ≡ frame l ++ name_wire ls =
     append_assoc (frame l) (flat_map frame ls) (0 ∷ []) in
-    let t : Stands message place (frame l ++ name_wire ls) = subst (Stands message place) group s in
+    let t : StandsAt message place (frame l ++ name_wire ls) = subst (StandsAt message place) group s in
     let rest : NameAt message (place + length (frame l)) (lowered ls)
     (place + length (frame l) + length (name_wire ls)) =
     whole_at message ls (place + length (frame l)) h.1
@@ -85,12 +85,12 @@ some_octet : (raw : List (List ℕ)) → 0 < length (name_wire raw)
 some_octet raw = omega (arith, length-append (flat_map frame raw) (0 ∷ []))
 
 suffix_case : (message : List ℕ) (x : List ℕ) (xs labels : List (List ℕ)) (start place : ℕ)
-    → AllByRecursion IsRawLabel (x ∷ xs) → Stands message start (name_wire (x ∷ xs)) → (same : Bool)
+    → AllByRecursion IsRawLabel (x ∷ xs) → StandsAt message start (name_wire (x ∷ xs)) → (same : Bool)
     → same_labels labels (lowered (x ∷ xs)) ≡ same
     → (if same then Some start
     else place_in (start + (length (map to_ascii_lowercase x) + 1)) (lowered xs) labels)
     ≡ Some place
-    → (Stands message (start + length (frame x)) (name_wire xs)
+    → (StandsAt message (start + length (frame x)) (name_wire xs)
     → place_in (start + length (frame x)) (lowered xs) labels ≡ Some place
     → SuffixAt message labels (start + length (frame x))
     (start + length (frame x) + length (name_wire xs)) place)
@@ -115,7 +115,7 @@ suffix_case message x xs labels start place h s false same e later =
     ap (λ p. place_in p (lowered xs) labels) (sym step) ∙ e in
     let r = later
     (stands_second message start (frame x) (name_wire xs)
-    (subst (Stands message start) group s)) found in
+    (subst (StandsAt message start) group s)) found in
     record {
       above = omega (arith, r.above, ap length group, length-append (frame x) (name_wire xs));
       next = r.next;
@@ -123,7 +123,7 @@ suffix_case message x xs labels start place h s false same e later =
     }
 
 suffix_at : (message : List ℕ) (raw labels : List (List ℕ)) (start place : ℕ)
-    → AllByRecursion IsRawLabel raw → Stands message start (name_wire raw)
+    → AllByRecursion IsRawLabel raw → StandsAt message start (name_wire raw)
     → place_in start (lowered raw) labels ≡ Some place
     → SuffixAt message labels start (start + length (name_wire raw)) place
 suffix_at message [] labels start place h s e = absurd (cc)
@@ -157,7 +157,7 @@ split_field name kind fields octets piece rest f e =
     ∙ ap (λ r. field_octets name kind piece ++ fields_octets name fields r) back
 
 -- octets and numbers within a piece
-octet_in : (message : List ℕ) (place : ℕ) (piece : List ℕ) (k : ℕ) → Stands message place piece
+octet_in : (message : List ℕ) (place : ℕ) (piece : List ℕ) (k : ℕ) → StandsAt message place piece
     → k < length piece → get_or message (place + k) 0 ≡ get_or piece k 0
 octet_in message place piece k s h =
     ap (λ t. get_or t (place + k) 0) s.there
@@ -165,7 +165,7 @@ octet_in message place piece k s h =
     ∙ get_or-append-add s.front (piece ++ s.rest) k 0
     ∙ get_or-append piece s.rest 0 k h
 
-number_in : (message : List ℕ) (place : ℕ) (piece : List ℕ) (k : ℕ) → Stands message place piece
+number_in : (message : List ℕ) (place : ℕ) (piece : List ℕ) (k : ℕ) → StandsAt message place piece
     → k + 1 < length piece → number_at message (place + k) ≡ number_at piece k
 number_in message place piece k s h =
     let sum : place + k + 1 ≡ place + (k + 1) = omega arith in
@@ -220,11 +220,11 @@ all_back (x ∷ xs) ys h = all_back xs ys h.1
 
 -- The question's name stands at 12, and all that is read stands behind it.
 module _ (message : List ℕ) (raw : List (List ℕ)) (each : AllByRecursion IsRawLabel raw)
-    (asked : Stands message 12 (name_wire raw)) where
+    (asked : StandsAt message 12 (name_wire raw)) where
   name_case : (l : List ℕ) (ls : List (List ℕ)) (place : ℕ) → 12 + length (name_wire raw) ≤ place
       → IsRawLabel l → IsLowerLabel l → (o : Option ℕ) → place_in 12 (lowered raw) (l ∷ ls) ≡ o
-      → Stands message place (as_pointer o (frame l ++ name_octets (lowered raw) ls))
-      → (Stands message (place + length (frame l)) (name_octets (lowered raw) ls)
+      → StandsAt message place (as_pointer o (frame l ++ name_octets (lowered raw) ls))
+      → (StandsAt message (place + length (frame l)) (name_octets (lowered raw) ls)
       → NameAt message (place + length (frame l)) ls
       (place + length (frame l) + length (name_octets (lowered raw) ls)))
       → NameAt message place (l ∷ ls)
@@ -242,11 +242,11 @@ module _ (message : List ℕ) (raw : List (List ℕ)) (each : AllByRecursion IsR
   name_case l ls place after is_raw lower (Some target) e s rest =
       let t = suffix_at message raw (l ∷ ls) 12 target each asked e in
       points place target t.next (l ∷ ls) (omega (arith, t.above))
-      (subst (Stands message place) (pointer_is target) s) t.name
+      (subst (StandsAt message place) (pointer_is target) s) t.name
 
   pub name_at : (labels : List (List ℕ)) (place : ℕ) → 12 + length (name_wire raw) ≤ place
       → AllByRecursion IsRawLabel labels → AllByRecursion IsLowerLabel labels
-      → Stands message place (name_octets (lowered raw) labels)
+      → StandsAt message place (name_octets (lowered raw) labels)
       → NameAt message place labels (place + length (name_octets (lowered raw) labels))
   name_at [] place after h k s = ends place s
   name_at (l ∷ ls) place after h k s =
@@ -254,14 +254,14 @@ module _ (message : List ℕ) (raw : List (List ℕ)) (each : AllByRecursion IsR
       (λ t. name_at ls (place + length (frame l)) (omega arith) h.1 k.1 t)
 
   field_at : (kind : Field) (piece : List ℕ) (place : ℕ) → 12 + length (name_wire raw) ≤ place
-      → IsField kind piece → Stands message place (field_octets (lowered raw) kind piece)
+      → IsField kind piece → StandsAt message place (field_octets (lowered raw) kind piece)
       → FieldAt message kind place piece (place + length (field_octets (lowered raw) kind piece))
   field_at field.Name piece place after f s =
       let labels : labels_of piece ≡ f.0 = ap labels_of (f.2 ∙ sym (append-nil (name_wire f.0)))
       ∙ labels_of-wire f.0 [] f.1.raw.each in
       let name =
       name_at f.0 place after f.1.raw.each f.1.lower
-      (subst (λ ls. Stands message place (name_octets (lowered raw) ls)) labels s) in
+      (subst (λ ls. StandsAt message place (name_octets (lowered raw) ls)) labels s) in
       record {
         labels = f.0;
         name = subst
@@ -278,7 +278,7 @@ module _ (message : List ℕ) (raw : List (List ℕ)) (each : AllByRecursion IsR
 
   fields_at : (fields : List Field) (octets : List ℕ) (place : ℕ)
       → 12 + length (name_wire raw) ≤ place → AreFields fields tail.Nothing octets
-      → Stands message place (fields_octets (lowered raw) fields octets)
+      → StandsAt message place (fields_octets (lowered raw) fields octets)
       → FieldsAt message fields place octets
       (place + length (fields_octets (lowered raw) fields octets))
   fields_at [] octets place after are s = (are, omega (arith, ap length are))
@@ -286,7 +286,7 @@ module _ (message : List ℕ) (raw : List (List ℕ)) (each : AllByRecursion IsR
       let first = field_octets (lowered raw) kind are.0 in
       let others = fields_octets (lowered raw) fields are.1 in
       let split = split_field (lowered raw) kind fields octets are.0 are.1 are.2 are.3 in
-      let t : Stands message place (first ++ others) = subst (Stands message place) split s in
+      let t : StandsAt message place (first ++ others) = subst (StandsAt message place) split s in
       let later =
       fields_at fields are.1 (place + length first) (omega arith) are.4
       (stands_second message place first others t) in
@@ -302,7 +302,7 @@ module _ (message : List ℕ) (raw : List (List ℕ)) (each : AllByRecursion IsR
       )
 
   data_at : (rtype : RType) (octets : List ℕ) (place : ℕ) → 12 + length (name_wire raw) ≤ place
-      → IsLayout rtype octets → Stands message place (data_octets (lowered raw) rtype octets)
+      → IsLayout rtype octets → StandsAt message place (data_octets (lowered raw) rtype octets)
       → DataAt message rtype place octets (place + length (data_octets (lowered raw) rtype octets))
   data_at A octets place after h s = record { stands = s; size = refl }
   data_at Ns octets place after h s = fields_at (fields_of Ns) octets place after h.fields s
@@ -317,16 +317,16 @@ module _ (message : List ℕ) (raw : List (List ℕ)) (each : AllByRecursion IsR
   data_at Caa octets place after h s = record { stands = s; size = refl }
 
   record_at : (r : Record) (place : ℕ) → 12 + length (name_wire raw) ≤ place → IsProper r
-      → Stands message place (record_octets (lowered raw) r)
+      → StandsAt message place (record_octets (lowered raw) r)
       → RecordAt message place r (place + length (record_octets (lowered raw) r))
   record_at r place after h s =
       let owner = name_octets (lowered raw) r.owner in
       let rdata = data_octets (lowered raw) r.rtype r.rdata in
       let fixed = fixed_octets r.rtype r.ttl (length rdata) in
       let behind = place + length owner in
-      let t : Stands message behind (fixed ++ rdata) =
+      let t : StandsAt message behind (fixed ++ rdata) =
       stands_second message place owner (fixed ++ rdata) s in
-      let u : Stands message behind fixed = stands_first message behind fixed rdata t in
+      let u : StandsAt message behind fixed = stands_first message behind fixed rdata t in
       let at_start : behind + 0 ≡ behind = omega arith in
       let size : length (record_octets (lowered raw) r) ≡ length owner + (10 + length rdata) =
       length-append owner (fixed ++ rdata) ∙ omega arith in
@@ -351,7 +351,7 @@ module _ (message : List ℕ) (raw : List (List ℕ)) (each : AllByRecursion IsR
 
   pub records_at : (records : List Record) (place : ℕ) → 12 + length (name_wire raw) ≤ place
       → AllByRecursion IsProper records
-      → Stands message place (records_octets (lowered raw) records)
+      → StandsAt message place (records_octets (lowered raw) records)
       → RecordsAt message place records (place + length (records_octets (lowered raw) records))
   records_at [] place after h s = omega arith
   records_at (r ∷ records) place after h s =
@@ -369,18 +369,18 @@ module _ (message : List ℕ) (raw : List (List ℕ)) (each : AllByRecursion IsR
 
 -- where a name's octets and what stands behind them are the question
 asked_at : (message : List ℕ) (name : List (List ℕ)) (question : List ℕ)
-    → (q : IsQuestion name question) → Stands message 12 question
-    → Stands message 12 (name_wire q.raw)
+    → (q : IsQuestion name question) → StandsAt message 12 question
+    → StandsAt message 12 (name_wire q.raw)
 asked_at message name question q s =
     stands_first message 12 (name_wire q.raw) q.type_and_class
-    (subst (Stands message 12) q.spelled s)
+    (subst (StandsAt message 12) q.spelled s)
 
 -- what is read of RCODE
 rcode_back : (rcode : ℕ) → rcode ≡ rcode / 16 * 16 + rcode % 16 % 16
 rcode_back rcode = omega arith
 
 opt_or_end : (message : List ℕ) (place rcode : ℕ) (opt : Option Opt) → FitsRcode rcode opt
-    → Stands message place (opt_octets rcode opt) → place + length (opt_octets rcode opt) ≡ length message
+    → StandsAt message place (opt_octets rcode opt) → place + length (opt_octets rcode opt) ≡ length message
     → OptOrEnd message place opt (rcode / 16)
 opt_or_end message place rcode None small s end = (omega (arith, end), omega (arith, small))
 opt_or_end message place rcode (Some opt) small s end = opt_at message place rcode opt s end
@@ -392,9 +392,9 @@ reads_back tc m small q proper =
     let header = header_octets (header_of tc m) in
     let records = records_octets m.name (records_of m) in
     let opt = opt_octets m.rcode m.opt in
-    let question : Stands message 12 m.question =
+    let question : StandsAt message 12 m.question =
     record { front = header; rest = records ++ opt; size = refl; there = refl } in
-    let asked : Stands message 12 (name_wire q.raw) =
+    let asked : StandsAt message 12 (name_wire q.raw) =
     asked_at message m.name m.question q question in
     let start = 12 + length m.question in
     let long : length m.question ≡ length (name_wire q.raw) + 4 = ap length q.spelled
@@ -408,15 +408,15 @@ reads_back tc m small q proper =
     ∙ flat_map-append (record_octets (lowered q.raw)) m.answers others
     ∙ ap (λ t. one
     ++ t) (flat_map-append (record_octets (lowered q.raw)) m.authorities m.additionals) in
-    let all : Stands message start (records ++ opt) = record {
+    let all : StandsAt message start (records ++ opt) = record {
       front = header ++ m.question;
       rest = [];
       size = omega arith;
       there = ap (λ t. header ++ (m.question ++ t)) (sym (append-nil (records ++ opt)));
     } in
-    let first : Stands message start (one ++ (two ++ three)) =
-    subst (Stands message start) parts (stands_first message start records opt all) in
-    let last : Stands message (start + length records) opt = stands_second message start records opt all in
+    let first : StandsAt message start (one ++ (two ++ three)) =
+    subst (StandsAt message start) parts (stands_first message start records opt all) in
+    let last : StandsAt message (start + length records) opt = stands_second message start records opt all in
     let second = stands_second message start one (two ++ three) first in
     let third = stands_second message (start + length one) two three second in
     let front = flags_read m.aa tc m.rd in

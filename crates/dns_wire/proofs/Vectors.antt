@@ -8,7 +8,7 @@ use Rattle.rdata_layout.specs.declared.types.RType.TheVariants.{A, Ns, Cname, So
 use Rattle.dns_wire.specs.Header.{short_reply}
 use Rattle.dns_wire.specs.Draft.{opt_of}
 use Rattle.dns_wire.specs.Limit.{limit_of}
-use Rattle.dns_wire.specs.Message.{opt_octets, wire}
+use Rattle.dns_wire.specs.Message.{opt_octets, octets_within}
 use Rattle.dns_wire.specs.Data.{data_octets}
 use Rattle.dns_wire.specs.Pointers.{name_octets}
 
@@ -71,7 +71,7 @@ pub target : data_octets example Srv (0 ∷ 1 ∷ 0 ∷ 2 ∷ 0x01 ∷ 0xBB ∷ 
 target = refl
 
 -- an address of `a`, TTL 300, with AA and RD
-pub address : wire (record {
+pub address : octets_within (record {
   id = 0x1234;
   aa = true;
   rd = true;
@@ -86,11 +86,11 @@ pub address : wire (record {
 }) 512 ≡ 0x12 ∷ 0x34 ∷ 0x85 ∷ 0x00 ∷ 0 ∷ 1 ∷ 0 ∷ 1 ∷ 0 ∷ 0 ∷ 0 ∷ 0
     ∷ 1 ∷ 0x61 ∷ 0 ∷ 0 ∷ 1 ∷ 0 ∷ 1
     ∷ 0xC0 ∷ 0x0C ∷ 0 ∷ 1 ∷ 0 ∷ 1 ∷ 0 ∷ 0 ∷ 0x01 ∷ 0x2C ∷ 0 ∷ 4 ∷ 192 ∷ 0 ∷ 2 ∷ 1 ∷ []
-unfolding wire
+unfolding octets_within
 address = refl
 
 -- the same, where it may have 34 octets: one too few
-pub cut_address : wire (record {
+pub cut_address : octets_within (record {
   id = 0x1234;
   aa = true;
   rd = true;
@@ -104,11 +104,11 @@ pub cut_address : wire (record {
   opt = None;
 }) 34 ≡ 0x12 ∷ 0x34 ∷ 0x87 ∷ 0x00 ∷ 0 ∷ 1 ∷ 0 ∷ 0 ∷ 0 ∷ 0 ∷ 0 ∷ 0 ∷ 1 ∷ 0x61 ∷ 0 ∷ 0 ∷ 1 ∷ 0 ∷ 1
     ∷ []
-unfolding wire
+unfolding octets_within
 cut_address = refl
 
 -- REFUSED for the root, without AA
-pub refused : wire (record {
+pub refused : octets_within (record {
   id = 1;
   aa = false;
   rd = false;
@@ -120,12 +120,12 @@ pub refused : wire (record {
   additionals = [];
   opt = None;
 }) 512 ≡ 0 ∷ 1 ∷ 0x80 ∷ 0x05 ∷ 0 ∷ 1 ∷ 0 ∷ 0 ∷ 0 ∷ 0 ∷ 0 ∷ 0 ∷ 0 ∷ 0 ∷ 1 ∷ 0 ∷ 1 ∷ []
-unfolding wire
+unfolding octets_within
 refused = refl
 
 -- NXDOMAIN for nope.example.com: the SOA of example.com with TTL 900, whose second name ends with
 -- com too
-pub no_such_name : wire (record {
+pub no_such_name : octets_within (record {
   id = 0x1234;
   aa = true;
   rd = true;
@@ -155,11 +155,11 @@ pub no_such_name : wire (record {
     ∷ 6 ∷ 0x61 ∷ 0x6D ∷ 0x61 ∷ 0x7A ∷ 0x6F ∷ 0x6E ∷ 0xC0 ∷ 0x19
     ∷ 0 ∷ 0 ∷ 0 ∷ 1 ∷ 0 ∷ 0 ∷ 0x1C ∷ 0x20 ∷ 0 ∷ 0 ∷ 3 ∷ 0x84 ∷ 0 ∷ 0x12 ∷ 0x75 ∷ 0 ∷ 0 ∷ 1 ∷ 0x51
     ∷ 0x80 ∷ []
-unfolding wire
+unfolding octets_within
 no_such_name = refl
 
 -- a referral for x.sub.example.com: the name server of sub.example.com, and its address
-pub referral : wire (record {
+pub referral : octets_within (record {
   id = 0x1234;
   aa = false;
   rd = true;
@@ -187,7 +187,7 @@ pub referral : wire (record {
     ∷ 0x0E
     ∷ 3 ∷ 0x6E ∷ 0x73 ∷ 0x31 ∷ 0xC0 ∷ 0x0E ∷ 0 ∷ 1 ∷ 0 ∷ 1 ∷ 0 ∷ 0 ∷ 0x0E ∷ 0x10 ∷ 0 ∷ 4 ∷ 0xC0 ∷ 0
     ∷ 2 ∷ 0x35 ∷ []
-unfolding wire
+unfolding octets_within
 referral = refl
 
 -- ---- OPT records (RFC 6891, 6.1)
@@ -220,7 +220,7 @@ pub subnet_opt : opt_octets 0 (opt_of (Some told) 17)
 subnet_opt = refl
 
 -- BADVERS for the root: the lower four bits are in the header, and the OPT record is counted
-pub refused_version : wire (record {
+pub refused_version : octets_within (record {
   id = 0x1234;
   aa = false;
   rd = true;
@@ -233,11 +233,11 @@ pub refused_version : wire (record {
   opt = opt_of (Some (record { size = 1232; dnssec_ok = false; subnet = None })) 0;
 }) 512 ≡ 0x12 ∷ 0x34 ∷ 0x81 ∷ 0 ∷ 0 ∷ 1 ∷ 0 ∷ 0 ∷ 0 ∷ 0 ∷ 0 ∷ 1 ∷ 0 ∷ 0 ∷ 1 ∷ 0 ∷ 1
     ∷ 0 ∷ 0 ∷ 0x29 ∷ 0x10 ∷ 0 ∷ 1 ∷ 0 ∷ 0 ∷ 0 ∷ 0 ∷ 0 ∷ []
-unfolding wire
+unfolding octets_within
 refused_version = refl
 
 -- an address of `a` where 45 octets are too few for it with its OPT record: that stays
-pub cut_with_opt : wire (record {
+pub cut_with_opt : octets_within (record {
   id = 0x1234;
   aa = true;
   rd = true;
@@ -251,7 +251,7 @@ pub cut_with_opt : wire (record {
   opt = opt_of (Some (record { size = 512; dnssec_ok = false; subnet = None })) 0;
 }) 45 ≡ 0x12 ∷ 0x34 ∷ 0x87 ∷ 0x00 ∷ 0 ∷ 1 ∷ 0 ∷ 0 ∷ 0 ∷ 0 ∷ 0 ∷ 1 ∷ 1 ∷ 0x61 ∷ 0 ∷ 0 ∷ 1 ∷ 0 ∷ 1
     ∷ 0 ∷ 0 ∷ 0x29 ∷ 0x10 ∷ 0 ∷ 0 ∷ 0 ∷ 0 ∷ 0 ∷ 0 ∷ 0 ∷ []
-unfolding wire
+unfolding octets_within
 cut_with_opt = refl
 
 -- ---- how many octets a reply may have

@@ -20,7 +20,7 @@ opt_of None scope = None
 opt_of (Some edns) scope =
     Some (record { size = 4096; dnssec_ok = edns.dnssec_ok; options = options_of edns.subnet scope })
 
--- Its room, what the query gave, where the question ends, whether the records were cut, how many each section has, and
+-- Its room, what the query gave, where the question ends, whether the records were truncated, how many each section has, and
 -- the octets so far. Those begin with 12 that the header will have.
 pub record Draft : Type 0 where
   pub room : ℕ
@@ -29,7 +29,7 @@ pub record Draft : Type 0 where
   pub name : List (List ℕ)
   pub edns : Option Edns
   pub question_end : ℕ
-  pub is_cut : Bool
+  pub is_truncated : Bool
   pub answers : ℕ
   pub authorities : ℕ
   pub additionals : ℕ
@@ -75,7 +75,7 @@ size_of m = 12 + (length m.question + length (records_octets m.name (records_of 
 -- it holds all records
 pub record HoldsAll (m : Message) (d : Draft) : Type 0 where
   pub fits : size_of m ≤ d.room
-  pub uncut : d.is_cut ≡ false
+  pub untruncated : d.is_truncated ≡ false
   pub answers : d.answers ≡ length m.answers
   pub authorities : d.authorities ≡ length m.authorities
   pub additionals : d.additionals ≡ length m.additionals
@@ -83,7 +83,7 @@ pub record HoldsAll (m : Message) (d : Draft) : Type 0 where
 
 -- it holds none
 pub record IsEmptied (m : Message) (d : Draft) : Type 0 where
-  pub is_cut : d.is_cut ≡ true
+  pub is_truncated : d.is_truncated ≡ true
   pub answers : d.answers ≡ 0
   pub authorities : d.authorities ≡ 0
   pub additionals : d.additionals ≡ 0

@@ -9,7 +9,7 @@ most_of_record = 4265
 
 -- The room is that of a message, the buffer has one record more, the octets are within the room, and each record has ten
 -- octets at least. A client subnet that is told is one.
-pub record IsKept (room buffer len question_end records : ℕ) (edns : Option Edns) : Type 0 where
+pub record IsIntact (room buffer len question_end records : ℕ) (edns : Option Edns) : Type 0 where
   pub least : 512 ≤ room
   pub most : room ≤ 65535
   pub spare : buffer ≡ room + most_of_record

@@ -7,7 +7,7 @@ use Rattle.dns_message.specs.Question.{IsQuestion}
 use Rattle.dns_wire.specs.declared.reply.Section.{Section}
 use Rattle.dns_wire.specs.Draft.{Follows, with_record, with_records}
 use Rattle.dns_wire.specs.Header.{FitsRcode}
-use Rattle.dns_wire.specs.Message.{Message, Record, octets_of, records_of, wire, without_records}
+use Rattle.dns_wire.specs.Message.{Message, Record, octets_of, records_of, octets_within, without_records}
 use Rattle.dns_wire.specs.Reading.{Reads}
 
 -- a record whose owner is a name, and whose data are a value of its type
@@ -15,7 +15,7 @@ pub record IsProper (r : Record) : Type 0 where
   pub owner : IsName r.owner
   pub rdata : IsLayout r.rtype r.rdata
 
--- A reply that isn't cut is read as it was meant.
+-- A reply that isn't truncated is read as it was meant.
 abbrev pub WholeRepliesRead : Type 0
 WholeRepliesRead =
     (m : Message) (limit : ℕ)
@@ -23,16 +23,16 @@ WholeRepliesRead =
     → FitsRcode m.rcode m.opt
     → IsQuestion m.name m.question
     → AllByRecursion IsProper (records_of m)
-    → Reads (wire m limit) false m
+    → Reads (octets_within m limit) false m
 
--- A reply that is cut is read as the same without its records, and with TC.
+-- A reply that is truncated is read as the same without its records, and with TC.
 abbrev pub CutRepliesRead : Type 0
 CutRepliesRead =
     (m : Message) (limit : ℕ)
     → limit < length (octets_of false m)
     → FitsRcode m.rcode m.opt
     → IsQuestion m.name m.question
-    → Reads (wire m limit) true (without_records m)
+    → Reads (octets_within m limit) true (without_records m)
 
 -- Octets are read as one reply at most, with one TC.
 abbrev pub OneReading : Type 0

@@ -102,6 +102,6 @@ octets_of tc m =
 abbrev pub without_records : Message → Message
 without_records m = record m { answers = []; authorities = []; additionals = [] }
 
--- A reply's octets, where it may have so many. One that has more is cut: it has TC, and of its records the OPT record alone (own).
-unfoldable pub wire : Message → (limit : ℕ) → List ℕ
-wire m limit = if nat_le (length (octets_of false m)) limit then octets_of false m else octets_of true (without_records m)
+-- A reply's octets, where it may have so many. One that has more is truncated: it has TC, and of its records the OPT record alone (own).
+unfoldable pub octets_within : Message → (limit : ℕ) → List ℕ
+octets_within m limit = if nat_le (length (octets_of false m)) limit then octets_of false m else octets_of true (without_records m)

@@ -16,7 +16,7 @@ use Rattle.rdata_layout.specs.Types.{number_of}
 use Rattle.dns_wire.specs.Message.{Message, Opt, Record, opt_count}
 
 -- these octets stand at a place of the message
-pub record Stands (message : List ℕ) (place : ℕ) (piece : List ℕ) : Type 0 where
+pub record StandsAt (message : List ℕ) (place : ℕ) (piece : List ℕ) : Type 0 where
   pub front : List ℕ
   pub rest : List ℕ
   pub size : length front ≡ place
@@ -29,13 +29,13 @@ pointer_octets target = (192 + target / 256) ∷ (target % 256) ∷ []
 -- A name at a place of the message, and where what stands behind it begins (3.1 and 4.1.4): the zero octet of the root; or a
 -- label and a name; or a pointer to a name at an earlier place. Labels are read in lower case (2.3.3).
 pub data NameAt (message : List ℕ) : (place : ℕ) → (labels : List (List ℕ)) → (next : ℕ) → Type 0 where
-  ends : (place : ℕ) → Stands message place (0 ∷ []) → NameAt message place [] (place + 1)
-  goes_on : (place next : ℕ) (label : List ℕ) (labels : List (List ℕ)) → IsRawLabel label → Stands message place (frame label) → NameAt message (place + length (frame label)) labels next → NameAt message place (map to_ascii_lowercase label ∷ labels) next
-  points : (place target next : ℕ) (labels : List (List ℕ)) → target < place → Stands message place (pointer_octets target) → NameAt message target labels next → NameAt message place labels (place + 2)
+  ends : (place : ℕ) → StandsAt message place (0 ∷ []) → NameAt message place [] (place + 1)
+  goes_on : (place next : ℕ) (label : List ℕ) (labels : List (List ℕ)) → IsRawLabel label → StandsAt message place (frame label) → NameAt message (place + length (frame label)) labels next → NameAt message place (map to_ascii_lowercase label ∷ labels) next
+  points : (place target next : ℕ) (labels : List (List ℕ)) → target < place → StandsAt message place (pointer_octets target) → NameAt message target labels next → NameAt message place labels (place + 2)
 
 -- octets as they stand in the message
 pub record PlainAt (message : List ℕ) (place : ℕ) (octets : List ℕ) (next : ℕ) : Type 0 where
-  pub stands : Stands message place octets
+  pub stands : StandsAt message place octets
   pub size : next ≡ place + length octets
 
 -- a name that may have a pointer, as the octets of the whole name
@@ -137,7 +137,7 @@ pub record Reads (message : List ℕ) (truncated : Bool) (m : Message) : Type 0 
   pub additional_count : arcount_of message ≡ length m.additionals + opt_count m.opt
   pub name_end : ℕ
   pub name : NameAt message 12 m.name name_end
-  pub question : Stands message 12 m.question
+  pub question : StandsAt message 12 m.question
   pub type_and_class : 12 + length m.question ≡ name_end + 4
   pub answers_end : ℕ
   pub authorities_end : ℕ

@@ -9,7 +9,7 @@ use Rattle.dns_wire.specs.Message.{Record, opt_count, record_octets}
 
 -- without its records
 abbrev pub emptied : Draft → Draft
-emptied d = record d { is_cut = true; answers = 0; authorities = 0; additionals = 0; bytes = take d.question_end d.bytes }
+emptied d = record d { is_truncated = true; answers = 0; authorities = 0; additionals = 0; bytes = take d.question_end d.bytes }
 
 -- one record more in a section
 abbrev pub counted : Section → Draft → Draft
@@ -20,7 +20,7 @@ counted Additional d = record d { additionals = d.additionals + 1 }
 -- with one record more where it fits
 abbrev pub recorded : Section → Record → Draft → Draft
 recorded section r d =
-    if d.is_cut then d
+    if d.is_truncated then d
     else (if nat_le (length d.bytes + length (record_octets d.name r)) d.room then record (counted section d) { bytes = d.bytes ++ record_octets d.name r }
     else emptied d)
 
@@ -38,7 +38,7 @@ header_of d aa rcode = record {
   id = d.id;
   opcode = 0;
   aa = aa;
-  tc = d.is_cut;
+  tc = d.is_truncated;
   rd = d.rd;
   rcode = rcode % 16;
   qdcount = 1;

@@ -1,7 +1,7 @@
 //! Replies as octets (RFC 1035, 4.1).
 //!
 //! A reply is written into room that is taken once: after that no call takes memory, and none
-//! fails. Records that don't fit make it a reply that is cut. A pointer goes into the name in the
+//! fails. Records that don't fit make it a reply that is truncated. A pointer goes into the name in the
 //! question alone, never to a name in another record.
 #![tactic(auto)]
 

@@ -5,7 +5,7 @@ ghost use Rattle.rdata_layout.specs.Layout.{IsLayout};
 ghost use Rattle.dns_wire.specs.Draft.{Follows, StandsFor, with_record, reply_to};
 ghost use Rattle.dns_wire.specs.Steps.{closed, recorded, limited, emptied, ended};
 ghost use Rattle.dns_wire.specs.Header.{FitsRcode, header_octets, short_reply};
-ghost use Rattle.dns_wire.specs.Message.{Message, wire};
+ghost use Rattle.dns_wire.specs.Message.{Message, octets_within};
 ghost use Rattle.dns_wire.specs.Draft.{opt_of};
 ghost use Rattle.dns_message.specs.Whole.{IsWhole};
 
@@ -45,7 +45,7 @@ pub struct Reply {
     rd: bool,
     name: Name,
     edns: Option<Edns>,
-    is_cut: bool,
+    is_truncated: bool,
     answers: u16,
     authorities: u16,
     additionals: u16,
@@ -54,7 +54,7 @@ pub struct Reply {
 impl Model for Reply {
     ghost use Rattle.std.specs.Prelude.{◌+◌, length, take};
     ghost use Rattle.dns_wire.specs.Draft.{Draft};
-    ghost use Rattle.dns_wire.specs.Kept.{IsKept};
+    ghost use Rattle.dns_wire.specs.Kept.{IsIntact};
 
     ghost Value = { Draft };
 
@@ -65,14 +65,14 @@ impl Model for Reply {
       name = a.name;
       edns = a.edns;
       question_end = a.question_end;
-      is_cut = a.is_cut;
+      is_truncated = a.is_truncated;
       answers = a.answers;
       authorities = a.authorities;
       additionals = a.additionals;
       bytes = take a.len a.buffer.items;
     } };
 
-    ghost invariant = { λ a. IsKept a.room (length a.buffer.items) a.len a.question_end (a.answers + a.authorities + a.additionals) a.edns };
+    ghost invariant = { λ a. IsIntact a.room (length a.buffer.items) a.len a.question_end (a.answers + a.authorities + a.additionals) a.edns };
 }
 
 impl Reply {
@@ -93,7 +93,7 @@ impl Reply {
             rd: false,
             name: Name::root(),
             edns: None,
-            is_cut: false,
+            is_truncated: false,
             answers: 0,
             authorities: 0,
             additionals: 0,
@@ -127,7 +127,7 @@ impl Reply {
         self.rd = query.rd;
         self.name = query.name;
         self.edns = query.edns;
-        self.is_cut = false;
+        self.is_truncated = false;
         self.answers = 0;
         self.authorities = 0;
         self.additionals = 0;
@@ -157,7 +157,7 @@ impl Reply {
     /// long it is.
     ///
     /// `scope` is how many bits of the client's address the answer holds for; it is told where the
-    /// query told a subnet. Where the reply would be longer than the limit it is cut: it has the
+    /// query told a subnet. Where the reply would be longer than the limit it is truncated: it has the
     /// question, TC, and the OPT record.
     pub fn finish(&mut self, aa: bool, rcode: u16, limit: usize, scope: u8) -> usize
         requires begun { (m : Message) × StandsFor m self.old }
@@ -165,7 +165,7 @@ impl Reply {
         requires most { limit ≤ self.old.room }
         requires rcode { FitsRcode rcode self.old.edns }
         ensures bytes { (m : Message) → StandsFor m self.old → self.new.bytes
-            ≡ wire (record m { aa = aa; rcode = rcode; opt = opt_of self.old.edns scope }) limit }
+            ≡ octets_within (record m { aa = aa; rcode = rcode; opt = opt_of self.old.edns scope }) limit }
         ensures room { self.new.room ≡ self.old.room }
         ensures len { result ≡ length self.new.bytes }
     {
@@ -216,7 +216,7 @@ impl Reply {
               rdata = wire.now;
             }) self.old }
     {
-        if self.is_cut {
+        if self.is_truncated {
             return;
         }
         let end = add_record(
@@ -263,7 +263,7 @@ impl Reply {
         ensures { self.new ≡ emptied self.old }
     {
         self.len = self.question_end;
-        self.is_cut = true;
+        self.is_truncated = true;
         self.answers = 0;
         self.authorities = 0;
         self.additionals = 0;
@@ -279,7 +279,7 @@ impl Reply {
             id: self.id,
             opcode: 0,
             aa,
-            tc: self.is_cut,
+            tc: self.is_truncated,
             rd: self.rd,
             rcode: (rcode % 16) as u8,
             qdcount: 1,

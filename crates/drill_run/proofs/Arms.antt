@@ -7,8 +7,8 @@ use Rattle.command_octets.specs.declared.commands.Command.{Command}
 use Rattle.config_model.specs.declared.refusals.Made.{Made}
 use Rattle.config_model.specs.declared.refusals.Refusal.{Refusal}
 use Rattle.config_model.specs.declared.refusals.Refusal.TheVariants as refusal
-use Rattle.drill_run.specs.Counting.{Does, OrMemory, Progress, HasProgress, Tears, command_counted, reply_counted, report_counted}
-use Rattle.drill_run.specs.Leaving.{IfOn, IfTorn, IsHalf}
+use Rattle.drill_run.specs.Counting.{Does, OrMemory, Progress, HasProgress, Halts, command_counted, reply_counted, report_counted}
+use Rattle.drill_run.specs.Leaving.{IfOn, IfHalted, IsHalf}
 use Rattle.drill_run.specs.declared.counting.Tally.{Tally}
 use Rattle.drill_run.specs.declared.taking.Went.{Went}
 use Rattle.engine_model.specs.Engine.{Engine, QueryGives, ReportSteps}
@@ -17,7 +17,7 @@ use Rattle.engine_model.specs.declared.answers.Compacted.TheVariants as compacte
 use Rattle.engine_model.specs.declared.answers.Reported.{Reported}
 use Rattle.geo_latency.specs.declared.tables.Tables.{Tables}
 use Rattle.line_server.specs.Asking.{CommandAsksDisk, CompactionAsksDisk}
-use Rattle.line_server.specs.Leaving.{Torn}
+use Rattle.line_server.specs.Leaving.{Halted}
 use Rattle.line_server.specs.Replying.{Commanded, Compacts}
 use Rattle.query_lines.specs.declared.queries.QueryLine.{QueryLine}
 use Rattle.r53_core.specs.Stores.{CommandGives, CompactionGives, StandsFor, State as Store}
@@ -112,8 +112,8 @@ module _ (tables : Tables) (old : Progress) (store : Store) (tally : Tally)
 module _ {D : Type 0} (images : D → List ℕ → Type 0) (a b : D) (tables : Tables) (old : Progress)
   where
     pub half_commanded : (given : Command) → CommandAsksDisk given old.engine
-        → Torn images a b (Commanded given) old.engine
-        → IsHalf images a b (Tears tables (line.Control given)) old
+        → Halted images a b (Commanded given) old.engine
+        → IsHalf images a b (Halts tables (line.Control given)) old
     half_commanded given asks (engine, reply, (came, steps, is), opens) = (
       record { engine = engine; tally = command_counted given came old.tally },
       (asks, (came, steps, refl)),
@@ -121,8 +121,8 @@ module _ {D : Type 0} (images : D → List ℕ → Type 0) (a b : D) (tables : T
     )
 
     pub half_compacted : (pieces : ℕ) → CompactionAsksDisk old.engine
-        → Torn images a b (Compacts pieces) old.engine
-        → IsHalf images a b (Tears tables (line.Compact pieces)) old
+        → Halted images a b (Compacts pieces) old.engine
+        → IsHalf images a b (Halts tables (line.Compact pieces)) old
     half_compacted pieces asks (engine, reply, (came, steps, is), opens) =
         (record { engine = engine; tally = old.tally }, (asks, (came, steps, refl)), opens)
 
@@ -136,7 +136,7 @@ module _ (tables : Tables) (asked same : Line) (is : asked ≡ same) (w : Went) 
       × OrMemory (Does tables l) old new × HasProgress new store tally)) (sym is)
 
   pub half_asked : {D : Type 0} (images : D → List ℕ → Type 0) (a b : D)
-      → IfTorn w (IsHalf images a b (Tears tables same) old)
-      → IfTorn w (IsHalf images a b (Tears tables asked) old)
-  half_asked images a b = subst (λ (l : Line). IfTorn w (IsHalf images a b (Tears tables l) old))
+      → IfHalted w (IsHalf images a b (Halts tables same) old)
+      → IfHalted w (IsHalf images a b (Halts tables asked) old)
+  half_asked images a b = subst (λ (l : Line). IfHalted w (IsHalf images a b (Halts tables l) old))
       (sym is)

@@ -18,8 +18,8 @@ use Rattle.zone_table.specs.Zones.{Zone, placed_in}
 use Rattle.zone_table.specs.SetRefRecord.{SetRef}
 use Rattle.zone_model.proofs.Among.{among_at}
 use Rattle.zone_model.specs.Hosted.{HostedZone}
-use Rattle.zone_model.specs.Placed.{IsHere, IsSlotAt, Placed, sets_of}
-use Rattle.zone_table.specs.Looking.{Names}
+use Rattle.zone_model.specs.Slotted.{IsHere, IsSlotAt, Slotted, sets_of}
+use Rattle.zone_table.specs.Looking.{RefersTo}
 
 -- counted of what is left as of all
 module _ {X : Type 0} (f : X → Bool) (xs : List X) where
@@ -73,28 +73,28 @@ sets_watched (zone ∷ zones) id = elim (cases_eq zone.id id) [
 -- what a reference to a place names
 pub named_at : (zones : List Zone) (ref : SetRef) (id i : ℕ) (same : ref.zone ≡ id)
     → IsSlotAt (placed_in zones id) i ref.slot → (set : RecordSet)
-    → slice_get (sets_of (placed_in zones id)) i ≡ Some set → Names zones ref set
+    → slice_get (sets_of (placed_in zones id)) i ≡ Some set → RefersTo zones ref set
 named_at zones ref id i same at set there =
     subst (λ (z : ℕ). IsHere (placed_in zones z) (record { slot = ref.slot; set = set })) (sym same)
     (among_at (placed_in zones id) i (record { slot = ref.slot; set = set })
     (at.1 ∙ ap (λ (s : RecordSet). Some (record { slot = ref.slot; set = s })) one))
   where
     mapped : slice_get (sets_of (placed_in zones id)) i ≡ Some at.0
-    mapped = slice_get-map (λ (p : Placed). p.set) (placed_in zones id) i
-        ∙ ap (option_map (λ (p : Placed). p.set)) at.1
+    mapped = slice_get-map (λ (p : Slotted). p.set) (placed_in zones id) i
+        ∙ ap (option_map (λ (p : Slotted). p.set)) at.1
 
     one : at.0 ≡ set
     one = (let a = mapped in grind (arith, a, there))
 
 -- some set stands at each place
-pub set_there : (placed : List Placed) (i : ℕ) → i < length placed
+pub set_there : (placed : List Slotted) (i : ℕ) → i < length placed
     → (set : RecordSet) × (slice_get (sets_of placed) i ≡ Some set)
 set_there placed i lt =
-    let size = length-map placed (λ (p : Placed). p.set) in
+    let size = length-map placed (λ (p : Slotted). p.set) in
     filled (sets_of placed) i (omega (arith, lt, size))
 
-pub as_long : (placed : List Placed) → length (sets_of placed) ≡ length placed
-as_long placed = length-map placed (λ (p : Placed). p.set)
+pub as_long : (placed : List Slotted) → length (sets_of placed) ≡ length placed
+as_long placed = length-map placed (λ (p : Slotted). p.set)
 
 -- the sets of a zone of what is kept of a configuration
 pub sets_kept : (kept : Kept) (config : Config) → config ≡ config_of kept → (id : ℕ)

@@ -20,7 +20,7 @@ use Rattle.whole_writing.specs.Output.{OutputOf}
 use Rattle.whole_writing.specs.declared.output.Output.{Output}
 use Rattle.whole_writing.specs.declared.output.Output.TheVariants as output
 use Rattle.zone_journal.specs.Making.{store_over}
-use Rattle.zone_journal.specs.Pairs.{Leaves}
+use Rattle.zone_journal.specs.Pairs.{BothRead}
 use Rattle.zone_journal.specs.Standing.{StandsOn}
 use Rattle.zone_journal.specs.declared.answers.OpenFault.{OpenFault}
 use Rattle.zone_journal.specs.declared.answers.OpenFault.TheVariants as fault
@@ -67,7 +67,7 @@ summed images a b n start before out output.Failed ended = ended
 -- where a store stands, each pair of images opens to its configuration
 pub files_open : {D : Type 0} (reading : D → Option (List ℕ)) (images : D → List ℕ → Type 0)
     → StandingOpens reading images → (kept : Kept) (a b : D)
-    → StandsOn reading images kept.journal a b → Leaves reading a b (Holds kept)
+    → StandsOn reading images kept.journal a b → BothRead reading a b (Holds kept)
     → FilesOpen images a b (config_of kept)
 files_open reading images law kept a b stands leaves = λ x y of_a of_b. record {
   generation = kept.journal.generation;
@@ -83,7 +83,7 @@ some_same e = cc
 
 -- what files open to in which a store is held
 opens_as : {D : Type 0} (reading : D → Option (List ℕ)) (kept : Kept) (a b : D) (x y : List ℕ)
-    → (leaves : Leaves reading a b (Holds kept)) → reading a ≡ Some x → reading b ≡ Some y
+    → (leaves : BothRead reading a b (Holds kept)) → reading a ≡ Some x → reading b ≡ Some y
     → OpensAs x y kept.journal.generation leaves.has.snapshot leaves.has.entries
     (opened kept).config
 opens_as reading kept a b x y leaves x_is y_is =
@@ -99,7 +99,7 @@ none_planned kept idle = cc
 -- a drill begins where its store was opened
 pub is_start : {D : Type 0} (reading : D → Option (List ℕ)) (images : D → List ℕ → Type 0)
     → StandingPlace reading images → PairOpensToOneConfig → (kept : Kept) (a b : D) (x y : List ℕ)
-    → StandsOn reading images kept.journal a b → Leaves reading a b (Holds kept)
+    → StandsOn reading images kept.journal a b → BothRead reading a b (Holds kept)
     → reading a ≡ Some x → reading b ≡ Some y → kept.journal.plan ≡ None → OpensConfig x y empty
     → IsStart x y (opened kept)
 is_start reading images law one kept a b x y stands leaves x_is y_is idle made =

@@ -114,13 +114,13 @@ OctetsDo tables octets old new =
     (told : Result Line LineFault) × Asks octets told × ToldDoes tables told old new
 
 -- A step with which a disk may fail: its line asks one.
-abbrev pub Tears : Tables → Line → (old new : Progress) → Type 0
-Tears tables asked old new = AsksDisk asked old.engine × Does tables asked old new
+abbrev pub Halts : Tables → Line → (old new : Progress) → Type 0
+Halts tables asked old new = AsksDisk asked old.engine × Does tables asked old new
 
 -- the same of a line of octets
-abbrev pub OctetsTear : Tables → (octets : List ℕ) → (old new : Progress) → Type 0
-OctetsTear tables octets old new =
-    (asked : Line) × Asks octets (Ok asked) × Tears tables asked old new
+abbrev pub OctetsHalt : Tables → (octets : List ℕ) → (old new : Progress) → Type 0
+OctetsHalt tables octets old new =
+    (asked : Line) × Asks octets (Ok asked) × Halts tables asked old new
 
 -- The step is made, or memory was wanted for it.
 abbrev pub OrMemory : (Steps : Progress → Progress → Type 0) → (old new : Progress) → Type 0

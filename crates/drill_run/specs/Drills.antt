@@ -7,7 +7,7 @@ use Rattle.drill_run.specs.declared.counting.Tally.{Tally}
 use Rattle.engine_model.specs.Engine.{Engine, is_healthy, watched_in}
 use Rattle.geo_latency.specs.declared.tables.Tables.{Tables}
 use Rattle.health_model.specs.Healthy.{sets_of}
-use Rattle.r53_gen.specs.Lines.{compaction, event, setup, setup_count}
+use Rattle.r53_gen.specs.Lines.{compaction, event_line, setup, setup_count}
 use Rattle.record_set.specs.Sets.{key_of}
 use Rattle.record_set.specs.declared.sets.RecordSet.{RecordSet}
 
@@ -28,17 +28,17 @@ CompactsBehind k old new =
     ⊎ ((k % 10000 ≢ 9999) × (new ≡ old))
 
 -- The first n events, from 0 on.
-unfoldable pub EventsRun : (n : ℕ) → (start new : Progress) → Type 0
-EventsRun zero start new = new ≡ start
-EventsRun (suc n) start new =
-    (middle : Progress) × (behind : Progress) × EventsRun n start middle
-    × MayDo no_tables (event n) middle behind × CompactsBehind n behind new
+unfoldable pub EventLinesRun : (n : ℕ) → (start new : Progress) → Type 0
+EventLinesRun zero start new = new ≡ start
+EventLinesRun (suc n) start new =
+    (middle : Progress) × (behind : Progress) × EventLinesRun n start middle
+    × MayDo no_tables (event_line n) middle behind × CompactsBehind n behind new
 
 -- A drill over n events, from a store to where it ends. The setup isn't counted.
 pub record LinesRun (n : ℕ) (start : Engine) (end : Progress) : Type 0 where
   pub made : Progress
   pub sets_up : SetsUp setup_count (uncounted start) made
-  pub runs : EventsRun n (uncounted made.engine) end
+  pub runs : EventLinesRun n (uncounted made.engine) end
 
 -- ---- the summary
 

@@ -1,8 +1,8 @@
 -- What a drill leaves, by its answer.
 use Rattle.std.specs.Prelude.{◌≡◌, ◌⊎◌, ◌<◌, ◌%◌, ℕ, List, [], Option, None, Some, ⊤}
 use Rattle.config_model.specs.Configs.{Config, empty}
-use Rattle.drill_run.specs.Counting.{OctetsTear, Progress, MayDo, uncounted}
-use Rattle.drill_run.specs.Drills.{LinesRun, EventsRun, SetsUp, no_tables, summary}
+use Rattle.drill_run.specs.Counting.{OctetsHalt, Progress, MayDo, uncounted}
+use Rattle.drill_run.specs.Drills.{LinesRun, EventLinesRun, SetsUp, no_tables, summary}
 use Rattle.drill_run.specs.declared.answers.Drilled.{Drilled}
 use Rattle.drill_run.specs.declared.answers.Drilled.TheVariants as drilled
 use Rattle.drill_run.specs.declared.taking.Went.{Went}
@@ -10,7 +10,7 @@ use Rattle.drill_run.specs.declared.taking.Went.TheVariants as went
 use Rattle.engine_model.specs.Engine.{Engine}
 use Rattle.gate_journal.specs.Layout.{IsOpen}
 use Rattle.octets.specs.Counts.{Rose}
-use Rattle.r53_gen.specs.Lines.{compaction, event, setup, setup_count}
+use Rattle.r53_gen.specs.Lines.{compaction, event_line, setup, setup_count}
 use Rattle.store_model.specs.Leaving.{OpensEither}
 use Rattle.store_model.specs.Opening.{IsShape, OpensConfig}
 use Rattle.whole_writing.specs.Output.{OutputOf}
@@ -47,11 +47,11 @@ pub record IsStart (x y : List ℕ) (start : Engine) : Type 0 where
 -- P, where the lines went on, and where a disk failed
 abbrev pub IfOn : Went → Type 0 → Type 0
 IfOn went.On P = P
-IfOn went.Torn P = ⊤
+IfOn went.Halted P = ⊤
 
-abbrev pub IfTorn : Went → Type 0 → Type 0
-IfTorn went.On P = ⊤
-IfTorn went.Torn P = P
+abbrev pub IfHalted : Went → Type 0 → Type 0
+IfHalted went.On P = ⊤
+IfHalted went.Halted P = P
 
 -- A step was in hand where a disk failed: each pair of images opens to the configuration before it or
 -- to the one after.
@@ -62,36 +62,36 @@ IsHalf images a b Steps old =
     × FilesOpenEither images a b old.engine.config new.engine.config
 
 -- A disk failed with a line of the setup in hand, behind those before it.
-pub record IsTornIn {D : Type 0} (images : D → List ℕ → Type 0) (a b : D) (start : Engine)
+pub record IsHaltedIn {D : Type 0} (images : D → List ℕ → Type 0) (a b : D) (start : Engine)
     : Type 0 where
   pub i : ℕ
   pub within : i < setup_count
   pub old : Progress
   pub before : SetsUp i (uncounted start) old
-  pub half : IsHalf images a b (OctetsTear no_tables (setup i)) old
+  pub half : IsHalf images a b (OctetsHalt no_tables (setup i)) old
 
 -- With the line of event k in hand, or with the line behind it.
-abbrev pub IsTornAt : {D : Type 0} → (images : D → List ℕ → Type 0) → (a b : D) → (k : ℕ)
+abbrev pub IsHaltedAt : {D : Type 0} → (images : D → List ℕ → Type 0) → (a b : D) → (k : ℕ)
     → (start : Progress) → Type 0
-IsTornAt images a b k start =
-    ((old : Progress) × EventsRun k start old
-    × IsHalf images a b (OctetsTear no_tables (event k)) old)
-    ⊎ ((old : Progress) × (middle : Progress) × (k % 10000 ≡ 9999) × EventsRun k start middle
-    × MayDo no_tables (event k) middle old
-    × IsHalf images a b (OctetsTear no_tables compaction) old)
+IsHaltedAt images a b k start =
+    ((old : Progress) × EventLinesRun k start old
+    × IsHalf images a b (OctetsHalt no_tables (event_line k)) old)
+    ⊎ ((old : Progress) × (middle : Progress) × (k % 10000 ≡ 9999) × EventLinesRun k start middle
+    × MayDo no_tables (event_line k) middle old
+    × IsHalf images a b (OctetsHalt no_tables compaction) old)
 
 -- With a line of some of n events in hand.
-abbrev pub IsTornRunning : {D : Type 0} → (images : D → List ℕ → Type 0) → (a b : D) → (n : ℕ)
+abbrev pub IsHaltedRunning : {D : Type 0} → (images : D → List ℕ → Type 0) → (a b : D) → (n : ℕ)
     → (start : Progress) → Type 0
-IsTornRunning images a b n start = (k : ℕ) × (k < n) × IsTornAt images a b k start
+IsHaltedRunning images a b n start = (k : ℕ) × (k < n) × IsHaltedAt images a b k start
 
 -- With a line of a drill over n events in hand.
-abbrev pub IsTorn : {D : Type 0} → (images : D → List ℕ → Type 0) → (a b : D) → (n : ℕ)
+abbrev pub IsHalted : {D : Type 0} → (images : D → List ℕ → Type 0) → (a b : D) → (n : ℕ)
     → (start : Engine) → Type 0
-IsTorn images a b n start =
-    IsTornIn images a b start
+IsHalted images a b n start =
+    IsHaltedIn images a b start
     ⊎ ((made : Progress) × SetsUp setup_count (uncounted start) made
-    × IsTornRunning images a b n (uncounted made.engine))
+    × IsHaltedRunning images a b n (uncounted made.engine))
 
 -- ---- a drill
 
@@ -124,7 +124,7 @@ LinesLeave (drilled.NotAStore side place) images a b n start before out = ⊥
 LinesLeave drilled.OpeningFault images a b n start before out = ⊥
 LinesLeave drilled.OutOfMemory images a b n start before out = ⊥
 LinesLeave drilled.DiskFault images a b n start before out =
-    IsTorn images a b n start
+    IsHalted images a b n start
 LinesLeave drilled.WriteFault images a b n start before out =
     Ended output.Failed images a b n start before out
 

@@ -1,16 +1,16 @@
 //! The lines of a drill, one after another.
 
 ghost use Rattle.std.specs.Prelude.{◌≡◌, ◌+◌, ◌*◌, ◌%◌, ◌<◌, ◌≤◌, ◌⊎◌, ◌↔◌, IsTrue};
-ghost use Rattle.drill_run.specs.Counting.{IsBelow, OctetsTear, Progress, HasProgress, MayDo};
+ghost use Rattle.drill_run.specs.Counting.{IsBelow, OctetsHalt, Progress, HasProgress, MayDo};
 ghost use Rattle.drill_run.specs.Counting.{uncounted};
-ghost use Rattle.drill_run.specs.Drills.{CompactsBehind, EventsRun, SetsUp, no_tables};
-ghost use Rattle.drill_run.specs.Leaving.{IfOn, IfTorn, IsHalf, IsTornAt, IsTornIn, IsTornRunning};
+ghost use Rattle.drill_run.specs.Drills.{CompactsBehind, EventLinesRun, SetsUp, no_tables};
+ghost use Rattle.drill_run.specs.Leaving.{IfOn, IfHalted, IsHalf, IsHaltedAt, IsHaltedIn, IsHaltedRunning};
 ghost use Rattle.engine_model.specs.Engine.{Engine};
 ghost use Rattle.octets.specs.Counts.{Rose};
 ghost use Rattle.r53_core.specs.Holding.{Holds};
 ghost use Rattle.r53_core.specs.Stores.{StandsFor};
-ghost use Rattle.r53_gen.specs.Lines.{compaction, event, setup_count};
-ghost use Rattle.zone_journal.specs.Pairs.{Leaves};
+ghost use Rattle.r53_gen.specs.Lines.{compaction, event_line, setup_count};
+ghost use Rattle.zone_journal.specs.Pairs.{BothRead};
 ghost use Rattle.zone_journal.specs.Standing.{StandsOn};
 
 use crate::counting::Tally;
@@ -43,23 +43,23 @@ pub(crate) fn set_up<D: Disk>(
         → IfOn result ((made : Progress) × SetsUp setup_count (uncounted start) made
         × StandsFor made.engine store.new) }
     ensures half { (start : Engine) → StandsFor start store.old
-        → Leaves D.reading a.old b.old (Holds store.old.kept)
-        → IfTorn result (IsTornIn D.images a.new b.new start) }
+        → BothRead D.reading a.old b.old (Holds store.old.kept)
+        → IfHalted result (IsHaltedIn D.images a.new b.new start) }
     ensures stands { IfOn result
         (StandsOn D.reading D.images store.new.kept.journal a.new b.new) }
-    ensures holds { Leaves D.reading a.old b.old (Holds store.old.kept)
-        → IfOn result (Leaves D.reading a.new b.new (Holds store.new.kept)) }
+    ensures holds { BothRead D.reading a.old b.old (Holds store.old.kept)
+        → IfOn result (BothRead D.reading a.new b.new (Holds store.new.kept)) }
     ensures room { reply.new.room ≡ reply.old.room }
     ensures a_counts { D.faults a.old ≤ D.faults a.new }
     ensures b_counts { D.faults b.old ≤ D.faults b.new }
-    ensures cause { IfTorn result (Rose (D.faults a.old) (D.faults a.new)
+    ensures cause { IfHalted result (Rose (D.faults a.old) (D.faults a.new)
         ⊎ Rose (D.faults b.old) (D.faults b.new)) }
 {
     let mut tally = Tally::new();
     for i in 0..SETUP_LINES {
         match take_setup(alloc, i, store, tables, reply, &mut tally, text, a, b) {
             Went::On => {}
-            Went::Torn => return Went::Torn,
+            Went::Halted => return Went::Halted,
         }
     }
     Went::On
@@ -88,17 +88,17 @@ fn take_setup<D: Disk>(
         × HasProgress new store.new tally.new) }
     ensures half { (start : Engine) (old : Progress) → SetsUp i (uncounted start) old
         → HasProgress old store.old tally.old
-        → Leaves D.reading a.old b.old (Holds store.old.kept)
-        → IfTorn result (IsTornIn D.images a.new b.new start) }
+        → BothRead D.reading a.old b.old (Holds store.old.kept)
+        → IfHalted result (IsHaltedIn D.images a.new b.new start) }
     ensures stands { IfOn result
         (StandsOn D.reading D.images store.new.kept.journal a.new b.new) }
-    ensures holds { Leaves D.reading a.old b.old (Holds store.old.kept)
-        → IfOn result (Leaves D.reading a.new b.new (Holds store.new.kept)) }
+    ensures holds { BothRead D.reading a.old b.old (Holds store.old.kept)
+        → IfOn result (BothRead D.reading a.new b.new (Holds store.new.kept)) }
     ensures room { reply.new.room ≡ reply.old.room }
     ensures below { IsBelow (i + 1) tally.new }
     ensures a_counts { D.faults a.old ≤ D.faults a.new }
     ensures b_counts { D.faults b.old ≤ D.faults b.new }
-    ensures cause { IfTorn result (Rose (D.faults a.old) (D.faults a.new)
+    ensures cause { IfHalted result (Rose (D.faults a.old) (D.faults a.new)
         ⊎ Rose (D.faults b.old) (D.faults b.new)) }
 {
     let Some(len) = setup_line(i, text) else {
@@ -135,25 +135,25 @@ pub(crate) fn run_events<D: Disk>(
     requires room { reply.old.room ≡ 4096 }
     requires stands { StandsOn D.reading D.images store.old.kept.journal a.old b.old }
     ensures does { (start : Progress) → HasProgress start store.old tally.old
-        → IfOn result ((end : Progress) × EventsRun events start end
+        → IfOn result ((end : Progress) × EventLinesRun events start end
         × HasProgress end store.new tally.new) }
     ensures half { (start : Progress) → HasProgress start store.old tally.old
-        → Leaves D.reading a.old b.old (Holds store.old.kept)
-        → IfTorn result (IsTornRunning D.images a.new b.new events start) }
+        → BothRead D.reading a.old b.old (Holds store.old.kept)
+        → IfHalted result (IsHaltedRunning D.images a.new b.new events start) }
     ensures stands { IfOn result
         (StandsOn D.reading D.images store.new.kept.journal a.new b.new) }
-    ensures holds { Leaves D.reading a.old b.old (Holds store.old.kept)
-        → IfOn result (Leaves D.reading a.new b.new (Holds store.new.kept)) }
+    ensures holds { BothRead D.reading a.old b.old (Holds store.old.kept)
+        → IfOn result (BothRead D.reading a.new b.new (Holds store.new.kept)) }
     ensures room { reply.new.room ≡ reply.old.room }
     ensures a_counts { D.faults a.old ≤ D.faults a.new }
     ensures b_counts { D.faults b.old ≤ D.faults b.new }
-    ensures cause { IfTorn result (Rose (D.faults a.old) (D.faults a.new)
+    ensures cause { IfHalted result (Rose (D.faults a.old) (D.faults a.new)
         ⊎ Rose (D.faults b.old) (D.faults b.new)) }
 {
     for k in 0..events {
         match take_event(alloc, k, store, tables, reply, tally, text, a, b) {
             Went::On => {}
-            Went::Torn => return Went::Torn,
+            Went::Halted => return Went::Halted,
         }
     }
     Went::On
@@ -176,26 +176,26 @@ fn take_event<D: Disk>(
     requires tables { tables.now ≡ no_tables }
     requires room { reply.old.room ≡ 4096 }
     requires stands { StandsOn D.reading D.images store.old.kept.journal a.old b.old }
-    ensures does { (start old : Progress) → EventsRun k start old → HasProgress old store.old tally.old
-        → IfOn result ((new : Progress) × EventsRun (k + 1) start new
+    ensures does { (start old : Progress) → EventLinesRun k start old → HasProgress old store.old tally.old
+        → IfOn result ((new : Progress) × EventLinesRun (k + 1) start new
         × HasProgress new store.new tally.new) }
-    ensures half { (start old : Progress) → EventsRun k start old → HasProgress old store.old tally.old
-        → Leaves D.reading a.old b.old (Holds store.old.kept)
-        → IfTorn result (IsTornAt D.images a.new b.new k start) }
+    ensures half { (start old : Progress) → EventLinesRun k start old → HasProgress old store.old tally.old
+        → BothRead D.reading a.old b.old (Holds store.old.kept)
+        → IfHalted result (IsHaltedAt D.images a.new b.new k start) }
     ensures stands { IfOn result
         (StandsOn D.reading D.images store.new.kept.journal a.new b.new) }
-    ensures holds { Leaves D.reading a.old b.old (Holds store.old.kept)
-        → IfOn result (Leaves D.reading a.new b.new (Holds store.new.kept)) }
+    ensures holds { BothRead D.reading a.old b.old (Holds store.old.kept)
+        → IfOn result (BothRead D.reading a.new b.new (Holds store.new.kept)) }
     ensures room { reply.new.room ≡ reply.old.room }
     ensures below { IsBelow (2 * (k + 1)) tally.new }
     ensures a_counts { D.faults a.old ≤ D.faults a.new }
     ensures b_counts { D.faults b.old ≤ D.faults b.new }
-    ensures cause { IfTorn result (Rose (D.faults a.old) (D.faults a.new)
+    ensures cause { IfHalted result (Rose (D.faults a.old) (D.faults a.new)
         ⊎ Rose (D.faults b.old) (D.faults b.new)) }
 {
     match take_line_of(alloc, k, store, tables, reply, tally, text, a, b) {
         Went::On => take_behind(alloc, k, store, tables, reply, tally, text, a, b),
-        Went::Torn => Went::Torn,
+        Went::Halted => Went::Halted,
     }
 }
 
@@ -217,20 +217,20 @@ fn take_line_of<D: Disk>(
     requires room { reply.old.room ≡ 4096 }
     requires stands { StandsOn D.reading D.images store.old.kept.journal a.old b.old }
     ensures does { (old : Progress) → HasProgress old store.old tally.old
-        → IfOn result ((new : Progress) × MayDo no_tables (event k) old new
+        → IfOn result ((new : Progress) × MayDo no_tables (event_line k) old new
         × HasProgress new store.new tally.new) }
     ensures half { (old : Progress) → HasProgress old store.old tally.old
-        → Leaves D.reading a.old b.old (Holds store.old.kept)
-        → IfTorn result (IsHalf D.images a.new b.new (OctetsTear no_tables (event k)) old) }
+        → BothRead D.reading a.old b.old (Holds store.old.kept)
+        → IfHalted result (IsHalf D.images a.new b.new (OctetsHalt no_tables (event_line k)) old) }
     ensures stands { IfOn result
         (StandsOn D.reading D.images store.new.kept.journal a.new b.new) }
-    ensures holds { Leaves D.reading a.old b.old (Holds store.old.kept)
-        → IfOn result (Leaves D.reading a.new b.new (Holds store.new.kept)) }
+    ensures holds { BothRead D.reading a.old b.old (Holds store.old.kept)
+        → IfOn result (BothRead D.reading a.new b.new (Holds store.new.kept)) }
     ensures room { reply.new.room ≡ reply.old.room }
     ensures below { IsBelow (2 * k + 1) tally.new }
     ensures a_counts { D.faults a.old ≤ D.faults a.new }
     ensures b_counts { D.faults b.old ≤ D.faults b.new }
-    ensures cause { IfTorn result (Rose (D.faults a.old) (D.faults a.new)
+    ensures cause { IfHalted result (Rose (D.faults a.old) (D.faults a.new)
         ⊎ Rose (D.faults b.old) (D.faults b.new)) }
 {
     let len = event_line(k, text);
@@ -268,18 +268,18 @@ fn take_behind<D: Disk>(
         → IfOn result ((new : Progress) × CompactsBehind k old new
         × HasProgress new store.new tally.new) }
     ensures half { (old : Progress) → HasProgress old store.old tally.old
-        → Leaves D.reading a.old b.old (Holds store.old.kept)
-        → IfTorn result ((k % 10000 ≡ 9999)
-        × IsHalf D.images a.new b.new (OctetsTear no_tables compaction) old) }
+        → BothRead D.reading a.old b.old (Holds store.old.kept)
+        → IfHalted result ((k % 10000 ≡ 9999)
+        × IsHalf D.images a.new b.new (OctetsHalt no_tables compaction) old) }
     ensures stands { IfOn result
         (StandsOn D.reading D.images store.new.kept.journal a.new b.new) }
-    ensures holds { Leaves D.reading a.old b.old (Holds store.old.kept)
-        → IfOn result (Leaves D.reading a.new b.new (Holds store.new.kept)) }
+    ensures holds { BothRead D.reading a.old b.old (Holds store.old.kept)
+        → IfOn result (BothRead D.reading a.new b.new (Holds store.new.kept)) }
     ensures room { reply.new.room ≡ reply.old.room }
     ensures below { IsBelow (2 * (k + 1)) tally.new }
     ensures a_counts { D.faults a.old ≤ D.faults a.new }
     ensures b_counts { D.faults b.old ≤ D.faults b.new }
-    ensures cause { IfTorn result (Rose (D.faults a.old) (D.faults a.new)
+    ensures cause { IfHalted result (Rose (D.faults a.old) (D.faults a.new)
         ⊎ Rose (D.faults b.old) (D.faults b.new)) }
 {
     if is_compacted(k) {

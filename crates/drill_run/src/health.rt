@@ -7,7 +7,7 @@ ghost use Rattle.r53_core.specs.Stores.{StandsFor};
 ghost use Rattle.record_set.specs.Sets.{key_of};
 ghost use Rattle.record_set.specs.declared.sets.RecordSet.{RecordSet};
 ghost use Rattle.zone_table.specs.Zones.{placed_in};
-ghost use Rattle.zone_model.specs.Placed.{sets_of};
+ghost use Rattle.zone_model.specs.Slotted.{sets_of};
 
 use r53_core::Store;
 

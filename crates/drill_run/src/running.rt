@@ -4,15 +4,15 @@ ghost use Rattle.std.specs.Prelude.{◌≡◌, ◌≤◌, ◌⊎◌, ℕ, List, 
 ghost use Rattle.config_model.specs.Configs.{empty};
 ghost use Rattle.drill_run.specs.Counting.{Progress, HasProgress, no_counts};
 ghost use Rattle.drill_run.specs.Drills.{LinesRun, no_tables, summary};
-ghost use Rattle.drill_run.specs.Leaving.{DrillLeaves, FilesOpen, HasCause, IfOn, IfTorn};
-ghost use Rattle.drill_run.specs.Leaving.{IfUnwritten, IsTorn, LinesLeave, OverLeaves};
+ghost use Rattle.drill_run.specs.Leaving.{DrillLeaves, FilesOpen, HasCause, IfOn, IfHalted};
+ghost use Rattle.drill_run.specs.Leaving.{IfUnwritten, IsHalted, LinesLeave, OverLeaves};
 ghost use Rattle.drill_run.specs.Leaving.{TellsOutput, drilled_of, unopened};
 ghost use Rattle.engine_model.specs.Engine.{Engine};
 ghost use Rattle.octets.specs.Counts.{Rose};
 ghost use Rattle.r53_core.specs.Holding.{Holds};
 ghost use Rattle.r53_core.specs.Stores.{StandsFor};
 ghost use Rattle.whole_writing.specs.declared.output.Output.{Output};
-ghost use Rattle.zone_journal.specs.Pairs.{Leaves};
+ghost use Rattle.zone_journal.specs.Pairs.{BothRead};
 ghost use Rattle.zone_journal.specs.Standing.{StandsOn};
 
 use crate::answers::Drilled;
@@ -153,7 +153,7 @@ fn drill_in<D: Disk, K: Sink>(
     requires summary { ROOM ≤ vec_capacity room.summary }
     requires stands { StandsOn D.reading D.images store.kept.journal a.old b.old }
     ensures leaves { (start : Engine) → StandsFor start store
-        → Leaves D.reading a.old b.old (Holds store.kept)
+        → BothRead D.reading a.old b.old (Holds store.kept)
         → LinesLeave result D.images a.new b.new events start (K.held out.old) (K.held out.new) }
     ensures unwritten { IfUnwritten result (out.new ≡ out.old) }
     ensures a_counts { D.faults a.old ≤ D.faults a.new }
@@ -174,7 +174,7 @@ fn drill_in<D: Disk, K: Sink>(
         alloc, events, &mut store, &tables, &mut reply, &mut tally, a, b,
     ) {
         Went::On => sum_up(events, &store, &tally, &mut summary, out),
-        Went::Torn => Drilled::DiskFault,
+        Went::Halted => Drilled::DiskFault,
     }
 }
 
@@ -198,21 +198,21 @@ fn run_lines<D: Disk>(
         → IfOn result ((end : Progress) × LinesRun events start end
         × HasProgress end store.new tally.new) }
     ensures half { (start : Engine) → StandsFor start store.old
-        → Leaves D.reading a.old b.old (Holds store.old.kept)
-        → IfTorn result (IsTorn D.images a.new b.new events start) }
+        → BothRead D.reading a.old b.old (Holds store.old.kept)
+        → IfHalted result (IsHalted D.images a.new b.new events start) }
     ensures stands { IfOn result
         (StandsOn D.reading D.images store.new.kept.journal a.new b.new) }
-    ensures holds { Leaves D.reading a.old b.old (Holds store.old.kept)
-        → IfOn result (Leaves D.reading a.new b.new (Holds store.new.kept)) }
+    ensures holds { BothRead D.reading a.old b.old (Holds store.old.kept)
+        → IfOn result (BothRead D.reading a.new b.new (Holds store.new.kept)) }
     ensures a_counts { D.faults a.old ≤ D.faults a.new }
     ensures b_counts { D.faults b.old ≤ D.faults b.new }
-    ensures cause { IfTorn result (Rose (D.faults a.old) (D.faults a.new)
+    ensures cause { IfHalted result (Rose (D.faults a.old) (D.faults a.new)
         ⊎ Rose (D.faults b.old) (D.faults b.new)) }
 {
     let mut text = [0; 16384];
     match set_up(alloc, store, tables, reply, &mut text, a, b) {
         Went::On => run_events(alloc, events, store, tables, reply, tally, &mut text, a, b),
-        Went::Torn => Went::Torn,
+        Went::Halted => Went::Halted,
     }
 }
 

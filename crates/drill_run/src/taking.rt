@@ -5,9 +5,9 @@ ghost use Rattle.batch_json.specs.declared.asking.Line.TheVariants as line;
 ghost use Rattle.command_bounds.specs.Laws.{HasShortLists};
 ghost use Rattle.config_model.specs.Laws.{IsBounded};
 ghost use Rattle.config_model.specs.declared.refusals.Refusal.TheVariants as refusal;
-ghost use Rattle.drill_run.specs.Counting.{Does, IsBelow, OctetsDo, OctetsTear, OrMemory, Progress};
-ghost use Rattle.drill_run.specs.Counting.{HasProgress, Tears, reply_counted};
-ghost use Rattle.drill_run.specs.Leaving.{IfOn, IfTorn, IsHalf};
+ghost use Rattle.drill_run.specs.Counting.{Does, IsBelow, OctetsDo, OctetsHalt, OrMemory, Progress};
+ghost use Rattle.drill_run.specs.Counting.{HasProgress, Halts, reply_counted};
+ghost use Rattle.drill_run.specs.Leaving.{IfOn, IfHalted, IsHalf};
 ghost use Rattle.engine_model.specs.Engine.{Engine, ReportSteps};
 ghost use Rattle.geo_latency.specs.declared.tables.Tables.{Tables as Rows};
 ghost use Rattle.engine_model.specs.declared.answers.Compacted.TheVariants as Compacted;
@@ -15,7 +15,7 @@ ghost use Rattle.octets.specs.Counts.{Rose};
 ghost use Rattle.r53_core.specs.Holding.{Holds};
 ghost use Rattle.r53_core.specs.Stores.{StandsFor};
 ghost use Rattle.session_server.specs.Taking.{IsWithin};
-ghost use Rattle.zone_journal.specs.Pairs.{Leaves};
+ghost use Rattle.zone_journal.specs.Pairs.{BothRead};
 ghost use Rattle.zone_journal.specs.Standing.{StandsOn};
 
 use crate::asking::ask;
@@ -42,7 +42,7 @@ pub(crate) enum Went {
     /// It was taken, or memory was wanted for it.
     On,
     /// A disk failed with it.
-    Torn,
+    Halted,
 }
 
 /// Takes the line after n: what it asks for is done and counted.
@@ -65,17 +65,17 @@ pub(crate) fn take_line<D: Disk>(
         → IfOn result ((new : Progress) × OrMemory (OctetsDo tables.now octets.now) old new
         × HasProgress new store.new tally.new) }
     ensures half { (old : Progress) → HasProgress old store.old tally.old
-        → Leaves D.reading a.old b.old (Holds store.old.kept)
-        → IfTorn result (IsHalf D.images a.new b.new (OctetsTear tables.now octets.now) old) }
+        → BothRead D.reading a.old b.old (Holds store.old.kept)
+        → IfHalted result (IsHalf D.images a.new b.new (OctetsHalt tables.now octets.now) old) }
     ensures stands { IfOn result
         (StandsOn D.reading D.images store.new.kept.journal a.new b.new) }
-    ensures holds { Leaves D.reading a.old b.old (Holds store.old.kept)
-        → IfOn result (Leaves D.reading a.new b.new (Holds store.new.kept)) }
+    ensures holds { BothRead D.reading a.old b.old (Holds store.old.kept)
+        → IfOn result (BothRead D.reading a.new b.new (Holds store.new.kept)) }
     ensures room { reply.new.room ≡ reply.old.room }
     ensures below { IsBelow (n + 1) tally.new }
     ensures a_counts { D.faults a.old ≤ D.faults a.new }
     ensures b_counts { D.faults b.old ≤ D.faults b.new }
-    ensures cause { IfTorn result (Rose (D.faults a.old) (D.faults a.new)
+    ensures cause { IfHalted result (Rose (D.faults a.old) (D.faults a.new)
         ⊎ Rose (D.faults b.old) (D.faults b.new)) }
 {
     match ask(alloc, octets) {
@@ -105,17 +105,17 @@ fn take_asked<D: Disk>(
         → IfOn result ((new : Progress) × OrMemory (Does tables.now asked) old new
         × HasProgress new store.new tally.new) }
     ensures half { (old : Progress) → HasProgress old store.old tally.old
-        → Leaves D.reading a.old b.old (Holds store.old.kept)
-        → IfTorn result (IsHalf D.images a.new b.new (Tears tables.now asked) old) }
+        → BothRead D.reading a.old b.old (Holds store.old.kept)
+        → IfHalted result (IsHalf D.images a.new b.new (Halts tables.now asked) old) }
     ensures stands { IfOn result
         (StandsOn D.reading D.images store.new.kept.journal a.new b.new) }
-    ensures holds { Leaves D.reading a.old b.old (Holds store.old.kept)
-        → IfOn result (Leaves D.reading a.new b.new (Holds store.new.kept)) }
+    ensures holds { BothRead D.reading a.old b.old (Holds store.old.kept)
+        → IfOn result (BothRead D.reading a.new b.new (Holds store.new.kept)) }
     ensures room { reply.new.room ≡ reply.old.room }
     ensures below { IsBelow (n + 1) tally.new }
     ensures a_counts { D.faults a.old ≤ D.faults a.new }
     ensures b_counts { D.faults b.old ≤ D.faults b.new }
-    ensures cause { IfTorn result (Rose (D.faults a.old) (D.faults a.new)
+    ensures cause { IfHalted result (Rose (D.faults a.old) (D.faults a.new)
         ⊎ Rose (D.faults b.old) (D.faults b.new)) }
 {
     match asked {
@@ -155,16 +155,16 @@ fn take_command<D: Disk>(
         → IfOn result ((new : Progress) × OrMemory (Does tables (line.Control command)) old new
         × HasProgress new store.new tally.new) }
     ensures half { (tables : Rows) (old : Progress) → HasProgress old store.old tally.old
-        → Leaves D.reading a.old b.old (Holds store.old.kept)
-        → IfTorn result (IsHalf D.images a.new b.new (Tears tables (line.Control command)) old) }
+        → BothRead D.reading a.old b.old (Holds store.old.kept)
+        → IfHalted result (IsHalf D.images a.new b.new (Halts tables (line.Control command)) old) }
     ensures stands { IfOn result
         (StandsOn D.reading D.images store.new.kept.journal a.new b.new) }
-    ensures holds { Leaves D.reading a.old b.old (Holds store.old.kept)
-        → IfOn result (Leaves D.reading a.new b.new (Holds store.new.kept)) }
+    ensures holds { BothRead D.reading a.old b.old (Holds store.old.kept)
+        → IfOn result (BothRead D.reading a.new b.new (Holds store.new.kept)) }
     ensures below { IsBelow (n + 1) tally.new }
     ensures a_counts { D.faults a.old ≤ D.faults a.new }
     ensures b_counts { D.faults b.old ≤ D.faults b.new }
-    ensures cause { IfTorn result (Rose (D.faults a.old) (D.faults a.new)
+    ensures cause { IfHalted result (Rose (D.faults a.old) (D.faults a.new)
         ⊎ Rose (D.faults b.old) (D.faults b.new)) }
 {
     one_outcome();
@@ -173,7 +173,7 @@ fn take_command<D: Disk>(
     let came = store.command(alloc, a, b, command);
     count_command(batches, &came, n, tally);
     if is_fault(&came) {
-        return Went::Torn;
+        return Went::Halted;
     }
     Went::On
 }
@@ -200,20 +200,20 @@ fn take_pieces<D: Disk>(
         → IfOn result ((new : Progress) × OrMemory (Does tables (line.Compact pieces)) old new
         × HasProgress new store.new tally.now) }
     ensures half { (tables : Rows) (old : Progress) → HasProgress old store.old tally.now
-        → Leaves D.reading a.old b.old (Holds store.old.kept)
-        → IfTorn result (IsHalf D.images a.new b.new (Tears tables (line.Compact pieces)) old) }
+        → BothRead D.reading a.old b.old (Holds store.old.kept)
+        → IfHalted result (IsHalf D.images a.new b.new (Halts tables (line.Compact pieces)) old) }
     ensures stands { IfOn result
         (StandsOn D.reading D.images store.new.kept.journal a.new b.new) }
-    ensures holds { Leaves D.reading a.old b.old (Holds store.old.kept)
-        → IfOn result (Leaves D.reading a.new b.new (Holds store.new.kept)) }
+    ensures holds { BothRead D.reading a.old b.old (Holds store.old.kept)
+        → IfOn result (BothRead D.reading a.new b.new (Holds store.new.kept)) }
     ensures a_counts { D.faults a.old ≤ D.faults a.new }
     ensures b_counts { D.faults b.old ≤ D.faults b.new }
-    ensures cause { IfTorn result (Rose (D.faults a.old) (D.faults a.new)
+    ensures cause { IfHalted result (Rose (D.faults a.old) (D.faults a.new)
         ⊎ Rose (D.faults b.old) (D.faults b.new)) }
 {
     let came = store.compact(alloc, a, b, pieces);
     if is_torn(came) {
-        return Went::Torn;
+        return Went::Halted;
     }
     Went::On
 }

@@ -8,7 +8,7 @@ use Rattle.config_model.specs.Configs.{Config}
 use Rattle.dump_run.specs.Dumping.{DumpLeaves, DumpSyncs, IsTold, IsUnwritten, told_of}
 use Rattle.store_model.specs.Laws.{NoStoreOrConfig}
 use Rattle.store_model.specs.Opening.{IsNoStore, OpensAs, OpensConfig}
-use Rattle.zone_journal.specs.Pairs.{Leaves, Unwritten}
+use Rattle.zone_journal.specs.Pairs.{BothRead, Unwritten}
 use Rattle.zone_journal.specs.declared.answers.OpenFault.{OpenFault}
 use Rattle.zone_journal.specs.declared.answers.OpenFault.TheVariants as fault
 
@@ -18,7 +18,7 @@ module _ {D : Type 0} (reading : D → Option (List ℕ)) (images : D → List �
   pub opens_so : (a_old a_new b_old b_new : D) (x y : List ℕ) → reading a_old ≡ Some x
       → reading b_old ≡ Some y → Unwritten reading images moment since a_old a_new
       → Unwritten reading images moment since b_old b_new
-      → Leaves reading a_new b_new (Holds state) → OpensConfig x y (config_of state)
+      → BothRead reading a_new b_new (Holds state) → OpensConfig x y (config_of state)
   opens_so a_old a_new b_old b_new x y a_reads b_reads a b leaves =
       let same_x : leaves.x ≡ x =
       same_Some leaves.x x (sym leaves.a_reads ∙ (a.reads ∙ a_reads)) in

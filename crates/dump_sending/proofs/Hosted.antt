@@ -13,7 +13,7 @@ use Rattle.config_zones.proofs.Listing.{its_placed, one_zone}
 use Rattle.config_zones.specs.Found.{IsNextZone, NextZoneOrNone}
 use Rattle.config_zones.specs.Zones.{AreListed, AreZones, IsOne, Zone, hosted, placed_in}
 use Rattle.zone_model.specs.Hosted.{HostedZone}
-use Rattle.zone_model.specs.Placed.{Placed, sets_of}
+use Rattle.zone_model.specs.Slotted.{Slotted, sets_of}
 use Rattle.config_zones.specs.Looking.{IsApex}
 
 -- the zone of a number and a name, with the sets of the number
@@ -25,7 +25,7 @@ seen_as : (zones : List Zone) → AreListed zones → (x : Zone) → IsOne zones
 seen_as zones listed x there id apex its_id its_apex =
     ap (λ (n : ℕ). record { id = n; apex = x.apex; sets = sets_of x.placed }) its_id
     ∙ (ap (λ (a : List (List ℕ)). record { id = id; apex = a; sets = sets_of x.placed }) its_apex
-    ∙ ap (λ (ps : List Placed). record { id = id; apex = apex; sets = sets_of ps })
+    ∙ ap (λ (ps : List Slotted). record { id = id; apex = apex; sets = sets_of ps })
     (sym (its_placed zones listed x there) ∙ ap (placed_in zones) its_id))
 
 module _ (zones : List Zone) (follow : ZonesFollow) (are : AreZones zones) (held : List ℕ)

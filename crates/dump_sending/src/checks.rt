@@ -7,7 +7,7 @@ ghost use Rattle.check_model.specs.declared.checks.Check.{Check};
 ghost use Rattle.octets.specs.Counts.{Rose};
 ghost use Rattle.dump_writing.specs.DumpOfReplyModel.{check_line};
 ghost use Rattle.dump_sending.specs.Dumps.{checks_text};
-ghost use Rattle.set_sending.specs.Passing.{Passes};
+ghost use Rattle.set_sending.specs.Passing.{PassesOn};
 
 use crate::buffer::ROOM;
 use check_model::Check;
@@ -23,7 +23,7 @@ pub(crate) fn send_checks<K: Sink>(
 ) -> Output
     requires bounded { AllByRecursion (λ (held : ℕ × Check). IsBounded held.1) checks.now }
     requires room { ROOM ≤ vec_capacity text.old }
-    ensures passes { Passes (K.held out.old) text.old.items (K.held out.new) text.new.items result
+    ensures passes { PassesOn (K.held out.old) text.old.items (K.held out.new) text.new.items result
         (checks_text checks.now) }
     ensures capacity { vec_capacity text.old ≤ vec_capacity text.new }
     ensures counts { K.faults out.old ≤ K.faults out.new }
@@ -42,7 +42,7 @@ pub(crate) fn send_checks<K: Sink>(
 fn send_check<K: Sink>(held: &(u32, Check), text: &mut Vec<u8>, out: &mut K) -> Output
     requires bounded { IsBounded held.now.1 }
     requires room { ROOM ≤ vec_capacity text.old }
-    ensures passes { Passes (K.held out.old) text.old.items (K.held out.new) text.new.items result
+    ensures passes { PassesOn (K.held out.old) text.old.items (K.held out.new) text.new.items result
         (check_line held.now.0 held.now.1) }
     ensures capacity { vec_capacity text.old ≤ vec_capacity text.new }
     ensures counts { K.faults out.old ≤ K.faults out.new }

@@ -7,7 +7,7 @@ ghost use Rattle.cidr_blocks.specs.declared.places.Collection.{Collection};
 ghost use Rattle.octets.specs.Counts.{Rose};
 ghost use Rattle.dump_writing.specs.DumpOfReplyModel.{collection_line};
 ghost use Rattle.dump_sending.specs.Dumps.{collections_text};
-ghost use Rattle.set_sending.specs.Passing.{Passes};
+ghost use Rattle.set_sending.specs.Passing.{PassesOn};
 
 use crate::buffer::ROOM;
 use cidr_blocks::Collection;
@@ -24,7 +24,7 @@ pub(crate) fn send_collections<K: Sink>(
     requires each { AllByRecursion (λ (held : ℕ × Collection). IsCollection held.1)
         collections.now }
     requires room { ROOM ≤ vec_capacity text.old }
-    ensures passes { Passes (K.held out.old) text.old.items (K.held out.new) text.new.items result
+    ensures passes { PassesOn (K.held out.old) text.old.items (K.held out.new) text.new.items result
         (collections_text collections.now) }
     ensures capacity { vec_capacity text.old ≤ vec_capacity text.new }
     ensures counts { K.faults out.old ≤ K.faults out.new }
@@ -43,7 +43,7 @@ pub(crate) fn send_collections<K: Sink>(
 fn send_collection<K: Sink>(held: &(u32, Collection), text: &mut Vec<u8>, out: &mut K) -> Output
     requires bounded { IsCollection held.now.1 }
     requires room { ROOM ≤ vec_capacity text.old }
-    ensures passes { Passes (K.held out.old) text.old.items (K.held out.new) text.new.items result
+    ensures passes { PassesOn (K.held out.old) text.old.items (K.held out.new) text.new.items result
         (collection_line held.now.0 held.now.1) }
     ensures capacity { vec_capacity text.old ≤ vec_capacity text.new }
     ensures counts { K.faults out.old ≤ K.faults out.new }

@@ -6,7 +6,7 @@ ghost use Rattle.config_zones.specs.Configured.{config_of};
 ghost use Rattle.octets.specs.Counts.{Rose};
 ghost use Rattle.whole_writing.specs.Output.{OutputOf};
 ghost use Rattle.dump_sending.specs.Dumps.{checks_text, collections_text, dump_text, zones_text};
-ghost use Rattle.set_sending.specs.Passing.{Passes};
+ghost use Rattle.set_sending.specs.Passing.{PassesOn};
 
 use crate::buffer::ROOM;
 use crate::checks::send_checks;
@@ -61,7 +61,7 @@ fn send_lines<K: Sink>(
     out: &mut K,
 ) -> Output
     requires room { ROOM ≤ vec_capacity text.old }
-    ensures passes { Passes (K.held out.old) text.old.items (K.held out.new) text.new.items result
+    ensures passes { PassesOn (K.held out.old) text.old.items (K.held out.new) text.new.items result
         (checks_text checks.now.checks.list
         ++ (collections_text zones.now.collections.list
         ++ zones_text (hosted_in zones.now.zones))) }

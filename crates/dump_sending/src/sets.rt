@@ -8,9 +8,9 @@ ghost use Rattle.record_set.specs.declared.sets.RecordSet.{RecordSet};
 ghost use Rattle.dump_writing.specs.DumpOfReplyModel.{set_line};
 ghost use Rattle.set_scratch.specs.Holding.{IsHolding};
 ghost use Rattle.config_zones.specs.Zones.{placed_in};
-ghost use Rattle.zone_model.specs.Placed.{sets_of};
+ghost use Rattle.zone_model.specs.Slotted.{sets_of};
 ghost use Rattle.dump_sending.specs.Dumps.{sets_text};
-ghost use Rattle.set_sending.specs.Passing.{Passes};
+ghost use Rattle.set_sending.specs.Passing.{PassesOn};
 
 use crate::buffer::ROOM;
 use config_zones::{Zones, hold_at};
@@ -30,7 +30,7 @@ pub(crate) fn send_sets<K: Sink>(
     out: &mut K,
 ) -> Output
     requires room { ROOM ≤ vec_capacity text.old }
-    ensures passes { Passes (K.held out.old) text.old.items (K.held out.new) text.new.items result
+    ensures passes { PassesOn (K.held out.old) text.old.items (K.held out.new) text.new.items result
         (sets_text zone (sets_of (placed_in zones.now.zones zone))) }
     ensures capacity { vec_capacity text.old ≤ vec_capacity text.new }
     ensures counts { K.faults out.old ≤ K.faults out.new }
@@ -59,7 +59,7 @@ fn send_at<K: Sink>(
     requires room { ROOM ≤ vec_capacity text.old }
     ensures passes { (set : RecordSet)
         → slice_get (sets_of (placed_in zones.now.zones zone)) i ≡ Some set
-        → Passes (K.held out.old) text.old.items (K.held out.new) text.new.items result
+        → PassesOn (K.held out.old) text.old.items (K.held out.new) text.new.items result
         (set_line zone set) }
     ensures capacity { vec_capacity text.old ≤ vec_capacity text.new }
     ensures counts { K.faults out.old ≤ K.faults out.new }
@@ -81,7 +81,7 @@ fn send_held<K: Sink>(
     requires held { IsHolding scratch.now }
     requires room { ROOM ≤ vec_capacity text.old }
     ensures passes { (set : RecordSet) → scratch.now ≡ Some set
-        → Passes (K.held out.old) text.old.items (K.held out.new) text.new.items result
+        → PassesOn (K.held out.old) text.old.items (K.held out.new) text.new.items result
         (set_line_front ++ (set_pieces false zone set ++ set_line_rest)) }
     ensures capacity { vec_capacity text.old ≤ vec_capacity text.new }
     ensures counts { K.faults out.old ≤ K.faults out.new }
@@ -100,7 +100,7 @@ fn send_held<K: Sink>(
 /// Passes on what stands before the pieces of a set.
 fn begin_line<K: Sink>(text: &mut Vec<u8>, out: &mut K) -> Output
     requires { ROOM ≤ vec_capacity text.old }
-    ensures passes { Passes (K.held out.old) text.old.items (K.held out.new) text.new.items result
+    ensures passes { PassesOn (K.held out.old) text.old.items (K.held out.new) text.new.items result
         set_line_front }
     ensures capacity { vec_capacity text.old ≤ vec_capacity text.new }
     ensures counts { K.faults out.old ≤ K.faults out.new }
@@ -118,7 +118,7 @@ fn begin_line<K: Sink>(text: &mut Vec<u8>, out: &mut K) -> Output
 /// Passes on what stands behind the pieces of a set.
 fn end_line<K: Sink>(text: &mut Vec<u8>, out: &mut K) -> Output
     requires { ROOM ≤ vec_capacity text.old }
-    ensures passes { Passes (K.held out.old) text.old.items (K.held out.new) text.new.items result
+    ensures passes { PassesOn (K.held out.old) text.old.items (K.held out.new) text.new.items result
         set_line_rest }
     ensures capacity { vec_capacity text.old ≤ vec_capacity text.new }
     ensures counts { K.faults out.old ≤ K.faults out.new }

@@ -5,10 +5,10 @@ ghost use Rattle.config_zones.specs.Edited.{hosted_in};
 ghost use Rattle.octets.specs.Counts.{Rose};
 ghost use Rattle.dump_writing.specs.DumpOfReplyModel.{zone_line};
 ghost use Rattle.config_zones.specs.Zones.{IsZoneId, placed_in};
-ghost use Rattle.zone_model.specs.Placed.{sets_of};
+ghost use Rattle.zone_model.specs.Slotted.{sets_of};
 ghost use Rattle.config_zones.specs.Looking.{IsApex};
 ghost use Rattle.dump_sending.specs.Dumps.{hosted_text, zones_text};
-ghost use Rattle.set_sending.specs.Passing.{Passes};
+ghost use Rattle.set_sending.specs.Passing.{PassesOn};
 
 use crate::buffer::ROOM;
 use crate::sets::send_sets;
@@ -27,7 +27,7 @@ pub(crate) fn send_zones<K: Sink>(
     out: &mut K,
 ) -> Output
     requires room { ROOM ≤ vec_capacity text.old }
-    ensures passes { Passes (K.held out.old) text.old.items (K.held out.new) text.new.items result
+    ensures passes { PassesOn (K.held out.old) text.old.items (K.held out.new) text.new.items result
         (zones_text (hosted_in zones.now.zones)) }
     ensures capacity { vec_capacity text.old ≤ vec_capacity text.new }
     ensures counts { K.faults out.old ≤ K.faults out.new }
@@ -58,7 +58,7 @@ fn send_zone<K: Sink>(
     requires there { IsZoneId zones.now.zones zone }
     requires room { ROOM ≤ vec_capacity text.old }
     ensures passes { (apex : List (List ℕ)) × IsApex zones.now.zones zone apex
-        × Passes (K.held out.old) text.old.items (K.held out.new) text.new.items result
+        × PassesOn (K.held out.old) text.old.items (K.held out.new) text.new.items result
         (hosted_text (record {
           id = zone;
           apex = apex;
@@ -85,7 +85,7 @@ fn send_hosted<K: Sink>(
     out: &mut K,
 ) -> Output
     requires room { ROOM ≤ vec_capacity text.old }
-    ensures passes { Passes (K.held out.old) text.old.items (K.held out.new) text.new.items result
+    ensures passes { PassesOn (K.held out.old) text.old.items (K.held out.new) text.new.items result
         (hosted_text (record {
           id = zone;
           apex = apex.now;
@@ -104,7 +104,7 @@ fn send_hosted<K: Sink>(
 /// Passes on the line of a zone of this name.
 fn send_name<K: Sink>(zone: u32, apex: &Name, text: &mut Vec<u8>, out: &mut K) -> Output
     requires { ROOM ≤ vec_capacity text.old }
-    ensures passes { Passes (K.held out.old) text.old.items (K.held out.new) text.new.items result
+    ensures passes { PassesOn (K.held out.old) text.old.items (K.held out.new) text.new.items result
         (zone_line zone apex.now) }
     ensures capacity { vec_capacity text.old ≤ vec_capacity text.new }
     ensures counts { K.faults out.old ≤ K.faults out.new }

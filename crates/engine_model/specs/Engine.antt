@@ -4,7 +4,7 @@ use Rattle.std.specs.Prelude.{Option, Some, Result, Ok, Err}
 use Rattle.std.specs.List.{list_any}
 use Rattle.std.specs.Ordering.{is_eq}
 use Rattle.answer_model.specs.Reply.{Answers, Asker, Served}
-use Rattle.check_model.specs.Checks.{check_at}
+use Rattle.check_model.specs.Checks.{check_with}
 use Rattle.check_model.specs.declared.checks.Check.TheVariants.{Endpoint}
 use Rattle.command_octets.specs.Octets.{command_octets}
 use Rattle.command_octets.specs.declared.commands.Command.{Command}
@@ -95,7 +95,7 @@ CommandSteps old given outcome new =
 -- a check of an endpoint has the number
 abbrev pub IsEndpoint : Config → (id : ℕ) → Type 0
 IsEndpoint config id = (threshold : ℕ) × ((inverted disabled : Bool)
-    × (check_at config.checks.list id ≡ Some (Endpoint threshold inverted disabled)))
+    × (check_with config.checks.list id ≡ Some (Endpoint threshold inverted disabled)))
 
 -- A report counts where a check of an endpoint has the number, and one of fifty checkers made it.
 abbrev pub ReportSteps : (old : Engine) → (id checker : ℕ) (pass : Bool) → Reported

@@ -6,7 +6,7 @@ use Rattle.std.proofs.lemmas.Bool.{eqb-true}
 use Rattle.octets.specs.Numbers.{two_octets}
 use Rattle.octet_reading.specs.Readers.{Reader, in_turn, so_many, list_at, where_one, optional_at, tested, of_kind, has_kind, kinds}
 use Rattle.octet_reading.specs.Reading.{◌>>=◌, octet_at}
-use Rattle.octet_reading.specs.Rules.{IsReadAs, AreListed, WhereSome, flag_octet}
+use Rattle.octet_reading.specs.Rules.{IsReadAs, AreListable, WhereSome, flag_octet}
 use Rattle.octet_reading.proofs.Base.{two_read, flag_read}
 use Rattle.octet_reading.proofs.Composed.{seen_in_turn, tested_read}
 use Rattle.fault_places.specs.Fields.{Field, spelling, StandsBehind}
@@ -64,7 +64,7 @@ module _ {A : Type 0} {is : A → Type 0} {octets_of : A → List ℕ} {fields :
       (in_turn_faults item spells told (so_many_faults n) (some_of n)))
       (seen_in_turn (λ p. p.0 ∷ p.1) read (so_many read n))
 
-  pub list_faults : Faults (AreListed is)
+  pub list_faults : Faults (AreListable is)
       (λ xs. record { ending = Sized; octets = two_octets (length xs) } ∷ flat_map fields xs)
       (list_at read)
   list_faults = alike_faults

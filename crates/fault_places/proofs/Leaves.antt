@@ -15,7 +15,7 @@ use Rattle.set_fields.specs.Types.{number_of}
 use Rattle.set_fields.specs.ContinentRecord.TheVariants as continent
 use Rattle.set_fields.specs.RoleRecord.TheVariants as role
 use Rattle.set_fields.specs.Octets.{continent_number, role_number}
-use Rattle.set_fields.specs.Numbers.{type_of, type_at, continent_of, continent_at, role_of, role_at, ttl_at}
+use Rattle.set_fields.specs.Numbers.{type_of_number, type_at, continent_of_number, continent_at, role_of_number, role_at, ttl_at}
 use Rattle.fault_places.specs.Fields.{Stops}
 use Rattle.fault_places.specs.Fields.Ending.{Sized}
 use Rattle.fault_places.proofs.Steps.{Faults, Dead, dead_by, one_field, field_faults, sized_meets}
@@ -145,16 +145,16 @@ module _ {A : Type 0} (value : ℕ → Option A) (some : A) where
 
 pub type_faults : Faults (λ type. ⊤) (one_field (λ type. two_octets (number_of type)) Sized) type_at
 unfolding type_at
-type_faults = two_meaning type_of rtype.A number_of fields_are_read.types
+type_faults = two_meaning type_of_number rtype.A number_of fields_are_read.types
 
 pub continent_faults : Faults (λ where_to. ⊤)
     (one_field (λ where_to. continent_number where_to ∷ []) Sized) continent_at
 unfolding continent_at
-continent_faults = one_meaning continent_of continent.Af continent_number fields_are_read.continents
+continent_faults = one_meaning continent_of_number continent.Af continent_number fields_are_read.continents
 
 pub role_faults : Faults (λ part. ⊤) (one_field (λ part. role_number part ∷ []) Sized) role_at
 unfolding role_at
-role_faults = one_meaning role_of role.Primary role_number fields_are_read.roles
+role_faults = one_meaning role_of_number role.Primary role_number fields_are_read.roles
 
 -- a number that is tested
 refused : {A : Type 0} (b : Bool) (x : A × List ℕ) (size left : ℕ)

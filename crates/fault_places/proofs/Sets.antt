@@ -5,7 +5,7 @@ use Rattle.std.specs.List.{flat_map}
 use Rattle.std.proofs.lemmas.Bool.{ltb-true, lt-ltb}
 use Rattle.octets.specs.Numbers.{two_octets, four_octets}
 use Rattle.octet_reading.specs.Readers.{has_kind}
-use Rattle.octet_reading.specs.Rules.{IsReadAs, AreListed, WhereSome, flag_octet}
+use Rattle.octet_reading.specs.Rules.{IsReadAs, AreListable, WhereSome, flag_octet}
 use Rattle.octet_reading.proofs.Base.{name_read, flag_read}
 use Rattle.octet_reading.proofs.Composed.{in_turn_read}
 use Rattle.octet_reading.proofs.OfKind.{kinds_read}
@@ -33,7 +33,7 @@ use Rattle.set_fields.specs.BodyRecord.{Body}
 use Rattle.set_fields.specs.BodyRecord.TheVariants as body
 use Rattle.set_fields.specs.Octets.{place_octets, routing_octets, text_octets, value_octets, head_octets, body_octets, check_octets, set_octets, most_octets}
 use Rattle.set_fields.specs.Laws.{IsCountry}
-use Rattle.set_reading.specs.Reading.{subdivision_at, places, place_at, weighted_at, failover_at, geolocation_at, latency_at, multivalue_at, cidr_at, policies, routing_at, records_at, alias_at, bodies, body_at, check_at, head_at, tail_at, set_of, set_at, placed, read}
+use Rattle.set_reading.specs.Reading.{subdivision_at, places, place_at, weighted_at, failover_at, geolocation_at, latency_at, multivalue_at, cidr_at, policies, routing_at, records_at, alias_at, bodies, body_at, check_at, head_at, tail_at, set_of, set_at, by_place, read}
 use Rattle.set_reading.proofs.Answering.{IsGoodBody, set_read}
 use Rattle.set_reading.proofs.Policies.{first, others, four_read, IsGoodPlace, IsGoodRouting, routing_read}
 use Rattle.set_reading.proofs.ValueLists.{IsValue, are_values, of_type, in_layout, value_read}
@@ -355,7 +355,7 @@ abbrev BodyOf : RType → ℕ → Body → Type 0
 BodyOf type n answers = IsGoodBody type answers × (body_kind answers ≡ n)
 
 records_from : (type : RType) (x : Body) → BodyOf type 0 x
-    → (p : ℕ × List Datum) × ((p.0 < 2 ^ 31) × AreListed (IsValue type) p.1)
+    → (p : ℕ × List Datum) × ((p.0 < 2 ^ 31) × AreListable (IsValue type) p.1)
     × (body.Values p.0 p.1 ≡ x)
 records_from type (body.Values ttl values) h = (
   (ttl, values),
@@ -388,7 +388,7 @@ each_counted (value ∷ values) =
     ap (λ t. counted (value_octets value) ∷ t) (each_counted values)
 
 good_values : (type : RType) (ttl : ℕ) (values : List Datum) → ttl < 2 ^ 31
-    → AreListed (IsValue type) values → IsGoodBody type (body.Values ttl values)
+    → AreListable (IsValue type) values → IsGoodBody type (body.Values ttl values)
 good_values type ttl values below are = record {
   is = in_layout type values are.each;
   spelled = (below, are.count);
@@ -399,7 +399,7 @@ good_alias : (type : RType) (target : List (List ℕ)) (evaluate : Bool) → IsN
     → IsGoodBody type (body.Alias target evaluate)
 good_alias type target evaluate is = record { is = is; spelled = tt; of_type = tt }
 
-no_values : (type : RType) → AreListed (IsValue type) []
+no_values : (type : RType) → AreListable (IsValue type) []
 no_values type = record { count = omega arith; each = tt }
 
 records_faults : (type : RType) → Faults (BodyOf type 0) body_later (records_at type)
@@ -612,7 +612,7 @@ too_long true y place e = (refl, err_is {A = RecordSet × ℕ} 0 place e)
 too_long false y place e = absurd (let k : Ok y ≡ Err place = e in cc)
 
 told : (octets : List ℕ) (place : ℕ) (parts : Result (RecordSet × List ℕ) ℕ) → AreOctets octets
-    → set_at octets ≡ parts → placed (length octets) parts ≡ Err place → HasFaultAt octets place
+    → set_at octets ≡ parts → by_place (length octets) parts ≡ Err place → HasFaultAt octets place
 told octets place (Ok x) are s e =
     let t = too_long (nat_lt most_octets (length octets - length x.1))
     (x.0, length octets - length x.1) place e in
@@ -701,7 +701,7 @@ one_fault_of_octets octets place other (inr s) (inr t) = s.0 ∙ sym t.0
 
 -- a set that is too long is told as such
 long_told : (octets : List ℕ) → BeginsWithLongSet octets
-    → placed (length octets) (set_at octets) ≡ Err 0
+    → by_place (length octets) (set_at octets) ≡ Err 0
 long_told octets b =
     let parts : set_at octets ≡ Ok (b.set, b.rest) =
     ap set_at b.spelled
@@ -715,13 +715,13 @@ long_told octets b =
     let long : nat_lt most_octets (length octets - length b.rest) ≡ true =
     lt-ltb most_octets (length octets - length b.rest)
     (omega (arith, ap length b.spelled, length-append (set_octets b.set) b.rest, b.long)) in
-    ap (placed (length octets)) parts
+    ap (by_place (length octets)) parts
     ∙ ap (λ t. cond {A = Result (RecordSet × ℕ) ℕ} t (Err 0)
     (Ok (b.set, length octets - length b.rest))) long
 
 none_read : (octets : List ℕ) (place : ℕ) → AreOctets octets → SetStopsAt octets place
     → (parts : Result (RecordSet × List ℕ) ℕ) → set_at octets ≡ parts
-    → placed (length octets) parts ≡ Err place
+    → by_place (length octets) parts ≡ Err place
 none_read octets place are s (Ok x) e =
     let there = (set_read fields_are_read).stands octets x.0 x.1 are e in
     absurd (no_set octets s.left s.stops x.0 x.1 (record {
@@ -735,7 +735,7 @@ none_read octets place are s (Err left) e =
     ap Err (one_fault_of_octets octets (length octets - left) place h (inl s))
 
 has_told : (octets : List ℕ) (place : ℕ) → AreOctets octets → HasFaultAt octets place
-    → placed (length octets) (set_at octets) ≡ Err place
+    → by_place (length octets) (set_at octets) ≡ Err place
 has_told octets place are (inl s) = none_read octets place are s (set_at octets) refl
 has_told octets place are (inr b) = long_told octets b.1 ∙ ap Err (sym b.0)
 

@@ -2,7 +2,7 @@
 use Rattle.std.proofs.Common.{◌≡◌, ℕ, ◌<◌, ◌⊎◌, inl, inr, List, [], ◌∷◌, ◌++◌, length, arith, ap, ◌∙◌, sym, refl, subst, append_assoc, append-nil, length-append, Result, Ok, Err}
 use Rattle.std.specs.List.{AllByRecursion}
 use Rattle.rdata_layout.specs.Names.{AreOctets}
-use Rattle.octet_reading.specs.Readers.{Reader, seen, in_turn, in_turn_by}
+use Rattle.octet_reading.specs.Readers.{Reader, mapped, in_turn, in_turn_by}
 use Rattle.octet_reading.specs.Reading.{◌>>=◌}
 use Rattle.octet_reading.specs.Rules.{IsReadAs}
 use Rattle.octet_reading.proofs.Rules.{bind_err, behind_octets, one_spelling}
@@ -329,7 +329,7 @@ module _ {A C : Type 0} {is : A → Type 0} {fields : A → List Field} {view_is
   }
 
   pub seen_faults : (read : Reader A) → Faults is fields read
-      → Faults view_is views (seen view read)
+      → Faults view_is views (mapped view read)
   seen_faults read h = record {
     places = seen_together h.places;
     told = λ octets left are e.
@@ -368,7 +368,7 @@ module _ {A B : Type 0} {is : A → Type 0} {octets_of : A → List ℕ} {fields
     (some : (x : A) → is x → (y : B) × later_is x y) where
   paired : (x : A) → is x
       → Faults (λ (p : A × B). later_is p.0 p.1 × (p.0 ≡ x)) (λ p. later p.0 p.1)
-      (seen (λ y. (x, y)) (next x))
+      (mapped (λ y. (x, y)) (next x))
   paired x h = seen_faults (λ y. (x, y)) (λ y k. ((k, refl), refl))
       (λ p k. (p.1, subst (λ a. later_is a p.1) k.1 k.0, ap (λ a. (a, p.1)) (sym k.1)))
       (next x) (each x h)

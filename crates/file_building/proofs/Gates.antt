@@ -3,10 +3,10 @@ use Rattle.std.proofs.Common.{◌≡◌, ◌⊎◌, inl, inr, ℕ, zero, suc, �
 use Rattle.byteorder.specs.Endian.{big_bytes, big_from}
 use Rattle.byteorder.specs.Numbers.{big_number-reads_back, length-bytes_high_first}
 use Rattle.std.proofs.lemmas.Bool.{cases_eq}
-use Rattle.gate_journal.specs.Disk.{Torn, Frees, WriteLeaves, Only, written}
+use Rattle.gate_journal.specs.Disk.{Torn, Unsettles, WriteLeaves, Only, written}
 use Rattle.gate_journal.specs.DoneRecord.{Done}
 use Rattle.gate_journal.specs.DoneRecord.TheVariants as done
-use Rattle.gate_journal.specs.Synced.{Keeps, OldOrTorn}
+use Rattle.gate_journal.specs.Synced.{WritesSynced, OldOrTorn}
 use Rattle.gate_journal.specs.Layout.{body, opened, inner, front, IsOpen, OpensTo, generation_of}
 use Rattle.gate_journal.proofs.Opening.{length-body}
 use Rattle.file_building.specs.Building.{IsShut}
@@ -71,7 +71,7 @@ torn_first gate rest [] torn = absurd (omega (arith, torn.no_shorter))
 torn_first gate rest (g ∷ c) torn = (g, λ i. g ∷ torn.after i)
 
 pub frees_shut : (r : Done) (at n : ℕ) (old new : List ℕ → Type 0) → 1 ≤ at
-    → ((c : List ℕ) → old c → IsShut c) → Frees r at n old new → (c : List ℕ) → new c → IsShut c
+    → ((c : List ℕ) → old c → IsShut c) → Unsettles r at n old new → (c : List ℕ) → new c → IsShut c
 frees_shut done.Whole at n old new behind shut frees c now = let torn = (frees c).0 now in
     torn_shut at n torn.0 c behind (shut torn.0 torn.1) torn.2
 frees_shut done.Failed at n old new behind shut (inl frees) c now = let torn = (frees c).0 now in
@@ -107,7 +107,7 @@ write_told done.Whole bytes at from after leaves = (_, leaves)
 write_told done.Failed bytes at from after leaves = leaves
 
 pub keeps_told : (r : Done) (bytes : List ℕ) (at : ℕ) (from : List ℕ) (after : Option (List ℕ))
-    (images : List ℕ → Type 0) → Keeps r bytes at from after images
+    (images : List ℕ → Type 0) → WritesSynced r bytes at from after images
     → (now : List ℕ) × (after ≡ Some now)
 keeps_told done.Whole bytes at from after images kept = (_, kept.0)
 keeps_told done.Failed bytes at from after images kept = kept

@@ -4,7 +4,7 @@ use Rattle.std.proofs.lemmas.List.{take_min, drop_all, drop-take}
 use Rattle.byteorder.specs.Endian.{big_bytes}
 use borrow.Rule.Slice.PartMut.{put_mid}
 use Rattle.gate_journal.specs.Disk.{Reaches}
-use Rattle.gate_journal.specs.Layout.{text, body, inner}
+use Rattle.gate_journal.specs.Layout.{header_text, body, inner}
 
 pub take_append : (m : ℕ) (u v : List ℕ) → take m (u ++ v) ≡ take m u ++ take (m - length u) v
 take_append zero u v = let none : 0 - length u ≡ 0 = omega arith in sym (ap (λ n. take n v) none)
@@ -59,10 +59,10 @@ end_read piece into bytes filled at within long is =
 
 -- the file from byte 1 on, in parts
 pub parts : (g : ℕ) (s since : List ℕ)
-    → inner g s ++ since ≡ text ++ (big_bytes 8 g ++ (big_bytes 4 (length s) ++ (s ++ since)))
+    → inner g s ++ since ≡ header_text ++ (big_bytes 8 g ++ (big_bytes 4 (length s) ++ (s ++ since)))
 parts g s since =
-    append_assoc text (big_bytes 8 g ++ body s) since
-    ∙ ap (λ (l : List ℕ). text ++ l) (append_assoc (big_bytes 8 g) (body s) since
+    append_assoc header_text (big_bytes 8 g ++ body s) since
+    ∙ ap (λ (l : List ℕ). header_text ++ l) (append_assoc (big_bytes 8 g) (body s) since
     ∙ ap (λ (l : List ℕ). big_bytes 8 g ++ l) (append_assoc (big_bytes 4 (length s)) s since))
 
 -- bytes of the front of a file
@@ -117,7 +117,7 @@ room n n1 n2 n3 k e1 e2 e3 e4 s1 s2 s3 s4 b c l w l1 l2 l3 b_is c_is is1 is2 is3
     omega (arith, r4, l3, is4)
 
 pub filled : (n k e1 e2 e3 e4 s1 s2 s3 s4 : ℕ) (p p1 p2 p3 p4 p5 entries : List ℕ) (g : ℕ)
-    (s : List ℕ) → Goes n p 0 k p1 e1 s1 text → Goes n p1 e1 s1 p2 e2 s2 (big_bytes 8 g)
+    (s : List ℕ) → Goes n p 0 k p1 e1 s1 header_text → Goes n p1 e1 s1 p2 e2 s2 (big_bytes 8 g)
     → Goes n p2 e2 s2 p3 e3 s3 (big_bytes 4 (length s)) → Goes n p3 e3 s3 p4 e4 s4 s
     → p5 ≡ take e4 p4 ++ take (n - e4) (drop s4 entries)
     → p5 ≡ take n (drop k (inner g s ++ entries))
@@ -129,5 +129,5 @@ filled n k e1 e2 e3 e4 s1 s2 s3 s4 p p1 p2 p3 p4 p5 entries g s one two three fo
     ∙ sym (two (big_bytes 4 (length s) ++ (s ++ entries)))
     ∙ sym (one (big_bytes 8 g ++ (big_bytes 4 (length s) ++ (s ++ entries))))
     ∙ ap (λ m.
-    take m (drop k (text ++ (big_bytes 8 g ++ (big_bytes 4 (length s) ++ (s ++ entries)))))) all
+    take m (drop k (header_text ++ (big_bytes 8 g ++ (big_bytes 4 (length s) ++ (s ++ entries)))))) all
     ∙ ap (λ (l : List ℕ). take n (drop k l)) (sym (parts g s entries))

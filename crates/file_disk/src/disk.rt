@@ -2,7 +2,7 @@
 
 ghost use Rattle.std.specs.Prelude.{◌≡◌, ℕ, ◌≤◌, List, Some, None, length};
 ghost use Rattle.octets.specs.Counts.{Rose, next_count};
-ghost use Rattle.r53_disk.specs.Disk.{Rests, GivesSize, GivesBytes, WriteLeaves, Frees, Settles, Elapses};
+ghost use Rattle.r53_disk.specs.Disk.{Rests, GivesSize, GivesBytes, WriteLeaves, Unsettles, Settles, Elapses};
 ghost use Rattle.file_disk.specs.Faults.{IsCounted, IsSizeCounted};
 ghost use Rattle.file_disk.specs.Untold.{untold, no_image, no_moment, none_since};
 
@@ -178,7 +178,7 @@ impl<'a, R: Files<File = File>> Disk for FileDisk<'a, R> {
             → WriteLeaves result bytes at from.now (untold self.new) }
         ensures untold { untold self.old ≡ None → untold self.new ≡ None }
         ensures images { (bytes : List ℕ) → untold self.old ≡ Some bytes
-            → Frees result at (length from.now) (no_image self.old) (no_image self.new) }
+            → Unsettles result at (length from.now) (no_image self.old) (no_image self.new) }
         ensures time { Elapses no_moment none_since no_image self.old self.new }
         ensures counts { self.old ≤ self.new }
         ensures failed { result ≡ Done.Failed → Rose self.old self.new }

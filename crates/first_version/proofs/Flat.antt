@@ -6,7 +6,7 @@ use Rattle.std.proofs.lemmas.Bool.{ne_eqb, false≢true}
 use Rattle.check_model.proofs.Found.{alone, at_more, at_updated, at_without, or_else}
 use Rattle.check_model.proofs.Told.{named_of}
 use Rattle.check_model.proofs.Walks.{Held}
-use Rattle.check_model.specs.Checks.{IsCalculated, IsCalculatedAt, IsWalk, check_at}
+use Rattle.check_model.specs.Checks.{IsCalculated, IsCalculatedAt, IsWalk, check_with}
 use Rattle.check_model.specs.Checks.{children_of}
 use Rattle.check_model.specs.Commands.{Given, is_named, is_too_deep, updated_at, updated_check, without}
 use Rattle.check_model.specs.Told.{WalksAreTold}
@@ -21,7 +21,7 @@ one_check found a b e f = let both : Some a ≡ Some b = sym e ∙ f in grind (a
 
 not_both : (list : List Held) (id : ℕ) → IsCalculatedAt list id → IsEndpointAt list id → ⊥
 not_both list id (check, at, is) (other, also, never) =
-    never (subst IsCalculated (one_check (check_at list id) check other at also) is)
+    never (subst IsCalculated (one_check (check_with list id) check other at also) is)
 
 no_walk : (list : List Held) → IsFlat list → (walk : List ℕ) → IsWalk list walk
     → length walk ≢ 5
@@ -56,18 +56,18 @@ module _ (new : Held) (list : List Held) where
 
   -- a check of the list, or the new one
   either_more : (Q : Check → Type 0) (id : ℕ) (found : Option Check) (check : Check)
-      → check_at list id ≡ found → or_else found (alone new id) ≡ Some check
-      → (check_at list id ≡ Some check → Q check) → Q new.1 → Q check
+      → check_with list id ≡ found → or_else found (alone new id) ≡ Some check
+      → (check_with list id ≡ Some check → Q check) → Q new.1 → Q check
   either_more Q id (Some other) check e at old its =
       let same : other ≡ check = grind (arith, at) in old (e ∙ ap Some same)
   either_more Q id None check e at old its =
       subst Q (of_alone (nat_eq id new.0) check at) its
 
   more : (Q : Check → Type 0) (id : ℕ) (check : Check)
-      → check_at (list ++ new ∷ []) id ≡ Some check
-      → (check_at list id ≡ Some check → Q check) → Q new.1 → Q check
+      → check_with (list ++ new ∷ []) id ≡ Some check
+      → (check_with list id ≡ Some check → Q check) → Q new.1 → Q check
   more Q id check at old its =
-      either_more Q id (check_at list id) check refl (sym (at_more new list id) ∙ at) old its
+      either_more Q id (check_with list id) check refl (sym (at_more new list id) ∙ at) old its
 
   pub flat_more : IsFlat list
       → ((child : ℕ) → Contains (children_of new.1) child → IsEndpointAt list child)
@@ -122,11 +122,11 @@ module _ (id : ℕ) (given : Given) (list : List Held) where
       let same : before ≡ check = grind (arith, at) in subst Q same (old before refl)
 
   changed : (Q : Check → Type 0) (k : ℕ) (check : Check)
-      → check_at (map (updated_at id given) list) k ≡ Some check
-      → ((before : Check) → check_at list k ≡ Some before → Q before)
-      → ((before : Check) → check_at list k ≡ Some before → Q (update before)) → Q check
+      → check_with (map (updated_at id given) list) k ≡ Some check
+      → ((before : Check) → check_with list k ≡ Some before → Q before)
+      → ((before : Check) → check_with list k ≡ Some before → Q (update before)) → Q check
   changed Q k check at old its =
-      either_updated Q (nat_eq k id) (check_at list k) check
+      either_updated Q (nat_eq k id) (check_with list k) check
       (sym (at_updated id given list k) ∙ at) old its
 
   abbrev AreGiven : Type 0
@@ -143,7 +143,7 @@ module _ (id : ℕ) (given : Given) (list : List Held) where
   child_by (Some children) before child e its old m = its children e child m
 
   child_of : IsFlat list → AreGiven → (k child : ℕ) (before : Check)
-      → check_at list k ≡ Some before → Contains (children_of (update before)) child
+      → check_with list k ≡ Some before → Contains (children_of (update before)) child
       → IsEndpointAt list child
   child_of flat its k child (Endpoint threshold inverted disabled) at m =
       absurd (no_child child m)
@@ -178,10 +178,10 @@ module _ (id : ℕ) (list : List Held) where
   stays_by true found check e = absurd (grind (arith, e))
   stays_by false found check e = e
 
-  stays : (k : ℕ) (check : Check) → check_at (without id list) k ≡ Some check
-      → check_at list k ≡ Some check
+  stays : (k : ℕ) (check : Check) → check_with (without id list) k ≡ Some check
+      → check_with list k ≡ Some check
   stays k check at =
-      stays_by (nat_eq k id) (check_at list k) check (sym (at_without id list k) ∙ at)
+      stays_by (nat_eq k id) (check_with list k) check (sym (at_without id list k) ∙ at)
 
   pub flat_without : IsFlat list → is_named id list ≡ false → IsFlat (without id list)
   flat_without flat unnamed k child (check, at, m) =
@@ -191,7 +191,7 @@ module _ (id : ℕ) (list : List Held) where
       ∙ named_of list id (k, (check, was, subst (Contains (children_of check)) same m))) in (
         is.0,
         at_without id list child
-            ∙ ap (λ (b : Bool). cond b None (check_at list child)) (ne_eqb child id other) ∙ is.1,
+            ∙ ap (λ (b : Bool). cond b None (check_with list child)) (ne_eqb child id other) ∙ is.1,
         is.2,
       )
 

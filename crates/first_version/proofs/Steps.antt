@@ -9,11 +9,11 @@ use Rattle.check_model.proofs.Kept.{none_missing, passes, there_and}
 use Rattle.check_model.proofs.Members.{all_at, none_of}
 use Rattle.check_model.proofs.Told.{all_there}
 use Rattle.check_model.proofs.Walks.{Held}
-use Rattle.check_model.specs.Checks.{Checks, IsCalculated, IsId, check_at, children_of}
+use Rattle.check_model.specs.Checks.{Checks, IsCalculated, IsId, check_with, children_of}
 use Rattle.check_model.specs.Commands.{Given, checks_after, created, delete_refusal, first_missing}
 use Rattle.check_model.specs.Commands.{first_of, given_by, given_rules, has_repeated}
 use Rattle.check_model.specs.Commands.{is_calculated_there, is_named, is_too_deep, is_wrong_member}
-use Rattle.check_model.specs.Commands.{missing, of_there, refusal_of, rule, updated, update_refusal}
+use Rattle.check_model.specs.Commands.{missing, of_there, refusal_of, refuse_if, updated, update_refusal}
 use Rattle.check_model.specs.Told.{WalksAreTold}
 use Rattle.check_model.specs.declared.checks.Check.{Check}
 use Rattle.check_model.specs.declared.checks.Check.TheVariants.{Endpoint, Calculated}
@@ -43,10 +43,10 @@ use Rattle.config_model.specs.declared.refusals.Refusal.{Refusal}
 use Rattle.config_model.specs.declared.refusals.Refusal.TheVariants as refusal
 use Rattle.first_version.proofs.Flat.{flat_more, flat_updated, flat_without}
 use Rattle.first_version.proofs.Flat.{none_more, none_updated, none_without, not_deep}
-use Rattle.first_version.specs.Laws.{EmptyIsFirst, FirstVersionStays}
-use Rattle.first_version.specs.Rules.{AreFirstChecks, IsEndpointAt, IsFirstConfig, IsFirstZone}
-use Rattle.first_version.specs.Rules.{FirstAppliesAll, FirstChangesIn, FirstDecides, IsFirst}
-use Rattle.first_version.specs.Rules.{IsFirstHealth, IsFirstRouting, IsFirstSet}
+use Rattle.first_version.specs.Laws.{EmptyIsFormer, FormerVersionStays}
+use Rattle.first_version.specs.Rules.{AreFormerChecks, IsEndpointAt, IsFormerConfig, IsFormerZone}
+use Rattle.first_version.specs.Rules.{FormerAppliesAll, FormerChangesIn, FormerDecides, IsFormer}
+use Rattle.first_version.specs.Rules.{IsFormerHealth, IsFormerRouting, IsFormerSet}
 use Rattle.first_version.specs.Rules.{first_changed_zones, first_sets_refusal}
 use Rattle.first_version.specs.Rules.{first_given_rules, first_refusal_of, first_update_refusal}
 use Rattle.first_version.specs.Rules.{is_disabled}
@@ -60,7 +60,7 @@ use Rattle.zone_model.specs.Zones.{IsAmong}
 
 stand : (repeated deep : Bool) (absent : Option ℕ) (rules : List (Option CheckRefusal))
     → repeated ≡ false → absent ≡ None → deep ≡ false → first_of rules ≡ None
-    → first_of (rule repeated ChildRepeated ∷ missing absent ∷ rule deep ChildTooDeep ∷ rules)
+    → first_of (refuse_if repeated ChildRepeated ∷ missing absent ∷ refuse_if deep ChildTooDeep ∷ rules)
     ≡ None
 stand true deep absent rules e f g h = absurd (false≢true (sym e))
 stand false true absent rules e f g h = absurd (false≢true (sym g))
@@ -73,8 +73,8 @@ pub record Pass (list : List Held) (children : List ℕ) (rules : List (Option C
   pub endpoints : (child : ℕ) → Contains children child → IsEndpointAt list child
   pub rest : first_of rules ≡ None
   pub today : (after : List Held) → is_too_deep after ≡ false
-      → first_of (rule (has_repeated children) ChildRepeated
-      ∷ missing (first_missing list children) ∷ rule (is_too_deep after) ChildTooDeep ∷ rules)
+      → first_of (refuse_if (has_repeated children) ChildRepeated
+      ∷ missing (first_missing list children) ∷ refuse_if (is_too_deep after) ChildTooDeep ∷ rules)
       ≡ None
 
 calculated_there : (found : Option Check) (check : Check) → found ≡ Some check
@@ -85,18 +85,18 @@ calculated_there found (Calculated threshold inverted disabled children) e is =
 
 module _ (list : List Held) (children : List ℕ) (rules : List (Option CheckRefusal)) where
   abbrev is_calculated_at : ℕ → Bool
-  is_calculated_at child = is_calculated_there (check_at list child)
+  is_calculated_at child = is_calculated_there (check_with list child)
 
-  children_pass : first_of (rule (has_repeated children) ChildRepeated
+  children_pass : first_of (refuse_if (has_repeated children) ChildRepeated
       ∷ missing (first_missing list children)
-      ∷ rule (list_any is_calculated_at children) ChildTooDeep ∷ rules) ≡ None
+      ∷ refuse_if (list_any is_calculated_at children) ChildTooDeep ∷ rules) ≡ None
       → Pass list children rules
   children_pass e =
       let one = passes ChildRepeated (missing (first_missing list children)
-      ∷ rule (list_any is_calculated_at children) ChildTooDeep ∷ rules)
+      ∷ refuse_if (list_any is_calculated_at children) ChildTooDeep ∷ rules)
       (has_repeated children) e in
       let two = none_missing (first_missing list children)
-      (rule (list_any is_calculated_at children) ChildTooDeep ∷ rules) one.1 in
+      (refuse_if (list_any is_calculated_at children) ChildTooDeep ∷ rules) one.1 in
       let three = passes ChildTooDeep rules (list_any is_calculated_at children) two.1 in
       let there = all_there list children two.0 in
       record {
@@ -104,7 +104,7 @@ module _ (list : List Held) (children : List ℕ) (rules : List (Option CheckRef
           is.0,
           is.1,
           λ calculated. none_of is_calculated_at children child three.0 m
-              (calculated_there (check_at list child) is.0 is.1 calculated),
+              (calculated_there (check_with list child) is.0 is.1 calculated),
         ));
         rest = three.1;
         today = λ after shallow. stand (has_repeated children) (is_too_deep after)
@@ -116,14 +116,14 @@ module _ (list : List Held) (children : List ℕ) (rules : List (Option CheckRef
 -- a command is accepted, and leaves such checks
 pub record IsStep (checks : Checks) (health : CheckCommand) : Type 0 where
   pub accepted : refusal_of checks health ≡ None
-  pub after : AreFirstChecks (checks_after checks health).list
+  pub after : AreFormerChecks (checks_after checks health).list
 
-module _ (told : WalksAreTold) (checks : Checks) (are : AreFirstChecks checks.list) where
+module _ (told : WalksAreTold) (checks : Checks) (are : AreFormerChecks checks.list) where
   create_step : (check : Check) → is_disabled check ≡ false
       → first_refusal_of checks (Create check) ≡ None → IsStep checks (Create check)
   create_step check enabled e =
-      let rules = rule (nat_le 200 (length checks.list)) TooManyHealthChecks
-      ∷ rule (nat_eq checks.next 4294967295) IdsEnded ∷ [] in
+      let rules = refuse_if (nat_le 200 (length checks.list)) TooManyHealthChecks
+      ∷ refuse_if (nat_eq checks.next 4294967295) IdsEnded ∷ [] in
       let pass = children_pass checks.list (children_of check) rules e in
       let flat = flat_more (checks.next, check) checks.list are.flat pass.endpoints in
       record {
@@ -152,7 +152,7 @@ module _ (told : WalksAreTold) (checks : Checks) (are : AreFirstChecks checks.li
       (children_pass checks.list given [] e).today after shallow
 
   behind : (b : Bool) (why : CheckRefusal) (rules : List (Option CheckRefusal)) → b ≡ false
-      → first_of rules ≡ None → first_of (rule b why ∷ rules) ≡ None
+      → first_of rules ≡ None → first_of (refuse_if b why ∷ rules) ≡ None
   behind true why rules e f = absurd (false≢true (sym e))
   behind false why rules e f = f
 
@@ -163,17 +163,17 @@ module _ (told : WalksAreTold) (checks : Checks) (are : AreFirstChecks checks.li
       let same : check ≡ other = grind (arith, e) in subst (λ (c : Check). ask c ≡ None) same f
 
   update_step : (id : ℕ) (given : Given) → given.disabled ≡ None
-      → of_there id (check_at checks.list id) (first_update_refusal checks given) ≡ None
-      → (of_there id (check_at checks.list id) (update_refusal checks id given) ≡ None)
-      × AreFirstChecks (updated checks id given).list
+      → of_there id (check_with checks.list id) (first_update_refusal checks given) ≡ None
+      → (of_there id (check_with checks.list id) (update_refusal checks id given) ≡ None)
+      × AreFormerChecks (updated checks id given).list
   update_step id given unsaid e =
-      let there = there_and id (check_at checks.list id) (first_update_refusal checks given) e in
+      let there = there_and id (check_with checks.list id) (first_update_refusal checks given) e in
       let both = passes WrongMember (first_given_rules checks.list given.children)
       (is_wrong_member given there.0) there.2 in
       let flat = flat_updated id given checks.list are.flat
       (given_endpoints given.children both.1) in
       let after = (updated checks id given).list in (
-        of_found id (check_at checks.list id) there.0 (update_refusal checks id given) there.1
+        of_found id (check_with checks.list id) there.0 (update_refusal checks id given) there.1
             (behind (is_wrong_member given there.0) WrongMember
             (given_rules checks.list after given.children) both.0
             (given_today after given.children both.1 (not_deep told after flat))),
@@ -185,7 +185,7 @@ module _ (told : WalksAreTold) (checks : Checks) (are : AreFirstChecks checks.li
 
   delete_step : (id : ℕ) → first_refusal_of checks (Delete id) ≡ None → IsStep checks (Delete id)
   delete_step id e =
-      let there = there_and id (check_at checks.list id) (λ check. delete_refusal checks id) e in
+      let there = there_and id (check_with checks.list id) (λ check. delete_refusal checks id) e in
       let both = passes (HealthCheckInUse id) [] (is_named id checks.list) there.2 in
       record {
         accepted = e;
@@ -195,7 +195,7 @@ module _ (told : WalksAreTold) (checks : Checks) (are : AreFirstChecks checks.li
         };
       }
 
-  check_step : (health : CheckCommand) → IsFirstHealth health
+  check_step : (health : CheckCommand) → IsFormerHealth health
       → first_refusal_of checks health ≡ None → IsStep checks health
   check_step (Create check) is e = create_step check is e
   check_step (Update id inverted disabled threshold children) is e =
@@ -230,13 +230,13 @@ six_none None None (Some why) d e f is are none = absurd (grind (arith, are))
 six_none None None None d e f is are none = none
 
 module _ (list : List (ℕ × Collection)) where
-  no_collection : (chosen : Routing) → IsFirstRouting chosen
+  no_collection : (chosen : Routing) → IsFormerRouting chosen
       → (named_collection list chosen ≡ None) × (named_location list chosen ≡ None)
   no_collection (routing.Cidr ident collection location) is = absurd is
   no_collection other is = (refl, refl)
 
   -- the rules on collections refuse nothing
-  sets_today : (checks : List Held) (sets : List RecordSet) → AllByRecursion IsFirstSet sets
+  sets_today : (checks : List Held) (sets : List RecordSet) → AllByRecursion IsFormerSet sets
       → first_sets_refusal checks sets ≡ None → sets_refusal checks list sets ≡ None
   sets_today checks sets are e = six_none
       (first_among (check_refusal checks) sets)
@@ -244,11 +244,11 @@ module _ (list : List (ℕ × Collection)) where
       (first_among (location_refusal list) sets)
       (first_among (target_refusal sets) sets)
       (first_among (depth_refusal sets) sets)
-      (told.rule (is_zone_full sets) refusal.ZoneFull)
+      (told.refuse_if (is_zone_full sets) refusal.ZoneFull)
       (none_of_all (collection_refusal list) sets
-      (λ set there. (no_collection set.routing (among IsFirstSet sets set are there)).0))
+      (λ set there. (no_collection set.routing (among IsFormerSet sets set are there)).0))
       (none_of_all (location_refusal list) sets
-      (λ set there. (no_collection set.routing (among IsFirstSet sets set are there)).1))
+      (λ set there. (no_collection set.routing (among IsFormerSet sets set are there)).1))
       e
 
 -- a batch is accepted, and leaves the checks, and sets that name no collection
@@ -257,10 +257,10 @@ pub record IsBatchStep (config : Config) (batch : Batch) (found : Option HostedZ
   pub accepted : ChangesIn config found batch (Ok (after, what))
   pub checks : after.checks ≡ config.checks
   pub collections : after.collections ≡ config.collections
-  pub zones : AllByRecursion IsFirstZone after.zones
+  pub zones : AllByRecursion IsFormerZone after.zones
 
 module _ (config after : Config) (what : Made) (batch : Batch)
-    (are : AllByRecursion IsFirstZone config.zones) (is : IsFirst (command.Change batch)) where
+    (are : AllByRecursion IsFormerZone config.zones) (is : IsFormer (command.Change batch)) where
   made_step : (zone : HostedZone) (sets : List RecordSet) → IsAmong config.zones zone
       → Prepares zone.sets zone.apex batch.changes (Ok sets)
       → Ok (after, what) ≡ first_changed_zones config zone.id sets
@@ -272,8 +272,8 @@ module _ (config after : Config) (what : Made) (batch : Batch)
       let both = accepted (told.first_of (first ∷ store_refusal zones ∷ [])) (after, what) given
       e in
       let none = both_none first (store_refusal zones) both.0 in
-      let own = all_left zone.apex IsFirstSet batch.changes zone.sets sets
-      (among IsFirstZone config.zones zone are there) is prepared.1 in
+      let own = all_left zone.apex IsFormerSet batch.changes zone.sets sets
+      (among IsFormerZone config.zones zone are there) is prepared.1 in
       let today = sets_refusal config.checks.list config.collections.list sets in
       record {
         accepted = inr (
@@ -286,13 +286,13 @@ module _ (config after : Config) (what : Made) (batch : Batch)
         );
         checks = ap (λ (a : Answer). a.0.checks) both.1;
         collections = ap (λ (a : Answer). a.0.collections) both.1;
-        zones = subst (λ (a : Answer). AllByRecursion IsFirstZone a.0.zones) (sym both.1)
-            (all_with zone.id sets IsFirstZone IsFirstZone config.zones
-            (λ z there h. with_at zone.id sets IsFirstZone z (λ same. own) (λ differs. h)) are);
+        zones = subst (λ (a : Answer). AllByRecursion IsFormerZone a.0.zones) (sym both.1)
+            (all_with zone.id sets IsFormerZone IsFormerZone config.zones
+            (λ z there h. with_at zone.id sets IsFormerZone z (λ same. own) (λ differs. h)) are);
       }
 
   batch_step : (found : Option HostedZone) → zone_with config.zones batch.zone ≡ found
-      → FirstChangesIn config found batch (Ok (after, what))
+      → FormerChangesIn config found batch (Ok (after, what))
       → IsBatchStep config batch found after what
   batch_step None at e = absurd (grind (arith, e))
   batch_step (Some zone) at (inl (why, known, refused, e)) = absurd (grind (arith, e))
@@ -304,7 +304,7 @@ module _ (config after : Config) (what : Made) (batch : Batch)
 -- a command is accepted, and leaves such a configuration
 abbrev GoesOn : Config → Command → Config → Made → Type 0
 GoesOn config given after what =
-    Decides config given (Ok (after, what)) × IsFirstConfig after
+    Decides config given (Ok (after, what)) × IsFormerConfig after
 
 no_fault : {X : Type 0} (f : X → Refusal) (found : Option X) → option_map f found ≡ None
     → found ≡ None
@@ -312,9 +312,9 @@ no_fault f None e = refl
 no_fault f (Some x) e = absurd (grind (arith, e))
 
 module _ (walks : WalksAreTold) (config after : Config) (what : Made)
-    (are : IsFirstConfig config) where
-  unchanged : after.checks ≡ config.checks → AreFirstChecks after.checks.list
-  unchanged same = subst (λ (c : Checks). AreFirstChecks c.list) (sym same) are.checks
+    (are : IsFormerConfig config) where
+  unchanged : after.checks ≡ config.checks → AreFormerChecks after.checks.list
+  unchanged same = subst (λ (c : Checks). AreFormerChecks c.list) (sym same) are.checks
 
   create_goes : (name : List (List ℕ)) (servers : List (List (List ℕ)))
       → Decides config (command.CreateZone name servers) (Ok (after, what))
@@ -326,14 +326,14 @@ module _ (walks : WalksAreTold) (config after : Config) (what : Made)
         record {
           checks = unchanged (ap (λ (a : Answer). a.0.checks) both.1);
           collections = ap (λ (a : Answer). a.0.collections) both.1 ∙ are.collections;
-          zones = subst (λ (a : Answer). AllByRecursion IsFirstZone a.0.zones) (sym both.1)
-              (all_appended IsFirstZone config.zones
+          zones = subst (λ (a : Answer). AllByRecursion IsFormerZone a.0.zones) (sym both.1)
+              (all_appended IsFormerZone config.zones
               (new_zone config.next_zone name servers ∷ []) are.zones ((tt, (tt, tt)), tt));
         },
       )
 
   end_goes : (found : Option HostedZone) → Ok (after, what) ≡ end_of config found
-      → IsFirstConfig after
+      → IsFormerConfig after
   end_goes None e = absurd (grind (arith, e))
   end_goes (Some zone) e =
       let both = accepted (end_refusal zone) (after, what)
@@ -341,13 +341,13 @@ module _ (walks : WalksAreTold) (config after : Config) (what : Made)
       record {
         checks = unchanged (ap (λ (a : Answer). a.0.checks) both.1);
         collections = ap (λ (a : Answer). a.0.collections) both.1 ∙ are.collections;
-        zones = subst (λ (a : Answer). AllByRecursion IsFirstZone a.0.zones) (sym both.1)
-            (all_filtered IsFirstZone (λ (other : HostedZone). not (other.id == zone.id))
+        zones = subst (λ (a : Answer). AllByRecursion IsFormerZone a.0.zones) (sym both.1)
+            (all_filtered IsFormerZone (λ (other : HostedZone). not (other.id == zone.id))
             config.zones are.zones);
       }
 
-  health_goes : (health : CheckCommand) → IsFirstHealth health
-      → FirstDecides config (command.Health health) (Ok (after, what))
+  health_goes : (health : CheckCommand) → IsFormerHealth health
+      → FormerDecides config (command.Health health) (Ok (after, what))
       → GoesOn config (command.Health health) after what
   health_goes health is e =
       let named = in_use config.zones health in
@@ -364,14 +364,14 @@ module _ (walks : WalksAreTold) (config after : Config) (what : Made)
         answers (told.first_of (today ∷ named ∷ [])) (after, what) given
             (two_none today named (ap (option_map told.of_check) step.accepted) none.1) both.1,
         record {
-          checks = subst (λ (a : Answer). AreFirstChecks a.0.checks.list) (sym both.1) step.after;
+          checks = subst (λ (a : Answer). AreFormerChecks a.0.checks.list) (sym both.1) step.after;
           collections = ap (λ (a : Answer). a.0.collections) both.1 ∙ are.collections;
-          zones = subst (λ (a : Answer). AllByRecursion IsFirstZone a.0.zones) (sym both.1)
+          zones = subst (λ (a : Answer). AllByRecursion IsFormerZone a.0.zones) (sym both.1)
               are.zones;
         },
       )
 
-  step : (given : Command) → IsFirst given → FirstDecides config given (Ok (after, what))
+  step : (given : Command) → IsFormer given → FormerDecides config given (Ok (after, what))
       → GoesOn config given after what
   step (command.CreateZone name servers) is e = create_goes name servers e
   step (command.DeleteZone id) is e = (e, end_goes (zone_with config.zones id) e)
@@ -391,15 +391,15 @@ module _ (walks : WalksAreTold) (config after : Config) (what : Made)
 -- ---- commands one after another
 
 all_steps : WalksAreTold → (config : Config) (commands : List Command) (after : Config)
-    → IsFirstConfig config → FirstAppliesAll config commands after
-    → AppliesAll config commands after × IsFirstConfig after
-all_steps walks config [] after are e = (e, subst IsFirstConfig (sym e) are)
+    → IsFormerConfig config → FormerAppliesAll config commands after
+    → AppliesAll config commands after × IsFormerConfig after
+all_steps walks config [] after are e = (e, subst IsFormerConfig (sym e) are)
 all_steps walks config (given ∷ commands) after are (is, middle, what, decides, rest) =
     let one = step walks config middle what are given is decides in
     let more = all_steps walks middle commands after one.1 rest in
     ((middle, what, one.0, more.0), more.1)
 
-pub empty_first : EmptyIsFirst
+pub empty_first : EmptyIsFormer
 empty_first = record {
   checks = record {
     flat = λ id child is. absurd (grind (arith, is.1));
@@ -409,6 +409,6 @@ empty_first = record {
   zones = tt;
 }
 
-pub first_version_stays : WalksAreTold → FirstVersionStays
+pub first_version_stays : WalksAreTold → FormerVersionStays
 first_version_stays walks before after commands are e =
     all_steps walks before commands after are e

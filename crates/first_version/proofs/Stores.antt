@@ -13,8 +13,8 @@ use Rattle.config_model.specs.Applying.{AppliesAll}
 use Rattle.config_model.specs.Configs.{Config, empty}
 use Rattle.config_model.specs.Laws.{EmptyIsSound, IsBounded, KeepsSound}
 use Rattle.config_model.specs.Sound.{Sound}
-use Rattle.first_version.specs.Laws.{EmptyIsFirst, FirstStoresOpen, FirstVersionStays}
-use Rattle.first_version.specs.Rules.{IsFirstConfig, is_disabled}
+use Rattle.first_version.specs.Laws.{EmptyIsFormer, FormerStoresOpen, FormerVersionStays}
+use Rattle.first_version.specs.Rules.{IsFormerConfig, is_disabled}
 use Rattle.snapshot_octets.specs.Laws.{SoundHaveSnapshots}
 use Rattle.snapshot_octets.specs.Octets.{HasSnapshot, IsHeldCheck}
 
@@ -32,7 +32,7 @@ same_flag (Calculated threshold inverted disabled children) = refl
 
 -- the checks as the first version tells them
 module _ (version : ℕ) (config : Config) (rise : IdsRise config.checks.list)
-    (are : IsFirstConfig config) (each : AllByRecursion (IsHeldCheck version) config.checks.list)
+    (are : IsFormerConfig config) (each : AllByRecursion (IsHeldCheck version) config.checks.list)
   where
     held_first : (held : ℕ × Check) → Contains config.checks.list held → IsHeldCheck 1 held
     held_first held there =
@@ -44,7 +44,7 @@ module _ (version : ℕ) (config : Config) (rise : IdsRise config.checks.list)
     all_first : AllByRecursion (IsHeldCheck 1) config.checks.list
     all_first = all_from (IsHeldCheck 1) config.checks.list held_first
 
-first_snapshot : SoundHaveSnapshots → (config : Config) → Sound config → IsFirstConfig config
+first_snapshot : SoundHaveSnapshots → (config : Config) → Sound config → IsFormerConfig config
     → HasSnapshot 1 config
 first_snapshot written config sound are =
     let today = written config sound in
@@ -59,8 +59,8 @@ first_snapshot written config sound are =
       zones = today.has.zones;
     }
 
-pub stores_open : FirstVersionStays → EmptyIsFirst → KeepsSound → EmptyIsSound → SoundHaveSnapshots
-    → FirstStoresOpen
+pub stores_open : FormerVersionStays → EmptyIsFormer → KeepsSound → EmptyIsSound → SoundHaveSnapshots
+    → FormerStoresOpen
 stores_open stays first keeps sound written after commands bounded e =
     let reached = stays empty after commands first e in
     let after_is = all_keep keeps empty commands after sound bounded reached.0 in

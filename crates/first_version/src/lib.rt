@@ -4,4 +4,4 @@
 
 mod laws;
 
-pub use laws::{empty_is_first, first_stores_open, first_version_stays};
+pub use laws::{empty_is_former, former_stores_open, former_version_stays};

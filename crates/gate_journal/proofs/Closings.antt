@@ -2,7 +2,7 @@
 use Rattle.std.proofs.Common.{◌≡◌, ◌≢◌, inl, inr, ℕ, List, [], ◌∷◌, length, take, drop, Option, Some, refl, sym, ◌∙◌, ap, subst, arith}
 use Rattle.std.proofs.lemmas.Bool.{cases_eq}
 use Rattle.r53_disk.specs.Disk.{Torn, Only, Settles, written}
-use Rattle.r53_disk.specs.Synced.{Keeps, OldOrTorn}
+use Rattle.r53_disk.specs.Synced.{WritesSynced, OldOrTorn}
 use Rattle.r53_disk.specs.declared.disk.Done.{Done}
 use Rattle.r53_disk.specs.declared.disk.Done.TheVariants as done
 use Rattle.gate_journal.specs.Closing.{closed_file, Closes, IsWholeOrShut}
@@ -27,7 +27,7 @@ shut [] to_close = refl
 shut (gate ∷ rest) to_close = ap (λ n. closed_file (n ∷ rest)) (sym to_close)
 
 pub closes : (r : Done) (bytes : List ℕ) (after : Option (List ℕ)) (images : List ℕ → Type 0)
-    → IsToClose bytes → Keeps r bytes 0 (0 ∷ []) after images → Closes r bytes after images
+    → IsToClose bytes → WritesSynced r bytes 0 (0 ∷ []) after images → Closes r bytes after images
 closes done.Whole bytes after images to_close kept =
     subst (λ l. (after ≡ Some l) × Only l images) (shut bytes to_close) kept
 closes done.Failed bytes after images to_close kept = kept

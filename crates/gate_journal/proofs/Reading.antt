@@ -3,7 +3,7 @@ use Rattle.std.proofs.Common.{◌≡◌, ◌≢◌, inl, inr, ℕ, ◌+◌, ◌<
 use Rattle.std.proofs.lemmas.List.{drop_all, drop_at}
 use Rattle.byteorder.specs.Endian.{big_bytes, big_number, big_from}
 use Rattle.byteorder.specs.Numbers.{big_number-reads_back, length-bytes_high_first}
-use Rattle.gate_journal.specs.Layout.{text, body, inner, front, OpensTo, IsOpen, generation_of}
+use Rattle.gate_journal.specs.Layout.{header_text, body, inner, front, OpensTo, IsOpen, generation_of}
 use Rattle.gate_journal.specs.Read.{IsRead, IsReadSo, IsBroken, ReadsOn}
 use Rattle.gate_journal.specs.Append.{EndsAt, StandsOn}
 use Rattle.gate_journal.proofs.Lists.{append_same}
@@ -107,11 +107,11 @@ begun file g n s o g_fits generation n_fits count snapshot long = record {
   is =
       gate_first file o.long o.gate
       ∙ ap (λ (l : List ℕ). 1 ∷ l) (
-      part 1 7 8 file text refl (sym o.named)
-      ∙ ap (λ (l : List ℕ). text ++ l) (part 8 8 16 file (big_bytes 8 g) refl generation
+      part 1 7 8 file header_text refl (sym o.named)
+      ∙ ap (λ (l : List ℕ). header_text ++ l) (part 8 8 16 file (big_bytes 8 g) refl generation
       ∙ ap (λ (l : List ℕ). big_bytes 8 g ++ l) behind
       ∙ sym (append_assoc (big_bytes 8 g) (body s) (drop (20 + n) file)))
-      ∙ sym (append_assoc text (big_bytes 8 g ++ body s) (drop (20 + n) file))
+      ∙ sym (append_assoc header_text (big_bytes 8 g ++ body s) (drop (20 + n) file))
       ∙ ap (λ (l : List ℕ). l ++ drop (20 + n) file) (sym (append-nil (inner g s)))
       );
   place = omega (

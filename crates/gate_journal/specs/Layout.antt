@@ -7,8 +7,8 @@ abbrev pub most : ℕ
 most = 268435456
 
 -- "R53ZJ01" in ASCII
-abbrev pub text : List ℕ
-text = 0x52 ∷ 0x35 ∷ 0x33 ∷ 0x5a ∷ 0x4a ∷ 0x30 ∷ 0x31 ∷ []
+abbrev pub header_text : List ℕ
+header_text = 0x52 ∷ 0x35 ∷ 0x33 ∷ 0x5a ∷ 0x4a ∷ 0x30 ∷ 0x31 ∷ []
 
 -- a snapshot, and an entry behind its gate: the length in four bytes, and the bytes
 abbrev pub body : List ℕ → List ℕ
@@ -21,7 +21,7 @@ opened (entry ∷ entries) = 1 ∷ (body entry ++ opened entries)
 
 -- a file from byte 1 to its snapshot's end
 abbrev pub inner : ℕ → List ℕ → List ℕ
-inner generation snapshot = text ++ (big_bytes 8 generation ++ body snapshot)
+inner generation snapshot = header_text ++ (big_bytes 8 generation ++ body snapshot)
 
 -- an open file up to the gate behind these entries
 abbrev pub front : ℕ → List ℕ → List (List ℕ) → List ℕ
@@ -31,7 +31,7 @@ front generation snapshot entries = 1 ∷ (inner generation snapshot ++ opened e
 pub record IsOpen (file : List ℕ) : Type 0 where
   pub long : 20 ≤ length file
   pub gate : slice_index file 0 ≡ 1
-  pub named : take 7 (drop 1 file) ≡ text
+  pub named : take 7 (drop 1 file) ≡ header_text
 
 -- the number in bytes 8 to 15
 abbrev pub generation_of : List ℕ → ℕ

@@ -4,7 +4,7 @@ use Rattle.std.specs.Prelude.{nat_lt, nat_le, codes}
 use Rattle.std.specs.List.{AllByRecursion, list_all}
 use Rattle.std.specs.Str.{bytes_eq}
 use Rattle.std.proofs.lemmas.Bool.{le-leb, leb-true, lt-ltb, ltb-true}
-use Rattle.geo_latency.specs.Rows.{is_region, is_subdivision, region_of, subdivision_of}
+use Rattle.geo_latency.specs.Rows.{is_region, is_subdivision, region_of_text, subdivision_of_text}
 use Rattle.routing.specs.Texts.{IsRegion, IsSubdivision, IsText, is_region_byte, is_subdivision_byte}
 
 both : (a b : Bool) → a && b ≡ true → (a ≡ true) × (b ≡ true)
@@ -30,15 +30,15 @@ text_is p most text e =
     }
 
 pub no_part : (text : List ℕ) → false ≡ bytes_eq text (codes "-") → (IsSubdivision text → ⊥)
-    → None ≡ subdivision_of text
+    → None ≡ subdivision_of_text text
 no_part text no_dash never = go (is_subdivision text) refl where
-  go : (v : Bool) → is_subdivision text ≡ v → None ≡ subdivision_of text
+  go : (v : Bool) → is_subdivision text ≡ v → None ≡ subdivision_of_text text
   go true e = absurd (never (text_is is_subdivision_byte 3 text e))
   go false e = rw (sym no_dash, e) refl
 
-pub no_region : (text : List ℕ) → (IsRegion text → ⊥) → None ≡ region_of text
+pub no_region : (text : List ℕ) → (IsRegion text → ⊥) → None ≡ region_of_text text
 no_region text never = go (is_region text) refl where
-  go : (v : Bool) → is_region text ≡ v → None ≡ region_of text
+  go : (v : Bool) → is_region text ≡ v → None ≡ region_of_text text
   go true e = absurd (never (text_is is_region_byte 32 text e))
   go false e = rw e refl
 
@@ -47,7 +47,7 @@ all_pass : (p : ℕ → Bool) (text : List ℕ) → AllByRecursion (λ b. p b �
 all_pass p [] is = refl
 all_pass p (b ∷ text) is = rw (is.0) (all_pass p text (is.1))
 
-pub a_region : (text : List ℕ) → IsRegion text → Some text ≡ region_of text
+pub a_region : (text : List ℕ) → IsRegion text → Some text ≡ region_of_text text
 a_region text is =
     rw (
       lt-ltb 0 (length text) is.filled,

@@ -19,8 +19,8 @@ use Rattle.routing.specs.declared.policies.Continent.TheVariants.{As, Eu, Na}
 empty : said [] ≡ line.Skipped
 empty = refl
 
-mark : said (codes "#") ≡ line.Skipped
-mark = refl
+separator : said (codes "#") ≡ line.Skipped
+separator = refl
 
 comment : said (codes "#geo 192.0.2.0/24 NA US -") ≡ line.Skipped
 comment = refl

@@ -6,7 +6,7 @@ use Rattle.std.specs.Prelude.{nat_le}
 use Rattle.std.specs.Str.{bytes_eq}
 use Rattle.std.proofs.lemmas.Bool.{and_left, and_parts, and_right, le-leb, lt-leb}
 use Rattle.std.proofs.lemmas.Slice.Eq.{bytes_eq-Decides}
-use Rattle.geo_latency.specs.Lines.{all_told, are_latencies, each_once, has_region, if_latencies, in_front}
+use Rattle.geo_latency.specs.Lines.{all_there, are_latencies, each_once, has_region, if_latencies, in_front}
 use Rattle.geo_latency.specs.Regions.{latency_of}
 use Rattle.geo_latency.specs.Rows.{region_latency_of}
 
@@ -92,12 +92,12 @@ behind rows None = None
 behind rows (Some more) = Some (rows ++ more)
 
 abbrev pub with_rest : Rows → (fields : List (List ℕ)) → Option Rows
-with_rest rows fields = if_latencies (behind rows (all_told (map region_latency_of fields)))
+with_rest rows fields = if_latencies (behind rows (all_there (map region_latency_of fields)))
 
 -- nothing was read yet
 pub at_start : (fields : List (List ℕ))
-    → if_latencies (all_told (map region_latency_of fields)) ≡ with_rest [] fields
-at_start fields = go (all_told (map region_latency_of fields)) where
+    → if_latencies (all_there (map region_latency_of fields)) ≡ with_rest [] fields
+at_start fields = go (all_there (map region_latency_of fields)) where
   go : (o : Option Rows) → if_latencies o ≡ if_latencies (behind [] o)
   go None = refl
   go (Some rows) = refl
@@ -109,7 +109,7 @@ module _ (rows : Rows) (field : List ℕ) (fields : List (List ℕ)) where
 
   module _ (row : List ℕ × ℕ) (is : Some row ≡ region_latency_of field) where
     abbrev later : Option Rows
-    later = all_told (map region_latency_of fields)
+    later = all_there (map region_latency_of fields)
 
     -- latencies that break a rule, whatever stands behind
     broken : ((more : Rows) → are_latencies (rows ++ row ∷ more) ≡ false)

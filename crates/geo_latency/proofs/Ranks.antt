@@ -3,9 +3,9 @@ use Rattle.std.proofs.Common.{◌≡◌, ◌+◌, ◌-◌, ◌<◌, ◌≤◌, �
 use Rattle.std.specs.List.{filter}
 use Rattle.std.proofs.lemmas.List.{append-nil}
 use Rattle.std.proofs.lemmas.List.Elements.{filter-append}
-use Rattle.geo_latency.specs.Nearest.{Leads, order_of, put, rank_of, ranks, sets_from, size_of, with_set}
+use Rattle.geo_latency.specs.Nearest.{IsFirstRank, order_of, put, rank_of, ranks, sets_from, size_of, with_set}
 use Rattle.considered_sets.specs.Healthy.{healthy_of}
-use Rattle.geo_latency.specs.Places.{applies, chosen, in_order}
+use Rattle.geo_latency.specs.Places.{is_for, chosen, in_order}
 use Rattle.geo_latency.specs.declared.location.Location.{Location}
 use Rattle.geo_latency.specs.declared.places.Size.{Size}
 use Rattle.geo_latency.specs.declared.places.Size.TheVariants as size
@@ -18,7 +18,7 @@ Empty zero lists = Unit {0}
 Empty (suc n) [] = Unit {0}
 Empty (suc n) (xs ∷ rest) = (xs ≡ []) × Empty n rest
 
-before_first : (lists : List (List ℕ)) (n rank set : ℕ) → n ≤ rank → Leads rank set lists
+before_first : (lists : List (List ℕ)) (n rank set : ℕ) → n ≤ rank → IsFirstRank rank set lists
     → Empty n lists
 before_first lists zero rank set le leads = tt
 before_first [] (suc n) rank set le leads = tt
@@ -35,14 +35,14 @@ stays_empty (xs ∷ rest) (suc n) (suc k) set le empty =
     (empty.0, stays_empty rest n k set (omega arith) (empty.1))
 
 comes_first : (lists : List (List ℕ)) (k set : ℕ) → k < length lists → Empty k lists
-    → Leads k set (put k set lists)
+    → IsFirstRank k set (put k set lists)
 comes_first [] k set lt empty = absurd (omega arith)
 comes_first (xs ∷ rest) zero set lt empty = refl
 comes_first (xs ∷ rest) (suc k) set lt empty =
     (empty.0, comes_first rest k set (omega arith) (empty.1))
 
-goes_on : (lists : List (List ℕ)) (k new rank set : ℕ) → rank < k → Leads rank set lists
-    → Leads rank set (put k new lists)
+goes_on : (lists : List (List ℕ)) (k new rank set : ℕ) → rank < k → IsFirstRank rank set lists
+    → IsFirstRank rank set (put k new lists)
 goes_on [] k new rank set lt leads = leads
 goes_on (xs ∷ rest) zero new rank set lt leads = absurd (omega arith)
 goes_on (xs ∷ rest) (suc k) new zero set lt leads = leads
@@ -61,10 +61,10 @@ at_most size.Continent = omega arith
 at_most size.Anywhere = omega arith
 
 module _ (lists : List (List ℕ)) (eight : length lists ≡ 8) (rank set new : ℕ)
-    (leads : Leads rank set lists) (size : Size) where
+    (leads : IsFirstRank rank set lists) (size : Size) where
   -- a healthy set that comes first
   healthy_first : order_of size ≤ rank
-      → Leads (order_of size) new (with_set true (Some size) new lists)
+      → IsFirstRank (order_of size) new (with_set true (Some size) new lists)
   healthy_first le =
       comes_first (put (order_of size + 4) new lists) (order_of size) new
       (omega (arith, at_most size, same_length lists (order_of size + 4) new, eight))
@@ -73,30 +73,30 @@ module _ (lists : List (List ℕ)) (eight : length lists ≡ 8) (rank set new : 
 
   -- one that isn't healthy
   other_first : order_of size + 4 ≤ rank
-      → Leads (order_of size + 4) new (with_set false (Some size) new lists)
+      → IsFirstRank (order_of size + 4) new (with_set false (Some size) new lists)
   other_first le =
       comes_first lists (order_of size + 4) new (omega (arith, at_most size, eight))
       (before_first lists (order_of size + 4) rank set le leads)
 
   -- one that comes later
   healthy_later : rank < order_of size
-      → Leads rank set (with_set true (Some size) new lists)
+      → IsFirstRank rank set (with_set true (Some size) new lists)
   healthy_later lt =
       goes_on (put (order_of size + 4) new lists) (order_of size) new rank set lt
       (goes_on lists (order_of size + 4) new rank set (omega (arith, lt)) leads)
 
   other_later : rank < order_of size + 4
-      → Leads rank set (with_set false (Some size) new lists)
+      → IsFirstRank rank set (with_set false (Some size) new lists)
   other_later lt = goes_on lists (order_of size + 4) new rank set lt leads
 
   -- a set that comes first, be it healthy or not
   pub comes : (healthy : Bool) → rank_of healthy size ≤ rank
-      → Leads (rank_of healthy size) new (with_set healthy (Some size) new lists)
+      → IsFirstRank (rank_of healthy size) new (with_set healthy (Some size) new lists)
   comes true le = healthy_first le
   comes false le = other_first le
 
   pub stays : (healthy : Bool) → rank < rank_of healthy size
-      → Leads rank set (with_set healthy (Some size) new lists)
+      → IsFirstRank rank set (with_set healthy (Some size) new lists)
   stays true lt = healthy_later lt
   stays false lt = other_later lt
 
@@ -109,14 +109,14 @@ head_is : (xs ys : List ℕ) (set : ℕ) → slice_get xs 0 ≡ Some set → sli
 head_is [] ys set e = absurd (let no : ⊥ = cc in no)
 head_is (x ∷ xs) ys set e = e
 
-none_leads : (lists : List (List ℕ)) (rank set : ℕ) → rank ≡ length lists → Leads rank set lists
+none_leads : (lists : List (List ℕ)) (rank set : ℕ) → rank ≡ length lists → IsFirstRank rank set lists
     → joined lists ≡ []
 none_leads [] rank set e leads = refl
 none_leads (xs ∷ rest) zero set e leads = absurd (omega (arith, e))
 none_leads (xs ∷ rest) (suc rank) set e leads =
     ap (λ l. l ++ joined rest) (leads.0) ∙ none_leads rest rank set (omega (arith, e)) (leads.1)
 
-some_leads : (lists : List (List ℕ)) (rank set : ℕ) → rank < length lists → Leads rank set lists
+some_leads : (lists : List (List ℕ)) (rank set : ℕ) → rank < length lists → IsFirstRank rank set lists
     → slice_get (joined lists) 0 ≡ Some set
 some_leads [] rank set lt leads = absurd (omega arith)
 some_leads (xs ∷ rest) zero set lt leads = head_is xs (joined rest) set leads
@@ -154,14 +154,14 @@ module _ (healthy : List Bool) where
         (sets_from size.Anywhere client 0 places)
 
     pub none_chosen : (rank set : ℕ) → rank ≤ 8 → 8 ≤ rank
-        → Leads rank set (ranks client healthy 0 places) → None ≡ chosen places healthy client
+        → IsFirstRank rank set (ranks client healthy 0 places) → None ≡ chosen places healthy client
     none_chosen rank set most least leads =
         sym (ap (λ l. slice_get l 0) (sym ordered)
         ∙ ap (λ l. slice_get l 0)
         (none_leads (ranks client healthy 0 places) rank set (omega arith) leads))
 
     pub one_chosen : (rank set : ℕ) → rank < 8
-        → Leads rank set (ranks client healthy 0 places) → Some set ≡ chosen places healthy client
+        → IsFirstRank rank set (ranks client healthy 0 places) → Some set ≡ chosen places healthy client
     one_chosen rank set lt leads =
         sym (ap (λ l. slice_get l 0) (sym ordered)
         ∙ some_leads (ranks client healthy 0 places) rank set (omega arith) leads)
@@ -230,19 +230,19 @@ module _ (healthy : List Bool) where
       (sets_from size.Country (Some client) (i + 1) ps)
       (sets_from size.Continent (Some client) (i + 1) ps)
       (sets_from size.Anywhere (Some client) (i + 1) ps)
-      (applies size.Subdivision (Some client) (place.Subdivision country part))
+      (is_for size.Subdivision (Some client) (place.Subdivision country part))
   next (Some client) (place.Country country) ps i h is =
       in_second i h is (sets_from size.Subdivision (Some client) (i + 1) ps)
       (sets_from size.Country (Some client) (i + 1) ps)
       (sets_from size.Continent (Some client) (i + 1) ps)
       (sets_from size.Anywhere (Some client) (i + 1) ps)
-      (applies size.Country (Some client) (place.Country country))
+      (is_for size.Country (Some client) (place.Country country))
   next (Some client) (place.Continent continent) ps i h is =
       in_third i h is (sets_from size.Subdivision (Some client) (i + 1) ps)
       (sets_from size.Country (Some client) (i + 1) ps)
       (sets_from size.Continent (Some client) (i + 1) ps)
       (sets_from size.Anywhere (Some client) (i + 1) ps)
-      (applies size.Continent (Some client) (place.Continent continent))
+      (is_for size.Continent (Some client) (place.Continent continent))
   next (Some client) place.Anywhere ps i h is =
       in_fourth i h is (sets_from size.Subdivision (Some client) (i + 1) ps)
       (sets_from size.Country (Some client) (i + 1) ps)

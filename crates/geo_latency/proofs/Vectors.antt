@@ -3,7 +3,7 @@ use Rattle.std.proofs.Common.{◌≡◌, ℕ, true, false, Option, Some, None, L
 use Rattle.std.specs.Prelude.{codes}
 use Rattle.geo_latency.specs.Places as place_choice
 use Rattle.geo_latency.specs.Regions as region_choice
-use Rattle.geo_latency.specs.Rows.{continent_of, location_of, region_latency_of}
+use Rattle.geo_latency.specs.Rows.{continent_of_text, location_of_text, region_latency_of}
 use Rattle.geo_latency.specs.declared.location.Location.{Location}
 use Rattle.routing.specs.declared.policies.Continent.TheVariants.{Af, An, As, Eu, Na, Oc, Sa}
 use Rattle.routing.specs.declared.policies.Place.{Place}
@@ -79,38 +79,38 @@ highest : region_choice.chosen (codes "a" ∷ codes "b" ∷ []) (true ∷ true �
 highest = refl
 
 -- the texts of rows
-continent_codes : map continent_of (codes "AF" ∷ codes "AN" ∷ codes "AS" ∷ codes "EU" ∷ codes "NA"
+continent_codes : map continent_of_text (codes "AF" ∷ codes "AN" ∷ codes "AS" ∷ codes "EU" ∷ codes "NA"
     ∷ codes "OC" ∷ codes "SA" ∷ [])
     ≡ Some Af ∷ Some An ∷ Some As ∷ Some Eu ∷ Some Na ∷ Some Oc ∷ Some Sa ∷ []
 continent_codes = refl
 
-in_texas : location_of (codes "NA US TX") ≡ texas
+in_texas : location_of_text (codes "NA US TX") ≡ texas
 in_texas = refl
 
-in_a_country : location_of (codes "EU DE -")
+in_a_country : location_of_text (codes "EU DE -")
     ≡ Some (record { continent = Eu; country = Some (codes "DE"); subdivision = None })
 in_a_country = refl
 
-in_a_continent : location_of (codes "AS - -")
+in_a_continent : location_of_text (codes "AS - -")
     ≡ Some (record { continent = As; country = None; subdivision = None })
 in_a_continent = refl
 
-subdivision_alone : location_of (codes "NA - TX") ≡ None
+subdivision_alone : location_of_text (codes "NA - TX") ≡ None
 subdivision_alone = refl
 
-two_spaces : location_of (codes "NA US  TX") ≡ None
+two_spaces : location_of_text (codes "NA US  TX") ≡ None
 two_spaces = refl
 
-small_letters : location_of (codes "NA us TX") ≡ None
+small_letters : location_of_text (codes "NA us TX") ≡ None
 small_letters = refl
 
-four_letters : location_of (codes "NA US TEXA") ≡ None
+four_letters : location_of_text (codes "NA US TEXA") ≡ None
 four_letters = refl
 
-one_field_more : location_of (codes "NA US TX -") ≡ None
+one_field_more : location_of_text (codes "NA US TX -") ≡ None
 one_field_more = refl
 
-one_field_fewer : location_of (codes "NA US") ≡ None
+one_field_fewer : location_of_text (codes "NA US") ≡ None
 one_field_fewer = refl
 
 slow_region : region_latency_of (codes "us-east-1=4294967295")

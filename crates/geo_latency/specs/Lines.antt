@@ -4,22 +4,22 @@ use Rattle.std.specs.Prelude.{length, map, codes, Option, None, Some, if◌then�
 use Rattle.std.specs.List.{list_any}
 use Rattle.std.specs.Str.{bytes_eq}
 use Rattle.prefix_text.specs.AddressOfText.{pieces}
-use Rattle.geo_latency.specs.Rows.{continent_of, country_of, subdivision_of, located}
+use Rattle.geo_latency.specs.Rows.{continent_of_text, country_of_text, subdivision_of_text, located}
 use Rattle.geo_latency.specs.Rows.{region_latency_of}
 use Rattle.geo_latency.specs.declared.lines.Line.{Line}
 use Rattle.geo_latency.specs.declared.lines.Line.TheVariants.{Skipped, Place, Latency, Bad}
 use Rattle.geo_latency.specs.declared.location.Location.{Location}
 use Rattle.prefix_text.specs.PrefixesOfIpTable.{Prefix}
-use Rattle.prefix_text.specs.Prefixes.{prefix_of}
+use Rattle.prefix_text.specs.Prefixes.{prefix_of_text}
 
--- the pieces of a text with one mark between them
-abbrev pub parts : (mark : ℕ) → List ℕ → List (List ℕ)
-parts mark text = (pieces mark text).0 ∷ (pieces mark text).1
+-- the pieces of a text with one separator between them
+abbrev pub parts : (separator : ℕ) → List ℕ → List (List ℕ)
+parts separator text = (pieces separator text).0 ∷ (pieces separator text).1
 
--- the pieces that stand behind a mark, where there is one
-abbrev pub later : (mark : ℕ) → Option (List ℕ) → List (List ℕ)
-later mark None = []
-later mark (Some text) = parts mark text
+-- the pieces that stand behind a separator, where there is one
+abbrev pub later : (separator : ℕ) → Option (List ℕ) → List (List ℕ)
+later separator None = []
+later separator (Some text) = parts separator text
 
 -- a latency in front of others, where each is told
 abbrev pub in_front : (first : Option (List ℕ × ℕ)) → (rest : Option (List (List ℕ × ℕ)))
@@ -28,9 +28,9 @@ in_front None rest = None
 in_front (Some first) None = None
 in_front (Some first) (Some rest) = Some (first ∷ rest)
 
-abbrev pub all_told : List (Option (List ℕ × ℕ)) → Option (List (List ℕ × ℕ))
-all_told [] = Some []
-all_told (first ∷ rest) = in_front first (all_told rest)
+abbrev pub all_there : List (Option (List ℕ × ℕ)) → Option (List (List ℕ × ℕ))
+all_there [] = Some []
+all_there (first ∷ rest) = in_front first (all_there rest)
 
 -- a latency of this region is among them
 abbrev pub has_region : List (List ℕ × ℕ) → (region : List ℕ) → Bool
@@ -51,7 +51,7 @@ if_latencies (Some rows) = if are_latencies rows then Some rows else None
 
 -- regions with their latencies, and a comma between them
 abbrev pub latencies_of : List ℕ → Option (List (List ℕ × ℕ))
-latencies_of text = if_latencies (all_told (map region_latency_of (parts 0x2C text)))
+latencies_of text = if_latencies (all_there (map region_latency_of (parts 0x2C text)))
 
 -- a row of a prefix and a value, where both are told
 abbrev pub place_row : Option Prefix → Option Location → Line
@@ -67,13 +67,13 @@ latency_row (Some prefix) (Some latencies) = Latency prefix latencies
 -- what stands behind the word `geo`: <prefix> <continent> <country> <subdivision>
 abbrev pub place_fields : List (List ℕ) → Line
 place_fields (prefix ∷ continent ∷ country ∷ subdivision ∷ []) =
-    place_row (prefix_of prefix)
-    (located (continent_of continent) (country_of country) (subdivision_of subdivision))
+    place_row (prefix_of_text prefix)
+    (located (continent_of_text continent) (country_of_text country) (subdivision_of_text subdivision))
 place_fields fields = Bad
 
 -- what stands behind the word `lat`: <prefix> <region>=<n>,<region>=<n>
 abbrev pub latency_fields : List (List ℕ) → Line
-latency_fields (prefix ∷ latencies ∷ []) = latency_row (prefix_of prefix) (latencies_of latencies)
+latency_fields (prefix ∷ latencies ∷ []) = latency_row (prefix_of_text prefix) (latencies_of latencies)
 latency_fields fields = Bad
 
 -- the prefix of a line of latencies

@@ -3,7 +3,7 @@ use Rattle.std.specs.Prelude.{◌≡◌, ℕ, zero, suc, ◌+◌, ◌*◌, ◌<�
 use Rattle.std.specs.Prelude.{List, [], ◌∷◌, map, slice_get, slice_index, if◌then◌else◌}
 use Rattle.considered_sets.specs.Considered.{places_from}
 use Rattle.considered_sets.specs.Healthy.{healthy_of}
-use Rattle.geo_latency.specs.Places.{applies}
+use Rattle.geo_latency.specs.Places.{is_for}
 use Rattle.geo_latency.specs.declared.location.Location.{Location}
 use Rattle.geo_latency.specs.declared.places.Nearest.{Nearest}
 use Rattle.geo_latency.specs.declared.places.Size.{Size}
@@ -13,10 +13,10 @@ use Rattle.routing.specs.declared.policies.Place.{Place}
 -- the size of a place that applies to the client
 abbrev pub size_of : Option Location → Place → Option Size
 size_of client place =
-    if applies size.Subdivision client place then Some size.Subdivision
-    else if applies size.Country client place then Some size.Country
-    else if applies size.Continent client place then Some size.Continent
-    else if applies size.Anywhere client place then Some size.Anywhere
+    if is_for size.Subdivision client place then Some size.Subdivision
+    else if is_for size.Country client place then Some size.Country
+    else if is_for size.Continent client place then Some size.Continent
+    else if is_for size.Anywhere client place then Some size.Anywhere
     else None
 
 -- a number for each size, from the smallest on
@@ -46,7 +46,7 @@ wanted (Some client) = country_number client.country
 
 -- the sets that apply with a place of a size, of those from one on
 abbrev pub sets_from : Size → Option Location → ℕ → List Place → List ℕ
-sets_from size client i places = places_from i (map (applies size client) places)
+sets_from size client i places = places_from i (map (is_for size client) places)
 
 -- the same in the order of ranks: the healthy ones by sizes, and then all
 abbrev pub ranks : Option Location → (healthy : List Bool) → ℕ → List Place → List (List ℕ)
@@ -62,10 +62,10 @@ ranks client healthy i places =
 
 -- The first list that isn't empty has this place, and begins with this set. Where all are empty,
 -- the place is behind the last.
-abbrev pub Leads : (rank set : ℕ) → List (List ℕ) → Type 0
-Leads rank set [] = rank ≡ 0
-Leads zero set (xs ∷ rest) = slice_get xs 0 ≡ Some set
-Leads (suc rank) set (xs ∷ rest) = (xs ≡ []) × Leads rank set rest
+abbrev pub IsFirstRank : (rank set : ℕ) → List (List ℕ) → Type 0
+IsFirstRank rank set [] = rank ≡ 0
+IsFirstRank zero set (xs ∷ rest) = slice_get xs 0 ≡ Some set
+IsFirstRank (suc rank) set (xs ∷ rest) = (xs ≡ []) × IsFirstRank rank set rest
 
 -- the lists with a set in front of one of them
 abbrev pub put : (rank set : ℕ) → List (List ℕ) → List (List ℕ)

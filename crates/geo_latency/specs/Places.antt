@@ -34,18 +34,18 @@ is_same_continent continent other = number_of continent == number_of other
 -- A set for a subdivision applies where the client's country and subdivision are both equal, for a
 -- country where the country is, for a continent where the continent is, and one for anywhere to
 -- each client. To a client of whom no row tells, no other set applies.
-abbrev pub applies : Size → Option Location → Place → Bool
-applies size.Subdivision (Some client) (place.Subdivision country part) =
+abbrev pub is_for : Size → Option Location → Place → Bool
+is_for size.Subdivision (Some client) (place.Subdivision country part) =
     is_some_of client.country country && is_some_of client.subdivision part
-applies size.Country (Some client) (place.Country country) = is_some_of client.country country
-applies size.Continent (Some client) (place.Continent continent) =
+is_for size.Country (Some client) (place.Country country) = is_some_of client.country country
+is_for size.Continent (Some client) (place.Continent continent) =
     is_same_continent client.continent continent
-applies size.Anywhere client place.Anywhere = true
-applies size client place = false
+is_for size.Anywhere client place.Anywhere = true
+is_for size client place = false
 
 -- the sets that apply with a place of this size
 abbrev pub sets_of : Size → Option Location → List Place → List ℕ
-sets_of size client places = places_from 0 (map (applies size client) places)
+sets_of size client places = places_from 0 (map (is_for size client) places)
 
 -- The sets that apply, by the sizes of their places from the smallest on.
 abbrev pub in_order : Option Location → List Place → List ℕ

@@ -11,8 +11,8 @@ use Rattle.routing.specs.declared.policies.Continent.{Continent}
 use Rattle.routing.specs.declared.policies.Continent.TheVariants.{Af, An, As, Eu, Na, Oc, Sa}
 
 -- the codes of the continents
-abbrev pub continent_of : List ℕ → Option Continent
-continent_of text =
+abbrev pub continent_of_text : List ℕ → Option Continent
+continent_of_text text =
     if bytes_eq text (codes "AF") then Some Af
     else if bytes_eq text (codes "AN") then Some An
     else if bytes_eq text (codes "AS") then Some As
@@ -27,19 +27,19 @@ abbrev pub is_capital : ℕ → Bool
 is_capital b = nat_le 0x41 b && nat_le b 0x5A
 
 -- a country: two of A to Z, or `-` where none is told
-abbrev pub country_of : List ℕ → Option (Option (List ℕ))
-country_of [] = None
-country_of (a ∷ []) = if a == 0x2D then Some None else None
-country_of (a ∷ b ∷ []) = if is_capital a && is_capital b then Some (Some (a ∷ b ∷ [])) else None
-country_of (a ∷ b ∷ c ∷ rest) = None
+abbrev pub country_of_text : List ℕ → Option (Option (List ℕ))
+country_of_text [] = None
+country_of_text (a ∷ []) = if a == 0x2D then Some None else None
+country_of_text (a ∷ b ∷ []) = if is_capital a && is_capital b then Some (Some (a ∷ b ∷ [])) else None
+country_of_text (a ∷ b ∷ c ∷ rest) = None
 
 -- a subdivision: 1 to 3 of A to Z and 0 to 9, or `-` where none is told
 abbrev pub is_subdivision : List ℕ → Bool
 is_subdivision text =
     nat_lt 0 (length text) && nat_le (length text) 3 && list_all is_subdivision_byte text
 
-abbrev pub subdivision_of : List ℕ → Option (Option (List ℕ))
-subdivision_of text =
+abbrev pub subdivision_of_text : List ℕ → Option (Option (List ℕ))
+subdivision_of_text text =
     if bytes_eq text (codes "-") then Some None
     else if is_subdivision text then Some (Some text) else None
 
@@ -63,35 +63,35 @@ located (Some continent) (Some country) (Some subdivision) =
 abbrev pub in_continent : Option Continent → List ℕ → (place : Option ℕ) → Option Location
 in_continent continent text None = None
 in_continent continent text (Some at) =
-    located continent (country_of (take at text)) (subdivision_of (drop (at + 1) text))
+    located continent (country_of_text (take at text)) (subdivision_of_text (drop (at + 1) text))
 
 -- a continent, a country and a subdivision with one space between them
 abbrev pub behind_continent : List ℕ → (place : Option ℕ) → Option Location
 behind_continent text None = None
 behind_continent text (Some at) =
-    in_continent (continent_of (take at text)) (drop (at + 1) text)
+    in_continent (continent_of_text (take at text)) (drop (at + 1) text)
     (place_of 0x20 (drop (at + 1) text))
 
-abbrev pub location_of : List ℕ → Option Location
-location_of text = behind_continent text (place_of 0x20 text)
+abbrev pub location_of_text : List ℕ → Option Location
+location_of_text text = behind_continent text (place_of 0x20 text)
 
 -- the name of a region: 1 to 32 of a to z, 0 to 9 and `-`
 abbrev pub is_region : List ℕ → Bool
 is_region text = nat_lt 0 (length text) && nat_le (length text) 32 && list_all is_region_byte text
 
-abbrev pub region_of : List ℕ → Option (List ℕ)
-region_of text = if is_region text then Some text else None
+abbrev pub region_of_text : List ℕ → Option (List ℕ)
+region_of_text text = if is_region text then Some text else None
 
-abbrev pub told : (region : Option (List ℕ)) → (latency : Option ℕ) → Option (List ℕ × ℕ)
-told None latency = None
-told (Some region) None = None
-told (Some region) (Some latency) = Some (region, latency)
+abbrev pub both_there : (region : Option (List ℕ)) → (latency : Option ℕ) → Option (List ℕ × ℕ)
+both_there None latency = None
+both_there (Some region) None = None
+both_there (Some region) (Some latency) = Some (region, latency)
 
 -- a region, `=` and its latency, a number of 0 to 4,294,967,295 without leading zeros
 abbrev pub around_equals : List ℕ → (place : Option ℕ) → Option (List ℕ × ℕ)
 around_equals text None = None
 around_equals text (Some at) =
-    told (region_of (take at text)) (plain_number 4294967295 (drop (at + 1) text))
+    both_there (region_of_text (take at text)) (plain_number 4294967295 (drop (at + 1) text))
 
 abbrev pub region_latency_of : List ℕ → Option (List ℕ × ℕ)
 region_latency_of text = around_equals text (place_of 0x3D text)

@@ -5,8 +5,8 @@ ghost use Rattle.std.specs.Option.{option_copied};
 ghost use Rattle.geo_latency.specs.Lines.{is_skipped, latency_fields, latency_row, latencies_of};
 ghost use Rattle.geo_latency.specs.Lines.{later, parts, place_fields, place_row, row_of, said};
 ghost use Rattle.geo_latency.specs.Lines.{prefix_of_latencies};
-ghost use Rattle.geo_latency.specs.Rows.{location_of};
-ghost use Rattle.prefix_text.specs.Prefixes.{prefix_of};
+ghost use Rattle.geo_latency.specs.Rows.{location_of_text};
+ghost use Rattle.prefix_text.specs.Prefixes.{prefix_of_text};
 
 use crate::latencies::Latencies;
 use crate::location::Location;
@@ -86,7 +86,7 @@ fn read_place(fields: Option<&[u8]>) -> Line
 
 /// The row of a prefix and a location.
 fn place_row(prefix: &[u8], location: &[u8]) -> Line
-    ensures { result ≡ place_row (prefix_of prefix.now) (location_of location.now) }
+    ensures { result ≡ place_row (prefix_of_text prefix.now) (location_of_text location.now) }
 {
     let Some(prefix) = read_prefix(prefix) else {
         return Line::Bad;
@@ -121,9 +121,9 @@ fn read_latency(alloc: Global, fields: Option<&[u8]>) -> Result<Line, IpPrefix>
 /// The row of a prefix and latencies.
 fn latency_row(alloc: Global, prefix: &[u8], latencies: &[u8]) -> Result<Line, IpPrefix>
     ensures read { IfOk result (λ read. read ≡
-        latency_row (prefix_of prefix.now) (latencies_of latencies.now)) }
+        latency_row (prefix_of_text prefix.now) (latencies_of latencies.now)) }
     ensures wanted { IfErr result (λ p. Some p ≡ prefix_of_latencies
-        (latency_row (prefix_of prefix.now) (latencies_of latencies.now))) }
+        (latency_row (prefix_of_text prefix.now) (latencies_of latencies.now))) }
 {
     let Some(prefix) = read_prefix(prefix) else {
         return Ok(Line::Bad);

@@ -3,13 +3,13 @@
 ghost use Rattle.std.specs.Prelude.{◌≡◌, ◌≤◌, ◌<◌, ℕ, List, length, if◌then◌else◌};
 ghost use Rattle.std.specs.Prelude.{Option, None, IfSome, IsTrue};
 ghost use Rattle.std.specs.Option.{option_copied};
-ghost use Rattle.geo_latency.specs.Nearest.{IsWithin, Leads, code_number, country_number};
+ghost use Rattle.geo_latency.specs.Nearest.{IsWithin, IsFirstRank, code_number, country_number};
 ghost use Rattle.geo_latency.specs.Nearest.{order_of, rank_of, size_of, wanted, with_set};
 ghost use Rattle.geo_latency.specs.Places.{chosen, is_some_of, is_same_continent, number_of};
 ghost use Rattle.geo_latency.specs.declared.location.Location.{Location};
 
 use crate::location::Location;
-use crate::same::is_same_part;
+use crate::same::is_same_subdivision;
 use routing::{Continent, Place, Sub};
 
 /// What stands for the rank of a set where none was found. It is behind each that a set has.
@@ -63,8 +63,8 @@ fn with_set(
     nearest: Nearest,
 ) -> Nearest
     ensures leads { (lists : List (List ℕ)) → length lists ≡ 8
-        → Leads nearest.rank nearest.set lists
-        → Leads result.rank result.set
+        → IsFirstRank nearest.rank nearest.set lists
+        → IsFirstRank result.rank result.set
         (with_set healthy (size_of (option_copied client.entry) place.now) set lists) }
     ensures rank { nearest.rank ≤ 8 → result.rank ≤ 8 }
     ensures within { (n : ℕ) → set < n → IsWithin nearest n → IsWithin result n }
@@ -112,8 +112,8 @@ fn size_of(client: Option<&Location>, place: &Place) -> Option<Size>
         };
     };
     match place {
-        Place::Subdivision(country, part) => {
-            if !is_part(&client.subdivision, part) {
+        Place::Subdivision(country, subdivision) => {
+            if !is_part(&client.subdivision, subdivision) {
                 return None;
             }
             if_here(is_country(&client.country, country), Size::Subdivision)
@@ -179,11 +179,11 @@ fn is_country(country: &Option<[u8; 2]>, other: &[u8; 2]) -> bool
 }
 
 /// Whether the client's subdivision is this one of its country.
-fn is_part(part: &Option<Sub>, other: &Sub) -> bool
-    ensures { result ≡ is_some_of part.now other.now }
+fn is_part(subdivision: &Option<Sub>, other: &Sub) -> bool
+    ensures { result ≡ is_some_of subdivision.now other.now }
 {
-    match part {
-        Some(code) => is_same_part(code, other),
+    match subdivision {
+        Some(code) => is_same_subdivision(code, other),
         None => false,
     }
 }

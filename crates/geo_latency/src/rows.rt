@@ -1,9 +1,9 @@
 //! The fields of rows that tell where clients are.
 
 ghost use Rattle.std.specs.Prelude.{◌≡◌};
-ghost use Rattle.geo_latency.specs.Rows.{continent_of, country_of, in_continent, is_capital};
-ghost use Rattle.geo_latency.specs.Rows.{is_within, located, location_of, subdivision_of};
-ghost use Rattle.geo_latency.specs.Rows.{region_latency_of, region_of};
+ghost use Rattle.geo_latency.specs.Rows.{continent_of_text, country_of_text, in_continent, is_capital};
+ghost use Rattle.geo_latency.specs.Rows.{is_within, located, location_of_text, subdivision_of_text};
+ghost use Rattle.geo_latency.specs.Rows.{region_latency_of, region_of_text};
 ghost use Rattle.prefix_text.specs.Marks.{place_of};
 
 use crate::location::Location;
@@ -15,7 +15,7 @@ use routing::{Continent, Region, Sub};
 ///
 /// A hyphen stands for a country or a subdivision that isn't told.
 pub fn read_location(text: &[u8]) -> Option<Location>
-    ensures { result ≡ location_of text.now }
+    ensures { result ≡ location_of_text text.now }
 {
     let Some(at) = place_of(b' ', text) else {
         return None;
@@ -51,7 +51,7 @@ fn read_in_continent(continent: Option<Continent>, text: &[u8]) -> Option<Locati
 
 /// The continent of a code.
 fn read_continent(text: &[u8]) -> Option<Continent>
-    ensures { result ≡ continent_of text.now }
+    ensures { result ≡ continent_of_text text.now }
 {
     if text == b"AF".as_slice() {
         return Some(Continent::Af);
@@ -79,7 +79,7 @@ fn read_continent(text: &[u8]) -> Option<Continent>
 
 /// A country, or none where a hyphen stands.
 fn read_country(text: &[u8]) -> Option<Option<[u8; 2]>>
-    ensures { result ≡ country_of text.now }
+    ensures { result ≡ country_of_text text.now }
 {
     match text {
         [a] if *a == b'-' => Some(None),
@@ -97,15 +97,15 @@ fn is_capital(b: u8) -> bool
 
 /// A subdivision, or none where a hyphen stands.
 fn read_subdivision(text: &[u8]) -> Option<Option<Sub>>
-    ensures { result ≡ subdivision_of text.now }
+    ensures { result ≡ subdivision_of_text text.now }
 {
     if text == b"-".as_slice() {
         return Some(None);
     }
-    let Some(part) = Sub::new(text) else {
+    let Some(subdivision) = Sub::new(text) else {
         return None;
     };
-    Some(Some(part))
+    Some(Some(subdivision))
 }
 
 /// The region and the latency of a text: the name of a region, `=` and a number without leading
@@ -127,7 +127,7 @@ pub fn read_region_latency(text: &[u8]) -> Option<(Region, u32)>
 
 /// The region of a name.
 fn read_region(text: &[u8]) -> Option<Region>
-    ensures { result ≡ region_of text.now }
+    ensures { result ≡ region_of_text text.now }
 {
     let Some(region) = Region::new(text) else {
         return None;

@@ -13,8 +13,8 @@ pub(crate) fn is_same_region(region: &Region, other: &Region) -> bool
 }
 
 /// Whether two subdivisions have one code.
-pub(crate) fn is_same_part(part: &Sub, other: &Sub) -> bool
-    ensures { result ≡ bytes_eq part.now other.now }
+pub(crate) fn is_same_subdivision(subdivision: &Sub, other: &Sub) -> bool
+    ensures { result ≡ bytes_eq subdivision.now other.now }
 {
-    part == other
+    subdivision == other
 }

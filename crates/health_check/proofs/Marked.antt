@@ -6,7 +6,7 @@ use Rattle.std.proofs.lemmas.Bool.{eq-eqb, eqb-true, ne_eqb, false≢true, or_fr
 use Rattle.std.proofs.lemmas.List.Folds.{list_any-append}
 use Rattle.check_model.specs.declared.checks.Check.{Check}
 use Rattle.check_model.specs.declared.checks.Check.TheVariants.{Endpoint, Calculated}
-use Rattle.check_model.specs.Checks.{AreChildren, Checks, IdsRise, IsId, IsSound, check_at, children_of}
+use Rattle.check_model.specs.Checks.{AreChildren, Checks, IdsRise, IsId, IsSound, check_with, children_of}
 use Rattle.check_model.specs.Commands.{Given, children_there, created, has_walk, is_calculated, is_calculated_there, is_too_deep, starts_walk, updated_at, updated_check}
 use Rattle.check_model.proofs.Found.{alone, at_more, at_updated, or_else}
 use Rattle.check_model.proofs.Kept.{fresh}
@@ -77,12 +77,12 @@ none_parts : (b : Bool) (check : Check) (rest : Option Check) → cond b (Some c
 none_parts true check rest e = let no : ⊥ = cc in absurd no
 none_parts false check rest e = (refl, e)
 
-pub no_mark : (list : List Held) (marks : List Bool) (id : ℕ) → check_at list id ≡ None
+pub no_mark : (list : List Held) (marks : List Bool) (id : ℕ) → check_with list id ≡ None
     → marked list marks id ≡ false
 no_mark [] marks id none = refl
 no_mark (held ∷ list) [] id none = refl
 no_mark (held ∷ list) (mark ∷ marks) id none =
-    let parts = none_parts (nat_eq id held.0) held.1 (check_at list id) none in
+    let parts = none_parts (nat_eq id held.0) held.1 (check_with list id) none in
     later_by (nat_eq id held.0) mark (marked list marks id) false parts.0
     (no_mark list marks id parts.1)
 
@@ -105,11 +105,11 @@ module _ (f : ℕ → Bool) where
 
   pub marks_tell : (list : List Held) (marks : List Bool)
       → take (length list) marks ≡ map (λ (held : Held). f held.0) list
-      → (k : ℕ) → (check_at list k ≡ None → f k ≡ false) → marked list marks k ≡ f k
+      → (k : ℕ) → (check_with list k ≡ None → f k ≡ false) → marked list marks k ≡ f k
   marks_tell [] marks are k none = sym (none refl)
   marks_tell (held ∷ list) [] are k none = let no : ⊥ = cc in absurd no
   marks_tell (held ∷ list) (mark ∷ marks) are k none =
-      told_by (nat_eq k held.0) k held mark (marked list marks k) (check_at list k) refl
+      told_by (nat_eq k held.0) k held mark (marked list marks k) (check_with list k) refl
       (head_of mark (f held.0) (take (length list) marks)
       (map (λ (held : Held). f held.0) list) are)
       (marks_tell list marks (tail_of mark (f held.0) (take (length list) marks)
@@ -125,7 +125,7 @@ module _ (id : ℕ) (given : Given) (list : List Held) (rise : IdsRise list) whe
   both_some false check = refl
 
   pub its_check : (held : Held) → Contains list held
-      → check_at (map (updated_at id given) list) held.0 ≡ Some (updated_at id given held).1
+      → check_with (map (updated_at id given) list) held.0 ≡ Some (updated_at id given held).1
   its_check held m =
       at_updated id given list held.0
       ∙ ap (λ (o : Option Check). cond (nat_eq held.0 id) (option_map (updated_check given) o) o)
@@ -137,9 +137,9 @@ module _ (id : ℕ) (given : Given) (list : List Held) (rise : IdsRise list) whe
   none_both true found e = ap (option_map (updated_check given)) e
   none_both false found e = e
 
-  pub not_after : (k : ℕ) → check_at list k ≡ None
-      → check_at (map (updated_at id given) list) k ≡ None
-  not_after k none = at_updated id given list k ∙ none_both (nat_eq k id) (check_at list k) none
+  pub not_after : (k : ℕ) → check_with list k ≡ None
+      → check_with (map (updated_at id given) list) k ≡ None
+  not_after k none = at_updated id given list k ∙ none_both (nat_eq k id) (check_with list k) none
 
   kind_kept : (check : Check) → is_calculated (updated_check given check) ≡ is_calculated check
   kind_kept (Endpoint threshold inverted disabled) = refl
@@ -156,7 +156,7 @@ module _ (id : ℕ) (given : Given) (list : List Held) (rise : IdsRise list) whe
   any_at f [] = refl
   any_at f (x ∷ xs) = ap (λ (b : Bool). f x.0 || b) (any_at f xs)
 
-no_walk : (steps : ℕ) (after : List Held) (k : ℕ) → check_at after k ≡ None
+no_walk : (steps : ℕ) (after : List Held) (k : ℕ) → check_with after k ≡ None
     → starts_walk steps after k ≡ false
 no_walk zero after k none = ap is_calculated_there none
 no_walk (suc steps) after k none =
@@ -228,7 +228,7 @@ module _ (id : ℕ) (children : List ℕ) (list : List Held) where
   no_start steps k e =
       ap (list_any (starts_walk steps (with_children id children list)))
       (ap children_there (at_updated id (children_given children) list k)
-      ∙ childless (nat_eq k id) (check_at list k) e)
+      ∙ childless (nat_eq k id) (check_with list k) e)
 
   pub none_start : (steps : ℕ) (ks : List ℕ) → list_any (is_calculated_in list) ks ≡ false
       → list_any (starts_walk (suc steps) (with_children id children list)) ks ≡ false
@@ -264,12 +264,12 @@ module _ (checks : Checks) (sound : IsSound checks) (check : Check) where
   more = checks.list ++ (checks.next, check) ∷ []
 
   found_still : (k : ℕ) → IsId checks.list k
-      → check_at more k ≡ check_at checks.list k
+      → check_with more k ≡ check_with checks.list k
   found_still k (old, at) =
       at_more (checks.next, check) checks.list k
       ∙ ap (λ (o : Option Check). or_else o (alone (checks.next, check) k)) at ∙ sym at
 
-  children_at : (k : ℕ) (old : Check) → check_at checks.list k ≡ Some old
+  children_at : (k : ℕ) (old : Check) → check_with checks.list k ≡ Some old
       → AreChildren checks.list (children_of old)
   children_at k old at =
       all_at (λ held. AreChildren checks.list (children_of held.1)) checks.list (k, old)
@@ -287,7 +287,7 @@ module _ (checks : Checks) (sound : IsSound checks) (check : Check) where
       ∙ ap (λ (o : Option Check). list_any (starts_walk steps checks.list) (children_there o))
       (sym at)
 
-  new_found : check_at more checks.next ≡ Some check
+  new_found : check_with more checks.next ≡ Some check
   new_found =
       at_more (checks.next, check) checks.list checks.next
       ∙ ap (λ (o : Option Check). or_else o (alone (checks.next, check) checks.next))
@@ -374,16 +374,16 @@ module _ (given : Given) (children : List ℕ) (some : given.children ≡ Some c
         ≡ starts_walk steps (with_children id children list) k
     starts_alike zero k =
         ap is_calculated_there (at_updated id given list k)
-        ∙ calculated_alike (nat_eq k id) (check_at list k)
+        ∙ calculated_alike (nat_eq k id) (check_with list k)
         ∙ ap is_calculated_there (sym (at_updated id (children_given children) list k))
     starts_alike (suc steps) k =
         any_same (starts_walk steps (map (updated_at id given) list))
         (starts_walk steps (with_children id children list))
-        (children_there (check_at (map (updated_at id given) list) k))
+        (children_there (check_with (map (updated_at id given) list) k))
         (λ child m. starts_alike steps child)
         ∙ ap (list_any (starts_walk steps (with_children id children list)))
         (ap children_there (at_updated id given list k)
-        ∙ there_alike (nat_eq k id) (check_at list k)
+        ∙ there_alike (nat_eq k id) (check_with list k)
         ∙ ap children_there (sym (at_updated id (children_given children) list k)))
 
     stands_alike : (steps : ℕ)

@@ -8,7 +8,7 @@ use Rattle.std.proofs.lemmas.List.{get_or_default}
 use Rattle.std.proofs.lemmas.List.Elements.{Contains-get_or}
 use Rattle.std.proofs.lemmas.Option.{get_or_from_slice_get, slice_get_read, slice_get_within}
 use Rattle.check_model.specs.declared.checks.Check.{Check}
-use Rattle.check_model.specs.Checks.{IdsRise, IsId, NextIdOrNone, check_at}
+use Rattle.check_model.specs.Checks.{IdsRise, IsId, NextIdOrNone, check_with}
 use Rattle.check_model.specs.Commands.{Given, updated_at, updated_check, without}
 use Rattle.check_model.proofs.Members.{all_at}
 use Rattle.check_model.proofs.Told.{one_of_id}
@@ -59,17 +59,17 @@ none_by false held rest e none = none
 
 not_there : (list : List Held) (id : ℕ)
     → ((k : ℕ) (d : Held) → k < length list → (get_or list k d).0 ≢ id)
-    → check_at list id ≡ None
+    → check_with list id ≡ None
 not_there [] id never = refl
 not_there (held ∷ list) id never =
-    none_by (nat_eq id held.0) held (check_at list id)
+    none_by (nat_eq id held.0) held (check_with list id)
     (ne_eqb id held.0 (λ e. never zero held (omega arith) (sym e)))
     (not_there list id (λ k d lt. never (suc k) d (omega (arith, lt))))
 
 module _ (list : List Held) (rise : IdsRise list) (id n : ℕ)
     (split : IsPartitionPoint (λ held. comes_before id held ≡ true)
     (λ held. comes_before id held ≡ false) list n) where
-  pub absent : ((d : Held) → n < length list → (get_or list n d).0 ≢ id) → check_at list id ≡ None
+  pub absent : ((d : Held) → n < length list → (get_or list n d).0 ≢ id) → check_with list id ≡ None
   absent other = not_there list id never
     where
       never : (k : ℕ) (d : Held) → k < length list → (get_or list k d).0 ≢ id
@@ -90,11 +90,11 @@ pub found_there : (list : List Held) → IdsRise list → (place id : ℕ) (held
     → place < length list → held ≡ get_or list place held → held.0 ≡ id
     → PlaceOrNone list id (Some place)
 found_there list rise place id held lt is same =
-    let at : check_at list held.0 ≡ Some held.1 =
+    let at : check_with list held.0 ≡ Some held.1 =
     one_of_id list held rise (place, lt, sym is) in (
       held.1,
       slice_get_read list (length list) place held refl lt is ∙ ap (λ n. Some (n, held.1)) same,
-      ap (check_at list) (sym same) ∙ at,
+      ap (check_with list) (sym same) ∙ at,
     )
 
 -- ---- the next number

@@ -7,8 +7,8 @@ use Rattle.check_model.specs.declared.checks.Check.{Check}
 use Rattle.check_model.specs.declared.checks.CheckCommand.{CheckCommand}
 use Rattle.check_model.specs.declared.refusals.CheckRefusal.{CheckRefusal}
 use Rattle.check_model.specs.declared.refusals.CheckRefusal.TheVariants.{ChildRepeated, ChildTooDeep, WrongMember, TooManyHealthChecks, IdsEnded}
-use Rattle.check_model.specs.Checks.{AreChildren, Checks, IdsRise, IsId, IsSound, check_at, children_of}
-use Rattle.check_model.specs.Commands.{Given, IsBoundedCommand, checks_after, children_rules, create_refusal, created, first_missing, first_of, given_rules, has_repeated, is_calculated, is_too_deep, is_wrong_member, missing, number_of, of_there, refusal_of, rule, starts_walk, unless, update_refusal, updated_at}
+use Rattle.check_model.specs.Checks.{AreChildren, Checks, IdsRise, IsId, IsSound, check_with, children_of}
+use Rattle.check_model.specs.Commands.{Given, IsBoundedCommand, checks_after, children_rules, create_refusal, created, first_missing, first_of, given_rules, has_repeated, is_calculated, is_too_deep, is_wrong_member, missing, number_of, of_there, refusal_of, refuse_if, starts_walk, unless, update_refusal, updated_at}
 use Rattle.check_model.specs.Kept.{KeepsSound}
 use Rattle.check_model.proofs.Kept.{none_missing, passes, there_and}
 use Rattle.check_model.proofs.Members.{distinct_of, repeated_told}
@@ -20,14 +20,14 @@ use Rattle.health_check.proofs.Places.{Held}
 
 -- what comes behind rules by which nothing is refused
 past : (repeated : Bool) (found : Option ℕ) (rules : List (Option CheckRefusal))
-    → first_of (rule repeated ChildRepeated ∷ missing found ∷ []) ≡ None
-    → first_of (rule repeated ChildRepeated ∷ missing found ∷ rules) ≡ first_of rules
+    → first_of (refuse_if repeated ChildRepeated ∷ missing found ∷ []) ≡ None
+    → first_of (refuse_if repeated ChildRepeated ∷ missing found ∷ rules) ≡ first_of rules
 past true found rules e = let no : ⊥ = cc in absurd no
 past false (Some child) rules e = let no : ⊥ = cc in absurd no
 past false None rules e = refl
 
 module _ (list : List Held) (children : List ℕ)
-    (named : first_of (rule (has_repeated children) ChildRepeated
+    (named : first_of (refuse_if (has_repeated children) ChildRepeated
     ∷ missing (first_missing list children) ∷ []) ≡ None) where
   named_there : AllByRecursion (IsId list) children
   named_there =
@@ -38,7 +38,7 @@ module _ (list : List Held) (children : List ℕ)
 -- ---- a new check
 
 module _ (checks : Checks) (sound : IsSound checks) (check : Check)
-    (named : first_of (rule (has_repeated (children_of check)) ChildRepeated
+    (named : first_of (refuse_if (has_repeated (children_of check)) ChildRepeated
     ∷ missing (first_missing checks.list (children_of check)) ∷ []) ≡ None)
     (deep : Bool)
     (marked : deep
@@ -53,28 +53,28 @@ module _ (checks : Checks) (sound : IsSound checks) (check : Check)
   by_rules : (many last : Bool) → nat_le 200 (length checks.list) ≡ many
       → nat_eq checks.next 4294967295 ≡ last
       → create_refusal checks check
-      ≡ first_of (rule deep ChildTooDeep ∷ rule many TooManyHealthChecks ∷ rule last IdsEnded ∷ [])
+      ≡ first_of (refuse_if deep ChildTooDeep ∷ refuse_if many TooManyHealthChecks ∷ refuse_if last IdsEnded ∷ [])
   by_rules many last m l =
       past (has_repeated (children_of check)) (first_missing checks.list (children_of check))
-      (rule (is_too_deep (created checks check).list) ChildTooDeep
-      ∷ rule (nat_le 200 (length checks.list)) TooManyHealthChecks
-      ∷ rule (nat_eq checks.next 4294967295) IdsEnded ∷ []) named
-      ∙ ap (λ (b : Bool). first_of (rule b ChildTooDeep
-      ∷ rule (nat_le 200 (length checks.list)) TooManyHealthChecks
-      ∷ rule (nat_eq checks.next 4294967295) IdsEnded ∷ [])) is_deep
-      ∙ ap (λ (b : Bool). first_of (rule deep ChildTooDeep ∷ rule b TooManyHealthChecks
-      ∷ rule (nat_eq checks.next 4294967295) IdsEnded ∷ [])) m
-      ∙ ap (λ (b : Bool). first_of (rule deep ChildTooDeep ∷ rule many TooManyHealthChecks
-      ∷ rule b IdsEnded ∷ [])) l
+      (refuse_if (is_too_deep (created checks check).list) ChildTooDeep
+      ∷ refuse_if (nat_le 200 (length checks.list)) TooManyHealthChecks
+      ∷ refuse_if (nat_eq checks.next 4294967295) IdsEnded ∷ []) named
+      ∙ ap (λ (b : Bool). first_of (refuse_if b ChildTooDeep
+      ∷ refuse_if (nat_le 200 (length checks.list)) TooManyHealthChecks
+      ∷ refuse_if (nat_eq checks.next 4294967295) IdsEnded ∷ [])) is_deep
+      ∙ ap (λ (b : Bool). first_of (refuse_if deep ChildTooDeep ∷ refuse_if b TooManyHealthChecks
+      ∷ refuse_if (nat_eq checks.next 4294967295) IdsEnded ∷ [])) m
+      ∙ ap (λ (b : Bool). first_of (refuse_if deep ChildTooDeep ∷ refuse_if many TooManyHealthChecks
+      ∷ refuse_if b IdsEnded ∷ [])) l
 
   deep_by : (d many last : Bool) → deep ≡ d
       → create_refusal checks check
-      ≡ first_of (rule deep ChildTooDeep ∷ rule many TooManyHealthChecks ∷ rule last IdsEnded ∷ [])
+      ≡ first_of (refuse_if deep ChildTooDeep ∷ refuse_if many TooManyHealthChecks ∷ refuse_if last IdsEnded ∷ [])
       → create_refusal checks check
-      ≡ first_of (rule d ChildTooDeep ∷ rule many TooManyHealthChecks ∷ rule last IdsEnded ∷ [])
+      ≡ first_of (refuse_if d ChildTooDeep ∷ refuse_if many TooManyHealthChecks ∷ refuse_if last IdsEnded ∷ [])
   deep_by d many last e same =
-      same ∙ ap (λ (b : Bool). first_of (rule b ChildTooDeep ∷ rule many TooManyHealthChecks
-      ∷ rule last IdsEnded ∷ [])) e
+      same ∙ ap (λ (b : Bool). first_of (refuse_if b ChildTooDeep ∷ refuse_if many TooManyHealthChecks
+      ∷ refuse_if last IdsEnded ∷ [])) e
 
   pub too_deep : deep ≡ true → Some ChildTooDeep ≡ create_refusal checks check
   too_deep e =
@@ -104,41 +104,41 @@ module _ (checks : Checks) (sound : IsSound checks) (check : Check)
 -- ---- changes of a check
 
 module _ (next : ℕ) (list : List Held) (rise : IdsRise list) (id : ℕ) (given : Given)
-    (check : Check) (at : check_at list id ≡ Some check) where
+    (check : Check) (at : check_with list id ≡ Some check) where
   abbrev stored : Checks
   stored = record { next = next; list = list }
 
-  asked : of_there id (check_at list id) (update_refusal stored id given)
+  asked : of_there id (check_with list id) (update_refusal stored id given)
       ≡ update_refusal stored id given check
   asked = ap (λ (o : Option Check). of_there id o (update_refusal stored id given)) at
 
   by_given : (wrong : Bool) (children : Option (List ℕ)) → is_wrong_member given check ≡ wrong
       → given.children ≡ children
       → update_refusal stored id given check
-      ≡ first_of (rule wrong WrongMember
+      ≡ first_of (refuse_if wrong WrongMember
       ∷ given_rules list (map (updated_at id given) list) children)
   by_given wrong children e f =
-      ap (λ (b : Bool). first_of (rule b WrongMember
+      ap (λ (b : Bool). first_of (refuse_if b WrongMember
       ∷ given_rules list (map (updated_at id given) list) given.children)) e
-      ∙ ap (λ (o : Option (List ℕ)). first_of (rule wrong WrongMember
+      ∙ ap (λ (o : Option (List ℕ)). first_of (refuse_if wrong WrongMember
       ∷ given_rules list (map (updated_at id given) list) o)) f
 
   pub wrong_member : is_wrong_member given check ≡ true
-      → Some WrongMember ≡ of_there id (check_at list id) (update_refusal stored id given)
+      → Some WrongMember ≡ of_there id (check_with list id) (update_refusal stored id given)
   wrong_member e = sym (asked ∙ by_given true given.children e refl)
 
   pub nothing_given : is_wrong_member given check ≡ false → given.children ≡ None
-      → None ≡ of_there id (check_at list id) (update_refusal stored id given)
+      → None ≡ of_there id (check_with list id) (update_refusal stored id given)
   nothing_given e none = sym (asked ∙ by_given false None e none)
 
   pub children_given : is_wrong_member given check ≡ false → (children : List ℕ)
       → given.children ≡ Some children
       → first_of (children_rules list (with_children id children list) children)
-      ≡ of_there id (check_at list id) (update_refusal stored id given)
+      ≡ of_there id (check_with list id) (update_refusal stored id given)
   children_given e children some =
       sym (asked ∙ by_given false (Some children) e some
-      ∙ ap (λ (b : Bool). first_of (rule (has_repeated children) ChildRepeated
-      ∷ missing (first_missing list children) ∷ rule b ChildTooDeep ∷ []))
+      ∙ ap (λ (b : Bool). first_of (refuse_if (has_repeated children) ChildRepeated
+      ∷ missing (first_missing list children) ∷ refuse_if b ChildTooDeep ∷ []))
       (deep_alike given children some id list rise))
 
 -- ---- what is left
@@ -169,11 +169,11 @@ left_sound law next list room now view sound command its is judged bounded left 
     command its is judged bounded)
 
 pub its_there : (inside now : Checks) → inside ≡ now → (id : ℕ)
-    → (ask : Check → Option CheckRefusal) → of_there id (check_at now.list id) ask ≡ None
+    → (ask : Check → Option CheckRefusal) → of_there id (check_with now.list id) ask ≡ None
     → IsId inside.list id
 its_there inside now same id ask e =
-    let its = there_and id (check_at now.list id) ask e in
-    (its.0, ap (λ (c : Checks). check_at c.list id) same ∙ its.1)
+    let its = there_and id (check_with now.list id) ask e in
+    (its.0, ap (λ (c : Checks). check_with c.list id) same ∙ its.1)
 
 -- ---- sound children
 

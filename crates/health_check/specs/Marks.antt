@@ -1,12 +1,12 @@
 -- Marks of checks, one for each, in the order in which the checks stand.
 use Rattle.std.specs.Prelude.{ℕ, Bool, false, if◌then◌else◌, nat_eq, List, [], ◌∷◌, map, None, Some}
 use Rattle.check_model.specs.declared.checks.Check.{Check}
-use Rattle.check_model.specs.Checks.{check_at}
+use Rattle.check_model.specs.Checks.{check_with}
 use Rattle.check_model.specs.Commands.{Given, is_calculated_there, starts_walk, updated_at}
 
 -- whether the check of a number is calculated
 abbrev pub is_calculated_in : List (ℕ × Check) → (id : ℕ) → Bool
-is_calculated_in list id = is_calculated_there (check_at list id)
+is_calculated_in list id = is_calculated_there (check_with list id)
 
 -- the mark of the check of a number; none where it isn't there
 abbrev pub marked : (list : List (ℕ × Check)) → (marks : List Bool) → (id : ℕ) → Bool

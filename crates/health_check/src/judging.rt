@@ -2,11 +2,11 @@
 
 ghost use Rattle.std.specs.Prelude.{◌≡◌, ◌≤◌, ◌∷◌, ◌&&◌, ◌||◌, [], ℕ, length, is_some, not};
 ghost use Rattle.std.specs.Prelude.{None, Some};
-ghost use Rattle.check_model.specs.Checks.{IdsRise, IsSound, check_at};
+ghost use Rattle.check_model.specs.Checks.{IdsRise, IsSound, check_with};
 ghost use Rattle.check_model.specs.Commands.{Given, children_rules, create_refusal};
 ghost use Rattle.check_model.specs.Commands.{delete_refusal, first_missing, first_of};
 ghost use Rattle.check_model.specs.Commands.{has_repeated, is_calculated, missing, of_there};
-ghost use Rattle.check_model.specs.Commands.{refusal_of, rule, update_refusal};
+ghost use Rattle.check_model.specs.Commands.{refusal_of, refuse_if, update_refusal};
 ghost use Rattle.health_check.specs.Marks.{with_children};
 ghost use Rattle.check_model.specs.declared.refusals.CheckRefusal.TheVariants.{ChildRepeated};
 
@@ -62,7 +62,7 @@ fn create_refusal(next: u32, list: &[(u32, Check)], check: &Check) -> Option<Che
 /// The first refusal of children by their numbers.
 fn named_refusal(list: &[(u32, Check)], children: &[u32]) -> Option<CheckRefusal>
     requires { IdsRise list.now }
-    ensures { result ≡ first_of (rule (has_repeated children.now) ChildRepeated
+    ensures { result ≡ first_of (refuse_if (has_repeated children.now) ChildRepeated
         ∷ missing (first_missing list.now children.now) ∷ []) }
 {
     if has_repeated(children) {
@@ -85,7 +85,7 @@ fn update_refusal(
     requires few { length list.now ≤ 200 }
     ensures { (next : ℕ) (given : Given) → is_some given.threshold ≡ threshold
         → given.children ≡ children.now
-        → result ≡ of_there id (check_at list.now id)
+        → result ≡ of_there id (check_with list.now id)
         (update_refusal (record { next = next; list = list.now }) id given) }
 {
     let Some(place) = place_of(list, id) else {
@@ -129,7 +129,7 @@ fn given_refusal(list: &[(u32, Check)], id: u32, children: &[u32]) -> Option<Che
 /// The first refusal of the end of a check.
 fn delete_refusal(list: &[(u32, Check)], id: u32) -> Option<CheckRefusal>
     requires { IdsRise list.now }
-    ensures { (next : ℕ) → result ≡ of_there id (check_at list.now id)
+    ensures { (next : ℕ) → result ≡ of_there id (check_with list.now id)
         (λ check. delete_refusal (record { next = next; list = list.now }) id) }
 {
     let Some(_) = place_of(list, id) else {

@@ -2,7 +2,7 @@
 
 ghost use Rattle.std.specs.Prelude.{◌≡◌, ◌+◌, ◌-◌, ◌≤◌, [], length, None, OnOk, IsOk, vec_capacity};
 ghost use Rattle.std.specs.Option.{option_copied};
-ghost use Rattle.check_model.specs.Checks.{IsSound, NextIdOrNone, check_at};
+ghost use Rattle.check_model.specs.Checks.{IsSound, NextIdOrNone, check_with};
 ghost use Rattle.check_model.specs.Commands.{IsBoundedCommand, checks_after, number_of};
 ghost use Rattle.check_model.specs.Commands.{refusal_of, unless};
 ghost use Rattle.health_check.specs.Stored.{HasRoom};
@@ -63,7 +63,7 @@ impl CheckTable {
 
     /// The check of a number.
     pub fn get(&self, id: u32) -> Option<&Check>
-        ensures check { option_copied result ≡ check_at self.now.checks.list id }
+        ensures check { option_copied result ≡ check_with self.now.checks.list id }
         ensures sound { IsSound self.now.checks }
     {
         match place_of(&self.list, id) {

@@ -3,13 +3,13 @@ use Rattle.std.proofs.Common.{◌≡◌, ◌≤◌, ℕ, Bool, true, false, cond
 use Rattle.std.specs.Prelude.{◌⊎◌, nat_eq, not, ⊤}
 use Rattle.std.proofs.lemmas.Bool.{cases_eq, eq-eqb, eqb-true, false≢true, ne_eqb}
 use mathlib.Core.Path.{subst}
-use Rattle.check_model.specs.Checks.{Checks, check_at}
+use Rattle.check_model.specs.Checks.{Checks, check_with}
 use Rattle.check_model.specs.Commands.{Given, given_by, updated_at, updated_check, without}
 use Rattle.check_model.specs.declared.checks.Check.{Check}
 use Rattle.check_model.specs.declared.checks.Check.TheVariants.{Endpoint, Calculated}
 use Rattle.check_model.specs.declared.checks.CheckCommand.TheVariants.{Create, Update, Delete}
-use Rattle.health_planning.specs.Following.{FollowsAt, HasThreshold}
-use Rattle.health_index.specs.Laws.{CommandsFollow}
+use Rattle.health_planning.specs.Later.{IsLaterAt, HasThreshold}
+use Rattle.health_index.specs.Laws.{ChecksAreLater}
 
 some_same : {X : Type 0} {x y : X} → Some x ≡ Some y → x ≡ y
 some_same e = cc
@@ -19,12 +19,12 @@ abbrev Kept : Option Check → Check → Type 0
 Kept was (Endpoint threshold inverted disabled) = HasThreshold was threshold
 Kept was (Calculated threshold inverted disabled children) = ⊤
 
-follows : (old : Checks) (id : ℕ) (check : Check) → Kept (check_at old.list id) check
-    → FollowsAt old id check
+follows : (old : Checks) (id : ℕ) (check : Check) → Kept (check_with old.list id) check
+    → IsLaterAt old id check
 follows old id (Endpoint threshold inverted disabled) kept = inr kept
 follows old id (Calculated threshold inverted disabled children) kept = tt
 
-comes : (old : Checks) (id : ℕ) (check : Check) → old.next ≤ id → FollowsAt old id check
+comes : (old : Checks) (id : ℕ) (check : Check) → old.next ≤ id → IsLaterAt old id check
 comes old id (Endpoint threshold inverted disabled) late = inl late
 comes old id (Calculated threshold inverted disabled children) late = tt
 
@@ -38,20 +38,20 @@ given_keeps given (Calculated threshold inverted disabled children) = tt
 
 -- a check that is found at the front, or behind it
 at_front : (held : ℕ × Check) (list : List (ℕ × Check)) (id : ℕ) → id ≡ held.0
-    → check_at (held ∷ list) id ≡ Some held.1
+    → check_with (held ∷ list) id ≡ Some held.1
 at_front held list id same = rw (eq-eqb id held.0 same) refl
 
 behind : (held : ℕ × Check) (list : List (ℕ × Check)) (id : ℕ) → (id ≡ held.0 → ⊥)
-    → check_at (held ∷ list) id ≡ check_at list id
+    → check_with (held ∷ list) id ≡ check_with list id
 behind held list id apart = rw (ne_eqb id held.0 apart) refl
 
-was_there : (list : List (ℕ × Check)) (id : ℕ) (check : Check) → check_at list id ≡ Some check
-    → Kept (check_at list id) check
+was_there : (list : List (ℕ × Check)) (id : ℕ) (check : Check) → check_with list id ≡ Some check
+    → Kept (check_with list id) check
 was_there list id check at = subst (λ (o : Option Check). Kept o check) (sym at) (itself check)
 
 made : (list : List (ℕ × Check)) (next id : ℕ) (new check : Check)
-    → check_at (list ++ (next, new) ∷ []) id ≡ Some check
-    → (id ≡ next) ⊎ Kept (check_at list id) check
+    → check_with (list ++ (next, new) ∷ []) id ≡ Some check
+    → (id ≡ next) ⊎ Kept (check_with list id) check
 made [] next id new check at = elim (cases_eq id next) [
   | inl same ↦ inl same
   | inr apart ↦ (let none : None ≡ Some check = sym (behind (next, new) [] id apart) ∙ at in let no : ⊥ = cc in absurd no)
@@ -67,8 +67,8 @@ made (held ∷ list) next id new check at = elim (cases_eq id held.0) [
 ]
 
 changed : (list : List (ℕ × Check)) (one : ℕ) (given : Given) (id : ℕ) (check : Check)
-    → check_at (map (updated_at one given) list) id ≡ Some check
-    → Kept (check_at list id) check
+    → check_with (map (updated_at one given) list) id ≡ Some check
+    → Kept (check_with list id) check
 changed [] one given id check at = let no : ⊥ = cc in absurd no
 changed (held ∷ list) one given id check at = elim (cases_eq id held.0) [
   | inl same ↦
@@ -84,29 +84,29 @@ changed (held ∷ list) one given id check at = elim (cases_eq id held.0) [
     by true = given_keeps given held.1
     by false = itself held.1
 
-none_left : (list : List (ℕ × Check)) (one : ℕ) → check_at (without one list) one ≡ None
+none_left : (list : List (ℕ × Check)) (one : ℕ) → check_with (without one list) one ≡ None
 none_left [] one = refl
 none_left (held ∷ list) one = by (nat_eq held.0 one) refl (none_left list one)
   where
-    by : (b : Bool) → nat_eq held.0 one ≡ b → check_at (without one list) one ≡ None
-        → check_at (cond (not b) (held ∷ without one list) (without one list)) one ≡ None
+    by : (b : Bool) → nat_eq held.0 one ≡ b → check_with (without one list) one ≡ None
+        → check_with (cond (not b) (held ∷ without one list) (without one list)) one ≡ None
     by true gone rest = rest
     by false stays rest =
         behind held (without one list) one (λ same. false≢true (sym stays ∙ eq-eqb held.0 one (sym same))) ∙ rest
 
 left : (list : List (ℕ × Check)) (one id : ℕ) (check : Check)
-    → check_at (without one list) id ≡ Some check → Kept (check_at list id) check
+    → check_with (without one list) id ≡ Some check → Kept (check_with list id) check
 left [] one id check at = let no : ⊥ = cc in absurd no
 left (held ∷ list) one id check at = by (nat_eq held.0 one) refl at (left list one id check)
   where
     by : (b : Bool) → nat_eq held.0 one ≡ b
-        → check_at (cond (not b) (held ∷ without one list) (without one list)) id ≡ Some check
-        → (check_at (without one list) id ≡ Some check → Kept (check_at list id) check)
-        → Kept (check_at (held ∷ list) id) check
+        → check_with (cond (not b) (held ∷ without one list) (without one list)) id ≡ Some check
+        → (check_with (without one list) id ≡ Some check → Kept (check_with list id) check)
+        → Kept (check_with (held ∷ list) id) check
     by true gone at rest = elim (cases_eq id held.0) [
       | inl same ↦
           let its : id ≡ one = same ∙ eqb-true held.0 one gone in
-          let none : None ≡ Some check = sym (none_left list one) ∙ subst (λ (n : ℕ). check_at (without one list) n ≡ Some check) its at in
+          let none : None ≡ Some check = sym (none_left list one) ∙ subst (λ (n : ℕ). check_with (without one list) n ≡ Some check) its at in
           let no : ⊥ = cc in absurd no
       | inr apart ↦
           subst (λ (o : Option Check). Kept o check) (sym (behind held list id apart)) (rest at)
@@ -120,7 +120,7 @@ left (held ∷ list) one id check at = by (nat_eq held.0 one) refl at (left list
           (rest (sym (behind held (without one list) id apart) ∙ at))
     ]
 
-pub commands_follow : CommandsFollow
+pub commands_follow : ChecksAreLater
 commands_follow checks (Create check) = record {
   next = omega arith;
   each = λ id found at. elim (made checks.list checks.next id check found at) [

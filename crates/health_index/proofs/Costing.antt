@@ -3,16 +3,16 @@ use Rattle.std.proofs.Common.{◌≡◌, ◌≤◌, ◌+◌, ℕ, Bool, true, fa
 use Rattle.std.specs.Prelude.{Contains, if◌then◌else◌, slice_get}
 use Rattle.std.proofs.lemmas.Option.{slice_get_within}
 use Rattle.check_model.specs.Checks.{Checks}
-use Rattle.health_gates.specs.Pass.{CostsCone}
+use Rattle.health_valves.specs.Pass.{CostsCone}
 use Rattle.health_model.specs.Nodes.{CheckNode, InCone, Node}
 use Rattle.health_model.specs.Statuses.{Report}
 use Rattle.health_planning.specs.Zones.{Zone}
 use Rattle.health_index.specs.Index.{Index, StandsFor}
 use Rattle.health_planning.specs.Wired.{ids_of, place_of, watched_of}
-use Rattle.health_planning.proofs.Ending.{cone_long, rule_seated}
+use Rattle.health_planning.proofs.Ending.{cone_long, condition_seated}
 use Rattle.health_index.proofs.Reporting.{at_place}
 
--- Where a status turns, as many gates are worked out as the cone of its check has nodes at most.
+-- Where a status turns, as many valves are worked out as the cone of its check has nodes at most.
 pub few_steps : (zones : List Zone) (checks : Checks) (reports : List Report) (index : Index)
     → (stands : StandsFor zones checks reports index) → (id place : ℕ)
     → slice_get index.ids place ≡ Some id → place_of index.ids id ≡ place
@@ -28,7 +28,7 @@ few_steps zones checks reports index stands id place here first cone has true be
     let early = slice_get_within (ids_of checks.list) place id (rw stands.ids at here) in
     let walk = costs refl in
     let most = cone_long zones checks index.seats stands.net stands.own stands.are_zones stands.are_checks stands.sound
-    (λ p i c is. ap (λ r. r.feeders) (stands.wired.its_checks p i c is).rule) (rule_seated zones (ids_of checks.list) index.seats stands.net stands.own stands.wired.its_sets) stands.wired.its_nodes
+    (λ p i c is. ap (λ r. r.feeders) (stands.wired.its_checks p i c is).condition) (condition_seated zones (ids_of checks.list) index.seats stands.net stands.own stands.wired.its_sets) stands.wired.its_nodes
     place id check.0 walk.0 cone check.1 early walk.1.0 has in
     let is = walk.1.1 in
     omega arith

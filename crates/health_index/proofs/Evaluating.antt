@@ -3,30 +3,30 @@ use Rattle.std.proofs.Common.{◌≡◌, ◌≢◌, ◌∙◌, ℕ, Bool, ap, sy
 use Rattle.std.specs.Prelude.{◌↔◌, Contains, IsTrue, List}
 use mathlib.Core.Path.{subst}
 use Rattle.check_model.specs.Checks.{Checks}
-use Rattle.health_gates.specs.Gates.{Feeds, Fits, MeetsEquation, value_of}
-use Rattle.health_gates.specs.Pass.{IsIdle, TurnsOnly}
-use Rattle.health_gates.specs.declared.gates.Gates.{Gates}
+use Rattle.health_valves.specs.Valves.{Feeds, ValvesStandFor, MeetsEquation, value_of}
+use Rattle.health_valves.specs.Pass.{IsIdle, FlipsOnly}
+use Rattle.health_valves.specs.declared.valves.Valves.{Valves}
 use Rattle.health_model.specs.Nodes.{Node, feeders}
 use Rattle.health_model.specs.Statuses.{Report}
 use Rattle.health_planning.specs.Groups.{ViewsAgree}
 use Rattle.health_planning.specs.Zones.{Zone}
 use Rattle.health_planning.specs.Wired.{ids_of, watched_of}
-use Rattle.health_planning.proofs.Ending.{feeder, rule_seated}
+use Rattle.health_planning.proofs.Ending.{feeder, condition_seated}
 use Rattle.health_index.specs.Index.{Index, IsLaidFor, IsNumberOf, healthy_in}
 use Rattle.health_index.specs.Values.{WorksOut}
-use Rattle.health_index.proofs.Numbering.{gate_for, of_gate, one_node}
-use Rattle.health_index.proofs.Truth.{gate_or_meets, of_meet, to_meet, valued}
+use Rattle.health_index.proofs.Numbering.{valve_for, of_valve, one_node}
+use Rattle.health_index.proofs.Truth.{valve_or_meets, of_meet, to_meet, valued}
 
--- no gate waits still
-pub still_idle : (before after : Gates) → TurnsOnly before after → IsIdle before → IsIdle after
+-- no valve waits still
+pub still_idle : (before after : Valves) → FlipsOnly before after → IsIdle before → IsIdle after
 still_idle before after turns idle =
     subst IsIdle (sym turns) (record { empty = idle.empty; unmarked = idle.unmarked })
 
 module _ (views : ViewsAgree) (zones : List Zone) (checks : Checks) (reports : List Report)
-    (index : Index) (laid : IsLaidFor zones checks reports index) (gates : Gates)
-    (fits : Fits laid.net laid.own gates) (idle : IsIdle gates) where
+    (index : Index) (laid : IsLaidFor zones checks reports index) (valves : Valves)
+    (fits : ValvesStandFor laid.net laid.own valves) (idle : IsIdle valves) where
   abbrev after : Index
-  after = record index { gates = gates }
+  after = record index { valves = valves }
 
   still_laid : IsLaidFor zones checks reports after
   still_laid = record {
@@ -48,33 +48,33 @@ module _ (views : ViewsAgree) (zones : List Zone) (checks : Checks) (reports : L
   }
 
   pub works_out : (number : ℕ) (n : Node) (changed : Bool) → IsNumberOf zones index number n
-      → MeetsEquation laid.net laid.own (value_of gates) number
+      → MeetsEquation laid.net laid.own (value_of valves) number
       → ((k : ℕ) → k ≢ number → (Feeds laid.net number k → ⊥)
-      → MeetsEquation laid.net laid.own (value_of index.gates) k
-      → MeetsEquation laid.net laid.own (value_of gates) k)
-      → (IsTrue changed ↔ (value_of gates number ≢ value_of index.gates number))
+      → MeetsEquation laid.net laid.own (value_of index.valves) k
+      → MeetsEquation laid.net laid.own (value_of valves) k)
+      → (IsTrue changed ↔ (value_of valves number ≢ value_of index.valves number))
       → WorksOut zones checks reports n index after changed
   unfolding still_laid
   works_out number n changed is meets spares turned =
       let agrees = views zones (healthy_in index) laid.are_zones in
       let agrees_after = views zones (healthy_in after) laid.are_zones in
-      let its = gate_for zones checks reports index laid number n is in
+      let its = valve_for zones checks reports index laid number n is in
       let was = valued zones checks reports index laid agrees number n its in
       let now = valued zones checks reports after still_laid agrees_after number n its in
       record {
         its = to_meet zones checks reports after still_laid agrees_after number n its meets;
         others = λ m there apart fed_not met.
-            elim (gate_or_meets zones checks reports after still_laid agrees_after m there) [
+            elim (valve_or_meets zones checks reports after still_laid agrees_after m there) [
               | inl has ↦
                   let k = has.0 in
                   let other : k ≢ number = λ same.
-                  apart (one_node zones checks reports index laid k m n (of_gate zones checks reports index laid k m has.1)
+                  apart (one_node zones checks reports index laid k m n (of_valve zones checks reports index laid k m has.1)
                   (subst (λ (j : ℕ). IsNumberOf zones index j n) (sym same) is)) in
                   let alone : Feeds laid.net number k → ⊥ = λ feeds.
                   let f = feeder zones checks index.seats laid.net laid.own laid.are_zones laid.are_checks laid.sound
-                  (λ p i c at. ap (λ r. r.feeders) (laid.wired.its_checks p i c at).rule)
-                  (rule_seated zones (ids_of checks.list) index.seats laid.net laid.own laid.wired.its_sets) k number m has.1 feeds in
-                  let same = one_node zones checks reports index laid number f.node n (of_gate zones checks reports index laid number f.node f.its) is in
+                  (λ p i c at. ap (λ r. r.feeders) (laid.wired.its_checks p i c at).condition)
+                  (condition_seated zones (ids_of checks.list) index.seats laid.net laid.own laid.wired.its_sets) k number m has.1 feeds in
+                  let same = one_node zones checks reports index laid number f.node n (of_valve zones checks reports index laid number f.node f.its) is in
                   fed_not (subst (Contains (feeders (watched_of zones checks) m)) same f.feeds) in
                   to_meet zones checks reports after still_laid agrees_after k m has.1
                   (spares k other alone (of_meet zones checks reports index laid agrees k m has.1 met))
@@ -91,11 +91,11 @@ module _ (views : ViewsAgree) (zones : List Zone) (checks : Checks) (reports : L
   -- where the index is one that is known
   pub works_out_of : (now : Index) → index ≡ now → (number : ℕ) (n : Node) (changed : Bool)
       → IsNumberOf zones index number n
-      → MeetsEquation laid.net laid.own (value_of gates) number
+      → MeetsEquation laid.net laid.own (value_of valves) number
       → ((k : ℕ) → k ≢ number → (Feeds laid.net number k → ⊥)
-      → MeetsEquation laid.net laid.own (value_of index.gates) k
-      → MeetsEquation laid.net laid.own (value_of gates) k)
-      → (IsTrue changed ↔ (value_of gates number ≢ value_of index.gates number))
+      → MeetsEquation laid.net laid.own (value_of index.valves) k
+      → MeetsEquation laid.net laid.own (value_of valves) k)
+      → (IsTrue changed ↔ (value_of valves number ≢ value_of index.valves number))
       → WorksOut zones checks reports n now after changed
   works_out_of now same number n changed is meets spares turned =
       subst (λ (i : Index). WorksOut zones checks reports n i after changed) same

@@ -8,14 +8,14 @@ use Rattle.check_model.specs.declared.checks.Check.TheVariants.{Endpoint, Calcul
 use Rattle.checker_state.specs.Standing.{Seen}
 use Rattle.health_model.specs.Statuses.{AreReports, Report}
 use Rattle.health_planning.specs.Zones.{Zone}
-use Rattle.health_planning.specs.Following.{EachFollows, Follows, FollowsAt, Knows}
+use Rattle.health_planning.specs.Later.{EachIsLater, AreLater, IsLaterAt, Knows}
 use Rattle.health_index.specs.Index.{Index, StandsFor}
 use Rattle.health_planning.specs.Wired.{ids_of, place_of}
 use Rattle.health_planning.proofs.Places.{id_at, of_all}
 use Rattle.health_planning.proofs.Places.{found}
 
-pub each_follows : (old new : Checks) → AreSoundChecks new → Follows old new
-    → EachFollows old new.list
+pub each_follows : (old new : Checks) → AreSoundChecks new → AreLater old new
+    → EachIsLater old new.list
 each_follows old new sound follows place id check at =
     follows.each id check (id_at new.list place id check sound.rising at)
 
@@ -41,7 +41,7 @@ knows_nothing ids seen none = record {
   its_reports = tt;
 }
 
-pub follows_nothing : (checks : Checks) → AreSoundChecks checks → Follows no_checks checks
+pub follows_nothing : (checks : Checks) → AreSoundChecks checks → AreLater no_checks checks
 follows_nothing checks sound = record {
   next = sound.from;
   each = λ id check at.
@@ -50,7 +50,7 @@ follows_nothing checks sound = record {
       new id check low.0;
 }
   where
-    new : (id : ℕ) (check : Check) → 1 ≤ id → FollowsAt no_checks id check
+    new : (id : ℕ) (check : Check) → 1 ≤ id → IsLaterAt no_checks id check
     new id (Endpoint threshold inverted disabled) low = inl low
     new id (Calculated threshold inverted disabled children) low = tt
 

@@ -14,7 +14,7 @@ use Rattle.health_planning.specs.Changes.{Changes, ref_in}
 use Rattle.health_planning.specs.Zones.{AreListed, AreZones, IsOne, IsZoneId, Zone, placed_in}
 use Rattle.health_planning.specs.SetRefRecord.{SetRef}
 use Rattle.zone_model.proofs.Among.{place_of}
-use Rattle.zone_model.specs.Placed.{IsHere, Placed}
+use Rattle.zone_model.specs.Slotted.{IsHere, Slotted}
 use Rattle.health_planning.specs.Edits.{Edits, IsAllowed}
 use Rattle.health_planning.specs.ZoneEditRecord.{ZoneEdit}
 use Rattle.health_planning.specs.ZoneEditRecord.TheVariants as edit
@@ -25,13 +25,13 @@ use Rattle.health_index.specs.Leaving.{IsOneOf}
 -- A set that isn't there any more is told as one that went, and a new one as one that came. What is
 -- told to have gone was there, and a slot keeps its key.
 pub record Moves (before after : List Zone) (removed added : List SetRef) : Type 0 where
-  pub stays : (zone : ℕ) (p : Placed) → IsHere (placed_in before zone) p
+  pub stays : (zone : ℕ) (p : Slotted) → IsHere (placed_in before zone) p
       → IsOneOf removed (ref_in zone p) ⊎ IsHere (placed_in after zone) p
-  pub only : (zone : ℕ) (p : Placed) → IsHere (placed_in after zone) p
+  pub only : (zone : ℕ) (p : Slotted) → IsHere (placed_in after zone) p
       → IsHere (placed_in before zone) p ⊎ IsOneOf added (ref_in zone p)
-  pub gone : (zone : ℕ) (q : Placed) → IsOneOf removed (ref_in zone q)
-      → (p : Placed) × IsHere (placed_in before zone) p × (p.slot ≡ q.slot)
-  pub keys : (zone : ℕ) (p q : Placed) → IsHere (placed_in before zone) p
+  pub gone : (zone : ℕ) (q : Slotted) → IsOneOf removed (ref_in zone q)
+      → (p : Slotted) × IsHere (placed_in before zone) p × (p.slot ≡ q.slot)
+  pub keys : (zone : ℕ) (p q : Slotted) → IsHere (placed_in before zone) p
       → IsHere (placed_in after zone) q → p.slot ≡ q.slot → key_of p.set ≡ key_of q.set
 
 some_same : {X : Type 0} {x y : X} → Some x ≡ Some y → x ≡ y
@@ -110,18 +110,18 @@ told_or_not (other ∷ refs) ref = elim (ref_or_not other ref) [
     behind zero at apart none = apart (some_same at)
     behind (suc k) at apart none = none k at
 
-got_of_all : (zone : ℕ) (placed : List Placed) (i : ℕ) (ref : SetRef)
+got_of_all : (zone : ℕ) (placed : List Slotted) (i : ℕ) (ref : SetRef)
     → slice_get (map (ref_in zone) placed) i ≡ Some ref
-    → (p : Placed) × IsHere placed p × (ref_in zone p ≡ ref)
+    → (p : Slotted) × IsHere placed p × (ref_in zone p ≡ ref)
 got_of_all zone [] i ref at = let no : ⊥ = cc in absurd no
 got_of_all zone (q ∷ placed) zero ref at = (q, inl refl, some_same at)
 got_of_all zone (q ∷ placed) (suc i) ref at =
     let r = got_of_all zone placed i ref at in (r.0, inr r.1, r.2)
 
-told_of_all : (zone : ℕ) (placed : List Placed) (i : ℕ) (p : Placed) → slice_get placed i ≡ Some p
+told_of_all : (zone : ℕ) (placed : List Slotted) (i : ℕ) (p : Slotted) → slice_get placed i ≡ Some p
     → slice_get (map (ref_in zone) placed) i ≡ Some (ref_in zone p)
 told_of_all zone [] i p at = let no : ⊥ = cc in absurd no
-told_of_all zone (q ∷ placed) zero p at = ap (λ (x : Placed). Some (ref_in zone x)) (some_same at)
+told_of_all zone (q ∷ placed) zero p at = ap (λ (x : Slotted). Some (ref_in zone x)) (some_same at)
 told_of_all zone (q ∷ placed) (suc i) p at = told_of_all zone placed i p at
 
 -- ---- edits
@@ -135,13 +135,13 @@ module _ (before after : List Zone) (are_before : AreZones before) (are_after : 
       (λ other is. others other (λ e. apart (sym is ∙ e)))
 
   -- what holds in the zone holds in all
-  by_zone : ((p : Placed) → IsHere (placed_in before zone) p
+  by_zone : ((p : Slotted) → IsHere (placed_in before zone) p
       → IsOneOf removed (ref_in zone p) ⊎ IsHere (placed_in after zone) p)
-      → ((p : Placed) → IsHere (placed_in after zone) p
+      → ((p : Slotted) → IsHere (placed_in after zone) p
       → IsHere (placed_in before zone) p ⊎ IsOneOf added (ref_in zone p))
-      → ((id : ℕ) (q : Placed) → IsOneOf removed (ref_in id q)
-      → (p : Placed) × IsHere (placed_in before id) p × (p.slot ≡ q.slot))
-      → ((p q : Placed) → IsHere (placed_in before zone) p → IsHere (placed_in after zone) q
+      → ((id : ℕ) (q : Slotted) → IsOneOf removed (ref_in id q)
+      → (p : Slotted) × IsHere (placed_in before id) p × (p.slot ≡ q.slot))
+      → ((p q : Slotted) → IsHere (placed_in before zone) p → IsHere (placed_in after zone) q
       → p.slot ≡ q.slot → key_of p.set ≡ key_of q.set)
       → Moves before after removed added
   by_zone stays only gone keys = record {
@@ -149,13 +149,13 @@ module _ (before after : List Zone) (are_before : AreZones before) (are_after : 
       | inl is ↦
           subst (λ (z : ℕ). IsOneOf removed (ref_in z p) ⊎ IsHere (placed_in after z) p) (sym is)
           (stays p (subst (λ (z : ℕ). IsHere (placed_in before z) p) is here))
-      | inr apart ↦ inr (subst (λ (l : List Placed). IsHere l p) (sym (elsewhere id apart)) here)
+      | inr apart ↦ inr (subst (λ (l : List Slotted). IsHere l p) (sym (elsewhere id apart)) here)
     ];
     only = λ id p here. elim (cases_eq id zone) [
       | inl is ↦
           subst (λ (z : ℕ). IsHere (placed_in before z) p ⊎ IsOneOf added (ref_in z p)) (sym is)
           (only p (subst (λ (z : ℕ). IsHere (placed_in after z) p) is here))
-      | inr apart ↦ inl (subst (λ (l : List Placed). IsHere l p) (elsewhere id apart) here)
+      | inr apart ↦ inl (subst (λ (l : List Slotted). IsHere l p) (elsewhere id apart) here)
     ];
     gone = gone;
     keys = λ id p q here there slots. elim (cases_eq id zone) [
@@ -163,15 +163,15 @@ module _ (before after : List Zone) (are_before : AreZones before) (are_after : 
           keys p q (subst (λ (z : ℕ). IsHere (placed_in before z) p) is here)
           (subst (λ (z : ℕ). IsHere (placed_in after z) q) is there) slots
       | inr apart ↦
-          let as_was = subst (λ (l : List Placed). IsHere l q) (elsewhere id apart) there in
+          let as_was = subst (λ (l : List Slotted). IsHere l q) (elsewhere id apart) there in
           ap key_of (one_named before (ref_in id p) p.set q.set are_before here
           (subst (λ (n : ℕ). IsHere (placed_in before id) (record { slot = n; set = q.set })) (sym slots) as_was))
     ];
   }
 
   -- a reference that is told in a zone is of it
-  in_zone : (id : ℕ) (p q : Placed) → ref_in zone p ≡ ref_in id q → IsHere (placed_in before zone) p
-      → (x : Placed) × IsHere (placed_in before id) x × (x.slot ≡ q.slot)
+  in_zone : (id : ℕ) (p q : Slotted) → ref_in zone p ≡ ref_in id q → IsHere (placed_in before zone) p
+      → (x : Slotted) × IsHere (placed_in before id) x × (x.slot ≡ q.slot)
   in_zone id p q e here = (
     p,
     subst (λ (z : ℕ). IsHere (placed_in before z) p) (ap (λ (r : SetRef). r.zone) e) here,
@@ -188,7 +188,7 @@ module _ (before after : List Zone) (are_before : AreZones before) (are_after : 
             let k = place_of remove (key_of p.set) m in
             let g = changes.goes k.0 (key_of p.set) k.1 in
             let one = one_of_key (placed_in before zone) (rising_in before are_before.each zone) g.0 p g.1 here g.2 in
-            none k.0 (g.3 ∙ ap (λ (q : Placed). Some (ref_in zone q)) one)))
+            none k.0 (g.3 ∙ ap (λ (q : Slotted). Some (ref_in zone q)) one)))
       ])
       (λ p here. elim (changes.only p here) [
         | inl old ↦ inl old.0
@@ -208,20 +208,20 @@ module _ (before after : List Zone) (are_before : AreZones before) (are_after : 
       (λ p here.
       let k = place_of (placed_in before zone) p here in
       inl (k.0, rw all (told_of_all zone (placed_in before zone) k.0 p k.1)))
-      (λ p here. absurd (subst (λ (l : List Placed). IsHere l p) (none_there after zone gone) here))
+      (λ p here. absurd (subst (λ (l : List Slotted). IsHere l p) (none_there after zone gone) here))
       (λ id q told.
       let g = got_of_all zone (placed_in before zone) told.0 (ref_in id q) (rw all at told.1) in
       in_zone id g.0 q g.2 g.1)
-      (λ p q here there slots. absurd (subst (λ (l : List Placed). IsHere l q) (none_there after zone gone) there))
+      (λ p q here there slots. absurd (subst (λ (l : List Slotted). IsHere l q) (none_there after zone gone) there))
 
 pub moved : (before after : List Zone) → AreZones before → AreZones after → (made : ZoneEdit)
     (delta : Delta) → IsAllowed before made → Edits before made after delta → delta.zone ≢ 0
     → Moves before after delta.removed delta.added
-moved before after are_before are_after (edit.Open zone name sets) delta allowed edits some =
+moved before after are_before are_after (edit.Begin zone name sets) delta allowed edits some =
     changed before after are_before are_after delta.removed delta.added zone edits.others [] sets
-    (subst (λ (l : List Placed). Changes zone l [] sets delta.removed delta.added (placed_in after zone))
+    (subst (λ (l : List Slotted). Changes zone l [] sets delta.removed delta.added (placed_in after zone))
     (sym (none_there before zone allowed.0)) edits.its.1)
-moved before after are_before are_after (edit.Close zone) delta allowed edits some =
+moved before after are_before are_after (edit.End zone) delta allowed edits some =
     closed before after are_before are_after delta.removed delta.added zone edits.others
     edits.its.0 edits.its.1
 moved before after are_before are_after (edit.Change zone remove add) delta allowed edits some =
@@ -233,12 +233,12 @@ moved before after are_before are_after (edit.Collections now) delta allowed edi
 -- Each set is one that was there, or that is told to have come.
 pub kept_or_came : (before after : List Zone) → AreZones before → AreZones after
     → (made : ZoneEdit) (delta : Delta) → IsAllowed before made → Edits before made after delta
-    → (zone : ℕ) (p : Placed) → IsHere (placed_in after zone) p
+    → (zone : ℕ) (p : Slotted) → IsHere (placed_in after zone) p
     → IsHere (placed_in before zone) p ⊎ IsOneOf delta.added (ref_in zone p)
-kept_or_came before after are_before are_after (edit.Open zone name sets) delta allowed edits =
+kept_or_came before after are_before are_after (edit.Begin zone name sets) delta allowed edits =
     let some : delta.zone ≢ 0 = λ none. let is = edits.zone in let least = allowed.3 in omega arith in
-    (moved before after are_before are_after (edit.Open zone name sets) delta allowed edits some).only
-kept_or_came before after are_before are_after (edit.Close zone) delta allowed edits =
+    (moved before after are_before are_after (edit.Begin zone name sets) delta allowed edits some).only
+kept_or_came before after are_before are_after (edit.End zone) delta allowed edits =
     (closed before after are_before are_after delta.removed delta.added zone edits.others
     edits.its.0 edits.its.1).only
 kept_or_came before after are_before are_after (edit.Change zone remove add) delta allowed edits =

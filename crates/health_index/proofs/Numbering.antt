@@ -4,14 +4,14 @@ use Rattle.std.specs.Prelude.{◌||◌, is_some, slice_get}
 use Rattle.std.proofs.lemmas.Bool.{false≢true}
 use Rattle.std.proofs.lemmas.Option.{slice_get_within}
 use mathlib.Core.Path.{subst}
-use Rattle.check_model.specs.Checks.{Checks, check_at}
+use Rattle.check_model.specs.Checks.{Checks, check_with}
 use Rattle.check_model.specs.declared.checks.Check.{Check}
 use Rattle.health_model.specs.Nodes.{CheckNode, GroupNode, Node, SetNode}
 use Rattle.health_model.specs.Statuses.{Report}
 use Rattle.health_planning.proofs.ListedOnce.{one_ref}
 use Rattle.health_planning.proofs.Members.{one_named}
 use Rattle.health_planning.proofs.MembersOfZoneList.{one_of_key}
-use Rattle.health_planning.specs.Looking.{Names}
+use Rattle.health_planning.specs.Looking.{RefersTo}
 use Rattle.health_planning.specs.SetRefRecord.{SetRef}
 use Rattle.health_planning.specs.Telling.{evaluates}
 use Rattle.health_planning.specs.Zones.{Zone, placed_in}
@@ -19,10 +19,10 @@ use Rattle.rdata_layout.specs.declared.types.RType.{RType}
 use Rattle.record_set.specs.declared.sets.Body.{Body}
 use Rattle.record_set.specs.declared.sets.Body.TheVariants as body
 use Rattle.record_set.specs.declared.sets.RecordSet.{RecordSet}
-use Rattle.zone_model.specs.Placed.{IsHere, Placed}
+use Rattle.zone_model.specs.Slotted.{IsHere, Slotted}
 use Rattle.health_index.specs.Index.{HasNumber, Index, IsLaidFor, IsNumberOf}
 use Rattle.health_index.specs.Laws.{NodesAreNumbered}
-use Rattle.health_planning.specs.Wired.{IsGateFor, IsLedTo, IsTarget, group_seat, ids_of, is_watched, place_of, seat_of}
+use Rattle.health_planning.specs.Wired.{IsValveFor, IsLedTo, IsTarget, group_seat, ids_of, is_watched, place_of, seat_of}
 use Rattle.health_planning.proofs.Places.{found, held_there, id_there, one_place}
 use Rattle.health_planning.proofs.Wiring.{first_here, first_same, rising_in, same_names}
 
@@ -43,25 +43,25 @@ group_nodes zone other name name_two rtype rtype_two zones names rtypes =
 
 module _ (zones : List Zone) (checks : Checks) (reports : List Report) (index : Index)
     (laid : IsLaidFor zones checks reports index) where
-  pub of_gate : (number : ℕ) (node : Node)
-      → IsGateFor zones checks.list index.seats laid.net laid.own number node
+  pub of_valve : (number : ℕ) (node : Node)
+      → IsValveFor zones checks.list index.seats laid.net laid.own number node
       → IsNumberOf zones index number node
-  of_gate number (CheckNode id) (check, at) =
+  of_valve number (CheckNode id) (check, at) =
       ap (λ (l : List ℕ). slice_get l number) laid.ids ∙ id_there checks.list number id check at
-  of_gate number (SetNode zone set) its = its
-  of_gate number (GroupNode zone name rtype) (members, (are, w)) = (members, (are, w.seat))
+  of_valve number (SetNode zone set) its = its
+  of_valve number (GroupNode zone name rtype) (members, (are, w)) = (members, (are, w.seat))
 
-  -- the gate of a set is there
-  seat_there : (zone : ℕ) (p : Placed) (gate : ℕ) → IsHere (placed_in zones zone) p
-      → seat_of index.seats p.slot ≡ suc gate → gate < laid.net.size
-  seat_there zone p gate here seat = by (is_watched p.set) refl
+  -- the valve of a set is there
+  seat_there : (zone : ℕ) (p : Slotted) (valve : ℕ) → IsHere (placed_in zones zone) p
+      → seat_of index.seats p.slot ≡ suc valve → valve < laid.net.size
+  seat_there zone p valve here seat = by (is_watched p.set) refl
     where
-      by : (b : Bool) → is_watched p.set ≡ b → gate < laid.net.size
+      by : (b : Bool) → is_watched p.set ≡ b → valve < laid.net.size
       by false off =
           let none = (laid.wired.its_sets zone p here).plain off in
           absurd (omega arith)
       by true on =
-          let g = (laid.wired.its_sets zone p here).gated on in
+          let g = (laid.wired.its_sets zone p here).valved on in
           let other = g.1 in
           let b = g.2.within in
           omega arith
@@ -85,7 +85,7 @@ module _ (zones : List Zone) (checks : Checks) (reports : List Report) (index : 
   one_number a b (SetNode zone set) (s, (here, seat)) (t, (there_too, seat_two)) =
       let p = one_of_key (placed_in zones zone) (rising_in zones laid.are_zones.each zone) (record { slot = s; set = set })
       (record { slot = t; set = set }) here there_too refl in
-      let seats_same = ap (λ (q : Placed). seat_of index.seats q.slot) p in
+      let seats_same = ap (λ (q : Slotted). seat_of index.seats q.slot) p in
       omega arith
   one_number a b (GroupNode zone name rtype) (xs, (are_xs, first)) (ys, (are_ys, second)) =
       let same = first_same zones laid.are_zones zone name rtype xs ys first.0 second.0 are_xs first.1.0 are_ys second.1.0 in
@@ -114,7 +114,7 @@ module _ (zones : List Zone) (checks : Checks) (reports : List Report) (index : 
   set_late : (number zone : ℕ) (set : RecordSet) → IsNumberOf zones index number (SetNode zone set)
       → length (ids_of checks.list) ≤ number
   set_late number zone set (slot, (here, seat)) =
-      let g = (laid.wired.its_sets zone (record { slot = slot; set = set }) here).gated (decided number zone set (slot, (here, seat))) in
+      let g = (laid.wired.its_sets zone (record { slot = slot; set = set }) here).valved (decided number zone set (slot, (here, seat))) in
       let its = g.1 in
       let b = g.2.behind in
       omega arith
@@ -146,7 +146,7 @@ module _ (zones : List Zone) (checks : Checks) (reports : List Report) (index : 
       let one : SetRef = record { zone = zone; slot = s } in
       let two : SetRef = record { zone = other; slot = t } in
       let refs : one ≡ two = one_ref zones one two set set_two laid.slots here there_too slots in
-      let sets = one_named zones two set set_two laid.are_zones (subst (λ (r : SetRef). Names zones r set) refs here) there_too in
+      let sets = one_named zones two set set_two laid.are_zones (subst (λ (r : SetRef). RefersTo zones r set) refs here) there_too in
       ap (λ (r : SetRef). SetNode r.zone set) refs ∙ ap (SetNode other) sets
   one_node number (SetNode zone set) (GroupNode other name rtype) (s, (here, seat)) (members, (are, its)) =
       absurd (laid.told.kinds s its.0 number seat its.1.1)
@@ -168,33 +168,33 @@ module _ (zones : List Zone) (checks : Checks) (reports : List Report) (index : 
       (b.2 ∙ sym q.2) in
       group_nodes zone other name name_two rtype rtype_two (one.0 ∙ sym two.0) (one.1.0 ∙ sym two.1.0) (one.1.1 ∙ sym two.1.1)
 
-  -- the gate of the number of a node is that of the node
-  pub gate_for : (number : ℕ) (node : Node) → IsNumberOf zones index number node
-      → IsGateFor zones checks.list index.seats laid.net laid.own number node
-  gate_for number node is =
+  -- the valve of the number of a node is that of the node
+  pub valve_for : (number : ℕ) (node : Node) → IsNumberOf zones index number node
+      → IsValveFor zones checks.list index.seats laid.net laid.own number node
+  valve_for number node is =
       let n = laid.wired.its_nodes number (there number node is) in
-      subst (IsGateFor zones checks.list index.seats laid.net laid.own number)
-      (one_node number n.0 node (of_gate number n.0 n.1) is) n.1
+      subst (IsValveFor zones checks.list index.seats laid.net laid.own number)
+      (one_node number n.0 node (of_valve number n.0 n.1) is) n.1
 
   -- ---- which nodes have numbers
 
-  check_number : (id : ℕ) (check : Check) → check_at checks.list id ≡ Some check
+  check_number : (id : ℕ) (check : Check) → check_with checks.list id ≡ Some check
       → HasNumber zones index (CheckNode id)
   check_number id check at =
       let place = place_of (ids_of checks.list) id in
       (place, ap (λ (l : List ℕ). slice_get l place) laid.ids ∙ id_there checks.list place id check (found checks.list id check at))
 
-  set_number : (zone : ℕ) (p : Placed) → IsHere (placed_in zones zone) p → is_watched p.set ≡ true
+  set_number : (zone : ℕ) (p : Slotted) → IsHere (placed_in zones zone) p → is_watched p.set ≡ true
       → HasNumber zones index (SetNode zone p.set)
   set_number zone p here on =
-      let g = (laid.wired.its_sets zone p here).gated on in
+      let g = (laid.wired.its_sets zone p here).valved on in
       (g.0, (p.slot, (here, g.1)))
 
-  target_number : (zone : ℕ) (p : Placed) (name : List (List ℕ)) → IsHere (placed_in zones zone) p
+  target_number : (zone : ℕ) (p : Slotted) (name : List (List ℕ)) → IsHere (placed_in zones zone) p
       → p.set.body ≡ body.Alias name true → HasNumber zones index (GroupNode zone name p.set.rtype)
   target_number zone p name here is =
       let on : is_watched p.set ≡ true = ap (λ (b : Body). is_some p.set.check || evaluates b) is ∙ or_true p.set.check in
-      let g = (laid.wired.its_sets zone p here).gated on in
+      let g = (laid.wired.its_sets zone p here).valved on in
       by g.2.target (subst (λ (b : Body). IsTarget zones (length (ids_of checks.list)) index.seats laid.net laid.own zone p.set.rtype b g.2.target)
       is g.2.its_target)
     where
@@ -202,7 +202,7 @@ module _ (zones : List Zone) (checks : Checks) (reports : List Report) (index : 
           → IsTarget zones (length (ids_of checks.list)) index.seats laid.net laid.own zone p.set.rtype (body.Alias name true) target
           → HasNumber zones index (GroupNode zone name p.set.rtype)
       by target (inl (off, without)) = absurd (false≢true (sym off))
-      by target (inr (evaluated, (gate, target_is, (members, are, w)))) = (gate, (members, (are, w.seat)))
+      by target (inr (evaluated, (valve, target_is, (members, are, w)))) = (valve, (members, (are, w.seat)))
 
   -- an evaluated alias leads to a group with a number
   led_to : (number zone : ℕ) (name : List (List ℕ)) (rtype : RType)
@@ -217,7 +217,7 @@ module _ (zones : List Zone) (checks : Checks) (reports : List Report) (index : 
       (subst (λ (n : List (List ℕ)). IsLedTo zones zone n g.rtype) one.1.0
       (subst (λ (z : ℕ). IsLedTo zones z g.name g.rtype) one.0 g.led))
 
-  size_same : length index.gates.rows.items ≡ laid.net.size
+  size_same : length index.valves.rows.items ≡ laid.net.size
   size_same = laid.fits.laid.size
 
 pub nodes_are_numbered : NodesAreNumbered
@@ -225,7 +225,7 @@ nodes_are_numbered zones checks reports index laid = record {
   each = λ number has.
       let size = size_same zones checks reports index laid in
       let n = laid.wired.its_nodes number (omega arith) in
-      (n.0, of_gate zones checks reports index laid number n.0 n.1);
+      (n.0, of_valve zones checks reports index laid number n.0 n.1);
   only = λ number node is.
       let size = size_same zones checks reports index laid in
       let b = there zones checks reports index laid number node is in

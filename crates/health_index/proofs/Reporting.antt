@@ -5,17 +5,17 @@ use Rattle.std.proofs.lemmas.Bool.{cases_eq, eq-eqb, ne_eqb}
 use Rattle.std.proofs.lemmas.List.Sums.{length-filter}
 use Rattle.std.proofs.lemmas.Option.{slice_get_within}
 use mathlib.Core.Path.{subst}
-use Rattle.check_model.specs.Checks.{Checks, check_at}
+use Rattle.check_model.specs.Checks.{Checks, check_with}
 use Rattle.check_model.specs.declared.checks.Check.{Check}
 use Rattle.check_model.specs.declared.checks.Check.TheVariants.{Endpoint, Calculated}
 use Rattle.checker_state.specs.Laws.{FiftyAlone}
 use Rattle.checker_state.specs.Standing.{Seen, numbers, passing_of, with_result}
 use Rattle.checker_state.specs.Standing.{StandsFor as HasSeen}
 use Rattle.checker_state.specs.View.{view_of}
-use Rattle.health_gates.proofs.Times.{times_here}
-use Rattle.health_gates.specs.Gates.{Fits, Net, times, with_own}
-use Rattle.health_gates.specs.Pass.{IsIdle, MeetAll}
-use Rattle.health_gates.specs.declared.gates.Gates.{Gates}
+use Rattle.health_valves.proofs.Times.{times_here}
+use Rattle.health_valves.specs.Valves.{ValvesStandFor, Net, times, with_own}
+use Rattle.health_valves.specs.Pass.{IsIdle, MeetAll}
+use Rattle.health_valves.specs.declared.valves.Valves.{Valves}
 use Rattle.health_model.proofs.Members.{filter_same}
 use Rattle.health_model.specs.Laws.{OneMoreReport}
 use Rattle.health_model.specs.Nodes.{CheckNode, GroupNode, Node, SetNode}
@@ -24,10 +24,10 @@ use Rattle.rdata_layout.specs.declared.types.RType.{RType}
 use Rattle.record_set.specs.declared.sets.Body.{Body}
 use Rattle.record_set.specs.declared.sets.Body.TheVariants as body
 use Rattle.health_planning.specs.Zones.{Zone}
-use Rattle.zone_model.specs.Placed.{Placed}
-use Rattle.health_index.specs.Index.{Index, IsEndpoint, IsEndpointOf, IsWhole, Space, StandsFor, reported}
+use Rattle.zone_model.specs.Slotted.{Slotted}
+use Rattle.health_index.specs.Index.{Index, IsEndpoint, IsEndpointOf, IsIntact, Space, StandsFor, reported}
 use Rattle.health_planning.specs.Building.{IsSeen}
-use Rattle.health_planning.specs.Wired.{IsCheckGate, IsGateFor, IsGroupGate, IsSeated, IsTarget, check_own, ids_of, place_of}
+use Rattle.health_planning.specs.Wired.{IsCheckValve, IsValveFor, IsGroupValve, IsSeated, IsTarget, check_own, ids_of, place_of}
 use Rattle.health_planning.proofs.Places.{check_there, no_check, of_all, one_place}
 
 -- ---- results that are the same, one by one
@@ -54,27 +54,27 @@ own_same before after id (Endpoint threshold inverted disabled) same =
     passing_same threshold (results_of before id) (results_of after id) same
 own_same before after id (Calculated threshold inverted disabled children) same = refl
 
--- ---- gates of sets are not counted from outside
+-- ---- valves of sets are not counted from outside
 
 module _ (checks : ℕ) (own : ℕ → ℕ) (place given : ℕ) (early : place < checks) where
-  untouched : (gate : ℕ) → checks ≤ gate → with_own place given own gate ≡ own gate
-  untouched gate behind = rw (ne_eqb gate place (λ e. let b = early in omega arith)) refl
+  untouched : (valve : ℕ) → checks ≤ valve → with_own place given own valve ≡ own valve
+  untouched valve behind = rw (ne_eqb valve place (λ e. let b = early in omega arith)) refl
 
 module _ (zones : List Zone) (list : List (ℕ × Check)) (index : Index) (net : Net) (own : ℕ → ℕ)
     (place given : ℕ) (early : place < length (ids_of list)) where
   abbrev now : ℕ → ℕ
   now = with_own place given own
 
-  group_still : (members : List Placed) (gate : ℕ)
-      → IsGroupGate (length (ids_of list)) index.seats net own members gate
-      → IsGroupGate (length (ids_of list)) index.seats net now members gate
-  group_still members gate w = record {
+  group_still : (members : List Slotted) (valve : ℕ)
+      → IsGroupValve (length (ids_of list)) index.seats net own members valve
+      → IsGroupValve (length (ids_of list)) index.seats net now members valve
+  group_still members valve w = record {
     seat = w.seat;
     each = w.each;
     behind = w.behind;
     within = w.within;
-    rule = w.rule;
-    its_own = untouched (length (ids_of list)) own place given early gate w.behind ∙ w.its_own;
+    condition = w.condition;
+    its_own = untouched (length (ids_of list)) own place given early valve w.behind ∙ w.its_own;
   }
 
   target_still : (zone : ℕ) (rtype : RType) (its : Body) (target : List ℕ)
@@ -82,24 +82,24 @@ module _ (zones : List Zone) (list : List (ℕ × Check)) (index : Index) (net :
       → IsTarget zones (length (ids_of list)) index.seats net now zone rtype its target
   target_still zone rtype (body.Values ttl values) target is = is
   target_still zone rtype (body.Alias name evaluate) target (inl off) = inl off
-  target_still zone rtype (body.Alias name evaluate) target (inr (on, (gate, is, (members, are, w)))) =
-      inr (on, (gate, is, (members, are, group_still members gate w)))
+  target_still zone rtype (body.Alias name evaluate) target (inr (on, (valve, is, (members, are, w)))) =
+      inr (on, (valve, is, (members, are, group_still members valve w)))
 
-  node_still : (gate : ℕ) (node : Node)
-      → IsGateFor zones list index.seats net own gate node
-      → IsGateFor zones list index.seats net now gate node
-  node_still gate (CheckNode id) its = its
-  node_still gate (SetNode zone set) its = its
-  node_still gate (GroupNode zone name rtype) (members, (are, w)) =
-      (members, (are, group_still members gate w))
+  node_still : (valve : ℕ) (node : Node)
+      → IsValveFor zones list index.seats net own valve node
+      → IsValveFor zones list index.seats net now valve node
+  node_still valve (CheckNode id) its = its
+  node_still valve (SetNode zone set) its = its
+  node_still valve (GroupNode zone name rtype) (members, (are, w)) =
+      (members, (are, group_still members valve w))
 
-  seated_still : (zone : ℕ) (p : Placed)
+  seated_still : (zone : ℕ) (p : Slotted)
       → IsSeated zones (ids_of list) index.seats net own zone p
       → IsSeated zones (ids_of list) index.seats net now zone p
   seated_still zone p w = record {
     plain = w.plain;
     told = w.told;
-    gated = λ e. let g = w.gated e in (
+    valved = λ e. let g = w.valved e in (
       g.0,
       g.1,
       record {
@@ -107,7 +107,7 @@ module _ (zones : List Zone) (list : List (ℕ × Check)) (index : Index) (net :
         within = g.2.within;
         target = g.2.target;
         its_target = target_still zone p.set.rtype p.set.body g.2.target g.2.its_target;
-        rule = g.2.rule;
+        condition = g.2.condition;
         its_own = untouched (length (ids_of list)) own place given early g.0 g.2.behind ∙ g.2.its_own;
       },
     );
@@ -133,7 +133,7 @@ set_beside (z ∷ xs) (suc k) (suc n) x apart = set_beside xs k n x (λ e. apart
 
 module _ (fifty : FiftyAlone) (more : OneMoreReport) (zones : List Zone) (checks : Checks)
     (reports : List Report) (index : Index) (stands : StandsFor zones checks reports index)
-    (id checker : ℕ) (pass : Bool) (place : ℕ) (its now : Seen) (given : ℕ) (gates : Gates)
+    (id checker : ℕ) (pass : Bool) (place : ℕ) (its now : Seen) (given : ℕ) (valves : Valves)
     (checker_within : checker < 50)
     (here : slice_get index.ids place ≡ Some id) (first : place_of index.ids id ≡ place)
     (endpoint : IsEndpointOf checks id)
@@ -142,21 +142,21 @@ module _ (fifty : FiftyAlone) (more : OneMoreReport) (zones : List Zone) (checks
     → HasSeen n (with_result checker pass results) now)
     (counts : (n : ℕ) (results : ℕ → List Bool) → HasSeen n results now
     → given ≡ passing_of n results)
-    (fits : Fits stands.net (with_own place given stands.own) gates)
-    (meet : MeetAll stands.net (with_own place given stands.own) gates)
-    (idle : IsIdle gates) (space : Space) where
+    (fits : ValvesStandFor stands.net (with_own place given stands.own) valves)
+    (meet : MeetAll stands.net (with_own place given stands.own) valves)
+    (idle : IsIdle valves) (space : Space) where
   abbrev report : Report
   report = reported id checker pass
 
   abbrev after : Index
-  after = record index { seen = set index.seen place (Some now); gates = gates; space = space }
+  after = record index { seen = set index.seen place (Some now); valves = valves; space = space }
 
   there : (check : Check) × (slice_get checks.list place ≡ Some (id, check))
-      × (check_at checks.list id ≡ Some check)
+      × (check_with checks.list id ≡ Some check)
   there = check_there checks.list id place (rw stands.ids at here) (rw stands.ids at first)
 
   -- what the checkers of this check saw, and how many of them pass
-  its_check : (check : Check) → check_at checks.list id ≡ Some check
+  its_check : (check : Check) → check_with checks.list id ≡ Some check
       → IsSeen reports id check (Some its)
       → IsSeen (report ∷ reports) id check (Some now)
       × (given ≡ check_own check (passing (report ∷ reports) id))
@@ -201,14 +201,14 @@ module _ (fifty : FiftyAlone) (more : OneMoreReport) (zones : List Zone) (checks
         (stands.seen p other check found at (sym (set_beside index.seen place p (Some now) apart) ∙ is))
   ]
 
-  gate_now : (p other : ℕ) (check : Check) → slice_get checks.list p ≡ Some (other, check)
-      → IsCheckGate (ids_of checks.list) stands.net (with_own place given stands.own)
+  valve_now : (p other : ℕ) (check : Check) → slice_get checks.list p ≡ Some (other, check)
+      → IsCheckValve (ids_of checks.list) stands.net (with_own place given stands.own)
       (report ∷ reports) p other check
-  gate_now p other check at =
+  valve_now p other check at =
       let w = stands.wired.its_checks p other check at in
       record {
         within = w.within;
-        rule = w.rule;
+        condition = w.condition;
         its_own = elim (cases_eq p place) [
           | inl same ↦
               let same_held : ◌≡◌ {A = ℕ × Check} (other, check) (id, there.0) = some_same (sym at ∙ ap (slice_get checks.list) same ∙ there.1) in
@@ -239,11 +239,11 @@ module _ (fifty : FiftyAlone) (more : OneMoreReport) (zones : List Zone) (checks
     net = stands.net;
     own = with_own place given stands.own;
     wired = record {
-      its_checks = gate_now;
+      its_checks = valve_now;
       its_sets = λ zone p in_zone. seated_still zones checks.list index stands.net stands.own place given early zone p (stands.wired.its_sets zone p in_zone);
-      its_nodes = λ gate within.
-          let n = stands.wired.its_nodes gate within in
-          (n.0, node_still zones checks.list index stands.net stands.own place given early gate n.0 n.1);
+      its_nodes = λ valve within.
+          let n = stands.wired.its_nodes valve within in
+          (n.0, node_still zones checks.list index stands.net stands.own place given early valve n.0 n.1);
       its_groups = stands.wired.its_groups;
     };
     told = stands.told;
@@ -253,9 +253,9 @@ module _ (fifty : FiftyAlone) (more : OneMoreReport) (zones : List Zone) (checks
   }
 
   pub stands_taken : (seen : List (Option Seen)) → seen ≡ set index.seen place (Some now)
-      → StandsFor zones checks (report ∷ reports) (record index { seen = seen; gates = gates; space = space })
+      → StandsFor zones checks (report ∷ reports) (record index { seen = seen; valves = valves; space = space })
   stands_taken seen is =
-      subst (λ s. StandsFor zones checks (report ∷ reports) (record index { seen = s; gates = gates; space = space })) (sym is)
+      subst (λ s. StandsFor zones checks (report ∷ reports) (record index { seen = s; valves = valves; space = space })) (sym is)
       stands_after
 
 -- ---- which checks have checkers
@@ -269,7 +269,7 @@ module _ (zones : List Zone) (checks : Checks) (reports : List Report) (index : 
   module _ (place : ℕ) (here : slice_get index.ids place ≡ Some id)
       (first : place_of index.ids id ≡ place) where
     pub at_place : (check : Check) × (slice_get checks.list place ≡ Some (id, check))
-        × (check_at checks.list id ≡ Some check)
+        × (check_with checks.list id ≡ Some check)
     at_place = check_there checks.list id place (rw stands.ids at here) (rw stands.ids at first)
 
     without : (check : Check) → IsEndpoint (Some check) → IsSeen reports id check None → ⊥
@@ -289,29 +289,29 @@ module _ (zones : List Zone) (checks : Checks) (reports : List Report) (index : 
         → IsEndpointOf checks id
     some_seen its is = subst IsEndpoint (sym at_place.2) (with_some at_place.0 its (stands.seen place id at_place.0 (Some its) at_place.1 is))
 
--- ---- gates that nothing feeds
+-- ---- valves that nothing feeds
 
 never : (xs : List ℕ) → ((x : ℕ) → times x xs ≡ 0) → xs ≡ []
 never [] none = refl
 never (x ∷ rest) none = let a = none x in let b = times_here x rest in absurd (omega arith)
 
--- in each net for which gates stand, a gate has feeders where it has in another
-pub alone_in_all : (one two : Net) (own own_too : ℕ → ℕ) (gates : Gates) (gate : ℕ) → gate < one.size
-    → Fits one own gates → Fits two own_too gates → (one.rule gate).feeders ≡ []
-    → (two.rule gate).feeders ≡ []
-alone_in_all one two own own_too gates gate within f g none =
+-- in each net for which valves stand, a valve has feeders where it has in another
+pub alone_in_all : (one two : Net) (own own_too : ℕ → ℕ) (valves : Valves) (valve : ℕ) → valve < one.size
+    → ValvesStandFor one own valves → ValvesStandFor two own_too valves → (one.condition valve).feeders ≡ []
+    → (two.condition valve).feeders ≡ []
+alone_in_all one two own own_too valves valve within f g none =
     let s = f.laid.size in
     let t = g.laid.size in
-    never (two.rule gate).feeders
-    (λ x. sym (g.laid.reversed x gate (omega arith)) ∙ f.laid.reversed x gate within ∙ ap (times x) none)
+    never (two.condition valve).feeders
+    (λ x. sym (g.laid.reversed x valve (omega arith)) ∙ f.laid.reversed x valve within ∙ ap (times x) none)
 
 -- what stays of an index whose checkers at a place saw one more result
-pub whole_after : (index : Index) (w : IsWhole index) (place given : ℕ) (its now : Seen) (gates : Gates)
+pub whole_after : (index : Index) (w : IsIntact index) (place given : ℕ) (its now : Seen) (valves : Valves)
     (space : Space)
     → slice_get index.seen place ≡ Some (Some its)
-    → Fits w.net (with_own place given w.own) gates → IsIdle gates
-    → IsWhole (record index { seen = set index.seen place (Some now); gates = gates; space = space })
-whole_after index w place given its now gates space here fits idle = record {
+    → ValvesStandFor w.net (with_own place given w.own) valves → IsIdle valves
+    → IsIntact (record index { seen = set index.seen place (Some now); valves = valves; space = space })
+whole_after index w place given its now valves space here fits idle = record {
   net = w.net;
   own = with_own place given w.own;
   fits = fits;

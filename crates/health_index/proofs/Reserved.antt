@@ -2,20 +2,20 @@
 use Rattle.std.proofs.Common.{◌≡◌, ℕ, List, length, ap, sym, ◌∙◌}
 use mathlib.Core.Path.{subst}
 use Rattle.check_model.specs.Checks.{Checks}
-use Rattle.health_gates.specs.Gates.{Fits, Net}
-use Rattle.health_gates.specs.Pass.{IsIdle, MeetAll}
+use Rattle.health_valves.specs.Valves.{ValvesStandFor, Net}
+use Rattle.health_valves.specs.Pass.{IsIdle, MeetAll}
 use Rattle.health_model.specs.Statuses.{Report}
 use Rattle.health_planning.specs.Zones.{Zone}
-use Rattle.health_index.specs.Index.{Index, IsWhole, StandsFor, TellApart}
+use Rattle.health_index.specs.Index.{Index, IsIntact, StandsFor, TellApart}
 use Rattle.health_index.specs.Room.{Keeps}
 use Rattle.health_planning.specs.Building.{AllListed}
-use Rattle.health_planning.specs.Wired.{IsWired, ids_of}
+use Rattle.health_planning.specs.Wired.{AreValvesOf, ids_of}
 use Rattle.health_planning.specs.declared.seats.Seat.{Seat}
 
 module _ (before after : Index) (keeps : Keeps before after)
-    (stays : (net : Net) (own : ℕ → ℕ) → Fits net own before.gates → Fits net own after.gates)
-    (meet : (net : Net) (own : ℕ → ℕ) → MeetAll net own before.gates → MeetAll net own after.gates)
-    (idle : IsIdle before.gates → IsIdle after.gates) where
+    (stays : (net : Net) (own : ℕ → ℕ) → ValvesStandFor net own before.valves → ValvesStandFor net own after.valves)
+    (meet : (net : Net) (own : ℕ → ℕ) → MeetAll net own before.valves → MeetAll net own after.valves)
+    (idle : IsIdle before.valves → IsIdle after.valves) where
   as_many : length before.seen ≡ length before.ids → length after.seen ≡ length after.ids
   as_many many = ap length keeps.seen ∙ many ∙ sym (ap length keeps.ids)
 
@@ -33,14 +33,14 @@ module _ (before after : Index) (keeps : Keeps before after)
     listed = subst (AllListed zones) (sym keeps.refs) is.listed;
     net = is.net;
     own = is.own;
-    wired = subst (λ (seats : List Seat). IsWired zones checks.list seats is.net is.own reports) (sym keeps.seats) is.wired;
+    wired = subst (λ (seats : List Seat). AreValvesOf zones checks.list seats is.net is.own reports) (sym keeps.seats) is.wired;
     told = subst (TellApart zones (length (ids_of checks.list))) (sym keeps.seats) is.told;
     fits = stays is.net is.own is.fits;
     meet = meet is.net is.own is.meet;
     idle = idle is.idle;
   }
 
-  pub still_whole : IsWhole before → IsWhole after
+  pub still_whole : IsIntact before → IsIntact after
   still_whole is = record {
     net = is.net;
     own = is.own;

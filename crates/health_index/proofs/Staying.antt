@@ -1,14 +1,14 @@
--- Where no gate changes by the sets that went and came, all gates stand as they stood.
+-- Where no valve changes by the sets that went and came, all valves stand as they stood.
 use Rattle.std.proofs.Common.{◌≡◌, ◌≢◌, ◌++◌, ℕ, suc, Bool, true, false, cond, List, [], ◌∷◌, length, map, arith, refl, ap, sym, ◌∙◌, inl, inr, Less, Option, None, Some}
 use Rattle.std.specs.List.{filter}
 use Rattle.std.specs.Option.{option_to_list}
 use Rattle.std.specs.Prelude.{◌||◌, is_some}
 use Rattle.std.proofs.lemmas.Bool.{false≢true}
 use mathlib.Core.Path.{subst}
-use Rattle.check_model.specs.Checks.{Checks, check_at}
+use Rattle.check_model.specs.Checks.{Checks, check_with}
 use Rattle.check_model.specs.declared.checks.Check.{Check}
 use Rattle.check_model.specs.declared.checks.Check.TheVariants.{Endpoint, Calculated}
-use Rattle.health_gates.specs.Gates.{Net}
+use Rattle.health_valves.specs.Valves.{Net}
 use Rattle.health_model.proofs.Members.{of_filter}
 use Rattle.health_model.specs.Nodes.{CheckNode, GroupNode, Node, SetNode}
 use Rattle.health_model.specs.Sound.{IsSound}
@@ -26,19 +26,19 @@ use Rattle.health_planning.specs.Changes.{ref_in}
 use Rattle.health_planning.specs.Zones.{AreZones, Zone, placed_in}
 use Rattle.health_planning.specs.SetRefRecord.{SetRef}
 use Rattle.zone_model.specs.Keys.{key_cmp}
-use Rattle.zone_model.specs.Placed.{IsHere, Placed, sets_of}
+use Rattle.zone_model.specs.Slotted.{IsHere, Slotted, sets_of}
 use Rattle.zone_model.specs.Zones.{IsAmong, IsRising, is_of_group}
 use Rattle.health_planning.specs.DeltaRecord.{Delta}
 use Rattle.health_planning.specs.Tables.{HaveSlotsApart}
-use Rattle.health_planning.specs.Following.{Follows, FollowsAt, HasThreshold}
+use Rattle.health_planning.specs.Later.{AreLater, IsLaterAt, HasThreshold}
 use Rattle.health_planning.specs.Building.{AllListed, AreAsked, IsListed}
-use Rattle.health_planning.specs.Wired.{AreMembers, IsGateFor, IsGroupGate, IsLedTo, IsSeated, IsTarget, TellGroup, check_or_none, check_seat, group_seat, ids_of, is_watched, only_check, place_of, seat_of, set_rule, watched_of}
+use Rattle.health_planning.specs.Wired.{AreMembers, IsValveFor, IsGroupValve, IsLedTo, IsSeated, IsTarget, TellGroup, check_or_none, check_seat, group_seat, ids_of, is_watched, only_check, place_of, seat_of, set_condition, watched_of}
 use Rattle.health_planning.specs.declared.seats.Seat.{Seat}
 use Rattle.health_planning.proofs.Groups.{alias_alone}
 use Rattle.health_planning.proofs.Wiring.{first_here, of_group, passes_it, rising_in}
 use Rattle.health_index.specs.Index.{Index, IsOfOneGroup, StandsFor, TellApart}
-use Rattle.health_index.specs.Leaving.{AllCameLeaveGates, AllWentLeaveGates, LeavesGates, AreLeft}
-use Rattle.health_index.proofs.Keyed.{HasIts, first_by_slots, gates_by_slots, grouped, grouped_sets, its, its_same, keyed, keyed_same, plain_by_slots}
+use Rattle.health_index.specs.Leaving.{AllCameKeepValves, AllWentKeepValves, KeepsValves, AreLeft}
+use Rattle.health_index.proofs.Keyed.{HasIts, first_by_slots, valves_by_slots, grouped, grouped_sets, its, its_same, keyed, keyed_same, plain_by_slots}
 use Rattle.health_index.proofs.Moving.{Moves, kept_or_came, moved}
 
 -- ---- sets that pass a test
@@ -122,13 +122,13 @@ module _ (zones : List Zone) (count : ℕ) (seats : List Seat) (net : Net) (own 
   to_no_target (body.Values ttl values) target off is = is
   to_no_target (body.Alias name evaluate) target off is = inl (off, is)
 
--- ---- gates
+-- ---- valves
 
 module _ (before after : List Zone) (are_before : AreZones before) (are_after : AreZones after)
     (removed added : List SetRef) (moves : Moves before after removed added) (seats : List Seat)
-    (went : AllWentLeaveGates seats added removed) (came : AllCameLeaveGates after seats removed added) where
-  -- where a set or its group has a gate, a set with its key is in its slot
-  stays_seated : (zone : ℕ) (p : Placed) → IsHere (placed_in before zone) p
+    (went : AllWentKeepValves seats added removed) (came : AllCameKeepValves after seats removed added) where
+  -- where a set or its group has a valve, a set with its key is in its slot
+  stays_seated : (zone : ℕ) (p : Slotted) → IsHere (placed_in before zone) p
       → ((seat_of seats p.slot ≡ 0) × (group_seat seats p.slot ≡ 0) → ⊥)
       → HasIts (placed_in after zone) p
   stays_seated zone p here some = elim (moves.stays zone p here) [
@@ -136,60 +136,60 @@ module _ (before after : List Zone) (are_before : AreZones before) (are_after : 
       | inl none ↦ absurd (some none)
       | inr other ↦
           let c = came other.0 (ref_in zone p) other.1 in
-          let q : Placed = record { slot = p.slot; set = c.set } in
+          let q : Slotted = record { slot = p.slot; set = c.set } in
           (q, c.names, its_same q p (sym (moves.keys zone p q here c.names refl)) refl)
     ]
     | inr there ↦ (p, there, refl)
   ]
 
-  gate_stays : (zone : ℕ) (p : Placed) (gate : ℕ) → IsHere (placed_in before zone) p
-      → seat_of seats p.slot ≡ suc gate → HasIts (placed_in after zone) p
-  gate_stays zone p gate here seat =
+  valve_stays : (zone : ℕ) (p : Slotted) (valve : ℕ) → IsHere (placed_in before zone) p
+      → seat_of seats p.slot ≡ suc valve → HasIts (placed_in after zone) p
+  valve_stays zone p valve here seat =
       stays_seated zone p here (λ none. let no = none.0 in omega arith)
 
-  member_stays : (zone : ℕ) (p : Placed) (gate : ℕ) → IsHere (placed_in before zone) p
-      → group_seat seats p.slot ≡ suc gate → HasIts (placed_in after zone) p
-  member_stays zone p gate here seat =
+  member_stays : (zone : ℕ) (p : Slotted) (valve : ℕ) → IsHere (placed_in before zone) p
+      → group_seat seats p.slot ≡ suc valve → HasIts (placed_in after zone) p
+  member_stays zone p valve here seat =
       stays_seated zone p here (λ none. let no = none.1 in omega arith)
 
-  module _ (zone : ℕ) (name : List (List ℕ)) (rtype : RType) (members : List Placed) (gate : ℕ)
-      (are : AreMembers before zone name rtype members) (tell : TellGroup seats members gate)
-      (one : Placed) (in_one : IsHere members one) where
+  module _ (zone : ℕ) (name : List (List ℕ)) (rtype : RType) (members : List Slotted) (valve : ℕ)
+      (are : AreMembers before zone name rtype members) (tell : TellGroup seats members valve)
+      (one : Slotted) (in_one : IsHere members one) where
     abbrev of_it : RecordSet → Bool
     of_it = is_of_group name rtype
 
-    abbrev was : List Placed
+    abbrev was : List Slotted
     was = placed_in before zone
 
-    abbrev now : List Placed
+    abbrev now : List Slotted
     now = placed_in after zone
 
-    abbrev members_now : List Placed
+    abbrev members_now : List Slotted
     members_now = grouped name rtype now
 
-    its_name : (p : Placed) → IsHere members p → (name ≡ p.set.name) × (rtype ≡ p.set.rtype)
+    its_name : (p : Slotted) → IsHere members p → (name ≡ p.set.name) × (rtype ≡ p.set.rtype)
     its_name p m = of_group (sets_of was) name rtype p.set
         (subst (λ (l : List RecordSet). IsAmong l p.set) are.sets (set_in members p m))
 
     -- a set with the key of one of the group is of the group
-    by_key : (p q : Placed) → (name ≡ p.set.name) × (rtype ≡ p.set.rtype) → its q ≡ its p
+    by_key : (p q : Slotted) → (name ≡ p.set.name) × (rtype ≡ p.set.rtype) → its q ≡ its p
         → (name ≡ q.set.name) × (rtype ≡ q.set.rtype)
     by_key p q is same =
         let keys = ap (λ (k : SetKey × ℕ). k.0) (sym same) in
         (is.0 ∙ ap (λ (k : SetKey). k.name) keys, is.1 ∙ ap (λ (k : SetKey). k.rtype) keys)
 
-    in_group : (placed : List Placed) (p : Placed) → IsHere placed p
+    in_group : (placed : List Slotted) (p : Slotted) → IsHere placed p
         → (name ≡ p.set.name) × (rtype ≡ p.set.rtype) → IsHere (grouped name rtype placed) p
     in_group placed p here is =
-        in_filter (λ (q : Placed). of_it q.set) placed p here (passes_it name rtype p.set is.0 is.1)
+        in_filter (λ (q : Slotted). of_it q.set) placed p here (passes_it name rtype p.set is.0 is.1)
 
-    to : (p : Placed) → IsHere members p → HasIts members_now p
+    to : (p : Slotted) → IsHere members p → HasIts members_now p
     to p m =
-        let q = member_stays zone p gate (are.here p m) (tell p m) in
+        let q = member_stays zone p valve (are.here p m) (tell p m) in
         (q.0, in_group now q.0 q.1 (by_key p q.0 (its_name p m) q.2), q.2)
 
     -- a set of the group has one with its key in its slot before
-    came_for : (q : Placed) → IsHere now q → (name ≡ q.set.name) × (rtype ≡ q.set.rtype)
+    came_for : (q : Slotted) → IsHere now q → (name ≡ q.set.name) × (rtype ≡ q.set.rtype)
         → HasIts was q
     came_for q here is = elim (moves.only zone q here) [
       | inl old ↦ (q, old, refl)
@@ -202,7 +202,7 @@ module _ (before after : List Zone) (are_before : AreZones before) (are_after : 
             | inr alone ↦
                 let none = alone.1 in
                 let set_is = one_named after (ref_in zone q) c.set q.set are_after c.names here in
-                let other = member_stays zone one gate (are.here one in_one) (tell one in_one) in
+                let other = member_stays zone one valve (are.here one in_one) (tell one in_one) in
                 let other_is = by_key one other.0 (its_name one in_one) other.2 in
                 let bare = none other.0 other.1
                 (ap (λ (s : RecordSet). s.name) set_is ∙ sym is.0 ∙ other_is.0)
@@ -213,9 +213,9 @@ module _ (before after : List Zone) (are_before : AreZones before) (are_after : 
           ]
     ]
 
-    from : (q : Placed) → IsHere members_now q → HasIts members q
+    from : (q : Slotted) → IsHere members_now q → HasIts members q
     from q m =
-        let here = of_filter (λ (x : Placed). of_it x.set) now q m in
+        let here = of_filter (λ (x : Slotted). of_it x.set) now q m in
         let is = of_group (sets_of now) name rtype q.set
         (subst (λ (l : List RecordSet). IsAmong l q.set) (grouped_sets name rtype now) (set_in members_now q m)) in
         let p = came_for q here is in
@@ -239,31 +239,31 @@ module _ (before after : List Zone) (are_before : AreZones before) (are_after : 
     are_now : AreMembers after zone name rtype members_now
     are_now = record {
       sets = grouped_sets name rtype now;
-      here = λ p m. of_filter (λ (x : Placed). of_it x.set) now p m;
+      here = λ p m. of_filter (λ (x : Slotted). of_it x.set) now p m;
     }
 
-    tell_now : TellGroup seats members_now gate
+    tell_now : TellGroup seats members_now valve
     tell_now q m =
         let p = from q m in
         ap (λ (k : SetKey × ℕ). group_seat seats k.1) (sym p.2) ∙ tell p.0 p.1
 
-    gate_now : (count : ℕ) (net : Net) (own : ℕ → ℕ) → IsGroupGate count seats net own members gate
-        → IsGroupGate count seats net own members_now gate
-    gate_now count net own w = record {
+    valve_now : (count : ℕ) (net : Net) (own : ℕ → ℕ) → IsGroupValve count seats net own members valve
+        → IsGroupValve count seats net own members_now valve
+    valve_now count net own w = record {
       seat = (w.seat.0, (first_by_slots members members_now w.seat.0 same w.seat.1.0, w.seat.1.1));
       each = tell_now;
       behind = w.behind;
       within = w.within;
-      rule = w.rule
-          ∙ ap (λ (l : List ℕ). record { need = 1; inverted = false; feeders = l }) (gates_by_slots seats members members_now same);
+      condition = w.condition
+          ∙ ap (λ (l : List ℕ). record { need = 1; inverted = false; feeders = l }) (valves_by_slots seats members members_now same);
       its_own = w.its_own ∙ plain_by_slots seats members members_now same;
     }
 
   -- an alias whose target's health counts has a seat that names no check
-  abbrev HasAliasSeat : Placed → Type 0
+  abbrev HasAliasSeat : Slotted → Type 0
   HasAliasSeat p = (seat_of seats p.slot ≢ 0) × (check_seat seats p.slot ≡ 0)
 
-  module _ (alias : (zone : ℕ) (p : Placed) → IsHere (placed_in before zone) p
+  module _ (alias : (zone : ℕ) (p : Slotted) → IsHere (placed_in before zone) p
       → evaluates p.set.body ≡ true → HasAliasSeat p) where
     -- so none such goes, and it leads where it led
     led_now : (zone : ℕ) (name : List (List ℕ)) (rtype : RType) → IsLedTo before zone name rtype
@@ -282,23 +282,23 @@ module _ (before after : List Zone) (are_before : AreZones before) (are_after : 
       | inr there ↦ (p, (there, is))
     ]
 
-    -- the seats that tell the gate of a group are those of its sets still
-    one_group_now : (count slot gate : ℕ) → group_seat seats slot ≡ suc gate
-        → IsOfOneGroup before count seats gate → IsOfOneGroup after count seats gate
-    one_group_now count slot gate is g =
+    -- the seats that tell the valve of a group are those of its sets still
+    one_group_now : (count slot valve : ℕ) → group_seat seats slot ≡ suc valve
+        → IsOfOneGroup before count seats valve → IsOfOneGroup after count seats valve
+    one_group_now count slot valve is g =
         let f = g.only slot is in
         record {
           zone = g.zone;
           name = g.name;
           rtype = g.rtype;
-          members = members_now g.zone g.name g.rtype g.members gate g.are g.each f.0 f.1;
-          are = are_now g.zone g.name g.rtype g.members gate g.are g.each f.0 f.1;
+          members = members_now g.zone g.name g.rtype g.members valve g.are g.each f.0 f.1;
+          are = are_now g.zone g.name g.rtype g.members valve g.are g.each f.0 f.1;
           led = led_now g.zone g.name g.rtype g.led;
           behind = g.behind;
-          each = tell_now g.zone g.name g.rtype g.members gate g.are g.each f.0 f.1;
+          each = tell_now g.zone g.name g.rtype g.members valve g.are g.each f.0 f.1;
           only = λ other tells.
               let p = g.only other tells in
-              let q = to g.zone g.name g.rtype g.members gate g.are g.each f.0 f.1 p.0 p.1 in
+              let q = to g.zone g.name g.rtype g.members valve g.are g.each f.0 f.1 p.0 p.1 in
               (q.0, q.1, ap (λ (k : SetKey × ℕ). k.1) q.2 ∙ p.2);
         }
 
@@ -306,26 +306,26 @@ module _ (before after : List Zone) (are_before : AreZones before) (are_after : 
     told_now count told = record {
       sets = told.sets;
       kinds = told.kinds;
-      groups = λ slot gate is. one_group_now count slot gate is (told.groups slot gate is);
+      groups = λ slot valve is. one_group_now count slot valve is (told.groups slot valve is);
     }
 
   module _ (checks : List (ℕ × Check)) (net : Net) (own : ℕ → ℕ) where
-    -- a group with a gate has it still
-    record HasStill (count zone : ℕ) (name : List (List ℕ)) (rtype : RType) (gate : ℕ)
+    -- a group with a valve has it still
+    record HasStill (count zone : ℕ) (name : List (List ℕ)) (rtype : RType) (valve : ℕ)
         : Type 0 where
-      members : List Placed
+      members : List Slotted
       are : AreMembers after zone name rtype members
-      is : IsGroupGate count seats net own members gate
+      is : IsGroupValve count seats net own members valve
 
-    group_now : (count zone : ℕ) (name : List (List ℕ)) (rtype : RType) (members : List Placed)
-        (gate : ℕ) → AreMembers before zone name rtype members
-        → IsGroupGate count seats net own members gate → HasStill count zone name rtype gate
-    group_now count zone name rtype members gate are w =
+    group_now : (count zone : ℕ) (name : List (List ℕ)) (rtype : RType) (members : List Slotted)
+        (valve : ℕ) → AreMembers before zone name rtype members
+        → IsGroupValve count seats net own members valve → HasStill count zone name rtype valve
+    group_now count zone name rtype members valve are w =
         let f = first_here members w.seat.0 w.seat.1.0 in
         record {
-          members = members_now zone name rtype members gate are w.each f.0 f.1;
-          are = are_now zone name rtype members gate are w.each f.0 f.1;
-          is = gate_now zone name rtype members gate are w.each f.0 f.1 count net own w;
+          members = members_now zone name rtype members valve are w.each f.0 f.1;
+          are = are_now zone name rtype members valve are w.each f.0 f.1;
+          is = valve_now zone name rtype members valve are w.each f.0 f.1 count net own w;
         }
 
     target_now : (count zone : ℕ) (rtype : RType) (its_body : Body) (target : List ℕ)
@@ -333,16 +333,16 @@ module _ (before after : List Zone) (are_before : AreZones before) (are_after : 
         → IsTarget after count seats net own zone rtype its_body target
     target_now count zone rtype (body.Values ttl values) target is = is
     target_now count zone rtype (body.Alias name evaluate) target (inl off) = inl off
-    target_now count zone rtype (body.Alias name evaluate) target (inr (on, (gate, is, (members, are, w)))) =
-        let g = group_now count zone name rtype members gate are w in
-        inr (on, (gate, is, (g.members, g.are, g.is)))
+    target_now count zone rtype (body.Alias name evaluate) target (inr (on, (valve, is, (members, are, w)))) =
+        let g = group_now count zone name rtype members valve are w in
+        inr (on, (valve, is, (g.members, g.are, g.is)))
 
-    seated_now : (zone : ℕ) (p : Placed) → IsSeated before (ids_of checks) seats net own zone p
+    seated_now : (zone : ℕ) (p : Slotted) → IsSeated before (ids_of checks) seats net own zone p
         → IsSeated after (ids_of checks) seats net own zone p
     seated_now zone p s = record {
       plain = s.plain;
       told = s.told;
-      gated = λ on. let g = s.gated on in (
+      valved = λ on. let g = s.valved on in (
         g.0,
         g.1,
         record {
@@ -350,23 +350,23 @@ module _ (before after : List Zone) (are_before : AreZones before) (are_after : 
           within = g.2.within;
           target = g.2.target;
           its_target = target_now _ zone p.set.rtype p.set.body g.2.target g.2.its_target;
-          rule = g.2.rule;
+          condition = g.2.condition;
           its_own = g.2.its_own;
         },
       );
     }
 
-    -- a set that nothing decides, in a slot without a gate
-    seated_plain : (zone : ℕ) (q : Placed) → seat_of seats q.slot ≡ 0 → is_watched q.set ≡ false
+    -- a set that nothing decides, in a slot without a valve
+    seated_plain : (zone : ℕ) (q : Slotted) → seat_of seats q.slot ≡ 0 → is_watched q.set ≡ false
         → IsSeated after (ids_of checks) seats net own zone q
     seated_plain zone q none off = record {
       plain = λ e. none;
       told = λ on. absurd (false≢true (sym off ∙ on));
-      gated = λ on. absurd (false≢true (sym off ∙ on));
+      valved = λ on. absurd (false≢true (sym off ∙ on));
     }
 
     -- a set in the place of another that the same check alone decides
-    seated_alike : (zone : ℕ) (p q : Placed) → p.slot ≡ q.slot
+    seated_alike : (zone : ℕ) (p q : Slotted) → p.slot ≡ q.slot
         → IsSeated before (ids_of checks) seats net own zone p → seat_of seats q.slot ≢ 0
         → only_check q.set ≢ 0 → check_seat seats q.slot ≡ only_check q.set
         → IsSeated after (ids_of checks) seats net own zone q
@@ -376,14 +376,14 @@ module _ (before after : List Zone) (are_before : AreZones before) (are_after : 
             → IsSeated after (ids_of checks) seats net own zone q
         by false off = absurd (some (ap (seat_of seats) (sym slots) ∙ s.plain off))
         by true on =
-            let g = s.gated on in
+            let g = s.valved on in
             let one = ap (check_seat seats) slots ∙ told in
             let alike = same_check p.set q.set (sym (s.told on) ∙ one) only in
             let target = no_target_of before (length (ids_of checks)) seats net own zone p.set.rtype p.set.body g.2.target alike.off g.2.its_target in
             record {
               plain = λ off. absurd (false≢true (sym off ∙ alike.watched));
               told = λ e. told;
-              gated = λ e. (
+              valved = λ e. (
                 g.0,
                 ap (seat_of seats) (sym slots) ∙ g.1,
                 record {
@@ -391,15 +391,15 @@ module _ (before after : List Zone) (are_before : AreZones before) (are_after : 
                   within = g.2.within;
                   target = g.2.target;
                   its_target = to_no_target after (length (ids_of checks)) seats net own zone q.set.rtype q.set.body g.2.target alike.off_too target;
-                  rule = g.2.rule ∙ ap (λ (c : Option ℕ). set_rule (map (place_of (ids_of checks)) (option_to_list c) ++ g.2.target)) alike.check;
+                  condition = g.2.condition ∙ ap (λ (c : Option ℕ). set_condition (map (place_of (ids_of checks)) (option_to_list c) ++ g.2.target)) alike.check;
                   its_own = g.2.its_own;
                 },
               );
             }
 
-    pub seated_all : ((zone : ℕ) (p : Placed) → IsHere (placed_in before zone) p
+    pub seated_all : ((zone : ℕ) (p : Slotted) → IsHere (placed_in before zone) p
         → IsSeated before (ids_of checks) seats net own zone p)
-        → (zone : ℕ) (p : Placed) → IsHere (placed_in after zone) p
+        → (zone : ℕ) (p : Slotted) → IsHere (placed_in after zone) p
         → IsSeated after (ids_of checks) seats net own zone p
     seated_all seated zone q here = elim (moves.only zone q here) [
       | inl old ↦ seated_now zone q (seated zone q old)
@@ -420,7 +420,7 @@ module _ (before after : List Zone) (are_before : AreZones before) (are_after : 
 
     -- each set that something decides was listed, it or the one in whose place it came
     pub listed_all : (refs : List SetRef) → AllListed before refs
-        → ((zone : ℕ) (p : Placed) → IsHere (placed_in before zone) p
+        → ((zone : ℕ) (p : Slotted) → IsHere (placed_in before zone) p
         → IsSeated before (ids_of checks) seats net own zone p) → AllListed after refs
     listed_all refs listed seated zone q here on = elim (moves.only zone q here) [
       | inl old ↦ listed zone q old on
@@ -438,7 +438,7 @@ module _ (before after : List Zone) (are_before : AreZones before) (are_after : 
           ]
     ]
       where
-        in_place : (zone : ℕ) (p q : Placed) → IsHere (placed_in before zone) p
+        in_place : (zone : ℕ) (p q : Slotted) → IsHere (placed_in before zone) p
             → p.slot ≡ q.slot → seat_of seats q.slot ≢ 0 → (b : Bool) → is_watched p.set ≡ b
             → IsListed refs (ref_in zone q)
         in_place zone p q here slots some false off =
@@ -446,36 +446,36 @@ module _ (before after : List Zone) (are_before : AreZones before) (are_after : 
         in_place zone p q here slots some true on =
             subst (λ (n : ℕ). IsListed refs (record { zone = zone; slot = n })) slots (listed zone p here on)
 
-    pub node_now : (gate : ℕ) (node : Node) → IsGateFor before checks seats net own gate node
-        → (now : Node) × IsGateFor after checks seats net own gate now
-    node_now gate (CheckNode id) is = (CheckNode id, is)
-    node_now gate (SetNode zone set) (slot, (here, seat)) =
-        let q = gate_stays zone (record { slot = slot; set = set }) gate here seat in
+    pub node_now : (valve : ℕ) (node : Node) → IsValveFor before checks seats net own valve node
+        → (now : Node) × IsValveFor after checks seats net own valve now
+    node_now valve (CheckNode id) is = (CheckNode id, is)
+    node_now valve (SetNode zone set) (slot, (here, seat)) =
+        let q = valve_stays zone (record { slot = slot; set = set }) valve here seat in
         let slots = ap (λ (k : SetKey × ℕ). seat_of seats k.1) q.2 in
         (SetNode zone q.0.set, (q.0.slot, (q.1, slots ∙ seat)))
-    node_now gate (GroupNode zone name rtype) (members, (are, w)) =
-        let g = group_now _ zone name rtype members gate are w in
+    node_now valve (GroupNode zone name rtype) (members, (are, w)) =
+        let g = group_now _ zone name rtype members valve are w in
         (GroupNode zone name rtype, (g.members, (g.are, g.is)))
 
 -- ---- commands
 
 -- checks follow of themselves
-follows_itself : (checks : Checks) → Follows checks checks
+follows_itself : (checks : Checks) → AreLater checks checks
 follows_itself checks = record { next = omega arith; each = each }
   where
-    each : (id : ℕ) (check : Check) → check_at checks.list id ≡ Some check
-        → FollowsAt checks id check
+    each : (id : ℕ) (check : Check) → check_with checks.list id ≡ Some check
+        → IsLaterAt checks id check
     each id (Endpoint threshold inverted disabled) at =
         inr (subst (λ o. HasThreshold o threshold) (sym at) refl)
     each id (Calculated threshold inverted disabled children) at = tt
 
 pub leaves_follow : (before : List Zone) (old : Checks) (after : List Zone) (new : Checks)
-    (delta : Delta) → AreLeft before old after new delta → Follows old new
+    (delta : Delta) → AreLeft before old after new delta → AreLater old new
 leaves_follow before old after new delta (inl (made, (allowed, edits, kept))) =
-    subst (Follows old) (sym kept) (follows_itself old)
+    subst (AreLater old) (sym kept) (follows_itself old)
 leaves_follow before old after new delta (inr (stayed, follows, none)) = follows
 
--- Each set that something decides had a gate, or is told to have come.
+-- Each set that something decides had a valve, or is told to have come.
 pub asked_after : (before : List Zone) (old : Checks) (after : List Zone) (new : Checks)
     (reports : List Report) (index : Index) (delta : Delta) → AreZones after
     → StandsFor before old reports index → AreLeft before old after new delta
@@ -488,15 +488,15 @@ asked_after before old after new reports index delta are_after stands (inl (made
 asked_after before old after new reports index delta are_after stands (inr (stayed, follows, none)) zone p here on =
     inr (inl (stands.listed zone p (subst (λ (l : List Zone). IsHere (placed_in l zone) p) stayed here) on))
 
--- the seat of an alias whose target's health counts tells a gate, and names no check
+-- the seat of an alias whose target's health counts tells a valve, and names no check
 alias_seated : (zones : List Zone) (checks : Checks) (reports : List Report) (index : Index)
-    → StandsFor zones checks reports index → (zone : ℕ) (p : Placed)
+    → StandsFor zones checks reports index → (zone : ℕ) (p : Slotted)
     → IsHere (placed_in zones zone) p → evaluates p.set.body ≡ true
     → (seat_of index.seats p.slot ≢ 0) × (check_seat index.seats p.slot ≡ 0)
 alias_seated zones checks reports index stands zone p here on =
     let w = stands.wired.its_sets zone p here in
     let decided : is_watched p.set ≡ true = ap (λ (b : Bool). is_some p.set.check || b) on ∙ or_true p.set.check in
-    let seat = (w.gated decided).1 in
+    let seat = (w.valved decided).1 in
     (λ none. omega arith, w.told decided ∙ alias_alone p.set on)
   where
     or_true : (check : Option ℕ) → is_some check || true ≡ true
@@ -505,7 +505,7 @@ alias_seated zones checks reports index stands zone p here on =
 
 module _ (before after : List Zone) (reports : List Report) (index : Index) (delta : Delta)
     (are_after : AreZones after) (slots_after : HaveSlotsApart after)
-    (gate_leaving : LeavesGates after index.seats delta) where
+    (valve_leaving : KeepsValves after index.seats delta) where
   edited : (checks : Checks) → IsSound (watched_of after checks)
       → StandsFor before checks reports index
       → Moves before after delta.removed delta.added → StandsFor after checks reports index
@@ -518,32 +518,32 @@ module _ (before after : List Zone) (reports : List Report) (index : Index) (del
     ids = stands.ids;
     seen = stands.seen;
     as_many = stands.as_many;
-    listed = listed_all before after stands.are_zones are_after delta.removed delta.added moves index.seats gate_leaving.went gate_leaving.came checks.list
+    listed = listed_all before after stands.are_zones are_after delta.removed delta.added moves index.seats valve_leaving.went valve_leaving.came checks.list
         stands.net stands.own index.refs stands.listed stands.wired.its_sets;
     net = stands.net;
     own = stands.own;
     wired = record {
       its_checks = stands.wired.its_checks;
-      its_sets = seated_all before after stands.are_zones are_after delta.removed delta.added moves index.seats gate_leaving.went gate_leaving.came checks.list
+      its_sets = seated_all before after stands.are_zones are_after delta.removed delta.added moves index.seats valve_leaving.went valve_leaving.came checks.list
           stands.net stands.own stands.wired.its_sets;
-      its_nodes = λ gate within.
-          let n = stands.wired.its_nodes gate within in
-          node_now before after stands.are_zones are_after delta.removed delta.added moves index.seats gate_leaving.went gate_leaving.came checks.list stands.net
-          stands.own gate n.0 n.1;
+      its_nodes = λ valve within.
+          let n = stands.wired.its_nodes valve within in
+          node_now before after stands.are_zones are_after delta.removed delta.added moves index.seats valve_leaving.went valve_leaving.came checks.list stands.net
+          stands.own valve n.0 n.1;
       its_groups = stands.wired.its_groups;
     };
-    told = told_now before after stands.are_zones are_after delta.removed delta.added moves index.seats gate_leaving.went gate_leaving.came
+    told = told_now before after stands.are_zones are_after delta.removed delta.added moves index.seats valve_leaving.went valve_leaving.came
         (alias_seated before checks reports index stands) (length (ids_of checks.list)) stands.told;
     fits = stands.fits;
     meet = stands.meet;
     idle = stands.idle;
   }
 
-  pub stands_with_gates : (old new : Checks) → IsSound (watched_of after new)
+  pub stands_with_valves : (old new : Checks) → IsSound (watched_of after new)
       → StandsFor before old reports index → AreLeft before old after new delta
       → StandsFor after new reports index
-  stands_with_gates old new sound stands (inl (made, (allowed, edits, kept))) =
+  stands_with_valves old new sound stands (inl (made, (allowed, edits, kept))) =
       subst (λ (c : Checks). StandsFor after c reports index) (sym kept)
       (edited old (subst (λ (c : Checks). IsSound (watched_of after c)) kept sound) stands
-      (moved before after stands.are_zones are_after made delta allowed edits gate_leaving.zone))
-  stands_with_gates old new sound stands (inr (stayed, follows, none)) = absurd (gate_leaving.zone none)
+      (moved before after stands.are_zones are_after made delta allowed edits valve_leaving.zone))
+  stands_with_valves old new sound stands (inr (stayed, follows, none)) = absurd (valve_leaving.zone none)

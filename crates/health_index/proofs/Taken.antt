@@ -3,10 +3,10 @@ use Rattle.std.proofs.Common.{◌≡◌, ℕ, Bool, List, set, sym, Some, Option
 use Rattle.std.specs.Prelude.{slice_get}
 use mathlib.Core.Path.{subst}
 use Rattle.checker_state.specs.Standing.{Seen}
-use Rattle.health_gates.specs.Gates.{Fits, with_own}
-use Rattle.health_gates.specs.Pass.{IsIdle}
-use Rattle.health_gates.specs.declared.gates.Gates.{Gates}
-use Rattle.health_index.specs.Index.{Index, IsWhole, Space}
+use Rattle.health_valves.specs.Valves.{ValvesStandFor, with_own}
+use Rattle.health_valves.specs.Pass.{IsIdle}
+use Rattle.health_valves.specs.declared.valves.Valves.{Valves}
+use Rattle.health_index.specs.Index.{Index, IsIntact, Space}
 use Rattle.health_index.specs.Taking.{IsTaken}
 use Rattle.health_index.proofs.Reporting.{whole_after}
 
@@ -18,12 +18,12 @@ taken checker pass before items after place answer known same is took =
     subst (λ a. IsTaken checker pass items place a after) is
     (subst (λ l. IsTaken checker pass l place answer after) same took)
 
-module _ (index : Index) (whole : IsWhole index) (seen : List (Option Seen)) (space : Space) where
+module _ (index : Index) (whole : IsIntact index) (seen : List (Option Seen)) (space : Space) where
   -- one more result was
-  pub whole_taken : (place given : ℕ) (its now : Seen) (gates : Gates)
+  pub whole_taken : (place given : ℕ) (its now : Seen) (valves : Valves)
       → slice_get index.seen place ≡ Some (Some its) → seen ≡ set index.seen place (Some now)
-      → Fits whole.net (with_own place given whole.own) gates → IsIdle gates
-      → IsWhole (record index { seen = seen; gates = gates; space = space })
-  whole_taken place given its now gates here is fits idle =
-      subst (λ s. IsWhole (record index { seen = s; gates = gates; space = space })) (sym is)
-      (whole_after index whole place given its now gates space here fits idle)
+      → ValvesStandFor whole.net (with_own place given whole.own) valves → IsIdle valves
+      → IsIntact (record index { seen = seen; valves = valves; space = space })
+  whole_taken place given its now valves here is fits idle =
+      subst (λ s. IsIntact (record index { seen = s; valves = valves; space = space })) (sym is)
+      (whole_after index whole place given its now valves space here fits idle)

@@ -9,7 +9,7 @@ use Rattle.check_model.specs.declared.checks.Check.{Check}
 use Rattle.check_model.specs.declared.checks.Check.TheVariants.{Endpoint, Calculated}
 use Rattle.checker_state.specs.Standing.{numbers, passing_of}
 use Rattle.checker_state.specs.View.{view_of}
-use Rattle.health_gates.specs.Gates.{count, value_of}
+use Rattle.health_valves.specs.Valves.{count, value_of}
 use Rattle.health_model.proofs.Members.{filter_same}
 use Rattle.health_model.specs.Statuses.{Report, number_told, passing, results_of, status, status_told}
 use Rattle.health_planning.specs.Zones.{Zone}
@@ -38,13 +38,13 @@ module _ (zones : List Zone) (checks : Checks) (reports : List Report) (index : 
 
   module _ (tells : Tells zones checks reports index) where
     v : ℕ → Bool
-    v = value_of index.gates
+    v = value_of index.valves
 
-    -- each child's gate tells its status
+    -- each child's valve tells its status
     child_told : (child : ℕ) → IsId checks.list child
-        → value_of index.gates (place_of (ids_of checks.list) child) ≡ status checks.list reports child
+        → value_of index.valves (place_of (ids_of checks.list) child) ≡ status checks.list reports child
     child_told child (check, at) =
-        ap (λ (ids : List ℕ). value_of index.gates (place_of ids child)) (sym stands.ids)
+        ap (λ (ids : List ℕ). value_of index.valves (place_of ids child)) (sym stands.ids)
         ∙ tells.statuses child check at
 
     all_there : (P : ℕ → Type 0) (xs : List ℕ) (x : ℕ) → AllByRecursion P xs → IsAmong xs x → P x
@@ -53,12 +53,12 @@ module _ (zones : List Zone) (checks : Checks) (reports : List Report) (index : 
     all_there P (y ∷ xs) x all (inr m) = all_there P xs x all.1 m
 
     number : (check : Check) → AreChildren checks.list (children_of check)
-        → check_own check (passing reports id) + count (value_of index.gates) (map (place_of (ids_of checks.list)) (children_of check))
+        → check_own check (passing reports id) + count (value_of index.valves) (map (place_of (ids_of checks.list)) (children_of check))
         ≡ number_told check (passing reports id) (status checks.list reports)
     number (Endpoint threshold inverted disabled) are = omega arith
     number (Calculated threshold inverted disabled children) are =
-        let c = children_counted (value_of index.gates) (ids_of checks.list) children in
-        let f = ap length (filter_same (λ (child : ℕ). value_of index.gates (place_of (ids_of checks.list) child)) (status checks.list reports) children
+        let c = children_counted (value_of index.valves) (ids_of checks.list) children in
+        let f = ap length (filter_same (λ (child : ℕ). value_of index.valves (place_of (ids_of checks.list) child)) (status checks.list reports) children
         (λ child m. child_told child (all_there (IsId checks.list) children child are.there m))) in
         omega arith
 
@@ -79,8 +79,8 @@ module _ (zones : List Zone) (checks : Checks) (reports : List Report) (index : 
 
   pub told : (place : ℕ) → slice_get index.ids place ≡ Some id → place_of index.ids id ≡ place
       → (value : Bool) (counted short : ℕ) → Tells zones checks reports index
-      → value ≡ value_of index.gates place
-      → counted ≡ stands.own place + count (value_of index.gates) (stands.net.rule place).feeders
+      → value ≡ value_of index.valves place
+      → counted ≡ stands.own place + count (value_of index.valves) (stands.net.condition place).feeders
       → (counted < 65536 → short ≡ counted)
       → Some (value, short) ≡ status_told checks.list reports id
   told place here first value counted short tells is_value is_count is_short =
@@ -91,13 +91,13 @@ module _ (zones : List Zone) (checks : Checks) (reports : List Report) (index : 
       let bounded = of_all (λ (held : ℕ × Check). IsBounded held.1) checks.list place (id, check) stands.are_checks.bounded at.1 in
       let n = number tells check are in
       let s = small tells check bounded in
-      let fed = ap (λ r. count (value_of index.gates) r.feeders) w.rule in
+      let fed = ap (λ r. count (value_of index.valves) r.feeders) w.condition in
       let own = w.its_own in
       let short_is : short ≡ number_told check (passing reports id) (status checks.list reports) =
       let c : counted ≡ number_told check (passing reports id) (status checks.list reports) = omega arith in
       let k = is_short (omega arith) in
       k ∙ c in
-      let value_is : value ≡ status checks.list reports id = is_value ∙ ap (value_of index.gates) (sym first) ∙ tells.statuses id check at.2 in
+      let value_is : value ≡ status checks.list reports id = is_value ∙ ap (value_of index.valves) (sym first) ∙ tells.statuses id check at.2 in
       pair value short value_is short_is ∙ ap (option_map (λ (check : Check). (
         status checks.list reports id,
         number_told check (passing reports id) (status checks.list reports),

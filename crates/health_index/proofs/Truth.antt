@@ -9,8 +9,8 @@ use Rattle.calculated_health.specs.Status.{swapped_if}
 use Rattle.check_model.specs.Checks.{Checks, children_of}
 use Rattle.check_model.specs.declared.checks.Check.{Check}
 use Rattle.check_model.specs.declared.checks.Check.TheVariants.{Endpoint, Calculated}
-use Rattle.health_gates.specs.Gates.{MeetsEquation, Rule, count, equation, value_of}
-use Rattle.health_gates.specs.Pass.{MeetAll}
+use Rattle.health_valves.specs.Valves.{MeetsEquation, Condition, count, equation, value_of}
+use Rattle.health_valves.specs.Pass.{MeetAll}
 use Rattle.health_model.proofs.Members.{of_filter}
 use Rattle.health_model.specs.Healthy.{Watched, by_check, by_target, group_value, set_value, sets_of as sets_at}
 use Rattle.health_model.specs.Laws.{OneHealth}
@@ -24,20 +24,20 @@ use Rattle.record_set.specs.declared.sets.RecordSet.{RecordSet}
 use Rattle.health_planning.specs.Telling.{evaluates}
 use Rattle.health_planning.specs.Zones.{Zone, placed_in}
 use Rattle.health_planning.specs.SetRefRecord.{SetRef}
-use Rattle.zone_model.specs.Placed.{IsHere, Placed, sets_of}
+use Rattle.zone_model.specs.Slotted.{IsHere, Slotted, sets_of}
 use Rattle.zone_model.specs.Zones.{IsAmong, group, is_of_group}
-use Rattle.health_planning.specs.Looking.{Names}
+use Rattle.health_planning.specs.Looking.{RefersTo}
 use Rattle.health_index.specs.Index.{HasNumber, Index, IsLaidFor, StandsFor, healthy_in}
 use Rattle.health_index.specs.Laws.{IndexTells, NodesHaveValues, StandsWhereAllMeet}
 use Rattle.health_index.specs.Values.{AreValues, members_in, node_value, seat_in, value_of_set, value_or}
 use Rattle.health_planning.proofs.MembersOfZoneList.{set_in}
-use Rattle.health_planning.proofs.Ending.{rule_seated}
+use Rattle.health_planning.proofs.Ending.{condition_seated}
 use Rattle.health_planning.proofs.Places.{found, id_at, one_place}
 use Rattle.health_planning.proofs.Watching.{zone_sets as sets_seen}
 use Rattle.health_planning.proofs.Wiring.{first_here, first_of, member_there}
 use Rattle.health_index.proofs.Keyed.{grouped_sets}
-use Rattle.health_index.proofs.Numbering.{gate_for, of_gate, there}
-use Rattle.health_planning.specs.Wired.{AreMembers, IsFirstIn, IsGateFor, IsGroupGate, IsGroupSeat, IsTarget, check_need, check_own, check_rule, gates_of, group_seat, ids_of, is_inverted, is_watched, open_in, place_of, plain_among, seat_of, watched_of, with_gate, plain}
+use Rattle.health_index.proofs.Numbering.{valve_for, of_valve, there}
+use Rattle.health_planning.specs.Wired.{AreMembers, IsFirstIn, IsValveFor, IsGroupValve, IsGroupSeat, IsTarget, check_need, check_own, check_condition, valves_of, group_seat, ids_of, is_inverted, is_watched, open_in, place_of, plain_among, seat_of, watched_of, with_valve, plain}
 use Rattle.health_planning.specs.declared.seats.Seat.{Seat}
 
 -- ---- lists
@@ -61,33 +61,33 @@ any_same p q (x ∷ xs) same =
     ap (λ (b : Bool). b || list_any p xs) (same x (inl refl))
     ∙ ap (λ (b : Bool). q x || b) (any_same p q xs (λ y m. same y (inr m)))
 
-any_mapped : (q : RecordSet → Bool) (members : List Placed)
-    → list_any q (sets_of members) ≡ list_any (λ (m : Placed). q m.set) members
+any_mapped : (q : RecordSet → Bool) (members : List Slotted)
+    → list_any q (sets_of members) ≡ list_any (λ (m : Slotted). q m.set) members
 any_mapped q [] = refl
 any_mapped q (m ∷ members) = ap (λ (b : Bool). q m.set || b) (any_mapped q members)
 
--- ---- a group's gate
+-- ---- a group's valve
 
-one_more : (v : ℕ → Bool) (seat plains : ℕ) (gates : List ℕ) (any : Bool)
-    → nat_le 1 (plains + count v gates) ≡ any
-    → nat_le 1 (plain seat + plains + count v (with_gate seat gates)) ≡ open_in v seat || any
-one_more v zero plains gates any e = le-leb 1 (1 + plains + count v gates) (omega arith)
-one_more v (suc gate) plains gates any e = step (v gate) refl
+one_more : (v : ℕ → Bool) (seat plains : ℕ) (valves : List ℕ) (any : Bool)
+    → nat_le 1 (plains + count v valves) ≡ any
+    → nat_le 1 (plain seat + plains + count v (with_valve seat valves)) ≡ open_in v seat || any
+one_more v zero plains valves any e = le-leb 1 (1 + plains + count v valves) (omega arith)
+one_more v (suc valve) plains valves any e = step (v valve) refl
   where
-    step : (b : Bool) → v gate ≡ b
-        → nat_le 1 (0 + plains + count v (gate ∷ gates)) ≡ v gate || any
-    step true is = rw is (le-leb 1 (0 + plains + (count v gates + 1)) (omega arith))
-    step false is = let same : 0 + plains + count v gates ≡ plains + count v gates = omega arith in rw (is, same) e
+    step : (b : Bool) → v valve ≡ b
+        → nat_le 1 (0 + plains + count v (valve ∷ valves)) ≡ v valve || any
+    step true is = rw is (le-leb 1 (0 + plains + (count v valves + 1)) (omega arith))
+    step false is = let same : 0 + plains + count v valves ≡ plains + count v valves = omega arith in rw (is, same) e
 
-one_open : (v : ℕ → Bool) (seats : List Seat) (members : List Placed)
-    → nat_le 1 (plain_among seats members + count v (gates_of seats members))
-    ≡ list_any (λ (p : Placed). open_in v (seat_of seats p.slot)) members
+one_open : (v : ℕ → Bool) (seats : List Seat) (members : List Slotted)
+    → nat_le 1 (plain_among seats members + count v (valves_of seats members))
+    ≡ list_any (λ (p : Slotted). open_in v (seat_of seats p.slot)) members
 one_open v seats [] = refl
 one_open v seats (p ∷ members) =
-    one_more v (seat_of seats p.slot) (plain_among seats members) (gates_of seats members)
-    (list_any (λ (m : Placed). open_in v (seat_of seats m.slot)) members) (one_open v seats members)
+    one_more v (seat_of seats p.slot) (plain_among seats members) (valves_of seats members)
+    (list_any (λ (m : Slotted). open_in v (seat_of seats m.slot)) members) (one_open v seats members)
 
--- ---- the gate of a check
+-- ---- the valve of a check
 
 ten : (passing : ℕ) → nat_le 10 (passing + 0) ≡ nat_lt 900 (100 * passing)
 ten passing = elim (cases_lt passing 10) [
@@ -125,7 +125,7 @@ check_equation v ids (Calculated threshold inverted false children) passing =
     ids children in omega arith in
     ap (λ (n : ℕ). swapped_if inverted (nat_le threshold n)) same
 
--- ---- the gate of a set
+-- ---- the valve of a set
 
 module _ (v : ℕ → Bool) (place : ℕ → ℕ) where
   by_one : (check : Option ℕ)
@@ -140,20 +140,20 @@ module _ (v : ℕ → Bool) (place : ℕ → ℕ) where
       step true e = rw e refl
       step false e = rw e refl
 
-  by_both : (check : Option ℕ) (gate : ℕ)
-      → nat_le (length (map place (option_to_list check) ++ gate ∷ []))
-      (0 + count v (map place (option_to_list check) ++ gate ∷ []))
-      ≡ by_check (λ id. v (place id)) check && v gate
-  by_both None gate = step (v gate) refl
+  by_both : (check : Option ℕ) (valve : ℕ)
+      → nat_le (length (map place (option_to_list check) ++ valve ∷ []))
+      (0 + count v (map place (option_to_list check) ++ valve ∷ []))
+      ≡ by_check (λ id. v (place id)) check && v valve
+  by_both None valve = step (v valve) refl
     where
-      step : (b : Bool) → v gate ≡ b
-          → nat_le 1 (0 + count v (gate ∷ [])) ≡ true && v gate
+      step : (b : Bool) → v valve ≡ b
+          → nat_le 1 (0 + count v (valve ∷ [])) ≡ true && v valve
       step true e = rw e refl
       step false e = rw e refl
-  by_both (Some id) gate = step (v (place id)) (v gate) refl refl
+  by_both (Some id) valve = step (v (place id)) (v valve) refl refl
     where
-      step : (a b : Bool) → v (place id) ≡ a → v gate ≡ b
-          → nat_le 2 (0 + count v (place id ∷ gate ∷ [])) ≡ v (place id) && v gate
+      step : (a b : Bool) → v (place id) ≡ a → v valve ≡ b
+          → nat_le 2 (0 + count v (place id ∷ valve ∷ [])) ≡ v (place id) && v valve
       step true true e f = rw (e, f) refl
       step true false e f = rw (e, f) refl
       step false true e f = rw (e, f) refl
@@ -174,19 +174,19 @@ nothing_decides check healthy_group set e = go set.check set.body e
 -- ---- the values and the equations of nodes
 
 -- the set of a list that is in it
-mapped : (placed : List Placed) (p : Placed) → IsAmong placed p → IsAmong (sets_of placed) p.set
+mapped : (placed : List Slotted) (p : Slotted) → IsAmong placed p → IsAmong (sets_of placed) p.set
 mapped [] p m = m
-mapped (q ∷ placed) p (inl is) = inl (ap (λ (x : Placed). x.set) is)
+mapped (q ∷ placed) p (inl is) = inl (ap (λ (x : Slotted). x.set) is)
 mapped (q ∷ placed) p (inr m) = inr (mapped placed p m)
 
 pub is_node : (zones : List Zone) (checks : Checks) (set : SetRef) (named : RecordSet)
-    → Names zones set named → IsNode (watched_of zones checks) (SetNode set.zone named)
+    → RefersTo zones set named → IsNode (watched_of zones checks) (SetNode set.zone named)
 is_node zones checks set named names =
     subst (λ (sets : List RecordSet). IsAmong sets named) (sym (zone_sets zones checks set.zone))
     (mapped (placed_in zones set.zone) (record { slot = set.slot; set = named }) names)
 
 group_there : (zones : List Zone) (checks : Checks) (zone : ℕ) (name : List (List ℕ))
-    (rtype : RType) (members : List Placed) (slot : ℕ)
+    (rtype : RType) (members : List Slotted) (slot : ℕ)
     → AreMembers zones zone name rtype members → IsFirstIn members slot
     → IsNode (watched_of zones checks) (GroupNode zone name rtype)
 group_there zones checks zone name rtype members slot are first =
@@ -201,30 +201,30 @@ listed_are : (zones : List Zone) (zone : ℕ) (name : List (List ℕ)) (rtype : 
     → AreMembers zones zone name rtype (members_in zones zone name rtype)
 listed_are zones zone name rtype = record {
   sets = grouped_sets name rtype (placed_in zones zone);
-  here = λ p m. of_filter (λ (x : Placed). is_of_group name rtype x.set) (placed_in zones zone) p m;
+  here = λ p m. of_filter (λ (x : Slotted). is_of_group name rtype x.set) (placed_in zones zone) p m;
 }
 
 -- what the seat of the first of some sets tells
-seat_first : (seats : List Seat) (members : List Placed) (p : Placed)
+seat_first : (seats : List Seat) (members : List Slotted) (p : Slotted)
     → slice_get members 0 ≡ Some p → seat_in seats members ≡ group_seat seats p.slot
 seat_first seats [] p at = let no : ⊥ = cc in absurd no
 seat_first seats (q ∷ members) p at =
-    ap (λ (o : Placed). group_seat seats o.slot) (some_same at)
+    ap (λ (o : Slotted). group_seat seats o.slot) (some_same at)
   where
     some_same : {X : Type 0} {x y : X} → Some x ≡ Some y → x ≡ y
     some_same e = cc
 
 -- a group whose first set's seat tells a number has that number
-first_seated : (seats : List Seat) (members : List Placed) (gate : ℕ)
-    → seat_in seats members ≡ suc gate → IsGroupSeat seats members gate
-first_seated seats [] gate is = absurd (omega arith)
-first_seated seats (p ∷ members) gate is = (p.slot, ((p, refl, refl), is))
+first_seated : (seats : List Seat) (members : List Slotted) (valve : ℕ)
+    → seat_in seats members ≡ suc valve → IsGroupSeat seats members valve
+first_seated seats [] valve is = absurd (omega arith)
+first_seated seats (p ∷ members) valve is = (p.slot, ((p, refl, refl), is))
 
 module _ (zones : List Zone) (checks : Checks) (reports : List Report) (index : Index)
     (laid : IsLaidFor zones checks reports index)
     (agrees : Agrees zones (healthy_in index) (by_key zones (healthy_in index))) where
-  abbrev gate_open : ℕ → Bool
-  gate_open = value_of index.gates
+  abbrev valve_open : ℕ → Bool
+  valve_open = value_of index.valves
 
   abbrev its_ids : List ℕ
   its_ids = ids_of checks.list
@@ -236,79 +236,79 @@ module _ (zones : List Zone) (checks : Checks) (reports : List Report) (index : 
   v = node_value zones index
 
   abbrev of_check : ℕ → Bool
-  of_check id = gate_open (place_of its_ids id)
+  of_check id = valve_open (place_of its_ids id)
 
   abbrev of_group : (zone : ℕ) → (name : List (List ℕ)) → RType → Bool
   of_group zone name rtype = v (GroupNode zone name rtype)
 
-  abbrev IsGate : (gate : ℕ) → Node → Type 0
-  IsGate gate node = IsGateFor zones checks.list index.seats laid.net laid.own gate node
+  abbrev IsValve : (valve : ℕ) → Node → Type 0
+  IsValve valve node = IsValveFor zones checks.list index.seats laid.net laid.own valve node
 
-  -- the equation of a gate with this rule
-  rule_equals : (gate own : ℕ) (rule : Rule) → laid.net.rule gate ≡ rule → laid.own gate ≡ own
-      → swapped_if rule.inverted (nat_le rule.need (own + count gate_open rule.feeders))
-      ≡ equation laid.net laid.own gate_open gate
-  rule_equals gate own rule is its = sym (
-      ap (λ (r : Rule). swapped_if r.inverted (nat_le r.need (laid.own gate + count gate_open r.feeders))) is
-      ∙ ap (λ (n : ℕ). swapped_if rule.inverted (nat_le rule.need (n + count gate_open rule.feeders))) its)
+  -- the equation of a valve with this condition
+  condition_equals : (valve own : ℕ) (condition : Condition) → laid.net.condition valve ≡ condition → laid.own valve ≡ own
+      → swapped_if condition.inverted (nat_le condition.need (own + count valve_open condition.feeders))
+      ≡ equation laid.net laid.own valve_open valve
+  condition_equals valve own condition is its = sym (
+      ap (λ (r : Condition). swapped_if r.inverted (nat_le r.need (laid.own valve + count valve_open r.feeders))) is
+      ∙ ap (λ (n : ℕ). swapped_if condition.inverted (nat_le condition.need (n + count valve_open condition.feeders))) its)
 
-  -- ---- the values of nodes with gates
+  -- ---- the values of nodes with valves
 
-  check_valued : (gate id : ℕ) (check : Check) → slice_get checks.list gate ≡ Some (id, check)
-      → v (CheckNode id) ≡ gate_open gate
-  check_valued gate id check at =
-      let its = id_at checks.list gate id check laid.are_checks.rising at in
-      let place = one_place checks.list (place_of its_ids id) gate id check check laid.are_checks.rising (found checks.list id check its) at in
-      ap (λ (ids : List ℕ). gate_open (place_of ids id)) laid.ids ∙ ap gate_open place
+  check_valued : (valve id : ℕ) (check : Check) → slice_get checks.list valve ≡ Some (id, check)
+      → v (CheckNode id) ≡ valve_open valve
+  check_valued valve id check at =
+      let its = id_at checks.list valve id check laid.are_checks.rising at in
+      let place = one_place checks.list (place_of its_ids id) valve id check check laid.are_checks.rising (found checks.list id check its) at in
+      ap (λ (ids : List ℕ). valve_open (place_of ids id)) laid.ids ∙ ap valve_open place
 
-  seated : (zone : ℕ) (p : Placed) → IsHere (placed_in zones zone) p
-      → v (SetNode zone p.set) ≡ open_in gate_open (seat_of index.seats p.slot)
+  seated : (zone : ℕ) (p : Slotted) → IsHere (placed_in zones zone) p
+      → v (SetNode zone p.set) ≡ open_in valve_open (seat_of index.seats p.slot)
   seated zone p here = sym (agrees (record { zone = zone; slot = p.slot }) p.set here)
 
-  group_valued : (zone : ℕ) (name : List (List ℕ)) (rtype : RType) (members : List Placed) (gate : ℕ)
+  group_valued : (zone : ℕ) (name : List (List ℕ)) (rtype : RType) (members : List Slotted) (valve : ℕ)
       → AreMembers zones zone name rtype members
-      → IsGroupGate (length its_ids) index.seats laid.net laid.own members gate
-      → of_group zone name rtype ≡ gate_open gate
-  group_valued zone name rtype members gate are w =
+      → IsGroupValve (length its_ids) index.seats laid.net laid.own members valve
+      → of_group zone name rtype ≡ valve_open valve
+  group_valued zone name rtype members valve are w =
       let listed = members_in zones zone name rtype in
       let are_listed = listed_are zones zone name rtype in
       let p = first_here members w.seat.0 w.seat.1.0 in
       let there = member_there zones laid.are_zones zone name rtype members listed p.0 are p.1 are_listed in
       let f = first_of listed p.0 there in
       let back = member_there zones laid.are_zones zone name rtype listed members f.p are_listed f.here are in
-      ap (λ (n : ℕ). value_or gate_open n
+      ap (λ (n : ℕ). value_or valve_open n
       (group_value (value_of_set zones index zone) (sets_of (placed_in zones zone)) name rtype))
       (seat_first index.seats listed f.p f.at ∙ w.each f.p back)
 
-  -- the value of a node with a gate is that of the gate
-  pub valued : (gate : ℕ) (n : Node) → IsGate gate n → v n ≡ gate_open gate
-  valued gate (CheckNode id) (check, at) = check_valued gate id check at
-  valued gate (SetNode zone set) (slot, (here, seat)) =
-      seated zone (record { slot = slot; set = set }) here ∙ ap (open_in gate_open) seat
-  valued gate (GroupNode zone name rtype) (members, (are, w)) =
-      group_valued zone name rtype members gate are w
+  -- the value of a node with a valve is that of the valve
+  pub valued : (valve : ℕ) (n : Node) → IsValve valve n → v n ≡ valve_open valve
+  valued valve (CheckNode id) (check, at) = check_valued valve id check at
+  valued valve (SetNode zone set) (slot, (here, seat)) =
+      seated zone (record { slot = slot; set = set }) here ∙ ap (open_in valve_open) seat
+  valued valve (GroupNode zone name rtype) (members, (are, w)) =
+      group_valued zone name rtype members valve are w
 
   -- ---- their equations
 
-  check_equals : (gate id : ℕ) (check : Check) → slice_get checks.list gate ≡ Some (id, check)
-      → local watched reports v (CheckNode id) ≡ equation laid.net laid.own gate_open gate
-  check_equals gate id check at =
-      let w = laid.wired.its_checks gate id check at in
+  check_equals : (valve id : ℕ) (check : Check) → slice_get checks.list valve ≡ Some (id, check)
+      → local watched reports v (CheckNode id) ≡ equation laid.net laid.own valve_open valve
+  check_equals valve id check at =
+      let w = laid.wired.its_checks valve id check at in
       ap (λ (o : Option Check). value_there o (passing reports id) (λ child. v (CheckNode child)))
-      (id_at checks.list gate id check laid.are_checks.rising at)
-      ∙ ap (λ (ids : List ℕ). check_value check (passing reports id) (λ child. gate_open (place_of ids child))) laid.ids
-      ∙ sym (check_equation gate_open its_ids check (passing reports id))
-      ∙ rule_equals gate (check_own check (passing reports id)) (check_rule its_ids check) w.rule w.its_own
+      (id_at checks.list valve id check laid.are_checks.rising at)
+      ∙ ap (λ (ids : List ℕ). check_value check (passing reports id) (λ child. valve_open (place_of ids child))) laid.ids
+      ∙ sym (check_equation valve_open its_ids check (passing reports id))
+      ∙ condition_equals valve (check_own check (passing reports id)) (check_condition its_ids check) w.condition w.its_own
 
-  group_equals : (zone : ℕ) (name : List (List ℕ)) (rtype : RType) (members : List Placed) (gate : ℕ)
+  group_equals : (zone : ℕ) (name : List (List ℕ)) (rtype : RType) (members : List Slotted) (valve : ℕ)
       → AreMembers zones zone name rtype members
-      → IsGroupGate (length its_ids) index.seats laid.net laid.own members gate
+      → IsGroupValve (length its_ids) index.seats laid.net laid.own members valve
       → local watched reports v (GroupNode zone name rtype)
-      ≡ equation laid.net laid.own gate_open gate
-  group_equals zone name rtype members gate are w = sym (
-      sym (rule_equals gate (plain_among index.seats members) _ w.rule w.its_own)
-      ∙ one_open gate_open index.seats members
-      ∙ any_same (λ (p : Placed). open_in gate_open (seat_of index.seats p.slot)) (λ (p : Placed). value_of_set zones index zone p.set) members
+      ≡ equation laid.net laid.own valve_open valve
+  group_equals zone name rtype members valve are w = sym (
+      sym (condition_equals valve (plain_among index.seats members) _ w.condition w.its_own)
+      ∙ one_open valve_open index.seats members
+      ∙ any_same (λ (p : Slotted). open_in valve_open (seat_of index.seats p.slot)) (λ (p : Slotted). value_of_set zones index zone p.set) members
       (λ p m. sym (seated zone p (are.here p m)))
       ∙ sym (any_mapped (value_of_set zones index zone) members)
       ∙ ap (list_any (value_of_set zones index zone)) are.sets
@@ -317,123 +317,123 @@ module _ (zones : List Zone) (checks : Checks) (reports : List Report) (index : 
   target_equals : (zone : ℕ) (set : RecordSet) (rtype : RType) (its : Body) (target : List ℕ)
       → IsTarget zones (length its_ids) index.seats laid.net laid.own zone rtype its target
       → nat_le (length (map (place_of its_ids) (option_to_list set.check) ++ target))
-      (0 + count gate_open (map (place_of its_ids) (option_to_list set.check) ++ target))
+      (0 + count valve_open (map (place_of its_ids) (option_to_list set.check) ++ target))
       ≡ by_check of_check set.check && by_target (of_group zone) rtype its
   target_equals zone set rtype (body.Values ttl values) target is =
-      rw is (by_one gate_open (place_of its_ids) set.check)
+      rw is (by_one valve_open (place_of its_ids) set.check)
   target_equals zone set rtype (body.Alias name evaluate) target (inl (off, is)) =
-      rw (is, off) (by_one gate_open (place_of its_ids) set.check)
-  target_equals zone set rtype (body.Alias name evaluate) target (inr (on, (gate, is, (members, are, w)))) =
-      rw (is, on, group_valued zone name rtype members gate are w) (by_both gate_open (place_of its_ids) set.check gate)
+      rw (is, off) (by_one valve_open (place_of its_ids) set.check)
+  target_equals zone set rtype (body.Alias name evaluate) target (inr (on, (valve, is, (members, are, w)))) =
+      rw (is, on, group_valued zone name rtype members valve are w) (by_both valve_open (place_of its_ids) set.check valve)
 
-  set_equals : (zone : ℕ) (p : Placed) (gate : ℕ) → IsHere (placed_in zones zone) p
-      → seat_of index.seats p.slot ≡ suc gate
-      → local watched reports v (SetNode zone p.set) ≡ equation laid.net laid.own gate_open gate
-  set_equals zone p gate here seat =
-      let w = (rule_seated zones its_ids index.seats laid.net laid.own laid.wired.its_sets zone p gate here seat).is in
-      ap (λ (ids : List ℕ). by_check (λ id. gate_open (place_of ids id)) p.set.check && by_target (of_group zone) p.set.rtype p.set.body) laid.ids
+  set_equals : (zone : ℕ) (p : Slotted) (valve : ℕ) → IsHere (placed_in zones zone) p
+      → seat_of index.seats p.slot ≡ suc valve
+      → local watched reports v (SetNode zone p.set) ≡ equation laid.net laid.own valve_open valve
+  set_equals zone p valve here seat =
+      let w = (condition_seated zones its_ids index.seats laid.net laid.own laid.wired.its_sets zone p valve here seat).is in
+      ap (λ (ids : List ℕ). by_check (λ id. valve_open (place_of ids id)) p.set.check && by_target (of_group zone) p.set.rtype p.set.body) laid.ids
       ∙ sym (target_equals zone p.set p.set.rtype p.set.body w.target w.its_target)
-      ∙ rule_equals gate 0 _ w.rule w.its_own
+      ∙ condition_equals valve 0 _ w.condition w.its_own
 
-  -- the local equation of a node with a gate is that of the gate
-  pub equals : (gate : ℕ) (n : Node) → IsGate gate n
-      → local watched reports v n ≡ equation laid.net laid.own gate_open gate
-  equals gate (CheckNode id) (check, at) = check_equals gate id check at
-  equals gate (SetNode zone set) (slot, (here, seat)) =
-      set_equals zone (record { slot = slot; set = set }) gate here seat
-  equals gate (GroupNode zone name rtype) (members, (are, w)) =
-      group_equals zone name rtype members gate are w
+  -- the local equation of a node with a valve is that of the valve
+  pub equals : (valve : ℕ) (n : Node) → IsValve valve n
+      → local watched reports v n ≡ equation laid.net laid.own valve_open valve
+  equals valve (CheckNode id) (check, at) = check_equals valve id check at
+  equals valve (SetNode zone set) (slot, (here, seat)) =
+      set_equals zone (record { slot = slot; set = set }) valve here seat
+  equals valve (GroupNode zone name rtype) (members, (are, w)) =
+      group_equals zone name rtype members valve are w
 
-  pub to_meet : (gate : ℕ) (n : Node) → IsGate gate n → MeetsEquation laid.net laid.own gate_open gate
+  pub to_meet : (valve : ℕ) (n : Node) → IsValve valve n → MeetsEquation laid.net laid.own valve_open valve
       → Meets watched reports v n
-  to_meet gate n its meets = valued gate n its ∙ meets ∙ sym (equals gate n its)
+  to_meet valve n its meets = valued valve n its ∙ meets ∙ sym (equals valve n its)
 
-  pub of_meet : (gate : ℕ) (n : Node) → IsGate gate n → Meets watched reports v n
-      → MeetsEquation laid.net laid.own gate_open gate
-  of_meet gate n its meets = sym (valued gate n its) ∙ meets ∙ equals gate n its
+  pub of_meet : (valve : ℕ) (n : Node) → IsValve valve n → Meets watched reports v n
+      → MeetsEquation laid.net laid.own valve_open valve
+  of_meet valve n its meets = sym (valued valve n its) ∙ meets ∙ equals valve n its
 
-  -- ---- nodes without gates
+  -- ---- nodes without valves
 
-  bare_set : (zone : ℕ) (p : Placed) → IsHere (placed_in zones zone) p → is_watched p.set ≡ false
+  bare_set : (zone : ℕ) (p : Slotted) → IsHere (placed_in zones zone) p → is_watched p.set ≡ false
       → v (SetNode zone p.set) ≡ true
   bare_set zone p here off =
-      seated zone p here ∙ ap (open_in gate_open) ((laid.wired.its_sets zone p here).plain off)
+      seated zone p here ∙ ap (open_in valve_open) ((laid.wired.its_sets zone p here).plain off)
 
   bare_group : (zone : ℕ) (name : List (List ℕ)) (rtype : RType)
       → seat_in index.seats (members_in zones zone name rtype) ≡ 0
       → of_group zone name rtype ≡ local watched reports v (GroupNode zone name rtype)
   bare_group zone name rtype none =
-      ap (λ (n : ℕ). value_or gate_open n
+      ap (λ (n : ℕ). value_or valve_open n
       (group_value (value_of_set zones index zone) (sets_of (placed_in zones zone)) name rtype)) none
       ∙ ap (λ (sets : List RecordSet). group_value (value_of_set zones index zone) sets name rtype) (sym (zone_sets zones checks zone))
 
-  -- a node has a gate, or it meets its local equation
-  pub gate_or_meets : (n : Node) → IsNode watched n
-      → ((gate : ℕ) × IsGate gate n) ⊎ Meets watched reports v n
-  gate_or_meets (CheckNode id) (check, at) = inl (place_of its_ids id, (check, found checks.list id check at))
-  gate_or_meets (SetNode zone set) is =
-      let p = among_mapped (λ (p : Placed). p.set) (placed_in zones zone) set
+  -- a node has a valve, or it meets its local equation
+  pub valve_or_meets : (n : Node) → IsNode watched n
+      → ((valve : ℕ) × IsValve valve n) ⊎ Meets watched reports v n
+  valve_or_meets (CheckNode id) (check, at) = inl (place_of its_ids id, (check, found checks.list id check at))
+  valve_or_meets (SetNode zone set) is =
+      let p = among_mapped (λ (p : Slotted). p.set) (placed_in zones zone) set
       (subst (λ (sets : List RecordSet). IsAmong sets set) (zone_sets zones checks zone) is) in
-      subst (λ (s : RecordSet). ((gate : ℕ) × IsGate gate (SetNode zone s)) ⊎ Meets watched reports v (SetNode zone s)) p.2
+      subst (λ (s : RecordSet). ((valve : ℕ) × IsValve valve (SetNode zone s)) ⊎ Meets watched reports v (SetNode zone s)) p.2
       (by p.0 p.1 (is_watched p.0.set) refl)
     where
-      by : (p : Placed) → IsHere (placed_in zones zone) p → (b : Bool) → is_watched p.set ≡ b
-          → ((gate : ℕ) × IsGate gate (SetNode zone p.set)) ⊎ Meets watched reports v (SetNode zone p.set)
+      by : (p : Slotted) → IsHere (placed_in zones zone) p → (b : Bool) → is_watched p.set ≡ b
+          → ((valve : ℕ) × IsValve valve (SetNode zone p.set)) ⊎ Meets watched reports v (SetNode zone p.set)
       by p here false off =
           inr (bare_set zone p here off ∙ sym (nothing_decides (λ id. v (CheckNode id)) (of_group zone) p.set off))
       by p here true on =
-          let g = (laid.wired.its_sets zone p here).gated on in
+          let g = (laid.wired.its_sets zone p here).valved on in
           inl (g.0, (p.slot, (here, g.1)))
-  gate_or_meets (GroupNode zone name rtype) is =
+  valve_or_meets (GroupNode zone name rtype) is =
       by (seat_in index.seats (members_in zones zone name rtype)) refl
     where
       by : (n : ℕ) → seat_in index.seats (members_in zones zone name rtype) ≡ n
-          → ((gate : ℕ) × IsGate gate (GroupNode zone name rtype)) ⊎ Meets watched reports v (GroupNode zone name rtype)
+          → ((valve : ℕ) × IsValve valve (GroupNode zone name rtype)) ⊎ Meets watched reports v (GroupNode zone name rtype)
       by zero none = inr (bare_group zone name rtype none)
-      by (suc gate) seat =
+      by (suc valve) seat =
           inl (
-            gate,
-            gate_for zones checks reports index laid gate (GroupNode zone name rtype)
-                (members_in zones zone name rtype, (listed_are zones zone name rtype, first_seated index.seats (members_in zones zone name rtype) gate seat)),
+            valve,
+            valve_for zones checks reports index laid valve (GroupNode zone name rtype)
+                (members_in zones zone name rtype, (listed_are zones zone name rtype, first_seated index.seats (members_in zones zone name rtype) valve seat)),
           )
 
-  -- what has a gate is a node
-  node_there : (gate : ℕ) (n : Node) → IsGate gate n → IsNode watched n
-  node_there gate (CheckNode id) (check, at) = (check, id_at checks.list gate id check laid.are_checks.rising at)
-  node_there gate (SetNode zone set) (slot, (here, seat)) =
+  -- what has a valve is a node
+  node_there : (valve : ℕ) (n : Node) → IsValve valve n → IsNode watched n
+  node_there valve (CheckNode id) (check, at) = (check, id_at checks.list valve id check laid.are_checks.rising at)
+  node_there valve (SetNode zone set) (slot, (here, seat)) =
       is_node zones checks (record { zone = zone; slot = slot }) set here
-  node_there gate (GroupNode zone name rtype) (members, (are, w)) =
+  node_there valve (GroupNode zone name rtype) (members, (are, w)) =
       group_there zones checks zone name rtype members w.seat.0 are w.seat.1.0
 
-  -- all nodes meet their local equations where all gates meet theirs
-  pub all_meet : MeetAll laid.net laid.own index.gates → (n : Node) → IsNode watched n
+  -- all nodes meet their local equations where all valves meet theirs
+  pub all_meet : MeetAll laid.net laid.own index.valves → (n : Node) → IsNode watched n
       → Meets watched reports v n
-  all_meet meet n is = elim (gate_or_meets n is) [
+  all_meet meet n is = elim (valve_or_meets n is) [
     | inl has ↦
-        let within = there zones checks reports index laid has.0 n (of_gate zones checks reports index laid has.0 n has.1) in
+        let within = there zones checks reports index laid has.0 n (of_valve zones checks reports index laid has.0 n has.1) in
         to_meet has.0 n has.1 (meet has.0 within)
     | inr meets ↦ meets
   ]
 
-  pub gates_meet : ((n : Node) → IsNode watched n → Meets watched reports v n)
-      → MeetAll laid.net laid.own index.gates
-  gates_meet all gate within =
-      let n = laid.wired.its_nodes gate within in
-      of_meet gate n.0 n.1 (all n.0 (node_there gate n.0 n.1))
+  pub valves_meet : ((n : Node) → IsNode watched n → Meets watched reports v n)
+      → MeetAll laid.net laid.own index.valves
+  valves_meet all valve within =
+      let n = laid.wired.its_nodes valve within in
+      of_meet valve n.0 n.1 (all n.0 (node_there valve n.0 n.1))
 
   pub values : AreValues zones checks index
   values = record {
-    numbered = λ number n is. valued number n (gate_for zones checks reports index laid number n is);
+    numbered = λ number n is. valued number n (valve_for zones checks reports index laid number n is);
     sets = λ zone p here none. by_watch zone p here none (is_watched p.set) refl;
     groups = λ zone name rtype none. by_seat zone name rtype none (seat_in index.seats (members_in zones zone name rtype)) refl;
   }
     where
-      by_watch : (zone : ℕ) (p : Placed) → IsHere (placed_in zones zone) p
+      by_watch : (zone : ℕ) (p : Slotted) → IsHere (placed_in zones zone) p
           → (HasNumber zones index (SetNode zone p.set) → ⊥) → (b : Bool) → is_watched p.set ≡ b
           → v (SetNode zone p.set) ≡ true
       by_watch zone p here none false off = bare_set zone p here off
       by_watch zone p here none true on =
-          let g = (laid.wired.its_sets zone p here).gated on in
+          let g = (laid.wired.its_sets zone p here).valved on in
           absurd (none (g.0, (p.slot, (here, g.1))))
 
       by_seat : (zone : ℕ) (name : List (List ℕ)) (rtype : RType)
@@ -441,14 +441,14 @@ module _ (zones : List Zone) (checks : Checks) (reports : List Report) (index : 
           → seat_in index.seats (members_in zones zone name rtype) ≡ n
           → v (GroupNode zone name rtype) ≡ local watched reports v (GroupNode zone name rtype)
       by_seat zone name rtype none zero bare = bare_group zone name rtype bare
-      by_seat zone name rtype none (suc gate) seat =
+      by_seat zone name rtype none (suc valve) seat =
           absurd (none (
-            gate,
+            valve,
             (
               members_in zones zone name rtype,
               (
                 listed_are zones zone name rtype,
-                first_seated index.seats (members_in zones zone name rtype) gate seat,
+                first_seated index.seats (members_in zones zone name rtype) valve seat,
               ),
             ),
           ))
@@ -501,7 +501,7 @@ stands_where_all_meet views zones checks reports index = (
     wired = laid.wired;
     told = laid.told;
     fits = laid.fits;
-    meet = gates_meet zones checks reports index laid (views zones (healthy_in index) laid.are_zones) all;
+    meet = valves_meet zones checks reports index laid (views zones (healthy_in index) laid.are_zones) all;
     idle = laid.idle;
   },
 )
@@ -518,7 +518,7 @@ tells one views zones checks reports index stands =
       sets = λ set named names. agrees set named names ∙ same (SetNode set.zone named) (is_node zones checks set named names);
       statuses = λ id check at. same (CheckNode id) (check, at);
       groups = λ number zone name rtype is.
-          let its = gate_for zones checks reports index laid number (GroupNode zone name rtype) is in
+          let its = valve_for zones checks reports index laid number (GroupNode zone name rtype) is in
           sym (valued zones checks reports index laid agrees number (GroupNode zone name rtype) its)
           ∙ same (GroupNode zone name rtype) (node_there zones checks reports index laid agrees number (GroupNode zone name rtype) its);
     }

@@ -1,13 +1,13 @@
 -- When an index stands for a configuration and reports.
 use Rattle.std.specs.Prelude.{◌≡◌, ◌≤◌, ◌<◌, ℕ, suc, Bool, true, List, [], length, Option, None, Some, slice_get, ⊤}
-use Rattle.check_model.specs.Checks.{Checks, check_at}
+use Rattle.check_model.specs.Checks.{Checks, check_with}
 use Rattle.check_model.specs.Checks.{IsSound as AreSoundChecks}
 use Rattle.check_model.specs.declared.checks.Check.{Check}
 use Rattle.check_model.specs.declared.checks.Check.TheVariants.{Endpoint, Calculated}
 use Rattle.checker_state.specs.Standing.{Seen}
-use Rattle.health_gates.specs.Gates.{Fits, Net, size_of, value_of}
-use Rattle.health_gates.specs.Pass.{IsIdle, MeetAll}
-use Rattle.health_gates.specs.declared.gates.Gates.{Gates}
+use Rattle.health_valves.specs.Valves.{ValvesStandFor, Net, size_of, value_of}
+use Rattle.health_valves.specs.Pass.{IsIdle, MeetAll}
+use Rattle.health_valves.specs.declared.valves.Valves.{Valves}
 use Rattle.health_model.specs.Healthy.{group_value, healthy, sets_of}
 use Rattle.health_model.specs.Nodes.{CheckNode, GroupNode, Node, SetNode}
 use Rattle.health_model.specs.Sound.{IsSound}
@@ -18,14 +18,14 @@ use Rattle.record_set.specs.declared.sets.RecordSet.{RecordSet}
 use Rattle.health_planning.specs.Zones.{AreZones, Zone, placed_in}
 use Rattle.health_planning.specs.SetRefRecord.{SetRef}
 use Rattle.health_planning.specs.Tables.{HaveSlotsApart}
-use Rattle.zone_model.specs.Placed.{IsHere, Placed}
-use Rattle.health_planning.specs.Looking.{Names}
+use Rattle.zone_model.specs.Slotted.{IsHere, Slotted}
+use Rattle.health_planning.specs.Looking.{RefersTo}
 use Rattle.health_planning.specs.Building.{AllListed, AreGiven, IsSeen}
-use Rattle.health_planning.specs.Wired.{AreMembers, HasSlot, IsGroupSeat, IsLedTo, IsWired, StandApart, TellGroup, group_seat, ids_of, is_watched, open_in, place_of, seat_of, watched_of}
+use Rattle.health_planning.specs.Wired.{AreMembers, HasSlot, IsGroupSeat, IsLedTo, AreValvesOf, StandApart, TellGroup, group_seat, ids_of, is_watched, open_in, place_of, seat_of, watched_of}
 use Rattle.health_planning.specs.declared.seats.Seat.{Seat}
 
 -- For how many there is room: numbers of checks and what their checkers saw, now and before a
--- command; slots; sets with gates, and sets of groups with gates; gates, and links between them.
+-- command; slots; sets with valves, and sets of groups with valves; valves, and links between them.
 pub record Space : Type 0 where
   pub ids : ℕ
   pub seen : ℕ
@@ -34,11 +34,11 @@ pub record Space : Type 0 where
   pub seats : ℕ
   pub refs : ℕ
   pub members : ℕ
-  pub shapes : ℕ
+  pub triggers : ℕ
   pub links : ℕ
 
--- The numbers of the checks, what the checkers of each endpoint saw, the gates of sets by their
--- slots, the sets that have gates, those of groups that have one, the gates, and the room that there
+-- The numbers of the checks, what the checkers of each endpoint saw, the valves of sets by their
+-- slots, the sets that have valves, those of groups that have one, the valves, and the room that there
 -- is.
 pub record Index : Type 0 where
   pub ids : List ℕ
@@ -46,33 +46,33 @@ pub record Index : Type 0 where
   pub seats : List Seat
   pub refs : List SetRef
   pub members : List SetRef
-  pub gates : Gates
+  pub valves : Valves
   pub space : Space
 
--- The seats that tell a gate for their groups are those of the sets of one group, to which an evaluated
--- alias leads. The gates of checks stand before it.
-pub record IsOfOneGroup (zones : List Zone) (checks : ℕ) (seats : List Seat) (gate : ℕ)
+-- The seats that tell a valve for their groups are those of the sets of one group, to which an evaluated
+-- alias leads. The valves of checks stand before it.
+pub record IsOfOneGroup (zones : List Zone) (checks : ℕ) (seats : List Seat) (valve : ℕ)
     : Type 0 where
   pub zone : ℕ
   pub name : List (List ℕ)
   pub rtype : RType
-  pub members : List Placed
+  pub members : List Slotted
   pub are : AreMembers zones zone name rtype members
   pub led : IsLedTo zones zone name rtype
-  pub behind : checks ≤ gate
-  pub each : TellGroup seats members gate
-  pub only : (slot : ℕ) → group_seat seats slot ≡ suc gate → HasSlot members slot
+  pub behind : checks ≤ valve
+  pub each : TellGroup seats members valve
+  pub only : (slot : ℕ) → group_seat seats slot ≡ suc valve → HasSlot members slot
 
--- Seats tell no gate for two sets, for a set and a group, or for two groups.
+-- Seats tell no valve for two sets, for a set and a group, or for two groups.
 pub record TellApart (zones : List Zone) (checks : ℕ) (seats : List Seat) : Type 0 where
-  pub sets : (slot other gate : ℕ) → seat_of seats slot ≡ suc gate
-      → seat_of seats other ≡ suc gate → slot ≡ other
-  pub kinds : (slot other gate : ℕ) → seat_of seats slot ≡ suc gate
-      → group_seat seats other ≡ suc gate → ⊥
-  pub groups : (slot gate : ℕ) → group_seat seats slot ≡ suc gate
-      → IsOfOneGroup zones checks seats gate
+  pub sets : (slot other valve : ℕ) → seat_of seats slot ≡ suc valve
+      → seat_of seats other ≡ suc valve → slot ≡ other
+  pub kinds : (slot other valve : ℕ) → seat_of seats slot ≡ suc valve
+      → group_seat seats other ≡ suc valve → ⊥
+  pub groups : (slot valve : ℕ) → group_seat seats slot ≡ suc valve
+      → IsOfOneGroup zones checks seats valve
 
--- The index is laid out for a sound configuration and reports: its gates are wired for them, and what
+-- The index is laid out for a sound configuration and reports: its valves are wired for them, and what
 -- is counted is of them. Values may have to be worked out still.
 pub record IsLaidFor (zones : List Zone) (checks : Checks) (reports : List Report) (index : Index)
     : Type 0 where
@@ -89,10 +89,10 @@ pub record IsLaidFor (zones : List Zone) (checks : Checks) (reports : List Repor
   pub listed : AllListed zones index.refs
   pub net : Net
   pub own : ℕ → ℕ
-  pub wired : IsWired zones checks.list index.seats net own reports
+  pub wired : AreValvesOf zones checks.list index.seats net own reports
   pub told : TellApart zones (length (ids_of checks.list)) index.seats
-  pub fits : Fits net own index.gates
-  pub idle : IsIdle index.gates
+  pub fits : ValvesStandFor net own index.valves
+  pub idle : IsIdle index.valves
 
 -- The index stands for a sound configuration and reports: it is laid out for them, and all is worked
 -- out.
@@ -111,19 +111,19 @@ pub record StandsFor (zones : List Zone) (checks : Checks) (reports : List Repor
   pub listed : AllListed zones index.refs
   pub net : Net
   pub own : ℕ → ℕ
-  pub wired : IsWired zones checks.list index.seats net own reports
+  pub wired : AreValvesOf zones checks.list index.seats net own reports
   pub told : TellApart zones (length (ids_of checks.list)) index.seats
-  pub fits : Fits net own index.gates
-  pub meet : MeetAll net own index.gates
-  pub idle : IsIdle index.gates
+  pub fits : ValvesStandFor net own index.valves
+  pub meet : MeetAll net own index.valves
+  pub idle : IsIdle index.valves
 
 -- Whether the set that a reference names is healthy.
 abbrev pub healthy_in : Index → SetRef → Bool
-healthy_in index set = open_in (value_of index.gates) (seat_of index.seats set.slot)
+healthy_in index set = open_in (value_of index.valves) (seat_of index.seats set.slot)
 
 -- ---- numbers of nodes
 
--- The number of a node is that of its gate. A set that nothing decides has none: its health never
+-- The number of a node is that of its valve. A set that nothing decides has none: its health never
 -- waits to be worked out. Nor has a group one to which no evaluated alias leads.
 abbrev pub IsNumberOf : List Zone → Index → (number : ℕ) → Node → Type 0
 IsNumberOf zones index number (CheckNode id) = slice_get index.ids number ≡ Some id
@@ -131,7 +131,7 @@ IsNumberOf zones index number (SetNode zone set) =
     (slot : ℕ) × (IsHere (placed_in zones zone) (record { slot = slot; set = set })
     × (seat_of index.seats slot ≡ suc number))
 IsNumberOf zones index number (GroupNode zone name rtype) =
-    (members : List Placed) × (AreMembers zones zone name rtype members
+    (members : List Slotted) × (AreMembers zones zone name rtype members
     × IsGroupSeat index.seats members number)
 
 abbrev pub HasNumber : List Zone → Index → Node → Type 0
@@ -139,7 +139,7 @@ HasNumber zones index node = (number : ℕ) × IsNumberOf zones index number nod
 
 -- The index has a node of the number.
 abbrev pub HasNode : Index → (number : ℕ) → Type 0
-HasNode index number = number < size_of index.gates
+HasNode index number = number < size_of index.valves
 
 -- Each number that the index has is that of one node alone, and a node has one number at most. Each
 -- check has one, each set that something decides and no other set, and each group to which an
@@ -153,13 +153,13 @@ pub record AreNumbered (zones : List Zone) (checks : Checks) (index : Index) : T
       → IsNumberOf zones index other node → number ≡ other
   pub apart : (number : ℕ) (node other : Node) → IsNumberOf zones index number node
       → IsNumberOf zones index number other → node ≡ other
-  pub its_checks : (id : ℕ) (check : Check) → check_at checks.list id ≡ Some check
+  pub its_checks : (id : ℕ) (check : Check) → check_with checks.list id ≡ Some check
       → HasNumber zones index (CheckNode id)
-  pub its_sets : (zone : ℕ) (p : Placed) → IsHere (placed_in zones zone) p
+  pub its_sets : (zone : ℕ) (p : Slotted) → IsHere (placed_in zones zone) p
       → is_watched p.set ≡ true → HasNumber zones index (SetNode zone p.set)
   pub decided : (number zone : ℕ) (set : RecordSet)
       → IsNumberOf zones index number (SetNode zone set) → is_watched set ≡ true
-  pub targets : (zone : ℕ) (p : Placed) (name : List (List ℕ)) → IsHere (placed_in zones zone) p
+  pub targets : (zone : ℕ) (p : Slotted) (name : List (List ℕ)) → IsHere (placed_in zones zone) p
       → p.set.body ≡ body.Alias name true
       → HasNumber zones index (GroupNode zone name p.set.rtype)
   pub led : (number zone : ℕ) (name : List (List ℕ)) (rtype : RType)
@@ -172,33 +172,33 @@ pub record AreNumbered (zones : List Zone) (checks : Checks) (index : Index) : T
 -- check, of each set whether it is healthy, and of a group with a number whether some set of it is.
 pub record Tells (zones : List Zone) (checks : Checks) (reports : List Report) (index : Index)
     : Type 0 where
-  pub statuses : (id : ℕ) (check : Check) → check_at checks.list id ≡ Some check
-      → value_of index.gates (place_of index.ids id) ≡ status checks.list reports id
-  pub sets : (set : SetRef) (named : RecordSet) → Names zones set named
+  pub statuses : (id : ℕ) (check : Check) → check_with checks.list id ≡ Some check
+      → value_of index.valves (place_of index.ids id) ≡ status checks.list reports id
+  pub sets : (set : SetRef) (named : RecordSet) → RefersTo zones set named
       → healthy_in index set ≡ healthy (watched_of zones checks) reports set.zone named
   pub groups : (number zone : ℕ) (name : List (List ℕ)) (rtype : RType)
       → IsNumberOf zones index number (GroupNode zone name rtype)
-      → value_of index.gates number
+      → value_of index.valves number
       ≡ group_value (healthy (watched_of zones checks) reports zone)
       (sets_of (watched_of zones checks) zone) name rtype
 
 -- ---- what holds of every index
 
--- Gates that stand for some net; those whose checkers are counted have no feeders. No number of a
--- check stands at two places. Seats tell gates only in the slots of the sets that are kept for it.
-pub record IsWhole (index : Index) : Type 0 where
+-- Valves that stand for some net; those whose checkers are counted have no feeders. No number of a
+-- check stands at two places. Seats tell valves only in the slots of the sets that are kept for it.
+pub record IsIntact (index : Index) : Type 0 where
   pub net : Net
   pub own : ℕ → ℕ
-  pub fits : Fits net own index.gates
-  pub idle : IsIdle index.gates
+  pub fits : ValvesStandFor net own index.valves
+  pub idle : IsIdle index.valves
   pub as_many : length index.seen ≡ length index.ids
   pub apart : StandApart index.ids
   pub few : length index.ids ≤ 200
   pub within : length index.ids ≤ net.size
-  pub seated : (slot gate : ℕ) → seat_of index.seats slot ≡ suc gate → gate < net.size
+  pub seated : (slot valve : ℕ) → seat_of index.seats slot ≡ suc valve → valve < net.size
   pub given : AreGiven index.refs index.members index.seats
   pub alone : (place : ℕ) (its : Seen) → slice_get index.seen place ≡ Some (Some its)
-      → (net.rule place).feeders ≡ []
+      → (net.condition place).feeders ≡ []
 
 -- ---- reports
 
@@ -209,12 +209,12 @@ IsEndpoint (Some (Endpoint threshold inverted disabled)) = ⊤
 IsEndpoint (Some (Calculated threshold inverted disabled children)) = ⊥
 
 abbrev pub IsEndpointOf : Checks → (id : ℕ) → Type 0
-IsEndpointOf checks id = IsEndpoint (check_at checks.list id)
+IsEndpointOf checks id = IsEndpoint (check_with checks.list id)
 
 abbrev pub reported : (id checker : ℕ) → Bool → Report
 reported id checker pass = record { check = id; checker = checker; pass = pass }
 
--- the gate of the set in a slot, where it has one
-abbrev pub IsGateOf : List Seat → (slot : ℕ) → Option ℕ → Type 0
-IsGateOf seats slot None = seat_of seats slot ≡ 0
-IsGateOf seats slot (Some gate) = seat_of seats slot ≡ suc gate
+-- the valve of the set in a slot, where it has one
+abbrev pub IsValveOf : List Seat → (slot : ℕ) → Option ℕ → Type 0
+IsValveOf seats slot None = seat_of seats slot ≡ 0
+IsValveOf seats slot (Some valve) = seat_of seats slot ≡ suc valve

@@ -6,7 +6,7 @@ use Rattle.check_model.specs.declared.checks.CheckCommand.{CheckCommand}
 use Rattle.health_model.specs.Nodes.{IsNode, Node}
 use Rattle.health_model.specs.Statuses.{Report}
 use Rattle.health_planning.specs.Zones.{Zone}
-use Rattle.health_planning.specs.Following.{Follows}
+use Rattle.health_planning.specs.Later.{AreLater}
 use Rattle.health_planning.specs.Wired.{watched_of}
 use Rattle.health_index.specs.Index.{AreNumbered, Index, IsLaidFor, StandsFor, Tells}
 use Rattle.health_index.specs.Values.{AreValues, MeetsIn}
@@ -36,6 +36,6 @@ StandsWhereAllMeet = (zones : List Zone) (checks : Checks) (reports : List Repor
     × ((n : Node) → IsNode (watched_of zones checks) n → MeetsIn zones checks reports index n))
 
 -- A command on checks leaves what follows of them.
-abbrev pub CommandsFollow : Type 0
-CommandsFollow =
-    (checks : Checks) (command : CheckCommand) → Follows checks (checks_after checks command)
+abbrev pub ChecksAreLater : Type 0
+ChecksAreLater =
+    (checks : Checks) (command : CheckCommand) → AreLater checks (checks_after checks command)

@@ -1,10 +1,10 @@
 -- Room in which a configuration is laid out anew, without memory.
 use Rattle.std.specs.Prelude.{◌≡◌, ◌≤◌, ◌+◌, ◌*◌, ◌^◌, ℕ}
-use Rattle.health_gates.specs.Gates.{value_of}
-use Rattle.health_gates.specs.Laying.{HasRoomFor}
+use Rattle.health_valves.specs.Valves.{value_of}
+use Rattle.health_valves.specs.Laying.{HasRoomFor}
 use Rattle.health_index.specs.Index.{Index}
 
--- An index can be laid out anew over so many slots: 200 checks of at most 255 children, a gate for
+-- An index can be laid out anew over so many slots: 200 checks of at most 255 children, a valve for
 -- each set and for each group, one link into a group and two into a set.
 pub record HasRoom (index : Index) (slots : ℕ) : Type 0 where
   pub few : slots ≤ 2 ^ 29
@@ -15,9 +15,9 @@ pub record HasRoom (index : Index) (slots : ℕ) : Type 0 where
   pub seats : slots ≤ index.space.seats
   pub refs : slots ≤ index.space.refs
   pub members : slots ≤ index.space.members
-  pub shapes : slots * 2 + 200 ≤ index.space.shapes
+  pub triggers : slots * 2 + 200 ≤ index.space.triggers
   pub links : slots * 3 + 51200 ≤ index.space.links
-  pub gates : HasRoomFor index.gates (slots * 2 + 200) (slots * 3 + 51200)
+  pub valves : HasRoomFor index.valves (slots * 2 + 200) (slots * 3 + 51200)
 
 -- Only room changes: checks, what their checkers saw, seats, listed sets, noted members and values
 -- stay.
@@ -27,4 +27,4 @@ pub record Keeps (before after : Index) : Type 0 where
   pub seats : after.seats ≡ before.seats
   pub refs : after.refs ≡ before.refs
   pub members : after.members ≡ before.members
-  pub values : (gate : ℕ) → value_of after.gates gate ≡ value_of before.gates gate
+  pub values : (valve : ℕ) → value_of after.valves valve ≡ value_of before.valves valve

@@ -3,7 +3,7 @@
 use Rattle.std.specs.Prelude.{◌≡◌, ◌≢◌, ◌↔◌, ℕ, zero, suc, Bool, true, IsTrue, List, [], ◌∷◌, Contains}
 use Rattle.std.specs.List.{filter}
 use Rattle.check_model.specs.Checks.{Checks}
-use Rattle.health_gates.specs.Gates.{value_of}
+use Rattle.health_valves.specs.Valves.{value_of}
 use Rattle.health_model.specs.Healthy.{group_value, sets_of as sets_at}
 use Rattle.health_model.specs.Nodes.{CheckNode, GroupNode, IsNode, Meets, Node, SetNode, feeders}
 use Rattle.health_model.specs.Statuses.{Report}
@@ -12,19 +12,19 @@ use Rattle.health_planning.specs.Zones.{Zone, placed_in}
 use Rattle.rdata_layout.specs.declared.types.RType.{RType}
 use Rattle.record_set.specs.Sets.{key_of}
 use Rattle.record_set.specs.declared.sets.RecordSet.{RecordSet}
-use Rattle.zone_model.specs.Placed.{IsHere, Placed, sets_of}
+use Rattle.zone_model.specs.Slotted.{IsHere, Slotted, sets_of}
 use Rattle.zone_model.specs.Zones.{is_of_group}
 use Rattle.health_planning.specs.Wired.{group_seat, place_of, watched_of}
 use Rattle.health_planning.specs.declared.seats.Seat.{Seat}
 use Rattle.health_index.specs.Index.{HasNumber, Index, IsLaidFor, IsNumberOf, healthy_in}
 
 -- the sets of a group of a zone, each with its slot
-abbrev pub members_in : List Zone → (zone : ℕ) → (name : List (List ℕ)) → RType → List Placed
+abbrev pub members_in : List Zone → (zone : ℕ) → (name : List (List ℕ)) → RType → List Slotted
 members_in zones zone name rtype =
-    filter (λ (p : Placed). is_of_group name rtype p.set) (placed_in zones zone)
+    filter (λ (p : Slotted). is_of_group name rtype p.set) (placed_in zones zone)
 
 -- the number of a group, given as one more, and 0 where it has none: the seat of its first set tells
-abbrev pub seat_in : List Seat → (members : List Placed) → ℕ
+abbrev pub seat_in : List Seat → (members : List Slotted) → ℕ
 seat_in seats [] = 0
 seat_in seats (p ∷ members) = group_seat seats p.slot
 
@@ -40,17 +40,17 @@ value_of_set zones index zone set = by_key zones (healthy_in index) zone (key_of
 -- The value of a node is that of its number. A set without a number is healthy, and a group without
 -- one is healthy where some set of it is.
 abbrev pub node_value : List Zone → Index → Node → Bool
-node_value zones index (CheckNode id) = value_of index.gates (place_of index.ids id)
+node_value zones index (CheckNode id) = value_of index.valves (place_of index.ids id)
 node_value zones index (SetNode zone set) = value_of_set zones index zone set
 node_value zones index (GroupNode zone name rtype) =
-    value_or (value_of index.gates) (seat_in index.seats (members_in zones zone name rtype))
+    value_or (value_of index.valves) (seat_in index.seats (members_in zones zone name rtype))
     (group_value (value_of_set zones index zone) (sets_of (placed_in zones zone)) name rtype)
 
 -- So each node that has a number has its value, and the two kinds that may have none have theirs.
 pub record AreValues (zones : List Zone) (checks : Checks) (index : Index) : Type 0 where
   pub numbered : (number : ℕ) (n : Node) → IsNumberOf zones index number n
-      → node_value zones index n ≡ value_of index.gates number
-  pub sets : (zone : ℕ) (p : Placed) → IsHere (placed_in zones zone) p
+      → node_value zones index n ≡ value_of index.valves number
+  pub sets : (zone : ℕ) (p : Slotted) → IsHere (placed_in zones zone) p
       → (HasNumber zones index (SetNode zone p.set) → ⊥)
       → node_value zones index (SetNode zone p.set) ≡ true
   pub groups : (zone : ℕ) (name : List (List ℕ)) (rtype : RType)

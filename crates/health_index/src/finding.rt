@@ -1,12 +1,12 @@
-//! The seat in a slot, and the gate of the set there.
+//! The seat in a slot, and the valve of the set there.
 
 ghost use Rattle.std.specs.Prelude.{◌≡◌};
-ghost use Rattle.health_index.specs.Index.{IsGateOf};
+ghost use Rattle.health_index.specs.Index.{IsValveOf};
 ghost use Rattle.health_planning.specs.Building.{IsSeatAt};
 
 use health_planning::Seat;
 
-/// The seat in a slot; one without gates, where there is none.
+/// The seat in a slot; one without valves, where there is none.
 pub fn find_seat(seats: &[Seat], slot: u32) -> Seat
     ensures { IsSeatAt seats.now slot result }
 {
@@ -21,9 +21,9 @@ pub fn find_seat(seats: &[Seat], slot: u32) -> Seat
     seats[at]
 }
 
-/// The gate of the set in a slot.
-pub fn gate_of(seats: &[Seat], slot: u32) -> Option<usize>
-    ensures { IsGateOf seats.now slot result }
+/// The valve of the set in a slot.
+pub fn valve_of(seats: &[Seat], slot: u32) -> Option<usize>
+    ensures { IsValveOf seats.now slot result }
 {
     let seat = find_seat(seats, slot).set;
     if seat == 0 {

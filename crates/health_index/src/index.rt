@@ -3,13 +3,13 @@
 ghost use Rattle.std.specs.Prelude.{◌≡◌, ◌≢◌, ◌≤◌, ◌<◌, ◌+◌, ◌∷◌, ◌↔◌, [], ℕ, IsTrue, List, false, true};
 ghost use Rattle.std.specs.Prelude.{Contains, IfOk, IsOk, OnOk, Some, if◌then◌else◌, length, slice_get};
 ghost use Rattle.check_model.specs.Checks.{Checks};
-ghost use Rattle.health_planning.specs.Following.{Follows};
-ghost use Rattle.health_gates.specs.Gates.{Feeds, Fits, MeetsEquation, Net, value_of};
-ghost use Rattle.health_gates.specs.Pass.{IsIdle};
+ghost use Rattle.health_planning.specs.Later.{AreLater};
+ghost use Rattle.health_valves.specs.Valves.{Feeds, ValvesStandFor, MeetsEquation, Net, value_of};
+ghost use Rattle.health_valves.specs.Pass.{IsIdle};
 ghost use Rattle.health_index.specs.Index.{HasNode, IsEndpointOf, IsLaidFor, IsNumberOf, StandsFor};
 ghost use Rattle.health_index.specs.Index.{healthy_in};
 ghost use Rattle.health_index.specs.Index.{reported};
-ghost use Rattle.health_index.specs.Leaving.{LeavesGates, AreLeft};
+ghost use Rattle.health_index.specs.Leaving.{KeepsValves, AreLeft};
 ghost use Rattle.health_index.specs.Room.{HasRoom, Keeps};
 ghost use Rattle.health_index.specs.Values.{WorksOut};
 ghost use Rattle.health_planning.specs.Building.{AreAsked};
@@ -19,19 +19,19 @@ ghost use Rattle.health_model.specs.Sound.{IsSound};
 ghost use Rattle.health_model.specs.Statuses.{Report, status, status_told};
 ghost use Rattle.health_planning.specs.Zones.{Zone};
 
-use crate::finding::gate_of;
-use crate::gate_leaving::leaves_gates;
+use crate::finding::valve_of;
 use crate::laws::index_tells_health;
 use crate::reserving::{each_ok, room_for_checks, room_for_slots};
 use crate::taking::take_result;
+use crate::valve_leaving::leaves_valves;
 use checker_state::{CHECKERS, Checkers, fifty_alone};
 use health_check::CheckTable;
-use health_gates::{Gates, Plan, Steps};
 use health_model::{one_health, one_more_report};
 use health_planning::{
     Delta, HealthView, Scratch, Seat, SetRef, Zones, clear_seats, list_ids, list_seen, place_near,
-    plan_gates, views_agree,
+    plan_valves, views_agree,
 };
+use health_valves::{Blueprint, Steps, Valves};
 use octets::OutOfMemory;
 use std::alloc::Global;
 use std::marker::Model;
@@ -47,23 +47,23 @@ pub struct HealthIndex {
     seen: Vec<Option<Checkers>>,
     /// By the slot of a set.
     seats: Vec<Seat>,
-    gates: Gates,
+    valves: Valves,
     /// The numbers of the checks before the last command, and what their checkers saw.
     ids_before: Vec<u32>,
     seen_before: Vec<Option<Checkers>>,
-    /// The sets with gates.
+    /// The sets with valves.
     refs: Vec<SetRef>,
-    /// The sets of target groups with gates; and while all is laid out, the sets that had gates.
+    /// The sets of target groups with valves; and while all is laid out, the sets that had valves.
     members: Vec<SetRef>,
     /// What was planned: of use while all is laid out.
-    plan: Plan,
+    blueprint: Blueprint,
     /// Where a set that came is read.
     scratch: Scratch,
 }
 
 impl Model for HealthIndex {
     ghost use Rattle.std.specs.Prelude.{◌+◌, length, vec_capacity};
-    ghost use Rattle.health_index.specs.Index.{Index, IsWhole};
+    ghost use Rattle.health_index.specs.Index.{Index, IsIntact};
 
     ghost Value = { Index };
 
@@ -73,7 +73,7 @@ impl Model for HealthIndex {
       seats = i.seats.items;
       refs = i.refs.items;
       members = i.members.items;
-      gates = i.gates;
+      valves = i.valves;
       space = record {
         ids = vec_capacity i.ids;
         seen = vec_capacity i.seen;
@@ -82,18 +82,18 @@ impl Model for HealthIndex {
         seats = vec_capacity i.seats;
         refs = vec_capacity i.refs;
         members = vec_capacity i.members;
-        shapes = i.plan.room + length i.plan.shapes;
-        links = i.plan.links_room + length i.plan.links;
+        triggers = i.blueprint.room + length i.blueprint.triggers;
+        links = i.blueprint.links_room + length i.blueprint.links;
       };
     } };
 
-    ghost invariant = { λ i. IsWhole (record {
+    ghost invariant = { λ i. IsIntact (record {
       ids = i.ids.items;
       seen = i.seen.items;
       seats = i.seats.items;
       refs = i.refs.items;
       members = i.members.items;
-      gates = i.gates;
+      valves = i.valves;
       space = record {
         ids = vec_capacity i.ids;
         seen = vec_capacity i.seen;
@@ -102,8 +102,8 @@ impl Model for HealthIndex {
         seats = vec_capacity i.seats;
         refs = vec_capacity i.refs;
         members = vec_capacity i.members;
-        shapes = i.plan.room + length i.plan.shapes;
-        links = i.plan.links_room + length i.plan.links;
+        triggers = i.blueprint.room + length i.blueprint.triggers;
+        links = i.blueprint.links_room + length i.blueprint.links;
       };
     }) };
 }
@@ -139,12 +139,12 @@ impl HealthIndex {
             ids: Vec::new(alloc),
             seen: Vec::new(alloc),
             seats: Vec::new(alloc),
-            gates: Gates::new(alloc),
+            valves: Valves::new(alloc),
             ids_before: Vec::new(alloc),
             seen_before: Vec::new(alloc),
             refs: Vec::new(alloc),
             members: Vec::new(alloc),
-            plan: Plan::new(alloc),
+            blueprint: Blueprint::new(alloc),
             scratch,
         }
     }
@@ -169,8 +169,8 @@ impl HealthIndex {
             &mut self.seats,
             &mut self.refs,
             &mut self.members,
-            &mut self.plan,
-            &mut self.gates,
+            &mut self.blueprint,
+            &mut self.valves,
             zones.slots(),
         );
         each_ok(now, before, slots)
@@ -182,7 +182,7 @@ impl HealthIndex {
     /// Where sets gave way to others that the same check alone decides, or nothing, and else sets
     /// that nothing decides went and came, but in no group to which an evaluated alias leads, it
     /// costs a look at these and at their groups, and a comparison of those that came with those that
-    /// went. Otherwise all gates are laid out anew: it costs what the configuration has of checks and
+    /// went. Otherwise all valves are laid out anew: it costs what the configuration has of checks and
     /// of sets that something decides, with their target groups, and had of them before. Of the other
     /// sets it asks only those that came, and their seats stay as they are.
     pub fn on_command(&mut self, zones: &Zones, checks: &CheckTable, delta: &Delta)
@@ -194,26 +194,26 @@ impl HealthIndex {
             → StandsFor zones.now.zones checks.now.checks reports self.new }
 
         // Where the sets that went and came are of this kind, the index stays as it is.
-        ensures same { LeavesGates zones.now.zones self.old.seats delta.now
+        ensures same { KeepsValves zones.now.zones self.old.seats delta.now
             → self.new ≡ self.old }
     {
         zones.well_formed();
         zones.slots_apart();
-        if leaves_gates(zones, &self.seats, delta, &mut self.scratch) {
+        if leaves_valves(zones, &self.seats, delta, &mut self.scratch) {
             return;
         }
         self.lay(zones, checks, false, delta.added.as_slice());
     }
 
     /// Lays everything out anew, with what the checkers saw. All sets are asked whether something
-    /// decides them, or those that had gates and those that came. It takes no memory.
+    /// decides them, or those that had valves and those that came. It takes no memory.
     fn lay(&mut self, zones: &Zones, checks: &CheckTable, whole: bool, came: &[SetRef])
         requires room { HasRoom self.old zones.now.slots }
         requires sound { IsSound (watched_of zones.now.zones checks.now.checks) }
         ensures first { self.old.ids ≡ [] → whole ≡ true
             → StandsFor zones.now.zones checks.now.checks [] self.new }
         ensures stands { (before : List Zone) (old : Checks) (reports : List Report)
-            → StandsFor before old reports self.old → Follows old checks.now.checks
+            → StandsFor before old reports self.old → AreLater old checks.now.checks
             → AreAsked zones.now.zones whole self.old.refs came.now
             → StandsFor zones.now.zones checks.now.checks reports self.new }
     {
@@ -229,8 +229,8 @@ impl HealthIndex {
         clear_seats(&mut self.seats, &self.refs, &self.members, zones.slots());
         mem::swap(&mut self.refs, &mut self.members);
         self.refs.clear();
-        self.plan.clear();
-        plan_gates(
+        self.blueprint.clear();
+        plan_valves(
             zones,
             checks,
             &self.ids,
@@ -240,9 +240,9 @@ impl HealthIndex {
             came,
             &mut self.refs,
             &mut self.seats,
-            &mut self.plan,
+            &mut self.blueprint,
         );
-        self.gates.lay_out(&mut self.plan);
+        self.valves.lay_out(&mut self.blueprint);
     }
 
     /// Takes a report of an endpoint check. The answer is whether its status changed. A report of
@@ -263,7 +263,7 @@ impl HealthIndex {
             → IsTrue result
             ↔ (status checks.list (reported id checker pass ∷ reports) id
             ≢ status checks.list reports id) }
-        // No gate is worked out where the status stays.
+        // No valve is worked out where the status stays.
         ensures quiet { result ≡ false → steps.new ≡ steps.old }
         // Otherwise as many are as there are nodes above the check at most, itself too.
         ensures cost { (zones : List Zone) (checks : Checks) (reports : List Report)
@@ -283,7 +283,7 @@ impl HealthIndex {
         let Some(passing) = take_result(self.seen.as_mut_slice(), place, checker, pass) else {
             return false;
         };
-        self.gates
+        self.valves
             .take_count(place as u32, u32::from(passing), steps)
     }
 
@@ -292,7 +292,7 @@ impl HealthIndex {
     pub fn has_node(&self, node: u32) -> bool
         ensures { IsTrue result ↔ HasNode self.now node }
     {
-        (node as usize) < self.gates.len()
+        (node as usize) < self.valves.len()
     }
 
     /// Works a node out anew, which is one step. The answer is whether its value changed.
@@ -306,25 +306,25 @@ impl HealthIndex {
             → IsLaidFor zones checks reports self.old → IsNumberOf zones self.old node n
             → WorksOut zones checks reports n self.old self.new result }
 
-        // The same of its gate.
-        ensures meets { (net : Net) (own : ℕ → ℕ) → Fits net own self.old.gates
-            → MeetsEquation net own (value_of self.new.gates) node }
-        ensures spares { (net : Net) (own : ℕ → ℕ) (n : ℕ) → Fits net own self.old.gates
+        // The same of its valve.
+        ensures meets { (net : Net) (own : ℕ → ℕ) → ValvesStandFor net own self.old.valves
+            → MeetsEquation net own (value_of self.new.valves) node }
+        ensures spares { (net : Net) (own : ℕ → ℕ) (n : ℕ) → ValvesStandFor net own self.old.valves
             → n ≢ node → (Feeds net node n → ⊥)
-            → MeetsEquation net own (value_of self.old.gates) n
-            → MeetsEquation net own (value_of self.new.gates) n }
+            → MeetsEquation net own (value_of self.old.valves) n
+            → MeetsEquation net own (value_of self.new.valves) n }
         ensures others { (n : ℕ) → n ≢ node
-            → value_of self.new.gates n ≡ value_of self.old.gates n }
+            → value_of self.new.valves n ≡ value_of self.old.valves n }
         ensures changed { IsTrue result
-            ↔ (value_of self.new.gates node ≢ value_of self.old.gates node) }
+            ↔ (value_of self.new.valves node ≢ value_of self.old.valves node) }
 
-        ensures rest { self.new ≡ record self.old { gates = self.new.gates } }
-        ensures fits { (net : Net) (own : ℕ → ℕ) → Fits net own self.old.gates
-            → Fits net own self.new.gates }
-        ensures idle { IsIdle self.new.gates }
+        ensures rest { self.new ≡ record self.old { valves = self.new.valves } }
+        ensures fits { (net : Net) (own : ℕ → ℕ) → ValvesStandFor net own self.old.valves
+            → ValvesStandFor net own self.new.valves }
+        ensures idle { IsIdle self.new.valves }
     {
         views_agree();
-        self.gates.eval_node(node, steps)
+        self.valves.eval_node(node, steps)
     }
 
     /// The status of a check, and how many of its checkers see a pass, or how many of its children
@@ -337,8 +337,8 @@ impl HealthIndex {
         let Some(place) = place_near(&self.ids, id) else {
             return None;
         };
-        let number = short(self.gates.count(place));
-        Some((self.gates.value(place), number))
+        let number = short(self.valves.count(place));
+        Some((self.valves.value(place), number))
     }
 }
 
@@ -350,8 +350,8 @@ impl HealthView for HealthIndex {
     fn is_healthy(&self, set: SetRef) -> bool
         ensures { result ≡ healthy_in self.now set }
     {
-        match gate_of(&self.seats, set.slot) {
-            Some(gate) => self.gates.value(gate),
+        match valve_of(&self.seats, set.slot) {
+            Some(valve) => self.valves.value(valve),
             None => true,
         }
     }

@@ -1,6 +1,6 @@
 //! Laws over the definitions. Each stands as the contract of a function that does nothing.
 
-ghost use Rattle.health_index.specs.Laws.{CommandsFollow, IndexTells, NodesAreNumbered};
+ghost use Rattle.health_index.specs.Laws.{ChecksAreLater, IndexTells, NodesAreNumbered};
 ghost use Rattle.health_index.specs.Laws.{NodesHaveValues, StandsWhereAllMeet};
 
 use health_model::one_health;
@@ -15,8 +15,8 @@ pub fn index_tells_health()
 }
 
 /// A command on checks keeps the thresholds of endpoints, and gives no number twice.
-pub fn commands_follow()
-    ensures { CommandsFollow }
+pub fn checks_are_later()
+    ensures { ChecksAreLater }
 {}
 
 /// Each number is that of one node alone. Checks have one each, sets that something decides, and

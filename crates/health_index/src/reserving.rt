@@ -1,16 +1,16 @@
-//! Room in which all gates can be laid out anew.
+//! Room in which all valves can be laid out anew.
 
 ghost use Rattle.std.specs.Prelude.{◌≡◌, ◌≤◌, ◌<◌, ◌+◌, ◌*◌, ◌^◌, ℕ, IsOk, OnOk, length, vec_capacity};
-ghost use Rattle.health_gates.specs.Gates.{Fits, Net};
-ghost use Rattle.health_gates.specs.Laying.{HasRoomFor};
-ghost use Rattle.health_gates.specs.Pass.{IsIdle, MeetAll};
+ghost use Rattle.health_valves.specs.Valves.{ValvesStandFor, Net};
+ghost use Rattle.health_valves.specs.Laying.{HasRoomFor};
+ghost use Rattle.health_valves.specs.Pass.{IsIdle, MeetAll};
 
 use checker_state::Checkers;
-use health_gates::{Gates, Plan, make_room};
 use health_planning::{Seat, SetRef};
+use health_valves::{Blueprint, Valves, make_room};
 use octets::OutOfMemory;
 
-/// The most slots, so that gates and links have numbers.
+/// The most slots, so that valves and links have numbers.
 const MOST_SLOTS: usize = 1 << 29;
 
 /// The most checks.
@@ -41,50 +41,50 @@ pub fn room_for_checks(
     Ok(())
 }
 
-/// Makes room for all gates and links over so many slots. The seats, the listed sets, the noted
-/// members and the gates stay as they are; nothing is planned any more.
+/// Makes room for all valves and links over so many slots. The seats, the listed sets, the noted
+/// members and the valves stay as they are; nothing is planned any more.
 pub fn room_for_slots(
     seats: &mut Vec<Seat>,
     refs: &mut Vec<SetRef>,
     members: &mut Vec<SetRef>,
-    plan: &mut Plan,
-    gates: &mut Gates,
+    blueprint: &mut Blueprint,
+    valves: &mut Valves,
     slots: usize,
 ) -> Result<(), OutOfMemory>
     ensures seats { seats.new.items ≡ seats.old.items }
     ensures refs { refs.new.items ≡ refs.old.items }
     ensures members { members.new.items ≡ members.old.items }
-    ensures values { gates.new.values.items ≡ gates.old.values.items }
-    ensures stays { (net : Net) (own : ℕ → ℕ) → Fits net own gates.old → Fits net own gates.new }
-    ensures meet { (net : Net) (own : ℕ → ℕ) → MeetAll net own gates.old
-        → MeetAll net own gates.new }
-    ensures idle { IsIdle gates.old → IsIdle gates.new }
+    ensures values { valves.new.values.items ≡ valves.old.values.items }
+    ensures stays { (net : Net) (own : ℕ → ℕ) → ValvesStandFor net own valves.old → ValvesStandFor net own valves.new }
+    ensures meet { (net : Net) (own : ℕ → ℕ) → MeetAll net own valves.old
+        → MeetAll net own valves.new }
+    ensures idle { IsIdle valves.old → IsIdle valves.new }
 
     // No room is lost.
     ensures seats_kept { vec_capacity seats.old ≤ vec_capacity seats.new }
     ensures refs_kept { vec_capacity refs.old ≤ vec_capacity refs.new }
     ensures members_kept { vec_capacity members.old ≤ vec_capacity members.new }
-    ensures plan_kept { plan.old.room + length plan.old.shapes
-        ≤ plan.new.room + length plan.new.shapes }
-    ensures links_kept { plan.old.links_room + length plan.old.links
-        ≤ plan.new.links_room + length plan.new.links }
-    ensures gates_kept { (n m : ℕ) → HasRoomFor gates.old n m → HasRoomFor gates.new n m }
+    ensures blueprint_kept { blueprint.old.room + length blueprint.old.triggers
+        ≤ blueprint.new.room + length blueprint.new.triggers }
+    ensures links_kept { blueprint.old.links_room + length blueprint.old.links
+        ≤ blueprint.new.links_room + length blueprint.new.links }
+    ensures valves_kept { (n m : ℕ) → HasRoomFor valves.old n m → HasRoomFor valves.new n m }
 
     ensures few { OnOk result (slots ≤ 2 ^ 29) }
     ensures seats_room { OnOk result (slots ≤ vec_capacity seats.new) }
     ensures refs_room { OnOk result (slots ≤ vec_capacity refs.new) }
     ensures members_room { OnOk result (slots ≤ vec_capacity members.new) }
-    ensures plan_room { OnOk result (slots * 2 + 200 ≤ plan.new.room + length plan.new.shapes) }
+    ensures blueprint_room { OnOk result (slots * 2 + 200 ≤ blueprint.new.room + length blueprint.new.triggers) }
     ensures links_room { OnOk result
-        (slots * 3 + 51200 ≤ plan.new.links_room + length plan.new.links) }
-    ensures gates_room { OnOk result (HasRoomFor gates.new (slots * 2 + 200) (slots * 3 + 51200)) }
+        (slots * 3 + 51200 ≤ blueprint.new.links_room + length blueprint.new.links) }
+    ensures valves_room { OnOk result (HasRoomFor valves.new (slots * 2 + 200) (slots * 3 + 51200)) }
     ensures ready { slots ≤ 2 ^ 29 → slots ≤ vec_capacity seats.old → slots ≤ vec_capacity refs.old
         → slots ≤ vec_capacity members.old
-        → slots * 2 + 200 ≤ plan.old.room + length plan.old.shapes
-        → slots * 3 + 51200 ≤ plan.old.links_room + length plan.old.links
-        → HasRoomFor gates.old (slots * 2 + 200) (slots * 3 + 51200) → IsOk result }
+        → slots * 2 + 200 ≤ blueprint.old.room + length blueprint.old.triggers
+        → slots * 3 + 51200 ≤ blueprint.old.links_room + length blueprint.old.links
+        → HasRoomFor valves.old (slots * 2 + 200) (slots * 3 + 51200) → IsOk result }
 {
-    plan.clear();
+    blueprint.clear();
     if slots > MOST_SLOTS {
         return Err(OutOfMemory);
     }
@@ -99,10 +99,10 @@ pub fn room_for_slots(
     };
     let all = slots * 2 + CHECKS;
     let links = slots * 3 + CHECK_LINKS;
-    let Ok(()) = plan.reserve(all, links) else {
+    let Ok(()) = blueprint.reserve(all, links) else {
         return Err(OutOfMemory);
     };
-    let Ok(()) = gates.reserve(all, links) else {
+    let Ok(()) = valves.reserve(all, links) else {
         return Err(OutOfMemory);
     };
     Ok(())

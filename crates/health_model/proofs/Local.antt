@@ -5,7 +5,7 @@ use Rattle.std.proofs.lemmas.List.Elements.{Contains-append_left, Contains-appen
 use Rattle.calculated_health.specs.Status.{calculated_status, swapped_if}
 use Rattle.check_model.specs.declared.checks.Check.{Check}
 use Rattle.check_model.specs.declared.checks.Check.TheVariants.{Endpoint, Calculated}
-use Rattle.check_model.specs.Checks.{check_at, children_of}
+use Rattle.check_model.specs.Checks.{check_with, children_of}
 use Rattle.check_model.specs.Commands.{children_there}
 use Rattle.zone_model.specs.RTypeRecord.{RType}
 use Rattle.zone_model.specs.BodyRecord.{Body}
@@ -90,10 +90,10 @@ module _ (watched : Watched) (reports : List Report) (v w : Node → Bool) where
   pub local_same : (n : Node) → ((m : Node) → Contains (feeders watched n) m → v m ≡ w m)
       → local watched reports v n ≡ local watched reports w n
   local_same (CheckNode id) same =
-      there_same (check_at watched.checks id) (passing reports id)
+      there_same (check_with watched.checks id) (passing reports id)
       (λ child. v (CheckNode child)) (λ child. w (CheckNode child))
       (λ child m. same (CheckNode child)
-      (mapped_in CheckNode (children_there (check_at watched.checks id)) child m))
+      (mapped_in CheckNode (children_there (check_with watched.checks id)) child m))
   local_same (SetNode zone one) same =
       set_same (λ id. v (CheckNode id)) (λ id. w (CheckNode id))
       (λ name rtype. v (GroupNode zone name rtype)) (λ name rtype. w (GroupNode zone name rtype))

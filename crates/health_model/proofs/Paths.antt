@@ -2,7 +2,7 @@
 use Rattle.std.proofs.Common.{◌≡◌, ℕ, zero, suc, ◌+◌, ◌*◌, ◌≤◌, Bool, true, false, cond, List, [], ◌∷◌, map, Option, None, Some, sym, refl, subst, arith, inl, inr}
 use Rattle.std.specs.Prelude.{Contains}
 use Rattle.std.proofs.lemmas.List.Elements.{Contains-append_cases}
-use Rattle.check_model.specs.Checks.{check_at}
+use Rattle.check_model.specs.Checks.{check_with}
 use Rattle.check_model.specs.Commands.{children_there, starts_walk}
 use Rattle.zone_model.specs.RTypeRecord.{RType}
 use Rattle.zone_model.specs.BodyRecord.{Body}
@@ -62,12 +62,12 @@ module _ (watched : Watched) (sound : IsSound watched) (x : Node) where
       → Reaches watched feeds x (CheckNode id) → feeds ≤ depth
   check_path depth id none zero path = omega arith
   check_path zero id none (suc feeds) (is, (before, fed, rest)) =
-      let child = came_from CheckNode (children_there (check_at watched.checks id)) before fed in
-      absurd (no_child watched.checks [] (check_at watched.checks id) none child.0 child.1)
+      let child = came_from CheckNode (children_there (check_with watched.checks id)) before fed in
+      absurd (no_child watched.checks [] (check_with watched.checks id) none child.0 child.1)
   check_path (suc depth) id none (suc feeds) (is, (before, fed, rest)) =
-      let child = came_from CheckNode (children_there (check_at watched.checks id)) before fed in
+      let child = came_from CheckNode (children_there (check_with watched.checks id)) before fed in
       let le = check_path depth child.0 (none_among (starts_walk depth watched.checks)
-      (children_there (check_at watched.checks id)) child.0 none child.1) feeds
+      (children_there (check_with watched.checks id)) child.0 none child.1) feeds
       (subst (Reaches watched feeds x) child.2 rest) in
       omega (arith, le)
 

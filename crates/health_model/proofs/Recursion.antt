@@ -4,7 +4,7 @@ use Rattle.std.specs.List.{AllByRecursion, list_any}
 use Rattle.std.proofs.lemmas.Bool.{false≢true, false_from_ne_true, or_parts}
 use Rattle.check_model.specs.declared.checks.Check.{Check}
 use Rattle.check_model.specs.declared.checks.Check.TheVariants.{Endpoint, Calculated}
-use Rattle.check_model.specs.Checks.{AreChildren, IsId, IsWalk, check_at, children_of}
+use Rattle.check_model.specs.Checks.{AreChildren, IsId, IsWalk, check_with, children_of}
 use Rattle.check_model.specs.Commands.{children_there, is_calculated_there, starts_walk}
 use Rattle.check_model.proofs.Members.{all_at}
 use Rattle.check_model.proofs.Walks.{stands_there, walks_told}
@@ -55,17 +55,17 @@ module _ (checks : List (ℕ × Check)) (reports : List Report) where
   deeper : (depth id : ℕ) → starts_walk depth checks id ≡ false
       → status_within depth checks reports id ≡ status_within (suc depth) checks reports id
   deeper zero id none =
-      there_same (check_at checks id) (passing reports id) none_healthy
+      there_same (check_with checks id) (passing reports id) none_healthy
       (status_within zero checks reports)
-      (λ child m. absurd (no_child (check_at checks id) none child m))
+      (λ child m. absurd (no_child (check_with checks id) none child m))
   deeper (suc depth) id none =
-      there_same (check_at checks id) (passing reports id) (status_within depth checks reports)
+      there_same (check_with checks id) (passing reports id) (status_within depth checks reports)
       (status_within (suc depth) checks reports)
       (λ child m. deeper depth child (none_among (starts_walk depth checks)
-      (children_there (check_at checks id)) child none m))
+      (children_there (check_with checks id)) child none m))
 
   children_known : AllByRecursion (λ held. AreChildren checks (children_of held.1)) checks
-      → (id : ℕ) (found : Option Check) → check_at checks id ≡ found
+      → (id : ℕ) (found : Option Check) → check_with checks id ≡ found
       → (child : ℕ) → IsAmong (children_there found) child → IsId checks child
   children_known are id None at child m = absurd m
   children_known are id (Some check) at child m =
@@ -165,19 +165,19 @@ module _ (watched : Watched) (reports : List Report) (sound : IsSound watched) w
           → v (CheckNode id) ≡ status_within depth watched.checks reports id
       check_by zero id is none =
           meets (CheckNode id) is
-          ∙ there_same (check_at watched.checks id) (passing reports id)
+          ∙ there_same (check_with watched.checks id) (passing reports id)
           (λ child. v (CheckNode child)) none_healthy
-          (λ child m. absurd (no_child watched.checks reports (check_at watched.checks id) none
+          (λ child m. absurd (no_child watched.checks reports (check_with watched.checks id) none
           child m))
       check_by (suc depth) id is none =
           meets (CheckNode id) is
-          ∙ there_same (check_at watched.checks id) (passing reports id)
+          ∙ there_same (check_with watched.checks id) (passing reports id)
           (λ child. v (CheckNode child)) (status_within depth watched.checks reports)
           (λ child m. check_by depth child
-          (children_known watched.checks reports sound.children id (check_at watched.checks id) refl
+          (children_known watched.checks reports sound.children id (check_with watched.checks id) refl
           child m)
           (none_among (starts_walk depth watched.checks)
-          (children_there (check_at watched.checks id)) child none m))
+          (children_there (check_with watched.checks id)) child none m))
 
       check_is : (id : ℕ) → IsId watched.checks id
           → v (CheckNode id) ≡ status watched.checks reports id

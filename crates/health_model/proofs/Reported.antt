@@ -6,7 +6,7 @@ use Rattle.std.proofs.lemmas.Bool.{eq-eqb, ne_eqb}
 use Rattle.calculated_health.specs.Status.{endpoint_status, swapped_if}
 use Rattle.check_model.specs.declared.checks.Check.{Check}
 use Rattle.check_model.specs.declared.checks.Check.TheVariants.{Endpoint, Calculated}
-use Rattle.check_model.specs.Checks.{check_at}
+use Rattle.check_model.specs.Checks.{check_with}
 use Rattle.checker_state.specs.Standing.{numbers, with_result}
 use Rattle.checker_state.specs.View.{view_of}
 use Rattle.health_model.specs.Healthy.{Watched}
@@ -65,7 +65,7 @@ module _ (report : Report) (reports : List Report) where
   equations : (watched : Watched) (v : Node → Bool) (n : Node) → n ≢ CheckNode report.check
       → local watched (report ∷ reports) v n ≡ local watched reports v n
   equations watched v (CheckNode id) other =
-      value_kept id (λ e. other (ap CheckNode e)) (check_at watched.checks id)
+      value_kept id (λ e. other (ap CheckNode e)) (check_with watched.checks id)
       (λ child. v (CheckNode child))
   equations watched v (SetNode zone one) other = refl
   equations watched v (GroupNode zone name rtype) other = refl

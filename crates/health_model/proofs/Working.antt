@@ -5,7 +5,7 @@ use Rattle.std.proofs.lemmas.Bool.{false≢true}
 use Rattle.check_model.proofs.Members.{further}
 use Rattle.health_model.specs.Healthy.{Watched}
 use Rattle.health_model.specs.Laws.{OneNode, OnePass}
-use Rattle.health_model.specs.Nodes.{Evaluates, FeedersFirst, IsNode, Meets, Node, Passes, feeders, local}
+use Rattle.health_model.specs.Nodes.{Evaluates, FeedersFirst, IsNode, Meets, Node, WorksOut, feeders, local}
 use Rattle.health_model.specs.Statuses.{Report}
 use Rattle.health_model.proofs.Local.{local_same}
 use Rattle.health_model.proofs.Members.{at_first, first_or_rest, nothing_in}
@@ -77,7 +77,7 @@ module _ (watched : Watched) (reports : List Report) where
           (λ fed. beyond ne (closed n m is (at_first n rest) fed)) (meets m is (beyond ne)))
 
   mends : (rest : List Node) (v w : Node → Bool) → FeedersFirst watched rest → IsClosed rest
-      → Passes watched reports rest v w
+      → WorksOut watched reports rest v w
       → ((m : Node) → IsNode watched m → (Contains rest m → ⊥) → Meets watched reports v m)
       → (m : Node) → IsNode watched m → Meets watched reports w m
   mends [] v w first closed passed meets m is =

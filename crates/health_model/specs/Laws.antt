@@ -1,6 +1,6 @@
 -- What the local equations determine, and what working out leaves.
 use Rattle.std.specs.Prelude.{◌≡◌, ◌≢◌, ℕ, ◌≤◌, Bool, true, List, [], ◌∷◌, map, Contains}
-use Rattle.check_model.specs.Checks.{AreDistinct, check_at}
+use Rattle.check_model.specs.Checks.{AreDistinct, check_with}
 use Rattle.check_model.specs.declared.checks.Check.{Check}
 use Rattle.zone_model.specs.RTypeRecord.{RType}
 use Rattle.checker_state.specs.Standing.{with_result}
@@ -9,7 +9,7 @@ use Rattle.zone_model.specs.SetKeyRecord.{SetKey}
 use Rattle.zone_model.specs.Sets.{key_of}
 use Rattle.zone_model.specs.Zones.{IsAmong, group}
 use Rattle.health_model.specs.Healthy.{Watched, healthy, healthy_sets, sets_of}
-use Rattle.health_model.specs.Nodes.{CheckNode, Evaluates, GroupNode, InCone, IsConeOf, IsNode, Meets, Node, Passes, Reaches, feeders, local, truth}
+use Rattle.health_model.specs.Nodes.{CheckNode, Evaluates, GroupNode, InCone, IsConeOf, IsNode, Meets, Node, WorksOut, Reaches, feeders, local, truth}
 use Rattle.health_model.specs.Sound.{IsSound}
 use Rattle.health_model.specs.Statuses.{AreReports, Report, results_of}
 
@@ -42,7 +42,7 @@ abbrev pub OnePass : Type 0
 OnePass =
     (watched : Watched) (reports : List Report) (x : Node) (cone : List Node)
     → IsConeOf watched x cone
-    → (v w : Node → Bool) → Passes watched reports cone v w
+    → (v w : Node → Bool) → WorksOut watched reports cone v w
     → ((n : Node) → IsNode watched n → (InCone watched x n → ⊥) → Meets watched reports v n)
     → (n : Node) → IsNode watched n → Meets watched reports w n
 
@@ -75,7 +75,7 @@ NewCheckHasNone =
 abbrev pub OneCheckChanges : Type 0
 OneCheckChanges =
     (watched : Watched) (checks : List (ℕ × Check)) (id : ℕ)
-    → ((other : ℕ) → other ≢ id → check_at checks other ≡ check_at watched.checks other)
+    → ((other : ℕ) → other ≢ id → check_with checks other ≡ check_with watched.checks other)
     → (reports : List Report) (v : Node → Bool) (n : Node) → n ≢ CheckNode id
     → local (record watched { checks = checks }) reports v n ≡ local watched reports v n
 

@@ -4,7 +4,7 @@ use Rattle.zone_model.specs.RTypeRecord.{RType}
 use Rattle.zone_model.specs.BodyRecord.{Body}
 use Rattle.zone_model.specs.BodyRecord.TheVariants as body
 use Rattle.zone_model.specs.RecordSetRecord.{RecordSet}
-use Rattle.check_model.specs.Checks.{IsId, check_at}
+use Rattle.check_model.specs.Checks.{IsId, check_with}
 use Rattle.check_model.specs.Commands.{children_there}
 use Rattle.zone_model.specs.Zones.{IsAmong, group}
 use Rattle.health_model.specs.Healthy.{Watched, group_value, healthy, set_value, sets_of}
@@ -37,7 +37,7 @@ its_target zone rtype (body.Alias target evaluate) =
 -- A child feeds its calculated check, a check each set that names it, a set its group, a group each
 -- evaluated alias whose target group it is.
 abbrev pub feeders : Watched → Node → List Node
-feeders watched (CheckNode id) = map CheckNode (children_there (check_at watched.checks id))
+feeders watched (CheckNode id) = map CheckNode (children_there (check_with watched.checks id))
 feeders watched (SetNode zone set) = its_check set.check ++ its_target zone set.rtype set.body
 feeders watched (GroupNode zone name rtype) =
     map (SetNode zone) (group (sets_of watched zone) name rtype)
@@ -48,7 +48,7 @@ feeders watched (GroupNode zone name rtype) =
 -- its fifty views.
 abbrev pub local : Watched → List Report → (Node → Bool) → Node → Bool
 local watched reports v (CheckNode id) =
-    value_there (check_at watched.checks id) (passing reports id) (λ child. v (CheckNode child))
+    value_there (check_with watched.checks id) (passing reports id) (λ child. v (CheckNode child))
 local watched reports v (SetNode zone set) =
     set_value (λ id. v (CheckNode id)) (λ name rtype. v (GroupNode zone name rtype)) set
 local watched reports v (GroupNode zone name rtype) =
@@ -99,7 +99,7 @@ pub record Evaluates (watched : Watched) (reports : List Report) (n : Node) (v w
   pub others : (m : Node) → m ≢ n → w m ≡ v m
 
 -- One pass over some nodes, in their order.
-abbrev pub Passes : Watched → List Report → List Node → (v w : Node → Bool) → Type 0
-Passes watched reports [] v w = (m : Node) → w m ≡ v m
-Passes watched reports (n ∷ rest) v w =
-    (u : Node → Bool) × Evaluates watched reports n v u × Passes watched reports rest u w
+abbrev pub WorksOut : Watched → List Report → List Node → (v w : Node → Bool) → Type 0
+WorksOut watched reports [] v w = (m : Node) → w m ≡ v m
+WorksOut watched reports (n ∷ rest) v w =
+    (u : Node → Bool) × Evaluates watched reports n v u × WorksOut watched reports rest u w

@@ -5,7 +5,7 @@ use Rattle.std.specs.List.{AllByRecursion, filter}
 use Rattle.calculated_health.specs.Status.{calculated_status, endpoint_status, swapped_if}
 use Rattle.check_model.specs.declared.checks.Check.{Check}
 use Rattle.check_model.specs.declared.checks.Check.TheVariants.{Endpoint, Calculated}
-use Rattle.check_model.specs.Checks.{check_at}
+use Rattle.check_model.specs.Checks.{check_with}
 use Rattle.checker_state.specs.Standing.{passing_of}
 
 -- what a checker reported of a check
@@ -48,9 +48,9 @@ none_healthy child = false
 -- that no child counts.
 abbrev pub status_within : (depth : ℕ) → List (ℕ × Check) → List Report → (id : ℕ) → Bool
 status_within zero checks reports id =
-    value_there (check_at checks id) (passing reports id) none_healthy
+    value_there (check_with checks id) (passing reports id) none_healthy
 status_within (suc depth) checks reports id =
-    value_there (check_at checks id) (passing reports id) (status_within depth checks reports)
+    value_there (check_with checks id) (passing reports id) (status_within depth checks reports)
 
 -- No walk of five checks stands, so a depth of four is enough.
 unfoldable pub status : List (ℕ × Check) → List Report → (id : ℕ) → Bool
@@ -70,7 +70,7 @@ abbrev pub status_told : List (ℕ × Check) → List Report → (id : ℕ) → 
 status_told checks reports id = option_map (λ check. (
   status checks reports id,
   number_told check (passing reports id) (status checks reports),
-)) (check_at checks id)
+)) (check_with checks id)
 
 -- Each report is of a check that there was, by a number below the next one, and of one of the fifty
 -- checkers.

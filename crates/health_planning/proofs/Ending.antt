@@ -1,5 +1,5 @@
--- Feeds between gates are feeds between the nodes whose gates they are: so no path is long, and no
--- cone has more gates than nodes.
+-- Feeds between valves are feeds between the nodes whose valves they are: so no path is long, and no
+-- cone has more valves than nodes.
 use Rattle.std.proofs.Common.{◌≡◌, ◌<◌, ◌≤◌, ℕ, zero, suc, Bool, true, false, List, [], ◌∷◌, ◌++◌, length, map, arith, refl, ap, sym, ◌∙◌, inl, inr, Some, None, Option}
 use Rattle.std.specs.Prelude.{Contains, slice_get}
 use Rattle.std.specs.Option.{option_to_list}
@@ -11,10 +11,10 @@ use Rattle.check_model.specs.Checks.{AreChildren, Checks, IsId, children_of}
 use Rattle.check_model.specs.Checks.{IsSound as AreSoundChecks}
 use Rattle.check_model.specs.Commands.{children_there}
 use Rattle.check_model.specs.declared.checks.Check.{Check}
-use Rattle.health_gates.proofs.Members.{in_cases, in_head, in_tail}
-use Rattle.health_gates.specs.Gates.{Feeds, Net}
-use Rattle.health_gates.specs.Pass.{AreOfCone}
-use Rattle.health_gates.specs.Walk.{EachOnce, Leads, PathsEnd as GatesEnd}
+use Rattle.health_valves.proofs.Members.{in_cases, in_head, in_tail}
+use Rattle.health_valves.specs.Valves.{Feeds, Net}
+use Rattle.health_valves.specs.Pass.{AreOfCone}
+use Rattle.health_valves.specs.Walk.{EachOnce, Leads, PathsEnd as ValvesEnd}
 use Rattle.health_model.proofs.Members.{at_first, first_or_rest, mapped_in, member_of, nothing_in, of_member}
 use Rattle.health_model.specs.Healthy.{Watched, sets_of as sets_at}
 use Rattle.health_model.specs.Laws.{PathsEnd}
@@ -27,9 +27,9 @@ use Rattle.record_set.specs.declared.sets.Body.TheVariants as body
 use Rattle.record_set.specs.declared.sets.RecordSet.{RecordSet}
 use Rattle.policy_select.proofs.MembersOfZoneList.{one_of_key, put_or_in, set_in}
 use Rattle.policy_select.specs.Zones.{AreZones, Zone, placed_in}
-use Rattle.zone_model.specs.Placed.{IsHere, Placed}
+use Rattle.zone_model.specs.Slotted.{IsHere, Slotted}
 use Rattle.zone_model.specs.Zones.{IsAmong, group}
-use Rattle.health_planning.specs.Wired.{AreMembers, IsGateFor, IsGroupGate, IsSeated, IsSetGate, IsTarget, gates_of, group_seat, ids_of, is_watched, place_of, seat_of, watched_of, with_gate}
+use Rattle.health_planning.specs.Wired.{AreMembers, IsValveFor, IsGroupValve, IsSeated, IsSetValve, IsTarget, valves_of, group_seat, ids_of, is_watched, place_of, seat_of, watched_of, with_valve}
 use Rattle.health_planning.specs.declared.seats.Seat.{Seat}
 use Rattle.health_planning.proofs.Places.{id_at, of_all, one_place}
 use Rattle.health_planning.proofs.Places.{found}
@@ -44,21 +44,21 @@ came_from f (x ∷ xs) y m = elim (first_or_rest (f x) (map f xs) y m) [
   | inr rest ↦ (let more = came_from f xs y rest in (more.0, inr more.1, more.2))
 ]
 
--- the member of a group whose gate this is
-pub member_gate : (seats : List Seat) (members : List Placed) (gate : ℕ)
-    → Contains (gates_of seats members) gate
-    → (p : Placed) × IsHere members p × (seat_of seats p.slot ≡ suc gate)
-member_gate seats [] gate m = absurd (nothing_in gate m)
-member_gate seats (p ∷ members) gate m =
-    by (seat_of seats p.slot) refl (member_gate seats members gate) m
+-- the member of a group whose valve this is
+pub member_valve : (seats : List Seat) (members : List Slotted) (valve : ℕ)
+    → Contains (valves_of seats members) valve
+    → (p : Slotted) × IsHere members p × (seat_of seats p.slot ≡ suc valve)
+member_valve seats [] valve m = absurd (nothing_in valve m)
+member_valve seats (p ∷ members) valve m =
+    by (seat_of seats p.slot) refl (member_valve seats members valve) m
   where
     by : (n : ℕ) → seat_of seats p.slot ≡ n
-        → (Contains (gates_of seats members) gate
-        → (q : Placed) × IsHere members q × (seat_of seats q.slot ≡ suc gate))
-        → Contains (with_gate n (gates_of seats members)) gate
-        → (q : Placed) × IsHere (p ∷ members) q × (seat_of seats q.slot ≡ suc gate)
+        → (Contains (valves_of seats members) valve
+        → (q : Slotted) × IsHere members q × (seat_of seats q.slot ≡ suc valve))
+        → Contains (with_valve n (valves_of seats members)) valve
+        → (q : Slotted) × IsHere (p ∷ members) q × (seat_of seats q.slot ≡ suc valve)
     by zero e rest m = let r = rest m in (r.0, inr r.1, r.2)
-    by (suc first) e rest m = elim (first_or_rest first (gates_of seats members) gate m) [
+    by (suc first) e rest m = elim (first_or_rest first (valves_of seats members) valve m) [
       | inl same ↦ (p, inl refl, e ∙ ap suc same)
       | inr more ↦ (let r = rest more in (r.0, inr r.1, r.2))
     ]
@@ -102,38 +102,38 @@ module _ {X : Type 0} where
       let fewer = length-append parts.0 parts.1.0 in
       omega arith
 
--- ---- gates and nodes
+-- ---- valves and nodes
 
--- the gate of a set stands as that of a watched one
-pub record HasRule (zones : List Zone) (ids : List ℕ) (seats : List Seat) (net : Net) (own : ℕ → ℕ)
-    (zone : ℕ) (p : Placed) (gate : ℕ) : Type 0 where
-  pub is : IsSetGate zones ids seats net own zone p.set gate
+-- the valve of a set stands as that of a watched one
+pub record HasCondition (zones : List Zone) (ids : List ℕ) (seats : List Seat) (net : Net) (own : ℕ → ℕ)
+    (zone : ℕ) (p : Slotted) (valve : ℕ) : Type 0 where
+  pub is : IsSetValve zones ids seats net own zone p.set valve
 
--- where each set is seated, a gate that its seat tells is its own
-pub rule_seated : (zones : List Zone) (ids : List ℕ) (seats : List Seat) (net : Net) (own : ℕ → ℕ)
-    → ((zone : ℕ) (p : Placed) → IsHere (placed_in zones zone) p
+-- where each set is seated, a valve that its seat tells is its own
+pub condition_seated : (zones : List Zone) (ids : List ℕ) (seats : List Seat) (net : Net) (own : ℕ → ℕ)
+    → ((zone : ℕ) (p : Slotted) → IsHere (placed_in zones zone) p
     → IsSeated zones ids seats net own zone p)
-    → (zone : ℕ) (p : Placed) (gate : ℕ) → IsHere (placed_in zones zone) p
-    → seat_of seats p.slot ≡ suc gate → HasRule zones ids seats net own zone p gate
-rule_seated zones ids seats net own seated zone p gate here seat = by (is_watched p.set) refl
+    → (zone : ℕ) (p : Slotted) (valve : ℕ) → IsHere (placed_in zones zone) p
+    → seat_of seats p.slot ≡ suc valve → HasCondition zones ids seats net own zone p valve
+condition_seated zones ids seats net own seated zone p valve here seat = by (is_watched p.set) refl
   where
-    by : (b : Bool) → is_watched p.set ≡ b → HasRule zones ids seats net own zone p gate
+    by : (b : Bool) → is_watched p.set ≡ b → HasCondition zones ids seats net own zone p valve
     by false off =
         let none = (seated zone p here).plain off in
         absurd (omega arith)
     by true on =
-        let g = (seated zone p here).gated on in
+        let g = (seated zone p here).valved on in
         let other = g.1 in
-        let same : g.0 ≡ gate = omega arith in
-        record { is = subst (IsSetGate zones ids seats net own zone p.set) same g.2 }
+        let same : g.0 ≡ valve = omega arith in
+        record { is = subst (IsSetValve zones ids seats net own zone p.set) same g.2 }
 
 module _ (zones : List Zone) (checks : Checks) (seats : List Seat) (net : Net) (own : ℕ → ℕ)
     (are_zones : AreZones zones) (are_checks : AreSoundChecks checks)
     (sound : IsSound (watched_of zones checks))
     (children : (place id : ℕ) (check : Check) → slice_get checks.list place ≡ Some (id, check)
-    → (net.rule place).feeders ≡ map (place_of (ids_of checks.list)) (children_of check))
-    (set_gate : (zone : ℕ) (p : Placed) (gate : ℕ) → IsHere (placed_in zones zone) p
-    → seat_of seats p.slot ≡ suc gate → HasRule zones (ids_of checks.list) seats net own zone p gate)
+    → (net.condition place).feeders ≡ map (place_of (ids_of checks.list)) (children_of check))
+    (set_valve : (zone : ℕ) (p : Slotted) (valve : ℕ) → IsHere (placed_in zones zone) p
+    → seat_of seats p.slot ≡ suc valve → HasCondition zones (ids_of checks.list) seats net own zone p valve)
   where
     abbrev watched : Watched
     watched = watched_of zones checks
@@ -141,20 +141,20 @@ module _ (zones : List Zone) (checks : Checks) (seats : List Seat) (net : Net) (
     abbrev its_ids : List ℕ
     its_ids = ids_of checks.list
 
-    abbrev IsGate : (gate : ℕ) → Node → Type 0
-    IsGate gate node = IsGateFor zones checks.list seats net own gate node
+    abbrev IsValve : (valve : ℕ) → Node → Type 0
+    IsValve valve node = IsValveFor zones checks.list seats net own valve node
 
-    -- a node, whose gate feeds that of another
-    pub record IsFeeder (gate : ℕ) (m : Node) : Type 0 where
+    -- a node, whose valve feeds that of another
+    pub record IsFeeder (valve : ℕ) (m : Node) : Type 0 where
       pub there : IsNode watched m
       pub node : Node
-      pub its : IsGate gate node
+      pub its : IsValve valve node
       pub feeds : Contains (feeders watched m) node
 
-    -- the gate of a check that is there
-    check_gate : (id gate : ℕ) → IsId checks.list id → gate ≡ place_of its_ids id
-        → IsGate gate (CheckNode id)
-    check_gate id gate (check, at) is =
+    -- the valve of a check that is there
+    check_valve : (id valve : ℕ) → IsId checks.list id → valve ≡ place_of its_ids id
+        → IsValve valve (CheckNode id)
+    check_valve id valve (check, at) is =
         (check, ap (slice_get checks.list) is ∙ found checks.list id check at)
 
     child_there : (place id : ℕ) (check : Check) → slice_get checks.list place ≡ Some (id, check)
@@ -163,38 +163,38 @@ module _ (zones : List Zone) (checks : Checks) (seats : List Seat) (net : Net) (
         let are = of_all (λ (held : ℕ × Check). AreChildren checks.list (children_of held.1)) checks.list place (id, check) are_checks.children at in
         all_at (IsId checks.list) (children_of check) child are.there m
 
-    feeds_check : (id gate : ℕ) (check : Check) (x : ℕ)
-        → slice_get checks.list gate ≡ Some (id, check) → Feeds net x gate
+    feeds_check : (id valve : ℕ) (check : Check) (x : ℕ)
+        → slice_get checks.list valve ≡ Some (id, check) → Feeds net x valve
         → IsFeeder x (CheckNode id)
-    feeds_check id gate check x at m =
-        let its = id_at checks.list gate id check are_checks.rising at in
+    feeds_check id valve check x at m =
+        let its = id_at checks.list valve id check are_checks.rising at in
         let child = came_from (place_of its_ids) (children_of check) x
-        (subst (λ (l : List ℕ). Contains l x) (children gate id check at) m) in
+        (subst (λ (l : List ℕ). Contains l x) (children valve id check at) m) in
         record {
           there = (check, its);
           node = CheckNode child.0;
-          its = check_gate child.0 x (child_there gate id check at child.0 (of_member (children_of check) child.0 child.1)) child.2;
+          its = check_valve child.0 x (child_there valve id check at child.0 (of_member (children_of check) child.0 child.1)) child.2;
           feeds = subst (λ (o : Option Check). Contains (map CheckNode (children_there o)) (CheckNode child.0)) (sym its)
               (mapped_in CheckNode (children_of check) child.0 child.1);
         }
 
     -- a set is one of those of its zone, as health sees them
-    watched_set : (zone : ℕ) (p : Placed) → IsHere (placed_in zones zone) p
+    watched_set : (zone : ℕ) (p : Slotted) → IsHere (placed_in zones zone) p
         → IsAmong (sets_at watched zone) p.set
     watched_set zone p here =
         subst (λ (l : List RecordSet). IsAmong l p.set) (sym (zone_sets zones checks zone))
         (set_in (placed_in zones zone) p here)
 
-    check_named : (zone : ℕ) (p : Placed) → IsHere (placed_in zones zone) p → (x : ℕ)
+    check_named : (zone : ℕ) (p : Slotted) → IsHere (placed_in zones zone) p → (x : ℕ)
         → (named : Option ℕ) → p.set.check ≡ named
         → Contains (map (place_of its_ids) (option_to_list named)) x
-        → (id : ℕ) × (IsGate x (CheckNode id) × Contains (its_check p.set.check) (CheckNode id))
+        → (id : ℕ) × (IsValve x (CheckNode id) × Contains (its_check p.set.check) (CheckNode id))
     check_named zone p here x None is m = absurd (nothing_in x m)
     check_named zone p here x (Some id) is m = elim (first_or_rest (place_of its_ids id) [] x m) [
       | inl same ↦ (
         id,
         (
-          check_gate id x (sound.checks zone p.set id (watched_set zone p here) is) (sym same),
+          check_valve id x (sound.checks zone p.set id (watched_set zone p here) is) (sym same),
           subst (λ (o : Option ℕ). Contains (its_check o) (CheckNode id)) (sym is) (at_first (CheckNode id) []),
         ),
       )
@@ -203,28 +203,28 @@ module _ (zones : List Zone) (checks : Checks) (seats : List Seat) (net : Net) (
 
     target_named : (zone : ℕ) (rtype : RType) (its : Body) (target : List ℕ) (x : ℕ)
         → IsTarget zones (length its_ids) seats net own zone rtype its target → Contains target x
-        → (node : Node) × (IsGate x node × Contains (its_target zone rtype its) node)
+        → (node : Node) × (IsValve x node × Contains (its_target zone rtype its) node)
     target_named zone rtype (body.Values ttl values) target x is m =
         absurd (nothing_in x (subst (λ (l : List ℕ). Contains l x) is m))
     target_named zone rtype (body.Alias name evaluate) target x (inl (off, is)) m =
         absurd (nothing_in x (subst (λ (l : List ℕ). Contains l x) is m))
-    target_named zone rtype (body.Alias name evaluate) target x (inr (on, (gate, is, (members, are, w)))) m =
-        elim (first_or_rest gate [] x (subst (λ (l : List ℕ). Contains l x) is m)) [
+    target_named zone rtype (body.Alias name evaluate) target x (inr (on, (valve, is, (members, are, w)))) m =
+        elim (first_or_rest valve [] x (subst (λ (l : List ℕ). Contains l x) is m)) [
           | inl same ↦ (
             GroupNode zone name rtype,
             (
-              (members, (are, subst (λ (g : ℕ). IsGroupGate (length its_ids) seats net own members g) same w)),
+              (members, (are, subst (λ (g : ℕ). IsGroupValve (length its_ids) seats net own members g) same w)),
               rw on (at_first (GroupNode zone name rtype) []),
             ),
           )
           | inr rest ↦ absurd (nothing_in x rest)
         ]
 
-    feeds_set : (zone : ℕ) (p : Placed) (gate x : ℕ) → IsHere (placed_in zones zone) p
-        → seat_of seats p.slot ≡ suc gate → Feeds net x gate → IsFeeder x (SetNode zone p.set)
-    feeds_set zone p gate x here seat m =
-        let w = (set_gate zone p gate here seat).is in
-        let mine = subst (λ (l : List ℕ). Contains l x) (ap (λ r. r.feeders) w.rule) m in
+    feeds_set : (zone : ℕ) (p : Slotted) (valve x : ℕ) → IsHere (placed_in zones zone) p
+        → seat_of seats p.slot ≡ suc valve → Feeds net x valve → IsFeeder x (SetNode zone p.set)
+    feeds_set zone p valve x here seat m =
+        let w = (set_valve zone p valve here seat).is in
+        let mine = subst (λ (l : List ℕ). Contains l x) (ap (λ r. r.feeders) w.condition) m in
         elim (Contains-append_cases (map (place_of its_ids) (option_to_list p.set.check)) w.target x mine) [
           | inl named ↦
               let c = check_named zone p here x p.set.check refl named in
@@ -244,12 +244,12 @@ module _ (zones : List Zone) (checks : Checks) (seats : List Seat) (net : Net) (
               }
         ]
 
-    feeds_group : (zone : ℕ) (name : List (List ℕ)) (rtype : RType) (gate x : ℕ)
-        (members : List Placed) → AreMembers zones zone name rtype members
-        → IsGroupGate (length its_ids) seats net own members gate → Feeds net x gate
+    feeds_group : (zone : ℕ) (name : List (List ℕ)) (rtype : RType) (valve x : ℕ)
+        (members : List Slotted) → AreMembers zones zone name rtype members
+        → IsGroupValve (length its_ids) seats net own members valve → Feeds net x valve
         → IsFeeder x (GroupNode zone name rtype)
-    feeds_group zone name rtype gate x members are w m =
-        let member = member_gate seats members x (subst (λ (l : List ℕ). Contains l x) (ap (λ r. r.feeders) w.rule) m) in
+    feeds_group zone name rtype valve x members are w m =
+        let member = member_valve seats members x (subst (λ (l : List ℕ). Contains l x) (ap (λ r. r.feeders) w.condition) m) in
         let p = member.0 in
         let in_group : IsAmong (group (sets_at watched zone) name rtype) p.set =
         subst (λ (l : List RecordSet). IsAmong (group l name rtype) p.set) (sym (zone_sets zones checks zone))
@@ -261,18 +261,18 @@ module _ (zones : List Zone) (checks : Checks) (seats : List Seat) (net : Net) (
           feeds = mapped_in (SetNode zone) (group (sets_at watched zone) name rtype) p.set in_group;
         }
 
-    -- what feeds the gate of a node is the gate of one that feeds the node
-    pub feeder : (gate x : ℕ) (m : Node) → IsGate gate m → Feeds net x gate → IsFeeder x m
-    feeder gate x (CheckNode id) (check, at) m = feeds_check id gate check x at m
-    feeder gate x (SetNode zone set) (slot, (here, seat)) m =
-        feeds_set zone (record { slot = slot; set = set }) gate x here seat m
-    feeder gate x (GroupNode zone name rtype) (members, (are, w)) m =
-        feeds_group zone name rtype gate x members are w m
+    -- what feeds the valve of a node is the valve of one that feeds the node
+    pub feeder : (valve x : ℕ) (m : Node) → IsValve valve m → Feeds net x valve → IsFeeder x m
+    feeder valve x (CheckNode id) (check, at) m = feeds_check id valve check x at m
+    feeder valve x (SetNode zone set) (slot, (here, seat)) m =
+        feeds_set zone (record { slot = slot; set = set }) valve x here seat m
+    feeder valve x (GroupNode zone name rtype) (members, (are, w)) m =
+        feeds_group zone name rtype valve x members are w m
 
-    -- a path between gates is one between their nodes
-    path : (k x y : ℕ) (m : Node) → IsGate y m → Leads (Feeds net) k x y
-        → (n : Node) × (IsGate x n × Reaches watched k n m)
-    path zero x y m its leads = (m, (subst (λ (g : ℕ). IsGate g m) leads its, refl))
+    -- a path between valves is one between their nodes
+    path : (k x y : ℕ) (m : Node) → IsValve y m → Leads (Feeds net) k x y
+        → (n : Node) × (IsValve x n × Reaches watched k n m)
+    path zero x y m its leads = (m, (subst (λ (g : ℕ). IsValve g m) leads its, refl))
     path (suc k) x y m its (z, fed, leads) =
         let rest = path k z y m its leads in
         let f = feeder z x rest.0 rest.1.0 fed in
@@ -282,12 +282,12 @@ module _ (zones : List Zone) (checks : Checks) (seats : List Seat) (net : Net) (
     last_fed zero x y (z, fed, same) = (x, subst (Feeds net x) (sym same) fed)
     last_fed (suc k) x y (z, fed, more) = last_fed k z y more
 
-    module _ (nodes : (gate : ℕ) → gate < net.size → (node : Node) × IsGate gate node) where
+    module _ (nodes : (valve : ℕ) → valve < net.size → (node : Node) × IsValve valve node) where
       -- where all that is fed is there, no path is long
-      pub gates_end : PathsEnd → ((x y : ℕ) → Feeds net x y → y < net.size)
-          → GatesEnd (Feeds net) 64
-      unfolding GatesEnd
-      gates_end law there x y leads = too_long 63 x y (omega arith) leads
+      pub valves_end : PathsEnd → ((x y : ℕ) → Feeds net x y → y < net.size)
+          → ValvesEnd (Feeds net) 64
+      unfolding ValvesEnd
+      valves_end law there x y leads = too_long 63 x y (omega arith) leads
         where
           too_long : (k x y : ℕ) → 38 ≤ k → Leads (Feeds net) (suc k) x y → ⊥
           too_long k x y long leads =
@@ -297,21 +297,21 @@ module _ (zones : List Zone) (checks : Checks) (seats : List Seat) (net : Net) (
               let few = law watched sound p.0 m.0 p.1.1.0 (suc k) p.1.1 in
               omega arith
 
-      -- ---- each node has one gate, and that of a check is of nothing else
+      -- ---- each node has one valve, and that of a check is of nothing else
 
-      one_slot : (zone : ℕ) (p q : Placed) → IsHere (placed_in zones zone) p
+      one_slot : (zone : ℕ) (p q : Slotted) → IsHere (placed_in zones zone) p
           → IsHere (placed_in zones zone) q → p.set ≡ q.set → p.slot ≡ q.slot
       one_slot zone p q here there same =
-          ap (λ (x : Placed). x.slot) (one_of_key (placed_in zones zone) (rising_in zones are_zones.each zone) p q here there (ap key_of same))
+          ap (λ (x : Slotted). x.slot) (one_of_key (placed_in zones zone) (rising_in zones are_zones.each zone) p q here there (ap key_of same))
 
-      one_gate : (a b : ℕ) (m : Node) → IsGate a m → IsGate b m → a ≡ b
-      one_gate a b (CheckNode id) (c, first) (d, second) =
+      one_valve : (a b : ℕ) (m : Node) → IsValve a m → IsValve b m → a ≡ b
+      one_valve a b (CheckNode id) (c, first) (d, second) =
           one_place checks.list a b id c d are_checks.rising first second
-      one_gate a b (SetNode zone set) (s, (here, seat)) (t, (there, seat_two)) =
+      one_valve a b (SetNode zone set) (s, (here, seat)) (t, (there, seat_two)) =
           let same = one_slot zone (record { slot = s; set = set }) (record { slot = t; set = set }) here there refl in
           let seats_same = ap (seat_of seats) same in
           omega arith
-      one_gate a b (GroupNode zone name rtype) (xs, (are_xs, w)) (ys, (are_ys, v)) =
+      one_valve a b (GroupNode zone name rtype) (xs, (are_xs, w)) (ys, (are_ys, v)) =
           let same = first_same zones are_zones zone name rtype xs ys w.seat.0 v.seat.0 are_xs w.seat.1.0 are_ys v.seat.1.0 in
           let seats_same = ap (group_seat seats) same in
           let first = w.seat.1.1 in
@@ -320,28 +320,28 @@ module _ (zones : List Zone) (checks : Checks) (seats : List Seat) (net : Net) (
 
       of_check : (place id : ℕ) (check : Check) (n : Node)
           → slice_get checks.list place ≡ Some (id, check) → place < length its_ids
-          → IsGate place n → n ≡ CheckNode id
+          → IsValve place n → n ≡ CheckNode id
       of_check place id check (CheckNode other) at early (its, is) =
           ap CheckNode (ap (λ (h : ℕ × Check). h.0) (some_same (sym is ∙ at)))
         where
           some_same : {X : Type 0} {x y : X} → Some x ≡ Some y → x ≡ y
           some_same e = cc
       of_check place id check (SetNode zone set) at early (slot, (here, seat)) =
-          let w = (set_gate zone (record { slot = slot; set = set }) place here seat).is in
+          let w = (set_valve zone (record { slot = slot; set = set }) place here seat).is in
           let behind = w.behind in
           absurd (omega arith)
       of_check place id check (GroupNode zone name rtype) at early (members, (are, w)) =
           let behind = w.behind in
           absurd (omega arith)
 
-      -- a list of the cone of a check has at least as many nodes as gates are above the check's
+      -- a list of the cone of a check has at least as many nodes as valves are above the check's
       pub cone_long : (place id : ℕ) (check : Check) (walk : List ℕ) (cone : List Node)
           → slice_get checks.list place ≡ Some (id, check) → place < length its_ids
           → AreOfCone net (place ∷ []) walk
           → ((n : Node) → InCone watched (CheckNode id) n → Contains cone n)
           → length walk ≤ length cone
       cone_long place id check walk cone at early are has =
-          no_more IsGate one_gate walk cone are.once (λ y m.
+          no_more IsValve one_valve walk cone are.once (λ y m.
           let node = nodes y (are.within y m) in
           let above = are.above y m in
           let k = above.2.0 in

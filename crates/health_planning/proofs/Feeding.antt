@@ -1,4 +1,4 @@
--- What feeds the gates of checks and of sets.
+-- What feeds the valves of checks and of sets.
 use Rattle.std.proofs.Common.{◌≡◌, ◌≢◌, ◌<◌, ◌≤◌, ◌+◌, ℕ, zero, suc, List, [], ◌∷◌, ◌++◌, append-nil, length, map, arith, refl, ap, sym, ◌∙◌, inl, inr, Some, None, Option}
 use Rattle.std.specs.Prelude.{slice_get}
 use Rattle.std.specs.List.{AllByRecursion}
@@ -7,15 +7,15 @@ use Rattle.std.proofs.lemmas.Bool.{cases_eq, eq-eqb, ne_eqb}
 use Rattle.check_model.proofs.Members.{further}
 use Rattle.check_model.specs.Checks.{children_of}
 use Rattle.check_model.specs.declared.checks.Check.{Check}
-use Rattle.health_gates.specs.Plan.{feeders_in}
-use Rattle.health_gates.specs.declared.plan.Link.{Link}
+use Rattle.health_valves.specs.Blueprint.{feeders_in}
+use Rattle.health_valves.specs.declared.blueprint.Feeding.{Feeding}
 use Rattle.rdata_layout.specs.declared.types.RType.{RType}
 use Rattle.record_set.specs.declared.sets.Body.{Body}
 use Rattle.record_set.specs.declared.sets.Body.TheVariants as body
 use Rattle.record_set.specs.declared.sets.RecordSet.{RecordSet}
 use Rattle.policy_select.specs.Zones.{Zone}
-use Rattle.health_planning.specs.Building.{AreThere, AreWithin, FeedsSet, HasTargetGate, check_links, links_to}
-use Rattle.health_planning.specs.Wired.{group_seat, place_of, with_gate}
+use Rattle.health_planning.specs.Building.{AreThere, AreWithin, FeedsSet, HasTargetValve, check_links, links_to}
+use Rattle.health_planning.specs.Wired.{group_seat, place_of, with_valve}
 use Rattle.health_planning.specs.declared.seats.Seat.{Seat}
 use Rattle.health_planning.proofs.Grouped.{feeders_beside, feeders_more, feeders_to, to_within, within_more}
 
@@ -24,30 +24,30 @@ both e f = cc
 
 -- ---- links that come behind others
 
-pub fed_here : (links : List Link) (gate : ℕ) (feeders : List ℕ) → feeders_in links gate ≡ []
-    → feeders_in (links ++ links_to gate feeders) gate ≡ feeders
-fed_here links gate feeders none =
-    feeders_more links (links_to gate feeders) gate ∙ both none (feeders_to gate feeders)
+pub fed_here : (links : List Feeding) (valve : ℕ) (feeders : List ℕ) → feeders_in links valve ≡ []
+    → feeders_in (links ++ links_to valve feeders) valve ≡ feeders
+fed_here links valve feeders none =
+    feeders_more links (links_to valve feeders) valve ∙ both none (feeders_to valve feeders)
 
-pub fed_beside : (links : List Link) (gate other : ℕ) (feeders : List ℕ) → gate ≢ other
-    → feeders_in (links ++ links_to gate feeders) other ≡ feeders_in links other
-fed_beside links gate other feeders apart =
-    feeders_more links (links_to gate feeders) other
-    ∙ ap (λ (l : List ℕ). feeders_in links other ++ l) (feeders_beside gate other feeders apart)
+pub fed_beside : (links : List Feeding) (valve other : ℕ) (feeders : List ℕ) → valve ≢ other
+    → feeders_in (links ++ links_to valve feeders) other ≡ feeders_in links other
+fed_beside links valve other feeders apart =
+    feeders_more links (links_to valve feeders) other
+    ∙ ap (λ (l : List ℕ). feeders_in links other ++ l) (feeders_beside valve other feeders apart)
     ∙ append-nil (feeders_in links other)
 
 -- ---- checks
 
 module _ (ids : List ℕ) where
-  none_before : (from gate : ℕ) (list : List (ℕ × Check)) → gate < from
-      → feeders_in (check_links ids from list) gate ≡ []
-  none_before from gate [] early = refl
-  none_before from gate (held ∷ list) early =
-      feeders_more (links_to from (map (place_of ids) (children_of held.1))) (check_links ids (suc from) list) gate
-      ∙ both (feeders_beside from gate (map (place_of ids) (children_of held.1)) (λ e. omega arith))
-      (none_before (suc from) gate list (omega arith))
+  none_before : (from valve : ℕ) (list : List (ℕ × Check)) → valve < from
+      → feeders_in (check_links ids from list) valve ≡ []
+  none_before from valve [] early = refl
+  none_before from valve (held ∷ list) early =
+      feeders_more (links_to from (map (place_of ids) (children_of held.1))) (check_links ids (suc from) list) valve
+      ∙ both (feeders_beside from valve (map (place_of ids) (children_of held.1)) (λ e. omega arith))
+      (none_before (suc from) valve list (omega arith))
 
-  -- what feeds the gate of a check
+  -- what feeds the valve of a check
   pub children_fed : (from place id : ℕ) (list : List (ℕ × Check)) (check : Check)
       → slice_get list place ≡ Some (id, check)
       → feeders_in (check_links ids from list) (from + place)
@@ -113,14 +113,14 @@ all_more P [] ys a b = b
 all_more P (x ∷ xs) ys a b = (a.0, all_more P xs ys a.1 b)
 
 module _ (zones : List Zone) (ids : List ℕ) (seats : List Seat) (n : ℕ) (few : length ids ≤ n)
-    (groups : (slot gate : ℕ) → group_seat seats slot ≡ suc gate → gate < n) where
+    (groups : (slot valve : ℕ) → group_seat seats slot ≡ suc valve → valve < n) where
   seat_within : (slot seat : ℕ) → group_seat seats slot ≡ seat
-      → AllByRecursion (λ x. x < n) (with_gate seat [])
+      → AllByRecursion (λ x. x < n) (with_valve seat [])
   seat_within slot zero e = tt
-  seat_within slot (suc gate) e = (groups slot gate e, tt)
+  seat_within slot (suc valve) e = (groups slot valve e, tt)
 
   target_within : (zone : ℕ) (rtype : RType) (its : Body) (target : List ℕ)
-      → HasTargetGate zones seats zone rtype its target → AllByRecursion (λ x. x < n) target
+      → HasTargetValve zones seats zone rtype its target → AllByRecursion (λ x. x < n) target
   target_within zone rtype (body.Values ttl values) target is = rw is tt
   target_within zone rtype (body.Alias name evaluate) target (inl (off, is)) = rw is tt
   target_within zone rtype (body.Alias name evaluate) target (inr (on, (members, (slot, (are, first, is))))) =
@@ -135,7 +135,7 @@ module _ (zones : List Zone) (ids : List ℕ) (seats : List Seat) (n : ℕ) (few
       let b = place_within ids id ids at.0 at.1 in
       (omega arith, tt)
 
-  -- what feeds the gate of a set is there
+  -- what feeds the valve of a set is there
   pub set_within : (zone : ℕ) (set : RecordSet) (feeders : List ℕ)
       → FeedsSet zones ids seats zone set feeders
       → ((id : ℕ) → set.check ≡ Some id → (place : ℕ) × (slice_get ids place ≡ Some id))

@@ -1,4 +1,4 @@
--- There are no more gates and links than slots give room for.
+-- There are no more valves and links than slots give room for.
 use Rattle.std.proofs.Common.{◌≡◌, ◌≢◌, ◌<◌, ◌≤◌, ◌+◌, ◌-◌, ◌*◌, ℕ, zero, suc, Bool, true, false, List, [], ◌∷◌, ◌++◌, length, length-append, map, take, drop, arith, refl, ap, sym, ◌∙◌, inl, inr}
 use Rattle.std.specs.Prelude.{◌==◌, Contains, cond}
 use Rattle.std.specs.List.{AllByRecursion}
@@ -8,21 +8,21 @@ use Rattle.std.proofs.lemmas.List.Elements.{Contains-append_cases}
 use Rattle.check_model.specs.Checks.{IsBounded, children_of}
 use Rattle.check_model.specs.declared.checks.Check.{Check}
 use Rattle.check_model.specs.declared.checks.Check.TheVariants.{Endpoint, Calculated}
-use Rattle.health_gates.proofs.Members.{in_head, in_tail}
-use Rattle.health_gates.specs.Walk.{EachOnce}
-use Rattle.health_gates.specs.declared.plan.Shape.{Shape}
-use Rattle.health_gates.specs.declared.plan.Link.{Link}
+use Rattle.health_valves.proofs.Members.{in_head, in_tail}
+use Rattle.health_valves.specs.Walk.{EachOnce}
+use Rattle.health_valves.specs.declared.blueprint.Trigger.{Trigger}
+use Rattle.health_valves.specs.declared.blueprint.Feeding.{Feeding}
 use Rattle.health_model.proofs.Members.{first_or_rest, nothing_in}
 use Rattle.policy_select.proofs.MembersOfZoneList.{filled, in_all}
 use Rattle.policy_select.specs.Zones.{StandsAlone, Zone, placed_in}
 use Rattle.policy_select.specs.SetRefRecord.{SetRef}
-use Rattle.zone_model.specs.Placed.{HaveOwnSlots, IsHere, Placed}
+use Rattle.zone_model.specs.Slotted.{HaveOwnSlots, IsHere, Slotted}
 use Rattle.zone_model.specs.Zones.{IsAmong}
-use Rattle.health_planning.specs.Building.{AreGrouped, AreListed, check_links, links_to}
-use Rattle.health_planning.specs.Rooms.{HaveGatesApart, children_among}
-use Rattle.health_planning.specs.Wired.{gates_of, group_seat, place_of, plain_among, seat_of, with_gate}
+use Rattle.health_planning.specs.Building.{AreGrouped, HaveOwnValves, check_links, links_to}
+use Rattle.health_planning.specs.Rooms.{HaveValvesApart, children_among}
+use Rattle.health_planning.specs.Wired.{valves_of, group_seat, place_of, plain_among, seat_of, with_valve}
 use Rattle.health_planning.specs.declared.seats.Seat.{Seat}
-use Rattle.health_planning.proofs.Ending.{came_from, member_gate, no_more}
+use Rattle.health_planning.proofs.Ending.{came_from, member_valve, no_more}
 use Rattle.health_planning.proofs.Groups.{plain_few}
 
 -- ---- no more than numbers below some number
@@ -84,18 +84,18 @@ once_both (x ∷ xs) ys first last apart = (
 
 -- ---- slots of sets and of groups
 
-seat_within : (seats : List Seat) (slot gate : ℕ) → seat_of seats slot ≡ suc gate
+seat_within : (seats : List Seat) (slot valve : ℕ) → seat_of seats slot ≡ suc valve
     → slot < length seats
-seat_within seats slot gate is = elim (cases_lt slot (length seats)) [
+seat_within seats slot valve is = elim (cases_lt slot (length seats)) [
   | inl within ↦ within
   | inr past ↦
       let none = ap (λ (s : Seat). s.set) (get_or_past seats slot (record { set = 0; group = 0; check = 0 }) past) in
       absurd (omega arith)
 ]
 
-pub group_within : (seats : List Seat) (slot gate : ℕ) → group_seat seats slot ≡ suc gate
+pub group_within : (seats : List Seat) (slot valve : ℕ) → group_seat seats slot ≡ suc valve
     → slot < length seats
-group_within seats slot gate is = elim (cases_lt slot (length seats)) [
+group_within seats slot valve is = elim (cases_lt slot (length seats)) [
   | inl within ↦ within
   | inr past ↦
       let none = ap (λ (s : Seat). s.group) (get_or_past seats slot (record { set = 0; group = 0; check = 0 }) past) in
@@ -103,45 +103,45 @@ group_within seats slot gate is = elim (cases_lt slot (length seats)) [
 ]
 
 pub few_listed : (zones : List Zone) (first : ℕ) (refs : List SetRef) (seats : List Seat)
-    (shapes : List Shape) → AreListed zones first refs seats shapes
+    (triggers : List Trigger) → HaveOwnValves zones first refs seats triggers
     → length refs ≤ length seats
-few_listed zones first refs seats shapes are =
+few_listed zones first refs seats triggers are =
     no_more_than (λ (k slot : ℕ). seat_of seats slot ≡ suc (first + k)) (λ a b slot e f. omega arith)
     (length refs) (length seats) (λ k early.
     let ref = filled refs k early in
-    let g = are.gates k ref.0 ref.1 in
+    let g = are.valves k ref.0 ref.1 in
     (ref.0.slot, (g.seat, seat_within seats ref.0.slot (first + k) g.seat)))
 
--- no more gates than seats that tell them
-pub few_gates : (from n : ℕ) (seats : List Seat)
-    → ((gate : ℕ) → from ≤ gate → gate < n → (slot : ℕ) × (group_seat seats slot ≡ suc gate))
+-- no more valves than seats that tell them
+pub few_valves : (from n : ℕ) (seats : List Seat)
+    → ((valve : ℕ) → from ≤ valve → valve < n → (slot : ℕ) × (group_seat seats slot ≡ suc valve))
     → n ≤ from + length seats
-few_gates from n seats all =
+few_valves from n seats all =
     let few = no_more_than (λ (k slot : ℕ). group_seat seats slot ≡ suc (from + k)) (λ a b slot e f. omega arith)
     (n - from) (length seats) (λ k early.
     let slot = all (from + k) (omega arith) (omega arith) in
     (slot.0, (slot.1, group_within seats slot.0 (from + k) slot.1))) in
     omega arith
 
-pub few_grouped : (zones : List Zone) (from : ℕ) (seats : List Seat) (shapes : List Shape)
-    (links : List Link) → AreGrouped zones from seats shapes links
-    → length shapes ≤ from + length seats
-few_grouped zones from seats shapes links are = few_gates from (length shapes) seats are.all
+pub few_grouped : (zones : List Zone) (from : ℕ) (seats : List Seat) (triggers : List Trigger)
+    (links : List Feeding) → AreGrouped zones from seats triggers links
+    → length triggers ≤ from + length seats
+few_grouped zones from seats triggers links are = few_valves from (length triggers) seats are.all
 
 -- ---- sets in slots of their own
 
-own_drop : (n : ℕ) (placed : List Placed) → HaveOwnSlots placed → HaveOwnSlots (drop n placed)
+own_drop : (n : ℕ) (placed : List Slotted) → HaveOwnSlots placed → HaveOwnSlots (drop n placed)
 own_drop zero placed own = own
 own_drop (suc n) [] own = tt
 own_drop (suc n) (p ∷ placed) own = own_drop n placed own.1
 
-all_take : (P : Placed → Type 0) (n : ℕ) (placed : List Placed) → AllByRecursion P placed
+all_take : (P : Slotted → Type 0) (n : ℕ) (placed : List Slotted) → AllByRecursion P placed
     → AllByRecursion P (take n placed)
 all_take P zero placed all = tt
 all_take P (suc n) [] all = tt
 all_take P (suc n) (p ∷ placed) all = (all.0, all_take P n placed all.1)
 
-own_take : (n : ℕ) (placed : List Placed) → HaveOwnSlots placed → HaveOwnSlots (take n placed)
+own_take : (n : ℕ) (placed : List Slotted) → HaveOwnSlots placed → HaveOwnSlots (take n placed)
 own_take zero placed own = tt
 own_take (suc n) [] own = tt
 own_take (suc n) (p ∷ placed) own =
@@ -162,29 +162,29 @@ pub own_among : (zones : List Zone) (id start count : ℕ) → AllByRecursion St
 own_among zones id start count each =
     own_take count (drop start (placed_in zones id)) (own_drop start (placed_in zones id) (own_in zones each id))
 
-slots_once : (placed : List Placed) → HaveOwnSlots placed
-    → EachOnce (map (λ (p : Placed). p.slot) placed)
+slots_once : (placed : List Slotted) → HaveOwnSlots placed
+    → EachOnce (map (λ (p : Slotted). p.slot) placed)
 slots_once [] own = tt
 slots_once (p ∷ placed) own = (
   (λ m.
-      let q = came_from (λ (r : Placed). r.slot) placed p.slot m in
+      let q = came_from (λ (r : Slotted). r.slot) placed p.slot m in
       in_all (λ r. p.slot ≢ r.slot) placed q.0 own.0 q.1 q.2),
   slots_once placed own.1,
 )
 
 -- no more sets than slots
-pub few_placed : (placed : List Placed) (n : ℕ) → HaveOwnSlots placed
-    → ((p : Placed) → IsHere placed p → p.slot < n) → length placed ≤ n
+pub few_placed : (placed : List Slotted) (n : ℕ) → HaveOwnSlots placed
+    → ((p : Slotted) → IsHere placed p → p.slot < n) → length placed ≤ n
 few_placed placed n own below =
-    let few = few_once n (map (λ (p : Placed). p.slot) placed) (slots_once placed own) (λ slot m.
-    let p = came_from (λ (r : Placed). r.slot) placed slot m in
+    let few = few_once n (map (λ (p : Slotted). p.slot) placed) (slots_once placed own) (λ slot m.
+    let p = came_from (λ (r : Slotted). r.slot) placed slot m in
     let b = below p.0 p.1 in
     let e = p.2 in
     omega arith) in
-    let long = length-map placed (λ (p : Placed). p.slot) in
+    let long = length-map placed (λ (p : Slotted). p.slot) in
     omega arith
 
-pub few_plain : (seats : List Seat) (placed : List Placed)
+pub few_plain : (seats : List Seat) (placed : List Slotted)
     → plain_among seats placed ≤ length placed
 few_plain seats [] = omega arith
 few_plain seats (p ∷ placed) =
@@ -192,40 +192,40 @@ few_plain seats (p ∷ placed) =
     let rest = few_plain seats placed in
     omega arith
 
--- the gates of sets that differ do
-pub gates_once : (seats : List Seat) → HaveGatesApart seats → (placed : List Placed)
-    → HaveOwnSlots placed → EachOnce (gates_of seats placed)
-gates_once seats apart [] own = tt
-gates_once seats apart (p ∷ placed) own =
-    step (seat_of seats p.slot) refl (gates_once seats apart placed own.1)
+-- the valves of sets that differ do
+pub valves_once : (seats : List Seat) → HaveValvesApart seats → (placed : List Slotted)
+    → HaveOwnSlots placed → EachOnce (valves_of seats placed)
+valves_once seats apart [] own = tt
+valves_once seats apart (p ∷ placed) own =
+    step (seat_of seats p.slot) refl (valves_once seats apart placed own.1)
   where
-    step : (n : ℕ) → seat_of seats p.slot ≡ n → EachOnce (gates_of seats placed)
-        → EachOnce (with_gate n (gates_of seats placed))
+    step : (n : ℕ) → seat_of seats p.slot ≡ n → EachOnce (valves_of seats placed)
+        → EachOnce (with_valve n (valves_of seats placed))
     step zero e once = once
-    step (suc gate) e once = (
+    step (suc valve) e once = (
       (λ m.
-          let q = member_gate seats placed gate m in
-          in_all (λ r. p.slot ≢ r.slot) placed q.0 own.0 q.1 (apart p.slot q.0.slot gate e q.2)),
+          let q = member_valve seats placed valve m in
+          in_all (λ r. p.slot ≢ r.slot) placed q.0 own.0 q.1 (apart p.slot q.0.slot valve e q.2)),
       once,
     )
 
--- a part of some sets has no more gates than all
-pub gates_some : (seats : List Seat) (n : ℕ) (placed : List Placed)
-    → length (gates_of seats (take n placed)) ≤ length (gates_of seats placed)
-gates_some seats zero placed = omega arith
-gates_some seats (suc n) [] = omega arith
-gates_some seats (suc n) (p ∷ placed) =
-    step (seat_of seats p.slot) (gates_some seats n placed)
+-- a part of some sets has no more valves than all
+pub valves_some : (seats : List Seat) (n : ℕ) (placed : List Slotted)
+    → length (valves_of seats (take n placed)) ≤ length (valves_of seats placed)
+valves_some seats zero placed = omega arith
+valves_some seats (suc n) [] = omega arith
+valves_some seats (suc n) (p ∷ placed) =
+    step (seat_of seats p.slot) (valves_some seats n placed)
   where
-    step : (m : ℕ) → length (gates_of seats (take n placed)) ≤ length (gates_of seats placed)
-        → length (with_gate m (gates_of seats (take n placed)))
-        ≤ length (with_gate m (gates_of seats placed))
+    step : (m : ℕ) → length (valves_of seats (take n placed)) ≤ length (valves_of seats placed)
+        → length (with_valve m (valves_of seats (take n placed)))
+        ≤ length (with_valve m (valves_of seats placed))
     step zero few = few
-    step (suc gate) few = omega arith
+    step (suc valve) few = omega arith
 
-pub seat_few : (seat : ℕ) → length (with_gate seat []) ≤ 1
+pub seat_few : (seat : ℕ) → length (with_valve seat []) ≤ 1
 seat_few zero = omega arith
-seat_few (suc gate) = omega arith
+seat_few (suc valve) = omega arith
 
 -- ---- children
 
@@ -243,8 +243,8 @@ children_few (held ∷ list) all =
     let rest = children_few list all.1 in
     omega arith
 
-pub links_long : (gate : ℕ) (feeders : List ℕ) → length (links_to gate feeders) ≡ length feeders
-links_long gate feeders = length-map feeders (λ (x : ℕ). record { feeder = x; fed = gate })
+pub links_long : (valve : ℕ) (feeders : List ℕ) → length (links_to valve feeders) ≡ length feeders
+links_long valve feeders = length-map feeders (λ (x : ℕ). record { feeder = x; fed = valve })
 
 pub check_links_long : (ids : List ℕ) (place : ℕ) (list : List (ℕ × Check))
     → length (check_links ids place list) ≡ children_among list

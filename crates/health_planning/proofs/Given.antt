@@ -4,9 +4,9 @@ use Rattle.std.specs.Prelude.{slice_get}
 use Rattle.std.proofs.lemmas.Bool.{cases_eq}
 use Rattle.std.proofs.lemmas.List.{get_or_past}
 use Rattle.check_model.specs.declared.checks.Check.{Check}
-use Rattle.health_gates.proofs.Runs.{in_more}
-use Rattle.health_gates.specs.declared.plan.Link.{Link}
-use Rattle.health_gates.specs.declared.plan.Shape.{Shape}
+use Rattle.health_valves.proofs.Runs.{in_more}
+use Rattle.health_valves.specs.declared.blueprint.Feeding.{Feeding}
+use Rattle.health_valves.specs.declared.blueprint.Trigger.{Trigger}
 use Rattle.policy_select.proofs.MembersOfZoneList.{filled}
 use Rattle.policy_select.specs.SetRefRecord.{SetRef}
 use Rattle.policy_select.specs.Zones.{Zone}
@@ -15,7 +15,7 @@ use Rattle.health_planning.specs.Wired.{check_seat, group_seat, seat_of}
 use Rattle.health_planning.specs.declared.seats.Seat.{Seat}
 use Rattle.health_planning.proofs.Few.{group_within, no_more_than}
 use Rattle.health_planning.proofs.Grouped.{group_beside, seat_now, seated}
-use Rattle.health_planning.proofs.Groups.{some_gate}
+use Rattle.health_planning.proofs.Groups.{some_valve}
 use Rattle.health_planning.proofs.ListedOnce.{last_at, still_at}
 
 some_same : {X : Type 0} {x y : X} → Some x ≡ Some y → x ≡ y
@@ -60,7 +60,7 @@ free_front (suc n) [] slot free = free
 free_front (suc n) (s ∷ seats) zero free = free
 free_front (suc n) (s ∷ seats) (suc slot) free = free_front n seats slot free
 
--- where the listed sets and the noted members are cleared, no seat tells a gate
+-- where the listed sets and the noted members are cleared, no seat tells a valve
 pub all_free : (refs members : List SetRef) (seats once twice : List Seat)
     → AreGiven refs members seats
     → ((slot : ℕ) → TellSlot refs slot → IsFree once slot)
@@ -93,20 +93,20 @@ noted_few members seats noted =
     (λ a b slot e f. noted.once a b e.0 f.0 e.1.0 f.1.0 (e.1.1 ∙ sym f.1.1))
     (length members) (length seats) (λ k early.
     let ref = filled members k early in
-    let gate = some_gate (group_seat seats ref.0.slot) (noted.each k ref.0 ref.1) in
-    (ref.0.slot, ((ref.0, (ref.1, refl)), group_within seats ref.0.slot gate.0 gate.1)))
+    let valve = some_valve (group_seat seats ref.0.slot) (noted.each k ref.0 ref.1) in
+    (ref.0.slot, ((ref.0, (ref.1, refl)), group_within seats ref.0.slot valve.0 valve.1)))
 
 module _ (members : List SetRef) (seats : List Seat) (noted : AreNoted members seats) (ref : SetRef)
     (after : List Seat) (now : group_seat after ref.slot ≢ 0)
     (others : (other : ℕ) → other ≢ ref.slot → group_seat after other ≡ group_seat seats other) where
-  -- a seat that told a gate tells one
+  -- a seat that told a valve tells one
   tells_on : (slot : ℕ) → group_seat seats slot ≢ 0 → group_seat after slot ≢ 0
   tells_on slot some = elim (cases_eq slot ref.slot) [
     | inl same ↦ (λ none. now (ap (group_seat after) (sym same) ∙ none))
     | inr apart ↦ (λ none. some (sym (others slot apart) ∙ none))
   ]
 
-  -- a set whose seat told the gate of its group is noted already
+  -- a set whose seat told the valve of its group is noted already
   pub noted_still : group_seat seats ref.slot ≢ 0 → AreNoted members after
   noted_still some = record {
     all = λ slot tells. elim (cases_eq slot ref.slot) [
@@ -159,16 +159,16 @@ one_noted members seats noted ref within empty =
     let as_long = length-set seats ref.slot (record { set = seat_of seats ref.slot; group = 1; check = check_seat seats ref.slot }) in
     omega arith
 
--- ---- what a plan gives
+-- ---- what a blueprint gives
 
 pub all_given : (zones : List Zone) (list : List (ℕ × Check)) (refs members : List SetRef)
-    (seats : List Seat) (shapes : List Shape) (links : List Link)
-    → IsBuilt zones list refs seats shapes links → AreNoted members seats
+    (seats : List Seat) (triggers : List Trigger) (links : List Feeding)
+    → IsBuilt zones list refs seats triggers links → AreNoted members seats
     → AreGiven refs members seats
-all_given zones list refs members seats shapes links built noted = record {
+all_given zones list refs members seats triggers links built noted = record {
   sets = λ slot some.
-      let gate = some_gate (seat_of seats slot) some in
-      let o = built.only slot gate.0 gate.1 in
+      let valve = some_valve (seat_of seats slot) some in
+      let o = built.only slot valve.0 valve.1 in
       (o.0, (o.1.0, (o.1.2, o.1.3)));
   groups = noted.all;
 }

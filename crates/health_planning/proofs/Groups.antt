@@ -2,7 +2,7 @@
 use Rattle.std.proofs.Common.{◌≡◌, ◌<◌, ◌≤◌, ◌+◌, ℕ, zero, suc, Bool, true, false, List, [], ◌∷◌, ◌++◌, take, drop, arith, refl, ap, sym, ◌∙◌, ◌≢◌, inl, inr, Some, None, Option}
 use Rattle.std.specs.Prelude.{if◌then◌else◌, slice_get}
 use mathlib.Core.Path.{subst}
-use Rattle.health_gates.specs.declared.plan.Link.{Link}
+use Rattle.health_valves.specs.declared.blueprint.Feeding.{Feeding}
 use Rattle.policy_select.specs.Groups.{members_of, sets_in, sets_in_zone}
 use Rattle.rdata_layout.specs.declared.types.RType.{RType}
 use Rattle.record_set.specs.declared.sets.Body.{Body}
@@ -12,12 +12,12 @@ use Rattle.policy_select.specs.Telling.{evaluates, target_in, target_of}
 use Rattle.policy_select.specs.Zones.{Zone, placed_in}
 use Rattle.policy_select.specs.SetRefRecord.{SetRef}
 use Rattle.zone_model.proofs.Among.{among_at}
-use Rattle.zone_model.specs.Placed.{IsHere, Placed}
+use Rattle.zone_model.specs.Slotted.{IsHere, Slotted}
 use Rattle.zone_model.specs.Zones.{IsAmong, group}
-use Rattle.policy_select.specs.Looking.{IsMember, Names}
+use Rattle.policy_select.specs.Looking.{IsSetOfGroup, RefersTo}
 use Rattle.policy_select.specs.GroupRecord.{Group}
 use Rattle.health_planning.specs.Building.{links_to}
-use Rattle.health_planning.specs.Wired.{AreMembers, check_or_none, gates_of, only_check, plain, plain_among, seat_of, with_gate}
+use Rattle.health_planning.specs.Wired.{AreMembers, check_or_none, valves_of, only_check, plain, plain_among, seat_of, with_valve}
 use Rattle.health_planning.specs.declared.seats.Seat.{Seat}
 
 got_of_take : {X : Type 0} (xs : List X) (n i : ℕ) → i < n → slice_get (take n xs) i ≡ slice_get xs i
@@ -37,13 +37,13 @@ got_of_drop (x ∷ xs) (suc s) i =
 
 -- the set that stands at a place of a group
 pub record IsPlacedAt (zones : List Zone) (g : Group) (i : ℕ) (ref : SetRef) : Type 0 where
-  pub p : Placed
+  pub p : Slotted
   pub at : slice_get (members_of zones g) i ≡ Some p
   pub slot : p.slot ≡ ref.slot
-  pub names : Names zones ref p.set
+  pub names : RefersTo zones ref p.set
 
 pub member_at : (zones : List Zone) (g : Group) (i : ℕ) (ref : SetRef) → i < g.length
-    → IsMember zones g i ref → IsPlacedAt zones g i ref
+    → IsSetOfGroup zones g i ref → IsPlacedAt zones g i ref
 member_at zones g i ref within m = record {
   p = record { slot = ref.slot; set = m.slot.0 };
   at = got_of_take (drop g.start (placed_in zones g.zone)) g.length i within
@@ -53,30 +53,30 @@ member_at zones g i ref within m = record {
       (among_at (placed_in zones g.zone) (g.start + i) (record { slot = ref.slot; set = m.slot.0 }) m.slot.1);
 }
 
-pub plain_more : (seats : List Seat) (xs : List Placed) (p : Placed)
+pub plain_more : (seats : List Seat) (xs : List Slotted) (p : Slotted)
     → plain_among seats (xs ++ p ∷ []) ≡ plain_among seats xs + plain (seat_of seats p.slot)
 plain_more seats [] p = omega arith
 plain_more seats (x ∷ xs) p = let r = plain_more seats xs p in omega arith
 
-pub gates_more : (seats : List Seat) (xs : List Placed) (p : Placed)
-    → gates_of seats (xs ++ p ∷ []) ≡ gates_of seats xs ++ with_gate (seat_of seats p.slot) []
-gates_more seats [] p = refl
-gates_more seats (x ∷ xs) p =
-    step (seat_of seats x.slot) (gates_of seats (xs ++ p ∷ [])) (gates_of seats xs) (with_gate (seat_of seats p.slot) []) (gates_more seats xs p)
+pub valves_more : (seats : List Seat) (xs : List Slotted) (p : Slotted)
+    → valves_of seats (xs ++ p ∷ []) ≡ valves_of seats xs ++ with_valve (seat_of seats p.slot) []
+valves_more seats [] p = refl
+valves_more seats (x ∷ xs) p =
+    step (seat_of seats x.slot) (valves_of seats (xs ++ p ∷ [])) (valves_of seats xs) (with_valve (seat_of seats p.slot) []) (valves_more seats xs p)
   where
     step : (seat : ℕ) (all front back : List ℕ) → all ≡ front ++ back
-        → with_gate seat all ≡ with_gate seat front ++ back
+        → with_valve seat all ≡ with_valve seat front ++ back
     step zero all front back e = e
-    step (suc gate) all front back e = ap (λ (l : List ℕ). gate ∷ l) e
+    step (suc valve) all front back e = ap (λ (l : List ℕ). valve ∷ l) e
 
-pub links_more : (gate : ℕ) (xs ys : List ℕ)
-    → links_to gate (xs ++ ys) ≡ links_to gate xs ++ links_to gate ys
-links_more gate [] ys = refl
-links_more gate (x ∷ xs) ys = ap (λ (l : List Link). record { feeder = x; fed = gate } ∷ l) (links_more gate xs ys)
+pub links_more : (valve : ℕ) (xs ys : List ℕ)
+    → links_to valve (xs ++ ys) ≡ links_to valve xs ++ links_to valve ys
+links_more valve [] ys = refl
+links_more valve (x ∷ xs) ys = ap (λ (l : List Feeding). record { feeder = x; fed = valve } ∷ l) (links_more valve xs ys)
 
 pub plain_few : (seat : ℕ) → plain seat ≤ 1
 plain_few zero = omega arith
-plain_few (suc gate) = omega arith
+plain_few (suc valve) = omega arith
 
 -- ---- the sets of a group that was found
 
@@ -100,9 +100,9 @@ members_are zones g zone name rtype its are = record {
       (in_drop g.start (placed_in zones g.zone) p (in_take g.length (drop g.start (placed_in zones g.zone)) p m));
 }
 
-pub some_gate : (n : ℕ) → n ≢ 0 → (gate : ℕ) × (n ≡ suc gate)
-some_gate zero some = absurd (some refl)
-some_gate (suc gate) some = (gate, refl)
+pub some_valve : (n : ℕ) → n ≢ 0 → (valve : ℕ) × (n ≡ suc valve)
+some_valve zero some = absurd (some refl)
+some_valve (suc valve) some = (valve, refl)
 
 -- where the health of a target group counts, no check alone decides the set
 pub alias_alone : (set : RecordSet) → evaluates set.body ≡ true → only_check set ≡ 0

@@ -7,9 +7,9 @@ use Rattle.record_set.specs.declared.sets.Body.{Body}
 use Rattle.record_set.specs.declared.sets.Body.TheVariants as body
 use Rattle.policy_select.specs.Telling.{evaluates, target_in}
 use Rattle.policy_select.specs.Zones.{Zone}
-use Rattle.zone_model.specs.Placed.{Placed}
-use Rattle.health_planning.specs.Building.{HasTargetGate}
-use Rattle.health_planning.specs.Wired.{AreMembers, IsFirstIn, group_seat, with_gate}
+use Rattle.zone_model.specs.Slotted.{Slotted}
+use Rattle.health_planning.specs.Building.{HasTargetValve}
+use Rattle.health_planning.specs.Wired.{AreMembers, IsFirstIn, group_seat, with_valve}
 use Rattle.health_planning.specs.declared.seats.Seat.{Seat}
 
 some_same : {X : Type 0} {x y : X} → Some x ≡ Some y → x ≡ y
@@ -23,7 +23,7 @@ not_on false e = ap not e
 module _ (zones : List Zone) (seats : List Seat) (zone : ℕ) (rtype : RType) where
   -- no target's health counts
   pub no_target : (its : Body) → evaluates its ≡ false
-      → HasTargetGate zones seats zone rtype its []
+      → HasTargetValve zones seats zone rtype its []
   no_target (body.Values ttl values) off = refl
   no_target (body.Alias name evaluate) off = inl (off, refl)
 
@@ -33,10 +33,10 @@ module _ (zones : List Zone) (seats : List Seat) (zone : ℕ) (rtype : RType) wh
   some_target (body.Alias name evaluate) on none = let no : ⊥ = cc in absurd no
 
   pub that_target : (its : Body) (name : List (List ℕ)) (its_type : RType)
-      (members : List Placed) (slot : ℕ) → evaluates its ≡ true
+      (members : List Slotted) (slot : ℕ) → evaluates its ≡ true
       → target_in rtype its ≡ Some (name, its_type)
       → AreMembers zones zone name its_type members → IsFirstIn members slot
-      → HasTargetGate zones seats zone rtype its (with_gate (group_seat seats slot) [])
+      → HasTargetValve zones seats zone rtype its (with_valve (group_seat seats slot) [])
   that_target (body.Values ttl values) name its_type members slot on is are first =
       absurd (false≢true on)
   that_target (body.Alias target evaluate) name its_type members slot on is are first =

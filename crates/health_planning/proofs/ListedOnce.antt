@@ -1,20 +1,20 @@
--- Sets that are listed one after another, each with a gate of its own.
+-- Sets that are listed one after another, each with a valve of its own.
 use Rattle.std.proofs.Common.{◌≡◌, ◌≢◌, ◌<◌, ◌≤◌, ◌+◌, ℕ, zero, suc, Bool, true, false, cond, List, [], ◌∷◌, ◌++◌, length, length-append, set, get_or, get_or-set_same, get_or-set_other, arith, refl, ap, sym, ◌∙◌, inl, inr, Some}
 use Rattle.std.specs.Prelude.{◌==◌, slice_get}
 use Rattle.std.proofs.lemmas.Bool.{cases_eq, false≢true, ne_eqb}
 use Rattle.std.proofs.lemmas.Option.{get_or_from_slice_get, slice_get_read}
 use mathlib.Core.Path.{subst}
-use Rattle.health_gates.proofs.Runs.{in_more}
-use Rattle.health_gates.specs.declared.plan.Shape.{Shape}
+use Rattle.health_valves.proofs.Runs.{in_more}
+use Rattle.health_valves.specs.declared.blueprint.Trigger.{Trigger}
 use Rattle.record_set.specs.declared.sets.RecordSet.{RecordSet}
 use Rattle.policy_select.specs.Changes.{ref_in}
 use Rattle.policy_select.specs.Zones.{Zone, IsOne, placed_in}
 use Rattle.policy_select.specs.SetRefRecord.{SetRef}
 use Rattle.zone_model.proofs.Among.{among_at}
-use Rattle.zone_model.specs.Placed.{IsHere, Placed}
-use Rattle.policy_select.specs.Looking.{IsSetAt, Names}
+use Rattle.zone_model.specs.Slotted.{IsHere, Slotted}
+use Rattle.policy_select.specs.Looking.{IsSetAt, RefersTo}
 use Rattle.policy_select.specs.Tables.{HaveSlotsApart, HaveSlotsBelow}
-use Rattle.health_planning.specs.Building.{AreListed, HasSetGate, IsListed, set_shape}
+use Rattle.health_planning.specs.Building.{HaveOwnValves, HasSetValve, IsListed, set_trigger}
 use Rattle.health_planning.specs.Wired.{check_seat, group_seat, is_watched, only_check, seat_of}
 use Rattle.health_planning.specs.declared.seats.Seat.{Seat}
 
@@ -33,7 +33,7 @@ last_at (z ∷ xs) x zero e = absurd (omega arith)
 last_at (z ∷ xs) x (suc n) e = last_at xs x n (omega arith)
 
 -- the zone of a set that stands in the zone of a number
-pub its_zone : (zones : List Zone) (id : ℕ) (p : Placed) → IsHere (placed_in zones id) p
+pub its_zone : (zones : List Zone) (id : ℕ) (p : Slotted) → IsHere (placed_in zones id) p
     → (zone : Zone) × (IsOne zones zone × (zone.id ≡ id) × IsHere zone.placed p)
 its_zone [] id p here = absurd here
 its_zone (zone ∷ zones) id p here = by (zone.id == id) refl here (its_zone zones id p)
@@ -54,7 +54,7 @@ its_zone (zone ∷ zones) id p here = by (zone.id == id) refl here (its_zone zon
 
 -- references with one slot are one
 pub one_ref : (zones : List Zone) (one other : SetRef) (a b : RecordSet) → HaveSlotsApart zones
-    → Names zones one a → Names zones other b → one.slot ≡ other.slot → one ≡ other
+    → RefersTo zones one a → RefersTo zones other b → one.slot ≡ other.slot → one ≡ other
 one_ref zones one other a b apart first second same =
     let z = its_zone zones one.zone (record { slot = one.slot; set = a }) first in
     let y = its_zone zones other.zone (record { slot = other.slot; set = b }) second in
@@ -84,18 +84,18 @@ seat_beside : (seats : List Seat) (slot other : ℕ) (s : Seat) → other ≢ sl
 seat_beside seats slot other s apart = ap (λ (x : Seat). x.set) (get_or-set_other seats slot other s _ apart)
 
 module _ (zones : List Zone) (first : ℕ) (refs : List SetRef) (seats : List Seat)
-    (shapes : List Shape) (ref : SetRef) (named : RecordSet) (gate : ℕ)
-    (are : AreListed zones first refs seats shapes) (names : Names zones ref named)
+    (triggers : List Trigger) (ref : SetRef) (named : RecordSet) (valve : ℕ)
+    (are : HaveOwnValves zones first refs seats triggers) (names : RefersTo zones ref named)
     (watched : is_watched named ≡ true) (within : ref.slot < length seats)
-    (empty : seat_of seats ref.slot ≡ 0) (is_gate : gate ≡ length shapes) where
+    (empty : seat_of seats ref.slot ≡ 0) (is_valve : valve ≡ length triggers) where
   abbrev now : List Seat
-  now = set seats ref.slot (record { set = gate + 1; group = 0; check = only_check named })
+  now = set seats ref.slot (record { set = valve + 1; group = 0; check = only_check named })
 
   -- a set that was listed has another slot
-  old_gate : (k : ℕ) (other : SetRef) → slice_get refs k ≡ Some other
-      → HasSetGate zones now (shapes ++ set_shape named ∷ []) other (first + k)
-  old_gate k other at =
-      let g = are.gates k other at in
+  old_valve : (k : ℕ) (other : SetRef) → slice_get refs k ≡ Some other
+      → HasSetValve zones now (triggers ++ set_trigger named ∷ []) other (first + k)
+  old_valve k other at =
+      let g = are.valves k other at in
       let apart : other.slot ≢ ref.slot = λ same. let e : seat_of seats ref.slot ≡ suc (first + k) = ap (seat_of seats) (sym same) ∙ g.seat in let none =
       empty in omega arith in
       record {
@@ -104,12 +104,12 @@ module _ (zones : List Zone) (first : ℕ) (refs : List SetRef) (seats : List Se
         watched = g.watched;
         seat = seat_beside seats ref.slot other.slot _ apart ∙ g.seat;
         told = check_beside seats ref.slot other.slot _ apart ∙ g.told;
-        shape = still_at shapes (set_shape named) (set_shape g.named) (first + k) g.shape;
+        trigger = still_at triggers (set_trigger named) (set_trigger g.named) (first + k) g.trigger;
       }
 
-  new_gate : (other : SetRef) (k : ℕ) → k ≡ length refs → other ≡ ref
-      → HasSetGate zones now (shapes ++ set_shape named ∷ []) other (first + k)
-  new_gate other k at is =
+  new_valve : (other : SetRef) (k : ℕ) → k ≡ length refs → other ≡ ref
+      → HasSetValve zones now (triggers ++ set_trigger named ∷ []) other (first + k)
+  new_valve other k at is =
       let size = are.size in
       rw is (record {
         named = named;
@@ -117,23 +117,23 @@ module _ (zones : List Zone) (first : ℕ) (refs : List SetRef) (seats : List Se
         watched = watched;
         seat = seat_here seats ref.slot _ within ∙ omega arith;
         told = check_here seats ref.slot _ within;
-        shape = last_at shapes (set_shape named) (first + k) (omega arith);
+        trigger = last_at triggers (set_trigger named) (first + k) (omega arith);
       })
 
-  pub listed_more : AreListed zones first (refs ++ ref ∷ []) now (shapes ++ set_shape named ∷ [])
+  pub listed_more : HaveOwnValves zones first (refs ++ ref ∷ []) now (triggers ++ set_trigger named ∷ [])
   listed_more =
       let size = are.size in
-      let longer = length-append shapes (set_shape named ∷ []) in
+      let longer = length-append triggers (set_trigger named ∷ []) in
       let more = length-append refs (ref ∷ []) in
       record {
         size = omega arith;
-        gates = λ k other at. elim (in_more refs ref other k at) [
-          | inl old ↦ old_gate k other old
-          | inr new ↦ new_gate other k new.0 new.1
+        valves = λ k other at. elim (in_more refs ref other k at) [
+          | inl old ↦ old_valve k other old
+          | inr new ↦ new_valve other k new.0 new.1
         ];
         only = λ slot g is. elim (cases_eq slot ref.slot) [
           | inl same ↦
-              let here = seat_here seats ref.slot (record { set = gate + 1; group = 0; check = only_check named }) within in
+              let here = seat_here seats ref.slot (record { set = valve + 1; group = 0; check = only_check named }) within in
               let now_is : seat_of now ref.slot ≡ suc g = ap (seat_of now) (sym same) ∙ is in
               let n : g ≡ first + length refs = omega arith in
               (length refs, (ref, n, last_at refs ref (length refs) refl, sym same))
@@ -143,26 +143,26 @@ module _ (zones : List Zone) (first : ℕ) (refs : List SetRef) (seats : List Se
         ];
         no_group = λ slot. elim (cases_eq slot ref.slot) [
           | inl same ↦ ap (group_seat now) same ∙ ap (λ (x : Seat). x.group)
-              (get_or-set_same seats ref.slot (record { set = gate + 1; group = 0; check = only_check named }) (record { set = 0; group = 0; check = 0 })
+              (get_or-set_same seats ref.slot (record { set = valve + 1; group = 0; check = only_check named }) (record { set = 0; group = 0; check = 0 })
               within)
-          | inr apart ↦ ap (λ (x : Seat). x.group) (get_or-set_other seats ref.slot slot (record { set = gate + 1; group = 0; check = only_check named })
+          | inr apart ↦ ap (λ (x : Seat). x.group) (get_or-set_other seats ref.slot slot (record { set = valve + 1; group = 0; check = only_check named })
               (record { set = 0; group = 0; check = 0 }) apart) ∙ are.no_group slot
         ];
       }
 
--- a set whose slot has a gate is listed
+-- a set whose slot has a valve is listed
 pub listed_already : (zones : List Zone) (first : ℕ) (refs : List SetRef) (seats : List Seat)
-    (shapes : List Shape) (ref : SetRef) (named : RecordSet)
-    → AreListed zones first refs seats shapes → HaveSlotsApart zones → Names zones ref named
+    (triggers : List Trigger) (ref : SetRef) (named : RecordSet)
+    → HaveOwnValves zones first refs seats triggers → HaveSlotsApart zones → RefersTo zones ref named
     → (seat_of seats ref.slot ≢ 0) → IsListed refs ref
-listed_already zones first refs seats shapes ref named are apart names some =
+listed_already zones first refs seats triggers ref named are apart names some =
     by (seat_of seats ref.slot) refl
   where
     by : (n : ℕ) → seat_of seats ref.slot ≡ n → IsListed refs ref
     by zero e = absurd (some e)
-    by (suc gate) e =
-        let o = are.only ref.slot gate e in
-        let g = are.gates o.0 o.1.0 o.1.2 in
+    by (suc valve) e =
+        let o = are.only ref.slot valve e in
+        let g = are.valves o.0 o.1.0 o.1.2 in
         let same = one_ref zones o.1.0 ref g.named named apart g.names names o.1.3 in
         (o.0, o.1.2 ∙ ap Some same)
 
@@ -176,8 +176,8 @@ seat_is seats slot s within is =
 -- what is told of the set at a place
 pub record IsTold (zones : List Zone) (zone i : ℕ) (ref : SetRef) : Type 0 where
   pub set : RecordSet
-  pub names : Names zones ref set
-  pub its : (p : Placed) → slice_get (placed_in zones zone) i ≡ Some p
+  pub names : RefersTo zones ref set
+  pub its : (p : Slotted) → slice_get (placed_in zones zone) i ≡ Some p
       → (p.set ≡ set) × (ref_in zone p ≡ ref)
 
 some_same : {X : Type 0} {x y : X} → Some x ≡ Some y → x ≡ y
@@ -191,17 +191,17 @@ told_at zones zone i ref (its_zone, (set, at)) = record {
       (among_at (placed_in zones zone) i (record { slot = ref.slot; set = set }) at);
   its = λ p is.
       let same : p ≡ record { slot = ref.slot; set = set } = some_same (sym is ∙ at) in
-      (ap (λ (q : Placed). q.set) same, ap (ref_in zone) same ∙ ap (λ (z : ℕ). record { zone = z; slot = ref.slot }) (sym its_zone));
+      (ap (λ (q : Slotted). q.set) same, ap (ref_in zone) same ∙ ap (λ (z : ℕ). record { zone = z; slot = ref.slot }) (sym its_zone));
 }
 
 pub slot_below : (zones : List Zone) (slots : ℕ) (ref : SetRef) (set : RecordSet)
-    → HaveSlotsBelow zones slots → Names zones ref set → ref.slot < slots
+    → HaveSlotsBelow zones slots → RefersTo zones ref set → ref.slot < slots
 slot_below zones slots ref set below names =
     let z = its_zone zones ref.zone (record { slot = ref.slot; set = set }) names in
     below z.0 (record { slot = ref.slot; set = set }) z.1.0 z.1.2
 
 -- a zone that has a set is one of those up to the last
-pub up_to : (zones : List Zone) (id zone : ℕ) (p : Placed)
+pub up_to : (zones : List Zone) (id zone : ℕ) (p : Slotted)
     → ((z : Zone) → IsOne zones z → z.id ≤ zone) → IsHere (placed_in zones id) p → id ≤ zone
 up_to zones id zone p all here =
     let z = its_zone zones id p here in

@@ -3,7 +3,7 @@ use Rattle.std.proofs.Common.{◌≡◌, ◌≢◌, ◌<◌, ℕ, zero, suc, Lis
 use Rattle.std.specs.Prelude.{slice_get}
 use Rattle.std.specs.List.{AllByRecursion}
 use Rattle.std.proofs.lemmas.Bool.{cases_eq, eq-eqb, ne_eqb}
-use Rattle.check_model.specs.Checks.{IdsRise, check_at}
+use Rattle.check_model.specs.Checks.{IdsRise, check_with}
 use Rattle.check_model.specs.declared.checks.Check.{Check}
 use Rattle.health_planning.specs.Wired.{IsPlace, StandApart, StandsAt, ids_of, place_of}
 
@@ -49,12 +49,12 @@ held_there (held ∷ list) (suc place) id e = held_there list place id e
 
 -- the check at the place of its number is the one that is found
 past_first : (held : ℕ × Check) (list : List (ℕ × Check)) (id : ℕ) → id ≢ held.0
-    → check_at (held ∷ list) id ≡ check_at list id
+    → check_with (held ∷ list) id ≡ check_with list id
 past_first held list id apart = rw (ne_eqb id held.0 apart) refl
 
 pub check_there : (list : List (ℕ × Check)) (id place : ℕ) → slice_get (ids_of list) place ≡ Some id
     → place_of (ids_of list) id ≡ place
-    → (check : Check) × (slice_get list place ≡ Some (id, check)) × (check_at list id ≡ Some check)
+    → (check : Check) × (slice_get list place ≡ Some (id, check)) × (check_with list id ≡ Some check)
 check_there [] id place e first = let no : ⊥ = cc in absurd no
 check_there (held ∷ list) id zero e first =
     let same = some_same e in
@@ -76,7 +76,7 @@ id_there (held ∷ list) (suc place) id check e = id_there list place id check e
 
 -- a number that no place has is of no check
 pub no_check : (list : List (ℕ × Check)) (id : ℕ)
-    → ((place : ℕ) → slice_get (ids_of list) place ≡ Some id → ⊥) → check_at list id ≡ None
+    → ((place : ℕ) → slice_get (ids_of list) place ≡ Some id → ⊥) → check_with list id ≡ None
 no_check [] id none = refl
 no_check (held ∷ list) id none =
     rw (ne_eqb id held.0 (λ same. none 0 (ap Some (sym same))))
@@ -91,7 +91,7 @@ above (held ∷ list) n (suc place) id check all e = above list n place id check
 
 -- the check that stands at a place is the one of its number
 pub id_at : (list : List (ℕ × Check)) (place id : ℕ) (check : Check) → IdsRise list
-    → slice_get list place ≡ Some (id, check) → check_at list id ≡ Some check
+    → slice_get list place ≡ Some (id, check) → check_with list id ≡ Some check
 id_at [] place id check rise e = let no : ⊥ = cc in absurd no
 id_at (held ∷ list) zero id check rise e =
     let same = some_same e in
@@ -130,7 +130,7 @@ of_all P (first ∷ list) zero held all e = rw (sym (some_same e)) all.0
 of_all P (first ∷ list) (suc place) held all e = of_all P list place held all.1 e
 
 -- where the check of a number stands
-pub found : (list : List (ℕ × Check)) (id : ℕ) (check : Check) → check_at list id ≡ Some check
+pub found : (list : List (ℕ × Check)) (id : ℕ) (check : Check) → check_with list id ≡ Some check
     → slice_get list (place_of (ids_of list) id) ≡ Some (id, check)
 found [] id check e = let no : ⊥ = cc in absurd no
 found (held ∷ list) id check e = elim (cases_eq id held.0) [

@@ -4,7 +4,7 @@ use Rattle.std.specs.Prelude.{slice_get}
 use Rattle.std.proofs.lemmas.Bool.{ne_eqb}
 use Rattle.std.proofs.lemmas.List.{map-append}
 use mathlib.Core.Path.{subst}
-use Rattle.check_model.specs.Checks.{Checks, check_at}
+use Rattle.check_model.specs.Checks.{Checks, check_with}
 use Rattle.check_model.specs.declared.checks.Check.{Check}
 use Rattle.check_model.specs.declared.checks.Check.TheVariants.{Endpoint, Calculated}
 use Rattle.checker_state.specs.Standing.{Seen, kept, nothing, numbers}
@@ -12,8 +12,8 @@ use Rattle.checker_state.specs.Standing.{StandsFor as HasSeen}
 use Rattle.health_model.specs.Statuses.{AreReports, Report, results_of}
 use Rattle.policy_select.proofs.MembersOfZoneList.{filled}
 use Rattle.zone_model.proofs.Lists.{take_more}
-use Rattle.health_planning.specs.Building.{check_shape, check_shapes}
-use Rattle.health_planning.specs.Following.{FollowsAt, HasThreshold, Knows}
+use Rattle.health_planning.specs.Building.{check_trigger, check_triggers}
+use Rattle.health_planning.specs.Later.{IsLaterAt, HasThreshold, Knows}
 use Rattle.health_planning.specs.Building.{IsSeen}
 use Rattle.health_planning.specs.Wired.{StandsAt, ids_of, place_of}
 use Rattle.health_planning.proofs.Places.{found, held_there, id_there, of_all, one_place}
@@ -21,14 +21,14 @@ use Rattle.health_planning.proofs.Places.{found, held_there, id_there, of_all, o
 some_same : {X : Type 0} {x y : X} → Some x ≡ Some y → x ≡ y
 some_same e = cc
 
--- one shape more
-pub shapes_more : (reports : List Report) (list : List (ℕ × Check)) (place : ℕ) (held : ℕ × Check)
+-- one trigger more
+pub triggers_more : (reports : List Report) (list : List (ℕ × Check)) (place : ℕ) (held : ℕ × Check)
     → slice_get list place ≡ Some held
-    → check_shapes reports (take place list) ++ check_shape reports held.0 held.1 ∷ []
-    ≡ check_shapes reports (take (place + 1) list)
-shapes_more reports list place held at =
-    sym (map-append (λ (h : ℕ × Check). check_shape reports h.0 h.1) (take place list) (held ∷ []))
-    ∙ ap (check_shapes reports) (sym (take_more list place held at))
+    → check_triggers reports (take place list) ++ check_trigger reports held.0 held.1 ∷ []
+    ≡ check_triggers reports (take (place + 1) list)
+triggers_more reports list place held at =
+    sym (map-append (λ (h : ℕ × Check). check_trigger reports h.0 h.1) (take place list) (held ∷ []))
+    ∙ ap (check_triggers reports) (sym (take_more list place held at))
 
 -- no report is of a number that no check had
 none_of : (next id : ℕ) (reports : List Report) (checker : ℕ) → AreReports next reports
@@ -77,7 +77,7 @@ module _ (ids : List ℕ) (seen : List (Option Seen)) (at : Option ℕ) (id thre
       (λ k. ap (kept threshold) (sym (none_of old.next id reports k knows.its_reports late))) numbers)
 
   -- one that was
-  stayed : (check : Check) → check_at old.list id ≡ Some check → HasThreshold (Some check) threshold
+  stayed : (check : Check) → check_with old.list id ≡ Some check → HasThreshold (Some check) threshold
       → HasSeen threshold (results_of reports id) result
   stayed (Calculated other its off children) is same = absurd same
   stayed (Endpoint other its off) is same =
@@ -105,12 +105,12 @@ module _ (ids : List ℕ) (seen : List (Option Seen)) (at : Option ℕ) (id thre
           let at_one = subst (λ (n : ℕ). slice_get old.list n ≡ Some (id, Endpoint other its off)) (sym one) here in
           saw_it at_place e saw.0 saw.1 (knows.its_seen at_place id (Endpoint other its off) saw.0 at_one saw.1)
 
-  pub seen_endpoint : FollowsAt old id (Endpoint threshold inverted disabled)
+  pub seen_endpoint : IsLaterAt old id (Endpoint threshold inverted disabled)
       → IsSeen reports id (Endpoint threshold inverted disabled) (Some result)
   seen_endpoint (inl late) = fresh late
-  seen_endpoint (inr was) = by (check_at old.list id) refl was
+  seen_endpoint (inr was) = by (check_with old.list id) refl was
     where
-      by : (o : Option Check) → check_at old.list id ≡ o → HasThreshold o threshold
+      by : (o : Option Check) → check_with old.list id ≡ o → HasThreshold o threshold
           → HasSeen threshold (results_of reports id) result
       by None at was = absurd was
       by (Some check) at was = stayed check at was
@@ -123,6 +123,6 @@ pub seen_it : (ids : List ℕ) (seen : List (Option Seen)) (at : Option ℕ) (id
     → (at ≡ None → HasSeen threshold nothing result)
     → (old : Checks) (reports : List Report) → Knows old reports ids seen → StandsAt ids id at
     → (check : Check) {inverted disabled : Bool} → check ≡ Endpoint threshold inverted disabled
-    → FollowsAt old id check → IsSeen reports id check (Some result)
+    → IsLaterAt old id check → IsSeen reports id check (Some result)
 seen_it ids seen at id threshold result within kept_on new old reports knows stands check {inverted} {disabled} e follows =
     rw e (seen_endpoint ids seen at id threshold inverted disabled result within kept_on new old reports knows stands (rw e at follows))

@@ -6,7 +6,7 @@ use Rattle.std.proofs.lemmas.Bool.{cases_eq, eq-eqb, ne_eqb}
 use Rattle.check_model.specs.Checks.{Checks}
 use Rattle.health_model.specs.Healthy.{sets_of as sets_at, sets_there}
 use Rattle.policy_select.specs.Zones.{Zone, placed_in}
-use Rattle.zone_model.specs.Placed.{sets_of}
+use Rattle.zone_model.specs.Slotted.{sets_of}
 use Rattle.health_planning.specs.Wired.{watched_of, watched_zone}
 
 -- the sets of a zone, as health sees them

@@ -1,4 +1,4 @@
--- The gates that are built are those of the configuration.
+-- The valves that are built are those of the configuration.
 use Rattle.std.proofs.Common.{◌≡◌, ◌<◌, ◌≤◌, ◌+◌, ◌-◌, ℕ, zero, suc, Bool, true, false, List, [], ◌∷◌, ◌++◌, length, map, arith, refl, ap, sym, ◌∙◌, inl, inr, Some, None, Option}
 use Rattle.std.specs.Prelude.{◌==◌, cond, is_some, slice_get}
 use Rattle.std.specs.List.{AllByRecursion, filter}
@@ -10,8 +10,8 @@ use Rattle.std.proofs.lemmas.Option.{slice_get_within}
 use mathlib.Core.Path.{subst}
 use Rattle.check_model.specs.declared.checks.Check.{Check}
 use Rattle.dns_name.specs.OrderLaws.{same_labels-Decides}
-use Rattle.health_gates.specs.Plan.{Planned, feeders_in, net_in, own_in, own_of, rule_of}
-use Rattle.health_gates.specs.declared.plan.Shape.{Shape}
+use Rattle.health_valves.specs.Blueprint.{Drawn, feeders_in, net_in, own_in, own_of, condition_of}
+use Rattle.health_valves.specs.declared.blueprint.Trigger.{Trigger}
 use Rattle.health_model.specs.Nodes.{CheckNode, GroupNode, Node, SetNode}
 use Rattle.health_model.specs.Statuses.{Report}
 use Rattle.policy_select.proofs.Members.{one_named}
@@ -28,12 +28,12 @@ use Rattle.policy_select.specs.Zones.{AreZones, StandsAlone, Zone, placed_in}
 use Rattle.policy_select.specs.SetRefRecord.{SetRef}
 use Rattle.zone_model.proofs.Among.{among_at}
 use Rattle.zone_model.proofs.Ordered.{one_number}
-use Rattle.zone_model.specs.Placed.{IsHere, Placed, sets_of}
+use Rattle.zone_model.specs.Slotted.{IsHere, Slotted, sets_of}
 use Rattle.zone_model.specs.Zones.{IsAmong, IsRising, group, is_of_group}
-use Rattle.policy_select.specs.Looking.{Names}
+use Rattle.policy_select.specs.Looking.{RefersTo}
 use Rattle.policy_select.specs.Tables.{HaveSlotsApart}
-use Rattle.health_planning.specs.Building.{AllListed, AreShaped, HasTarget, HasTargetGate, IsBuilt, IsListed, check_shape, group_shape, number, set_shape}
-use Rattle.health_planning.specs.Wired.{AreMembers, HasSlot, IsFirstIn, IsGateFor, IsGroupGate, IsSeated, IsSetGate, IsTarget, IsWired, TellGroup, check_seat, gates_of, group_seat, ids_of, is_watched, only_check, place_of, plain_among, seat_of, with_gate}
+use Rattle.health_planning.specs.Building.{AllListed, AreTriggered, HasTarget, HasTargetValve, IsBuilt, IsListed, check_trigger, group_trigger, number, set_trigger}
+use Rattle.health_planning.specs.Wired.{AreMembers, HasSlot, IsFirstIn, IsValveFor, IsGroupValve, IsSeated, IsSetValve, IsTarget, AreValvesOf, TellGroup, check_seat, valves_of, group_seat, ids_of, is_watched, only_check, place_of, plain_among, seat_of, with_valve}
 use Rattle.health_planning.specs.declared.seats.Seat.{Seat}
 use Rattle.health_planning.proofs.ListedOnce.{one_ref}
 
@@ -79,8 +79,8 @@ rising_in (zone ∷ zones) each id = by (zone.id == id) (rising_in zones each.1 
 
 -- the first set of a group
 record HasFirst (zones : List Zone) (zone : ℕ) (name : List (List ℕ)) (rtype : RType)
-    (members : List Placed) (slot : ℕ) : Type 0 where
-  p : Placed
+    (members : List Slotted) (slot : ℕ) : Type 0 where
+  p : Slotted
   at : slice_get members 0 ≡ Some p
   slot_is : p.slot ≡ slot
   here : IsHere (placed_in zones zone) p
@@ -88,7 +88,7 @@ record HasFirst (zones : List Zone) (zone : ℕ) (name : List (List ℕ)) (rtype
   rtype_is : rtype ≡ p.set.rtype
 
 has_first : (zones : List Zone) (zone : ℕ) (name : List (List ℕ)) (rtype : RType)
-    (members : List Placed) (slot : ℕ) → AreMembers zones zone name rtype members
+    (members : List Slotted) (slot : ℕ) → AreMembers zones zone name rtype members
     → IsFirstIn members slot → HasFirst zones zone name rtype members slot
 has_first zones zone name rtype members slot are (p, at, slot_is) =
     let m = among_at members 0 p at in
@@ -104,22 +104,22 @@ has_first zones zone name rtype members slot are (p, at, slot_is) =
     }
 
 -- the first of some sets
-pub record IsFirstOf (members : List Placed) : Type 0 where
-  pub p : Placed
+pub record IsFirstOf (members : List Slotted) : Type 0 where
+  pub p : Slotted
   pub at : slice_get members 0 ≡ Some p
   pub here : IsHere members p
 
-pub first_of : (members : List Placed) (p : Placed) → IsHere members p → IsFirstOf members
+pub first_of : (members : List Slotted) (p : Slotted) → IsHere members p → IsFirstOf members
 first_of [] p m = absurd m
 first_of (q ∷ members) p m = record { p = q; at = refl; here = inl refl }
 
-pub first_here : (members : List Placed) (slot : ℕ) → IsFirstIn members slot
+pub first_here : (members : List Slotted) (slot : ℕ) → IsFirstIn members slot
     → HasSlot members slot
 first_here members slot (p, at, is) = (p, among_at members 0 p at, is)
 
 module _ (zones : List Zone) (are_zones : AreZones zones) where
   -- the first set of a group stands in one slot
-  pub first_same : (zone : ℕ) (name : List (List ℕ)) (rtype : RType) (xs ys : List Placed) (s t : ℕ)
+  pub first_same : (zone : ℕ) (name : List (List ℕ)) (rtype : RType) (xs ys : List Slotted) (s t : ℕ)
       → AreMembers zones zone name rtype xs → IsFirstIn xs s
       → AreMembers zones zone name rtype ys → IsFirstIn ys t → s ≡ t
   first_same zone name rtype xs ys s t are_xs first_xs are_ys first_ys =
@@ -127,16 +127,16 @@ module _ (zones : List Zone) (are_zones : AreZones zones) where
       let b = has_first zones zone name rtype ys t are_ys first_ys in
       let sets = set_at xs a.p a.at ∙ ap (λ (l : List RecordSet). slice_get l 0) (are_xs.sets ∙ sym are_ys.sets) ∙ sym (set_at ys b.p b.at) in
       let one = one_of_key (placed_in zones zone) (rising_in zones are_zones.each zone) a.p b.p a.here b.here (ap key_of (some_same sets)) in
-      sym a.slot_is ∙ ap (λ (p : Placed). p.slot) one ∙ b.slot_is
+      sym a.slot_is ∙ ap (λ (p : Slotted). p.slot) one ∙ b.slot_is
     where
-      set_at : (l : List Placed) (p : Placed) → slice_get l 0 ≡ Some p
+      set_at : (l : List Slotted) (p : Slotted) → slice_get l 0 ≡ Some p
           → Some p.set ≡ slice_get (sets_of l) 0
       set_at [] p e = let no : ⊥ = cc in absurd no
-      set_at (q ∷ l) p e = ap (λ (x : Placed). Some x.set) (sym (some_same e))
+      set_at (q ∷ l) p e = ap (λ (x : Slotted). Some x.set) (sym (some_same e))
 
   -- a set of a group is one of it, however its sets are listed
-  pub member_there : (zone : ℕ) (name : List (List ℕ)) (rtype : RType) (xs ys : List Placed)
-      (p : Placed) → AreMembers zones zone name rtype xs → IsHere xs p
+  pub member_there : (zone : ℕ) (name : List (List ℕ)) (rtype : RType) (xs ys : List Slotted)
+      (p : Slotted) → AreMembers zones zone name rtype xs → IsHere xs p
       → AreMembers zones zone name rtype ys → IsHere ys p
   member_there zone name rtype xs ys p are_xs in_xs are_ys =
       let q = placed_with ys p.set
@@ -147,7 +147,7 @@ module _ (zones : List Zone) (are_zones : AreZones zones) where
   module _ (apart : HaveSlotsApart zones) where
     -- groups with sets in one slot have one zone, name and type
     pub same_names : (zone other : ℕ) (name name_two : List (List ℕ)) (rtype rtype_two : RType)
-        (xs ys : List Placed) (p q : Placed)
+        (xs ys : List Slotted) (p q : Slotted)
         → AreMembers zones zone name rtype xs → IsHere xs p
         → AreMembers zones other name_two rtype_two ys → IsHere ys q → p.slot ≡ q.slot
         → (other ≡ zone) × ((name_two ≡ name) × (rtype_two ≡ rtype))
@@ -159,14 +159,14 @@ module _ (zones : List Zone) (are_zones : AreZones zones) where
         let here = are_xs.here p in_xs in
         let there = are_ys.here q in_ys in
         let refs = one_ref zones (ref_in other q) (ref_in zone p) q.set p.set apart there here (sym same) in
-        let sets = one_named zones (ref_in zone p) q.set p.set are_zones (subst (λ (r : SetRef). Names zones r q.set) refs there) here in (
+        let sets = one_named zones (ref_in zone p) q.set p.set are_zones (subst (λ (r : SetRef). RefersTo zones r q.set) refs there) here in (
           ap (λ (r : SetRef). r.zone) refs,
           (b.0 ∙ ap (λ (s : RecordSet). s.name) sets ∙ sym a.0, b.1 ∙ ap (λ (s : RecordSet). s.rtype) sets ∙ sym a.1),
         )
 
     -- groups with sets in one slot are one
     pub same_group : (zone other : ℕ) (name name_two : List (List ℕ)) (rtype rtype_two : RType)
-        (xs ys : List Placed) (p q : Placed)
+        (xs ys : List Slotted) (p q : Slotted)
         → AreMembers zones zone name rtype xs → IsHere xs p
         → AreMembers zones other name_two rtype_two ys → IsHere ys q → p.slot ≡ q.slot
         → AreMembers zones zone name rtype ys
@@ -176,50 +176,50 @@ module _ (zones : List Zone) (are_zones : AreZones zones) where
         (subst (λ (n : List (List ℕ)). AreMembers zones other n rtype ys) one.1.0
         (subst (λ (r : RType). AreMembers zones other name_two r ys) one.1.1 are_ys))
 
--- ---- all gates
+-- ---- all valves
 
 pub ids_long : (list : List (ℕ × Check)) → length (ids_of list) ≡ length list
 ids_long list = length-map list (λ (held : ℕ × Check). held.0)
 
 module _ (zones : List Zone) (list : List (ℕ × Check)) (refs : List SetRef) (seats : List Seat)
-    (plan : Planned) (are_zones : AreZones zones) (apart : HaveSlotsApart zones)
-    (built : IsBuilt zones list refs seats plan.shapes plan.links) where
-  -- a group with a gate
-  group_there : (members : List Placed) (slot gate : ℕ) → IsFirstIn members slot
-      → group_seat seats slot ≡ suc gate → TellGroup seats members gate → length list + length refs ≤ gate
-      → slice_get plan.shapes gate ≡ Some (group_shape (plain_among seats members))
-      → feeders_in plan.links gate ≡ gates_of seats members
-      → IsGroupGate (length (ids_of list)) seats (net_in plan) (own_in plan) members gate
-  group_there members slot gate first seat each behind shape fed =
+    (blueprint : Drawn) (are_zones : AreZones zones) (apart : HaveSlotsApart zones)
+    (built : IsBuilt zones list refs seats blueprint.triggers blueprint.links) where
+  -- a group with a valve
+  group_there : (members : List Slotted) (slot valve : ℕ) → IsFirstIn members slot
+      → group_seat seats slot ≡ suc valve → TellGroup seats members valve → length list + length refs ≤ valve
+      → slice_get blueprint.triggers valve ≡ Some (group_trigger (plain_among seats members))
+      → feeders_in blueprint.links valve ≡ valves_of seats members
+      → IsGroupValve (length (ids_of list)) seats (net_in blueprint) (own_in blueprint) members valve
+  group_there members slot valve first seat each behind trigger fed =
       let long = ids_long list in
       record {
         seat = (slot, (first, seat));
         each = each;
         behind = omega arith;
-        within = slice_get_within plan.shapes gate (group_shape (plain_among seats members)) shape;
-        rule = ap (λ (o : Option Shape). rule_of o (feeders_in plan.links gate)) shape
+        within = slice_get_within blueprint.triggers valve (group_trigger (plain_among seats members)) trigger;
+        condition = ap (λ (o : Option Trigger). condition_of o (feeders_in blueprint.links valve)) trigger
             ∙ ap (λ (l : List ℕ). record { need = 1; inverted = false; feeders = l }) fed;
-        its_own = ap own_of shape;
+        its_own = ap own_of trigger;
       }
 
-  -- the gate of a target group
+  -- the valve of a target group
   record HasTargetIn (zone : ℕ) (name : List (List ℕ)) (rtype : RType) (slot : ℕ) : Type 0 where
-    gate : ℕ
-    seat : group_seat seats slot ≡ suc gate
-    behind : length list + length refs ≤ gate
-    members : List Placed
-    each : TellGroup seats members gate
+    valve : ℕ
+    seat : group_seat seats slot ≡ suc valve
+    behind : length list + length refs ≤ valve
+    members : List Slotted
+    each : TellGroup seats members valve
     first : IsFirstIn members slot
     are : AreMembers zones zone name rtype members
-    shape : slice_get plan.shapes gate ≡ Some (group_shape (plain_among seats members))
-    fed : feeders_in plan.links gate ≡ gates_of seats members
+    trigger : slice_get blueprint.triggers valve ≡ Some (group_trigger (plain_among seats members))
+    fed : feeders_in blueprint.links valve ≡ valves_of seats members
 
-  target_in : (zone : ℕ) (name : List (List ℕ)) (rtype : RType) (members : List Placed) (slot : ℕ)
+  target_in : (zone : ℕ) (name : List (List ℕ)) (rtype : RType) (members : List Slotted) (slot : ℕ)
       → AreMembers zones zone name rtype members → IsFirstIn members slot
       → HasTarget zones seats zone name rtype → HasTargetIn zone name rtype slot
   target_in zone name rtype members slot are first t =
       let slot_is = first_same zones are_zones zone name rtype t.members members t.slot slot t.are t.first are first in
-      let g = built.groups.gates t.slot t.gate t.seat in
+      let g = built.groups.valves t.slot t.valve t.seat in
       let p = first_here t.members t.slot t.first in
       let q = g.1.here in
       let its = same_group zones are_zones apart zone g.1.zone name g.1.name rtype g.1.rtype t.members g.1.members p.0 q.0 t.are p.1 g.1.are q.1
@@ -227,24 +227,24 @@ module _ (zones : List Zone) (list : List (ℕ × Check)) (refs : List SetRef) (
       let f = first_of g.1.members q.0 q.1 in
       let f_is = first_same zones are_zones zone name rtype g.1.members members f.p.slot slot its (f.p, f.at, refl) are first in
       record {
-        gate = t.gate;
+        valve = t.valve;
         seat = ap (group_seat seats) (sym slot_is) ∙ t.seat;
         behind = g.0;
         members = g.1.members;
         each = g.1.each;
         first = subst (IsFirstIn g.1.members) f_is (f.p, f.at, refl);
         are = its;
-        shape = g.1.shape;
+        trigger = g.1.trigger;
         fed = g.1.fed;
       }
 
   -- what a target gives a set
   record HasTargetThere (zone : ℕ) (rtype : RType) (its : Body) (target : List ℕ) : Type 0 where
-    are : IsTarget zones (length (ids_of list)) seats (net_in plan) (own_in plan) zone rtype its target
+    are : IsTarget zones (length (ids_of list)) seats (net_in blueprint) (own_in blueprint) zone rtype its target
     as_many : number (evaluates its) ≡ length target
 
   target_there : (zone : ℕ) (rtype : RType) (its : Body) (target : List ℕ)
-      → HasTargetGate zones seats zone rtype its target
+      → HasTargetValve zones seats zone rtype its target
       → ((name : List (List ℕ)) → its ≡ body.Alias name true → HasTarget zones seats zone name rtype)
       → HasTargetThere zone rtype its target
   target_there zone rtype (body.Values ttl values) target is has =
@@ -253,17 +253,17 @@ module _ (zones : List Zone) (list : List (ℕ × Check)) (refs : List SetRef) (
       record { are = inl (off, is); as_many = ap number off ∙ sym (ap length is) }
   target_there zone rtype (body.Alias name evaluate) target (inr (on, (members, (slot, (are, first, is))))) has =
       let t = target_in zone name rtype members slot are first (has name (ap (body.Alias name) on)) in
-      let target_is : target ≡ t.gate ∷ [] = is ∙ ap (λ (n : ℕ). with_gate n []) t.seat in
+      let target_is : target ≡ t.valve ∷ [] = is ∙ ap (λ (n : ℕ). with_valve n []) t.seat in
       record {
         are = inr (
           on,
           (
-            t.gate,
+            t.valve,
             target_is,
             (
               t.members,
               t.are,
-              group_there t.members slot t.gate t.first t.seat t.each t.behind t.shape t.fed,
+              group_there t.members slot t.valve t.first t.seat t.each t.behind t.trigger t.fed,
             ),
           ),
         );
@@ -276,123 +276,123 @@ module _ (zones : List Zone) (list : List (ℕ × Check)) (refs : List SetRef) (
   checks_many None target n e = omega arith
   checks_many (Some id) target n e = omega arith
 
-  -- the gate of a set that something decides
-  record HasGate (zone : ℕ) (p : Placed) : Type 0 where
-    gate : ℕ
-    seat : seat_of seats p.slot ≡ suc gate
+  -- the valve of a set that something decides
+  record HasValve (zone : ℕ) (p : Slotted) : Type 0 where
+    valve : ℕ
+    seat : seat_of seats p.slot ≡ suc valve
     told : check_seat seats p.slot ≡ only_check p.set
-    is : IsSetGate zones (ids_of list) seats (net_in plan) (own_in plan) zone p.set gate
+    is : IsSetValve zones (ids_of list) seats (net_in blueprint) (own_in blueprint) zone p.set valve
 
-  gate_of : (zone : ℕ) (p : Placed) → IsHere (placed_in zones zone) p
-      → IsListed refs (ref_in zone p) → HasGate zone p
-  gate_of zone p here k =
-      let gate = length list + k.0 in
+  valve_of : (zone : ℕ) (p : Slotted) → IsHere (placed_in zones zone) p
+      → IsListed refs (ref_in zone p) → HasValve zone p
+  valve_of zone p here k =
+      let valve = length list + k.0 in
       let g = built.sets k.0 (ref_in zone p) k.1 in
       let named = one_named zones (ref_in zone p) g.named p.set are_zones g.names here in
-      let shape = g.shape ∙ ap (λ (s : RecordSet). Some (set_shape s)) named in
+      let trigger = g.trigger ∙ ap (λ (s : RecordSet). Some (set_trigger s)) named in
       let feeds = built.fed k.0 (ref_in zone p) p.set k.1 here in
       let t = target_there zone p.set.rtype p.set.body feeds.0 feeds.1.0
       (λ name is. built.targets k.0 (ref_in zone p) p.set name k.1 here is) in
       let long = ids_long list in
       record {
-        gate = gate;
+        valve = valve;
         seat = g.seat;
         told = g.told ∙ ap only_check named;
         is = record {
           behind = omega arith;
-          within = slice_get_within plan.shapes gate (set_shape p.set) shape;
+          within = slice_get_within blueprint.triggers valve (set_trigger p.set) trigger;
           target = feeds.0;
           its_target = t.are;
-          rule = ap (λ (o : Option Shape). rule_of o (feeders_in plan.links gate)) shape
+          condition = ap (λ (o : Option Trigger). condition_of o (feeders_in blueprint.links valve)) trigger
               ∙ ap (λ (l : List ℕ). record { need = number (is_some p.set.check) + number (evaluates p.set.body); inverted = false; feeders = l }) feeds.1.1
               ∙ ap (λ (n : ℕ). record { need = n; inverted = false; feeders = map (place_of (ids_of list)) (option_to_list p.set.check) ++ feeds.0 })
               (checks_many p.set.check feeds.0 (number (evaluates p.set.body)) t.as_many);
-          its_own = ap own_of shape;
+          its_own = ap own_of trigger;
         };
       }
 
-  -- a set whose slot has a gate is listed, and one that something decides
-  watched_there : (zone : ℕ) (p : Placed) → IsHere (placed_in zones zone) p → (gate : ℕ)
-      → seat_of seats p.slot ≡ suc gate
+  -- a set whose slot has a valve is listed, and one that something decides
+  watched_there : (zone : ℕ) (p : Slotted) → IsHere (placed_in zones zone) p → (valve : ℕ)
+      → seat_of seats p.slot ≡ suc valve
       → IsListed refs (ref_in zone p) × (is_watched p.set ≡ true)
-  watched_there zone p here gate seat =
-      let o = built.only p.slot gate seat in
+  watched_there zone p here valve seat =
+      let o = built.only p.slot valve seat in
       let g = built.sets o.0 o.1.0 o.1.2 in
       let ref_is = one_ref zones o.1.0 (ref_in zone p) g.named p.set apart g.names here o.1.3 in
-      let named = one_named zones (ref_in zone p) g.named p.set are_zones (subst (λ (r : SetRef). Names zones r g.named) ref_is g.names) here in
+      let named = one_named zones (ref_in zone p) g.named p.set are_zones (subst (λ (r : SetRef). RefersTo zones r g.named) ref_is g.names) here in
       ((o.0, o.1.2 ∙ ap Some ref_is), sym (ap is_watched named) ∙ g.watched)
 
-  -- a gate that the seat of a set tells is its own
-  pub set_gate : (zone : ℕ) (p : Placed) (gate : ℕ) → IsHere (placed_in zones zone) p
-      → seat_of seats p.slot ≡ suc gate
-      → IsSetGate zones (ids_of list) seats (net_in plan) (own_in plan) zone p.set gate
-  set_gate zone p gate here seat =
-      let g = gate_of zone p here (watched_there zone p here gate seat).0 in
+  -- a valve that the seat of a set tells is its own
+  pub set_valve : (zone : ℕ) (p : Slotted) (valve : ℕ) → IsHere (placed_in zones zone) p
+      → seat_of seats p.slot ≡ suc valve
+      → IsSetValve zones (ids_of list) seats (net_in blueprint) (own_in blueprint) zone p.set valve
+  set_valve zone p valve here seat =
+      let g = valve_of zone p here (watched_there zone p here valve seat).0 in
       let other = g.seat in
-      let same : g.gate ≡ gate = omega arith in
-      subst (IsSetGate zones (ids_of list) seats (net_in plan) (own_in plan) zone p.set) same g.is
+      let same : g.valve ≡ valve = omega arith in
+      subst (IsSetValve zones (ids_of list) seats (net_in blueprint) (own_in blueprint) zone p.set) same g.is
 
-  pub seated : AllListed zones refs → (zone : ℕ) (p : Placed) → IsHere (placed_in zones zone) p
-      → IsSeated zones (ids_of list) seats (net_in plan) (own_in plan) zone p
+  pub seated : AllListed zones refs → (zone : ℕ) (p : Slotted) → IsHere (placed_in zones zone) p
+      → IsSeated zones (ids_of list) seats (net_in blueprint) (own_in blueprint) zone p
   seated all zone p here = record {
     plain = λ off. by (seat_of seats p.slot) refl off;
-    told = λ on. (gate_of zone p here (all zone p here on)).told;
-    gated = λ on. let g = gate_of zone p here (all zone p here on) in (g.gate, g.seat, g.is);
+    told = λ on. (valve_of zone p here (all zone p here on)).told;
+    valved = λ on. let g = valve_of zone p here (all zone p here on) in (g.valve, g.seat, g.is);
   }
     where
       by : (n : ℕ) → seat_of seats p.slot ≡ n → is_watched p.set ≡ false → seat_of seats p.slot ≡ 0
       by zero e off = e
-      by (suc gate) e off =
-          absurd (false≢true (sym off ∙ (watched_there zone p here gate e).1))
+      by (suc valve) e off =
+          absurd (false≢true (sym off ∙ (watched_there zone p here valve e).1))
 
-  -- each gate is that of a node
-  pub nodes : (gate : ℕ) → gate < length plan.shapes
-      → (node : Node) × IsGateFor zones list seats (net_in plan) (own_in plan) gate node
-  nodes gate within = elim (cases_lt gate (length list)) [
+  -- each valve is that of a node
+  pub nodes : (valve : ℕ) → valve < length blueprint.triggers
+      → (node : Node) × IsValveFor zones list seats (net_in blueprint) (own_in blueprint) valve node
+  nodes valve within = elim (cases_lt valve (length list)) [
     | inl early ↦
-        let held = filled list gate early in
+        let held = filled list valve early in
         (CheckNode held.0.0, (held.0.1, held.1))
-    | inr past ↦ elim (cases_lt gate (length list + length refs)) [
-      | inl early ↦ set_node gate past early
+    | inr past ↦ elim (cases_lt valve (length list + length refs)) [
+      | inl early ↦ set_node valve past early
       | inr late ↦
-          let slot = built.groups.all gate late within in
-          let g = built.groups.gates slot.0 gate slot.1 in
+          let slot = built.groups.all valve late within in
+          let g = built.groups.valves slot.0 valve slot.1 in
           let f = first_of g.1.members g.1.here.0 g.1.here.1 in (
             GroupNode g.1.zone g.1.name g.1.rtype,
             (
               g.1.members,
               (
                 g.1.are,
-                group_there g.1.members f.p.slot gate (f.p, f.at, refl) (g.1.each f.p f.here) g.1.each g.0 g.1.shape g.1.fed,
+                group_there g.1.members f.p.slot valve (f.p, f.at, refl) (g.1.each f.p f.here) g.1.each g.0 g.1.trigger g.1.fed,
               ),
             ),
           )
     ]
   ]
     where
-      set_node : (gate : ℕ) → length list ≤ gate → gate < length list + length refs
-          → (node : Node) × IsGateFor zones list seats (net_in plan) (own_in plan) gate node
-      set_node gate past early =
-          let k = gate - length list in
-          let is : length list + k ≡ gate = omega arith in
+      set_node : (valve : ℕ) → length list ≤ valve → valve < length list + length refs
+          → (node : Node) × IsValveFor zones list seats (net_in blueprint) (own_in blueprint) valve node
+      set_node valve past early =
+          let k = valve - length list in
+          let is : length list + k ≡ valve = omega arith in
           let ref = filled refs k (omega arith) in
           let g = built.sets k ref.0 ref.1 in
           (SetNode ref.0.zone g.named, (ref.0.slot, (g.names, g.seat ∙ ap suc is)))
 
-  pub wired : AllListed zones refs → (reports : List Report) → AreShaped reports list plan.shapes
-      → IsWired zones list seats (net_in plan) (own_in plan) reports
-  wired all reports shaped = record {
+  pub wired : AllListed zones refs → (reports : List Report) → AreTriggered reports list blueprint.triggers
+      → AreValvesOf zones list seats (net_in blueprint) (own_in blueprint) reports
+  wired all reports triggered = record {
     its_checks = λ place id check at.
-        let shape = shaped place id check at in
+        let trigger = triggered place id check at in
         record {
-          within = slice_get_within plan.shapes place (check_shape reports id check) shape;
-          rule = ap (λ (o : Option Shape). rule_of o (feeders_in plan.links place)) shape
-              ∙ ap (rule_of (Some (check_shape reports id check))) (built.children place id check at);
-          its_own = ap own_of shape;
+          within = slice_get_within blueprint.triggers place (check_trigger reports id check) trigger;
+          condition = ap (λ (o : Option Trigger). condition_of o (feeders_in blueprint.links place)) trigger
+              ∙ ap (condition_of (Some (check_trigger reports id check))) (built.children place id check at);
+          its_own = ap own_of trigger;
         };
     its_sets = seated all;
     its_nodes = nodes;
-    its_groups = λ slot gate is.
-        let g = built.groups.gates slot gate is in
-        slice_get_within plan.shapes gate (group_shape (plain_among seats g.1.members)) g.1.shape;
+    its_groups = λ slot valve is.
+        let g = built.groups.valves slot valve is in
+        slice_get_within blueprint.triggers valve (group_trigger (plain_among seats g.1.members)) g.1.trigger;
   }

@@ -1,4 +1,4 @@
--- How the gates of a configuration are planned.
+-- How the valves of a configuration are planned.
 use Rattle.std.specs.Prelude.{◌≡◌, ◌≢◌, ◌≤◌, ◌<◌, ◌+◌, ◌^◌, ℕ, suc, Bool, true, false, if◌then◌else◌, is_some, List, [], ◌∷◌, ◌++◌, length, map, Option, None, Some, slice_get, Contains, ◌⊎◌}
 use Rattle.std.specs.List.{AllByRecursion}
 use Rattle.std.specs.Option.{option_to_list}
@@ -7,9 +7,9 @@ use Rattle.check_model.specs.declared.checks.Check.{Check}
 use Rattle.check_model.specs.declared.checks.Check.TheVariants.{Endpoint, Calculated}
 use Rattle.checker_state.specs.Standing.{Seen}
 use Rattle.checker_state.specs.Standing.{StandsFor as HasSeen}
-use Rattle.health_gates.specs.Plan.{feeders_in}
-use Rattle.health_gates.specs.declared.plan.Link.{Link}
-use Rattle.health_gates.specs.declared.plan.Shape.{Shape}
+use Rattle.health_valves.specs.Blueprint.{feeders_in}
+use Rattle.health_valves.specs.declared.blueprint.Feeding.{Feeding}
+use Rattle.health_valves.specs.declared.blueprint.Trigger.{Trigger}
 use Rattle.health_model.specs.Statuses.{Report, passing, results_of}
 use Rattle.rdata_layout.specs.declared.types.RType.{RType}
 use Rattle.record_set.specs.declared.sets.Body.{Body}
@@ -19,44 +19,44 @@ use Rattle.policy_select.specs.Telling.{evaluates}
 use Rattle.policy_select.specs.Changes.{ref_in}
 use Rattle.policy_select.specs.Zones.{Zone, placed_in}
 use Rattle.policy_select.specs.SetRefRecord.{SetRef}
-use Rattle.zone_model.specs.Placed.{IsHere, Placed}
-use Rattle.policy_select.specs.Looking.{Names}
-use Rattle.health_planning.specs.Wired.{AreMembers, HasSlot, IsFirstIn, IsLedTo, TellGroup, check_need, check_own, check_seat, gates_of, group_seat, ids_of, is_inverted, is_watched, only_check, place_of, plain_among, seat_of, with_gate}
+use Rattle.zone_model.specs.Slotted.{IsHere, Slotted}
+use Rattle.policy_select.specs.Looking.{RefersTo}
+use Rattle.health_planning.specs.Wired.{AreMembers, HasSlot, IsFirstIn, IsLedTo, TellGroup, check_need, check_own, check_seat, valves_of, group_seat, ids_of, is_inverted, is_watched, only_check, place_of, plain_among, seat_of, with_valve}
 use Rattle.health_planning.specs.declared.seats.Seat.{Seat}
 
--- some gates feed one
-abbrev pub links_to : (gate : ℕ) → (feeders : List ℕ) → List Link
-links_to gate feeders = map (λ (x : ℕ). record { feeder = x; fed = gate }) feeders
+-- some valves feed one
+abbrev pub links_to : (valve : ℕ) → (feeders : List ℕ) → List Feeding
+links_to valve feeders = map (λ (x : ℕ). record { feeder = x; fed = valve }) feeders
 
--- each link is between gates below this number
-abbrev pub AreWithin : List Link → (n : ℕ) → Type 0
+-- each link is between valves below this number
+abbrev pub AreWithin : List Feeding → (n : ℕ) → Type 0
 AreWithin links n =
-    AllByRecursion (λ (link : Link). (link.feeder < n) × (link.fed < n)) links
+    AllByRecursion (λ (link : Feeding). (link.feeder < n) × (link.fed < n)) links
 
 -- ---- checks
 
--- what opens the gate of a check, and how many of its checkers pass
-abbrev pub check_shape : List Report → (id : ℕ) → Check → Shape
-check_shape reports id check = record {
+-- what opens the valve of a check, and how many of its checkers pass
+abbrev pub check_trigger : List Report → (id : ℕ) → Check → Trigger
+check_trigger reports id check = record {
   need = check_need check;
   inverted = is_inverted check;
   own = check_own check (passing reports id);
 }
 
-abbrev pub check_shapes : List Report → List (ℕ × Check) → List Shape
-check_shapes reports list =
-    map (λ (held : ℕ × Check). check_shape reports held.0 held.1) list
+abbrev pub check_triggers : List Report → List (ℕ × Check) → List Trigger
+check_triggers reports list =
+    map (λ (held : ℕ × Check). check_trigger reports held.0 held.1) list
 
--- the gates of checks stand at their places
-abbrev pub AreShaped : List Report → List (ℕ × Check) → List Shape → Type 0
-AreShaped reports list shapes = (place id : ℕ) (check : Check)
+-- the valves of checks stand at their places
+abbrev pub AreTriggered : List Report → List (ℕ × Check) → List Trigger → Type 0
+AreTriggered reports list triggers = (place id : ℕ) (check : Check)
     → slice_get list place ≡ Some (id, check)
-    → slice_get shapes place ≡ Some (check_shape reports id check)
+    → slice_get triggers place ≡ Some (check_trigger reports id check)
 
--- few are counted at a gate from outside
-abbrev pub IsSmallAt : List Shape → (gate : ℕ) → Type 0
-IsSmallAt shapes gate =
-    (shape : Shape) × ((slice_get shapes gate ≡ Some shape) × (shape.own ≤ 255))
+-- few are counted at a valve from outside
+abbrev pub IsSmallAt : List Trigger → (valve : ℕ) → Type 0
+IsSmallAt triggers valve =
+    (trigger : Trigger) × ((slice_get triggers valve ≡ Some trigger) × (trigger.own ≤ 255))
 
 -- what the fifty checkers of a check saw; a calculated one has none
 abbrev pub IsSeen : List Report → (id : ℕ) → Check → Option Seen → Type 0
@@ -77,8 +77,8 @@ AreOfEndpoints list seen = (place : ℕ) (its : Seen) → slice_get seen place �
     → (id : ℕ) × ((check : Check) × ((slice_get list place ≡ Some (id, check))
     × (children_of check ≡ [])))
 
--- the links into the gates of checks, from one place on
-abbrev pub check_links : List ℕ → (place : ℕ) → List (ℕ × Check) → List Link
+-- the links into the valves of checks, from one place on
+abbrev pub check_links : List ℕ → (place : ℕ) → List (ℕ × Check) → List Feeding
 check_links ids place [] = []
 check_links ids place (held ∷ list) =
     links_to place (map (place_of ids) (children_of held.1)) ++ check_links ids (suc place) list
@@ -93,31 +93,31 @@ AreThere ids children = (child : ℕ) → Contains children child
 abbrev pub number : Bool → ℕ
 number b = if b then 1 else 0
 
-abbrev pub set_shape : RecordSet → Shape
-set_shape set = record {
+abbrev pub set_trigger : RecordSet → Trigger
+set_trigger set = record {
   need = number (is_some set.check) + number (evaluates set.body);
   inverted = false;
   own = 0;
 }
 
--- the gate of a set that was listed
-pub record HasSetGate (zones : List Zone) (seats : List Seat) (shapes : List Shape) (ref : SetRef)
-    (gate : ℕ) : Type 0 where
+-- the valve of a set that was listed
+pub record HasSetValve (zones : List Zone) (seats : List Seat) (triggers : List Trigger) (ref : SetRef)
+    (valve : ℕ) : Type 0 where
   pub named : RecordSet
-  pub names : Names zones ref named
+  pub names : RefersTo zones ref named
   pub watched : is_watched named ≡ true
-  pub seat : seat_of seats ref.slot ≡ suc gate
+  pub seat : seat_of seats ref.slot ≡ suc valve
   pub told : check_seat seats ref.slot ≡ only_check named
-  pub shape : slice_get shapes gate ≡ Some (set_shape named)
+  pub trigger : slice_get triggers valve ≡ Some (set_trigger named)
 
--- The listed sets have gates of their own, from one number on, and no other slot has.
-pub record AreListed (zones : List Zone) (first : ℕ) (refs : List SetRef) (seats : List Seat)
-    (shapes : List Shape) : Type 0 where
-  pub size : length shapes ≡ first + length refs
-  pub gates : (k : ℕ) (ref : SetRef) → slice_get refs k ≡ Some ref
-      → HasSetGate zones seats shapes ref (first + k)
-  pub only : (slot gate : ℕ) → seat_of seats slot ≡ suc gate
-      → (k : ℕ) × ((ref : SetRef) × (gate ≡ first + k) × (slice_get refs k ≡ Some ref)
+-- The listed sets have valves of their own, from one number on, and no other slot has.
+pub record HaveOwnValves (zones : List Zone) (first : ℕ) (refs : List SetRef) (seats : List Seat)
+    (triggers : List Trigger) : Type 0 where
+  pub size : length triggers ≡ first + length refs
+  pub valves : (k : ℕ) (ref : SetRef) → slice_get refs k ≡ Some ref
+      → HasSetValve zones seats triggers ref (first + k)
+  pub only : (slot valve : ℕ) → seat_of seats slot ≡ suc valve
+      → (k : ℕ) × ((ref : SetRef) × (valve ≡ first + k) × (slice_get refs k ≡ Some ref)
       × (ref.slot ≡ slot))
   pub no_group : (slot : ℕ) → group_seat seats slot ≡ 0
 
@@ -127,95 +127,95 @@ IsListed refs ref = (k : ℕ) × (slice_get refs k ≡ Some ref)
 
 -- each set that something decides is listed
 abbrev pub AllListed : List Zone → List SetRef → Type 0
-AllListed zones refs = (zone : ℕ) (p : Placed) → IsHere (placed_in zones zone) p
+AllListed zones refs = (zone : ℕ) (p : Slotted) → IsHere (placed_in zones zone) p
     → is_watched p.set ≡ true → IsListed refs (ref_in zone p)
 
 -- Where not all sets are asked whether something decides them, those that something decides are
 -- among the ones that are: such as are known, or came.
 abbrev pub AreAsked : List Zone → (whole : Bool) → (known came : List SetRef) → Type 0
-AreAsked zones whole known came = (zone : ℕ) (p : Placed) → IsHere (placed_in zones zone) p
+AreAsked zones whole known came = (zone : ℕ) (p : Slotted) → IsHere (placed_in zones zone) p
     → is_watched p.set ≡ true
     → (whole ≡ true) ⊎ (IsListed known (ref_in zone p) ⊎ IsListed came (ref_in zone p))
 
 -- ---- groups
 
-abbrev pub group_shape : (plains : ℕ) → Shape
-group_shape plains = record { need = 1; inverted = false; own = plains }
+abbrev pub group_trigger : (plains : ℕ) → Trigger
+group_trigger plains = record { need = 1; inverted = false; own = plains }
 
--- The gate of the group that has a set in a slot: an evaluated alias leads to that group. No seat in
+-- The valve of the group that has a set in a slot: an evaluated alias leads to that group. No seat in
 -- another slot tells it.
-pub record HasGroupGate (zones : List Zone) (seats : List Seat) (shapes : List Shape)
-    (links : List Link) (slot gate : ℕ) : Type 0 where
+pub record HasGroupValve (zones : List Zone) (seats : List Seat) (triggers : List Trigger)
+    (links : List Feeding) (slot valve : ℕ) : Type 0 where
   pub zone : ℕ
   pub name : List (List ℕ)
   pub rtype : RType
-  pub members : List Placed
+  pub members : List Slotted
   pub are : AreMembers zones zone name rtype members
   pub led : IsLedTo zones zone name rtype
   pub here : HasSlot members slot
-  pub each : TellGroup seats members gate
-  pub only : (other : ℕ) → group_seat seats other ≡ suc gate → HasSlot members other
-  pub shape : slice_get shapes gate ≡ Some (group_shape (plain_among seats members))
+  pub each : TellGroup seats members valve
+  pub only : (other : ℕ) → group_seat seats other ≡ suc valve → HasSlot members other
+  pub trigger : slice_get triggers valve ≡ Some (group_trigger (plain_among seats members))
   pub few : plain_among seats members ≤ 2 ^ 31
-  pub fed : feeders_in links gate ≡ gates_of seats members
+  pub fed : feeders_in links valve ≡ valves_of seats members
 
--- The groups with gates have gates of their own, from one number on, and these are all.
-pub record AreGrouped (zones : List Zone) (from : ℕ) (seats : List Seat) (shapes : List Shape)
-    (links : List Link) : Type 0 where
-  pub gates : (slot gate : ℕ) → group_seat seats slot ≡ suc gate
-      → (from ≤ gate) × HasGroupGate zones seats shapes links slot gate
-  pub all : (gate : ℕ) → from ≤ gate → gate < length shapes
-      → (slot : ℕ) × (group_seat seats slot ≡ suc gate)
+-- The groups with valves have valves of their own, from one number on, and these are all.
+pub record AreGrouped (zones : List Zone) (from : ℕ) (seats : List Seat) (triggers : List Trigger)
+    (links : List Feeding) : Type 0 where
+  pub valves : (slot valve : ℕ) → group_seat seats slot ≡ suc valve
+      → (from ≤ valve) × HasGroupValve zones seats triggers links slot valve
+  pub all : (valve : ℕ) → from ≤ valve → valve < length triggers
+      → (slot : ℕ) × (group_seat seats slot ≡ suc valve)
 
--- the gates of sets are below this number
+-- the valves of sets are below this number
 abbrev pub AreBelow : List Seat → ℕ → Type 0
-AreBelow seats n = (slot gate : ℕ) → seat_of seats slot ≡ suc gate → gate < n
+AreBelow seats n = (slot valve : ℕ) → seat_of seats slot ≡ suc valve → valve < n
 
 -- What seats tell of sets is as before.
 pub record SameSets (before after : List Seat) : Type 0 where
-  pub gates : (slot : ℕ) → seat_of after slot ≡ seat_of before slot
+  pub valves : (slot : ℕ) → seat_of after slot ≡ seat_of before slot
   pub checks : (slot : ℕ) → check_seat after slot ≡ check_seat before slot
 
--- Some sets come to be seated at the gate of their group, given as one more; no other set is.
-pub record AreSeated (members : List Placed) (gate : ℕ) (before after : List Seat)
+-- Some sets come to be seated at the valve of their group, given as one more; no other set is.
+pub record AreSeated (members : List Slotted) (valve : ℕ) (before after : List Seat)
     : Type 0 where
   pub sets : SameSets before after
   pub size : length after ≡ length before
-  pub each : (p : Placed) → IsHere members p → group_seat after p.slot ≡ gate
+  pub each : (p : Slotted) → IsHere members p → group_seat after p.slot ≡ valve
   pub others : (slot : ℕ) → (HasSlot members slot → ⊥)
       → group_seat after slot ≡ group_seat before slot
 
--- the group of a target has a gate
+-- the group of a target has a valve
 pub record HasTarget (zones : List Zone) (seats : List Seat) (zone : ℕ) (name : List (List ℕ))
     (rtype : RType) : Type 0 where
-  pub members : List Placed
+  pub members : List Slotted
   pub are : AreMembers zones zone name rtype members
   pub slot : ℕ
   pub first : IsFirstIn members slot
-  pub gate : ℕ
-  pub seat : group_seat seats slot ≡ suc gate
+  pub valve : ℕ
+  pub seat : group_seat seats slot ≡ suc valve
 
 -- one of some references is to this slot
 abbrev pub TellSlot : List SetRef → (slot : ℕ) → Type 0
 TellSlot refs slot =
     (k : ℕ) × ((ref : SetRef) × ((slice_get refs k ≡ Some ref) × (ref.slot ≡ slot)))
 
--- the seat in a slot tells no gate
+-- the seat in a slot tells no valve
 abbrev pub IsFree : List Seat → (slot : ℕ) → Type 0
 IsFree seats slot = (seat_of seats slot ≡ 0) × (group_seat seats slot ≡ 0)
 
--- One seat for each slot, and none tells a gate.
+-- One seat for each slot, and none tells a valve.
 pub record AreFree (slots : ℕ) (seats : List Seat) : Type 0 where
   pub size : length seats ≡ slots
   pub each : (slot : ℕ) → IsFree seats slot
 
--- A seat tells the gate of its set only in the slot of a listed set, and the gate of its group only
+-- A seat tells the valve of its set only in the slot of a listed set, and the valve of its group only
 -- in that of a noted member.
 pub record AreGiven (refs members : List SetRef) (seats : List Seat) : Type 0 where
   pub sets : (slot : ℕ) → seat_of seats slot ≢ 0 → TellSlot refs slot
   pub groups : (slot : ℕ) → group_seat seats slot ≢ 0 → TellSlot members slot
 
--- The members of groups with gates are noted, each of them once.
+-- The members of groups with valves are noted, each of them once.
 pub record AreNoted (members : List SetRef) (seats : List Seat) : Type 0 where
   pub all : (slot : ℕ) → group_seat seats slot ≢ 0 → TellSlot members slot
   pub each : (k : ℕ) (ref : SetRef) → slice_get members k ≡ Some ref
@@ -229,50 +229,50 @@ pub record IsSeatAt (seats : List Seat) (slot : ℕ) (seat : Seat) : Type 0 wher
   pub group : seat.group ≡ group_seat seats slot
   pub check : seat.check ≡ check_seat seats slot
 
--- ---- what feeds the gates of sets
+-- ---- what feeds the valves of sets
 
--- the gate of the target group, where its health counts and it has one
-abbrev pub HasTargetGate : List Zone → List Seat → (zone : ℕ) → RType → Body → (target : List ℕ)
+-- the valve of the target group, where its health counts and it has one
+abbrev pub HasTargetValve : List Zone → List Seat → (zone : ℕ) → RType → Body → (target : List ℕ)
     → Type 0
-HasTargetGate zones seats zone rtype (body.Values ttl values) target = target ≡ []
-HasTargetGate zones seats zone rtype (body.Alias name evaluate) target =
+HasTargetValve zones seats zone rtype (body.Values ttl values) target = target ≡ []
+HasTargetValve zones seats zone rtype (body.Alias name evaluate) target =
     ((evaluate ≡ false) × (target ≡ []))
-    ⊎ ((evaluate ≡ true) × ((members : List Placed) × ((slot : ℕ)
+    ⊎ ((evaluate ≡ true) × ((members : List Slotted) × ((slot : ℕ)
     × (AreMembers zones zone name rtype members × IsFirstIn members slot
-    × (target ≡ with_gate (group_seat seats slot) [])))))
+    × (target ≡ with_valve (group_seat seats slot) [])))))
 
--- the gates of its check and of its target group feed that of a set
+-- the valves of its check and of its target group feed that of a set
 abbrev pub FeedsSet : List Zone → (ids : List ℕ) → List Seat → (zone : ℕ) → RecordSet
     → (feeders : List ℕ) → Type 0
 FeedsSet zones ids seats zone set feeders = (target : List ℕ)
-    × (HasTargetGate zones seats zone set.rtype set.body target
+    × (HasTargetValve zones seats zone set.rtype set.body target
     × (feeders ≡ map (place_of ids) (option_to_list set.check) ++ target))
 
 -- links for that came to others
 abbrev pub JoinsSet : List Zone → (ids : List ℕ) → List Seat → (zone : ℕ) → RecordSet
-    → (gate : ℕ) → (before after : List Link) → Type 0
-JoinsSet zones ids seats zone set gate before after = (feeders : List ℕ)
-    × (FeedsSet zones ids seats zone set feeders × (after ≡ before ++ links_to gate feeders))
+    → (valve : ℕ) → (before after : List Feeding) → Type 0
+JoinsSet zones ids seats zone set valve before after = (feeders : List ℕ)
+    × (FeedsSet zones ids seats zone set feeders × (after ≡ before ++ links_to valve feeders))
 
--- ---- a plan that is done
+-- ---- a blueprint that is done
 
--- The gates of all checks, then of the sets that something decides, then of target groups, each
+-- The valves of all checks, then of the sets that something decides, then of target groups, each
 -- with what feeds it.
 pub record IsBuilt (zones : List Zone) (list : List (ℕ × Check)) (refs : List SetRef)
-    (seats : List Seat) (shapes : List Shape) (links : List Link) : Type 0 where
+    (seats : List Seat) (triggers : List Trigger) (links : List Feeding) : Type 0 where
   pub children : (place id : ℕ) (check : Check) → slice_get list place ≡ Some (id, check)
       → feeders_in links place ≡ map (place_of (ids_of list)) (children_of check)
   pub sets : (k : ℕ) (ref : SetRef) → slice_get refs k ≡ Some ref
-      → HasSetGate zones seats shapes ref (length list + k)
-  pub only : (slot gate : ℕ) → seat_of seats slot ≡ suc gate
-      → (k : ℕ) × ((ref : SetRef) × (gate ≡ length list + k) × (slice_get refs k ≡ Some ref)
+      → HasSetValve zones seats triggers ref (length list + k)
+  pub only : (slot valve : ℕ) → seat_of seats slot ≡ suc valve
+      → (k : ℕ) × ((ref : SetRef) × (valve ≡ length list + k) × (slice_get refs k ≡ Some ref)
       × (ref.slot ≡ slot))
   pub fed : (k : ℕ) (ref : SetRef) (named : RecordSet) → slice_get refs k ≡ Some ref
-      → Names zones ref named
+      → RefersTo zones ref named
       → FeedsSet zones (ids_of list) seats ref.zone named (feeders_in links (length list + k))
   pub targets : (k : ℕ) (ref : SetRef) (named : RecordSet) (name : List (List ℕ))
-      → slice_get refs k ≡ Some ref → Names zones ref named → named.body ≡ body.Alias name true
+      → slice_get refs k ≡ Some ref → RefersTo zones ref named → named.body ≡ body.Alias name true
       → HasTarget zones seats ref.zone name named.rtype
-  pub groups : AreGrouped zones (length list + length refs) seats shapes links
-  pub within : AreWithin links (length shapes)
-  pub size : length list + length refs ≤ length shapes
+  pub groups : AreGrouped zones (length list + length refs) seats triggers links
+  pub within : AreWithin links (length triggers)
+  pub size : length list + length refs ≤ length triggers

@@ -1,11 +1,11 @@
 pub mod Building
-pub mod Following
+pub mod Later
 pub mod Rooms
 pub mod Wired
 pub use Rattle.check_model.specs.Checks
 pub use Rattle.checker_state.specs.Standing
-pub use Rattle.health_gates.specs.Gates
-pub use Rattle.health_gates.specs.Plan
+pub use Rattle.health_valves.specs.Valves
+pub use Rattle.health_valves.specs.Blueprint
 pub use Rattle.health_model.specs.Healthy
 pub use Rattle.health_model.specs.Nodes
 pub use Rattle.health_model.specs.Sound

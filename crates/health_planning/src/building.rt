@@ -1,7 +1,7 @@
-//! The gates of checks and what feeds them, what their checkers saw, and seats before any set has a
-//! gate.
+//! The valves of checks and what feeds them, what their checkers saw, and seats before any set has a
+//! valve.
 //!
-//! Seats are cleared only where they were given: a store has many slots, and few of them have gates.
+//! Seats are cleared only where they were given: a store has many slots, and few of them have valves.
 
 ghost use Rattle.std.specs.Prelude.{◌≡◌, ◌≤◌, ◌<◌, ◌+◌, ◌++◌, ◌∷◌, [], ℕ, List, None, Some, length};
 ghost use Rattle.std.specs.Prelude.{is_some, map, slice_get, true, vec_capacity, vec_len};
@@ -9,12 +9,12 @@ ghost use Rattle.check_model.specs.declared.checks.Check.{Check};
 ghost use Rattle.check_model.specs.Checks.{Checks, IsBounded, children_of};
 ghost use Rattle.checker_state.specs.Standing.{Seen, nothing};
 ghost use Rattle.checker_state.specs.Standing.{StandsFor as HasSeen};
-ghost use Rattle.health_gates.specs.Plan.{KeepsRoom};
-ghost use Rattle.health_gates.specs.declared.plan.Shape.{Shape};
-ghost use Rattle.health_planning.specs.Building.{AreSeen, AreThere, check_links, check_shape};
+ghost use Rattle.health_valves.specs.Blueprint.{KeepsRoom};
+ghost use Rattle.health_valves.specs.declared.blueprint.Trigger.{Trigger};
+ghost use Rattle.health_planning.specs.Building.{AreSeen, AreThere, check_links, check_trigger};
 ghost use Rattle.health_planning.specs.Building.{AreFree, AreGiven, AreOfEndpoints, IsFree};
-ghost use Rattle.health_planning.specs.Building.{TellSlot, check_shapes, links_to};
-ghost use Rattle.health_planning.specs.Following.{EachFollows, FollowsAt, Knows};
+ghost use Rattle.health_planning.specs.Building.{TellSlot, check_triggers, links_to};
+ghost use Rattle.health_planning.specs.Later.{EachIsLater, IsLaterAt, Knows};
 ghost use Rattle.health_planning.specs.Building.{IsSeen};
 ghost use Rattle.health_planning.specs.Rooms.{children_among};
 ghost use Rattle.health_planning.specs.Wired.{StandApart, StandsAt, check_need, check_own, ids_of};
@@ -25,7 +25,7 @@ use crate::finding::{place_from, place_near, seen_at};
 use crate::seats::Seat;
 use checker_state::Checkers;
 use health_check::Check;
-use health_gates::{Link, Plan, Shape};
+use health_valves::{Blueprint, Feeding, Trigger};
 use policy_select::SetRef;
 
 /// The numbers of checks.
@@ -40,7 +40,7 @@ pub fn list_ids(ids: &mut Vec<u32>, list: &[(u32, Check)])
     }
 }
 
-/// How many open the gate of a check.
+/// How many open the valve of a check.
 fn need_of(check: &Check) -> u32
     ensures { result ≡ check_need check.now }
 {
@@ -54,7 +54,7 @@ fn need_of(check: &Check) -> u32
     }
 }
 
-/// How many passing checkers are counted at the gate of a check.
+/// How many passing checkers are counted at the valve of a check.
 fn own_of(check: &Check, seen: Option<Checkers>) -> u32
     ensures exact { (reports : List Report) (id : ℕ) → IsSeen reports id check.now seen
         → result ≡ check_own check.now (passing reports id) }
@@ -79,80 +79,80 @@ fn inverted_of(check: &Check) -> bool
     }
 }
 
-/// What opens the gate of a check.
-fn shape_of(check: &Check, seen: Option<Checkers>) -> Shape
+/// What opens the valve of a check.
+fn trigger_of(check: &Check, seen: Option<Checkers>) -> Trigger
     ensures exact { (reports : List Report) (id : ℕ) → IsSeen reports id check.now seen
-        → result ≡ check_shape reports id check.now }
+        → result ≡ check_trigger reports id check.now }
     ensures small { result.own ≤ 255 }
 {
-    Shape {
+    Trigger {
         need: need_of(check),
         inverted: inverted_of(check),
         own: own_of(check, seen),
     }
 }
 
-/// The gates of checks, by what their checkers saw.
-pub fn add_checks(plan: &mut Plan, list: &[(u32, Check)], seen: &[Option<Checkers>])
-    requires empty { plan.old.shapes ≡ [] }
+/// The valves of checks, by what their checkers saw.
+pub fn add_checks(blueprint: &mut Blueprint, list: &[(u32, Check)], seen: &[Option<Checkers>])
+    requires empty { blueprint.old.triggers ≡ [] }
     requires as_many { length seen.now ≡ length list.now }
-    requires room { length list.now ≤ plan.old.room }
-    ensures shapes { (reports : List Report) → AreSeen reports list.now seen.now
-        → plan.new.shapes ≡ check_shapes reports list.now }
-    ensures size { length plan.new.shapes ≡ length list.now }
-    ensures small { (n : ℕ) (shape : Shape) → slice_get plan.new.shapes n ≡ Some shape
-        → shape.own ≤ 255 }
-    ensures links { plan.new.links ≡ plan.old.links }
-    ensures kept { KeepsRoom plan.old plan.new }
+    requires room { length list.now ≤ blueprint.old.room }
+    ensures triggers { (reports : List Report) → AreSeen reports list.now seen.now
+        → blueprint.new.triggers ≡ check_triggers reports list.now }
+    ensures size { length blueprint.new.triggers ≡ length list.now }
+    ensures small { (n : ℕ) (trigger : Trigger) → slice_get blueprint.new.triggers n ≡ Some trigger
+        → trigger.own ≤ 255 }
+    ensures links { blueprint.new.links ≡ blueprint.old.links }
+    ensures kept { KeepsRoom blueprint.old blueprint.new }
 {
     for (place, held) in list.iter().enumerate() {
-        let shape = shape_of(&held.1, seen_at(seen, place));
-        plan.push(shape);
+        let trigger = trigger_of(&held.1, seen_at(seen, place));
+        blueprint.push(trigger);
     }
 }
 
-/// What feeds the gate of a calculated check: those of its children.
-fn join_children(plan: &mut Plan, ids: &[u32], children: &[u32], gate: u32)
+/// What feeds the valve of a calculated check: those of its children.
+fn join_children(blueprint: &mut Blueprint, ids: &[u32], children: &[u32], valve: u32)
     requires there { AreThere ids.now children.now }
     requires apart { StandApart ids.now }
     requires few { length ids.now ≤ 200 }
-    requires room { length children.now ≤ plan.old.links_room }
-    ensures shapes { plan.new.shapes ≡ plan.old.shapes }
-    ensures links { plan.new.links
-        ≡ plan.old.links ++ links_to gate (map (place_of ids.now) children.now) }
-    ensures kept { KeepsRoom plan.old plan.new }
-    ensures room { plan.old.links_room ≡ plan.new.links_room + length children.now }
+    requires room { length children.now ≤ blueprint.old.links_room }
+    ensures triggers { blueprint.new.triggers ≡ blueprint.old.triggers }
+    ensures links { blueprint.new.links
+        ≡ blueprint.old.links ++ links_to valve (map (place_of ids.now) children.now) }
+    ensures kept { KeepsRoom blueprint.old blueprint.new }
+    ensures room { blueprint.old.links_room ≡ blueprint.new.links_room + length children.now }
 {
     for child in children {
         let Some(place) = place_near(ids, *child) else {
             unreachable!();
         };
-        let link = Link {
+        let link = Feeding {
             feeder: place as u32,
-            fed: gate,
+            fed: valve,
         };
-        plan.feed(link);
+        blueprint.feed(link);
     }
 }
 
-/// What feeds the gates of checks.
-pub fn join_checks(plan: &mut Plan, ids: &[u32], list: &[(u32, Check)])
+/// What feeds the valves of checks.
+pub fn join_checks(blueprint: &mut Blueprint, ids: &[u32], list: &[(u32, Check)])
     requires there { (place id : ℕ) (check : Check) → slice_get list.now place ≡ Some (id, check)
         → AreThere ids.now (children_of check) }
     requires apart { StandApart ids.now }
     requires few { length list.now ≤ 200 }
     requires few_ids { length ids.now ≤ 200 }
-    requires room { children_among list.now ≤ plan.old.links_room }
-    ensures shapes { plan.new.shapes ≡ plan.old.shapes }
-    ensures links { plan.new.links ≡ plan.old.links ++ check_links ids.now 0 list.now }
-    ensures kept { KeepsRoom plan.old plan.new }
+    requires room { children_among list.now ≤ blueprint.old.links_room }
+    ensures triggers { blueprint.new.triggers ≡ blueprint.old.triggers }
+    ensures links { blueprint.new.links ≡ blueprint.old.links ++ check_links ids.now 0 list.now }
+    ensures kept { KeepsRoom blueprint.old blueprint.new }
 {
     for (place, held) in list.iter().enumerate() {
         match &held.1 {
             Check::Endpoint { .. } => {}
             Check::Calculated { children, .. } => {
                 let children = children.as_slice();
-                join_children(plan, ids, children, place as u32);
+                join_children(blueprint, ids, children, place as u32);
             }
         }
     }
@@ -183,7 +183,7 @@ fn seen_of(seen: &[Option<Checkers>], at: Option<usize>, check: &Check) -> Optio
     requires bounded { IsBounded check.now }
     ensures exact { (old : Checks) (reports : List Report) (ids : List ℕ) (id : ℕ)
         → Knows old reports ids seen.now → StandsAt ids id at
-        → FollowsAt old id check.now → IsSeen reports id check.now result }
+        → IsLaterAt old id check.now → IsSeen reports id check.now result }
     ensures kind { is_some result ≡ true → children_of check.now ≡ [] }
 {
     match check {
@@ -216,7 +216,7 @@ pub fn list_seen(
         → IsBounded check }
     ensures size { length into.new.items ≡ length list.now }
     ensures seen { (old : Checks) (reports : List Report)
-        → Knows old reports ids.now seen.now → EachFollows old list.now
+        → Knows old reports ids.now seen.now → EachIsLater old list.now
         → AreSeen reports list.now into.new.items }
     ensures kinds { AreOfEndpoints list.now into.new.items }
     ensures room { vec_capacity into.new ≡ vec_capacity into.old }
@@ -260,7 +260,7 @@ fn clear_those(seats: &mut Vec<Seat>, those: &[SetRef])
     }
 }
 
-/// Seats for so many slots, where none tells a gate.
+/// Seats for so many slots, where none tells a valve.
 fn fill_seats(seats: &mut Vec<Seat>, slots: usize)
     requires room { slots ≤ vec_capacity seats.old }
     requires free { (slot : ℕ) → IsFree seats.old.items slot }
@@ -277,7 +277,7 @@ fn fill_seats(seats: &mut Vec<Seat>, slots: usize)
     }
 }
 
-/// Seats without gates, one for each slot: those that tell gates are cleared, which are in the slots
+/// Seats without valves, one for each slot: those that tell valves are cleared, which are in the slots
 /// of the listed sets and of the noted members.
 pub fn clear_seats(seats: &mut Vec<Seat>, refs: &[SetRef], members: &[SetRef], slots: usize)
     requires given { AreGiven refs.now members.now seats.old.items }

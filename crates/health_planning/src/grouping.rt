@@ -1,25 +1,25 @@
-//! The gates of target groups: one for each, whatever aliases lead to it.
+//! The valves of target groups: one for each, whatever aliases lead to it.
 
 ghost use Rattle.std.specs.Prelude.{◌≡◌, ◌≢◌, ◌≤◌, ◌<◌, ◌+◌, ◌++◌, ◌^◌, [], ℕ, List, Some, length, slice_get, suc, true, vec_capacity};
-ghost use Rattle.health_gates.specs.Plan.{KeepsRoom, feeders_in};
-ghost use Rattle.health_gates.specs.declared.plan.Shape.{Shape};
+ghost use Rattle.health_valves.specs.Blueprint.{KeepsRoom, feeders_in};
+ghost use Rattle.health_valves.specs.declared.blueprint.Trigger.{Trigger};
 ghost use Rattle.record_set.specs.declared.sets.Body.TheVariants.{Alias};
 ghost use Rattle.record_set.specs.declared.sets.RecordSet.{RecordSet};
 ghost use Rattle.policy_select.specs.Zones.{placed_in};
-ghost use Rattle.zone_model.specs.Placed.{sets_of};
+ghost use Rattle.zone_model.specs.Slotted.{sets_of};
 ghost use Rattle.zone_model.specs.Walks.{HasNoTarget};
-ghost use Rattle.policy_select.specs.Looking.{Names};
+ghost use Rattle.policy_select.specs.Looking.{RefersTo};
 ghost use Rattle.health_planning.specs.Building.{IsSeatAt};
 ghost use Rattle.health_planning.specs.Building.{AreBelow, AreNoted, AreSeated, AreWithin, HasTarget};
 ghost use Rattle.health_planning.specs.Building.{SameSets, links_to};
-ghost use Rattle.health_planning.specs.Rooms.{CanGroup, HaveGatesApart};
-ghost use Rattle.health_planning.specs.Wired.{check_seat, gates_of, group_seat, only_check, plain};
-ghost use Rattle.health_planning.specs.Wired.{plain_among, with_gate};
+ghost use Rattle.health_planning.specs.Rooms.{CanGroup, HaveValvesApart};
+ghost use Rattle.health_planning.specs.Wired.{check_seat, valves_of, group_seat, only_check, plain};
+ghost use Rattle.health_planning.specs.Wired.{plain_among, with_valve};
 ghost use Rattle.policy_select.specs.Groups.{members_of};
 ghost use Rattle.policy_select.specs.Looking.{IsGroupNow};
 
 use crate::seats::Seat;
-use health_gates::{Link, Plan, Shape};
+use health_valves::{Blueprint, Feeding, Trigger};
 use policy_select::{Group, SetRef, Zones, find_group};
 
 /// The seat in a slot.
@@ -42,14 +42,14 @@ pub fn check_at(seats: &[Seat], slot: u32) -> u32
     seats[at].check
 }
 
-/// Whether the set of a seat has no gate, as a number.
+/// Whether the set of a seat has no valve, as a number.
 fn plain_at(seat: Seat) -> usize
     ensures { result ≡ plain seat.set }
 {
     if seat.set == 0 { 1 } else { 0 }
 }
 
-/// How many sets of a group have no gate.
+/// How many sets of a group have no valve.
 fn count_plain(zones: &Zones, group: Group, seats: &[Seat]) -> usize
     requires group { IsGroupNow zones.now.zones group }
     requires slots { length seats.now ≡ zones.now.slots }
@@ -64,58 +64,58 @@ fn count_plain(zones: &Zones, group: Group, seats: &[Seat]) -> usize
     plains
 }
 
-/// A gate that is given as one more, or as 0 where there is none, feeds another.
-pub fn join_seat(seat: u32, gate: u32, plan: &mut Plan)
-    requires room { length (with_gate seat []) ≤ plan.old.links_room }
-    ensures shapes { plan.new.shapes ≡ plan.old.shapes }
-    ensures links { plan.new.links ≡ plan.old.links ++ links_to gate (with_gate seat []) }
-    ensures kept { KeepsRoom plan.old plan.new }
-    ensures few { plan.old.links_room ≤ plan.new.links_room + 1 }
+/// A valve that is given as one more, or as 0 where there is none, feeds another.
+pub fn join_seat(seat: u32, valve: u32, blueprint: &mut Blueprint)
+    requires room { length (with_valve seat []) ≤ blueprint.old.links_room }
+    ensures triggers { blueprint.new.triggers ≡ blueprint.old.triggers }
+    ensures links { blueprint.new.links ≡ blueprint.old.links ++ links_to valve (with_valve seat []) }
+    ensures kept { KeepsRoom blueprint.old blueprint.new }
+    ensures few { blueprint.old.links_room ≤ blueprint.new.links_room + 1 }
 {
     if seat == 0 {
         return;
     }
-    plan.feed(Link {
+    blueprint.feed(Feeding {
         feeder: seat - 1,
-        fed: gate,
+        fed: valve,
     });
 }
 
-/// What feeds the gate of a group: those of its sets that have one.
-fn join_members(zones: &Zones, group: Group, seats: &[Seat], gate: u32, plan: &mut Plan)
+/// What feeds the valve of a group: those of its sets that have one.
+fn join_members(zones: &Zones, group: Group, seats: &[Seat], valve: u32, blueprint: &mut Blueprint)
     requires group { IsGroupNow zones.now.zones group }
     requires slots { length seats.now ≡ zones.now.slots }
-    requires room { length (gates_of seats.now (members_of zones.now.zones group))
-        ≤ plan.old.links_room }
-    ensures shapes { plan.new.shapes ≡ plan.old.shapes }
-    ensures links { plan.new.links ≡ plan.old.links
-        ++ links_to gate (gates_of seats.now (members_of zones.now.zones group)) }
-    ensures kept { KeepsRoom plan.old plan.new }
+    requires room { length (valves_of seats.now (members_of zones.now.zones group))
+        ≤ blueprint.old.links_room }
+    ensures triggers { blueprint.new.triggers ≡ blueprint.old.triggers }
+    ensures links { blueprint.new.links ≡ blueprint.old.links
+        ++ links_to valve (valves_of seats.now (members_of zones.now.zones group)) }
+    ensures kept { KeepsRoom blueprint.old blueprint.new }
 {
     zones.slots_within();
     for i in 0..group.length {
         let seat = seat_at(seats, zones.member(group, i).slot);
-        join_seat(seat.set, gate, plan);
+        join_seat(seat.set, valve, blueprint);
     }
 }
 
-/// Seats the set in a slot at the gate of its group, which is given as one more.
-fn seat_one(seats: &mut Vec<Seat>, slot: u32, gate: u32)
+/// Seats the set in a slot at the valve of its group, which is given as one more.
+fn seat_one(seats: &mut Vec<Seat>, slot: u32, valve: u32)
     requires { slot < length seats.old.items }
     ensures sets { SameSets seats.old.items seats.new.items }
     ensures size { length seats.new.items ≡ length seats.old.items }
-    ensures here { group_seat seats.new.items slot ≡ gate }
+    ensures here { group_seat seats.new.items slot ≡ valve }
     ensures others { (other : ℕ) → other ≢ slot
         → group_seat seats.new.items other ≡ group_seat seats.old.items other }
 {
     let seat = seat_at(seats, slot);
     seats[slot as usize] = Seat {
-        group: gate,
+        group: valve,
         ..seat
     };
 }
 
-/// Notes a set that is about to be seated at the gate of its group, where it sat at none.
+/// Notes a set that is about to be seated at the valve of its group, where it sat at none.
 fn note_one(set: SetRef, seats: &[Seat], members: &mut Vec<SetRef>)
     requires slot { set.slot < length seats.now }
     requires noted { AreNoted members.old.items seats.now }
@@ -133,20 +133,20 @@ fn note_one(set: SetRef, seats: &[Seat], members: &mut Vec<SetRef>)
     members.push_reserved(set);
 }
 
-/// Seats the sets of a group at its gate, which is given as one more, and notes them.
+/// Seats the sets of a group at its valve, which is given as one more, and notes them.
 fn seat_members(
     zones: &Zones,
     group: Group,
-    gate: u32,
+    valve: u32,
     seats: &mut Vec<Seat>,
     members: &mut Vec<SetRef>,
 )
     requires group { IsGroupNow zones.now.zones group }
     requires slots { length seats.old.items ≡ zones.now.slots }
-    requires gate { 0 < gate }
+    requires valve { 0 < valve }
     requires noted { AreNoted members.old.items seats.old.items }
     requires room { length seats.old.items ≤ vec_capacity members.old }
-    ensures seated { AreSeated (members_of zones.now.zones group) gate
+    ensures seated { AreSeated (members_of zones.now.zones group) valve
         seats.old.items seats.new.items }
     ensures noted { AreNoted members.new.items seats.new.items }
     ensures room { vec_capacity members.new ≡ vec_capacity members.old }
@@ -155,46 +155,46 @@ fn seat_members(
     for i in 0..group.length {
         let set = zones.member(group, i);
         note_one(set, seats, members);
-        seat_one(seats, set.slot, gate);
+        seat_one(seats, set.slot, valve);
     }
 }
 
-/// Gives the target group of a set a gate, where its health counts and it has none. A set that a check
+/// Gives the target group of a set a valve, where its health counts and it has none. A set that a check
 /// alone decides isn't read: its seat tells as much.
 pub fn group_one(
     zones: &Zones,
     set: SetRef,
     seats: &mut Vec<Seat>,
-    plan: &mut Plan,
+    blueprint: &mut Blueprint,
     members: &mut Vec<SetRef>,
 )
     requires slots { length seats.old.items ≡ zones.now.slots }
-    requires below { AreBelow seats.old.items (length plan.old.shapes) }
-    requires within { AreWithin plan.old.links (length plan.old.shapes) }
-    requires targets { (named : RecordSet) → Names zones.now.zones set named
+    requires below { AreBelow seats.old.items (length blueprint.old.triggers) }
+    requires within { AreWithin blueprint.old.links (length blueprint.old.triggers) }
+    requires targets { (named : RecordSet) → RefersTo zones.now.zones set named
         → HasNoTarget (sets_of (placed_in zones.now.zones set.zone)) named → ⊥ }
     requires room { (from : ℕ) × ((base : ℕ)
-        × CanGroup zones.now.zones from base seats.old.items plan.old) }
+        × CanGroup zones.now.zones from base seats.old.items blueprint.old) }
     requires noted { AreNoted members.old.items seats.old.items }
     requires members_room { length seats.old.items ≤ vec_capacity members.old }
-    requires told { (named : RecordSet) → Names zones.now.zones set named
+    requires told { (named : RecordSet) → RefersTo zones.now.zones set named
         → check_seat seats.old.items set.slot ≡ only_check named }
     ensures grouped { (from base : ℕ)
-        → CanGroup zones.now.zones from base seats.old.items plan.old
-        → CanGroup zones.now.zones from base seats.new.items plan.new }
-    ensures kept { KeepsRoom plan.old plan.new }
+        → CanGroup zones.now.zones from base seats.old.items blueprint.old
+        → CanGroup zones.now.zones from base seats.new.items blueprint.new }
+    ensures kept { KeepsRoom blueprint.old blueprint.new }
     ensures here { (named : RecordSet) (name : List (List ℕ))
-        → Names zones.now.zones set named → named.body ≡ Alias name true
+        → RefersTo zones.now.zones set named → named.body ≡ Alias name true
         → HasTarget zones.now.zones seats.new.items set.zone name named.rtype }
-    ensures goes_on { (slot gate : ℕ) → group_seat seats.old.items slot ≡ suc gate
-        → group_seat seats.new.items slot ≡ suc gate }
+    ensures goes_on { (slot valve : ℕ) → group_seat seats.old.items slot ≡ suc valve
+        → group_seat seats.new.items slot ≡ suc valve }
     ensures sets { SameSets seats.old.items seats.new.items }
-    ensures shapes { (n : ℕ) (shape : Shape) → slice_get plan.old.shapes n ≡ Some shape
-        → slice_get plan.new.shapes n ≡ Some shape }
-    ensures feeders { (gate : ℕ) → gate < length plan.old.shapes
-        → feeders_in plan.new.links gate ≡ feeders_in plan.old.links gate }
-    ensures more { length plan.old.shapes ≤ length plan.new.shapes }
-    ensures within { AreWithin plan.new.links (length plan.new.shapes) }
+    ensures triggers { (n : ℕ) (trigger : Trigger) → slice_get blueprint.old.triggers n ≡ Some trigger
+        → slice_get blueprint.new.triggers n ≡ Some trigger }
+    ensures feeders { (valve : ℕ) → valve < length blueprint.old.triggers
+        → feeders_in blueprint.new.links valve ≡ feeders_in blueprint.old.links valve }
+    ensures more { length blueprint.old.triggers ≤ length blueprint.new.triggers }
+    ensures within { AreWithin blueprint.new.links (length blueprint.new.triggers) }
     ensures size { length seats.new.items ≡ length seats.old.items }
     ensures noted { AreNoted members.new.items seats.new.items }
     ensures members_room { vec_capacity members.new ≡ vec_capacity members.old }
@@ -225,58 +225,58 @@ pub fn group_one(
         return;
     }
     let plains = count_plain(zones, group, seats);
-    let shape = Shape {
+    let trigger = Trigger {
         need: 1,
         inverted: false,
         own: plains as u32,
     };
-    let gate = plan.len() as u32;
-    plan.push(shape);
-    join_members(zones, group, seats, gate, plan);
-    seat_members(zones, group, gate + 1, seats, members);
+    let valve = blueprint.len() as u32;
+    blueprint.push(trigger);
+    join_members(zones, group, seats, valve, blueprint);
+    seat_members(zones, group, valve + 1, seats, members);
 }
 
-/// Gives the target groups of sets gates, and notes the sets of these groups.
+/// Gives the target groups of sets valves, and notes the sets of these groups.
 pub fn group_all(
     zones: &Zones,
     refs: &[SetRef],
     seats: &mut Vec<Seat>,
-    plan: &mut Plan,
+    blueprint: &mut Blueprint,
     members: &mut Vec<SetRef>,
 )
     requires slots { length seats.old.items ≡ zones.now.slots }
-    requires below { AreBelow seats.old.items (length plan.old.shapes) }
-    requires within { AreWithin plan.old.links (length plan.old.shapes) }
+    requires below { AreBelow seats.old.items (length blueprint.old.triggers) }
+    requires within { AreWithin blueprint.old.links (length blueprint.old.triggers) }
     requires none { (slot : ℕ) → group_seat seats.old.items slot ≡ 0 }
-    requires apart { HaveGatesApart seats.old.items }
-    requires few { length plan.old.shapes + length seats.old.items ≤ 2 ^ 31 }
-    requires room { length seats.old.items ≤ plan.old.room }
-    requires links_room { length plan.old.shapes ≤ plan.old.links_room }
-    requires targets { (set : SetRef) (named : RecordSet) → Names zones.now.zones set named
+    requires apart { HaveValvesApart seats.old.items }
+    requires few { length blueprint.old.triggers + length seats.old.items ≤ 2 ^ 31 }
+    requires room { length seats.old.items ≤ blueprint.old.room }
+    requires links_room { length blueprint.old.triggers ≤ blueprint.old.links_room }
+    requires targets { (set : SetRef) (named : RecordSet) → RefersTo zones.now.zones set named
         → HasNoTarget (sets_of (placed_in zones.now.zones set.zone)) named → ⊥ }
     requires none_noted { members.old.items ≡ [] }
     requires members_room { length seats.old.items ≤ vec_capacity members.old }
     requires told { (k : ℕ) (set : SetRef) (named : RecordSet) → slice_get refs.now k ≡ Some set
-        → Names zones.now.zones set named
+        → RefersTo zones.now.zones set named
         → check_seat seats.old.items set.slot ≡ only_check named }
-    ensures grouped { CanGroup zones.now.zones (length plan.old.shapes) (length plan.old.links)
-        seats.new.items plan.new }
-    ensures kept { KeepsRoom plan.old plan.new }
+    ensures grouped { CanGroup zones.now.zones (length blueprint.old.triggers) (length blueprint.old.links)
+        seats.new.items blueprint.new }
+    ensures kept { KeepsRoom blueprint.old blueprint.new }
     ensures all { (k : ℕ) (set : SetRef) (named : RecordSet) (name : List (List ℕ))
-        → slice_get refs.now k ≡ Some set → Names zones.now.zones set named
+        → slice_get refs.now k ≡ Some set → RefersTo zones.now.zones set named
         → named.body ≡ Alias name true
         → HasTarget zones.now.zones seats.new.items set.zone name named.rtype }
     ensures sets { SameSets seats.old.items seats.new.items }
-    ensures shapes { (n : ℕ) (shape : Shape) → slice_get plan.old.shapes n ≡ Some shape
-        → slice_get plan.new.shapes n ≡ Some shape }
-    ensures feeders { (gate : ℕ) → gate < length plan.old.shapes
-        → feeders_in plan.new.links gate ≡ feeders_in plan.old.links gate }
-    ensures more { length plan.old.shapes ≤ length plan.new.shapes }
-    ensures within { AreWithin plan.new.links (length plan.new.shapes) }
+    ensures triggers { (n : ℕ) (trigger : Trigger) → slice_get blueprint.old.triggers n ≡ Some trigger
+        → slice_get blueprint.new.triggers n ≡ Some trigger }
+    ensures feeders { (valve : ℕ) → valve < length blueprint.old.triggers
+        → feeders_in blueprint.new.links valve ≡ feeders_in blueprint.old.links valve }
+    ensures more { length blueprint.old.triggers ≤ length blueprint.new.triggers }
+    ensures within { AreWithin blueprint.new.links (length blueprint.new.triggers) }
     ensures size { length seats.new.items ≡ length seats.old.items }
     ensures noted { AreNoted members.new.items seats.new.items }
 {
     for set in refs {
-        group_one(zones, *set, seats, plan, members);
+        group_one(zones, *set, seats, blueprint, members);
     }
 }

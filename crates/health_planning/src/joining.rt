@@ -1,34 +1,34 @@
-//! What feeds the gates of sets: those of their checks, and of their target groups.
+//! What feeds the valves of sets: those of their checks, and of their target groups.
 
 ghost use Rattle.std.specs.Prelude.{◌≡◌, ◌≤◌, ◌<◌, ◌+◌, ◌*◌, ◌++◌, ◌^◌, ◌⊎◌, [], ℕ, Some};
 ghost use Rattle.std.specs.Prelude.{length, map, slice_get, suc};
 ghost use Rattle.std.specs.Option.{option_to_list};
-ghost use Rattle.health_gates.specs.Plan.{KeepsRoom, feeders_in};
-ghost use Rattle.health_planning.specs.Building.{AreWithin, FeedsSet, HasTargetGate, JoinsSet};
+ghost use Rattle.health_valves.specs.Blueprint.{KeepsRoom, feeders_in};
+ghost use Rattle.health_planning.specs.Building.{AreWithin, FeedsSet, HasTargetValve, JoinsSet};
 ghost use Rattle.health_planning.specs.Building.{links_to};
 ghost use Rattle.health_planning.specs.Wired.{StandApart, check_seat, group_seat, only_check, place_of};
-ghost use Rattle.health_planning.specs.Wired.{with_gate};
+ghost use Rattle.health_planning.specs.Wired.{with_valve};
 ghost use Rattle.record_set.specs.declared.sets.RecordSet.{RecordSet};
 ghost use Rattle.policy_select.specs.Zones.{placed_in};
 ghost use Rattle.policy_select.specs.SetRefRecord.{SetRef};
-ghost use Rattle.zone_model.specs.Placed.{sets_of};
+ghost use Rattle.zone_model.specs.Slotted.{sets_of};
 ghost use Rattle.zone_model.specs.Walks.{HasNoTarget};
-ghost use Rattle.policy_select.specs.Looking.{Names};
+ghost use Rattle.policy_select.specs.Looking.{RefersTo};
 
 use crate::finding::place_near;
 use crate::grouping::{check_at, join_seat, seat_at};
 use crate::seats::Seat;
-use health_gates::{Link, Plan};
+use health_valves::{Blueprint, Feeding};
 use policy_select::{SetRef, Zones, find_group};
 
-/// The gate of the target group of a set, plus one, where its health counts, and else 0.
+/// The valve of the target group of a set, plus one, where its health counts, and else 0.
 fn target_seat(zones: &Zones, set: SetRef, seats: &[Seat]) -> u32
     requires slots { length seats.now ≡ zones.now.slots }
-    requires targets { (named : RecordSet) → Names zones.now.zones set named
+    requires targets { (named : RecordSet) → RefersTo zones.now.zones set named
         → HasNoTarget (sets_of (placed_in zones.now.zones set.zone)) named → ⊥ }
-    ensures { (named : RecordSet) → Names zones.now.zones set named
-        → HasTargetGate zones.now.zones seats.now set.zone named.rtype named.body
-        (with_gate result []) }
+    ensures { (named : RecordSet) → RefersTo zones.now.zones set named
+        → HasTargetValve zones.now.zones seats.now set.zone named.rtype named.body
+        (with_valve result []) }
 {
     zones.well_formed();
     zones.slots_within();
@@ -50,7 +50,7 @@ fn target_seat(zones: &Zones, set: SetRef, seats: &[Seat]) -> u32
 
 /// The check of a set.
 fn check_of(zones: &Zones, set: SetRef) -> Option<u32>
-    ensures { (named : RecordSet) → Names zones.now.zones set named → result ≡ named.check }
+    ensures { (named : RecordSet) → RefersTo zones.now.zones set named → result ≡ named.check }
 {
     zones.well_formed();
     match zones.watch(set) {
@@ -59,18 +59,18 @@ fn check_of(zones: &Zones, set: SetRef) -> Option<u32>
     }
 }
 
-/// The gate of a check feeds another, where there is a check.
-fn join_check(plan: &mut Plan, ids: &[u32], check: Option<u32>, gate: u32)
+/// The valve of a check feeds another, where there is a check.
+fn join_check(blueprint: &mut Blueprint, ids: &[u32], check: Option<u32>, valve: u32)
     requires there { (id : ℕ) → check ≡ Some id
         → (place : ℕ) × (slice_get ids.now place ≡ Some id) }
     requires apart { StandApart ids.now }
     requires few { length ids.now ≤ 200 }
-    requires room { 1 ≤ plan.old.links_room }
-    ensures shapes { plan.new.shapes ≡ plan.old.shapes }
-    ensures links { plan.new.links
-        ≡ plan.old.links ++ links_to gate (map (place_of ids.now) (option_to_list check)) }
-    ensures kept { KeepsRoom plan.old plan.new }
-    ensures few { plan.old.links_room ≤ plan.new.links_room + 1 }
+    requires room { 1 ≤ blueprint.old.links_room }
+    ensures triggers { blueprint.new.triggers ≡ blueprint.old.triggers }
+    ensures links { blueprint.new.links
+        ≡ blueprint.old.links ++ links_to valve (map (place_of ids.now) (option_to_list check)) }
+    ensures kept { KeepsRoom blueprint.old blueprint.new }
+    ensures few { blueprint.old.links_room ≤ blueprint.new.links_room + 1 }
 {
     let Some(id) = check else {
         return;
@@ -78,75 +78,88 @@ fn join_check(plan: &mut Plan, ids: &[u32], check: Option<u32>, gate: u32)
     let Some(place) = place_near(ids, id) else {
         unreachable!();
     };
-    plan.feed(Link {
+    blueprint.feed(Feeding {
         feeder: place as u32,
-        fed: gate,
+        fed: valve,
     });
 }
 
-/// What feeds the gate of a set. Where a check alone decides it the set isn't read: its seat tells
+/// What feeds the valve of a set. Where a check alone decides it the set isn't read: its seat tells
 /// which.
-fn join_set(zones: &Zones, set: SetRef, ids: &[u32], seats: &[Seat], gate: u32, plan: &mut Plan)
+fn join_set(
+    zones: &Zones,
+    set: SetRef,
+    ids: &[u32],
+    seats: &[Seat],
+    valve: u32,
+    blueprint: &mut Blueprint,
+)
     requires slots { length seats.now ≡ zones.now.slots }
-    requires targets { (named : RecordSet) → Names zones.now.zones set named
+    requires targets { (named : RecordSet) → RefersTo zones.now.zones set named
         → HasNoTarget (sets_of (placed_in zones.now.zones set.zone)) named → ⊥ }
-    requires named { (named : RecordSet) × Names zones.now.zones set named }
-    requires there { (named : RecordSet) (id : ℕ) → Names zones.now.zones set named
+    requires named { (named : RecordSet) × RefersTo zones.now.zones set named }
+    requires there { (named : RecordSet) (id : ℕ) → RefersTo zones.now.zones set named
         → named.check ≡ Some id → (place : ℕ) × (slice_get ids.now place ≡ Some id) }
-    requires told { (named : RecordSet) → Names zones.now.zones set named
+    requires told { (named : RecordSet) → RefersTo zones.now.zones set named
         → check_seat seats.now set.slot ≡ only_check named }
     requires apart { StandApart ids.now }
     requires few { length ids.now ≤ 200 }
-    requires room { 2 ≤ plan.old.links_room }
-    ensures shapes { plan.new.shapes ≡ plan.old.shapes }
-    ensures links { (named : RecordSet) → Names zones.now.zones set named
-        → JoinsSet zones.now.zones ids.now seats.now set.zone named gate
-        plan.old.links plan.new.links }
-    ensures kept { KeepsRoom plan.old plan.new }
-    ensures few { plan.old.links_room ≤ plan.new.links_room + 2 }
+    requires room { 2 ≤ blueprint.old.links_room }
+    ensures triggers { blueprint.new.triggers ≡ blueprint.old.triggers }
+    ensures links { (named : RecordSet) → RefersTo zones.now.zones set named
+        → JoinsSet zones.now.zones ids.now seats.now set.zone named valve
+        blueprint.old.links blueprint.new.links }
+    ensures kept { KeepsRoom blueprint.old blueprint.new }
+    ensures few { blueprint.old.links_room ≤ blueprint.new.links_room + 2 }
 {
     zones.well_formed();
     let only = check_at(seats, set.slot);
     if only != 0 {
-        join_check(plan, ids, Some(only), gate);
+        join_check(blueprint, ids, Some(only), valve);
         return;
     }
     let target = target_seat(zones, set, seats);
-    join_check(plan, ids, check_of(zones, set), gate);
-    join_seat(target, gate, plan);
+    join_check(blueprint, ids, check_of(zones, set), valve);
+    join_seat(target, valve, blueprint);
 }
 
-/// What feeds the gates of sets, which stand behind those of checks.
-pub fn join_sets(zones: &Zones, refs: &[SetRef], ids: &[u32], seats: &[Seat], plan: &mut Plan)
+/// What feeds the valves of sets, which stand behind those of checks.
+pub fn join_sets(
+    zones: &Zones,
+    refs: &[SetRef],
+    ids: &[u32],
+    seats: &[Seat],
+    blueprint: &mut Blueprint,
+)
     requires slots { length seats.now ≡ zones.now.slots }
-    requires targets { (set : SetRef) (named : RecordSet) → Names zones.now.zones set named
+    requires targets { (set : SetRef) (named : RecordSet) → RefersTo zones.now.zones set named
         → HasNoTarget (sets_of (placed_in zones.now.zones set.zone)) named → ⊥ }
     requires named { (k : ℕ) (set : SetRef) → slice_get refs.now k ≡ Some set
-        → (named : RecordSet) × Names zones.now.zones set named }
-    requires there { (set : SetRef) (named : RecordSet) (id : ℕ) → Names zones.now.zones set named
+        → (named : RecordSet) × RefersTo zones.now.zones set named }
+    requires there { (set : SetRef) (named : RecordSet) (id : ℕ) → RefersTo zones.now.zones set named
         → named.check ≡ Some id → (place : ℕ) × (slice_get ids.now place ≡ Some id) }
     requires told { (k : ℕ) (set : SetRef) (named : RecordSet) → slice_get refs.now k ≡ Some set
-        → Names zones.now.zones set named → check_seat seats.now set.slot ≡ only_check named }
+        → RefersTo zones.now.zones set named → check_seat seats.now set.slot ≡ only_check named }
     requires apart { StandApart ids.now }
     requires few { length ids.now ≤ 200 }
     requires few_sets { length ids.now + length refs.now ≤ 2 ^ 32 }
-    requires room { 2 * length refs.now ≤ plan.old.links_room }
-    ensures shapes { plan.new.shapes ≡ plan.old.shapes }
-    ensures kept { KeepsRoom plan.old plan.new }
-    ensures few { plan.old.links_room ≤ plan.new.links_room + 2 * length refs.now }
+    requires room { 2 * length refs.now ≤ blueprint.old.links_room }
+    ensures triggers { blueprint.new.triggers ≡ blueprint.old.triggers }
+    ensures kept { KeepsRoom blueprint.old blueprint.new }
+    ensures few { blueprint.old.links_room ≤ blueprint.new.links_room + 2 * length refs.now }
     ensures joined { (k : ℕ) (set : SetRef) (named : RecordSet)
-        → slice_get refs.now k ≡ Some set → Names zones.now.zones set named
-        → feeders_in plan.old.links (length ids.now + k) ≡ []
+        → slice_get refs.now k ≡ Some set → RefersTo zones.now.zones set named
+        → feeders_in blueprint.old.links (length ids.now + k) ≡ []
         → FeedsSet zones.now.zones ids.now seats.now set.zone named
-        (feeders_in plan.new.links (length ids.now + k)) }
-    ensures others { (gate : ℕ)
-        → (gate < length ids.now) ⊎ (length ids.now + length refs.now ≤ gate)
-        → feeders_in plan.new.links gate ≡ feeders_in plan.old.links gate }
+        (feeders_in blueprint.new.links (length ids.now + k)) }
+    ensures others { (valve : ℕ)
+        → (valve < length ids.now) ⊎ (length ids.now + length refs.now ≤ valve)
+        → feeders_in blueprint.new.links valve ≡ feeders_in blueprint.old.links valve }
     ensures within { (n : ℕ) → length ids.now + length refs.now ≤ n
-        → ((slot gate : ℕ) → group_seat seats.now slot ≡ suc gate → gate < n)
-        → AreWithin plan.old.links n → AreWithin plan.new.links n }
+        → ((slot valve : ℕ) → group_seat seats.now slot ≡ suc valve → valve < n)
+        → AreWithin blueprint.old.links n → AreWithin blueprint.new.links n }
 {
     for (k, set) in refs.iter().enumerate() {
-        join_set(zones, *set, ids, seats, (ids.len() + k) as u32, plan);
+        join_set(zones, *set, ids, seats, (ids.len() + k) as u32, blueprint);
     }
 }

@@ -1,10 +1,10 @@
-//! How the gates of checks, sets and target groups are planned, and what feeds each of them.
+//! How the valves of checks, sets and target groups are planned, and what feeds each of them.
 //!
-//! A set that nothing decides has no gate: it is healthy, and nothing but its seat is written for it.
-//! Room for a gate is kept all the same, so that no command wants memory.
+//! A set that nothing decides has no valve: it is healthy, and nothing but its seat is written for it.
+//! Room for a valve is kept all the same, so that no command wants memory.
 //!
-//! The gates of checks and what feeds them come first (`building`), then those of sets (`listing`)
-//! and of target groups (`grouping`), and then what feeds the gates of sets (`joining`). All of it is
+//! The valves of checks and what feeds them come first (`building`), then those of sets (`listing`)
+//! and of target groups (`grouping`), and then what feeds the valves of sets (`joining`). All of it is
 //! made in room that was made before.
 #![tactic(auto)]
 
@@ -19,7 +19,7 @@ mod seats;
 pub use building::{clear_seats, list_ids, list_seen};
 pub use finding::place_near;
 pub use listing::{is_watched, only_check};
-pub use planning::plan_gates;
+pub use planning::plan_valves;
 pub use policy_select::{
     Delta, Group, HealthView, Scratch, SetRef, Watch, Zones, find_group, views_agree,
 };

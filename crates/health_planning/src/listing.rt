@@ -1,9 +1,9 @@
-//! Which sets have gates: those that something decides.
+//! Which sets have valves: those that something decides.
 
 ghost use Rattle.std.specs.Prelude.{◌≡◌, ◌<◌, ℕ, true, false, Some, length, slice_get};
-ghost use Rattle.health_gates.specs.Plan.{KeepsRoom};
-ghost use Rattle.health_gates.specs.declared.plan.Shape.{Shape};
-ghost use Rattle.health_planning.specs.Building.{AllListed, AreAsked, AreListed, IsListed, set_shape};
+ghost use Rattle.health_valves.specs.Blueprint.{KeepsRoom};
+ghost use Rattle.health_valves.specs.declared.blueprint.Trigger.{Trigger};
+ghost use Rattle.health_planning.specs.Building.{AllListed, AreAsked, HaveOwnValves, IsListed, set_trigger};
 ghost use Rattle.health_planning.specs.Rooms.{HasListRoom};
 ghost use Rattle.health_planning.specs.Wired.{is_watched, only_check};
 ghost use Rattle.record_set.specs.declared.sets.RecordSet.{RecordSet};
@@ -11,11 +11,11 @@ ghost use Rattle.policy_select.specs.Telling.{watch_of};
 ghost use Rattle.policy_select.specs.Changes.{ref_in};
 ghost use Rattle.policy_select.specs.Zones.{placed_in};
 ghost use Rattle.policy_select.specs.SetRefRecord.{SetRef};
-ghost use Rattle.zone_model.specs.Placed.{IsHere, Placed};
-ghost use Rattle.policy_select.specs.Looking.{Names};
+ghost use Rattle.zone_model.specs.Slotted.{IsHere, Slotted};
+ghost use Rattle.policy_select.specs.Looking.{RefersTo};
 
 use crate::seats::Seat;
-use health_gates::{Plan, Shape};
+use health_valves::{Blueprint, Trigger};
 use policy_select::{SetRef, Watch, Zones};
 
 /// Whether something decides the health of a set.
@@ -38,42 +38,42 @@ pub fn only_check(watch: Watch) -> u32
     }
 }
 
-/// What opens the gate of a set.
-fn shape_of(watch: Watch) -> Shape
-    ensures { (set : RecordSet) → watch ≡ watch_of set → result ≡ set_shape set }
+/// What opens the valve of a set.
+fn trigger_of(watch: Watch) -> Trigger
+    ensures { (set : RecordSet) → watch ≡ watch_of set → result ≡ set_trigger set }
 {
-    Shape {
+    Trigger {
         need: u32::from(watch.check.is_some()) + u32::from(watch.evaluates),
         inverted: false,
         own: 0,
     }
 }
 
-/// Gives a set a gate, where something decides it and it has none.
+/// Gives a set a valve, where something decides it and it has none.
 fn list_one(
     zones: &Zones,
     set: SetRef,
     refs: &mut Vec<SetRef>,
     seats: &mut Vec<Seat>,
-    plan: &mut Plan,
+    blueprint: &mut Blueprint,
 )
     requires slot { set.slot < length seats.old.items }
-    requires room { HasListRoom plan.old refs.old seats.old.items }
+    requires room { HasListRoom blueprint.old refs.old seats.old.items }
     requires listed { (first : ℕ)
-        × AreListed zones.now.zones first refs.old.items seats.old.items plan.old.shapes }
+        × HaveOwnValves zones.now.zones first refs.old.items seats.old.items blueprint.old.triggers }
     ensures listed { (first : ℕ)
-        → AreListed zones.now.zones first refs.old.items seats.old.items plan.old.shapes
-        → AreListed zones.now.zones first refs.new.items seats.new.items plan.new.shapes }
+        → HaveOwnValves zones.now.zones first refs.old.items seats.old.items blueprint.old.triggers
+        → HaveOwnValves zones.now.zones first refs.new.items seats.new.items blueprint.new.triggers }
     ensures goes_on { (ref : SetRef) → IsListed refs.old.items ref
         → IsListed refs.new.items ref }
-    ensures here { (named : RecordSet) → Names zones.now.zones set named
+    ensures here { (named : RecordSet) → RefersTo zones.now.zones set named
         → is_watched named ≡ true → IsListed refs.new.items set }
-    ensures shapes { (n : ℕ) (shape : Shape) → slice_get plan.old.shapes n ≡ Some shape
-        → slice_get plan.new.shapes n ≡ Some shape }
-    ensures links { plan.new.links ≡ plan.old.links }
+    ensures triggers { (n : ℕ) (trigger : Trigger) → slice_get blueprint.old.triggers n ≡ Some trigger
+        → slice_get blueprint.new.triggers n ≡ Some trigger }
+    ensures links { blueprint.new.links ≡ blueprint.old.links }
     ensures size { length seats.new.items ≡ length seats.old.items }
-    ensures room { HasListRoom plan.new refs.new seats.new.items }
-    ensures kept { KeepsRoom plan.old plan.new }
+    ensures room { HasListRoom blueprint.new refs.new seats.new.items }
+    ensures kept { KeepsRoom blueprint.old blueprint.new }
 {
     zones.well_formed();
     zones.slots_apart();
@@ -87,50 +87,50 @@ fn list_one(
     if seats[slot].set != 0 {
         return;
     }
-    let gate = plan.len() as u32;
-    plan.push(shape_of(watch));
+    let valve = blueprint.len() as u32;
+    blueprint.push(trigger_of(watch));
     refs.push_reserved(set);
     seats[slot] = Seat {
-        set: gate + 1,
+        set: valve + 1,
         group: 0,
         check: only_check(watch),
     };
 }
 
-/// Gives the sets of a zone gates. None has one where none names a check or is an alias.
+/// Gives the sets of a zone valves. None has one where none names a check or is an alias.
 fn list_zone(
     zones: &Zones,
     zone: u32,
     refs: &mut Vec<SetRef>,
     seats: &mut Vec<Seat>,
-    plan: &mut Plan,
+    blueprint: &mut Blueprint,
 )
     requires slots { length seats.old.items ≡ zones.now.slots }
-    requires room { HasListRoom plan.old refs.old seats.old.items }
+    requires room { HasListRoom blueprint.old refs.old seats.old.items }
     requires listed { (first : ℕ)
-        × AreListed zones.now.zones first refs.old.items seats.old.items plan.old.shapes }
+        × HaveOwnValves zones.now.zones first refs.old.items seats.old.items blueprint.old.triggers }
     ensures listed { (first : ℕ)
-        → AreListed zones.now.zones first refs.old.items seats.old.items plan.old.shapes
-        → AreListed zones.now.zones first refs.new.items seats.new.items plan.new.shapes }
-    ensures all { (p : Placed) → IsHere (placed_in zones.now.zones zone) p
+        → HaveOwnValves zones.now.zones first refs.old.items seats.old.items blueprint.old.triggers
+        → HaveOwnValves zones.now.zones first refs.new.items seats.new.items blueprint.new.triggers }
+    ensures all { (p : Slotted) → IsHere (placed_in zones.now.zones zone) p
         → is_watched p.set ≡ true → IsListed refs.new.items (ref_in zone p) }
     ensures goes_on { (ref : SetRef) → IsListed refs.old.items ref
         → IsListed refs.new.items ref }
-    ensures shapes { (n : ℕ) (shape : Shape) → slice_get plan.old.shapes n ≡ Some shape
-        → slice_get plan.new.shapes n ≡ Some shape }
-    ensures links { plan.new.links ≡ plan.old.links }
+    ensures triggers { (n : ℕ) (trigger : Trigger) → slice_get blueprint.old.triggers n ≡ Some trigger
+        → slice_get blueprint.new.triggers n ≡ Some trigger }
+    ensures links { blueprint.new.links ≡ blueprint.old.links }
     ensures size { length seats.new.items ≡ length seats.old.items }
-    ensures room { HasListRoom plan.new refs.new seats.new.items }
-    ensures kept { KeepsRoom plan.old plan.new }
+    ensures room { HasListRoom blueprint.new refs.new seats.new.items }
+    ensures kept { KeepsRoom blueprint.old blueprint.new }
 {
     if has_watched(zones, zone) {
-        list_each(zones, zone, refs, seats, plan);
+        list_each(zones, zone, refs, seats, blueprint);
     }
 }
 
 /// Whether something may decide the health of a set of a zone, by what is counted of its sets.
 fn has_watched(zones: &Zones, zone: u32) -> bool
-    ensures { result ≡ false → (p : Placed) → IsHere (placed_in zones.now.zones zone) p
+    ensures { result ≡ false → (p : Slotted) → IsHere (placed_in zones.now.zones zone) p
         → is_watched p.set ≡ false }
 {
     let named = zones.checked(zone);
@@ -144,135 +144,140 @@ fn has_watched(zones: &Zones, zone: u32) -> bool
     false
 }
 
-/// Gives the sets of a zone gates, each of which is asked whether something decides it.
+/// Gives the sets of a zone valves, each of which is asked whether something decides it.
 fn list_each(
     zones: &Zones,
     zone: u32,
     refs: &mut Vec<SetRef>,
     seats: &mut Vec<Seat>,
-    plan: &mut Plan,
+    blueprint: &mut Blueprint,
 )
     requires slots { length seats.old.items ≡ zones.now.slots }
-    requires room { HasListRoom plan.old refs.old seats.old.items }
+    requires room { HasListRoom blueprint.old refs.old seats.old.items }
     requires listed { (first : ℕ)
-        × AreListed zones.now.zones first refs.old.items seats.old.items plan.old.shapes }
+        × HaveOwnValves zones.now.zones first refs.old.items seats.old.items blueprint.old.triggers }
     ensures listed { (first : ℕ)
-        → AreListed zones.now.zones first refs.old.items seats.old.items plan.old.shapes
-        → AreListed zones.now.zones first refs.new.items seats.new.items plan.new.shapes }
-    ensures all { (p : Placed) → IsHere (placed_in zones.now.zones zone) p
+        → HaveOwnValves zones.now.zones first refs.old.items seats.old.items blueprint.old.triggers
+        → HaveOwnValves zones.now.zones first refs.new.items seats.new.items blueprint.new.triggers }
+    ensures all { (p : Slotted) → IsHere (placed_in zones.now.zones zone) p
         → is_watched p.set ≡ true → IsListed refs.new.items (ref_in zone p) }
     ensures goes_on { (ref : SetRef) → IsListed refs.old.items ref
         → IsListed refs.new.items ref }
-    ensures shapes { (n : ℕ) (shape : Shape) → slice_get plan.old.shapes n ≡ Some shape
-        → slice_get plan.new.shapes n ≡ Some shape }
-    ensures links { plan.new.links ≡ plan.old.links }
+    ensures triggers { (n : ℕ) (trigger : Trigger) → slice_get blueprint.old.triggers n ≡ Some trigger
+        → slice_get blueprint.new.triggers n ≡ Some trigger }
+    ensures links { blueprint.new.links ≡ blueprint.old.links }
     ensures size { length seats.new.items ≡ length seats.old.items }
-    ensures room { HasListRoom plan.new refs.new seats.new.items }
-    ensures kept { KeepsRoom plan.old plan.new }
+    ensures room { HasListRoom blueprint.new refs.new seats.new.items }
+    ensures kept { KeepsRoom blueprint.old blueprint.new }
 {
     zones.slots_within();
     for i in 0..zones.count(zone) {
         let Some(set) = zones.at(zone, i) else {
             unreachable!();
         };
-        list_one(zones, set, refs, seats, plan);
+        list_one(zones, set, refs, seats, blueprint);
     }
 }
 
-/// Gives the sets of all zones gates.
-fn list_sets(zones: &Zones, refs: &mut Vec<SetRef>, seats: &mut Vec<Seat>, plan: &mut Plan)
+/// Gives the sets of all zones valves.
+fn list_sets(
+    zones: &Zones,
+    refs: &mut Vec<SetRef>,
+    seats: &mut Vec<Seat>,
+    blueprint: &mut Blueprint,
+)
     requires slots { length seats.old.items ≡ zones.now.slots }
-    requires room { HasListRoom plan.old refs.old seats.old.items }
+    requires room { HasListRoom blueprint.old refs.old seats.old.items }
     requires listed { (first : ℕ)
-        × AreListed zones.now.zones first refs.old.items seats.old.items plan.old.shapes }
+        × HaveOwnValves zones.now.zones first refs.old.items seats.old.items blueprint.old.triggers }
     ensures listed { (first : ℕ)
-        → AreListed zones.now.zones first refs.old.items seats.old.items plan.old.shapes
-        → AreListed zones.now.zones first refs.new.items seats.new.items plan.new.shapes }
-    ensures all { (zone : ℕ) (p : Placed) → IsHere (placed_in zones.now.zones zone) p
+        → HaveOwnValves zones.now.zones first refs.old.items seats.old.items blueprint.old.triggers
+        → HaveOwnValves zones.now.zones first refs.new.items seats.new.items blueprint.new.triggers }
+    ensures all { (zone : ℕ) (p : Slotted) → IsHere (placed_in zones.now.zones zone) p
         → is_watched p.set ≡ true → IsListed refs.new.items (ref_in zone p) }
     ensures goes_on { (ref : SetRef) → IsListed refs.old.items ref
         → IsListed refs.new.items ref }
-    ensures shapes { (n : ℕ) (shape : Shape) → slice_get plan.old.shapes n ≡ Some shape
-        → slice_get plan.new.shapes n ≡ Some shape }
-    ensures links { plan.new.links ≡ plan.old.links }
+    ensures triggers { (n : ℕ) (trigger : Trigger) → slice_get blueprint.old.triggers n ≡ Some trigger
+        → slice_get blueprint.new.triggers n ≡ Some trigger }
+    ensures links { blueprint.new.links ≡ blueprint.old.links }
     ensures size { length seats.new.items ≡ length seats.old.items }
-    ensures room { HasListRoom plan.new refs.new seats.new.items }
-    ensures kept { KeepsRoom plan.old plan.new }
+    ensures room { HasListRoom blueprint.new refs.new seats.new.items }
+    ensures kept { KeepsRoom blueprint.old blueprint.new }
 {
     zones.well_formed();
     let mut zone = 0;
     while let Some(next) = zones.zone_after(zone) {
-        list_zone(zones, next, refs, seats, plan);
+        list_zone(zones, next, refs, seats, blueprint);
         zone = next;
     }
 }
 
-/// Gives a set a gate, where it is there, something decides it and it has none.
+/// Gives a set a valve, where it is there, something decides it and it has none.
 fn list_known(
     zones: &Zones,
     set: SetRef,
     refs: &mut Vec<SetRef>,
     seats: &mut Vec<Seat>,
-    plan: &mut Plan,
+    blueprint: &mut Blueprint,
 )
     requires slots { length seats.old.items ≡ zones.now.slots }
-    requires room { HasListRoom plan.old refs.old seats.old.items }
+    requires room { HasListRoom blueprint.old refs.old seats.old.items }
     requires listed { (first : ℕ)
-        × AreListed zones.now.zones first refs.old.items seats.old.items plan.old.shapes }
+        × HaveOwnValves zones.now.zones first refs.old.items seats.old.items blueprint.old.triggers }
     ensures listed { (first : ℕ)
-        → AreListed zones.now.zones first refs.old.items seats.old.items plan.old.shapes
-        → AreListed zones.now.zones first refs.new.items seats.new.items plan.new.shapes }
-    ensures here { (named : RecordSet) → Names zones.now.zones set named
+        → HaveOwnValves zones.now.zones first refs.old.items seats.old.items blueprint.old.triggers
+        → HaveOwnValves zones.now.zones first refs.new.items seats.new.items blueprint.new.triggers }
+    ensures here { (named : RecordSet) → RefersTo zones.now.zones set named
         → is_watched named ≡ true → IsListed refs.new.items set }
     ensures goes_on { (ref : SetRef) → IsListed refs.old.items ref
         → IsListed refs.new.items ref }
-    ensures shapes { (n : ℕ) (shape : Shape) → slice_get plan.old.shapes n ≡ Some shape
-        → slice_get plan.new.shapes n ≡ Some shape }
-    ensures links { plan.new.links ≡ plan.old.links }
+    ensures triggers { (n : ℕ) (trigger : Trigger) → slice_get blueprint.old.triggers n ≡ Some trigger
+        → slice_get blueprint.new.triggers n ≡ Some trigger }
+    ensures links { blueprint.new.links ≡ blueprint.old.links }
     ensures size { length seats.new.items ≡ length seats.old.items }
-    ensures room { HasListRoom plan.new refs.new seats.new.items }
-    ensures kept { KeepsRoom plan.old plan.new }
+    ensures room { HasListRoom blueprint.new refs.new seats.new.items }
+    ensures kept { KeepsRoom blueprint.old blueprint.new }
 {
     zones.slots_within();
     if set.slot as usize >= seats.len() {
         return;
     }
-    list_one(zones, set, refs, seats, plan);
+    list_one(zones, set, refs, seats, blueprint);
 }
 
-/// Gives some sets gates.
+/// Gives some sets valves.
 fn list_those(
     zones: &Zones,
     those: &[SetRef],
     refs: &mut Vec<SetRef>,
     seats: &mut Vec<Seat>,
-    plan: &mut Plan,
+    blueprint: &mut Blueprint,
 )
     requires slots { length seats.old.items ≡ zones.now.slots }
-    requires room { HasListRoom plan.old refs.old seats.old.items }
+    requires room { HasListRoom blueprint.old refs.old seats.old.items }
     requires listed { (first : ℕ)
-        × AreListed zones.now.zones first refs.old.items seats.old.items plan.old.shapes }
+        × HaveOwnValves zones.now.zones first refs.old.items seats.old.items blueprint.old.triggers }
     ensures listed { (first : ℕ)
-        → AreListed zones.now.zones first refs.old.items seats.old.items plan.old.shapes
-        → AreListed zones.now.zones first refs.new.items seats.new.items plan.new.shapes }
+        → HaveOwnValves zones.now.zones first refs.old.items seats.old.items blueprint.old.triggers
+        → HaveOwnValves zones.now.zones first refs.new.items seats.new.items blueprint.new.triggers }
     ensures all { (k : ℕ) (set : SetRef) (named : RecordSet) → slice_get those.now k ≡ Some set
-        → Names zones.now.zones set named → is_watched named ≡ true
+        → RefersTo zones.now.zones set named → is_watched named ≡ true
         → IsListed refs.new.items set }
     ensures goes_on { (ref : SetRef) → IsListed refs.old.items ref
         → IsListed refs.new.items ref }
-    ensures shapes { (n : ℕ) (shape : Shape) → slice_get plan.old.shapes n ≡ Some shape
-        → slice_get plan.new.shapes n ≡ Some shape }
-    ensures links { plan.new.links ≡ plan.old.links }
+    ensures triggers { (n : ℕ) (trigger : Trigger) → slice_get blueprint.old.triggers n ≡ Some trigger
+        → slice_get blueprint.new.triggers n ≡ Some trigger }
+    ensures links { blueprint.new.links ≡ blueprint.old.links }
     ensures size { length seats.new.items ≡ length seats.old.items }
-    ensures room { HasListRoom plan.new refs.new seats.new.items }
-    ensures kept { KeepsRoom plan.old plan.new }
+    ensures room { HasListRoom blueprint.new refs.new seats.new.items }
+    ensures kept { KeepsRoom blueprint.old blueprint.new }
 {
     for set in those {
-        list_known(zones, *set, refs, seats, plan);
+        list_known(zones, *set, refs, seats, blueprint);
     }
 }
 
-/// Gives sets gates: those of all zones, or else the ones that are known and the ones that came.
+/// Gives sets valves: those of all zones, or else the ones that are known and the ones that came.
 pub fn list_asked(
     zones: &Zones,
     whole: bool,
@@ -280,30 +285,30 @@ pub fn list_asked(
     came: &[SetRef],
     refs: &mut Vec<SetRef>,
     seats: &mut Vec<Seat>,
-    plan: &mut Plan,
+    blueprint: &mut Blueprint,
 )
     requires slots { length seats.old.items ≡ zones.now.slots }
-    requires room { HasListRoom plan.old refs.old seats.old.items }
+    requires room { HasListRoom blueprint.old refs.old seats.old.items }
     requires listed { (first : ℕ)
-        × AreListed zones.now.zones first refs.old.items seats.old.items plan.old.shapes }
+        × HaveOwnValves zones.now.zones first refs.old.items seats.old.items blueprint.old.triggers }
     ensures listed { (first : ℕ)
-        → AreListed zones.now.zones first refs.old.items seats.old.items plan.old.shapes
-        → AreListed zones.now.zones first refs.new.items seats.new.items plan.new.shapes }
+        → HaveOwnValves zones.now.zones first refs.old.items seats.old.items blueprint.old.triggers
+        → HaveOwnValves zones.now.zones first refs.new.items seats.new.items blueprint.new.triggers }
     ensures all { AreAsked zones.now.zones whole known.now came.now
         → AllListed zones.now.zones refs.new.items }
     ensures goes_on { (ref : SetRef) → IsListed refs.old.items ref
         → IsListed refs.new.items ref }
-    ensures shapes { (n : ℕ) (shape : Shape) → slice_get plan.old.shapes n ≡ Some shape
-        → slice_get plan.new.shapes n ≡ Some shape }
-    ensures links { plan.new.links ≡ plan.old.links }
+    ensures triggers { (n : ℕ) (trigger : Trigger) → slice_get blueprint.old.triggers n ≡ Some trigger
+        → slice_get blueprint.new.triggers n ≡ Some trigger }
+    ensures links { blueprint.new.links ≡ blueprint.old.links }
     ensures size { length seats.new.items ≡ length seats.old.items }
-    ensures room { HasListRoom plan.new refs.new seats.new.items }
-    ensures kept { KeepsRoom plan.old plan.new }
+    ensures room { HasListRoom blueprint.new refs.new seats.new.items }
+    ensures kept { KeepsRoom blueprint.old blueprint.new }
 {
     if whole {
-        list_sets(zones, refs, seats, plan);
+        list_sets(zones, refs, seats, blueprint);
         return;
     }
-    list_those(zones, known, refs, seats, plan);
-    list_those(zones, came, refs, seats, plan);
+    list_those(zones, known, refs, seats, blueprint);
+    list_those(zones, came, refs, seats, blueprint);
 }

@@ -1,12 +1,12 @@
-//! All gates of a configuration, and what feeds each of them.
+//! All valves of a configuration, and what feeds each of them.
 
 ghost use Rattle.std.specs.Prelude.{◌≡◌, ◌≤◌, ◌<◌, ◌+◌, ◌*◌, [], ℕ, List, length};
-ghost use Rattle.health_gates.specs.Gates.{Feeds};
-ghost use Rattle.health_gates.specs.Plan.{IsPlanned, net_in};
-ghost use Rattle.health_gates.specs.Walk.{PathsEnd};
+ghost use Rattle.health_valves.specs.Valves.{Feeds};
+ghost use Rattle.health_valves.specs.Blueprint.{IsDrawn, net_in};
+ghost use Rattle.health_valves.specs.Walk.{PathsEnd};
 ghost use Rattle.health_planning.specs.Building.{AllListed, AreAsked, AreFree, AreGiven, AreNoted};
-ghost use Rattle.health_planning.specs.Building.{AreSeen, AreShaped, IsBuilt, IsSmallAt};
-ghost use Rattle.health_planning.specs.Rooms.{HasPlanRoom};
+ghost use Rattle.health_planning.specs.Building.{AreSeen, AreTriggered, IsBuilt, IsSmallAt};
+ghost use Rattle.health_planning.specs.Rooms.{HasBlueprintRoom};
 ghost use Rattle.health_planning.specs.Wired.{ids_of, watched_of};
 ghost use Rattle.health_model.specs.Sound.{IsSound};
 ghost use Rattle.health_model.specs.Statuses.{Report};
@@ -18,11 +18,11 @@ use crate::listing::list_asked;
 use crate::seats::Seat;
 use checker_state::Checkers;
 use health_check::CheckTable;
-use health_gates::Plan;
 use health_model::paths_end;
+use health_valves::Blueprint;
 use policy_select::{SetRef, Zones};
 
-/// Plans all gates and what feeds them, one kind after another. The sets of the groups with gates
+/// Plans all valves and what feeds them, one kind after another. The sets of the groups with valves
 /// are noted in place of those that were known.
 fn plan_all(
     zones: &Zones,
@@ -34,46 +34,46 @@ fn plan_all(
     came: &[SetRef],
     refs: &mut Vec<SetRef>,
     seats: &mut Vec<Seat>,
-    plan: &mut Plan,
+    blueprint: &mut Blueprint,
 )
     requires sound { IsSound (watched_of zones.now.zones checks.now.checks) }
     requires ids { ids.now ≡ ids_of checks.now.checks.list }
     requires as_many { length seen.now ≡ length checks.now.checks.list }
     requires no_refs { refs.old.items ≡ [] }
     requires no_seats { AreFree zones.now.slots seats.old.items }
-    requires no_gates { plan.old.shapes ≡ [] }
-    requires no_links { plan.old.links ≡ [] }
-    requires room { HasPlanRoom plan.old refs.old known.old zones.now.slots }
+    requires no_valves { blueprint.old.triggers ≡ [] }
+    requires no_links { blueprint.old.links ≡ [] }
+    requires room { HasBlueprintRoom blueprint.old refs.old known.old zones.now.slots }
     ensures built { IsBuilt zones.now.zones checks.now.checks.list refs.new.items
-        seats.new.items plan.new.shapes plan.new.links }
+        seats.new.items blueprint.new.triggers blueprint.new.links }
     ensures all { AreAsked zones.now.zones whole known.old.items came.now
         → AllListed zones.now.zones refs.new.items }
     ensures given { AreGiven refs.new.items known.new.items seats.new.items }
     ensures noted { AreNoted known.new.items seats.new.items }
     ensures checks { (reports : List Report)
         → AreSeen reports checks.now.checks.list seen.now
-        → AreShaped reports checks.now.checks.list plan.new.shapes }
-    ensures small { (gate : ℕ) → gate < length checks.now.checks.list
-        → IsSmallAt plan.new.shapes gate }
-    ensures few_gates { length plan.new.shapes ≤ zones.now.slots * 2 + 200 }
-    ensures few_links { length plan.new.links ≤ zones.now.slots * 3 + 51200 }
+        → AreTriggered reports checks.now.checks.list blueprint.new.triggers }
+    ensures small { (valve : ℕ) → valve < length checks.now.checks.list
+        → IsSmallAt blueprint.new.triggers valve }
+    ensures few_valves { length blueprint.new.triggers ≤ zones.now.slots * 2 + 200 }
+    ensures few_links { length blueprint.new.links ≤ zones.now.slots * 3 + 51200 }
 {
     zones.well_formed();
     zones.slots_apart();
     let list = checks.as_slice();
-    add_checks(plan, list, seen);
-    join_checks(plan, ids, list);
-    list_asked(zones, whole, known, came, refs, seats, plan);
+    add_checks(blueprint, list, seen);
+    join_checks(blueprint, ids, list);
+    list_asked(zones, whole, known, came, refs, seats, blueprint);
     known.clear();
-    group_all(zones, refs, seats, plan, known);
-    join_sets(zones, refs, ids, seats, plan);
+    group_all(zones, refs, seats, blueprint, known);
+    join_sets(zones, refs, ids, seats, blueprint);
 }
 
-/// Plans the gates of a configuration, where none are planned, by what the checkers of its checks
+/// Plans the valves of a configuration, where none are planned, by what the checkers of its checks
 /// saw. All sets are asked whether something decides them, or the ones that are known and the ones
-/// that came. In the end the sets of the groups with gates stand in place of the known ones. It takes
+/// that came. In the end the sets of the groups with valves stand in place of the known ones. It takes
 /// no memory.
-pub fn plan_gates(
+pub fn plan_valves(
     zones: &Zones,
     checks: &CheckTable,
     ids: &[u32],
@@ -83,35 +83,35 @@ pub fn plan_gates(
     came: &[SetRef],
     refs: &mut Vec<SetRef>,
     seats: &mut Vec<Seat>,
-    plan: &mut Plan,
+    blueprint: &mut Blueprint,
 )
     requires sound { IsSound (watched_of zones.now.zones checks.now.checks) }
     requires ids { ids.now ≡ ids_of checks.now.checks.list }
     requires as_many { length seen.now ≡ length checks.now.checks.list }
     requires no_refs { refs.old.items ≡ [] }
     requires no_seats { AreFree zones.now.slots seats.old.items }
-    requires no_gates { plan.old.shapes ≡ [] }
-    requires no_links { plan.old.links ≡ [] }
-    requires room { HasPlanRoom plan.old refs.old known.old zones.now.slots }
+    requires no_valves { blueprint.old.triggers ≡ [] }
+    requires no_links { blueprint.old.links ≡ [] }
+    requires room { HasBlueprintRoom blueprint.old refs.old known.old zones.now.slots }
     ensures built { IsBuilt zones.now.zones checks.now.checks.list refs.new.items
-        seats.new.items plan.new.shapes plan.new.links }
+        seats.new.items blueprint.new.triggers blueprint.new.links }
     ensures all { AreAsked zones.now.zones whole known.old.items came.now
         → AllListed zones.now.zones refs.new.items }
     ensures given { AreGiven refs.new.items known.new.items seats.new.items }
     ensures noted { AreNoted known.new.items seats.new.items }
     ensures checks { (reports : List Report)
         → AreSeen reports checks.now.checks.list seen.now
-        → AreShaped reports checks.now.checks.list plan.new.shapes }
-    ensures planned { IsPlanned plan.new }
-    ensures ends { PathsEnd (Feeds (net_in plan.new)) 64 }
-    ensures few_gates { length plan.new.shapes ≤ zones.now.slots * 2 + 200 }
-    ensures few_links { length plan.new.links ≤ zones.now.slots * 3 + 51200 }
+        → AreTriggered reports checks.now.checks.list blueprint.new.triggers }
+    ensures planned { IsDrawn blueprint.new }
+    ensures ends { PathsEnd (Feeds (net_in blueprint.new)) 64 }
+    ensures few_valves { length blueprint.new.triggers ≤ zones.now.slots * 2 + 200 }
+    ensures few_links { length blueprint.new.links ≤ zones.now.slots * 3 + 51200 }
 {
     zones.well_formed();
     zones.slots_apart();
     paths_end();
     let list = checks.as_slice();
     plan_all(
-        zones, checks, ids, seen, whole, known, came, refs, seats, plan,
+        zones, checks, ids, seen, whole, known, came, refs, seats, blueprint,
     );
 }

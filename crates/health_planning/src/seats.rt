@@ -1,6 +1,6 @@
-//! Which gates a set has.
+//! Which valves a set has.
 
-/// The gates of the set in a slot and of its group, each plus one, and 0 where there is none.
+/// The valves of the set in a slot and of its group, each plus one, and 0 where there is none.
 #[derive(Clone, Copy, Debug, PartialEq, Eq)]
 pub struct Seat {
     pub set: u32,

@@ -3,10 +3,10 @@ use Rattle.std.proofs.Common.{◌≡◌, ◌≢◌, ℕ, ◌+◌, ◌*◌, ◌<�
 use Rattle.std.specs.List.{zip}
 use Rattle.std.proofs.lemmas.Bool.{cases_lt}
 use Rattle.std.proofs.lemmas.List.{get_or_append_left, get_or_push}
-use Rattle.ip_table.specs.declared.tree.Node.{Node}
+use Rattle.ip_table.specs.declared.tree.Fork.{Fork}
 use Rattle.ip_table.specs.Bits.{width_of, first_bits}
 use Rattle.ip_table.specs.Prefixes.{Prefix, IsPrefix}
-use Rattle.ip_table.specs.Trees.{prefix_at, node_at, here, window, IsChild, IsTree, AllStand, AllPrefixes, AreApart, HasPrefix}
+use Rattle.ip_table.specs.Trees.{prefix_at, fork_at, here, window, IsChild, IsTree, AllStand, AllPrefixes, AreApart, HasPrefix}
 
 module _ (ps : List Prefix) (p : Prefix) (new : List Prefix) (is : new ≡ ps ++ p ∷ []) where
   pub longer : length new ≡ length ps + 1
@@ -45,42 +45,42 @@ module _ (ps : List Prefix) (p : Prefix) (new : List Prefix) (is : new ≡ ps ++
         ]
       ]
 
-  module _ (nodes : List Node) (width : ℕ) (tree : IsTree ps nodes width) where
-    same_here : (i : ℕ) → i < length nodes → here new nodes i ≡ here ps nodes i
-    same_here i h = before (node_at nodes i).row (tree.each i h).row
+  module _ (forks : List Fork) (width : ℕ) (tree : IsTree ps forks width) where
+    same_here : (i : ℕ) → i < length forks → here new forks i ≡ here ps forks i
+    same_here i h = before (fork_at forks i).row (tree.each i h).row
 
-    kids : (i bit k : ℕ) → i < length nodes → IsChild ps nodes i bit k → IsChild new nodes i bit k
+    kids : (i bit k : ℕ) → i < length forks → IsChild ps forks i bit k → IsChild new forks i bit k
     kids i bit k h kid = record {
       within = kid.within;
       deeper = kid.deeper;
-      told = kid.told;
+      child_depth = kid.child_depth;
       start = kid.start;
-      bits = ap (λ (q : Prefix). first_bits ((node_at nodes i).depth + 1) q.address)
+      bits = ap (λ (q : Prefix). first_bits ((fork_at forks i).depth + 1) q.address)
           (same_here k kid.within) ∙ kid.bits
-          ∙ ap (λ (q : Prefix). 2 * first_bits (node_at nodes i).depth q.address + bit)
+          ∙ ap (λ (q : Prefix). 2 * first_bits (fork_at forks i).depth q.address + bit)
           (sym (same_here i h));
     }
 
-    pub tree_on : IsTree new nodes width
+    pub tree_on : IsTree new forks width
     tree_on = record {
       root = tree.root;
       begin = tree.begin;
-      each = λ i h. let node = tree.each i h in record {
-        row = omega (arith, node.row, longer);
-        family = ap (λ (q : Prefix). width_of q.address) (same_here i h) ∙ node.family;
-        depth = omega (arith, node.depth, ap (λ (q : Prefix). q.length) (same_here i h));
-        long = node.long ∙ ap (λ (q : Prefix). q.length) (sym (same_here i h));
-        low = node.low;
-        behind = node.behind
-            ∙ ap (λ (q : Prefix). window (node_at nodes i).start q.address) (sym (same_here i h));
-        children = λ bit low some. kids i bit _ h (node.children bit low some);
+      each = λ i h. let fork = tree.each i h in record {
+        row = omega (arith, fork.row, longer);
+        family = ap (λ (q : Prefix). width_of q.address) (same_here i h) ∙ fork.family;
+        depth = omega (arith, fork.depth, ap (λ (q : Prefix). q.length) (same_here i h));
+        long = fork.long ∙ ap (λ (q : Prefix). q.length) (sym (same_here i h));
+        low = fork.low;
+        behind = fork.behind
+            ∙ ap (λ (q : Prefix). window (fork_at forks i).start q.address) (sym (same_here i h));
+        children = λ bit low some. kids i bit _ h (fork.children bit low some);
       };
       apart = tree.apart;
     }
 
-  module _ (nodes : List Node) (width : ℕ) where
+  module _ (forks : List Fork) (width : ℕ) where
     -- all rows but the last stand as before
-    pub others_on : AllStand ps nodes width (length ps) → AllStand new nodes width (length ps)
+    pub others_on : AllStand ps forks width (length ps) → AllStand new forks width (length ps)
     others_on all r h family ne = elim (cases_lt r (length ps)) [
       | inl old ↦
           all r old (ap (λ (q : Prefix). width_of q.address) (sym (before r old)) ∙ family) ne
@@ -88,8 +88,8 @@ module _ (ps : List Prefix) (p : Prefix) (new : List Prefix) (is : new ≡ ps ++
     ]
 
     -- a row of another family changes nothing
-    pub all_stand_on : width_of p.address ≢ width → AllStand ps nodes width (length ps)
-        → AllStand new nodes width (length new)
+    pub all_stand_on : width_of p.address ≢ width → AllStand ps forks width (length ps)
+        → AllStand new forks width (length new)
     all_stand_on other all r h family ne = elim (cases_lt r (length ps)) [
       | inl old ↦
           all r old (ap (λ (q : Prefix). width_of q.address) (sym (before r old))

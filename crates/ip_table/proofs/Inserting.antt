@@ -3,7 +3,7 @@ use Rattle.std.proofs.Common.{◌≡◌, Bool, IsTrue, false, ◌↔◌, ℕ, �
 use Rattle.std.specs.List.{zip}
 use Rattle.std.proofs.lemmas.Bool.{false≢true}
 use Rattle.std.proofs.lemmas.Slice.Zip.{length-zip}
-use Rattle.ip_table.specs.declared.tree.Node.{Node}
+use Rattle.ip_table.specs.declared.tree.Fork.{Fork}
 use Rattle.ip_table.specs.Bits.{width_of}
 use Rattle.ip_table.specs.Prefixes.{Prefix, IsPrefix}
 use Rattle.ip_table.specs.Rows.{HasRow}
@@ -34,12 +34,12 @@ module _ {V : Type 0} (ps : List Prefix) (vs : List V) (rows : List (Prefix × V
   no_prefix p b e test qs same h =
       absent p b e test (has_row ps vs rows long is p (subst (λ x. HasPrefix x p) same h))
 
-module _ (ps : List Prefix) (count : ℕ) (n4 n6 : List Node) (t : IsTable ps count n4 n6)
+module _ (ps : List Prefix) (count : ℕ) (n4 n6 : List Fork) (t : IsTable ps count n4 n6)
     (p : Prefix) (prefix : IsPrefix p.address p.length)
     (absent : HasPrefix ps p
     → ⊥) (room : length ps < 100000) (qs : List Prefix) (is : qs ≡ ps
     ++ p ∷ []) (now : ℕ) (more : now ≡ count + 1)
-    (new : List Node) (before : ℕ) (grown : IsGrown qs new (width_of p.address) before)
+    (new : List Fork) (before : ℕ) (grown : IsGrown qs new (width_of p.address) before)
     (fewer : before ≤ length ps) where
   pub table_v4 : width_of p.address ≡ 32 → IsTable qs now new n6
   table_v4 family = record {

@@ -6,8 +6,8 @@ use Rattle.std.proofs.lemmas.Bool.{cases_lt}
 use Rattle.std.proofs.lemmas.List.{get_or_default}
 use Rattle.std.proofs.lemmas.Slice.Zip.{length-zip, get_or-zip}
 use Rattle.address_text.specs.declared.address.IpAddress.{IpAddress}
-use Rattle.ip_table.specs.declared.tree.Node.{Node}
-use Rattle.ip_table.specs.declared.tree.Seen.{Seen}
+use Rattle.ip_table.specs.declared.tree.Fork.{Fork}
+use Rattle.ip_table.specs.declared.tree.Walked.{Walked}
 use Rattle.ip_table.specs.Bits.{SharesFirst}
 use Rattle.ip_table.specs.Location.{IsLonger, HasLongerInside, IsScope, Locates, length_of}
 use Rattle.ip_table.specs.Prefixes.{Prefix, IsPrefix, Covers}
@@ -47,12 +47,12 @@ module _ {V : Type 0} (ps : List Prefix) (vs : List V) (long : length vs ≡ len
         ∙ ap (λ w. (prefix_at ps k, w)) e,
   )
 
-  module _ (a : IpAddress) (seen : Seen) (sums : SumsUp ps a seen) where
+  module _ (a : IpAddress) (walked : Walked) (sums : SumsUp ps a walked) where
     -- the scope of a row that was found, or of none
     scoped : (found : Option (Prefix × V))
-        → ((n : ℕ) → HasLength ps seen.found n → IsLonger found (record { address = a; length = n })
+        → ((n : ℕ) → HasLength ps walked.found n → IsLonger found (record { address = a; length = n })
         → ⊥)
-        → (n : ℕ) → n ≡ max seen.past (length_of found) → IsScope (zip ps vs) a found n
+        → (n : ℕ) → n ≡ max walked.past (length_of found) → IsScope (zip ps vs) a found n
     scoped found shorter n is = record { from = omega arith; apart = apart; least = least }
       where
         alike : (f : Option (Prefix × V)) (p q : Prefix) → p.length ≡ q.length → IsLonger f p
@@ -69,7 +69,7 @@ module _ {V : Type 0} (ps : List Prefix) (vs : List V) (long : length vs ≡ len
             → ⊥ = λ c. shorter (prefix_at ps at.0).length (done.covers c)
             (alike found inside.0.0 _ (ap (λ (p : Prefix). p.length) (sym same)) inside.2) in
             done.apart away
-            (shares_fewer seen.past n _ a (omega arith)
+            (shares_fewer walked.past n _ a (omega arith)
             (subst (λ (p : Prefix). SharesFirst n p.address a) (sym same) inside.3.1))
 
         longer : (f : Option (Prefix × V)) (p : Prefix) → length_of f < p.length → IsLonger f p
@@ -96,7 +96,7 @@ module _ {V : Type 0} (ps : List Prefix) (vs : List V) (long : length vs ≡ len
               ]
         ]
 
-    pub located_none : seen.found ≡ None → Locates (zip ps vs) a None seen.past
+    pub located_none : walked.found ≡ None → Locates (zip ps vs) a None walked.past
     located_none none = record {
       found = None;
       is_found = λ row c covers.
@@ -105,12 +105,12 @@ module _ {V : Type 0} (ps : List Prefix) (vs : List V) (long : length vs ≡ len
           ((sums.each at.0 at.1).covers (subst (λ (p : Prefix). Covers p a) (sym at.2) covers));
       has_value = refl;
       is_scope =
-          scoped None (λ n has longer. subst (λ f. HasLength ps f n) none has) seen.past
+          scoped None (λ n has longer. subst (λ f. HasLength ps f n) none has) walked.past
           (omega arith);
     }
 
-    pub located_some : (f : ℕ) (v : V) (scope : ℕ) → seen.found ≡ Some f → get_or vs f v ≡ v
-        → scope ≡ max seen.past (prefix_at ps f).length
+    pub located_some : (f : ℕ) (v : V) (scope : ℕ) → walked.found ≡ Some f → get_or vs f v ≡ v
+        → scope ≡ max walked.past (prefix_at ps f).length
         → Locates (zip ps vs) a (Some v) scope
     located_some f v scope some value is = record {
       found = Some (prefix_at ps f, v);
@@ -142,7 +142,7 @@ got {V} (q ∷ ps) (v ∷ vs) zero p e = let same : (q, v) ≡ p = cc in
 got {V} (q ∷ ps) (v ∷ vs) (suc i) p e = let more = got ps vs i p e in
     (omega (arith, more.0), more.1)
 
-pub are_rows : {V : Type 0} → (ps : List Prefix) (vs : List V) (n4 n6 : List Node)
+pub are_rows : {V : Type 0} → (ps : List Prefix) (vs : List V) (n4 n6 : List Fork)
     → IsTable ps (length vs) n4 n6 → AreRows (zip ps vs)
 are_rows ps vs n4 n6 t = record {
   prefixes = λ row c. let at = place_of ps vs t.values row c in

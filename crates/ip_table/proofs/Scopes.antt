@@ -5,7 +5,7 @@ use Rattle.std.specs.Option.{option_map}
 use Rattle.std.proofs.lemmas.Bool.{cases_lt}
 use Rattle.address_text.specs.declared.address.IpAddress.{IpAddress}
 use Rattle.ip_table.specs.Bits.{SharesFirst}
-use Rattle.ip_table.specs.Laws.{ScopeReaches, NoShorterReaches, OneLocation}
+use Rattle.ip_table.specs.Laws.{ScopeReaches, NoShorterReaches, OneRowFound}
 use Rattle.ip_table.specs.Location.{IsFound, IsLonger, HasLongerInside, IsScope}
 use Rattle.ip_table.specs.Prefixes.{Prefix, Covers}
 use Rattle.ip_table.specs.Rows.{AreRows}
@@ -101,7 +101,7 @@ one_found rows a are None (Some y) f g = absurd (f y g.0 g.1)
 one_found rows a are (Some x) None f g = absurd (g x f.0 f.1)
 one_found rows a are (Some x) (Some y) f g = ap Some (one_row rows a are x y f g)
 
-pub one : {V : Type 0} → OneLocation V
+pub one : {V : Type 0} → OneRowFound V
 one {V} rows a v w scope other are l m =
     let same : l.found ≡ m.found = one_found rows a are l.found m.found l.is_found m.is_found in
     let s : IsScope rows a m.found scope = subst (λ f. IsScope rows a f scope) same l.is_scope in (

@@ -2,13 +2,13 @@
 use Rattle.std.proofs.Common.{◌≡◌, ℕ, ◌+◌, ◌<◌, ◌≤◌, List, length, max, ◌↔◌, sym, ◌∙◌, subst, inl, inr, arith}
 use Rattle.std.proofs.lemmas.Bool.{cases_lt}
 use Rattle.address_text.specs.declared.address.IpAddress.{IpAddress}
-use Rattle.ip_table.specs.declared.tree.Seen.{Seen}
+use Rattle.ip_table.specs.declared.tree.Walked.{Walked}
 use Rattle.ip_table.specs.Bits.{width_of, first_bits, SharesFirst}
 use Rattle.ip_table.specs.Prefixes.{Prefix, Covers}
-use Rattle.ip_table.specs.Trees.{prefix_at, IsSound, IsDone, HasLength}
+use Rattle.ip_table.specs.Trees.{prefix_at, IsTrueOf, IsDone, HasLength}
 use Rattle.ip_table.proofs.FirstBits.{shares_fewer}
 
-module _ (prefixes : List Prefix) (a : IpAddress) (old new : Seen) where
+module _ (prefixes : List Prefix) (a : IpAddress) (old new : Walked) where
   -- more bits are not shared
   pub done_past : old.past ≤ new.past → new.found ≡ old.found → (r : ℕ) → IsDone prefixes a old r
       → IsDone prefixes a new r
@@ -22,7 +22,7 @@ module _ (prefixes : List Prefix) (a : IpAddress) (old new : Seen) where
   pub sound_past : (past row : ℕ) → row < length prefixes → (¬ Covers (prefix_at prefixes row) a)
       → ((n : ℕ) → n < past → SharesFirst n (prefix_at prefixes row).address a)
       → new.found ≡ old.found → new.long ≡ old.long → new.past ≡ max old.past past
-      → IsSound prefixes a old → IsSound prefixes a new
+      → IsTrueOf prefixes a old → IsTrueOf prefixes a new
   sound_past past row h not shares same long most s = record {
     found = λ r e. let b = s.found r (sym same ∙ e) in (b.0, b.1, long ∙ b.2);
     below = λ n h'. elim (cases_lt n old.past) [
@@ -38,7 +38,7 @@ module _ (prefixes : List Prefix) (a : IpAddress) (old new : Seen) where
       → (n ≤ shared ↔ (first_bits n (prefix_at prefixes row).address ≡ first_bits n a)))
       → shared < (prefix_at prefixes row).length
       → new.found ≡ old.found → new.long ≡ old.long → new.past ≡ max old.past (shared + 1)
-      → IsSound prefixes a old → IsSound prefixes a new
+      → IsTrueOf prefixes a old → IsTrueOf prefixes a new
   sound_row row shared h family same short found long past s =
       sound_past (shared + 1) row h
       (λ c. absurd (omega (arith, (same (prefix_at prefixes row).length (omega arith)).1 c.bits)))

@@ -2,23 +2,23 @@
 use Rattle.std.proofs.Common.{◌≡◌, ℕ, ◌<◌, ◌⊎◌, List, length, None, inl, inr, arith}
 use Rattle.std.proofs.lemmas.Bool.{cases_eq}
 use Rattle.address_text.specs.declared.address.IpAddress.{IpAddress}
-use Rattle.ip_table.specs.declared.tree.Node.{Node}
-use Rattle.ip_table.specs.declared.tree.Seen.{Seen}
+use Rattle.ip_table.specs.declared.tree.Fork.{Fork}
+use Rattle.ip_table.specs.declared.tree.Walked.{Walked}
 use Rattle.ip_table.specs.Bits.{width_of}
 use Rattle.ip_table.specs.Prefixes.{Prefix}
-use Rattle.ip_table.specs.Trees.{prefix_at, Stands, AllStand, IsSound, IsDone, SumsUp}
+use Rattle.ip_table.specs.Trees.{prefix_at, StandsBelow, AllStand, IsTrueOf, IsDone, SumsUp}
 
 -- before the first step nothing was seen
 pub sound_nothing : (prefixes : List Prefix) (a : IpAddress)
-    → IsSound prefixes a record { found = None; long = 0; past = 0 }
+    → IsTrueOf prefixes a record { found = None; long = 0; past = 0 }
 sound_nothing prefixes a =
     record { found = λ row e. absurd (cc); below = λ n h. absurd (omega arith) }
 
 -- in an empty tree no row of the family stands
-pub empty : (prefixes : List Prefix) (nodes : List Node) (a : IpAddress) → length nodes ≡ 0
-    → AllStand prefixes nodes (width_of a) (length prefixes)
+pub empty : (prefixes : List Prefix) (forks : List Fork) (a : IpAddress) → length forks ≡ 0
+    → AllStand prefixes forks (width_of a) (length prefixes)
     → SumsUp prefixes a record { found = None; long = 0; past = 0 }
-empty prefixes nodes a none all =
+empty prefixes forks a none all =
     let nowhere : (row : ℕ) → row < length prefixes
     → width_of (prefix_at prefixes row).address ≡ width_of a → ⊥ = λ row h family.
     absurd (omega (arith, none, (all row h family (λ e. absurd (omega arith))).within)) in
@@ -32,12 +32,12 @@ empty prefixes nodes a none all =
     }
 
 -- at the end of the way no row is ahead
-pub finish : (prefixes : List Prefix) (nodes : List Node) (a : IpAddress) (next : ℕ) (seen : Seen)
-    → next ≡ 0 → IsSound prefixes a seen
+pub finish : (prefixes : List Prefix) (forks : List Fork) (a : IpAddress) (next : ℕ) (walked : Walked)
+    → next ≡ 0 → IsTrueOf prefixes a walked
     → ((row : ℕ) → row < length prefixes → width_of (prefix_at prefixes row).address ≡ width_of a
-    → ((0 < next) × Stands nodes next row) ⊎ IsDone prefixes a seen row)
-    → SumsUp prefixes a seen
-finish prefixes nodes a next seen none sound each = record {
+    → ((0 < next) × StandsBelow forks next row) ⊎ IsDone prefixes a walked row)
+    → SumsUp prefixes a walked
+finish prefixes forks a next walked none sound each = record {
   sound = sound;
   each = λ row h. elim (cases_eq (width_of (prefix_at prefixes row).address) (width_of a)) [
     | inl family ↦ elim (each row h family) [

@@ -1,108 +1,108 @@
--- One node more on the way of a walk.
+-- One fork more on the way of a walk.
 use Rattle.std.proofs.Common.{◌≡◌, ℕ, ◌+◌, ◌-◌, ◌*◌, ◌%◌, ◌<◌, ◌≤◌, ◌⊎◌, ◌↔◌, List, length, max, sym, ap, ◌∙◌, subst, inl, inr, arith}
 use Rattle.std.proofs.lemmas.Bool.{cases_lt, cases_eq}
 use Rattle.address_text.specs.declared.address.IpAddress.{IpAddress}
-use Rattle.ip_table.specs.declared.tree.Node.{Node}
-use Rattle.ip_table.specs.declared.tree.Seen.{Seen}
+use Rattle.ip_table.specs.declared.tree.Fork.{Fork}
+use Rattle.ip_table.specs.declared.tree.Walked.{Walked}
 use Rattle.ip_table.specs.Bits.{width_of, first_bits, SharesFirst}
 use Rattle.ip_table.specs.Prefixes.{Prefix}
-use Rattle.ip_table.specs.Trees.{prefix_at, node_at, here, child, bit_behind, IsChild, IsNode, IsTree, Stands, AllPrefixes, IsSound, IsDone, Goes}
+use Rattle.ip_table.specs.Trees.{prefix_at, fork_at, here, child, bit_behind, IsChild, IsFork, IsTree, StandsBelow, AllPrefixes, IsTrueOf, IsDone, GoesOn}
 use Rattle.ip_table.proofs.FirstBits.{halves, one_more, fewer, shares_fewer}
 use Rattle.ip_table.proofs.Sightings.{done_past, sound_past}
 use Rattle.ip_table.proofs.Walks.{Here, On, shallow, row_bits, ways}
 
--- whether the address has the bits of a node, by how many bits of its row it shares
-pub same_way : (prefixes : List Prefix) (nodes : List Node) (a : IpAddress) (width at : ℕ)
-    → IsNode prefixes nodes width at → (node : Node)
-    → node ≡ node_at nodes at
-    → (shared : ℕ) → ((n : ℕ) → n ≤ (prefix_at prefixes node.row).length
-    → (n ≤ shared ↔ (first_bits n (prefix_at prefixes node.row).address ≡ first_bits n a)))
-    → (node_at nodes at).depth ≤ shared
-    ↔ (first_bits (node_at nodes at).depth (here prefixes nodes at).address
-    ≡ first_bits (node_at nodes at).depth a)
-same_way prefixes nodes a width at ok node is shared same =
-    subst (λ (n : Node). n.depth ≤ shared
+-- whether the address has the bits of a fork, by how many bits of its row it shares
+pub same_way : (prefixes : List Prefix) (forks : List Fork) (a : IpAddress) (width at : ℕ)
+    → IsFork prefixes forks width at → (fork : Fork)
+    → fork ≡ fork_at forks at
+    → (shared : ℕ) → ((n : ℕ) → n ≤ (prefix_at prefixes fork.row).length
+    → (n ≤ shared ↔ (first_bits n (prefix_at prefixes fork.row).address ≡ first_bits n a)))
+    → (fork_at forks at).depth ≤ shared
+    ↔ (first_bits (fork_at forks at).depth (here prefixes forks at).address
+    ≡ first_bits (fork_at forks at).depth a)
+same_way prefixes forks a width at ok fork is shared same =
+    subst (λ (n : Fork). n.depth ≤ shared
     ↔ (first_bits n.depth (prefix_at prefixes n.row).address ≡ first_bits n.depth a)) is
-    (same node.depth
+    (same fork.depth
     (omega (
       arith,
       ok.depth,
-      ap (λ (n : Node). n.depth) is,
-      ap (λ (n : Node). (prefix_at prefixes n.row).length) is,
+      ap (λ (n : Fork). n.depth) is,
+      ap (λ (n : Fork). (prefix_at prefixes n.row).length) is,
     )))
 
-module _ (prefixes : List Prefix) (nodes : List Node) (a : IpAddress) (all : AllPrefixes prefixes)
-    (tree : IsTree prefixes nodes (width_of a))
-    (at : ℕ) (within : at < length nodes) where
+module _ (prefixes : List Prefix) (forks : List Fork) (a : IpAddress) (all : AllPrefixes prefixes)
+    (tree : IsTree prefixes forks (width_of a))
+    (at : ℕ) (within : at < length forks) where
   -- The address shares fewer bits with the row that stands here than all rows here and below do: so
   -- it does with each.
-  module _ (seen : Seen) (done : IsDone prefixes a seen (node_at nodes at).row)
-      (differ : ¬ (first_bits (node_at nodes at).depth (here prefixes nodes at).address
-      ≡ first_bits (node_at nodes at).depth a)) where
-    covers_not : (row : ℕ) → Stands nodes at row → (n : ℕ) → (node_at nodes at).depth ≤ n
+  module _ (walked : Walked) (done : IsDone prefixes a walked (fork_at forks at).row)
+      (differ : ¬ (first_bits (fork_at forks at).depth (here prefixes forks at).address
+      ≡ first_bits (fork_at forks at).depth a)) where
+    covers_not : (row : ℕ) → StandsBelow forks at row → (n : ℕ) → (fork_at forks at).depth ≤ n
         → SharesFirst n (prefix_at prefixes row).address a → ⊥
     covers_not row s n more shares =
-        let b = row_bits prefixes nodes (width_of a) all tree at row within s in
-        differ (sym b.1 ∙ fewer (node_at nodes at).depth n _ a more shares.bits)
+        let b = row_bits prefixes forks (width_of a) all tree at row within s in
+        differ (sym b.1 ∙ fewer (fork_at forks at).depth n _ a more shares.bits)
 
-    pub done_aside : (row : ℕ) → Stands nodes at row → IsDone prefixes a seen row
+    pub done_aside : (row : ℕ) → StandsBelow forks at row → IsDone prefixes a walked row
     done_aside row s =
-        let d = (node_at nodes at).depth in
-        let node = tree.each at within in
-        let b = row_bits prefixes nodes (width_of a) all tree at row within s in
+        let d = (fork_at forks at).depth in
+        let fork = tree.each at within in
+        let b = row_bits prefixes forks (width_of a) all tree at row within s in
         record {
           covers = λ c. absurd (covers_not row s (prefix_at prefixes row).length b.0 c);
-          apart = λ n shares. elim (cases_lt seen.past d) [
+          apart = λ n shares. elim (cases_lt walked.past d) [
             | inl less ↦
                 done.apart
-                (λ c. differ (fewer d (here prefixes nodes at).length _ a node.depth c.bits))
+                (λ c. differ (fewer d (here prefixes forks at).length _ a fork.depth c.bits))
                 record {
-                  family = node.family;
-                  bits = sym (fewer seen.past d _ _ (omega arith) b.1) ∙ shares.bits;
+                  family = fork.family;
+                  bits = sym (fewer walked.past d _ _ (omega arith) b.1) ∙ shares.bits;
                 }
-            | inr more ↦ covers_not row s seen.past more shares
+            | inr more ↦ covers_not row s walked.past more shares
           ];
         }
 
   -- The address has the bits that all rows here and below have in common.
-  module _ (way : first_bits (node_at nodes at).depth (here prefixes nodes at).address
-      ≡ first_bits (node_at nodes at).depth a)
-      (mid new : Seen) (other next : ℕ)
-      (other_is : other ≡ child (node_at nodes at) (1 - bit_behind (node_at nodes at).depth a))
-      (next_is : next ≡ child (node_at nodes at) (bit_behind (node_at nodes at).depth a))
+  module _ (way : first_bits (fork_at forks at).depth (here prefixes forks at).address
+      ≡ first_bits (fork_at forks at).depth a)
+      (mid new : Walked) (other next : ℕ)
+      (other_is : other ≡ child (fork_at forks at) (1 - bit_behind (fork_at forks at).depth a))
+      (next_is : next ≡ child (fork_at forks at) (bit_behind (fork_at forks at).depth a))
       (same : new.found ≡ mid.found) (kept : new.long ≡ mid.long)
-      (past : ((new.past ≡ max mid.past ((node_at nodes at).depth + 1)) × (0 < other))
+      (past : ((new.past ≡ max mid.past ((fork_at forks at).depth + 1)) × (0 < other))
       ⊎ ((new.past ≡ mid.past) × (other ≡ 0))) where
     -- a row that stands aside begins with the bits of the way so far, and then with the other bit
-    sound_aside : new.past ≡ max mid.past ((node_at nodes at).depth + 1) → 0 < other
-        → IsSound prefixes a mid → IsSound prefixes a new
+    sound_aside : new.past ≡ max mid.past ((fork_at forks at).depth + 1) → 0 < other
+        → IsTrueOf prefixes a mid → IsTrueOf prefixes a new
     sound_aside more some s =
-        let d = (node_at nodes at).depth in
+        let d = (fork_at forks at).depth in
         let bit = bit_behind d a in
-        let kid : IsChild prefixes nodes at (1 - bit) other =
-        subst (λ i. IsChild prefixes nodes at (1 - bit) i) (sym other_is)
+        let kid : IsChild prefixes forks at (1 - bit) other =
+        subst (λ i. IsChild prefixes forks at (1 - bit) i) (sym other_is)
         ((tree.each at within).children (1 - bit) (omega arith) (subst (λ i. 0 < i) other_is some))
         in
-        let node = tree.each other kid.within in
-        let own = (here prefixes nodes other).address in
+        let fork = tree.each other kid.within in
+        let own = (here prefixes forks other).address in
         let low : d < 128 =
-        omega (arith, kid.deeper, shallow prefixes nodes (width_of a) all tree other kid.within)
+        omega (arith, kid.deeper, shallow prefixes forks (width_of a) all tree other kid.within)
         in
         let turn : first_bits (d + 1) own ≡ 2 * first_bits d a + (1 - bit) = kid.bits
         ∙ ap (λ x. 2 * x + (1 - bit)) way in
         let start : first_bits d own ≡ first_bits d a = omega (arith, halves d own low, turn) in
-        sound_past prefixes a mid new (d + 1) (node_at nodes other).row node.row
+        sound_past prefixes a mid new (d + 1) (fork_at forks other).row fork.row
         (λ c. absurd (omega (
           arith,
           turn,
           one_more d a low,
-          (shares_fewer (d + 1) (here prefixes nodes other).length own a
-              (omega (arith, node.depth, kid.deeper)) c).bits,
+          (shares_fewer (d + 1) (here prefixes forks other).length own a
+              (omega (arith, fork.depth, kid.deeper)) c).bits,
         )))
-        (λ n less. record { family = node.family; bits = fewer n d own a (omega arith) start })
+        (λ n less. record { family = fork.family; bits = fewer n d own a (omega arith) start })
         same kept more s
 
-    sound_same : new.past ≡ mid.past → IsSound prefixes a mid → IsSound prefixes a new
+    sound_same : new.past ≡ mid.past → IsTrueOf prefixes a mid → IsTrueOf prefixes a new
     sound_same e s =
         record {
           found = λ r f. let b = s.found r (sym same ∙ f) in (b.0, b.1, kept ∙ b.2);
@@ -110,27 +110,27 @@ module _ (prefixes : List Prefix) (nodes : List Node) (a : IpAddress) (all : All
               λ n h. s.below n (omega arith);
         }
 
-    pub sound : IsSound prefixes a mid → IsSound prefixes a new
+    pub sound : IsTrueOf prefixes a mid → IsTrueOf prefixes a new
     sound s = elim past [ inl more ↦ sound_aside more.0 more.1 s | inr none ↦ sound_same none.0 s ]
 
-    -- the bits before the next window are among those that lead to the node
-    pub goes : 0 < next → Goes prefixes nodes a at next
+    -- the bits before the next window are among those that lead to the fork
+    pub goes : 0 < next → GoesOn prefixes forks a at next
     goes some =
-        let d = (node_at nodes at).depth in
+        let d = (fork_at forks at).depth in
         let bit = bit_behind d a in
-        let kid : IsChild prefixes nodes at bit next =
-        subst (λ i. IsChild prefixes nodes at bit i) (sym next_is)
+        let kid : IsChild prefixes forks at bit next =
+        subst (λ i. IsChild prefixes forks at bit i) (sym next_is)
         ((tree.each at within).children bit (omega arith) (subst (λ i. 0 < i) next_is some)) in
-        let own = (here prefixes nodes next).address in
+        let own = (here prefixes forks next).address in
         let low : d < 128 =
-        omega (arith, kid.deeper, shallow prefixes nodes (width_of a) all tree next kid.within)
+        omega (arith, kid.deeper, shallow prefixes forks (width_of a) all tree next kid.within)
         in
         let begin : first_bits d own ≡ first_bits d a =
         omega (arith, halves d own low, kid.bits, way) in
         record {
           within = kid.within;
           deeper = kid.deeper;
-          meets = fewer (node_at nodes next).start d own a kid.start begin;
+          meets = fewer (fork_at forks next).start d own a kid.start begin;
         }
 
     no_less : mid.past ≤ new.past
@@ -138,23 +138,23 @@ module _ (prefixes : List Prefix) (nodes : List Node) (a : IpAddress) (all : All
 
     -- a row behind the other bit is not on the way
     aside : (row : ℕ) → row < length prefixes
-        → (0 < child (node_at nodes at)
-        (bit_behind (node_at nodes at).depth (prefix_at prefixes row).address))
-        → Stands nodes
-        (child (node_at nodes at)
-        (bit_behind (node_at nodes at).depth (prefix_at prefixes row).address)) row
-        → bit_behind (node_at nodes at).depth (prefix_at prefixes row).address
-        ≡ bit_behind (node_at nodes at).depth a ⊎ IsDone prefixes a new row
+        → (0 < child (fork_at forks at)
+        (bit_behind (fork_at forks at).depth (prefix_at prefixes row).address))
+        → StandsBelow forks
+        (child (fork_at forks at)
+        (bit_behind (fork_at forks at).depth (prefix_at prefixes row).address)) row
+        → bit_behind (fork_at forks at).depth (prefix_at prefixes row).address
+        ≡ bit_behind (fork_at forks at).depth a ⊎ IsDone prefixes a new row
     aside row h some s =
-        elim (cases_eq (bit_behind (node_at nodes at).depth (prefix_at prefixes row).address)
-        (bit_behind (node_at nodes at).depth a)) [
+        elim (cases_eq (bit_behind (fork_at forks at).depth (prefix_at prefixes row).address)
+        (bit_behind (fork_at forks at).depth a)) [
           | inl one ↦ inl one
           | inr two ↦
-              let d = (node_at nodes at).depth in
+              let d = (fork_at forks at).depth in
               let own = (prefix_at prefixes row).address in
               let kid = (tree.each at within).children (bit_behind d own) (omega arith) some in
-              let b = row_bits prefixes nodes (width_of a) all tree
-              (child (node_at nodes at) (bit_behind d own)) row kid.within s in
+              let b = row_bits prefixes forks (width_of a) all tree
+              (child (fork_at forks at) (bit_behind d own)) row kid.within s in
               let long : d + 1 ≤ (prefix_at prefixes row).length = omega (arith, kid.deeper, b.0) in
               let differ : first_bits (d + 1) own ≡ first_bits (d + 1) a
               → ⊥ = λ e. two (ap (λ x. x % 2) e) in
@@ -169,29 +169,29 @@ module _ (prefixes : List Prefix) (nodes : List Node) (a : IpAddress) (all : All
                 | inr none ↦
                     absurd (omega (
                       arith,
-                      subst (λ b. 0 < child (node_at nodes at) b) turned some,
+                      subst (λ b. 0 < child (fork_at forks at) b) turned some,
                       other_is,
                       none.1,
                     ))
               ]
         ]
 
-    pub each : (old : Seen) → IsDone prefixes a mid (node_at nodes at).row
+    pub each : (old : Walked) → IsDone prefixes a mid (fork_at forks at).row
         → ((r : ℕ) → IsDone prefixes a old r → IsDone prefixes a mid r)
-        → (row : ℕ) → row < length prefixes → (Stands nodes at row ⊎ IsDone prefixes a old row)
-        → ((0 < next) × Stands nodes next row) ⊎ IsDone prefixes a new row
+        → (row : ℕ) → row < length prefixes → (StandsBelow forks at row ⊎ IsDone prefixes a old row)
+        → ((0 < next) × StandsBelow forks next row) ⊎ IsDone prefixes a new row
     each old done keeps row h before =
         elim before [
           | inr over ↦ inr (done_past prefixes a mid new no_less same row (keeps row over))
-          | inl ahead ↦ elim (ways prefixes nodes (width_of a) all tree at row within ahead) [
+          | inl ahead ↦ elim (ways prefixes forks (width_of a) all tree at row within ahead) [
             | Here is ↦
                 inr (done_past prefixes a mid new no_less same row
                 (subst (λ r. IsDone prefixes a mid r) is done))
             | On some stands ↦ elim (aside row h some stands) [
               | inr over ↦ inr over
               | inl one ↦
-                  let is = ap (child (node_at nodes at)) one ∙ sym next_is in
-                  inl (subst (λ i. 0 < i) is some, subst (λ i. Stands nodes i row) is stands)
+                  let is = ap (child (fork_at forks at)) one ∙ sym next_is in
+                  inl (subst (λ i. 0 < i) is some, subst (λ i. StandsBelow forks i row) is stands)
             ]
           ]
         ]

@@ -21,8 +21,8 @@ NoShorterReaches V =
     → ((b : IpAddress) → SharesFirst n a b → IsFound rows b found) → scope ≤ n
 
 -- An address has one location among the rows of a table.
-abbrev pub OneLocation : Type 0 → Type 0
-OneLocation V =
+abbrev pub OneRowFound : Type 0 → Type 0
+OneRowFound V =
     (rows : List (Prefix × V)) (a : IpAddress) (v w : Option V) (scope other : ℕ)
     → AreRows rows → Locates rows a v scope → Locates rows a w other → (v ≡ w) × (scope ≡ other)
 

@@ -1,10 +1,10 @@
 -- How a table keeps its rows: prefixes and values side by side, and a tree for each family.
 use Rattle.std.specs.Prelude.{◌≡◌, ℕ, ◌≤◌, List, length}
-use Rattle.ip_table.specs.declared.tree.Node.{Node}
+use Rattle.ip_table.specs.declared.tree.Fork.{Fork}
 use Rattle.ip_table.specs.Prefixes.{Prefix}
 use Rattle.ip_table.specs.Trees.{AllPrefixes, AreApart, IsTree, AllStand}
 
-pub record IsTable (ps : List Prefix) (count : ℕ) (n4 n6 : List Node) : Type 0 where
+pub record IsTable (ps : List Prefix) (count : ℕ) (n4 n6 : List Fork) : Type 0 where
   pub prefixes : AllPrefixes ps
   pub apart : AreApart ps
   pub few : length ps ≤ 100000

@@ -1,6 +1,6 @@
 //! Laws over the definitions, each the contract of a function that does nothing.
 
-ghost use Rattle.ip_table.specs.Laws.{ScopeReaches, NoShorterReaches, OneLocation, OnePrefix};
+ghost use Rattle.ip_table.specs.Laws.{ScopeReaches, NoShorterReaches, OneRowFound, OnePrefix};
 
 /// Any two addresses that share the first bits of the one's scope find the same row, or both none.
 pub fn scope_reaches<V>()
@@ -13,8 +13,8 @@ pub fn no_shorter_reaches<V>()
 {}
 
 /// An address has one location among the rows of a table.
-pub fn one_location<V>()
-    ensures { OneLocation V }
+pub fn one_row_found<V>()
+    ensures { OneRowFound V }
 {}
 
 /// Prefixes with the same bits are one prefix.

@@ -9,12 +9,12 @@ mod bits;
 mod laws;
 mod place;
 mod prefix;
-mod seen;
 mod table;
 mod tree;
 mod walk;
+mod walked;
 
 pub use address_text::{IpAddress, ipv4_of_text, ipv6_of_text, read_ipv4, read_ipv6};
-pub use laws::{no_shorter_reaches, one_location, one_prefix, scope_reaches};
+pub use laws::{no_shorter_reaches, one_prefix, one_row_found, scope_reaches};
 pub use prefix::IpPrefix;
 pub use table::{InsertFault, IpTable};

@@ -7,7 +7,7 @@ ghost use Rattle.ip_table.specs.Rows.{AreRows, HasRow, Inserts};
 
 use crate::IpPrefix;
 use crate::place::add_row;
-use crate::tree::Node;
+use crate::tree::Fork;
 use crate::walk::{is_there, sum_up};
 use address_text::IpAddress;
 use std::alloc::Global;
@@ -28,8 +28,8 @@ pub enum InsertFault<V> {
 pub struct IpTable<V> {
     prefixes: Vec<IpPrefix>,
     values: Vec<V>,
-    v4: Vec<Node>,
-    v6: Vec<Node>,
+    v4: Vec<Fork>,
+    v6: Vec<Fork>,
 }
 
 /// The most rows of a table.
@@ -118,26 +118,29 @@ impl<V> IpTable<V> {
         ensures located { Locates self.now address (option_copied result.0) result.1 }
         ensures rows { AreRows self.now }
     {
-        let nodes = match address {
+        let forks = match address {
             IpAddress::V4(_) => self.v4.as_slice(),
             IpAddress::V6(_) => self.v6.as_slice(),
         };
-        let seen = sum_up(&self.prefixes, nodes, address);
-        match seen.found {
-            None => (None, seen.past),
-            Some(row) => (Some(&self.values[row as usize]), seen.past.max(seen.long)),
+        let walked = sum_up(&self.prefixes, forks, address);
+        match walked.found {
+            None => (None, walked.past),
+            Some(row) => (
+                Some(&self.values[row as usize]),
+                walked.past.max(walked.long),
+            ),
         }
     }
 }
 
 /// Makes room for one more row. What the lists hold stays, whether there is room or not.
-fn make_room<V>(prefixes: &mut Vec<IpPrefix>, values: &mut Vec<V>, nodes: &mut Vec<Node>) -> bool
+fn make_room<V>(prefixes: &mut Vec<IpPrefix>, values: &mut Vec<V>, forks: &mut Vec<Fork>) -> bool
     ensures prefixes { prefixes.new.items ≡ prefixes.old.items }
     ensures values { values.new.items ≡ values.old.items }
-    ensures nodes { nodes.new.items ≡ nodes.old.items }
+    ensures forks { forks.new.items ≡ forks.old.items }
     ensures prefix_room { IsTrue result → vec_len prefixes.new < vec_capacity prefixes.new }
     ensures value_room { IsTrue result → vec_len values.new < vec_capacity values.new }
-    ensures node_room { IsTrue result → vec_len nodes.new < vec_capacity nodes.new }
+    ensures fork_room { IsTrue result → vec_len forks.new < vec_capacity forks.new }
 {
     if prefixes.reserve(1).is_err() {
         return false;
@@ -145,5 +148,5 @@ fn make_room<V>(prefixes: &mut Vec<IpPrefix>, values: &mut Vec<V>, nodes: &mut V
     if values.reserve(1).is_err() {
         return false;
     }
-    nodes.reserve(1).is_ok()
+    forks.reserve(1).is_ok()
 }

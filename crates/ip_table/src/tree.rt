@@ -1,7 +1,7 @@
 /// A place in the tree of one family. The rows here and below begin with the same bits, as many as
-/// the node is deep.
+/// the fork is deep.
 #[derive(Clone, Copy)]
-pub struct Node {
+pub struct Fork {
     /// The row that stands here.
     pub row: u32,
     /// Its 32 bits behind the first `start`.
@@ -12,15 +12,15 @@ pub struct Node {
     pub long: u8,
     /// How many bits all rows here and below have in common.
     pub depth: u8,
-    /// The nodes below, by the next bit, each times 256 and with its depth, so that a walk needn't
-    /// wait for the node to know its next bit; 0 for none: the root is below no node.
+    /// The forks below, by the next bit, each times 256 and with its depth, so that a walk needn't
+    /// wait for the fork to know its next bit; 0 for none: the root is below no fork.
     pub zero: u32,
     pub one: u32,
 }
 
 /// What a walk has seen.
 #[derive(Clone, Copy)]
-pub struct Seen {
+pub struct Walked {
     /// The longest row that contains the address.
     pub found: Option<u32>,
     /// How many bits that row has, 0 for none.

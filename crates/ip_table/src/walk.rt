@@ -3,153 +3,153 @@
 ghost use Rattle.std.specs.Prelude.{◌≡◌, ℕ, ◌+◌, ◌<◌, ◌≤◌, ◌⊎◌, length, IsTrue, ◌↔◌, max, None, cond};
 ghost use Rattle.ip_table.specs.Bits.{width_of, number_of, first_bits};
 ghost use Rattle.ip_table.specs.Prefixes.{IsPrefix};
-ghost use Rattle.ip_table.specs.Trees.{HasPrefix, AllPrefixes, IsTree, Meets, IsSound, IsDone, SumsUp, Stands, AllStand, Goes, node_at, prefix_at, word, child, window};
+ghost use Rattle.ip_table.specs.Trees.{HasPrefix, AllPrefixes, IsTree, SharesBits, IsTrueOf, IsDone, SumsUp, StandsBelow, AllStand, GoesOn, fork_at, prefix_at, child_pair, child, window};
 
 use crate::IpPrefix;
 use crate::bits::{bit_of, has_bit, number_of, shared_before, shared_bits, window_of};
-use crate::seen::{prefix_of, with_past, with_row};
-use crate::tree::{Node, Seen};
+use crate::tree::{Fork, Walked};
+use crate::walked::{prefix_of, with_past, with_row};
 use address_text::IpAddress;
 
-/// What a walk has seen at one more node, and where it goes on.
+/// What a walk has seen at one more fork, and where it goes on.
 #[derive(Clone, Copy)]
 pub struct Visited {
-    pub seen: Seen,
+    pub walked: Walked,
     pub next: u32,
     /// How deep that is.
     pub depth: u8,
 }
 
-/// Visits a node on the way along the bits of an address.
-fn at_node(
+/// Visits a fork on the way along the bits of an address.
+fn at_fork(
     prefixes: &[IpPrefix],
-    nodes: &[Node],
+    forks: &[Fork],
     at: u32,
     depth: u8,
     address: IpAddress,
     number: u128,
-    seen: Seen,
+    walked: Walked,
 ) -> Visited
     requires prefixes { AllPrefixes prefixes.now }
-    requires tree { IsTree prefixes.now nodes.now (width_of address) }
+    requires tree { IsTree prefixes.now forks.now (width_of address) }
     requires number { number ≡ number_of address }
-    requires at { at < length nodes.now }
-    requires depth { depth ≡ (node_at nodes.now at).depth }
-    requires meets { Meets prefixes.now nodes.now address at }
-    requires sound { IsSound prefixes.now address seen }
-    ensures goes { 0 < result.next → Goes prefixes.now nodes.now address at result.next }
-    ensures depth { 0 < result.next → result.depth ≡ (node_at nodes.now result.next).depth }
-    ensures sound { IsSound prefixes.now address result.seen }
+    requires at { at < length forks.now }
+    requires depth { depth ≡ (fork_at forks.now at).depth }
+    requires meets { SharesBits prefixes.now forks.now address at }
+    requires sound { IsTrueOf prefixes.now address walked }
+    ensures goes { 0 < result.next → GoesOn prefixes.now forks.now address at result.next }
+    ensures depth { 0 < result.next → result.depth ≡ (fork_at forks.now result.next).depth }
+    ensures sound { IsTrueOf prefixes.now address result.walked }
 
     // A row that was ahead is ahead still, or done.
     ensures each { (row : ℕ) → row < length prefixes.now
         → width_of (prefix_at prefixes.now row).address ≡ width_of address
-        → Stands nodes.now at row ⊎ IsDone prefixes.now address seen row
-        → ((0 < result.next) × Stands nodes.now result.next row)
-        ⊎ IsDone prefixes.now address result.seen row }
+        → StandsBelow forks.now at row ⊎ IsDone prefixes.now address walked row
+        → ((0 < result.next) × StandsBelow forks.now result.next row)
+        ⊎ IsDone prefixes.now address result.walked row }
 {
-    let node = node_of(nodes, at);
-    let shared = shared_at(prefixes, node, address, number);
-    let here = with_row(prefixes, node.row, node.long, shared, address, seen);
+    let fork = fork_of(forks, at);
+    let shared = shared_at(prefixes, fork, address, number);
+    let here = with_row(prefixes, fork.row, fork.long, shared, address, walked);
     if shared < depth {
         return Visited {
-            seen: here,
+            walked: here,
             next: 0,
             depth: 0,
         };
     }
     let on = has_bit(depth, number);
-    let word = word_of(node, on);
+    let child_pair = word_of(fork, on);
     Visited {
-        seen: with_other(word_of(node, !on) >> 8, depth, here),
-        next: word >> 8,
-        depth: (word & 0xff) as u8,
+        walked: with_other(word_of(fork, !on) >> 8, depth, here),
+        next: child_pair >> 8,
+        depth: (child_pair & 0xff) as u8,
     }
 }
 
-/// What a node tells of the one to which a bit leads, be it set or not.
-fn word_of(node: Node, on: bool) -> u32
-    ensures { result ≡ word node (cond on 1 0) }
+/// What a fork tells of the one to which a bit leads, be it set or not.
+fn word_of(fork: Fork, on: bool) -> u32
+    ensures { result ≡ child_pair fork (cond on 1 0) }
 {
-    if on { node.one } else { node.zero }
+    if on { fork.one } else { fork.zero }
 }
 
-/// How many first bits the row at a node shares with an address that has those before its window;
+/// How many first bits the row at a fork shares with an address that has those before its window;
 /// where it shares all of its own, not how many more.
-fn shared_at(prefixes: &[IpPrefix], node: Node, address: IpAddress, number: u128) -> u8
-    requires row { node.row < length prefixes.now }
-    requires prefix { IsPrefix (prefix_at prefixes.now node.row).address
-        (prefix_at prefixes.now node.row).length }
-    requires low { node.start ≤ 96 }
-    requires long { node.long ≡ (prefix_at prefixes.now node.row).length }
-    requires meets { first_bits node.start (prefix_at prefixes.now node.row).address
-        ≡ first_bits node.start address }
-    requires window { node.window ≡ window node.start (prefix_at prefixes.now node.row).address }
+fn shared_at(prefixes: &[IpPrefix], fork: Fork, address: IpAddress, number: u128) -> u8
+    requires row { fork.row < length prefixes.now }
+    requires prefix { IsPrefix (prefix_at prefixes.now fork.row).address
+        (prefix_at prefixes.now fork.row).length }
+    requires low { fork.start ≤ 96 }
+    requires long { fork.long ≡ (prefix_at prefixes.now fork.row).length }
+    requires meets { first_bits fork.start (prefix_at prefixes.now fork.row).address
+        ≡ first_bits fork.start address }
+    requires window { fork.window ≡ window fork.start (prefix_at prefixes.now fork.row).address }
     requires number { number ≡ number_of address }
-    ensures { (n : ℕ) → n ≤ (prefix_at prefixes.now node.row).length
-        → (n ≤ result ↔ (first_bits n (prefix_at prefixes.now node.row).address ≡ first_bits n address)) }
+    ensures { (n : ℕ) → n ≤ (prefix_at prefixes.now fork.row).length
+        → (n ≤ result ↔ (first_bits n (prefix_at prefixes.now fork.row).address ≡ first_bits n address)) }
 {
-    let window = window_of(node.start, number);
-    if node.window != window {
-        return shared_before(node.start, node.window, window);
+    let window = window_of(fork.start, number);
+    if fork.window != window {
+        return shared_before(fork.start, fork.window, window);
     }
-    if node.long <= node.start + 32 {
-        return node.long;
+    if fork.long <= fork.start + 32 {
+        return fork.long;
     }
-    shared_bits(prefix_of(prefixes, node.row).address(), address)
+    shared_bits(prefix_of(prefixes, fork.row).address(), address)
 }
 
 /// Where rows stand aside from the way, the next bit is not shared.
-fn with_other(other: u32, depth: u8, seen: Seen) -> Seen
+fn with_other(other: u32, depth: u8, walked: Walked) -> Walked
     requires { depth < 255 }
-    ensures found { result.found ≡ seen.found }
-    ensures long { result.long ≡ seen.long }
-    ensures past { (result.past ≡ max seen.past (depth + 1)) × (0 < other)
-        ⊎ (result.past ≡ seen.past) × (other ≡ 0) }
+    ensures found { result.found ≡ walked.found }
+    ensures long { result.long ≡ walked.long }
+    ensures past { (result.past ≡ max walked.past (depth + 1)) × (0 < other)
+        ⊎ (result.past ≡ walked.past) × (other ≡ 0) }
 {
     if other == 0 {
-        return seen;
+        return walked;
     }
-    with_past(depth + 1, seen)
+    with_past(depth + 1, walked)
 }
 
-/// The node at a place.
-pub(crate) fn node_of(nodes: &[Node], at: u32) -> Node
-    requires { at < length nodes.now }
-    ensures { result ≡ node_at nodes.now at }
+/// The fork at a place.
+pub(crate) fn fork_of(forks: &[Fork], at: u32) -> Fork
+    requires { at < length forks.now }
+    ensures { result ≡ fork_at forks.now at }
 {
-    nodes[at as usize]
+    forks[at as usize]
 }
 
-/// The node that a bit leads to.
-pub(crate) fn child_of(node: Node, bit: u8) -> u32
-    ensures { result ≡ child node bit }
+/// The fork that a bit leads to.
+pub(crate) fn child_of(fork: Fork, bit: u8) -> u32
+    ensures { result ≡ child fork bit }
 {
     if bit == 0 {
-        node.zero >> 8
+        fork.zero >> 8
     } else {
-        node.one >> 8
+        fork.one >> 8
     }
 }
 
 /// Sums up all rows of the address's family.
-pub(crate) fn sum_up(prefixes: &[IpPrefix], nodes: &[Node], address: IpAddress) -> Seen
+pub(crate) fn sum_up(prefixes: &[IpPrefix], forks: &[Fork], address: IpAddress) -> Walked
     requires prefixes { AllPrefixes prefixes.now }
-    requires tree { IsTree prefixes.now nodes.now (width_of address) }
-    requires all { AllStand prefixes.now nodes.now (width_of address) (length prefixes.now) }
+    requires tree { IsTree prefixes.now forks.now (width_of address) }
+    requires all { AllStand prefixes.now forks.now (width_of address) (length prefixes.now) }
     ensures { SumsUp prefixes.now address result }
 {
-    if nodes.is_empty() {
+    if forks.is_empty() {
         return nothing();
     }
-    walk(prefixes, nodes, address)
+    walk(prefixes, forks, address)
 }
 
 /// No row was found.
-fn nothing() -> Seen
+fn nothing() -> Walked
     ensures { result ≡ record { found = None; long = 0; past = 0 } }
 {
-    Seen {
+    Walked {
         found: None,
         long: 0,
         past: 0,
@@ -157,22 +157,22 @@ fn nothing() -> Seen
 }
 
 /// Sums up all rows of the address's family by a walk along its bits.
-fn walk(prefixes: &[IpPrefix], nodes: &[Node], address: IpAddress) -> Seen
+fn walk(prefixes: &[IpPrefix], forks: &[Fork], address: IpAddress) -> Walked
     requires prefixes { AllPrefixes prefixes.now }
-    requires tree { IsTree prefixes.now nodes.now (width_of address) }
-    requires all { AllStand prefixes.now nodes.now (width_of address) (length prefixes.now) }
-    requires some { 0 < length nodes.now }
+    requires tree { IsTree prefixes.now forks.now (width_of address) }
+    requires all { AllStand prefixes.now forks.now (width_of address) (length prefixes.now) }
+    requires some { 0 < length forks.now }
     ensures { SumsUp prefixes.now address result }
 {
     let number = number_of(address);
-    let mut seen = nothing();
+    let mut walked = nothing();
     let mut at = 0;
     let mut depth = 0;
     loop {
-        let visited = at_node(prefixes, nodes, at, depth, address, number, seen);
-        seen = visited.seen;
+        let visited = at_fork(prefixes, forks, at, depth, address, number, walked);
+        walked = visited.walked;
         if visited.next == 0 {
-            return seen;
+            return walked;
         }
         at = visited.next;
         depth = visited.depth;
@@ -180,23 +180,23 @@ fn walk(prefixes: &[IpPrefix], nodes: &[Node], address: IpAddress) -> Seen
 }
 
 /// Whether a row has this prefix.
-pub(crate) fn is_there(prefixes: &[IpPrefix], nodes: &[Node], prefix: IpPrefix) -> bool
+pub(crate) fn is_there(prefixes: &[IpPrefix], forks: &[Fork], prefix: IpPrefix) -> bool
     requires prefixes { AllPrefixes prefixes.now }
-    requires tree { IsTree prefixes.now nodes.now (width_of prefix.address) }
-    requires all { AllStand prefixes.now nodes.now (width_of prefix.address) (length prefixes.now) }
+    requires tree { IsTree prefixes.now forks.now (width_of prefix.address) }
+    requires all { AllStand prefixes.now forks.now (width_of prefix.address) (length prefixes.now) }
     ensures { IsTrue result ↔ HasPrefix prefixes.now prefix }
 {
-    if nodes.is_empty() {
+    if forks.is_empty() {
         return false;
     }
     let number = number_of(prefix.address());
     let mut at = 0;
     loop {
-        let node = node_of(nodes, at);
-        if is_same(prefix_of(prefixes, node.row), prefix) {
+        let fork = fork_of(forks, at);
+        if is_same(prefix_of(prefixes, fork.row), prefix) {
             return true;
         }
-        let next = child_of(node, bit_of(node.depth, number));
+        let next = child_of(fork, bit_of(fork.depth, number));
         if next == 0 {
             return false;
         }

@@ -6,7 +6,7 @@ use Rattle.gate_journal.specs.declared.answers.Appended.{Appended}
 use Rattle.gate_journal.specs.declared.answers.Appended.TheVariants as appended
 use Rattle.zone_journal.specs.Pairs.{OpensPair, OpensBy, EachPair, Unwritten, active_of, other_of}
 use Rattle.file_building.specs.Building.{Plan}
-use Rattle.zone_journal.specs.Standing.{State, Stands, StandsOn}
+use Rattle.zone_journal.specs.Standing.{State, StandsWith, StandsOn}
 use Rattle.zone_journal.specs.Appending.{MayLeave}
 use Rattle.zone_journal.specs.Compacting.{IsOldOrNew}
 use Rattle.zone_journal.specs.Making.{InitGives, InitLeaves, empty_snapshot}
@@ -43,7 +43,7 @@ record Shaped {D : Type 0} (images : D → List ℕ
       → OpensBy v.side c d v.generation snapshot entries
 
 module _ {D : Type 0} (reading : D → Option (List ℕ)) (images : D → List ℕ → Type 0) where
-  shaped : (v : State) (active other : D) → Stands reading images v active other
+  shaped : (v : State) (active other : D) → StandsWith reading images v active other
       → (x y : List ℕ) → reading active ≡ Some x → reading other ≡ Some y
       → Shaped images v active other
   shaped v active other stands x y tx ty =
@@ -63,7 +63,7 @@ module _ {D : Type 0} (reading : D → Option (List ℕ)) (images : D → List �
       }
 
   shape_by : (side : Side) (v : State) (a b : D) → v.side ≡ side
-      → Stands reading images v (active_of side a b) (other_of side a b)
+      → StandsWith reading images v (active_of side a b) (other_of side a b)
       → (x y : List ℕ) → reading a ≡ Some x → reading b ≡ Some y → HasShape images v a b
   shape_by A v a b is stands x y tx ty =
       let all = shaped v a b stands x y tx ty in

@@ -17,7 +17,7 @@ use Rattle.serde_json.specs.Data.{no_members, null, number, object, put, string,
 use Rattle.serde_json.specs.Read.{max_depth, of_items, of_json, of_members, read}
 use Rattle.serde_json.specs.Written.{compact_text, items_outline, members_outline, number_text}
 use Rattle.serde_json.specs.Written.{outline}
-use Rattle.json_round_trip.specs.Told.{AreTold, HaveTold, IsBehind, IsCount, IsTold, Rise, with_last}
+use Rattle.json_round_trip.specs.Told.{AreTold, HaveTold, IsBehind, Is64Bits, IsTold, Rise, with_last}
 
 -- ---- members put one after another
 
@@ -42,7 +42,7 @@ joined_last (member other e rest) name d later = ap (member other e) (joined_las
 
 -- ---- an outline is read as the value
 
-of_number : (n : Num) → IsCount n → of_json (json.number (number_text n)) ≡ Some (number n)
+of_number : (n : Num) → Is64Bits n → of_json (json.number (number_text n)) ≡ Some (number n)
 of_number (unsigned n) count = ap (option_map number) (number_of-decimal n count)
 of_number (negative z) count = elim count [ ]
 of_number (float x) count = elim count [ ]
@@ -90,7 +90,7 @@ mutual
 
 -- ---- its tokens can be written
 
-printable_number : (n : Num) (ts : List Token) → IsCount n → ArePrintable ts
+printable_number : (n : Num) (ts : List Token) → Is64Bits n → ArePrintable ts
     → ArePrintable (Token.number (number_text n) ∷ ts)
 unfolding ArePrintable
 printable_number (unsigned n) ts count h = (IsNumber-decimal n count, h)

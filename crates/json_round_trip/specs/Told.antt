@@ -7,10 +7,10 @@ use Rattle.serde_json.specs.Data.{Data, Items, Members, Num, array, boolean, flo
 use Rattle.serde_json.specs.Data.{negative, no_items, no_members, null, number, object, string}
 use Rattle.serde_json.specs.Data.{unsigned}
 
-abbrev pub IsCount : Num → Type 0
-IsCount (unsigned n) = n < 2 ^ 64
-IsCount (negative z) = ⊥
-IsCount (float x) = ⊥
+abbrev pub Is64Bits : Num → Type 0
+Is64Bits (unsigned n) = n < 2 ^ 64
+Is64Bits (negative z) = ⊥
+Is64Bits (float x) = ⊥
 
 -- the name comes behind those of all these members
 abbrev pub IsBehind : (name : List ℕ) → Members → Type 0
@@ -31,7 +31,7 @@ abbrev mutual
   pub IsTold : Data → Type 0
   IsTold null = ⊤
   IsTold (boolean b) = ⊤
-  IsTold (number n) = IsCount n
+  IsTold (number n) = Is64Bits n
   IsTold (string s) = ⊤
   IsTold (array ds) = AreTold ds
   IsTold (object ms) = HaveTold ms × Rise no_members ms

@@ -8,7 +8,7 @@ use Rattle.dns_name.specs.Laws.{TextsReadAsNames}
 use Rattle.serde_json.specs.Data.{Data}
 use Rattle.line_faults.specs.declared.member.Member.{Member}
 use Rattle.line_faults.specs.declared.member.Member.TheVariants as m
-use Rattle.line_reading.specs.Kinds.{list, text, word}
+use Rattle.line_reading.specs.Kinds.{list, text, one_of_texts}
 use Rattle.line_reading.specs.Reading.{in_change, required}
 use Rattle.batch_json.specs.ChangeLines.{action_of, change, change_batch, change_sets, changes}
 use Rattle.batch_json.specs.Sets.{resource_record_set}
@@ -25,7 +25,7 @@ module _ (names : TextsReadAsNames) (law : TextsAreValues) where
   unfolding change
   change_is zone h o given e =
       let a = after_object _ _ _ _ _ given e in
-      let b = steps (required m.Action (word action_of) o) _ given a in
+      let b = steps (required m.Action (one_of_texts action_of) o) _ given a in
       let c = steps (required m.ResourceRecordSet (resource_record_set zone) o) _ given b.gives in
       subst HasBoundedSet (same_ok _ given c.gives)
       (required_has (λ x. IsBoundedSet x.set) m.ResourceRecordSet (resource_record_set zone) o c.value

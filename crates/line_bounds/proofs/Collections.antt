@@ -10,13 +10,13 @@ use Rattle.batch_json.specs.Collections.{block, blocks, change, change_collectio
 use Rattle.batch_json.specs.Collections.{location_name}
 use Rattle.command_bounds.specs.Laws.{AreShortLists, IsShortChange}
 use Rattle.ip_table.specs.Prefixes.{IsPrefix, Prefix}
-use Rattle.prefix_text.specs.Prefixes.{prefix_of}
+use Rattle.prefix_text.specs.Prefixes.{prefix_of_text}
 use Rattle.routing.specs.Texts.{IsLocationName, is_location_byte}
 use Rattle.serde_json.specs.Data.{Data}
 use Rattle.line_faults.specs.declared.fault.LineReason.TheVariants.{BadAddress}
 use Rattle.line_faults.specs.declared.member.Member.{Member}
 use Rattle.line_faults.specs.declared.member.Member.TheVariants as m
-use Rattle.line_reading.specs.Kinds.{collection_id, list, text, word}
+use Rattle.line_reading.specs.Kinds.{collection_id, list, text, one_of_texts}
 use Rattle.line_reading.specs.Reading.{in_change, required}
 use Rattle.line_bounds.proofs.Steps.{after_object, each_has, in_its_change, is_there, list_within, required_has, same_ok, steps, word_has}
 use Rattle.line_bounds.proofs.Words.{plain_is}
@@ -46,7 +46,7 @@ module _ (law : TextsArePrefixes) where
   unfolding block
   block_is h d prefix e =
       let s = steps (text h d) _ prefix e in
-      law s.value prefix (is_there (prefix_of s.value) BadAddress h prefix s.gives)
+      law s.value prefix (is_there (prefix_of_text s.value) BadAddress h prefix s.gives)
 
   blocks_are : (h : Member) (d : Data) (prefixes : List Prefix) → blocks h d ≡ Ok prefixes
       → AreBlocks prefixes
@@ -62,11 +62,11 @@ module _ (law : TextsArePrefixes) where
   unfolding change
   change_is h o given e =
       let a = after_object _ _ _ _ _ given e in
-      let b = steps (required m.Action (word is_put) o) _ given a in
-      let c = steps (required m.LocationName (word location_name) o) _ given b.gives in
+      let b = steps (required m.Action (one_of_texts is_put) o) _ given a in
+      let c = steps (required m.LocationName (one_of_texts location_name) o) _ given b.gives in
       let d = steps (required m.CidrList blocks o) _ given c.gives in
       let same = same_ok _ given d.gives in
-      let name = required_has IsLocationName m.LocationName (word location_name) o c.value
+      let name = required_has IsLocationName m.LocationName (one_of_texts location_name) o c.value
       (word_has IsLocationName location_name (plain_is is_location_byte 16) m.LocationName) c.is in
       let are = required_has AreBlocks m.CidrList blocks o d.value (blocks_are m.CidrList) d.is in
       subst IsBoundedChange same (record { name = name; prefixes = are.0 }, are.1)
@@ -86,9 +86,9 @@ module _ (law : TextsArePrefixes) where
   unfolding create_collection
   creation_is o given e =
       let a = after_object _ _ _ _ _ given e in
-      let b = steps (required m.Name (word collection_name) o) _ given a in
+      let b = steps (required m.Name (one_of_texts collection_name) o) _ given a in
       subst IsBoundedCidr (same_ok _ given b.gives) (
-        required_has IsCollectionName m.Name (word collection_name) o b.value
+        required_has IsCollectionName m.Name (one_of_texts collection_name) o b.value
             (word_has IsCollectionName collection_name (plain_is is_location_byte 64) m.Name) b.is,
         tt,
       )

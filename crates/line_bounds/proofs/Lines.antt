@@ -20,7 +20,7 @@ use Rattle.line_faults.specs.declared.fault.LineFault.{LineFault}
 use Rattle.line_faults.specs.declared.fault.LineReason.TheVariants.{NotJson, UnknownLine}
 use Rattle.line_faults.specs.declared.member.Member.{Member}
 use Rattle.line_faults.specs.declared.member.Member.TheVariants as m
-use Rattle.line_reading.specs.Reading.{◌>>=◌, Reads, bad}
+use Rattle.line_reading.specs.Reading.{◌>>=◌, Gives, bad}
 use Rattle.query_lines.specs.Queries.{bind, compact, query, serve}
 use Rattle.serde_json.specs.Data.{Data}
 use Rattle.serde_json.specs.Find.{as_object, get}
@@ -173,19 +173,19 @@ by_value octets P some none = go (is_utf8 octets) (read octets) refl refl
         none (λ value is. let both = sym (is_utf8-from_IsUtf8 octets is.utf8) ∙ u in absurd cc)
 
 not_there : (told : Result Line LineFault) (asked : Line) → told ≡ Ok asked
-    → Reads told (bad NotJson m.Line) → ⊥
+    → Gives told (bad NotJson m.Line) → ⊥
 not_there (Ok other) asked e h = absurd cc
 not_there (Err fault) asked e h = absurd cc
 
 -- what every line has that a JSON value gives, has the line that was read
 of_a_value : (octets : List ℕ) (told : Result Line LineFault) (asked : Line) (P : Type 0)
     → ((value : Data) → line_of value ≡ Ok asked → P)
-    → ((value : Data) → IsJson octets value → Reads told (line_of value))
-    → (((value : Data) → IsJson octets value → ⊥) → Reads told (bad NotJson m.Line))
+    → ((value : Data) → IsJson octets value → Gives told (line_of value))
+    → (((value : Data) → IsJson octets value → ⊥) → Gives told (bad NotJson m.Line))
     → told ≡ Ok asked → P
 of_a_value octets told asked P has json not_json e =
     by_value octets P
-    (λ value is. has value (subst (λ r. Reads r (line_of value)) e (json value is)))
+    (λ value is. has value (subst (λ r. Gives r (line_of value)) e (json value is)))
     (λ none. absurd (not_there told asked e (not_json none)))
 
 pub read_are_bounded : LinesAreBounded → ReadLinesAreBounded

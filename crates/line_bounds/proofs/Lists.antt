@@ -6,9 +6,9 @@ use Rattle.line_faults.specs.declared.fault.LineReason.{LineReason}
 use Rattle.line_faults.specs.declared.fault.LineReason.TheVariants.{Missing}
 use Rattle.line_faults.specs.declared.member.Member.{Member}
 use Rattle.line_faults.specs.declared.member.Member.TheVariants as m
-use Rattle.line_reading.specs.Kinds.{name, number, word, zone_id}
+use Rattle.line_reading.specs.Kinds.{name, number, one_of_texts, zone_id}
 use Rattle.line_reading.specs.Reading.{holds_or_bad, optional, required}
-use Rattle.line_words.specs.Words.{ident_of, record_type}
+use Rattle.line_words.specs.Words.{ident_of_text, record_type}
 use Rattle.page_laws.specs.Laws.{IsAsked}
 use Rattle.query_lines.specs.Queries.{compact, serve}
 use Rattle.serde_json.specs.Data.{Data}
@@ -97,7 +97,7 @@ list_is d list e =
     let b = steps (required m.HostedZoneId zone_id d) _ list a in
     let c = steps (optional m.StartRecordName name d) _ list b.gives in
     let f = steps (optional m.StartRecordType record_type d) _ list c.gives in
-    let g = steps (optional m.StartRecordIdentifier (word ident_of) d) _ list f.gives in
+    let g = steps (optional m.StartRecordIdentifier (one_of_texts ident_of_text) d) _ list f.gives in
     let h = steps (optional m.MaxItems max_items d) _ list g.gives in
     let k = steps (holds_or_bad (not (is_some f.value && not (is_some c.value))) Missing m.StartRecordName) _ list h.gives in
     let l = steps (holds_or_bad (not (is_some g.value && not (is_some f.value))) Missing m.StartRecordType) _ list k.gives in

@@ -5,10 +5,10 @@ use Rattle.serde_json.specs.Data.{Data}
 use Rattle.line_faults.specs.declared.fault.LineReason.TheVariants.{Alone, Missing}
 use Rattle.line_faults.specs.declared.member.Member.{Member}
 use Rattle.line_faults.specs.declared.member.Member.TheVariants as m
-use Rattle.line_reading.specs.Kinds.{collection_id, number, word}
+use Rattle.line_reading.specs.Kinds.{collection_id, number, one_of_texts}
 use Rattle.line_reading.specs.Reading.{bad, optional, required}
-use Rattle.line_words.specs.Words.{continent_of, ident_of, location_of, region_of, role_of, subdivision_of}
-use Rattle.policy_lines.specs.Places.{cidr_routing, country_of, geo_location, is_capital, place_of}
+use Rattle.line_words.specs.Words.{continent_of_text, ident_of_text, location_of_text, region_of_text, role_of_text, subdivision_of_text}
+use Rattle.policy_lines.specs.Places.{cidr_routing, country_of_text, geo_location, is_capital, place_of}
 use Rattle.policy_lines.specs.Policies.{first_some, given, has_policy, one_of, only_true, policy_members, policy_of, policy_with, routing_of}
 use Rattle.policy_lines.specs.declared.policies.Policies.{Policies}
 use Rattle.routing.specs.Texts.{IsIdent, IsRegion, IsSubdivision, is_region_byte, is_subdivision_byte}
@@ -38,7 +38,7 @@ no_country None part where_to e = absurd cc
 
 -- `*` has no parts, and a country is two capital letters
 in_country : (s : List ℕ) (part : Option (List ℕ)) (where_to : Place) → IfSome part IsSubdivision
-    → place_of None (country_of s) part ≡ Ok where_to → IsBoundedPlace where_to
+    → place_of None (country_of_text s) part ≡ Ok where_to → IsBoundedPlace where_to
 unfolding place_of
 in_country [] part where_to p e = absurd cc
 in_country (a ∷ []) None where_to p e = go (nat_eq a 42) refl
@@ -57,7 +57,7 @@ in_country (a ∷ b ∷ []) part where_to p e = go (is_capital a) (is_capital b)
   where
     go : (first second : Bool) → is_capital a ≡ first → is_capital b ≡ second
         → (part : Option (List ℕ)) → IfSome part IsSubdivision
-        → place_of None (country_of (a ∷ b ∷ [])) part ≡ Ok where_to → IsBoundedPlace where_to
+        → place_of None (country_of_text (a ∷ b ∷ [])) part ≡ Ok where_to → IsBoundedPlace where_to
     go true true f g None p e =
         let same : place.Country (a ∷ b ∷ []) ≡ where_to = (let h = rw (f, g) at e in cc) in
         subst IsBoundedPlace same (refl, (f, (g, tt)))
@@ -70,11 +70,11 @@ in_country (a ∷ b ∷ c ∷ s) part where_to p e = absurd cc
 
 -- A continent stands alone.
 place_is : (continent : Option Continent) (s : List ℕ) (part : Option (List ℕ)) (where_to : Place)
-    → IfSome part IsSubdivision → IsSome (country_of s)
-    → place_of continent (country_of s) part ≡ Ok where_to → IsBoundedPlace where_to
+    → IfSome part IsSubdivision → IsSome (country_of_text s)
+    → place_of continent (country_of_text s) part ≡ Ok where_to → IsBoundedPlace where_to
 unfolding place_of
 place_is None s part where_to p some e = in_country s part where_to p e
-place_is (Some c) s part where_to p some e = alone (country_of s) some part e
+place_is (Some c) s part where_to p some e = alone (country_of_text s) some part e
   where
     alone : (land : Option _) → IsSome land → (part : Option (List ℕ))
         → place_of (Some c) land part ≡ Ok where_to
@@ -87,18 +87,18 @@ geo_is : (h : Member) (o : Data) (where_to : Place) → geo_location h o ≡ Ok 
 unfolding geo_location
 geo_is h o where_to e =
     let a = after_object _ _ _ _ _ where_to e in
-    let b = steps (optional m.ContinentCode (word continent_of) o) _ where_to a in
-    let c = steps (optional m.CountryCode (word country_of) o) _ where_to b.gives in
-    let d = steps (optional m.SubdivisionCode (word subdivision_of) o) _ where_to c.gives in
+    let b = steps (optional m.ContinentCode (one_of_texts continent_of_text) o) _ where_to a in
+    let c = steps (optional m.CountryCode (one_of_texts country_of_text) o) _ where_to b.gives in
+    let d = steps (optional m.SubdivisionCode (one_of_texts subdivision_of_text) o) _ where_to c.gives in
     by_country b.value c.value d.value
-    (optional_has _ m.CountryCode (word country_of) o c.value
-    (word_has (λ land. (s : List ℕ) × (country_of s ≡ Some land)) country_of (λ s land f. (s, f)) m.CountryCode) c.is)
-    (optional_has IsSubdivision m.SubdivisionCode (word subdivision_of) o d.value
-    (word_has IsSubdivision subdivision_of (plain_is is_subdivision_byte 3) m.SubdivisionCode) d.is)
+    (optional_has _ m.CountryCode (one_of_texts country_of_text) o c.value
+    (word_has (λ land. (s : List ℕ) × (country_of_text s ≡ Some land)) country_of_text (λ s land f. (s, f)) m.CountryCode) c.is)
+    (optional_has IsSubdivision m.SubdivisionCode (one_of_texts subdivision_of_text) o d.value
+    (word_has IsSubdivision subdivision_of_text (plain_is is_subdivision_byte 3) m.SubdivisionCode) d.is)
     d.gives
   where
     by_country : (continent : Option Continent) (land : Option _) (part : Option (List ℕ))
-        → IfSome land (λ land. (s : List ℕ) × (country_of s ≡ Some land))
+        → IfSome land (λ land. (s : List ℕ) × (country_of_text s ≡ Some land))
         → IfSome part IsSubdivision → place_of continent land part ≡ Ok where_to
         → IsBoundedPlace where_to
     by_country continent None part l p k = no_country continent part where_to k
@@ -112,10 +112,10 @@ unfolding cidr_routing
 block_is h o block e =
     let a = after_object _ _ _ _ _ block e in
     let b = steps (required m.CollectionId collection_id o) _ block a in
-    let c = steps (required m.LocationName (word location_of) o) _ block b.gives in
+    let c = steps (required m.LocationName (one_of_texts location_of_text) o) _ block b.gives in
     subst (λ (l : ℕ × List ℕ). IsNamed l.1) (same_ok _ block c.gives)
-    (required_has IsNamed m.LocationName (word location_of) o c.value
-    (word_has IsNamed location_of location_is m.LocationName) c.is)
+    (required_has IsNamed m.LocationName (one_of_texts location_of_text) o c.value
+    (word_has IsNamed location_of_text location_is m.LocationName) c.is)
 
 -- ---- the members of policies
 
@@ -128,21 +128,21 @@ record AreBounded (p : Policies) : Type 0 where
 members_are : (o : Data) (p : Policies) → policy_members o ≡ Ok p → AreBounded p
 unfolding policy_members
 members_are o p e =
-    let a = steps (optional m.SetIdentifier (word ident_of) o) _ p e in
+    let a = steps (optional m.SetIdentifier (one_of_texts ident_of_text) o) _ p e in
     let b = steps (optional m.Weight (number 0 255) o) _ p a.gives in
-    let c = steps (optional m.Failover (word role_of) o) _ p b.gives in
+    let c = steps (optional m.Failover (one_of_texts role_of_text) o) _ p b.gives in
     let d = steps (optional m.GeoLocation geo_location o) _ p c.gives in
-    let f = steps (optional m.Region (word region_of) o) _ p d.gives in
+    let f = steps (optional m.Region (one_of_texts region_of_text) o) _ p d.gives in
     let g = steps (optional m.MultiValueAnswer only_true o) _ p f.gives in
     let k = steps (optional m.CidrRoutingConfig cidr_routing o) _ p g.gives in
     let same = same_ok _ p k.gives in
     subst AreBounded same (record {
-      ident = optional_has IsIdent m.SetIdentifier (word ident_of) o a.value
-          (word_has IsIdent ident_of ident_is m.SetIdentifier) a.is;
+      ident = optional_has IsIdent m.SetIdentifier (one_of_texts ident_of_text) o a.value
+          (word_has IsIdent ident_of_text ident_is m.SetIdentifier) a.is;
       place = optional_has IsBoundedPlace m.GeoLocation geo_location o d.value (geo_is m.GeoLocation)
           d.is;
-      region = optional_has IsRegion m.Region (word region_of) o f.value
-          (word_has IsRegion region_of (plain_is is_region_byte 32) m.Region) f.is;
+      region = optional_has IsRegion m.Region (one_of_texts region_of_text) o f.value
+          (word_has IsRegion region_of_text (plain_is is_region_byte 32) m.Region) f.is;
       location = optional_has (λ (l : ℕ × List ℕ). IsNamed l.1) m.CidrRoutingConfig cidr_routing o
           k.value (block_is m.CidrRoutingConfig) k.is;
     })

@@ -16,7 +16,7 @@ use Rattle.address_text.specs.declared.address.IpAddress.TheVariants.{V4, V6}
 use Rattle.ip_table.specs.Bits.{AreOctets, IsAddress, number_of, width_of}
 use Rattle.ip_table.specs.Prefixes.{IsPrefix, Prefix}
 use Rattle.prefix_text.specs.Marks.{place_of}
-use Rattle.prefix_text.specs.Prefixes.{address_of, around, block_of, block_of_parts, known}
+use Rattle.prefix_text.specs.Prefixes.{address_of_text, around, block_of, block_of_parts, known}
 use Rattle.line_bounds.specs.Laws.{TextsArePrefixes}
 
 -- ---- octets
@@ -120,7 +120,7 @@ sixteen_octets text octets h = record {
 }
 
 module _ (law4 : Ipv4OfText) (law6 : Ipv6OfText) where
-  is_address : (text : List ℕ) (address : IpAddress) → address_of text ≡ Some address
+  is_address : (text : List ℕ) (address : IpAddress) → address_of_text text ≡ Some address
       → IsAddress address
   is_address text address e = by_version (ipv4_of text) (ipv6_of text) refl refl e
     where
@@ -156,10 +156,10 @@ module _ (law4 : Ipv4OfText) (law6 : Ipv6OfText) where
       fits false false w z h = absurd cc
 
   of_parts : (text : List ℕ) (n : Option ℕ) (prefix : Prefix)
-      → block_of_parts (address_of text) n ≡ Some prefix → IsPrefix prefix.address prefix.length
-  of_parts text n prefix e = parts (address_of text) n refl e
+      → block_of_parts (address_of_text text) n ≡ Some prefix → IsPrefix prefix.address prefix.length
+  of_parts text n prefix e = parts (address_of_text text) n refl e
     where
-      parts : (address : Option IpAddress) (n : Option ℕ) → address_of text ≡ address
+      parts : (address : Option IpAddress) (n : Option ℕ) → address_of_text text ≡ address
           → block_of_parts address n ≡ Some prefix → IsPrefix prefix.address prefix.length
       parts None n a h = absurd cc
       parts (Some address) None a h = absurd cc

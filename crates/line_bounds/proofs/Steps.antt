@@ -11,7 +11,7 @@ use Rattle.line_faults.specs.declared.fault.LineFault.{LineFault}
 use Rattle.line_faults.specs.declared.fault.LineReason.{LineReason}
 use Rattle.line_faults.specs.declared.fault.LineReason.TheVariants.{OutOfRange, WrongKind}
 use Rattle.line_faults.specs.declared.member.Member.{Member}
-use Rattle.line_reading.specs.Kinds.{list, number, text, word}
+use Rattle.line_reading.specs.Kinds.{list, number, text, one_of_texts}
 use Rattle.line_reading.specs.Reading.{◌>>=◌, bad, each, found, if_found, in_change, object, optional, or_bad, required}
 
 -- ---- one step and the next
@@ -134,8 +134,8 @@ number_within low high m d n e =
 
 pub word_has : {A : Type 0} (P : A → Type 0) (meant : List ℕ → Option A)
     → ((s : List ℕ) (x : A) → meant s ≡ Some x → P x) → (m : Member) (d : Data) (x : A)
-    → word meant m d ≡ Ok x → P x
-unfolding word
+    → one_of_texts meant m d ≡ Ok x → P x
+unfolding one_of_texts
 word_has P meant has m d x e =
     let s = steps (text m d) _ x e in
     has s.value x (is_there (meant s.value) OutOfRange m x s.gives)

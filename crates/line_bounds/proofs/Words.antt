@@ -5,7 +5,7 @@ use Rattle.std.specs.List.{AllByRecursion, list_all}
 use Rattle.std.specs.Str.{bytes_eq}
 use Rattle.std.proofs.lemmas.Bool.{leb-true}
 use Rattle.std.proofs.lemmas.Slice.Eq.{bytes_eq-Decides}
-use Rattle.line_words.specs.Words.{ident_of, is_location, location_of, plain}
+use Rattle.line_words.specs.Words.{ident_of_text, is_location, location_of_text, plain}
 use Rattle.routing.specs.Texts.{IsIdent, IsLocation, IsText, is_location_byte, is_printable}
 
 -- ---- texts
@@ -46,7 +46,7 @@ plain_is is_plain most s text e =
     go true false each f g a h = absurd cc
     go false short each f g a h = absurd cc
 
-pub ident_is : (s text : List ℕ) → ident_of s ≡ Some text → IsIdent text
+pub ident_is : (s text : List ℕ) → ident_of_text s ≡ Some text → IsIdent text
 ident_is = plain_is is_printable 128
 
 same_text : (is_plain : ℕ → Bool) (most : ℕ) (s text : List ℕ)
@@ -77,10 +77,10 @@ is_a_location s e = go (bytes_eq s (codes "*")) (plain is_location_byte 16 s) re
         inl (subst (IsText is_location_byte 16) (sym same) (plain_is is_location_byte 16 s text p))
     go false None b p h = absurd cc
 
-pub location_is : (s text : List ℕ) → location_of s ≡ Some text → IsNamed text
+pub location_is : (s text : List ℕ) → location_of_text s ≡ Some text → IsNamed text
 location_is s text e = go (is_location s) refl e
   where
-    go : (t : Bool) → is_location s ≡ t → cond t (ident_of s) None ≡ Some text → IsNamed text
+    go : (t : Bool) → is_location s ≡ t → cond t (ident_of_text s) None ≡ Some text → IsNamed text
     go true b h =
         (ident_is s text h, subst IsLocation (same_text is_printable 128 s text h) (is_a_location s b))
     go false b h = absurd cc

@@ -10,9 +10,9 @@ use Rattle.ip_table.specs.Prefixes.{IsPrefix, Prefix}
 use Rattle.line_faults.specs.declared.fault.LineFault.{LineFault}
 use Rattle.line_faults.specs.declared.fault.LineReason.TheVariants.{NotJson}
 use Rattle.line_faults.specs.declared.member.Member.TheVariants as m
-use Rattle.line_reading.specs.Reading.{Reads, bad}
+use Rattle.line_reading.specs.Reading.{Gives, bad}
 use Rattle.page_laws.specs.Laws.{IsAsked}
-use Rattle.prefix_text.specs.Prefixes.{prefix_of}
+use Rattle.prefix_text.specs.Prefixes.{prefix_of_text}
 use Rattle.rdata.specs.ValueOfText.{value_of_text}
 use Rattle.rdata_layout.specs.Layout.{IsLayout}
 use Rattle.rdata_layout.specs.declared.types.RType.{RType}
@@ -29,7 +29,7 @@ TextsAreValues = (rtype : RType) (text octets : List ℕ) → value_of_text rtyp
 
 -- The prefix that a text gives is one of an address, whose bits behind it are zeros.
 abbrev pub TextsArePrefixes : Type 0
-TextsArePrefixes = (text : List ℕ) (prefix : Prefix) → prefix_of text ≡ Some prefix
+TextsArePrefixes = (text : List ℕ) (prefix : Prefix) → prefix_of_text text ≡ Some prefix
     → IsPrefix prefix.address prefix.length
 
 -- ---- lines
@@ -41,11 +41,11 @@ LinesAreBounded = (value : Data) (given : Command) → line_of value ≡ Ok (lin
 
 -- what `read_line` promises of octets that are a JSON value, and of others
 abbrev pub ReadsJson : List ℕ → Result Line LineFault → Type 0
-ReadsJson octets told = (value : Data) → IsJson octets value → Reads told (line_of value)
+ReadsJson octets told = (value : Data) → IsJson octets value → Gives told (line_of value)
 
 abbrev pub ReadsOthers : List ℕ → Result Line LineFault → Type 0
 ReadsOthers octets told = ((value : Data) → IsJson octets value → ⊥)
-    → Reads told (bad NotJson m.Line)
+    → Gives told (bad NotJson m.Line)
 
 -- So is the command that was read of octets: what is told of them is what `read_line` promises.
 abbrev pub ReadLinesAreBounded : Type 0

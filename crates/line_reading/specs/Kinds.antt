@@ -37,8 +37,8 @@ number low high m d = do
   if nat_le low n && nat_le n high then Ok n else bad OutOfRange m
 
 -- one of a list of words, by what it stands for
-unfoldable pub word : {A : Type 0} → (List ℕ → Option A) → Member → Data → Result A LineFault
-word meant m d = text m d >>= λ s. or_bad (meant s) OutOfRange m
+unfoldable pub one_of_texts : {A : Type 0} → (List ℕ → Option A) → Member → Data → Result A LineFault
+one_of_texts meant m d = text m d >>= λ s. or_bad (meant s) OutOfRange m
 
 -- the number that digits spell behind those that were read before them: 1 to 4,294,967,294
 -- without leading zeros, or 0

@@ -21,9 +21,9 @@ Faults (BadLine reason m change) read = read ≡ Err (BadLine reason m change)
 Faults (Unsupported m change) read = read ≡ Err (Unsupported m change)
 Faults OutOfMemory read = ⊤
 
-abbrev pub Reads : {A : Type 0} → Result A LineFault → Result A LineFault → Type 0
-Reads (Ok x) read = read ≡ Ok x
-Reads (Err fault) read = Faults fault read
+abbrev pub Gives : {A : Type 0} → Result A LineFault → Result A LineFault → Type 0
+Gives (Ok x) read = read ≡ Ok x
+Gives (Err fault) read = Faults fault read
 
 -- the same of what it returned as it is seen by view
 abbrev pub ReadsAs : {A B : Type 0} → (A → B) → Result A LineFault → Result B LineFault → Type 0
@@ -130,13 +130,13 @@ TellsMember {A} gives read =
 abbrev pub ReadsMember : {A : Type 0} → (Bor Value → Result A LineFault → Type 0)
     → (Data → Result A LineFault) → Type 0
 ReadsMember {A} gives read =
-    (v : Bor Value) (r : Result A LineFault) → gives v r → Reads r (read (view v.now))
+    (v : Bor Value) (r : Result A LineFault) → gives v r → Gives r (read (view v.now))
 
 -- the same of an item of a list
 abbrev pub ReadsItem : {A : Type 0} → (ℕ → Bor Value → Result A LineFault → Type 0)
     → (ℕ → Data → Result A LineFault) → Type 0
 ReadsItem {A} gives read = (k : ℕ) (v : Bor Value) (r : Result A LineFault)
-    → k < 2 ^ 16 → gives k v r → Reads r (read k (view v.now))
+    → k < 2 ^ 16 → gives k v r → Gives r (read k (view v.now))
 
 -- a fault inside the change of this index
 abbrev pub in_change : {A : Type 0} → ℕ → Result A LineFault → Result A LineFault

@@ -4,7 +4,7 @@ ghost use Rattle.std.specs.Prelude.{◌≡◌, ℕ, List, Option, ◌≤◌, ◌
 ghost use Rattle.std.specs.Bool.{OnTrue};
 ghost use Rattle.serde_json.specs.Events.{items_len};
 ghost use Rattle.serde_json.specs.View.{view, items_view};
-ghost use Rattle.line_reading.specs.Kinds.{name, text, word, MeansWord, flag, list, number};
+ghost use Rattle.line_reading.specs.Kinds.{name, text, one_of_texts, MeansWord, flag, list, number};
 ghost use Rattle.line_reading.specs.Kinds.{check_id, collection_id, zone_id};
 ghost use Rattle.line_reading.specs.Kinds.{without_prefix, id_of, number_of_digits};
 ghost use Rattle.line_reading.specs.Reading.{TellsAs, required, optional};
@@ -133,15 +133,15 @@ pub fn optional_u32(
 }
 
 /// What a text means; a text that means nothing is outside the range.
-#[tactic(auto, unfolding(crate::specs::Kinds::word))]
-pub fn word<T, F: FnOnce(&str) -> Option<T>>(
+#[tactic(auto, unfolding(crate::specs::Kinds::one_of_texts))]
+pub fn one_of_texts<T, F: FnOnce(&str) -> Option<T>>(
     member: Member,
     value: &Value,
     meaning: F,
 ) -> Result<T, LineFault>
     requires { F.IsAlwaysCallable meaning }
     ensures { (meant : List ℕ → Option T) → MeansWord (λ s r. F.post meaning s r) meant
-        → result ≡ word meant member (view value.now) }
+        → result ≡ one_of_texts meant member (view value.now) }
 {
     let Some(text) = value.as_str() else {
         return Err(LineFault::bad(LineReason::WrongKind, member));
@@ -160,10 +160,10 @@ pub fn required_word<T, F: FnOnce(&str) -> Option<T>>(
 ) -> Result<T, LineFault>
     requires { F.IsAlwaysCallable meaning }
     ensures { (meant : List ℕ → Option T) → MeansWord (λ s r. F.post meaning s r) meant
-        → result ≡ required member (word meant) (view value.now) }
+        → result ≡ required member (one_of_texts meant) (view value.now) }
 {
     match required(value, member) {
-        Ok(found) => word(member, found, meaning),
+        Ok(found) => one_of_texts(member, found, meaning),
         Err(fault) => Err(fault),
     }
 }
@@ -176,11 +176,11 @@ pub fn optional_word<T, F: FnOnce(&str) -> Option<T>>(
 ) -> Result<Option<T>, LineFault>
     requires { F.IsAlwaysCallable meaning }
     ensures { (meant : List ℕ → Option T) → MeansWord (λ s r. F.post meaning s r) meant
-        → result ≡ optional member (word meant) (view value.now) }
+        → result ≡ optional member (one_of_texts meant) (view value.now) }
 {
     match value.get(member.text()) {
         None => Ok(None),
-        Some(found) => match word(member, found, meaning) {
+        Some(found) => match one_of_texts(member, found, meaning) {
             Ok(x) => Ok(Some(x)),
             Err(fault) => Err(fault),
         },

@@ -10,8 +10,8 @@ mod reading;
 
 pub use kinds::{
     check_id, collection_id, flag, list, name, number, number_u8, number_u16, number_u32,
-    optional_flag, optional_u8, optional_u16, optional_u32, optional_word, required_word, text,
-    without_prefix, word, zone_id, zone_number,
+    one_of_texts, optional_flag, optional_u8, optional_u16, optional_u32, optional_word,
+    required_word, text, without_prefix, zone_id, zone_number,
 };
 pub use line_faults::{LineFault, LineReason, Member};
 pub use reading::{each, object, optional, optional_owned, required};

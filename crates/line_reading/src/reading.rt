@@ -6,7 +6,7 @@ ghost use Rattle.serde_json.specs.Find.{get};
 ghost use Rattle.serde_json.specs.View.{view, items_view, members_view};
 ghost use Rattle.line_faults.specs.Texts.{text_of};
 ghost use Rattle.line_faults.specs.declared.fault.LineFault.{LineFault};
-ghost use Rattle.line_reading.specs.Reading.{Reads, ReadsAs, ReadsItem, ReadsMember, TellsMember};
+ghost use Rattle.line_reading.specs.Reading.{Gives, ReadsAs, ReadsItem, ReadsMember, TellsMember};
 ghost use Rattle.line_reading.specs.Reading.{each, optional, required, IsRequired, object};
 ghost use Rattle.line_reading.specs.Reading.{first_of, is_among, are_among};
 
@@ -80,7 +80,7 @@ pub fn optional_owned<T, F: FnOnce(Member, &Value) -> Result<T, LineFault>>(
     requires { F.IsAlwaysCallable read }
     ensures { (reads : Member → Data → Result T LineFault)
         → ReadsMember (λ v r. F.post read member v r) (reads member)
-        → Reads result (optional member reads (view value.now)) }
+        → Gives result (optional member reads (view value.now)) }
 {
     match value.get(member.text()) {
         None => Ok(None),

@@ -11,7 +11,7 @@ use Rattle.reply_sending.specs.RefusalRecord.{Refusal}
 use Rattle.reply_sending.specs.RefusalRecord.TheVariants as refusal
 use Rattle.serve_turns.specs.Engine.{Engine, Fits, grown, size_of}
 use Rattle.line_server.specs.Asking.{CommandAsksDisk}
-use Rattle.line_server.specs.Leaving.{Makes, RepliesOr, StoreLeaves, Torn, Written, taken_of}
+use Rattle.line_server.specs.Leaving.{StepOrNone, RepliesOr, StoreLeaves, Halted, Written, taken_of}
 use Rattle.line_server.specs.Replying.{Commanded}
 use Rattle.serve_turns.specs.Stores.{CommandGives, StandsFor, State as Store, Untouched}
 use Rattle.serve_turns.specs.Kept.{IsAccepted}
@@ -22,7 +22,7 @@ use Rattle.serve_turns.specs.Leaving.{OpensEither}
 use Rattle.whole_writing.specs.Output.{OutputOf}
 use Rattle.whole_writing.specs.declared.output.Output.{Output}
 use Rattle.whole_writing.specs.declared.output.Output.TheVariants as output
-use Rattle.zone_journal.specs.Pairs.{EachPair, Leaves}
+use Rattle.zone_journal.specs.Pairs.{EachPair, BothRead}
 use Rattle.zone_journal.specs.Standing.{StandsOn}
 
 -- a reply that was written, or a part of it
@@ -68,7 +68,7 @@ module _ (engine : Engine) (given : Command) (came : Result Made Refusal) (new :
 
   -- what the store stands for, whatever is told of the reply
   pub made : CommandGives engine given came new
-      → (after : Engine) × Makes (Commanded given) engine after × StandsFor after new
+      → (after : Engine) × StepOrNone (Commanded given) engine after × StandsFor after new
   made (inl (is, stands)) = (engine, inl (engine.journal, refl), stands)
   made (inr (inl (is, accepted, fitting, stands))) = (engine, inl (engine.journal, refl), stands)
   made (inr (inr (after, steps, stands))) =
@@ -149,14 +149,14 @@ module _ {D : Type 0} (reading : D → Option (List ℕ)) (images : D → List �
   pub torn : (law : OneOutcome) (engine : Engine) (given : Command) (old new : Store)
       → StandingOpens reading images → StandsFor engine old
       → StandsOn reading images old.kept.journal a_old b_old
-      → Leaves reading a_old b_old (Holds old.kept)
+      → BothRead reading a_old b_old (Holds old.kept)
       → CommandGives engine given (Err refusal.DiskFault) new
       → IsAccepted (config_of old.kept) given
       → ((after : Config) (what : Made) → Decides (config_of old.kept) given (Ok (after, what))
       → ((a_new ≡ a_old) × (b_new ≡ b_old))
       ⊎ EachPair moment images_since a_old a_new b_old b_new
       (OpensEither (config_of old.kept) after))
-      → Torn images a_new b_new (Commanded given) engine
+      → Halted images a_new b_new (Commanded given) engine
   torn law engine given old new opens stands on held gives accepted moments =
       let its = subst (λ (c : Config). IsAccepted c given) (sym stands.config) accepted in
       let fitting = fits law engine given new gives its in

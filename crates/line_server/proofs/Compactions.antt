@@ -10,7 +10,7 @@ use Rattle.serve_turns.specs.CompactedRecord.{Compacted}
 use Rattle.serve_turns.specs.CompactedRecord.TheVariants as compacted
 use Rattle.line_server.proofs.Commands.{written}
 use Rattle.line_server.specs.Asking.{CompactionAsksDisk}
-use Rattle.line_server.specs.Leaving.{Makes, RepliesOr, Torn, taken_of}
+use Rattle.line_server.specs.Leaving.{StepOrNone, RepliesOr, Halted, taken_of}
 use Rattle.line_server.specs.Replying.{Compacts}
 use Rattle.serve_turns.specs.Stores.{CompactionGives, StandsFor, State as Store}
 use Rattle.reply_sending.specs.Outcomes.{text_of}
@@ -46,7 +46,7 @@ module _ (engine : Engine) (pieces : ℕ) (came : Compacted) (new : Store) where
 
   -- what the store stands for, whatever is told of the reply
   pub stood : CompactionGives engine pieces came new
-      → (after : Engine) × Makes (Compacts pieces) engine after × StandsFor after new
+      → (after : Engine) × StepOrNone (Compacts pieces) engine after × StandsFor after new
   stood (inl (is, none, stands)) = (engine, inl (engine.journal, refl), stands)
   stood (inr (inl (is, more, (journal, dropped, stands)))) =
       (record engine { journal = journal }, inl (journal, refl), stands)
@@ -120,7 +120,7 @@ step engine pieces = elim (decided engine.journal) [
 pub torn : {D : Type 0} (images : D → List ℕ → Type 0) (a b : D) (engine : Engine) (pieces : ℕ)
     (old : Store) → StandsFor engine old
     → ((x y : List ℕ) → images a x → images b y → OpensConfig x y (config_of old.kept))
-    → Torn images a b (Compacts pieces) engine
+    → Halted images a b (Compacts pieces) engine
 torn images a b engine pieces old stands opens =
     let its = step engine pieces in (
       its.after,

@@ -4,7 +4,7 @@ use Rattle.serve_turns.specs.LineRecord.TheVariants as line
 use Rattle.serve_turns.specs.Engine.{Engine}
 use Rattle.geo_latency.specs.declared.tables.Tables.{Tables}
 use Rattle.line_server.specs.Leaving.{CameTo, StepLeaves, TurnsInPart, taken_of}
-use Rattle.line_server.specs.Standing.{IsBound, IsServed}
+use Rattle.line_server.specs.Standing.{IsBound, IsTurnsOutcome}
 use Rattle.line_server.specs.declared.answers.Taken.{Taken}
 use Rattle.query_lines.specs.declared.serving.Ports.{Ports}
 use Rattle.serve_turns.specs.Stores.{StandsFor, State as Store}
@@ -14,8 +14,8 @@ use Rattle.reply_sending.specs.Outcomes.{text_of}
 use Rattle.reply_sending.specs.OutcomeRecord.TheVariants as outcome
 use Rattle.reply_sending.specs.TurnsRecord.{Turns}
 use Rattle.serve_turns.specs.Turning.{Standing, TurnsLeave, first}
-use Rattle.serve_turns.specs.declared.serving.Served.{Served as Answer}
-use Rattle.serve_turns.specs.declared.serving.Served.TheVariants as answer
+use Rattle.serve_turns.specs.declared.serving.TurnsTaken.{TurnsTaken as Answer}
+use Rattle.serve_turns.specs.declared.serving.TurnsTaken.TheVariants as answer
 use Rattle.serve_turns.specs.ServingOfSessionModel.{Datagram, none}
 use Rattle.serve_turns.specs.Steps.{LineSteps, State, Step, Surroundings, after_turns}
 use Rattle.serve_turns.specs.Steps.{given_for, replied}
@@ -89,7 +89,7 @@ module _ (around : Surroundings) (n : ℕ) (old : State) (held : List ℕ) (befo
     (sent : Option (List Datagram)) (o : Output) where
   pub not_bound : old.bound ≡ false → StandsFor old.engine store → network ≡ Some old.arrivals
       → old.words ≡ random → sent ≡ Some before → OutputOf held out o (text_of outcome.NotBound)
-      → CameTo o (LineSteps around (line.Serve n) old) (IsServed old.bound store network random)
+      → CameTo o (LineSteps around (line.Serve n) old) (IsTurnsOutcome old.bound store network random)
       held before out sent
   not_bound none stands coming words still was = (
     replied old old.engine (text_of outcome.NotBound),
@@ -104,7 +104,7 @@ module _ (around : Surroundings) (n : ℕ) (old : State) (held : List ℕ) (befo
       old.arrivals (λ after. StandsFor after store)
       (record { words = random; turns = none; coming = network; sent = sent })
       → OutputOf held out o (text_of (outcome.Served turns))
-      → CameTo o (LineSteps around (line.Serve n) old) (IsServed old.bound store network random)
+      → CameTo o (LineSteps around (line.Serve n) old) (IsTurnsOutcome old.bound store network random)
       held before out sent
   served is turns (left, new, taken, here, stands) was = (
     after_turns old left new,

@@ -12,7 +12,7 @@ use Rattle.dns_wire.specs.Edns.{TellsEdns, TellsSubnet, first_body}
 use Rattle.dns_wire.specs.EdnsRecord.{Edns}
 use Rattle.dns_wire.specs.Judge.{HasQuery, Judges}
 use Rattle.dns_wire.specs.Limit.{limit_of, refusal_of, version_refusal_of}
-use Rattle.dns_wire.specs.Message.{Message, octets_of, opt_octets, option_octets, wire, without_records}
+use Rattle.dns_wire.specs.Message.{Message, octets_of, opt_octets, option_octets, octets_within, without_records}
 use Rattle.dns_wire.specs.QueryRecord.{Query}
 use Rattle.dns_wire.specs.QueryReadRecord.{QueryRead}
 use Rattle.dns_wire.specs.QueryReadRecord.TheVariants as read
@@ -103,8 +103,8 @@ cut_short m question opt =
     omega (arith, question, opt, length-append m.question (opt_octets m.rcode m.opt))
 
 wire_short : (m : Message) (limit : ℕ) → 512 ≤ limit
-    → length (octets_of true (without_records m)) ≤ 512 → length (wire m limit) ≤ limit
-unfolding wire
+    → length (octets_of true (without_records m)) ≤ 512 → length (octets_within m limit) ≤ limit
+unfolding octets_within
 wire_short m limit least cut = go (nat_le (length (octets_of false m)) limit) refl
   where
     go : (b : Bool) → nat_le (length (octets_of false m)) limit ≡ b
@@ -121,7 +121,7 @@ most_limit None = omega arith
 most_limit (Some edns) = omega arith
 
 reply_short : (packet : List ℕ) (query : Query) → HasQuery packet query → (m : Message)
-    → IsTo query m → length (wire m (limit_of query.edns)) ≤ 4096
+    → IsTo query m → length (octets_within m (limit_of query.edns)) ≤ 4096
 reply_short packet query has m is =
     let question = subst (λ (l : List ℕ). length l ≤ 259) (sym is.question)
     (question_short packet query has) in

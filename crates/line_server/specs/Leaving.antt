@@ -7,7 +7,7 @@ use Rattle.line_server.specs.declared.answers.Taken.TheVariants as taken
 use Rattle.octets.specs.Counts.{Rose}
 use Rattle.r53_io.specs.Network.{Incoming}
 use Rattle.serve_turns.specs.Replies.{memory_text}
-use Rattle.serve_turns.specs.ServingOfSessionModel.{Datagram, Served, TakesTurns}
+use Rattle.serve_turns.specs.ServingOfSessionModel.{Datagram, TurnsOutcome, TakesTurns}
 use Rattle.serve_turns.specs.Turning.{IsInHand}
 use Rattle.serve_turns.specs.Steps.{State, Step, Surroundings, at_first_turn}
 use Rattle.serve_turns.specs.Leaving.{OpensEither}
@@ -59,17 +59,17 @@ StoreLeaves May taken.LinkFault Steps engine P held out = ⊥
 
 -- A step of a line was made, or the store is the one before, but for the journal where a disk failed:
 -- also where the sink tells nothing.
-abbrev pub Makes : (Steps : (old after : Engine) → (reply : List ℕ) → Type 0)
+abbrev pub StepOrNone : (Steps : (old after : Engine) → (reply : List ℕ) → Type 0)
     → (old after : Engine) → Type 0
-Makes Steps old after =
+StepOrNone Steps old after =
     ((journal : Journal) × (after ≡ record old { journal = journal }))
     ⊎ ((reply : List ℕ) × Steps old after reply)
 
 -- ---- files
 
 -- P, but where a disk failed
-abbrev pub UnlessTorn : Taken → Type 0 → Type 0
-UnlessTorn answer P = answer ≢ taken.DiskFault → P
+abbrev pub UnlessHalted : Taken → Type 0 → Type 0
+UnlessHalted answer P = answer ≢ taken.DiskFault → P
 
 -- Each pair of images opens to the configuration before, or to the one after.
 abbrev pub ImagesOpen : {D : Type 0} → (images : D → List ℕ → Type 0) → (a b : D)
@@ -79,9 +79,9 @@ ImagesOpen images a b before after =
 
 -- Where a disk failed there is a step of the line, and each pair of images opens to the configuration
 -- before it or to the one after.
-abbrev pub Torn : {D : Type 0} → (images : D → List ℕ → Type 0) → (a b : D)
+abbrev pub Halted : {D : Type 0} → (images : D → List ℕ → Type 0) → (a b : D)
     → (Steps : (old after : Engine) → (reply : List ℕ) → Type 0) → (engine : Engine) → Type 0
-Torn images a b Steps engine =
+Halted images a b Steps engine =
     (after : Engine) × (reply : List ℕ) × Steps engine after reply
     × ImagesOpen images a b engine.config after.config
 
@@ -113,7 +113,7 @@ StepLeaves taken.LinkFault Steps Part P held before out sent = (out ≡ Some hel
 abbrev pub TurnsInPart : Surroundings → (n : ℕ) → (old : State) → (before : List Datagram)
     → (network : Option (List Incoming)) → (sent : Option (List Datagram)) → Type 0
 TurnsInPart around n old before network sent =
-    (k : ℕ) × (left : List Incoming) × (served : Served) × (k < n)
+    (k : ℕ) × (left : List Incoming) × (served : TurnsOutcome) × (k < n)
     × TakesTurns around.tables k old.arrivals (at_first_turn old) left served
     × (sent ≡ Some (before ++ served.sent)) × IsInHand left network
 

@@ -31,8 +31,8 @@ Compacts pieces old after reply =
     (came : Compacted) × CompactionSteps old pieces came after
     × (reply ≡ text_of (compact_outcome came))
 
-abbrev pub Told : (id : ℕ) → (old after : Engine) → (reply : List ℕ) → Type 0
-Told id old after reply =
+abbrev pub StatusTold : (id : ℕ) → (old after : Engine) → (reply : List ℕ) → Type 0
+StatusTold id old after reply =
     (after ≡ old)
     × (reply ≡ text_of (status_outcome id (status_told old.config.checks.list old.reports id)))
 

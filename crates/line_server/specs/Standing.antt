@@ -28,7 +28,7 @@ IsBound old bound new = new ≡ record old { bound = bound }
 
 -- Behind a Serve the store, what comes and the words are those of a state, and whether ports are bound
 -- is as before.
-pub record IsServed (bound : Bool) (store : Store) (network : Option (List Incoming))
+pub record IsTurnsOutcome (bound : Bool) (store : Store) (network : Option (List Incoming))
     (random : Stream) (new : State) : Type 0 where
   pub stands : StoreStandsFor new.engine store
   pub still : new.bound ≡ bound

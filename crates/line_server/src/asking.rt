@@ -3,7 +3,7 @@
 ghost use Rattle.std.specs.Prelude.{◌≡◌, ◌≤◌, ◌<◌, ℕ, List, Some, length, vec_capacity};
 ghost use Rattle.serve_turns.specs.Engine.{Engine, ReportSteps};
 ghost use Rattle.line_server.specs.Leaving.{HasCause, Replies};
-ghost use Rattle.line_server.specs.Replying.{Answered, Observed, Told};
+ghost use Rattle.line_server.specs.Replying.{Answered, Observed, StatusTold};
 ghost use Rattle.serve_turns.specs.Stores.{StandsFor};
 ghost use Rattle.octets.specs.Counts.{Rose};
 ghost use Rattle.serve_turns.specs.Replies.{query_text, report_outcome, status_outcome};
@@ -30,7 +30,7 @@ pub fn status<K: Sink>(store: &Store, id: u32, text: &mut Vec<u8>, out: &mut K) 
     requires room { ROOM ≤ vec_capacity text.old }
     ensures leaves { (engine : Engine) (held : List ℕ) → StandsFor engine store.now
         → K.held out.old ≡ Some held
-        → Replies result (Told id) engine (λ after. StandsFor after store.now) held
+        → Replies result (StatusTold id) engine (λ after. StandsFor after store.now) held
         (K.held out.new) }
     ensures room { vec_capacity text.old ≤ vec_capacity text.new }
     ensures out_counts { K.faults out.old ≤ K.faults out.new }

@@ -3,7 +3,7 @@
 ghost use Rattle.std.specs.Prelude.{◌≡◌, ◌≤◌, ℕ, List, Some, false, length, true, vec_capacity};
 ghost use Rattle.serve_turns.specs.LineRecord.TheVariants as line;
 ghost use Rattle.line_server.specs.Leaving.{HasCause, StepLeaves, TurnsInPart};
-ghost use Rattle.line_server.specs.Standing.{IsBound, IsServed};
+ghost use Rattle.line_server.specs.Standing.{IsBound, IsTurnsOutcome};
 ghost use Rattle.serve_turns.specs.Stores.{StandsFor};
 ghost use Rattle.serve_turns.specs.Turning.{GoesOn};
 ghost use Rattle.serve_turns.specs.ServingOfSessionModel.{Datagram};
@@ -17,7 +17,7 @@ use query_lines::Ports;
 use r53_io::{Bound, Link, Sink};
 use rand_core::Rng;
 use reply_sending::{Outcome, ROOM, send_outcome};
-use serve_turns::{Served, Store, serve};
+use serve_turns::{Store, TurnsTaken, serve};
 
 /// Binds ports, and writes the reply. After an Ok bind another is AlreadyBound.
 ///
@@ -84,7 +84,7 @@ pub fn take_turns<L: Link, R: Rng, K: Sink>(
         → K.held out.old ≡ Some held → L.sent link.old ≡ Some before
         → StepLeaves result (LineSteps around (line.Serve turns) old)
         (TurnsInPart around turns old before (L.coming link.new))
-        (IsServed bound store.new (L.coming link.new) (R.stream words.new)) held before
+        (IsTurnsOutcome bound store.new (L.coming link.new) (R.stream words.new)) held before
         (K.held out.new) (L.sent link.new) }
 
     // The network is asked where ports are bound alone.
@@ -106,7 +106,7 @@ pub fn take_turns<L: Link, R: Rng, K: Sink>(
         return sent(send_outcome(&Outcome::NotBound, text, out));
     }
     match serve(store, tables, link, words, turns, packet, reply) {
-        Served::Took(took) => sent(send_outcome(&Outcome::Served(took), text, out)),
-        Served::Failed => Taken::LinkFault,
+        TurnsTaken::Took(took) => sent(send_outcome(&Outcome::Served(took), text, out)),
+        TurnsTaken::Failed => Taken::LinkFault,
     }
 }

@@ -8,13 +8,13 @@ ghost use Rattle.reply_sending.specs.Laws.{IsBounded};
 ghost use Rattle.reply_sending.specs.RefusalRecord.TheVariants as refusal;
 ghost use Rattle.serve_turns.specs.Engine.{Engine};
 ghost use Rattle.line_server.specs.Asking.{CommandAsksDisk};
-ghost use Rattle.line_server.specs.Leaving.{HasCause, Makes, StoreLeaves, Torn, UnlessTorn};
+ghost use Rattle.line_server.specs.Leaving.{HasCause, StepOrNone, StoreLeaves, Halted, UnlessHalted};
 ghost use Rattle.line_server.specs.Replying.{Commanded};
 ghost use Rattle.octets.specs.Counts.{Rose};
 ghost use Rattle.serve_turns.specs.Stores.{StandsFor};
 ghost use Rattle.serve_turns.specs.Replies.{check_line, cidr_line, command_line, command_outcome};
 ghost use Rattle.serve_turns.specs.Replies.{zone_name};
-ghost use Rattle.zone_journal.specs.Pairs.{Leaves};
+ghost use Rattle.zone_journal.specs.Pairs.{BothRead};
 ghost use Rattle.zone_journal.specs.Standing.{StandsOn};
 
 use crate::answers::Taken;
@@ -53,14 +53,14 @@ pub fn control<D: Disk, K: Sink>(
 
     // Also where the sink tells nothing.
     ensures made { (engine : Engine) → StandsFor engine store.old
-        → (after : Engine) × Makes (Commanded command) engine after × StandsFor after store.new }
-    ensures stands { UnlessTorn result
+        → (after : Engine) × StepOrNone (Commanded command) engine after × StandsFor after store.new }
+    ensures stands { UnlessHalted result
         (StandsOn D.reading D.images store.new.kept.journal a.new b.new) }
-    ensures holds { Leaves D.reading a.old b.old (Holds store.old.kept)
-        → UnlessTorn result (Leaves D.reading a.new b.new (Holds store.new.kept)) }
+    ensures holds { BothRead D.reading a.old b.old (Holds store.old.kept)
+        → UnlessHalted result (BothRead D.reading a.new b.new (Holds store.new.kept)) }
     ensures torn { result ≡ Taken.DiskFault → (engine : Engine) → StandsFor engine store.old
-        → Leaves D.reading a.old b.old (Holds store.old.kept)
-        → Torn D.images a.new b.new (Commanded command) engine }
+        → BothRead D.reading a.old b.old (Holds store.old.kept)
+        → Halted D.images a.new b.new (Commanded command) engine }
 
     // A disk is asked by a command that is accepted and fits alone.
     ensures asked { result ≡ Taken.DiskFault → (engine : Engine) → StandsFor engine store.old

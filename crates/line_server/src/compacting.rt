@@ -5,11 +5,11 @@ ghost use Rattle.serve_turns.specs.Holding.{Holds};
 ghost use Rattle.serve_turns.specs.Engine.{Engine};
 ghost use Rattle.serve_turns.specs.CompactedRecord.TheVariants as Compacted;
 ghost use Rattle.line_server.specs.Asking.{CompactionAsksDisk};
-ghost use Rattle.line_server.specs.Leaving.{HasCause, Makes, StoreLeaves, Torn, UnlessTorn};
+ghost use Rattle.line_server.specs.Leaving.{HasCause, StepOrNone, StoreLeaves, Halted, UnlessHalted};
 ghost use Rattle.line_server.specs.Replying.{Compacts};
 ghost use Rattle.serve_turns.specs.Stores.{StandsFor};
 ghost use Rattle.serve_turns.specs.Replies.{compact_outcome};
-ghost use Rattle.zone_journal.specs.Pairs.{Leaves};
+ghost use Rattle.zone_journal.specs.Pairs.{BothRead};
 ghost use Rattle.zone_journal.specs.Standing.{StandsOn};
 
 use crate::answers::Taken;
@@ -44,14 +44,14 @@ pub fn compact<D: Disk, K: Sink>(
 
     // Also where the sink tells nothing.
     ensures made { (engine : Engine) → StandsFor engine store.old
-        → (after : Engine) × Makes (Compacts pieces) engine after × StandsFor after store.new }
-    ensures stands { UnlessTorn result
+        → (after : Engine) × StepOrNone (Compacts pieces) engine after × StandsFor after store.new }
+    ensures stands { UnlessHalted result
         (StandsOn D.reading D.images store.new.kept.journal a.new b.new) }
-    ensures holds { Leaves D.reading a.old b.old (Holds store.old.kept)
-        → UnlessTorn result (Leaves D.reading a.new b.new (Holds store.new.kept)) }
+    ensures holds { BothRead D.reading a.old b.old (Holds store.old.kept)
+        → UnlessHalted result (BothRead D.reading a.new b.new (Holds store.new.kept)) }
     ensures torn { result ≡ Taken.DiskFault → (engine : Engine) → StandsFor engine store.old
-        → Leaves D.reading a.old b.old (Holds store.old.kept)
-        → Torn D.images a.new b.new (Compacts pieces) engine }
+        → BothRead D.reading a.old b.old (Holds store.old.kept)
+        → Halted D.images a.new b.new (Compacts pieces) engine }
 
     // A disk is asked where a piece is made alone.
     ensures asked { result ≡ Taken.DiskFault → (engine : Engine) → StandsFor engine store.old

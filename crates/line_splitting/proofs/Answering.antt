@@ -2,7 +2,7 @@
 use Rattle.std.proofs.Common.{◌≡◌, ℕ, zero, suc, ◌<◌, Bool, arith, ap, ◌∙◌, sym, ◌==◌}
 use Rattle.std.specs.Prelude.{if◌then◌else◌}
 use Rattle.std.proofs.Math.Dec.{eqb-suc-zero}
-use Rattle.line_splitting.specs.Reading.{Reader, Answers, ReadsOn, first_of, turn_of, as_read}
+use Rattle.line_splitting.specs.Reading.{Reader, HasOutcome, ReadsMore, first_of, round_of, as_read}
 use Rattle.line_splitting.specs.declared.reader.Next.{Next}
 use Rattle.line_splitting.specs.declared.reader.Next.TheVariants as next
 
@@ -17,12 +17,12 @@ some_left zero h = absurd (omega (arith, h))
 some_left (suc b) h =
     ap (λ (z : Bool). if z then next.InputTooLong else next.Read) (eqb-suc-zero b)
 
-reads : (old : Reader) → ReadsOn old → next.Read ≡ turn_of old
+reads : (old : Reader) → ReadsMore old → next.Read ≡ round_of old
 reads old r = sym (ap (λ es. first_of es (without_line old.ended old.budget)) r.ready
     ∙ ap (λ e. without_line e old.budget) r.going ∙ some_left old.budget r.budget)
 
-pub one_answer : (old new : Reader) (answer : Next) → Answers old answer new
-    → as_read answer ≡ turn_of old
+pub one_answer : (old new : Reader) (answer : Next) → HasOutcome old answer new
+    → as_read answer ≡ round_of old
 one_answer old new next.Line h =
     sym (ap (λ es. first_of es (without_line old.ended old.budget)) h.ready)
 one_answer old new next.TooLong h =

@@ -3,15 +3,15 @@ use Rattle.std.proofs.Common.{◌≡◌, ℕ, zero, suc, ◌+◌, ◌*◌, ◌-�
 use Rattle.std.specs.Prelude.{if◌then◌else◌, not, ◌&&◌, nat_le, nat_lt, IsTrue, ◌↔◌}
 use Rattle.line_splitting.specs.Lines.{Event, Line, TooLong, is_blank_byte, is_blank, events_of_line, first_piece, more_pieces, pieces, events_of, but_last, ended_pieces, most_bytes}
 use Rattle.line_splitting.specs.Judging.{end_place, as_events, dropped_with}
-use Rattle.line_splitting.specs.Reading.{Reader, told, begun, to_come, is_cut, events, ready, whole, is_begun, steps, IsOver, ReadsOn, Took, TookNothing, Leaves}
+use Rattle.line_splitting.specs.Reading.{Reader, ending, begun, to_come, is_over_limit, events, waiting_whole, whole, is_begun, steps, IsOver, ReadsMore, Took, TookNothing, Leaves}
 use Rattle.line_splitting.specs.declared.reader.Next.{Next}
 use Rattle.line_splitting.specs.declared.reader.Next.TheVariants as next
 use Rattle.std.proofs.Math.Dec.{eqb-suc-zero}
 use Rattle.std.proofs.lemmas.Bool.{leb-true, le-leb, lt-ltb, false_from_ne_true}
-use Rattle.line_splitting.specs.Waiting.{Held, Adds}
+use Rattle.line_splitting.specs.Waiting.{Waiting, Adds}
 use Rattle.std.proofs.Math.Seq.{take-length, take-add}
 use Rattle.std.proofs.lemmas.List.{drop_all}
-use Rattle.line_splitting.specs.Steps.{Rests, Takes, HasRoom}
+use Rattle.line_splitting.specs.Steps.{DropsBlanks, Takes, HasRoom}
 use Rattle.line_splitting.specs.declared.judging.Dropped.{Dropped}
 use Rattle.line_splitting.specs.declared.judging.Dropped.TheVariants as dropped
 use Rattle.line_splitting.specs.declared.judging.Told.{Told}
@@ -28,23 +28,23 @@ begun_nothing (p ∷ ps) = refl
 -- A line that ends at place k comes first, and the rest comes behind it.
 first_line : (d : Dropped) (c : Bool) (w x : List ℕ) (k : ℕ) → end_place w ≡ Some k
     → begun d (ended_pieces c (w ++ x))
-    ≡ told d (take k w) ++ begun dropped.Nothing (ended_pieces c (drop (suc k) w ++ x))
+    ≡ ending d (take k w) ++ begun dropped.Nothing (ended_pieces c (drop (suc k) w ++ x))
 first_line d false w x k e =
     let p = pieces_at w x k e in
-    ap (λ f. told d f ++ events_of (more_pieces (w ++ x))) p.0
-    ∙ ap (λ m. told d (take k w) ++ events_of m) p.1
+    ap (λ f. ending d f ++ events_of (more_pieces (w ++ x))) p.0
+    ∙ ap (λ m. ending d (take k w) ++ events_of m) p.1
 first_line d true w x k e =
     let p = pieces_at w x k e in
     ap (λ m. begun d (but_last (first_piece (w ++ x) ∷ m))) p.1
-    ∙ ap (λ f. told d f ++ events_of (but_last (pieces (drop (suc k) w ++ x)))) p.0
-    ∙ ap (λ es. told d (take k w) ++ es) (begun_nothing (but_last (pieces (drop (suc k) w ++ x))))
+    ∙ ap (λ f. ending d f ++ events_of (but_last (pieces (drop (suc k) w ++ x)))) p.0
+    ∙ ap (λ es. ending d (take k w) ++ es) (begun_nothing (but_last (pieces (drop (suc k) w ++ x))))
 
 first_ready : (d : Dropped) (c : Bool) (w : List ℕ) (k : ℕ) → end_place w ≡ Some k
     → begun d (ended_pieces c w)
-    ≡ told d (take k w) ++ begun dropped.Nothing (ended_pieces c (drop (suc k) w))
+    ≡ ending d (take k w) ++ begun dropped.Nothing (ended_pieces c (drop (suc k) w))
 first_ready d c w k e = ap (λ v. begun d (ended_pieces c v)) (sym (append-nil w))
     ∙ first_line d c w [] k e
-    ∙ ap (λ v. told d (take k w) ++ begun dropped.Nothing (ended_pieces c v))
+    ∙ ap (λ v. ending d (take k w) ++ begun dropped.Nothing (ended_pieces c v))
     (append-nil (drop (suc k) w))
 
 -- the reader after the line that ends at place k
@@ -61,14 +61,14 @@ nearer_past : (r : Reader) (k : ℕ) → k < length r.waiting → steps (past r 
 nearer_past r k h = let d = length-drop (suc k) r.waiting in omega (arith, d, h)
 
 pub takes_line : (r : Reader) (k : ℕ) (t : Told) → Some k ≡ end_place r.waiting
-    → told r.dropped (take k r.waiting) ≡ as_events t (take k r.waiting) → Takes r t (past r k)
+    → ending r.dropped (take k r.waiting) ≡ as_events t (take k r.waiting) → Takes r t (past r k)
 takes_line r k told.Nothing e h =
     let n = nearer_past r k (end_within r.waiting k (sym e)) in
     record {
       ready = sym (first_ready r.dropped (not r.ended) r.waiting k (sym e)
-          ∙ ap (λ es. es ++ ready (past r k)) h);
+          ∙ ap (λ es. es ++ waiting_whole (past r k)) h);
       events = λ left. sym (
-          first_line r.dropped (is_cut r left) r.waiting (to_come r left) k (sym e)
+          first_line r.dropped (is_over_limit r left) r.waiting (to_come r left) k (sym e)
           ∙ ap (λ es. es ++ events (past r k) left) h);
       whole = λ going seen. sym (
           first_line r.dropped (not r.ended) r.waiting seen k (sym e)
@@ -79,8 +79,8 @@ takes_line r k told.Nothing e h =
     }
 takes_line r k told.Line e h = record {
   ready = first_ready r.dropped (not r.ended) r.waiting k (sym e)
-      ∙ ap (λ es. es ++ ready (past r k)) h;
-  events = λ left. first_line r.dropped (is_cut r left) r.waiting (to_come r left) k (sym e)
+      ∙ ap (λ es. es ++ waiting_whole (past r k)) h;
+  events = λ left. first_line r.dropped (is_over_limit r left) r.waiting (to_come r left) k (sym e)
       ∙ ap (λ es. es ++ events (past r k) left) h;
   whole = λ going seen. first_line r.dropped (not r.ended) r.waiting seen k (sym e)
       ∙ ap (λ es. es ++ whole (past r k) seen) h;
@@ -90,8 +90,8 @@ takes_line r k told.Line e h = record {
 }
 takes_line r k told.TooLong e h = record {
   ready = first_ready r.dropped (not r.ended) r.waiting k (sym e)
-      ∙ ap (λ es. es ++ ready (past r k)) h;
-  events = λ left. first_line r.dropped (is_cut r left) r.waiting (to_come r left) k (sym e)
+      ∙ ap (λ es. es ++ waiting_whole (past r k)) h;
+  events = λ left. first_line r.dropped (is_over_limit r left) r.waiting (to_come r left) k (sym e)
       ∙ ap (λ es. es ++ events (past r k) left) h;
   whole = λ going seen. first_line r.dropped (not r.ended) r.waiting seen k (sym e)
       ∙ ap (λ es. es ++ whole (past r k) seen) h;
@@ -101,7 +101,7 @@ takes_line r k told.TooLong e h = record {
 }
 
 -- one step after another
-pub after_rest : (old mid : Reader) (t : Told) (new : Reader) → Rests old mid → Takes mid t new
+pub after_rest : (old mid : Reader) (t : Told) (new : Reader) → DropsBlanks old mid → Takes mid t new
     → Takes old t new
 after_rest old mid told.Nothing new r s = record {
   ready = s.ready ∙ r.ready;
@@ -128,7 +128,7 @@ after_rest old mid told.TooLong new r s = record {
   nearer = omega (arith, r.nearer, s.nearer);
 }
 
-pub rests_still : (r : Reader) → Rests r r
+pub rests_still : (r : Reader) → DropsBlanks r r
 rests_still r = record {
   ready = refl;
   events = λ left. refl;
@@ -139,7 +139,7 @@ rests_still r = record {
 }
 
 -- the reader with what waits in a window
-abbrev pub with_window : Held → Dropped → Bool → ℕ → Reader
+abbrev pub with_window : Waiting → Dropped → Bool → ℕ → Reader
 with_window w d ended budget = record {
   line = w.line;
   waiting = w.waiting;
@@ -148,10 +148,10 @@ with_window w d ended budget = record {
   budget = budget;
 }
 
-pub line_taken : (v now : Reader) (w : Held) (k : ℕ) (t : Told) (piece : List ℕ) → v ≡ now
+pub line_taken : (v now : Reader) (w : Waiting) (k : ℕ) (t : Told) (piece : List ℕ) → v ≡ now
     → w ≡ record { line = take k v.waiting; waiting = drop (k + 1) v.waiting }
     → Some k ≡ end_place now.waiting → piece ≡ take k v.waiting
-    → told v.dropped piece ≡ as_events t piece
+    → ending v.dropped piece ≡ as_events t piece
     → Takes now t (with_window w dropped.Nothing v.ended v.budget)
 line_taken v now w k t piece e is place p h =
     subst (λ r. Takes r t (with_window w dropped.Nothing v.ended v.budget)) e
@@ -159,15 +159,15 @@ line_taken v now w k t piece e is place p h =
     (sym (is
     ∙ ap (λ j. record { line = take k v.waiting; waiting = drop j v.waiting }) (add-one k)))
     (takes_line v k t (place ∙ ap (λ r. end_place r.waiting) (sym e))
-    (subst (λ q. told v.dropped q ≡ as_events t q) p h)))
+    (subst (λ q. ending v.dropped q ≡ as_events t q) p h)))
 
-last_piece : (d : Dropped) (w : List ℕ) → end_place w ≡ None → begun d (pieces w) ≡ told d w
+last_piece : (d : Dropped) (w : List ℕ) → end_place w ≡ None → begun d (pieces w) ≡ ending d w
 last_piece d w h =
     let p = pieces_open w [] h in
     ap (λ v. begun d (pieces v)) (sym (append-nil w))
-    ∙ ap (λ f. told d f ++ events_of (more_pieces (w ++ []))) (p.0 ∙ append-nil w)
-    ∙ ap (λ m. told d w ++ events_of m) p.1
-    ∙ append-nil (told d w)
+    ∙ ap (λ f. ending d f ++ events_of (more_pieces (w ++ []))) (p.0 ∙ append-nil w)
+    ∙ ap (λ m. ending d w ++ events_of m) p.1
+    ∙ append-nil (ending d w)
 
 -- the reader after the last line
 abbrev pub at_end : Reader → Reader
@@ -180,26 +180,26 @@ at_end r = record {
 }
 
 last_ready : (r : Reader) → end_place r.waiting ≡ None → r.ended ≡ true
-    → ready r ≡ told r.dropped r.waiting ++ ready (at_end r)
+    → waiting_whole r ≡ ending r.dropped r.waiting ++ waiting_whole (at_end r)
 last_ready r h e =
     ap (λ b. begun r.dropped (ended_pieces (not b) r.waiting)) e ∙ last_piece r.dropped r.waiting h
     ∙ sym (append-nil _)
-    ∙ ap (λ b. told r.dropped r.waiting ++ begun dropped.Nothing (ended_pieces (not b) [])) (sym e)
+    ∙ ap (λ b. ending r.dropped r.waiting ++ begun dropped.Nothing (ended_pieces (not b) [])) (sym e)
 
 last_events : (r : Reader) (left : List ℕ) → end_place r.waiting ≡ None → r.ended ≡ true
-    → events r left ≡ told r.dropped r.waiting ++ events (at_end r) left
+    → events r left ≡ ending r.dropped r.waiting ++ events (at_end r) left
 last_events r left h e =
     ap (λ b. begun r.dropped (ended_pieces (not b && nat_le r.budget (length left))
     (r.waiting ++ (if b then [] else take r.budget left)))) e
     ∙ ap (λ v. begun r.dropped (pieces v)) (append-nil r.waiting)
     ∙ last_piece r.dropped r.waiting h
     ∙ sym (append-nil _)
-    ∙ ap (λ b. told r.dropped r.waiting ++ begun dropped.Nothing
+    ∙ ap (λ b. ending r.dropped r.waiting ++ begun dropped.Nothing
     (ended_pieces (not b && nat_le r.budget (length left))
     ([] ++ (if b then [] else take r.budget left)))) (sym e)
 
 -- what is told of no bytes is nothing, unless some were dropped
-told_none : (d : Dropped) (w : List ℕ) (event : Event) → told d w ≡ event ∷ []
+told_none : (d : Dropped) (w : List ℕ) (event : Event) → ending d w ≡ event ∷ []
     → 1 ≤ length w + is_begun d
 told_none dropped.Nothing [] event h = absurd cc
 told_none dropped.Blanks w event h = omega arith
@@ -207,9 +207,9 @@ told_none dropped.Text w event h = omega arith
 told_none dropped.Nothing (b ∷ w) event h = omega arith
 
 pub takes_last : (r : Reader) (t : Told) → end_place r.waiting ≡ None → r.ended ≡ true
-    → told r.dropped r.waiting ≡ as_events t r.waiting → Takes r t (at_end r)
+    → ending r.dropped r.waiting ≡ as_events t r.waiting → Takes r t (at_end r)
 takes_last r told.Nothing h e is = record {
-  ready = sym (last_ready r h e ∙ ap (λ es. es ++ ready (at_end r)) is);
+  ready = sym (last_ready r h e ∙ ap (λ es. es ++ waiting_whole (at_end r)) is);
   events = λ left. sym (last_events r left h e ∙ ap (λ es. es ++ events (at_end r) left) is);
   whole = λ going seen. absurd (true_not_false (sym e ∙ going));
   ended = refl;
@@ -217,7 +217,7 @@ takes_last r told.Nothing h e is = record {
   nearer = omega arith;
 }
 takes_last r told.Line h e is = record {
-  ready = last_ready r h e ∙ ap (λ es. es ++ ready (at_end r)) is;
+  ready = last_ready r h e ∙ ap (λ es. es ++ waiting_whole (at_end r)) is;
   events = λ left. last_events r left h e ∙ ap (λ es. es ++ events (at_end r) left) is;
   whole = λ going seen. absurd (true_not_false (sym e ∙ going));
   ended = refl;
@@ -225,7 +225,7 @@ takes_last r told.Line h e is = record {
   nearer = omega (arith, told_none r.dropped r.waiting _ is);
 }
 takes_last r told.TooLong h e is = record {
-  ready = last_ready r h e ∙ ap (λ es. es ++ ready (at_end r)) is;
+  ready = last_ready r h e ∙ ap (λ es. es ++ waiting_whole (at_end r)) is;
   events = λ left. last_events r left h e ∙ ap (λ es. es ++ events (at_end r) left) is;
   whole = λ going seen. absurd (true_not_false (sym e ∙ going));
   ended = refl;
@@ -233,10 +233,10 @@ takes_last r told.TooLong h e is = record {
   nearer = omega (arith, told_none r.dropped r.waiting _ is);
 }
 
-pub last_taken : (v now : Reader) (w : Held) (n : ℕ) (t : Told) (piece : List ℕ) → v ≡ now
+pub last_taken : (v now : Reader) (w : Waiting) (n : ℕ) (t : Told) (piece : List ℕ) → v ≡ now
     → w ≡ record { line = take n v.waiting; waiting = drop n v.waiting } → n ≡ length piece
     → end_place now.waiting ≡ None → IsTrue now.ended → piece ≡ v.waiting
-    → told v.dropped piece ≡ as_events t piece
+    → ending v.dropped piece ≡ as_events t piece
     → Takes now t (with_window w dropped.Nothing v.ended v.budget)
 last_taken v now w n t piece e is len none ended p h =
     let m : n ≡ length v.waiting = len ∙ ap length p in
@@ -249,13 +249,13 @@ last_taken v now w n t piece e is len none ended p h =
     subst (λ r. Takes r t (with_window w dropped.Nothing v.ended v.budget)) e
     (subst (λ x. Takes v t (with_window x dropped.Nothing v.ended v.budget)) (sym whole)
     (takes_last v t (ap (λ r. end_place r.waiting) e ∙ none) (ap (λ r. r.ended) e ∙ ended)
-    (subst (λ q. told v.dropped q ≡ as_events t q) p h)))
+    (subst (λ q. ending v.dropped q ≡ as_events t q) p h)))
 
 none_whole : (d : Dropped) (w : List ℕ) → end_place w ≡ None → begun d (but_last (pieces w)) ≡ []
 none_whole d w h = ap (λ v. begun d (but_last (pieces v))) (sym (append-nil w))
     ∙ ap (λ m. begun d (but_last (first_piece (w ++ []) ∷ m))) ((pieces_open w [] h).1)
 
-ready_open : (r : Reader) → end_place r.waiting ≡ None → r.ended ≡ false → ready r ≡ []
+ready_open : (r : Reader) → end_place r.waiting ≡ None → r.ended ≡ false → waiting_whole r ≡ []
 ready_open r h e =
     ap (λ b. begun r.dropped (ended_pieces (not b) r.waiting)) e ∙ none_whole r.dropped r.waiting h
 
@@ -285,7 +285,7 @@ at_limit r h e z = (
 )
 
 pub reads_on : (r : Reader) → end_place r.waiting ≡ None → r.ended ≡ false → 0 < r.budget
-    → ReadsOn r
+    → ReadsMore r
 reads_on r h e z = record { ready = ready_open r h e; going = e; budget = z }
 
 -- what was dropped tells as much as what stood there
@@ -305,13 +305,13 @@ too_long line blank h e =
     ∙ ap (λ t. if t then [] else TooLong ∷ []) e
 
 told_dropped : (d : Dropped) (w x : List ℕ) → (d ≡ dropped.Nothing → most_bytes < length w)
-    → told d (w ++ x) ≡ told (dropped_with d w) x
+    → ending d (w ++ x) ≡ ending (dropped_with d w) x
 told_dropped dropped.Text w x h = refl
 told_dropped dropped.Blanks w x h =
     ap (λ t. if t then [] else TooLong ∷ []) (blank_both w x) ∙ either (is_blank w)
   where
     either : (t : Bool) → (if t && is_blank x then [] else TooLong ∷ [])
-        ≡ told (if t then dropped.Blanks else dropped.Text) x
+        ≡ ending (if t then dropped.Blanks else dropped.Text) x
     either true = refl
     either false = refl
 told_dropped dropped.Nothing w x h =
@@ -320,11 +320,11 @@ told_dropped dropped.Nothing w x h =
     ∙ either (is_blank w)
   where
     either : (t : Bool) → (if t && is_blank x then [] else TooLong ∷ [])
-        ≡ told (if t then dropped.Blanks else dropped.Text) x
+        ≡ ending (if t then dropped.Blanks else dropped.Text) x
     either true = refl
     either false = refl
 
-same_rest : (d e : Dropped) (c : Bool) (p q : List ℕ) (ps : List (List ℕ)) → told d p ≡ told e q
+same_rest : (d e : Dropped) (c : Bool) (p q : List ℕ) (ps : List (List ℕ)) → ending d p ≡ ending e q
     → begun d (if c then but_last (p ∷ ps) else p ∷ ps)
     ≡ begun e (if c then but_last (q ∷ ps) else q ∷ ps)
 same_rest d e false p q ps h = ap (λ es. es ++ events_of ps) h
@@ -359,7 +359,7 @@ begun_or_long dropped.Nothing w h = let n = h refl in omega (arith, n)
 begun_or_long dropped.Blanks w h = omega arith
 begun_or_long dropped.Text w h = omega arith
 
-room : (r : Reader) (w : Held) → w.waiting ≡ [] → end_place r.waiting ≡ None
+room : (r : Reader) (w : Waiting) → w.waiting ≡ [] → end_place r.waiting ≡ None
     → (r.dropped ≡ dropped.Nothing → most_bytes < length r.waiting)
     → HasRoom r (with_window w (dropped_with r.dropped r.waiting) r.ended r.budget)
 room r w e none h =
@@ -367,8 +367,8 @@ room r w e none h =
     record {
       events = λ left.
           ap (λ v. begun (dropped_with r.dropped r.waiting)
-          (ended_pieces (is_cut r left) (v ++ to_come r left))) e
-          ∙ dropped_events r.dropped (is_cut r left) r.waiting (to_come r left) none h;
+          (ended_pieces (is_over_limit r left) (v ++ to_come r left))) e
+          ∙ dropped_events r.dropped (is_over_limit r left) r.waiting (to_come r left) none h;
       whole = λ seen.
           ap (λ v. begun (dropped_with r.dropped r.waiting) (ended_pieces (not r.ended) (v ++ seen))) e
           ∙ dropped_events r.dropped (not r.ended) r.waiting seen none h;
@@ -383,7 +383,7 @@ room r w e none h =
       room = omega (arith, l);
     }
 
-pub room_made : (v now : Reader) (w : Held) (n : ℕ) (d : Dropped) (piece : List ℕ) → v ≡ now
+pub room_made : (v now : Reader) (w : Waiting) (n : ℕ) (d : Dropped) (piece : List ℕ) → v ≡ now
     → n ≡ length piece → piece ≡ v.waiting
     → w ≡ record { line = take 0 v.waiting; waiting = drop n v.waiting }
     → d ≡ dropped_with v.dropped piece → (v.dropped ≡ dropped.Nothing → most_bytes < n)
@@ -472,10 +472,10 @@ going r left e = ap (λ b. begun r.dropped (ended_pieces (not b && nat_le r.budg
     (r.waiting ++ (if b then [] else take r.budget left)))) e
 
 going_cut : (r : Reader) (left : List ℕ) → r.ended ≡ false
-    → is_cut r left ≡ nat_le r.budget (length left)
+    → is_over_limit r left ≡ nat_le r.budget (length left)
 going_cut r left e = ap (λ b. not b && nat_le r.budget (length left)) e
 
-pub took : (now mid v : Reader) (w : Held) (left : List ℕ) (after : Option (List ℕ)) (n : ℕ)
+pub took : (now mid v : Reader) (w : Waiting) (left : List ℕ) (after : Option (List ℕ)) (n : ℕ)
     → HasRoom now mid → v ≡ mid → now.ended ≡ false → 0 < now.budget → n ≤ v.budget
     → Adds left after n v.waiting w.waiting
     → Took now left (with_window w v.dropped (n == 0) (v.budget - n)) after
@@ -492,7 +492,7 @@ took now mid v w left after n room e going_on some h a =
       events = ap (λ i. events new (drop i left)) j
           ∙ events_read v.dropped v.waiting w.waiting left after n v.budget (omega (arith, b, some)) h a
           ∙ sym (going v left ve) ∙ ap (λ r. events r left) e ∙ room.events left;
-      is_cut = ap (λ i. is_cut new (drop i left)) j
+      is_over_limit = ap (λ i. is_over_limit new (drop i left)) j
           ∙ cut_read left v.waiting w.waiting after n v.budget (omega (arith, b, some)) h a
           ∙ ap (λ i. nat_le i (length left)) b ∙ sym (going_cut now left going_on);
       whole = λ going more seen.
@@ -512,7 +512,7 @@ to_end ended = if ended then 0 else 1
 not_end : (k : ℕ) → to_end (suc k == 0) ≡ 1
 not_end k = ap to_end (eqb-suc-zero k)
 
-pub read_nearer : (now mid v : Reader) (w : Held) (n : ℕ) → HasRoom now mid → v ≡ mid
+pub read_nearer : (now mid v : Reader) (w : Waiting) (n : ℕ) → HasRoom now mid → v ≡ mid
     → now.ended ≡ false → length w.waiting ≡ length v.waiting + n → n ≤ v.budget
     → steps (with_window w v.dropped (n == 0) (v.budget - n)) < steps now
 read_nearer now mid v w n room e going_on len h =
@@ -530,7 +530,7 @@ read_nearer now mid v w n room e going_on len h =
     either (suc k) len h s e m =
         omega (arith, len, h, s, e, m, not_end k)
 
-pub failed_nearer : (now mid v : Reader) (w : Held) → HasRoom now mid → v ≡ mid
+pub failed_nearer : (now mid v : Reader) (w : Waiting) → HasRoom now mid → v ≡ mid
     → w.waiting ≡ v.waiting → steps (with_window w v.dropped v.ended v.budget) ≤ steps now
 failed_nearer now mid v w room e same =
     let s : steps v ≡ steps mid = ap steps e in
@@ -539,7 +539,7 @@ failed_nearer now mid v w room e same =
 
 -- what is said of a reader whose blank lines are gone is said of the one before
 pub leaves_after : (old mid : Reader) (left : List ℕ) (answer : Next) (new : Reader)
-    (after : Option (List ℕ)) → Rests old mid → Leaves mid left answer new after
+    (after : Option (List ℕ)) → DropsBlanks old mid → Leaves mid left answer new after
     → Leaves old left answer new after
 leaves_after old mid left next.Line new after r t = t
 leaves_after old mid left next.TooLong new after r t = t
@@ -548,12 +548,12 @@ leaves_after old mid left next.InputTooLong new after r t = t
 leaves_after old mid left next.Failed new after r t = record {
   rest = t.rest;
   events = t.events ∙ r.events left;
-  is_cut = t.is_cut ∙ same_cut old mid left r;
+  is_over_limit = t.is_over_limit ∙ same_cut old mid left r;
   whole = λ going seen. t.whole (r.ended ∙ going) seen ∙ r.whole going seen;
 }
   where
-    same_cut : (old mid : Reader) (left : List ℕ) → Rests old mid
-        → is_cut mid left ≡ is_cut old left
+    same_cut : (old mid : Reader) (left : List ℕ) → DropsBlanks old mid
+        → is_over_limit mid left ≡ is_over_limit old left
     same_cut old mid left r = ap (λ e. not e && nat_le mid.budget (length left)) r.ended
         ∙ ap (λ b. not old.ended && nat_le b (length left)) r.budget
 leaves_after old mid left next.Read new after r t =
@@ -566,7 +566,7 @@ leaves_after old mid left next.Read new after r t =
       within = omega (arith, b, k);
       rest = t.rest ∙ ap (λ i. Some (drop i left)) j;
       events = ap (λ i. events new (drop i left)) (sym j) ∙ t.events ∙ r.events left;
-      is_cut = ap (λ i. is_cut new (drop i left)) (sym j) ∙ t.is_cut
+      is_over_limit = ap (λ i. is_over_limit new (drop i left)) (sym j) ∙ t.is_over_limit
           ∙ ap (λ e. not e && nat_le mid.budget (length left)) r.ended
           ∙ ap (λ b. not old.ended && nat_le b (length left)) r.budget;
       whole = λ going more seen. t.whole (r.ended ∙ going) more seen

@@ -6,7 +6,7 @@ use Rattle.std.proofs.Math.Seq.{take-length, take-append-add}
 use Rattle.r53_io.specs.declared.streams.Got.{Got}
 use Rattle.r53_io.specs.declared.streams.Got.TheVariants.{Bytes, Failed}
 use Rattle.r53_io.specs.Streams.{ReadGives, IsWithin}
-use Rattle.line_splitting.specs.Waiting.{Held, TakesIn, Adds, AddsIn}
+use Rattle.line_splitting.specs.Waiting.{Waiting, TakesIn, Adds, AddsIn}
 
 -- the length of what stands between two places
 pub length_between : (s e : ℕ) (xs : List ℕ) → e ≤ length xs → length (drop s (take e xs)) ≡ e - s
@@ -58,9 +58,9 @@ grown left waiting moved buffer rest after n at len e h k a = record {
 }
 
 -- what a line and a rest that are passed leave
-pub passed : (w : Held) (buffer : List ℕ) (s e line gone : ℕ) → drop s (take e buffer) ≡ w.waiting
+pub passed : (w : Waiting) (buffer : List ℕ) (s e line gone : ℕ) → drop s (take e buffer) ≡ w.waiting
     → s ≤ e → e ≤ length buffer → line ≤ length w.waiting
-    → ◌≡◌ {A = Held} (record { line = take line (drop s buffer); waiting = drop (s + gone) (take e buffer) })
+    → ◌≡◌ {A = Waiting} (record { line = take line (drop s buffer); waiting = drop (s + gone) (take e buffer) })
     (record { line = take line w.waiting; waiting = drop gone w.waiting })
 passed w buffer s e line gone is h k m =
     let a : take line (drop s buffer) ≡ take line w.waiting =

@@ -30,31 +30,31 @@ fresh = record {
 
 -- What comes of a line that ends behind this piece. Of a line that is too long, or blank so far,
 -- what stood before it is dropped.
-abbrev pub told : Dropped → List ℕ → List Event
-told dropped.Nothing line = events_of_line line
-told dropped.Blanks piece = if is_blank piece then [] else TooLong ∷ []
-told dropped.Text piece = TooLong ∷ []
+abbrev pub ending : Dropped → List ℕ → List Event
+ending dropped.Nothing line = events_of_line line
+ending dropped.Blanks piece = if is_blank piece then [] else TooLong ∷ []
+ending dropped.Text piece = TooLong ∷ []
 
 -- the same of lines of which the first is begun
 abbrev pub begun : Dropped → List (List ℕ) → List Event
 begun before [] = []
-begun before (piece ∷ more) = told before piece ++ events_of more
+begun before (piece ∷ more) = ending before piece ++ events_of more
 
 -- what the reader takes of what its source has left
 abbrev pub to_come : Reader → (left : List ℕ) → List ℕ
 to_come r left = if r.ended then [] else take r.budget left
 
 -- whether that is not all
-abbrev pub is_cut : Reader → (left : List ℕ) → Bool
-is_cut r left = not r.ended && nat_le r.budget (length left)
+abbrev pub is_over_limit : Reader → (left : List ℕ) → Bool
+is_over_limit r left = not r.ended && nat_le r.budget (length left)
 
 -- the lines to come, where the source has these bytes left
 abbrev pub events : Reader → (left : List ℕ) → List Event
-events r left = begun r.dropped (ended_pieces (is_cut r left) (r.waiting ++ to_come r left))
+events r left = begun r.dropped (ended_pieces (is_over_limit r left) (r.waiting ++ to_come r left))
 
 -- the lines that wait whole
-abbrev pub ready : Reader → List Event
-ready r = begun r.dropped (ended_pieces (not r.ended) r.waiting)
+abbrev pub waiting_whole : Reader → List Event
+waiting_whole r = begun r.dropped (ended_pieces (not r.ended) r.waiting)
 
 -- the lines that would wait whole, where these bytes stood behind those that wait
 abbrev pub whole : Reader → (seen : List ℕ) → List Event
@@ -70,8 +70,8 @@ abbrev pub steps : Reader → ℕ
 steps r = 2 * r.budget + length r.waiting + is_begun r.dropped + (if r.ended then 0 else 1)
 
 -- The first line that waits is given, and the others are to come.
-pub record Gives (old : Reader) (event : Event) (new : Reader) : Type 0 where
-  pub ready : ready old ≡ event ∷ ready new
+pub record GivesLine (old : Reader) (event : Event) (new : Reader) : Type 0 where
+  pub ready : waiting_whole old ≡ event ∷ waiting_whole new
   pub events : (left : List ℕ) → events old left ≡ event ∷ events new left
   pub whole : old.ended ≡ false → (seen : List ℕ) → whole old seen ≡ event ∷ whole new seen
   pub ended : new.ended ≡ old.ended
@@ -80,26 +80,26 @@ pub record Gives (old : Reader) (event : Event) (new : Reader) : Type 0 where
 
 -- No line waits, and none is to come: the source has ended, or its limit is reached.
 pub record IsOver (old new : Reader) : Type 0 where
-  pub none_ready : ready old ≡ []
+  pub none_ready : waiting_whole old ≡ []
   pub none_left : (left : List ℕ) → events old left ≡ []
   pub none_after : (left : List ℕ) → events new left ≡ []
   pub ended : new.ended ≡ old.ended
   pub budget : new.budget ≡ old.budget
 
 -- No line waits, and the source is read.
-pub record ReadsOn (old : Reader) : Type 0 where
-  pub ready : ready old ≡ []
+pub record ReadsMore (old : Reader) : Type 0 where
+  pub ready : waiting_whole old ≡ []
   pub going : old.ended ≡ false
   pub budget : 0 < old.budget
 
 -- what an answer says of the reader, before and after
-abbrev pub Answers : (old : Reader) → Next → (new : Reader) → Type 0
-Answers old next.Line new = Gives old (Line new.line) new
-Answers old next.TooLong new = Gives old TooLong new
-Answers old next.Ended new = IsOver old new × (old.ended ≡ true)
-Answers old next.InputTooLong new = IsOver old new × (old.ended ≡ false) × (old.budget ≡ 0)
-Answers old next.Read new = ReadsOn old × (steps new < steps old)
-Answers old next.Failed new = ReadsOn old × (steps new ≤ steps old)
+abbrev pub HasOutcome : (old : Reader) → Next → (new : Reader) → Type 0
+HasOutcome old next.Line new = GivesLine old (Line new.line) new
+HasOutcome old next.TooLong new = GivesLine old TooLong new
+HasOutcome old next.Ended new = IsOver old new × (old.ended ≡ true)
+HasOutcome old next.InputTooLong new = IsOver old new × (old.ended ≡ false) × (old.budget ≡ 0)
+HasOutcome old next.Read new = ReadsMore old × (steps new < steps old)
+HasOutcome old next.Failed new = ReadsMore old × (steps new ≤ steps old)
 
 -- A read took the first of the bytes that were left, and none where none was left. What is to
 -- come is what was to come; and the bytes that it took stand behind those that waited.
@@ -109,7 +109,7 @@ pub record Took (old : Reader) (left : List ℕ) (new : Reader) (after : Option 
   pub within : old.budget - new.budget ≤ length left
   pub rest : after ≡ Some (drop (old.budget - new.budget) left)
   pub events : events new (drop (old.budget - new.budget) left) ≡ events old left
-  pub is_cut : is_cut new (drop (old.budget - new.budget) left) ≡ is_cut old left
+  pub is_over_limit : is_over_limit new (drop (old.budget - new.budget) left) ≡ is_over_limit old left
   pub whole : old.ended ≡ false → new.ended ≡ false → (seen : List ℕ)
       → whole new seen ≡ whole old (take (old.budget - new.budget) left ++ seen)
   pub end : IsTrue new.ended ↔ (left ≡ [])
@@ -119,7 +119,7 @@ pub record TookNothing (old : Reader) (left : List ℕ) (new : Reader) (after : 
     : Type 0 where
   pub rest : after ≡ Some left
   pub events : events new left ≡ events old left
-  pub is_cut : is_cut new left ≡ is_cut old left
+  pub is_over_limit : is_over_limit new left ≡ is_over_limit old left
   pub whole : old.ended ≡ false → (seen : List ℕ) → whole new seen ≡ whole old seen
 
 -- what an answer says of the bytes that the source had left, and has left after it
@@ -145,7 +145,7 @@ IfStill next.InputTooLong P = P
 -- them.
 abbrev pub FreshReader : Type 0
 FreshReader = (input : List ℕ) → (events fresh input ≡ input_lines input)
-    × (is_cut fresh input ≡ is_too_long input)
+    × (is_over_limit fresh input ≡ is_too_long input)
     × (whole fresh input ≡ events_of (but_last (pieces input)))
 
 -- The answer by what waits. Whether a read fails is the source's.
@@ -154,8 +154,8 @@ first_of (Line line ∷ more) other = next.Line
 first_of (TooLong ∷ more) other = next.TooLong
 first_of [] other = other
 
-abbrev pub turn_of : Reader → Next
-turn_of r = first_of (ready r)
+abbrev pub round_of : Reader → Next
+round_of r = first_of (waiting_whole r)
     (if r.ended then next.Ended else if r.budget == 0 then next.InputTooLong else next.Read)
 
 abbrev pub as_read : Next → Next
@@ -167,6 +167,6 @@ as_read next.Ended = next.Ended
 as_read next.InputTooLong = next.InputTooLong
 
 -- What waits determines the answer.
-abbrev pub OneAnswer : Type 0
-OneAnswer = (old new : Reader) (answer : Next) → Answers old answer new
-    → as_read answer ≡ turn_of old
+abbrev pub OneOutcome : Type 0
+OneOutcome = (old new : Reader) (answer : Next) → HasOutcome old answer new
+    → as_read answer ≡ round_of old

@@ -4,7 +4,7 @@ use Rattle.r53_io.specs.declared.streams.Got.{Got}
 use Rattle.r53_io.specs.declared.streams.Got.TheVariants.{Bytes, Failed}
 
 -- a line that was given, and the bytes that wait
-pub record Held : Type 0 where
+pub record Waiting : Type 0 where
   pub line : List ℕ
   pub waiting : List ℕ
 

@@ -3,7 +3,7 @@
 ghost use Rattle.std.specs.Prelude.{◌≡◌, ◌≤◌, ◌<◌, ℕ, length, take, IfSome, None};
 ghost use Rattle.std.specs.Bool.{OnTrue, OnFalse};
 ghost use Rattle.line_splitting.specs.Lines.{is_blank, is_blank_byte};
-ghost use Rattle.line_splitting.specs.Reading.{told};
+ghost use Rattle.line_splitting.specs.Reading.{ending};
 ghost use Rattle.line_splitting.specs.Judging.{end_place, as_events, dropped_with};
 
 use memchr::memchr;
@@ -36,7 +36,7 @@ pub(crate) enum Told {
 
 /// What comes of a line that ends with this piece.
 pub(crate) fn judge(before: Dropped, piece: &[u8]) -> Told
-    ensures { told before piece.now ≡ as_events result piece.now }
+    ensures { ending before piece.now ≡ as_events result piece.now }
 {
     match before {
         Dropped::Text => Told::TooLong,
@@ -51,7 +51,7 @@ pub(crate) fn judge(before: Dropped, piece: &[u8]) -> Told
 
 /// What comes of a whole line.
 fn judge_whole(line: &[u8]) -> Told
-    ensures { told Dropped.Nothing line.now ≡ as_events result line.now }
+    ensures { ending Dropped.Nothing line.now ≡ as_events result line.now }
 {
     if is_blank(line) {
         return Told::Nothing;

@@ -11,5 +11,5 @@ mod reader;
 mod window;
 
 pub use judging::Dropped;
-pub use laws::{fresh_reader, one_answer};
+pub use laws::{fresh_reader, one_outcome};
 pub use reader::{LineReader, Next};

@@ -3,9 +3,9 @@
 ghost use Rattle.std.specs.Prelude.{◌≡◌, ◌≤◌, ℕ, List, [], Some, None, length, take, drop, IfOk};
 ghost use Rattle.std.specs.Prelude.{◌+◌, ◌<◌, IfSome, IsTrue};
 ghost use Rattle.octets.specs.Counts.{Rose};
-ghost use Rattle.line_splitting.specs.Reading.{Reader, fresh, Answers, Leaves, IfStill};
+ghost use Rattle.line_splitting.specs.Reading.{Reader, fresh, HasOutcome, Leaves, IfStill};
 ghost use Rattle.line_splitting.specs.Judging.{end_place};
-ghost use Rattle.line_splitting.specs.Steps.{Takes, IfNothing, IsOpen, HasRoom};
+ghost use Rattle.line_splitting.specs.Steps.{Takes, IfNothing, IsUnended, HasRoom};
 
 use crate::judging::{Dropped, Told, drop_piece, drops, end_place, judge};
 use crate::window::Window;
@@ -90,7 +90,7 @@ impl LineReader {
     /// The last line may lack its 0x0A: it is whole once the source was seen to end.
     pub fn next<S: Source>(&mut self, source: &mut S) -> Next
         // Which answer comes, by what waits.
-        ensures answers { Answers self.old result self.new }
+        ensures answers { HasOutcome self.old result self.new }
 
         // The source is read only where no line waits, and what it gives is still to come.
         ensures still { IfStill result (source.new ≡ source.old) }
@@ -111,7 +111,7 @@ impl LineReader {
     /// Gives the first line that waits whole and is not blank.
     fn take_ready(&mut self) -> Told
         ensures takes { Takes self.old result self.new }
-        ensures open { IfNothing result (IsOpen self.new) }
+        ensures open { IfNothing result (IsUnended self.new) }
     {
         match self.take_whole() {
             Told::Line => Told::Line,
@@ -174,7 +174,7 @@ impl LineReader {
         requires no_end { end_place self.old.waiting ≡ None }
         requires ended { IsTrue self.old.ended }
         ensures takes { Takes self.old result self.new }
-        ensures open { IfNothing result (IsOpen self.new) }
+        ensures open { IfNothing result (IsUnended self.new) }
     {
         let waiting = self.window.waiting();
         let told = judge(self.dropped, waiting);
@@ -187,8 +187,8 @@ impl LineReader {
 
     /// Reads once, where the source has not ended and the limit is not reached.
     fn read_on<S: Source>(&mut self, source: &mut S) -> Next
-        requires { IsOpen self.old }
-        ensures answers { Answers self.old result self.new }
+        requires { IsUnended self.old }
+        ensures answers { HasOutcome self.old result self.new }
         ensures still { IfStill result (source.new ≡ source.old) }
         ensures leaves { (left : List ℕ) → S.left source.old ≡ Some left
             → Leaves self.old left result self.new (S.left source.new) }

@@ -3,7 +3,7 @@
 ghost use Rattle.std.specs.Prelude.{◌≡◌, ◌≤◌, ◌<◌, ◌+◌, ◌-◌, ℕ, List, [], Some, length, take, drop};
 ghost use Rattle.std.specs.Prelude.{IfOk};
 ghost use Rattle.octets.specs.Counts.{Rose};
-ghost use Rattle.line_splitting.specs.Waiting.{Held, Grows, Takes, GrowsIn, TakesIn};
+ghost use Rattle.line_splitting.specs.Waiting.{Waiting, Grows, Takes, GrowsIn, TakesIn};
 
 use octets::{OutOfMemory, zeros};
 use r53_io::{Got, Source};
@@ -25,9 +25,9 @@ pub(crate) struct Window {
 
 impl Model for Window {
     ghost use Rattle.std.specs.Prelude.{◌≡◌, ◌≤◌, ◌+◌, length, take, drop};
-    ghost use Rattle.line_splitting.specs.Waiting.{Held};
+    ghost use Rattle.line_splitting.specs.Waiting.{Waiting};
 
-    ghost Value = { Held };
+    ghost Value = { Waiting };
 
     ghost view = { λ w. record {
       line = take w.line_len (drop w.line_start w.buffer.items);

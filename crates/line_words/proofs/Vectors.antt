@@ -6,42 +6,42 @@ use Rattle.routing.specs.declared.policies.Continent.TheVariants.{Oc}
 use Rattle.line_reading.specs.Reading.{bad, unsupported}
 use Rattle.line_faults.specs.declared.member.Member.TheVariants as m
 use Rattle.line_faults.specs.declared.fault.LineReason.TheVariants.{OutOfRange}
-use Rattle.line_words.specs.Words.{ident_of, region_of, subdivision_of, location_of, continent_of, role_of, type_of, type_named}
+use Rattle.line_words.specs.Words.{ident_of_text, region_of_text, subdivision_of_text, location_of_text, continent_of_text, role_of_text, type_of, type_named}
 
-pub identifier : ident_of (codes "us east, 1") ≡ Some (codes "us east, 1")
+pub identifier : ident_of_text (codes "us east, 1") ≡ Some (codes "us east, 1")
 identifier = refl
 
-pub no_identifier : ident_of [] ≡ None
+pub no_identifier : ident_of_text [] ≡ None
 no_identifier = refl
 
-pub region : region_of (codes "ap-southeast-2") ≡ Some (codes "ap-southeast-2")
+pub region : region_of_text (codes "ap-southeast-2") ≡ Some (codes "ap-southeast-2")
 region = refl
 
-pub capital_region : region_of (codes "US-east-1") ≡ None
+pub capital_region : region_of_text (codes "US-east-1") ≡ None
 capital_region = refl
 
-pub subdivision : subdivision_of (codes "NSW") ≡ Some (codes "NSW")
+pub subdivision : subdivision_of_text (codes "NSW") ≡ Some (codes "NSW")
 subdivision = refl
 
-pub long_subdivision : subdivision_of (codes "NSW1") ≡ None
+pub long_subdivision : subdivision_of_text (codes "NSW1") ≡ None
 long_subdivision = refl
 
-pub any_location : location_of (codes "*") ≡ Some (codes "*")
+pub any_location : location_of_text (codes "*") ≡ Some (codes "*")
 any_location = refl
 
-pub location : location_of (codes "Office_2-b") ≡ Some (codes "Office_2-b")
+pub location : location_of_text (codes "Office_2-b") ≡ Some (codes "Office_2-b")
 location = refl
 
-pub long_location : location_of (codes "abcdefghijklmnopq") ≡ None
+pub long_location : location_of_text (codes "abcdefghijklmnopq") ≡ None
 long_location = refl
 
-pub two_stars : location_of (codes "**") ≡ None
+pub two_stars : location_of_text (codes "**") ≡ None
 two_stars = refl
 
-pub oceania : continent_of (codes "OC") ≡ Some Oc
+pub oceania : continent_of_text (codes "OC") ≡ Some Oc
 oceania = refl
 
-pub lower_role : role_of (codes "primary") ≡ None
+pub lower_role : role_of_text (codes "primary") ≡ None
 lower_role = refl
 
 pub quad_a : type_of m.«Type» (codes "AAAA") ≡ Ok Aaaa

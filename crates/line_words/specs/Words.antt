@@ -25,23 +25,23 @@ plain is_plain most s =
     if (nat_le 1 (length s) && nat_le (length s) most) && list_all is_plain s then Some s else None
 
 -- a set identifier: 1 to 128 bytes of printable ASCII
-abbrev pub ident_of : List ℕ → Option (List ℕ)
-ident_of = plain is_printable 128
+abbrev pub ident_of_text : List ℕ → Option (List ℕ)
+ident_of_text = plain is_printable 128
 
 -- the name of a region: 1 to 32 of a to z, 0 to 9 and the hyphen
-abbrev pub region_of : List ℕ → Option (List ℕ)
-region_of = plain is_region_byte 32
+abbrev pub region_of_text : List ℕ → Option (List ℕ)
+region_of_text = plain is_region_byte 32
 
 -- the code of a subdivision: 1 to 3 of A to Z and 0 to 9
-abbrev pub subdivision_of : List ℕ → Option (List ℕ)
-subdivision_of = plain is_subdivision_byte 3
+abbrev pub subdivision_of_text : List ℕ → Option (List ℕ)
+subdivision_of_text = plain is_subdivision_byte 3
 
 -- the location that a set names: 1 to 16 of letters, digits, `_` and `-`; or `*`
 abbrev pub is_location : List ℕ → Bool
 is_location s = bytes_eq s (codes "*") || is_some (plain is_location_byte 16 s)
 
-abbrev pub location_of : List ℕ → Option (List ℕ)
-location_of s = if is_location s then ident_of s else None
+abbrev pub location_of_text : List ℕ → Option (List ℕ)
+location_of_text s = if is_location s then ident_of_text s else None
 
 -- the types of records
 abbrev pub types : List RType
@@ -79,11 +79,11 @@ abbrev pub continents : List Continent
 continents = continent.Af ∷ continent.An ∷ continent.As ∷ continent.Eu ∷ continent.Na
     ∷ continent.Oc ∷ continent.Sa ∷ []
 
-abbrev pub continent_of : List ℕ → Option Continent
-continent_of = named code_of continents
+abbrev pub continent_of_text : List ℕ → Option Continent
+continent_of_text = named code_of continents
 
 -- the parts of failover sets
-abbrev pub role_of : List ℕ → Option Role
-role_of s = if bytes_eq s (codes "PRIMARY") then Some role.Primary
+abbrev pub role_of_text : List ℕ → Option Role
+role_of_text s = if bytes_eq s (codes "PRIMARY") then Some role.Primary
     else if bytes_eq s (codes "SECONDARY") then Some role.Secondary
     else None

@@ -7,5 +7,6 @@
 mod words;
 
 pub use words::{
-    continent_of, ident_of, location_of, record_type, region_of, role_of, subdivision_of,
+    continent_of_text, ident_of_text, location_of_text, record_type, region_of_text, role_of_text,
+    subdivision_of_text,
 };

@@ -2,11 +2,11 @@
 
 ghost use Rattle.std.specs.Prelude.{◌≡◌, is_some};
 ghost use Rattle.serde_json.specs.View.{view};
-ghost use Rattle.line_words.specs.Words.{ident_of, region_of, subdivision_of, location_of, role_of};
+ghost use Rattle.line_words.specs.Words.{ident_of_text, region_of_text, subdivision_of_text, location_of_text, role_of_text};
 ghost use Rattle.line_words.specs.Words.{is_location, plain};
 ghost use Rattle.routing.specs.Texts.{is_location_byte};
 ghost use Rattle.line_words.specs.Words.{type_named, is_unsupported, type_of, record_type};
-ghost use Rattle.line_words.specs.Words.{continent_of};
+ghost use Rattle.line_words.specs.Words.{continent_of_text};
 
 use line_reading::{LineFault, LineReason, Member};
 use rdata_layout::RType;
@@ -15,34 +15,34 @@ use serde_json::Value;
 
 /// The identifier of a set.
 #[tactic(auto, using(crate::proofs::Plain::decided))]
-pub fn ident_of(text: &str) -> Option<Ident>
-    ensures { result ≡ ident_of text.now }
+pub fn ident_of_text(text: &str) -> Option<Ident>
+    ensures { result ≡ ident_of_text text.now }
 {
     Ident::new(text.as_bytes())
 }
 
 /// The name of a region.
 #[tactic(auto, using(crate::proofs::Plain::decided))]
-pub fn region_of(text: &str) -> Option<Region>
-    ensures { result ≡ region_of text.now }
+pub fn region_of_text(text: &str) -> Option<Region>
+    ensures { result ≡ region_of_text text.now }
 {
     Region::new(text.as_bytes())
 }
 
 /// The code of a subdivision.
 #[tactic(auto, using(crate::proofs::Plain::decided))]
-pub fn subdivision_of(text: &str) -> Option<Sub>
-    ensures { result ≡ subdivision_of text.now }
+pub fn subdivision_of_text(text: &str) -> Option<Sub>
+    ensures { result ≡ subdivision_of_text text.now }
 {
     Sub::new(text.as_bytes())
 }
 
 /// The location of a collection that a set names, or `*`.
-pub fn location_of(text: &str) -> Option<Ident>
-    ensures { result ≡ location_of text.now }
+pub fn location_of_text(text: &str) -> Option<Ident>
+    ensures { result ≡ location_of_text text.now }
 {
     if is_location(text) {
-        ident_of(text)
+        ident_of_text(text)
     } else {
         None
     }
@@ -63,8 +63,8 @@ fn is_location_name(text: &[u8]) -> bool
 }
 
 /// The continent of a code.
-pub fn continent_of(text: &str) -> Option<Continent>
-    ensures { result ≡ continent_of text.now }
+pub fn continent_of_text(text: &str) -> Option<Continent>
+    ensures { result ≡ continent_of_text text.now }
 {
     match text {
         "AF" => Some(Continent::Af),
@@ -79,8 +79,8 @@ pub fn continent_of(text: &str) -> Option<Continent>
 }
 
 /// The part of a failover set.
-pub fn role_of(text: &str) -> Option<Role>
-    ensures { result ≡ role_of text.now }
+pub fn role_of_text(text: &str) -> Option<Role>
+    ensures { result ≡ role_of_text text.now }
 {
     match text {
         "PRIMARY" => Some(Role::Primary),

@@ -9,7 +9,7 @@ use Rattle.std.proofs.lemmas.Option.{slice_get_past}
 use Rattle.std.proofs.Math.Seq.{take-length}
 use Rattle.set_sending.specs.Laws.{ListsAreWhole}
 use Rattle.set_sending.specs.PiecesOfListWriting.{list_front, list_rest, sets_pieces}
-use Rattle.page_laws.specs.Laws.{IsAsked, IsPlace, StartsArePlaces, place_of}
+use Rattle.page_laws.specs.Laws.{IsAsked, IsPlace, StartsArePlaces, start_key}
 use Rattle.rdata_layout.specs.declared.types.RType.{RType}
 use Rattle.record_set.specs.Sets.{key_of}
 use Rattle.record_set.specs.declared.sets.RecordSet.{RecordSet}
@@ -20,7 +20,7 @@ use Rattle.set_octets.specs.Octets.{AreOfType}
 use Rattle.set_search.specs.Found.{IsCount}
 use Rattle.set_search.specs.declared.bounds.Bound.TheVariants.{From}
 use Rattle.config_zones.specs.Zones.{AreZones, Zone}
-use Rattle.zone_model.specs.Placed.{Placed, sets_of}
+use Rattle.zone_model.specs.Slotted.{Slotted, sets_of}
 use Rattle.zone_model.specs.Zones.{IsAmong}
 use Rattle.config_zones.proofs.Holding.{kept_in}
 use Rattle.list_sending.specs.Pages.{IsFirst, IsPage, sets_in}
@@ -51,7 +51,7 @@ key_with name ident rtype = record { name = name; rtype = rtype; ident = ident }
 
 module _ (law : StartsArePlaces) (start : Start) (sets : List RecordSet) (asked : IsAsked start) where
   pub first_by_key : (name : List (List ℕ)) (key : SetKey) (n : ℕ) → start.name ≡ Some name
-      → key ≡ place_of name start → IsCount sets (From key) n → IsFirst start sets n
+      → key ≡ start_key name start → IsCount sets (From key) n → IsFirst start sets n
   first_by_key name key n is same count = record {
     within = count.within;
     rest = rest_behind (is_before start) sets n
@@ -119,7 +119,7 @@ all_dropped P (set ∷ sets) (suc n) all = all_dropped P sets n all.1
 abbrev HasType : RecordSet → Type 0
 HasType set = AreOfType set.rtype set.body
 
-each_has : (placed : List Placed) → ((p : Placed) → IsAmong placed p → HasType p.set)
+each_has : (placed : List Slotted) → ((p : Slotted) → IsAmong placed p → HasType p.set)
     → AllByRecursion HasType (sets_of placed)
 each_has [] has = tt
 each_has (p ∷ placed) has = (has p (inl refl), each_has placed (λ q there. has q (inr there)))

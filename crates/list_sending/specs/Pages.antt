@@ -4,7 +4,7 @@ use Rattle.record_set.specs.declared.sets.RecordSet.{RecordSet}
 use Rattle.page_laws.specs.Paging.{Start, from_start, next_of, page}
 use Rattle.zone_lines.specs.declared.lists.ListOfSets.{ListOfSets}
 use Rattle.config_zones.specs.Zones.{Zone, placed_in}
-use Rattle.zone_model.specs.Placed.{sets_of}
+use Rattle.zone_model.specs.Slotted.{sets_of}
 
 -- where a list starts
 abbrev pub start_of : ListOfSets → Start

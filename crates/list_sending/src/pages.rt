@@ -11,7 +11,7 @@ ghost use Rattle.page_laws.specs.Paging.{page_reply};
 ghost use Rattle.whole_writing.specs.Output.{OutputOf};
 ghost use Rattle.config_zones.specs.Zones.{placed_in};
 ghost use Rattle.list_sending.specs.Pages.{sets_in, start_of};
-ghost use Rattle.set_sending.specs.Passing.{IsPassed, Passes};
+ghost use Rattle.set_sending.specs.Passing.{IsPassed, PassesOn};
 
 use crate::places::{key_at, page_of};
 use config_zones::{Zones, hold_at};
@@ -65,7 +65,7 @@ fn send_sets<K: Sink>(
 ) -> Output
     requires within { end ≤ length (placed_in zones.now.zones zone) }
     requires room { ROOM ≤ vec_capacity text.old }
-    ensures passes { Passes (K.held out.old) text.old.items (K.held out.new) text.new.items result
+    ensures passes { PassesOn (K.held out.old) text.old.items (K.held out.new) text.new.items result
         (sets_pieces false zone (drop first (take end (sets_in zones.now.zones zone)))) }
     ensures capacity { vec_capacity text.old ≤ vec_capacity text.new }
     ensures counts { K.faults out.old ≤ K.faults out.new }
@@ -96,7 +96,7 @@ fn send_at<K: Sink>(
     requires within { place < length (placed_in zones.now.zones zone) }
     requires room { ROOM ≤ vec_capacity text.old }
     ensures passes { (set : RecordSet) → slice_get (sets_in zones.now.zones zone) place ≡ Some set
-        → Passes (K.held out.old) text.old.items (K.held out.new) text.new.items result
+        → PassesOn (K.held out.old) text.old.items (K.held out.new) text.new.items result
         (set_pieces later zone set) }
     ensures capacity { vec_capacity text.old ≤ vec_capacity text.new }
     ensures counts { K.faults out.old ≤ K.faults out.new }

@@ -72,10 +72,10 @@ is_members zone name rtype (routing.Weighted ident weight) (body.Values ttl valu
 is_members zone name rtype (routing.Weighted ident weight) (body.Values ttl values) (Some check) = refl
 is_members zone name rtype (routing.Weighted ident weight) (body.Alias target evaluate) None = refl
 is_members zone name rtype (routing.Weighted ident weight) (body.Alias target evaluate) (Some check) = refl
-is_members zone name rtype (routing.Failover ident part) (body.Values ttl values) None = refl
-is_members zone name rtype (routing.Failover ident part) (body.Values ttl values) (Some check) = refl
-is_members zone name rtype (routing.Failover ident part) (body.Alias target evaluate) None = refl
-is_members zone name rtype (routing.Failover ident part) (body.Alias target evaluate) (Some check) = refl
+is_members zone name rtype (routing.Failover ident role) (body.Values ttl values) None = refl
+is_members zone name rtype (routing.Failover ident role) (body.Values ttl values) (Some check) = refl
+is_members zone name rtype (routing.Failover ident role) (body.Alias target evaluate) None = refl
+is_members zone name rtype (routing.Failover ident role) (body.Alias target evaluate) (Some check) = refl
 is_members zone name rtype (routing.Geolocation ident where_to) (body.Values ttl values) None = refl
 is_members zone name rtype (routing.Geolocation ident where_to) (body.Values ttl values) (Some check) = refl
 is_members zone name rtype (routing.Geolocation ident where_to) (body.Alias target evaluate) None = refl

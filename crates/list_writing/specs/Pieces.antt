@@ -61,7 +61,7 @@ cidr_object collection location = object_of (field m.CollectionId (collection_te
 abbrev pub cidr_data : Routing → Option Data
 cidr_data routing.Simple = None
 cidr_data (routing.Weighted ident weight) = None
-cidr_data (routing.Failover ident part) = None
+cidr_data (routing.Failover ident role) = None
 cidr_data (routing.Geolocation ident where_to) = None
 cidr_data (routing.Latency ident region) = None
 cidr_data (routing.Multivalue ident) = None
@@ -70,7 +70,7 @@ cidr_data (routing.Cidr ident collection location) = Some (cidr_object collectio
 abbrev pub failover_data : Routing → Option Data
 failover_data routing.Simple = None
 failover_data (routing.Weighted ident weight) = None
-failover_data (routing.Failover ident part) = Some (string (role_text part))
+failover_data (routing.Failover ident role) = Some (string (role_text role))
 failover_data (routing.Geolocation ident where_to) = None
 failover_data (routing.Latency ident region) = None
 failover_data (routing.Multivalue ident) = None
@@ -79,7 +79,7 @@ failover_data (routing.Cidr ident collection location) = None
 abbrev pub place_data : Routing → Option Data
 place_data routing.Simple = None
 place_data (routing.Weighted ident weight) = None
-place_data (routing.Failover ident part) = None
+place_data (routing.Failover ident role) = None
 place_data (routing.Geolocation ident where_to) = Some (object_of (place_fields where_to))
 place_data (routing.Latency ident region) = None
 place_data (routing.Multivalue ident) = None
@@ -88,7 +88,7 @@ place_data (routing.Cidr ident collection location) = None
 abbrev pub multivalue_data : Routing → Option Data
 multivalue_data routing.Simple = None
 multivalue_data (routing.Weighted ident weight) = None
-multivalue_data (routing.Failover ident part) = None
+multivalue_data (routing.Failover ident role) = None
 multivalue_data (routing.Geolocation ident where_to) = None
 multivalue_data (routing.Latency ident region) = None
 multivalue_data (routing.Multivalue ident) = Some (boolean true)
@@ -97,7 +97,7 @@ multivalue_data (routing.Cidr ident collection location) = None
 abbrev pub region_data : Routing → Option Data
 region_data routing.Simple = None
 region_data (routing.Weighted ident weight) = None
-region_data (routing.Failover ident part) = None
+region_data (routing.Failover ident role) = None
 region_data (routing.Geolocation ident where_to) = None
 region_data (routing.Latency ident region) = Some (string region)
 region_data (routing.Multivalue ident) = None
@@ -106,7 +106,7 @@ region_data (routing.Cidr ident collection location) = None
 abbrev pub weight_data : Routing → Option Data
 weight_data routing.Simple = None
 weight_data (routing.Weighted ident weight) = Some (count weight)
-weight_data (routing.Failover ident part) = None
+weight_data (routing.Failover ident role) = None
 weight_data (routing.Geolocation ident where_to) = None
 weight_data (routing.Latency ident region) = None
 weight_data (routing.Multivalue ident) = None

@@ -8,8 +8,8 @@ use Rattle.std.proofs.Math.Seq.{take-append_seam, drop-append_seam}
 use Rattle.rdata_layout.specs.Labels.{frame, wire, IsRawLabel}
 use Rattle.rdata_layout.specs.Names.{IsName}
 use Rattle.rdata_layout.specs.Stored.{IsLowerLabel}
-use Rattle.octet_reading.specs.declared.names.Front.TheVariants.{Whole}
-use Rattle.octet_reading.specs.Names.{is_lower, front_from, front_of}
+use Rattle.octet_reading.specs.declared.names.NameRead.TheVariants.{Whole}
+use Rattle.octet_reading.specs.Names.{is_lower, name_read_from, name_read}
 use Rattle.octet_reading.proofs.Fronts.{begin_label, pass_label}
 
 stays_lower : (b : ℕ) → to_ascii_lowercase b ≡ b → is_lower b ≡ true
@@ -26,7 +26,7 @@ all_lower (b ∷ label) h =
 pub again_from : (room : ℕ) (labels : List (List ℕ)) (rest : List ℕ)
     → AllByRecursion IsRawLabel labels
     → AllByRecursion IsLowerLabel labels → length (wire labels) ≤ room
-    → front_from room 0 (wire labels ++ rest) ≡ Whole (length rest)
+    → name_read_from room 0 (wire labels ++ rest) ≡ Whole (length rest)
 again_from room [] rest each lower fits = refl
 again_from room (l ∷ labels) rest each lower fits =
     let filled : 0 < length l = each.0.filled in
@@ -43,7 +43,7 @@ again_from room (l ∷ labels) rest each lower fits =
       length-append (flat_map frame labels) (0 ∷ []),
       fits,
     ) in
-    ap (front_from room 0) regrouped
+    ap (name_read_from room 0) regrouped
     ∙ begin_label room (length l) (l ++ (wire labels ++ rest)) filled (omega (arith, short))
     (omega (
       arith,
@@ -53,11 +53,11 @@ again_from room (l ∷ labels) rest each lower fits =
       fits,
     ))
     ∙ pass_label (room - (length l + 1)) (length l) (l ++ (wire labels ++ rest)) part
-    ∙ ap (front_from (room - (length l + 1)) 0) (drop-append_seam l (wire labels ++ rest))
+    ∙ ap (name_read_from (room - (length l + 1)) 0) (drop-append_seam l (wire labels ++ rest))
     ∙ again_from (room - (length l + 1)) labels rest each.1 lower.1 room_left
 
 pub front_again : (labels : List (List ℕ)) (rest : List ℕ) → IsName labels
-    → front_of (wire labels ++ rest) ≡ Whole (length rest)
+    → name_read (wire labels ++ rest) ≡ Whole (length rest)
 front_again labels rest name = again_from 255 labels rest name.raw.each name.lower name.raw.fits
 
 -- what stands behind the octets of a name that was found

@@ -2,7 +2,7 @@
 use Rattle.std.proofs.Common.{◌≡◌, ℕ, zero, suc, inl, inr, Bool, true, false, List, [], ◌∷◌, ◌++◌, length, arith, ap, ◌∙◌, sym}
 use Rattle.std.proofs.Common.{refl, subst, Result, Ok, Err, cond}
 use Rattle.std.specs.List.{AllByRecursion, flat_map}
-use Rattle.octet_reading.specs.Readers.{Reader, seen, in_turn, in_turn_by, so_many, tested}
+use Rattle.octet_reading.specs.Readers.{Reader, mapped, in_turn, in_turn_by, so_many, tested}
 use Rattle.octet_reading.specs.Reading.{◌>>=◌}
 use Rattle.octet_reading.specs.Rules.{IsReadAs}
 use Rattle.octet_reading.proofs.Digits.{bind_ok, ok_is}
@@ -15,7 +15,7 @@ module _ {A B : Type 0} {is : A → Type 0} {octets_of : A → List ℕ} {read :
     → IsReadAs (later_is x) (later x) (next x)) where
   paired : (x : A)
       → IsReadAs (λ (p : A × B). later_is p.0 p.1
-      × (p.0 ≡ x)) (λ p. later p.0 p.1) (seen (λ y. (x, y)) (next x))
+      × (p.0 ≡ x)) (λ p. later p.0 p.1) (mapped (λ y. (x, y)) (next x))
   paired x = seen_read (λ y. (x, y)) (each x) (λ y h. ((h, refl), refl))
       (λ p h. (p.1, subst (λ a. later_is a p.1) h.1 h.0, ap (λ a. (a, p.1)) (sym h.1)))
 
@@ -52,7 +52,7 @@ module _ {A B C : Type 0} (view : A × B → C) (first : Reader A) (second : Rea
   in_steps (Err left) = refl
 
   pub seen_in_turn : (octets : List ℕ)
-      → (first octets >>= λ x. second x.1 >>= at_once x.0) ≡ seen view (in_turn first second) octets
+      → (first octets >>= λ x. second x.1 >>= at_once x.0) ≡ mapped view (in_turn first second) octets
   seen_in_turn octets = in_steps (first octets)
 
 -- so many of one field

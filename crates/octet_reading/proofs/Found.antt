@@ -11,9 +11,9 @@ use Rattle.std.proofs.Math.Seq.{drop-append_seam}
 use Rattle.rdata_layout.specs.Labels.{frame, wire, IsRawLabel}
 use Rattle.rdata_layout.specs.Names.{AreOctets}
 use Rattle.rdata_layout.specs.Stored.{IsLowerLabel}
-use Rattle.octet_reading.specs.declared.names.Front.{Front}
-use Rattle.octet_reading.specs.declared.names.Front.TheVariants.{Whole, Broken}
-use Rattle.octet_reading.specs.Names.{is_lower, front_from}
+use Rattle.octet_reading.specs.declared.names.NameRead.{NameRead}
+use Rattle.octet_reading.specs.declared.names.NameRead.TheVariants.{Whole, Broken}
+use Rattle.octet_reading.specs.Names.{is_lower, name_read_from}
 
 -- each octet is below 256
 abbrev pub IsBytes : List ℕ → Type 0
@@ -35,7 +35,7 @@ pub record Found (room need : ℕ) (octets : List ℕ) (left : ℕ) : Type 0 whe
   pub fits : length (wire labels) ≤ room
   pub left_is : length rest ≡ left
 
-taken_or : (b : Bool) (x : Front) (left : ℕ) → cond b x Broken ≡ Whole left
+taken_or : (b : Bool) (x : NameRead) (left : ℕ) → cond b x Broken ≡ Whole left
     → (b ≡ true) × (x ≡ Whole left)
 taken_or true x left e = (refl, e)
 taken_or false x left e = absurd cc
@@ -96,7 +96,7 @@ one_more room n octets left short fits r =
     }
 
 pub found_from : (room need : ℕ) (octets : List ℕ) (left : ℕ) → IsBytes octets → 1 ≤ room
-    → front_from room need octets ≡ Whole left → Found room need octets left
+    → name_read_from room need octets ≡ Whole left → Found room need octets left
 found_from room need [] left bytes some e = absurd cc
 found_from room zero (zero ∷ octets) left bytes some e =
     record {

@@ -15,9 +15,9 @@ use Rattle.rdata_layout.specs.declared.fields.Tail.{Tail}
 use Rattle.rdata_layout.specs.declared.fields.Tail.TheVariants as tail
 use Rattle.rdata_layout.specs.Fields.{IsField, IsTag, is_letter_or_digit}
 use Rattle.rdata_layout.specs.Layout.{fields_of, tail_of, most_octets, string_octets, IsShort, IsTail, AreFields, IsLayout}
-use Rattle.octet_reading.specs.declared.names.Front.{Front}
-use Rattle.octet_reading.specs.declared.names.Front.TheVariants.{Whole, Short, Broken}
-use Rattle.octet_reading.specs.Names.{front_of}
+use Rattle.octet_reading.specs.declared.names.NameRead.{NameRead}
+use Rattle.octet_reading.specs.declared.names.NameRead.TheVariants.{Whole, Short, Broken}
+use Rattle.octet_reading.specs.Names.{name_read}
 use Rattle.octet_reading.specs.Layouts.{behind_octets, behind_name, behind_tag, behind_field, are_strings, is_tail, holds_of, are_fields, is_layout}
 use Rattle.octet_reading.proofs.Found.{IsBytes, later_bytes, rest_bytes}
 use Rattle.octet_reading.proofs.Naming.{whole_begins}
@@ -48,7 +48,7 @@ fixed_again n piece rest e =
     ap (λ b. cond b None (Some (drop n (piece ++ rest)))) long
     ∙ ap (λ k. Some (drop k (piece ++ rest))) (sym e) ∙ ap Some (drop-append_seam piece rest)
 
-name_is : (octets rest : List ℕ) (front : Front) → IsBytes octets → front_of octets ≡ front
+name_is : (octets rest : List ℕ) (front : NameRead) → IsBytes octets → name_read octets ≡ front
     → behind_name octets front ≡ Some rest
     → Behind field.Name octets rest
 name_is octets rest (Whole left) bytes e s =
@@ -66,7 +66,7 @@ name_is octets rest Short bytes e s = absurd cc
 name_is octets rest Broken bytes e s = absurd cc
 
 name_again : (labels : List (List ℕ)) (rest : List ℕ) → IsName labels
-    → behind_name (wire labels ++ rest) (front_of (wire labels ++ rest)) ≡ Some rest
+    → behind_name (wire labels ++ rest) (name_read (wire labels ++ rest)) ≡ Some rest
 name_again labels rest name = ap (behind_name (wire labels ++ rest)) (front_again labels rest name)
     ∙ ap Some (behind_found labels rest)
 
@@ -118,7 +118,7 @@ behind_is field.Ipv4 octets rest bytes e = let f = fixed_is 4 octets rest e in
     record { piece = take 4 octets; is = f.0; parts = f.1 }
 behind_is field.Ipv6 octets rest bytes e = let f = fixed_is 16 octets rest e in
     record { piece = take 16 octets; is = f.0; parts = f.1 }
-behind_is field.Name octets rest bytes e = name_is octets rest (front_of octets) bytes refl e
+behind_is field.Name octets rest bytes e = name_is octets rest (name_read octets) bytes refl e
 behind_is field.Number8 octets rest bytes e = let f = fixed_is 1 octets rest e in
     record { piece = take 1 octets; is = f.0; parts = f.1 }
 behind_is field.Number16 octets rest bytes e = let f = fixed_is 2 octets rest e in
@@ -132,7 +132,7 @@ pub behind_again : (first : Field) (piece rest : List ℕ) → IsField first pie
 behind_again field.Ipv4 piece rest is = fixed_again 4 piece rest is
 behind_again field.Ipv6 piece rest is = fixed_again 16 piece rest is
 behind_again field.Name piece rest is =
-    ap (λ t. behind_name (t ++ rest) (front_of (t ++ rest))) is.2 ∙ name_again is.0 rest is.1
+    ap (λ t. behind_name (t ++ rest) (name_read (t ++ rest))) is.2 ∙ name_again is.0 rest is.1
 behind_again field.Number8 piece rest is = fixed_again 1 piece rest is
 behind_again field.Number16 piece rest is = fixed_again 2 piece rest is
 behind_again field.Number32 piece rest is = fixed_again 4 piece rest is

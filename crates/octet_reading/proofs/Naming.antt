@@ -12,9 +12,9 @@ use Rattle.rdata_layout.specs.Stored.{labels_of}
 use Rattle.rdata_layout.specs.Wire.{BeginsWithName, BeginsWithNone}
 use Rattle.rdata_layout.proofs.Labels.{labels_of-wire, one_name}
 use Rattle.rdata_layout.proofs.Fronts.{begins, front_is}
-use Rattle.octet_reading.specs.declared.names.Front.{Front}
-use Rattle.octet_reading.specs.declared.names.Front.TheVariants.{Whole, Short, Broken}
-use Rattle.octet_reading.specs.Names.{front_of, named, name_at}
+use Rattle.octet_reading.specs.declared.names.NameRead.{NameRead}
+use Rattle.octet_reading.specs.declared.names.NameRead.TheVariants.{Whole, Short, Broken}
+use Rattle.octet_reading.specs.Names.{name_read, named, name_at}
 use Rattle.octet_reading.proofs.Again.{front_again, behind_found}
 use Rattle.octet_reading.proofs.Digits.{ok_is}
 use Rattle.octet_reading.proofs.Found.{IsBytes, found_from}
@@ -27,7 +27,7 @@ pub record Begins (octets : List ℕ) (left : ℕ) : Type 0 where
   pub spelled : octets ≡ wire labels ++ rest
   pub left_is : length rest ≡ left
 
-pub whole_begins : (octets : List ℕ) (left : ℕ) → IsBytes octets → front_of octets ≡ Whole left
+pub whole_begins : (octets : List ℕ) (left : ℕ) → IsBytes octets → name_read octets ≡ Whole left
     → Begins octets left
 whole_begins octets left bytes e =
     let f = found_from 255 0 octets left bytes (omega arith) e in
@@ -45,13 +45,13 @@ whole_begins octets left bytes e =
       left_is = f.left_is;
     }
 
-pub is_short : (octets : List ℕ) (front : Front) → front ≡ front_of octets → front ≡ Short
+pub is_short : (octets : List ℕ) (front : NameRead) → front ≡ name_read octets → front ≡ Short
     → name_at octets ≡ Err 0
 unfolding name_at
 is_short octets front e s = ap (named octets) (sym e ∙ s)
 
-pub is_broken : (octets : List ℕ) (front : Front) → front ≡ front_of octets
-    → ((left : ℕ) → front_of octets ≡ Whole left → ⊥)
+pub is_broken : (octets : List ℕ) (front : NameRead) → front ≡ name_read octets
+    → ((left : ℕ) → name_read octets ≡ Whole left → ⊥)
     → (front ≡ Broken) ⊎ ((left : ℕ) × (front ≡ Whole left))
     → name_at octets ≡ Err (length octets)
 unfolding name_at
@@ -83,7 +83,7 @@ is_name octets spelled labels n rest name same s r =
 -- a name that isn't
 pub is_other : (octets spelled : List ℕ) (labels : List (List ℕ)) (n left : ℕ) → IsBytes octets
     → BeginsWithName octets labels n → spelled ≡ take n octets
-    → pointwise nat_eq (wire labels) spelled ≡ false → front_of octets ≡ Whole left → ⊥
+    → pointwise nat_eq (wire labels) spelled ≡ false → name_read octets ≡ Whole left → ⊥
 is_other octets spelled labels n left bytes b s other e =
     let w = whole_begins octets left bytes e in
     let one =
@@ -96,7 +96,7 @@ is_other octets spelled labels n left bytes b s other e =
     cc (other, equal)
 
 pub no_name : (octets : List ℕ) (left : ℕ) → IsBytes octets → BeginsWithNone octets
-    → front_of octets ≡ Whole left → ⊥
+    → name_read octets ≡ Whole left → ⊥
 no_name octets left bytes none e =
     let w = whole_begins octets left bytes e in
     none w.labels (length (wire w.labels)) (begins octets w.rest w.labels w.name w.spelled)
@@ -105,9 +105,9 @@ no_name octets left bytes none e =
 pub name_stands : (octets : List ℕ) (x : List (List ℕ) × List ℕ) → IsBytes octets
     → name_at octets ≡ Ok x → (octets ≡ wire x.0 ++ x.1) × IsName x.0
 unfolding name_at
-name_stands octets x bytes e = go (front_of octets) refl e
+name_stands octets x bytes e = go (name_read octets) refl e
   where
-    go : (front : Front) → front_of octets ≡ front → named octets front ≡ Ok x
+    go : (front : NameRead) → name_read octets ≡ front → named octets front ≡ Ok x
         → (octets ≡ wire x.0 ++ x.1) × IsName x.0
     go (Whole left) f h =
         let w = whole_begins octets left bytes f in

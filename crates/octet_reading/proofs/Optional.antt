@@ -4,7 +4,7 @@ use Rattle.std.proofs.Common.{eqb, Option, None, Some, Ok, Err, cond}
 use Rattle.std.proofs.lemmas.Bool.{eqb-true}
 use Rattle.octet_reading.specs.Readers.{Reader, list_at, where_one, optional_at, meant, meaning, numbered}
 use Rattle.octet_reading.specs.Reading.{◌>>=◌}
-use Rattle.octet_reading.specs.Rules.{IsReadAs, list_octets, AreListed, optional_octets, WhereSome, flag_octet}
+use Rattle.octet_reading.specs.Rules.{IsReadAs, list_octets, AreListable, optional_octets, WhereSome, flag_octet}
 use Rattle.octet_reading.proofs.Base.{two_read, flag_read}
 use Rattle.octet_reading.proofs.Composed.{so_many_read}
 use Rattle.octet_reading.proofs.Digits.{bind_ok, ok_is}
@@ -12,7 +12,7 @@ use Rattle.octet_reading.proofs.Rules.{bind_err, err_is, alike, nothing_read, th
 
 -- a list
 pub list_read : {A : Type 0} {is : A → Type 0} {octets_of : A → List ℕ} {read : Reader A}
-    → IsReadAs is octets_of read → IsReadAs (AreListed is) (list_octets octets_of) (list_at read)
+    → IsReadAs is octets_of read → IsReadAs (AreListable is) (list_octets octets_of) (list_at read)
 list_read {A = A} item = alike (then_read (λ (xs : List A). length xs) two_read (so_many_read item))
     (λ xs h. (record { count = h.0; each = h.1 }, refl)) (λ xs h. (h.count, h.each))
 

@@ -1,7 +1,7 @@
 -- Readers that are built from readers read what is built of their values.
 use Rattle.std.proofs.Common.{◌≡◌, ℕ, ◌≤◌, ◌⊎◌, inl, inr, List, [], ◌∷◌, ◌++◌, length, arith, ap, ◌∙◌, sym, refl, subst, append_assoc, Result, Ok, Err}
 use Rattle.rdata_layout.specs.Names.{AreOctets}
-use Rattle.octet_reading.specs.Readers.{Reader, seen}
+use Rattle.octet_reading.specs.Readers.{Reader, mapped}
 use Rattle.octet_reading.specs.Reading.{◌>>=◌}
 use Rattle.octet_reading.specs.Rules.{IsReadAs, Tells, OneSpelling}
 use Rattle.octet_reading.proofs.Digits.{bind_ok, ok_is, joined}
@@ -147,12 +147,12 @@ module _ {A C : Type 0} {is : A → Type 0} {octets_of : A → List ℕ} {read :
     → C) (inside : IsReadAs is octets_of read)
     (into : (x : A) → is x → view_is (view x) × (octets_of x ≡ views_of (view x)))
     (from : (c : C) → view_is c → (x : A) × is x × (view x ≡ c)) where
-  pub seen_read : IsReadAs view_is views_of (seen view read)
+  pub seen_read : IsReadAs view_is views_of (mapped view read)
   seen_read = record {
     again = λ c rest h.
         let f = from c h in
         let spelled : views_of c ≡ octets_of f.0 = sym (ap views_of f.2) ∙ sym (into f.0 f.1).1 in
-        ap (λ t. seen view read (t ++ rest)) spelled
+        ap (λ t. mapped view read (t ++ rest)) spelled
         ∙ ap (λ r. r >>= λ x. Ok (view x.0, x.1)) (inside.again f.0 rest f.1)
         ∙ ap (λ z. Ok (z, rest)) f.2;
     stands = λ octets c rest are e.

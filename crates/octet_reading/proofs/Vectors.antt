@@ -7,7 +7,7 @@ use Rattle.octet_reading.specs.Layouts.{is_layout}
 use Rattle.octet_reading.specs.Names.{name_at}
 use Rattle.octet_reading.specs.Readers.{in_turn, list_at, optional_at, tested, meaning, numbered, kinds, text_at, limited, whole}
 use Rattle.octet_reading.specs.Reading.{octet_at, two_at, four_at, flag_at}
-use Rattle.octet_reading.specs.Rules.{IsReadAs, AreListed, WhereSome, list_octets, optional_octets, flag_octet}
+use Rattle.octet_reading.specs.Rules.{IsReadAs, AreListable, WhereSome, list_octets, optional_octets, flag_octet}
 use Rattle.octet_reading.proofs.Base.{four_read, flag_read}
 use Rattle.octet_reading.proofs.Composed.{in_turn_read}
 use Rattle.octet_reading.proofs.Optional.{list_read, optional_read}
@@ -101,11 +101,11 @@ pub optional_number : IsReadAs (WhereSome (λ n. n < 2 ^ 32)) (optional_octets f
     (optional_at four_at)
 optional_number = optional_read four_read
 
-pub optional_list : IsReadAs (WhereSome (AreListed (λ n. n < 2 ^ 32)))
+pub optional_list : IsReadAs (WhereSome (AreListable (λ n. n < 2 ^ 32)))
     (optional_octets (list_octets four_octets)) (optional_at (list_at four_at))
 optional_list = optional_read (list_read four_read)
 
-pub list_of_pairs : IsReadAs (AreListed (λ (p : ℕ × Bool). (p.0 < 2 ^ 32) × ⊤))
+pub list_of_pairs : IsReadAs (AreListable (λ (p : ℕ × Bool). (p.0 < 2 ^ 32) × ⊤))
     (list_octets (λ p. four_octets p.0 ++ flag_octet p.1 ∷ []))
     (list_at (in_turn four_at flag_at))
 list_of_pairs = list_read (in_turn_read four_read flag_read)

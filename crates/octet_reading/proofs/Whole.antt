@@ -5,7 +5,7 @@ use Rattle.std.specs.Prelude.{nat_lt}
 use Rattle.std.proofs.lemmas.Bool.{eqb-true, ltb-false, le-ltb}
 use Rattle.std.proofs.lemmas.List.{nil_from_length}
 use Rattle.rdata_layout.specs.Names.{AreOctets}
-use Rattle.octet_reading.specs.Readers.{Reader, limited, alone, placed, whole}
+use Rattle.octet_reading.specs.Readers.{Reader, limited, alone, by_place, whole}
 use Rattle.octet_reading.specs.Reading.{◌>>=◌}
 use Rattle.octet_reading.specs.Rules.{IsReadAs, TellsWhole}
 use Rattle.octet_reading.proofs.Digits.{bind_ok, ok_is}
@@ -83,7 +83,7 @@ module _ {A : Type 0} {is : A → Type 0} {octets_of : A
   whole_again x h =
       let e : read (octets_of x) ≡ Ok (x, []) = ap read (sym (append-nil (octets_of x)))
       ∙ inside.again x [] h in
-      ap (λ r. placed (length (octets_of x)) (r >>= alone)) e
+      ap (λ r. by_place (length (octets_of x)) (r >>= alone)) e
 
   none_there : (octets : List ℕ) (left : ℕ) → left ≤ length octets
       → whole read octets ≡ Err (length octets - left)
@@ -96,9 +96,9 @@ module _ {A : Type 0} {is : A → Type 0} {octets_of : A
 
   behind_nothing : (octets : List ℕ) (x : A × List ℕ) (b : Bool) → AreOctets octets
       → read octets ≡ Ok x → eqb (length x.1) 0 ≡ b
-      → (whole read octets ≡ placed (length octets) (cond b (Ok x.0) (failed (length x.1))))
+      → (whole read octets ≡ by_place (length octets) (cond b (Ok x.0) (failed (length x.1))))
       → TellsWhole is octets_of octets
-      (placed (length octets) (cond b (Ok x.0) (failed (length x.1))))
+      (by_place (length octets) (cond b (Ok x.0) (failed (length x.1))))
   behind_nothing octets x true are r z e =
       let s = inside.stands octets x.0 x.1 are r in (
         s.0 ∙ ap (λ t. octets_of x.0 ++ t) (nil_from_length x.1 (eqb-true (length x.1) 0 z))
@@ -109,13 +109,13 @@ module _ {A : Type 0} {is : A → Type 0} {octets_of : A
       none_there octets (length x.1) (inside.left octets x.0 x.1 r) e
 
   told_by : (octets : List ℕ) → AreOctets octets → (r : Result (A × List ℕ) ℕ) → read octets ≡ r
-      → TellsWhole is octets_of octets (placed (length octets) (r >>= alone))
+      → TellsWhole is octets_of octets (by_place (length octets) (r >>= alone))
   told_by octets are (Ok x) e =
       behind_nothing octets x (eqb (length x.1) 0) are e refl
-      (ap (λ r. placed (length octets) (r >>= alone)) e)
+      (ap (λ r. by_place (length octets) (r >>= alone)) e)
   told_by octets are (Err left) e =
       none_there octets left (inside.fault octets left e)
-      (ap (λ r. placed (length octets) (r >>= alone)) e)
+      (ap (λ r. by_place (length octets) (r >>= alone)) e)
 
   pub tells_whole : (octets : List ℕ) → AreOctets octets
       → TellsWhole is octets_of octets (whole read octets)

@@ -1,8 +1,8 @@
 -- What is left of octets, and what stands from a fault on, is no more than the octets.
 use Rattle.std.proofs.Common.{ℕ, zero, suc, ◌-◌, ◌≤◌, Bool, true, false, List, [], ◌∷◌, length, drop, arith, cond, length-drop, Result, Ok, Err}
-use Rattle.octet_reading.specs.declared.names.Front.{Front}
-use Rattle.octet_reading.specs.declared.names.Front.TheVariants.{Whole, Short, Broken}
-use Rattle.octet_reading.specs.Names.{front_of, named, name_at}
+use Rattle.octet_reading.specs.declared.names.NameRead.{NameRead}
+use Rattle.octet_reading.specs.declared.names.NameRead.TheVariants.{Whole, Short, Broken}
+use Rattle.octet_reading.specs.Names.{name_read, named, name_at}
 use Rattle.octet_reading.specs.Reading.{◌>>=◌, octet_at, two_at, four_at, flag_at}
 
 abbrev pub IsWithin : {A : Type 0} → ℕ → Result (A × List ℕ) ℕ → Type 0
@@ -70,11 +70,11 @@ flag_within (zero ∷ rest) = record { holds = omega arith }
 flag_within (suc zero ∷ rest) = record { holds = omega arith }
 flag_within (suc (suc n) ∷ rest) = record { holds = omega arith }
 
-named_within : (octets : List ℕ) (front : Front) → IsWithin (length octets) (named octets front)
+named_within : (octets : List ℕ) (front : NameRead) → IsWithin (length octets) (named octets front)
 named_within octets (Whole left) = drop_within (length octets - left) octets
 named_within octets Short = omega arith
 named_within octets Broken = omega arith
 
 pub name_within : (octets : List ℕ) → Within (length octets) (name_at octets)
 unfolding name_at
-name_within octets = record { holds = named_within octets (front_of octets) }
+name_within octets = record { holds = named_within octets (name_read octets) }

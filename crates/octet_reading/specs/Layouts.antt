@@ -10,16 +10,16 @@ use Rattle.rdata_layout.specs.declared.fields.Tail.{Tail}
 use Rattle.rdata_layout.specs.declared.fields.Tail.TheVariants as tail
 use Rattle.rdata_layout.specs.Fields.{is_letter_or_digit}
 use Rattle.rdata_layout.specs.Layout.{fields_of, tail_of, most_octets}
-use Rattle.octet_reading.specs.declared.names.Front.{Front}
-use Rattle.octet_reading.specs.declared.names.Front.TheVariants.{Whole, Short, Broken}
-use Rattle.octet_reading.specs.Names.{front_of}
+use Rattle.octet_reading.specs.declared.names.NameRead.{NameRead}
+use Rattle.octet_reading.specs.declared.names.NameRead.TheVariants.{Whole, Short, Broken}
+use Rattle.octet_reading.specs.Names.{name_read}
 
 -- what stands behind so many octets, where they are there
 abbrev pub behind_octets : ℕ → List ℕ → Option (List ℕ)
 behind_octets n octets = if nat_lt (length octets) n then None else Some (drop n octets)
 
 -- what stands behind a name
-abbrev pub behind_name : List ℕ → Front → Option (List ℕ)
+abbrev pub behind_name : List ℕ → NameRead → Option (List ℕ)
 behind_name octets (Whole left) = Some (drop (length octets - left) octets)
 behind_name octets Short = None
 behind_name octets Broken = None
@@ -35,7 +35,7 @@ behind_tag (n ∷ octets) =
 abbrev pub behind_field : Field → List ℕ → Option (List ℕ)
 behind_field field.Ipv4 octets = behind_octets 4 octets
 behind_field field.Ipv6 octets = behind_octets 16 octets
-behind_field field.Name octets = behind_name octets (front_of octets)
+behind_field field.Name octets = behind_name octets (name_read octets)
 behind_field field.Number8 octets = behind_octets 1 octets
 behind_field field.Number16 octets = behind_octets 2 octets
 behind_field field.Number32 octets = behind_octets 4 octets

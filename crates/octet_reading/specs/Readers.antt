@@ -11,8 +11,8 @@ abbrev pub Reader : Type 0 → Type 0
 Reader A = List ℕ → Result (A × List ℕ) ℕ
 
 -- a reader, seen through a function
-abbrev pub seen : {A B : Type 0} → (A → B) → Reader A → Reader B
-seen view read octets = do
+abbrev pub mapped : {A B : Type 0} → (A → B) → Reader A → Reader B
+mapped view read octets = do
   x ← read octets
   Ok (view x.0, x.1)
 
@@ -117,11 +117,11 @@ abbrev pub alone : {A : Type 0} → A × List ℕ → Result A ℕ
 alone x = if length x.1 == 0 then Ok x.0 else Err (length x.1)
 
 -- a fault by its place, counted from the front
-abbrev pub placed : {A : Type 0} → (total : ℕ) → Result A ℕ → Result A ℕ
-placed total (Ok x) = Ok x
-placed total (Err left) = Err (total - left)
+abbrev pub by_place : {A : Type 0} → (total : ℕ) → Result A ℕ → Result A ℕ
+by_place total (Ok x) = Ok x
+by_place total (Err left) = Err (total - left)
 
 -- What octets are as a whole; or the place of the first fault, which is their number where octets
 -- are missing.
 abbrev pub whole : {A : Type 0} → Reader A → List ℕ → Result A ℕ
-whole read octets = placed (length octets) (read octets >>= alone)
+whole read octets = by_place (length octets) (read octets >>= alone)

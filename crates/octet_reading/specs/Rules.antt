@@ -54,7 +54,7 @@ flag_octet true = 1
 abbrev pub list_octets : {A : Type 0} → (A → List ℕ) → List A → List ℕ
 list_octets octets_of xs = two_octets (length xs) ++ flat_map octets_of xs
 
-pub record AreListed {A : Type 0} (is : A → Type 0) (xs : List A) : Type 0 where
+pub record AreListable {A : Type 0} (is : A → Type 0) (xs : List A) : Type 0 where
   pub count : length xs < 2 ^ 16
   pub each : AllByRecursion is xs
 

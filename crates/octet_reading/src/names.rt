@@ -3,8 +3,8 @@
 ghost use Rattle.std.specs.Prelude.{◌≡◌, ℕ, length, IfSome, IfNone, Ok, Err};
 ghost use Rattle.std.specs.List.{list_all};
 ghost use Rattle.octet_reading.specs.Reading.{Gives};
-ghost use Rattle.octet_reading.specs.Names.{is_lower, front_of, name_at};
-ghost use Rattle.octet_reading.specs.declared.names.Front.TheVariants.{Whole};
+ghost use Rattle.octet_reading.specs.Names.{is_lower, name_read, name_at};
+ghost use Rattle.octet_reading.specs.declared.names.NameRead.TheVariants.{Whole};
 
 use crate::numbers::parts;
 use crate::stop::Fault;
@@ -13,7 +13,7 @@ use rdata_layout::Name;
 
 /// What octets are for a name that is read from their front.
 #[derive(Clone, Copy)]
-pub(crate) enum Front {
+pub(crate) enum NameRead {
     /// They begin with a name, behind which so many octets are left.
     Whole(usize),
     /// They are the first octets of names, and are no name.
@@ -35,7 +35,7 @@ pub fn name_at(bytes: &[u8]) -> Result<(Name, &[u8]), Fault>
 /// The name at the front and what stands behind it, where it is spelled in lower case.
 fn lower_name(bytes: &[u8]) -> Option<(Name, &[u8])>
     ensures some { IfSome result (λ x. name_at bytes.now ≡ Ok (x.0, x.1.now)) }
-    ensures none { IfNone result ((left : ℕ) → front_of bytes.now ≡ Whole left → ⊥) }
+    ensures none { IfNone result ((left : ℕ) → name_read bytes.now ≡ Whole left → ⊥) }
 {
     let mut name = Name::root();
     let Some(len) = name.read_wire(bytes) else {
@@ -50,37 +50,37 @@ fn lower_name(bytes: &[u8]) -> Option<(Name, &[u8])>
 
 /// Where the fault stands in octets that begin with no name in lower case.
 fn no_name(bytes: &[u8]) -> Fault
-    requires { (left : ℕ) → front_of bytes.now ≡ Whole left → ⊥ }
+    requires { (left : ℕ) → name_read bytes.now ≡ Whole left → ⊥ }
     ensures { name_at bytes.now ≡ Err result.0 }
 {
-    match front_of(bytes) {
-        Front::Short => Fault(0),
-        Front::Broken | Front::Whole(_) => Fault(bytes.len()),
+    match name_read(bytes) {
+        NameRead::Short => Fault(0),
+        NameRead::Broken | NameRead::Whole(_) => Fault(bytes.len()),
     }
 }
 
 /// What the octets are for a name.
-fn front_of(bytes: &[u8]) -> Front
-    ensures { result ≡ front_of bytes.now }
+fn name_read(bytes: &[u8]) -> NameRead
+    ensures { result ≡ name_read bytes.now }
 {
     let mut rest = bytes;
     let mut room = 255;
     while rest.len() > 0 {
         let n = rest[0] as usize;
         if n == 0 {
-            return Front::Whole(rest.len() - 1);
+            return NameRead::Whole(rest.len() - 1);
         }
         if n > 63 || n + 2 > room {
-            return Front::Broken;
+            return NameRead::Broken;
         }
         let (label, later) = parts(behind(rest, 1), n);
         if !are_lower(label) {
-            return Front::Broken;
+            return NameRead::Broken;
         }
         room -= n + 1;
         rest = later;
     }
-    Front::Short
+    NameRead::Short
 }
 
 /// Whether no octet is a capital letter.

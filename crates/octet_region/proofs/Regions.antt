@@ -4,7 +4,7 @@ use Rattle.std.specs.FinMap as map
 use Rattle.octet_region.specs.declared.cells.Cell.{Cell}
 use Rattle.octet_region.specs.Cells.{cells_for, octets_at, next_at, mark_at}
 use Rattle.octet_region.specs.Chains.{gather}
-use Rattle.octet_region.specs.Shape.{held_in, octets_by, octets_of, AreWhole, IsSound}
+use Rattle.octet_region.specs.Shape.{held_in, octets_by, octets_of, AreWhole, IsIntact}
 use Rattle.octet_region.specs.Stored.{Stored, Held, Frees}
 use Rattle.octet_region.proofs.Held.{get_held, remove_here, remove_there}
 use Rattle.octet_region.proofs.Sound.{live_inside, live_length, live_there}
@@ -40,13 +40,13 @@ seen items stored w first handle same is e =
     ∙ sym (get_held items handle)
     ∙ ap (λ (h : Held). map.get h handle) e
 
-pub whole_of : (items w : List Cell) (free spare : ℕ) → IsSound items free spare → w ≡ items → AreWhole w
+pub whole_of : (items w : List Cell) (free spare : ℕ) → IsIntact items free spare → w ≡ items → AreWhole w
 whole_of items w free spare s e = subst (λ (x : List Cell). AreWhole x) (sym e)
     (λ c n m. (live_inside items c free spare n s m, live_length items c free spare n s m))
 
 -- a handle that is live is one of a cell
 pub known_below : (items : List Cell) (stored : Stored) (free spare handle : ℕ) (octets : List ℕ)
-    → IsSound items free spare → held_in items ≡ stored.held → map.get stored.held handle ≡ Some octets
+    → IsIntact items free spare → held_in items ≡ stored.held → map.get stored.held handle ≡ Some octets
     → handle < length items
 known_below items stored free spare handle octets s e live = by_mark (mark_at items handle) refl
   where

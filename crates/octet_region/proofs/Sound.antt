@@ -6,7 +6,7 @@ use Rattle.std.proofs.Math.Seq.{get_or-append_seam}
 use Rattle.octet_region.specs.declared.cells.Cell.{Cell}
 use Rattle.octet_region.specs.Cells.{cells_for, blank, new_cell, cell_at, octets_at, next_at, mark_at, link_at, mark_as}
 use Rattle.octet_region.specs.Chains.{jump, IsInside, gather, written, Walk}
-use Rattle.octet_region.specs.Shape.{octets_by, octets_of, taken_by, IsShaped, IsSound}
+use Rattle.octet_region.specs.Shape.{octets_by, octets_of, taken_by, IsShaped, IsIntact}
 use Rattle.octet_region.proofs.Places.{field_set, some_cells}
 use Rattle.octet_region.proofs.Shapes.{unmarked, put_shape, put_keeps, free_shape, free_keeps, more_shape, more_keeps}
 use Rattle.octet_region.proofs.Sums.{total, total_is, total_set, total_kept, total_written, total_more}
@@ -59,7 +59,7 @@ module _ (cells : List Cell) (c v : ℕ) (lt : c < length cells) where
   total_link : total (link_at cells c v) ≡ total cells
   total_link = total_kept cells c (record (cell_at cells c) { next = v }) lt refl
 
-counted_total : (cells : List Cell) (free spare : ℕ) → IsSound cells free spare
+counted_total : (cells : List Cell) (free spare : ℕ) → IsIntact cells free spare
     → total cells + spare ≡ length cells
 counted_total cells free spare s = ap (λ x. x + spare) (total_is cells) ∙ s.counted
 
@@ -67,7 +67,7 @@ sum_counted : (new : List Cell) (k : ℕ) → total new + k ≡ length new
     → sum_by (λ cell. taken_by cell.mark) new + k ≡ length new
 sum_counted new k e = ap (λ x. x + k) (sym (total_is new)) ∙ e
 
-module _ (cells : List Cell) (free spare : ℕ) (octets : List ℕ) (s : IsSound cells free spare)
+module _ (cells : List Cell) (free spare : ℕ) (octets : List ℕ) (s : IsIntact cells free spare)
     (enough : cells_for (length octets) ≤ spare) where
   way : Walk s.shape.owner s.shape.rank (next_at cells) (length cells) 0
       (0 + (spare - cells_for (length octets))) (cells_for (length octets)) free
@@ -144,7 +144,7 @@ module _ (cells : List Cell) (free spare : ℕ) (octets : List ℕ) (s : IsSound
         ∙ written_read s.shape.owner s.shape.rank cells 0 (0 + (spare - cells_for (length octets)))
         (cells_for (length octets)) free octets way refl
 
-    pub put_sound : IsSound after
+    pub put_sound : IsIntact after
         (jump (next_at cells) (cells_for (length octets)) free) (spare - cells_for (length octets))
     put_sound =
         let new = after in
@@ -194,7 +194,7 @@ module _ (cells : List Cell) (free spare : ℕ) (octets : List ℕ) (s : IsSound
         (cells_for (length octets)) (length octets) (octets_at new) (mark_at new) enough refl
         (ap length is_read) keeps marked marks_kept q ne
 
-module _ (cells : List Cell) (c free spare len : ℕ) (s : IsSound cells free spare)
+module _ (cells : List Cell) (c free spare len : ℕ) (s : IsIntact cells free spare)
     (marked : mark_at cells c ≡ suc len) where
   pub live_inside : IsInside (next_at cells) (length cells) (cells_for len) c
   live_inside =
@@ -256,7 +256,7 @@ module _ (cells : List Cell) (c free spare len : ℕ) (s : IsSound cells free sp
         mark_there linked c 0 there2 d ne
         ∙ ap (λ (f : ℕ → ℕ). f d) (mark_link cells last free last_there)
 
-    pub free_sound : IsSound after2 c (cells_for len + spare)
+    pub free_sound : IsIntact after2 c (cells_for len + spare)
     free_sound =
         let new = after2 in
         let shape : IsShaped (octets_at cells) (next_at linked) (mark_at new)
@@ -312,7 +312,7 @@ mark_more [] cell e (suc d) = refl
 mark_more (x ∷ cells) cell e zero = refl
 mark_more (x ∷ cells) cell e (suc d) = mark_more cells cell e d
 
-module _ (cells : List Cell) (free spare : ℕ) (s : IsSound cells free spare) where
+module _ (cells : List Cell) (free spare : ℕ) (s : IsIntact cells free spare) where
   same3 : (d : ℕ) → d < length cells → octets_at (cells ++ new_cell free ∷ []) d ≡ octets_at cells d
   same3 d lt = ap (λ (x : Cell). x.octets) (get_or-append cells (new_cell free ∷ []) blank d lt)
 
@@ -326,7 +326,7 @@ module _ (cells : List Cell) (free spare : ℕ) (s : IsSound cells free spare) w
   length3 = length-append cells (new_cell free ∷ [])
 
   pub more_sound : length cells + 1 < 2 ^ 27
-      → IsSound (cells ++ new_cell free ∷ []) (length cells) (spare + 1)
+      → IsIntact (cells ++ new_cell free ∷ []) (length cells) (spare + 1)
   more_sound few =
       let new = cells ++ new_cell free ∷ [] in
       let shape =

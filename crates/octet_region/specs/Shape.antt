@@ -51,7 +51,7 @@ pub record IsShaped (octets : ℕ → List ℕ) (next mark : ℕ → ℕ) (size 
   pub live : (c n : ℕ) → mark c ≡ suc n → IsLive owner rank octets next size c n
 
 -- Cells of a region, of which so many are free, the chain of these from one on: all are free or taken.
-pub record IsSound (cells : List Cell) (free spare : ℕ) : Type 0 where
+pub record IsIntact (cells : List Cell) (free spare : ℕ) : Type 0 where
   pub shape : IsShaped (octets_at cells) (next_at cells) (mark_at cells) (length cells) free spare
   pub counted : sum_by (λ cell. taken_by cell.mark) cells + spare ≡ length cells
   pub few : length cells < 2 ^ 27

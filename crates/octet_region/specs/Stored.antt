@@ -50,9 +50,9 @@ Copies (Some octets) old answer new = (answer ≡ Some (length octets))
 
 -- What `read_at` answers and leaves: as many octets as there is room for, from a place on; or, where they end
 -- before, what was there.
-abbrev pub Reads : (known : Option (List ℕ)) → (offset : ℕ) → (old : List ℕ) → Bool → (new : List ℕ) → Type 0
-Reads None offset old answer new = (answer ≡ false) × (new ≡ old)
-Reads (Some octets) offset old answer new =
+abbrev pub CopiesFrom : (known : Option (List ℕ)) → (offset : ℕ) → (old : List ℕ) → Bool → (new : List ℕ) → Type 0
+CopiesFrom None offset old answer new = (answer ≡ false) × (new ≡ old)
+CopiesFrom (Some octets) offset old answer new =
     (IsTrue answer ↔ (offset + length old ≤ length octets))
     × (new ≡ (if answer then take (length old) (drop offset octets) else old))
 

@@ -3,7 +3,7 @@
 ghost use Rattle.std.specs.Prelude.{◌≡◌, ◌≤◌, ◌<◌, ◌+◌, ◌-◌, ℕ, length, None, Some};
 ghost use Rattle.octet_region.specs.Cells.{cells_for, next_at, mark_at};
 ghost use Rattle.octet_region.specs.Chains.{jump, HasCells, written};
-ghost use Rattle.octet_region.specs.Shape.{octets_of, IsSound};
+ghost use Rattle.octet_region.specs.Shape.{octets_of, IsIntact};
 
 use crate::cells::{CELL, Cell, link_at, mark_as, mark_of, write_at};
 use octets::{behind, front};
@@ -40,9 +40,9 @@ fn last_along(cells: &[Cell], first: u32, size: usize) -> u32
 
 /// Puts octets into the first free cells, and answers the first one that is free then.
 pub(crate) fn put_along(cells: &mut [Cell], free: u32, spare: usize, octets: &[u8]) -> u32
-    requires sound { IsSound cells.old free spare }
+    requires sound { IsIntact cells.old free spare }
     requires enough { cells_for (length octets.now) ≤ spare }
-    ensures sound { IsSound cells.new result (spare - cells_for (length octets.now)) }
+    ensures sound { IsIntact cells.new result (spare - cells_for (length octets.now)) }
     ensures below { free < length cells.old }
     ensures fresh { octets_of cells.old free ≡ None }
     ensures put { octets_of cells.new free ≡ Some octets.now }
@@ -56,9 +56,9 @@ pub(crate) fn put_along(cells: &mut [Cell], free: u32, spare: usize, octets: &[u
 
 /// Puts the chain of a handle in front of the free cells.
 pub(crate) fn free_along(cells: &mut [Cell], first: u32, free: u32, spare: usize)
-    requires sound { IsSound cells.old free spare }
+    requires sound { IsIntact cells.old free spare }
     requires live { 0 < mark_at cells.old first }
-    ensures sound { IsSound cells.new first (cells_for (mark_at cells.old first - 1) + spare) }
+    ensures sound { IsIntact cells.new first (cells_for (mark_at cells.old first - 1) + spare) }
     ensures gone { octets_of cells.new first ≡ None }
     ensures others { (other : ℕ) → (other ≡ first → ⊥)
         → octets_of cells.new other ≡ octets_of cells.old other }

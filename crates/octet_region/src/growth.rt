@@ -3,7 +3,7 @@
 ghost use Rattle.std.specs.Prelude.{◌≡◌, ◌≤◌, ◌<◌, ◌+◌, ◌^◌, ◌++◌, ◌∷◌, [], ℕ, length, IsTrue};
 ghost use Rattle.std.specs.Prelude.{vec_len, vec_capacity};
 ghost use Rattle.octet_region.specs.Cells.{new_cell};
-ghost use Rattle.octet_region.specs.Shape.{octets_of, IsSound};
+ghost use Rattle.octet_region.specs.Shape.{octets_of, IsIntact};
 
 use crate::cells::Cell;
 
@@ -26,10 +26,10 @@ pub(crate) fn make_room(cells: &mut Vec<Cell>, more: usize) -> bool
 
 /// Adds free cells in front of the others, and answers the first one.
 pub(crate) fn give_cells(cells: &mut Vec<Cell>, free: u32, spare: usize, more: usize) -> u32
-    requires sound { IsSound cells.old.items free spare }
+    requires sound { IsIntact cells.old.items free spare }
     requires room { vec_len cells.old + more ≤ vec_capacity cells.old }
     requires few { vec_len cells.old + more < 2 ^ 27 }
-    ensures sound { IsSound cells.new.items result (spare + more) }
+    ensures sound { IsIntact cells.new.items result (spare + more) }
     ensures count { length cells.new.items ≡ length cells.old.items + more }
     ensures same { (handle : ℕ)
         → octets_of cells.new.items handle ≡ octets_of cells.old.items handle }

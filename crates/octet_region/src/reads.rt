@@ -5,7 +5,7 @@ ghost use Rattle.std.specs.Prelude.{IsTrue, ◌↔◌, None, Some, IfNone, IfSom
 ghost use Rattle.octet_region.specs.Cells.{cells_for, next_at, octets_at};
 ghost use Rattle.octet_region.specs.Chains.{HasCells, octets_in};
 ghost use Rattle.octet_region.specs.Shape.{octets_of, AreWhole, IsChain};
-ghost use Rattle.octet_region.specs.Stored.{Copies, Reads, StandsAt, front_of, length_of};
+ghost use Rattle.octet_region.specs.Stored.{Copies, CopiesFrom, StandsAt, front_of, length_of};
 
 use crate::cells::{CELL, Cell, is_same, mark_of, next_at, octets_at};
 use octets::{behind, front, put_at};
@@ -93,7 +93,7 @@ fn copy_front(cells: &[Cell], first: u32, size: usize, into: &mut [u8])
 /// Fills others with the octets of a handle from a place on. `false` where there are not as many.
 pub(crate) fn copy_part(cells: &[Cell], first: u32, offset: usize, into: &mut [u8]) -> bool
     requires { AreWhole cells.now }
-    ensures { Reads (octets_of cells.now first) offset into.old result into.new }
+    ensures { CopiesFrom (octets_of cells.now first) offset into.old result into.new }
 {
     let Some(size) = size_at(cells, first) else {
         return false;
@@ -105,7 +105,7 @@ pub(crate) fn copy_part(cells: &[Cell], first: u32, offset: usize, into: &mut [u
 fn copy_within(cells: &[Cell], first: u32, size: usize, offset: usize, into: &mut [u8]) -> bool
     requires inside { HasCells cells.now size first }
     requires whole { length (octets_in cells.now size first) ≡ size }
-    ensures { Reads (Some (octets_in cells.now size first)) offset into.old result into.new }
+    ensures { CopiesFrom (Some (octets_in cells.now size first)) offset into.old result into.new }
 {
     if offset > size {
         return false;

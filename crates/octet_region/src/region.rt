@@ -4,7 +4,7 @@ ghost use Rattle.std.specs.Prelude.{◌≡◌, ◌≢◌, ◌≤◌, ◌<◌, �
 ghost use Rattle.std.specs.Prelude.{None, Some, IsOk, MatchResult};
 ghost use Rattle.std.specs.FinMap as map;
 ghost use Rattle.octet_region.specs.Cells.{cells_for};
-ghost use Rattle.octet_region.specs.Stored.{Copies, Frees, Reads, StandsAt, front_of, length_of};
+ghost use Rattle.octet_region.specs.Stored.{Copies, Frees, CopiesFrom, StandsAt, front_of, length_of};
 
 use crate::Handle;
 use crate::cells::{Cell, cells_for, mark_of};
@@ -31,7 +31,7 @@ pub struct Region {
 }
 
 impl Model for Region {
-    ghost use Rattle.octet_region.specs.Shape.{stored_in, IsSound};
+    ghost use Rattle.octet_region.specs.Shape.{stored_in, IsIntact};
     ghost use Rattle.octet_region.specs.Stored.{Stored, stored_code};
 
     ghost Value = { Stored };
@@ -40,7 +40,7 @@ impl Model for Region {
 
     ghost view = { λ r. stored_in r.cells.items r.spare };
 
-    ghost invariant = { λ r. IsSound r.cells.items r.free r.spare };
+    ghost invariant = { λ r. IsIntact r.cells.items r.free r.spare };
 }
 
 impl Region {
@@ -164,7 +164,7 @@ impl Region {
     /// Fills others with the octets of a handle from a place on. `false`, and nothing is written,
     /// where the handle isn't live or its octets end before.
     pub fn read_at(&self, handle: Handle, offset: usize, into: &mut [u8]) -> bool
-        ensures { Reads (map.get self.now.held handle) offset into.old result into.new }
+        ensures { CopiesFrom (map.get self.now.held handle) offset into.old result into.new }
     {
         copy_part(&self.cells, handle.first, offset, into)
     }

@@ -13,7 +13,7 @@ use Rattle.rdata_layout.specs.declared.types.RType.TheVariants as rtype
 use Rattle.record_set.specs.Sets.{ident_of, key_of}
 use Rattle.record_set.specs.declared.sets.RecordSet.{RecordSet}
 use Rattle.record_set.specs.declared.sets.SetKey.{SetKey}
-use Rattle.page_laws.specs.Laws.{IsAsked, IsPlace, PagesFollow, StartsArePlaces, place_of}
+use Rattle.page_laws.specs.Laws.{IsAsked, IsPlace, PagesFollow, StartsArePlaces, start_key}
 use Rattle.reply_model.specs.Paging.{Start, from_start, ident_part, is_before, name_part, start_cmp, type_part}
 use Rattle.dns_name.specs.Order.{zone_cmp}
 use Rattle.zone_model.specs.KeyLaws.{KeysAreOrdered}
@@ -194,8 +194,8 @@ module _ (ordered : KeysAreOrdered) where
       → Stays (is_before start) sets
   stays_by start sets rising None place = stays_nowhere (is_before start) place sets
   stays_by start sets rising (Some name) place =
-      stays_so (is_before start) (comes_before (place_of name start)) place sets
-      (stays_at (place_of name start) sets rising)
+      stays_so (is_before start) (comes_before (start_key name start)) place sets
+      (stays_at (start_key name start) sets rising)
 
   pub pages_follow : PagesFollow
   pages_follow start sets rising asked =

@@ -14,8 +14,8 @@ IsAsked start = (start.name ≡ None → start.rtype ≡ None) × (start.rtype �
 
 -- The key at which a list starts: where no type is given the one of the least number, which is A,
 -- and where no identifier is given none, which comes first.
-abbrev pub place_of : (name : List (List ℕ)) → Start → SetKey
-place_of name start = record {
+abbrev pub start_key : (name : List (List ℕ)) → Start → SetKey
+start_key name start = record {
   name = name;
   rtype = unwrap_or start.rtype A;
   ident = start.ident;
@@ -24,7 +24,7 @@ place_of name start = record {
 -- Before a start without a name there is nothing. Before another one is what comes before its key.
 abbrev pub IsPlace : Start → Option (List (List ℕ)) → RecordSet → Type 0
 IsPlace start None set = is_before start set ≡ false
-IsPlace start (Some name) set = is_before start set ≡ comes_before (place_of name start) set
+IsPlace start (Some name) set = is_before start set ≡ comes_before (start_key name start) set
 
 abbrev pub StartsArePlaces : Type 0
 StartsArePlaces = (start : Start) (set : RecordSet) → IsAsked start → IsPlace start start.name set

@@ -6,7 +6,7 @@ use Rattle.routing.specs.declared.policies.Routing.TheVariants as routing
 use Rattle.line_reading.specs.Reading.{bad}
 use Rattle.line_faults.specs.declared.member.Member.TheVariants as m
 use Rattle.line_faults.specs.declared.fault.LineReason.TheVariants.{Both, Missing, Alone}
-use Rattle.policy_lines.specs.Places.{country_of, place_of}
+use Rattle.policy_lines.specs.Places.{country_of_text, place_of}
 use Rattle.policy_lines.specs.declared.places.Country.TheVariants as country
 use Rattle.policy_lines.specs.Policies.{routing_of}
 use Rattle.policy_lines.specs.declared.policies.Policies.{Policies}
@@ -45,10 +45,10 @@ pub block : routing_of (record none { ident = Some (codes "a"); location = Some 
 unfolding routing_of
 block = refl
 
-pub australia : country_of (codes "AU") ≡ Some (country.Code (0x41 ∷ 0x55 ∷ []))
+pub australia : country_of_text (codes "AU") ≡ Some (country.Code (0x41 ∷ 0x55 ∷ []))
 australia = refl
 
-pub lower_country : country_of (codes "au") ≡ None
+pub lower_country : country_of_text (codes "au") ≡ None
 lower_country = refl
 
 -- a country's part, and one without a country

@@ -5,12 +5,12 @@ use Rattle.routing.specs.declared.policies.Routing.{Routing}
 use Rattle.routing.specs.declared.policies.Routing.TheVariants as routing
 use Rattle.serde_json.specs.Data.{Data}
 use Rattle.line_reading.specs.Reading.{◌>>=◌, optional, or_bad, bad}
-use Rattle.line_reading.specs.Kinds.{number, word, flag}
+use Rattle.line_reading.specs.Kinds.{number, one_of_texts, flag}
 use Rattle.line_faults.specs.declared.member.Member.{Member}
 use Rattle.line_faults.specs.declared.member.Member.TheVariants as m
 use Rattle.line_faults.specs.declared.fault.LineFault.{LineFault}
 use Rattle.line_faults.specs.declared.fault.LineReason.TheVariants.{Both, Missing, Alone, OutOfRange}
-use Rattle.line_words.specs.Words.{ident_of, region_of, role_of}
+use Rattle.line_words.specs.Words.{ident_of_text, region_of_text, role_of_text}
 use Rattle.policy_lines.specs.Places.{geo_location, cidr_routing}
 use Rattle.policy_lines.specs.declared.policies.Policies.{Policies}
 
@@ -21,11 +21,11 @@ only_true h d = flag h d >>= λ b. if b then Ok tt else bad OutOfRange h
 -- the members, in their order
 unfoldable pub policy_members : Data → Result Policies LineFault
 policy_members o = do
-  id ← optional m.SetIdentifier (word ident_of) o
+  id ← optional m.SetIdentifier (one_of_texts ident_of_text) o
   weight ← optional m.Weight (number 0 255) o
-  role ← optional m.Failover (word role_of) o
+  role ← optional m.Failover (one_of_texts role_of_text) o
   where_to ← optional m.GeoLocation geo_location o
-  near ← optional m.Region (word region_of) o
+  near ← optional m.Region (one_of_texts region_of_text) o
   several ← optional m.MultiValueAnswer only_true o
   block ← optional m.CidrRoutingConfig cidr_routing o
   Ok (record {

@@ -2,13 +2,13 @@
 
 ghost use Rattle.std.specs.Prelude.{◌≡◌};
 ghost use Rattle.serde_json.specs.View.{view};
-ghost use Rattle.policy_lines.specs.Places.{is_capital, country_of, place_of, geo_location};
+ghost use Rattle.policy_lines.specs.Places.{is_capital, country_of_text, place_of, geo_location};
 ghost use Rattle.policy_lines.specs.Places.{cidr_routing};
 
 use line_reading::{
     LineFault, LineReason, Member, collection_id, object, optional_word, required, required_word,
 };
-use line_words::{continent_of, location_of, subdivision_of};
+use line_words::{continent_of_text, location_of_text, subdivision_of_text};
 use routing::{Continent, Ident, Place, Sub};
 use serde_json::Value;
 
@@ -34,9 +34,13 @@ pub(crate) fn geo_location(member: Member, value: &Value) -> Result<Place, LineF
             Member::SubdivisionCode,
         ],
     )?;
-    let continent = optional_word(value, Member::ContinentCode, |text| continent_of(text))?;
-    let country = optional_word(value, Member::CountryCode, |text| country_of(text))?;
-    let part = optional_word(value, Member::SubdivisionCode, |text| subdivision_of(text))?;
+    let continent = optional_word(value, Member::ContinentCode, |text| continent_of_text(text))?;
+    let country = optional_word(value, Member::CountryCode, |text| country_of_text(text))?;
+    let part = optional_word(
+        value,
+        Member::SubdivisionCode,
+        |text| subdivision_of_text(text),
+    )?;
     place_of(continent, country, part)
 }
 
@@ -63,8 +67,8 @@ fn place_of(
 }
 
 /// The country of a code.
-fn country_of(text: &str) -> Option<Country>
-    ensures { result ≡ country_of text.now }
+fn country_of_text(text: &str) -> Option<Country>
+    ensures { result ≡ country_of_text text.now }
 {
     match text.as_bytes() {
         [a] => { if *a == b'*' { Some(Country::Any) } else { None } }
@@ -98,6 +102,6 @@ pub(crate) fn cidr_routing(member: Member, value: &Value) -> Result<(u32, Ident)
         &[Member::CollectionId, Member::LocationName],
     )?;
     let collection = collection_id(Member::CollectionId, required(value, Member::CollectionId)?)?;
-    let location = required_word(value, Member::LocationName, |text| location_of(text))?;
+    let location = required_word(value, Member::LocationName, |text| location_of_text(text))?;
     Ok((collection, location))
 }

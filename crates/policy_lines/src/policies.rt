@@ -7,7 +7,7 @@ ghost use Rattle.policy_lines.specs.Policies.{policy_with, has_policy, policy_of
 
 use crate::places::{cidr_routing, geo_location};
 use line_reading::{LineFault, LineReason, Member, flag, optional, optional_u8, optional_word};
-use line_words::{ident_of, region_of, role_of};
+use line_words::{ident_of_text, region_of_text, role_of_text};
 use routing::{Ident, Place, Region, Role, Routing};
 use serde_json::Value;
 
@@ -30,11 +30,11 @@ pub struct Policies {
 pub fn policy_members(value: &Value) -> Result<Policies, LineFault>
     ensures { result ≡ policy_members (view value.now) }
 {
-    let ident = optional_word(value, Member::SetIdentifier, |text| ident_of(text))?;
+    let ident = optional_word(value, Member::SetIdentifier, |text| ident_of_text(text))?;
     let weight = optional_u8(value, Member::Weight, 0, 255)?;
-    let role = optional_word(value, Member::Failover, |text| role_of(text))?;
+    let role = optional_word(value, Member::Failover, |text| role_of_text(text))?;
     let place = optional(value, Member::GeoLocation, geo_location)?;
-    let region = optional_word(value, Member::Region, |text| region_of(text))?;
+    let region = optional_word(value, Member::Region, |text| region_of_text(text))?;
     let several = optional(value, Member::MultiValueAnswer, only_true)?.is_some();
     let location = optional(value, Member::CidrRoutingConfig, cidr_routing)?;
     Ok(Policies {

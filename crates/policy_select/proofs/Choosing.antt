@@ -18,7 +18,7 @@ use Rattle.routing.specs.declared.policies.Routing.TheVariants as routing
 use Rattle.weighted.specs.Choice as weighted
 use Rattle.zone_table.specs.Zones.{Zone}
 use Rattle.zone_table.specs.SetRefRecord.{SetRef}
-use Rattle.zone_table.specs.Placed.{Placed}
+use Rattle.zone_table.specs.Slotted.{Slotted}
 use Rattle.zone_table.specs.Looking.{IsGroupNow}
 use Rattle.zone_table.specs.declared.refs.Group.{Group}
 use Rattle.policy_select.specs.declared.selection.Selected.{Selected}
@@ -90,8 +90,8 @@ pub same_length : (zones : List Zone) (test : SetRef → Bool) (g : Group)
     → length (flags_in zones test g) ≡ length (sets_in zones g)
 same_length zones test g =
     length-map (members_of zones g)
-    (λ (p : Placed). test (record { zone = g.zone; slot = p.slot }))
-    ∙ sym (length-map (members_of zones g) (λ (p : Placed). p.set))
+    (λ (p : Slotted). test (record { zone = g.zone; slot = p.slot }))
+    ∙ sym (length-map (members_of zones g) (λ (p : Slotted). p.set))
 
 module _ (law : ChosenAreOfGroup) (zones : List Zone) (test : SetRef → Bool) (g : Group)
     (rows : ClientRows) (word : ℕ) (selected : Selected)

@@ -15,7 +15,7 @@ use Rattle.zone_table.specs.SetKeyRecord.{SetKey}
 use Rattle.zone_table.specs.Zones.{Zone, placed_in}
 use Rattle.zone_table.specs.SetRefRecord.{SetRef}
 use Rattle.zone_table.specs.Sets.{IsAmong, target_group}
-use Rattle.zone_table.specs.Placed.{Placed}
+use Rattle.zone_table.specs.Slotted.{Slotted}
 use Rattle.zone_table.specs.declared.refs.Group.{Group}
 use Rattle.answer_model.specs.declared.used.Used.{Used}
 use Rattle.answer_model.specs.Clients.{Client}
@@ -40,17 +40,17 @@ module _ {X : Type 0} where
   among_back (y ∷ xs) (suc n) x there = inr (among_back xs n x there)
 
 -- a test of sets that is one of keys says the same of each
-same_flags : (test : SetRef → Bool) (healthy : SetKey → Bool) (zone : ℕ) (xs : List Placed)
-    → ((p : Placed) → IsAmong xs p
+same_flags : (test : SetRef → Bool) (healthy : SetKey → Bool) (zone : ℕ) (xs : List Slotted)
+    → ((p : Slotted) → IsAmong xs p
     → test (record { zone = zone; slot = p.slot }) ≡ healthy (key_of p.set))
-    → map (λ (p : Placed). test (record { zone = zone; slot = p.slot })) xs
-    ≡ healthy_in healthy (map (λ (p : Placed). p.set) xs)
+    → map (λ (p : Slotted). test (record { zone = zone; slot = p.slot })) xs
+    ≡ healthy_in healthy (map (λ (p : Slotted). p.set) xs)
 same_flags test healthy zone [] same = refl
 same_flags test healthy zone (x ∷ xs) same =
     let first = same x (inl refl) in
     let rest = same_flags test healthy zone xs (λ p there. same p (inr there)) in
     ap (λ (b : Bool). b
-    ∷ map (λ (p : Placed). test (record { zone = zone; slot = p.slot })) xs) first
+    ∷ map (λ (p : Slotted). test (record { zone = zone; slot = p.slot })) xs) first
     ∙ ap (λ (bs : List Bool). healthy (key_of x.set) ∷ bs) rest
 
 -- what the view says of a group is what the test says

@@ -21,8 +21,8 @@ use Rattle.zone_table.proofs.Among.{among_at}
 use Rattle.zone_table.proofs.Ordered.{keys_tie, keys_total}
 use Rattle.zone_table.specs.Keys.{key_cmp}
 use Rattle.zone_table.specs.Sets.{IsAmong, IsRising}
-use Rattle.zone_table.specs.Placed.{HaveOwnSlots, Placed, sets_of}
-use Rattle.zone_table.specs.Looking.{IsMember, Names}
+use Rattle.zone_table.specs.Slotted.{HaveOwnSlots, Slotted, sets_of}
+use Rattle.zone_table.specs.Looking.{IsSetOfGroup, RefersTo}
 use Rattle.zone_table.specs.declared.refs.Group.{Group}
 use Rattle.policy_select.specs.Groups.{ViewsAgree, members_of, said_of, sets_in}
 
@@ -43,24 +43,24 @@ module _ {X : Type 0} where
       got_of_drop xs s i ∙ ap (λ (k : ℕ). slice_get (x ∷ xs) k) one
 
 -- in slots of their own there is one set in a slot
-one_slot : (placed : List Placed) → HaveOwnSlots placed → (p q : Placed) → IsAmong placed p
+one_slot : (placed : List Slotted) → HaveOwnSlots placed → (p q : Slotted) → IsAmong placed p
     → IsAmong placed q → p.slot ≡ q.slot → p ≡ q
 one_slot [] own p q first second same = absurd first
 one_slot (x ∷ placed) own p q (inl d) (inl e) same = sym d ∙ e
 one_slot (x ∷ placed) own p q (inl d) (inr second) same =
-    absurd (in_all (λ (y : Placed). x.slot ≢ y.slot) placed q own.0 second
-    (ap (λ (y : Placed). y.slot) d ∙ same))
+    absurd (in_all (λ (y : Slotted). x.slot ≢ y.slot) placed q own.0 second
+    (ap (λ (y : Slotted). y.slot) d ∙ same))
 one_slot (x ∷ placed) own p q (inr first) (inl e) same =
-    absurd (in_all (λ (y : Placed). x.slot ≢ y.slot) placed p own.0 first
-    (ap (λ (y : Placed). y.slot) e ∙ sym same))
+    absurd (in_all (λ (y : Slotted). x.slot ≢ y.slot) placed p own.0 first
+    (ap (λ (y : Slotted). y.slot) e ∙ sym same))
 one_slot (x
     ∷ placed) own p q (inr first) (inr second) same = one_slot placed own.1 p q first second same
 
 -- the sets of each zone are in slots of their own, and have spellings
-record AreKept (placed : List Placed) : Type 0 where
+record AreKept (placed : List Slotted) : Type 0 where
   own : HaveOwnSlots placed
   rising : IsRising (sets_of placed)
-  spelled : (p : Placed) → IsAmong placed p → HasSpelling p.set
+  spelled : (p : Slotted) → IsAmong placed p → HasSpelling p.set
 
 kept_in : (zones : List Zone) → AllByRecursion StandsAlone zones → (id : ℕ)
     → AreKept (placed_in zones id)
@@ -73,7 +73,7 @@ kept_in (zone ∷ zones) each id = by (kept_in zones each.1 id) (zone.id == id)
       own = each.0.sets.own;
       rising = each.0.sets.rising;
       spelled = λ p there.
-          let can = in_all (λ (q : Placed). CanStand zone.apex q.set) zone.placed p each.0.each there in
+          let can = in_all (λ (q : Slotted). CanStand zone.apex q.set) zone.placed p each.0.each there in
           can.spelled;
     }
     by rest false = rest
@@ -81,40 +81,40 @@ kept_in (zone ∷ zones) each id = by (kept_in zones each.1 id) (zone.id == id)
 -- the set that the reference of a member names stands at the member's place
 pub record IsNamed (zones : List Zone) (g : Group) (i : ℕ) (ref : SetRef) : Type 0 where
   pub set : RecordSet
-  pub names : Names zones ref set
+  pub names : RefersTo zones ref set
   pub at : slice_get (sets_in zones g) i ≡ Some set
 
-placed_at : (zones : List Zone) (g : Group) (i : ℕ) (p : Placed) → i < g.length
+placed_at : (zones : List Zone) (g : Group) (i : ℕ) (p : Slotted) → i < g.length
     → slice_get (placed_in zones g.zone) (g.start + i) ≡ Some p → slice_get (members_of zones g) i
     ≡ Some p
 placed_at zones g i p within e =
     got_of_take (drop g.start (placed_in zones g.zone)) g.length i within
     ∙ got_of_drop (placed_in zones g.zone) g.start i ∙ e
 
-pub named : (zones : List Zone) (g : Group) (i : ℕ) (ref : SetRef) → IsMember zones g i ref
+pub named : (zones : List Zone) (g : Group) (i : ℕ) (ref : SetRef) → IsSetOfGroup zones g i ref
     → i < g.length → IsNamed zones g i ref
 named zones g i ref member within =
-    let p : Placed = record { slot = ref.slot; set = member.slot.0 } in
+    let p : Slotted = record { slot = ref.slot; set = member.slot.0 } in
     let here = placed_at zones g i p within member.slot.1 in
     record {
       set = member.slot.0;
       names = subst (λ (z : ℕ). IsAmong (placed_in zones z) p) (sym member.zone)
           (among_at (placed_in zones g.zone) (g.start + i) p member.slot.1);
-      at = slice_get-map (λ (q : Placed). q.set) (members_of zones g) i
-          ∙ ap (option_map (λ (q : Placed). q.set)) here;
+      at = slice_get-map (λ (q : Slotted). q.set) (members_of zones g) i
+          ∙ ap (option_map (λ (q : Slotted). q.set)) here;
     }
 
 -- a reference names one set
 pub one_named : (zones : List Zone) (ref : SetRef) (set other : RecordSet) → AreZones zones
-    → Names zones ref set → Names zones ref other → set ≡ other
+    → RefersTo zones ref set → RefersTo zones ref other → set ≡ other
 one_named zones ref set other are first second =
-    ap (λ (p : Placed). p.set)
+    ap (λ (p : Slotted). p.set)
     (one_slot (placed_in zones ref.zone) (kept_in zones are.each ref.zone).own
     (record { slot = ref.slot; set = set })
     (record { slot = ref.slot; set = other }) first second refl)
 
 pub spelled : (zones : List Zone) (ref : SetRef) (set : RecordSet) → AreZones zones
-    → Names zones ref set → HasSpelling set
+    → RefersTo zones ref set → HasSpelling set
 spelled zones ref set are names =
     (kept_in zones are.each ref.zone).spelled (record { slot = ref.slot; set = set }) names
 
@@ -149,10 +149,10 @@ is_tie Equal e = refl
 is_tie Greater e = absurd (grind (arith, e))
 
 -- the set of a key is found by it
-by_its_key : (placed : List Placed) → IsRising (sets_of placed) → (p : Placed) → IsAmong placed p
-    → find (λ (q : Placed). is_eq (key_cmp (key_of q.set) (key_of p.set))) placed ≡ Some p
+by_its_key : (placed : List Slotted) → IsRising (sets_of placed) → (p : Slotted) → IsAmong placed p
+    → find (λ (q : Slotted). is_eq (key_cmp (key_of q.set) (key_of p.set))) placed ≡ Some p
 by_its_key placed rising p there =
-    let test = λ (q : Placed). is_eq (key_cmp (key_of q.set) (key_of p.set)) in
+    let test = λ (q : Slotted). is_eq (key_cmp (key_of q.set) (key_of p.set)) in
     let r = found test placed p there (ap is_eq (tied_itself keys_total (key_of p.set))) in
     let same = keys_tie (key_of r.one.set) (key_of p.set)
     (is_tie (key_cmp (key_of r.one.set) (key_of p.set)) r.passes) in

@@ -11,7 +11,7 @@ use Rattle.zone_table.specs.RecordSetRecord.{RecordSet}
 use Rattle.routing.specs.declared.policies.Routing.{Routing}
 use Rattle.zone_table.specs.Zones.{Zone, placed_in}
 use Rattle.zone_table.proofs.Lists.{take_more}
-use Rattle.zone_table.specs.Placed.{Placed}
+use Rattle.zone_table.specs.Slotted.{Slotted}
 use Rattle.zone_table.specs.declared.refs.Group.{Group}
 use Rattle.policy_select.specs.Groups.{members_of, sets_in}
 use Rattle.policy_select.specs.Rules.{FirstSays}
@@ -54,7 +54,7 @@ few_members zones g =
 
 pub few_sets : (zones : List Zone) (g : Group) → length (sets_in zones g) ≤ g.length
 few_sets zones g =
-    let e = length-map (members_of zones g) (λ (p : Placed). p.set) in
+    let e = length-map (members_of zones g) (λ (p : Slotted). p.set) in
     let few = few_members zones g in
     omega (arith, e, few)
 

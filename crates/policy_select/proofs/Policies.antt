@@ -11,7 +11,7 @@ use Rattle.dns_name.specs.OrderLaws.{same_labels-Decides}
 use Rattle.rdata_layout.specs.Types.{number_of}
 use Rattle.rdata_layout.specs.declared.types.RType.{RType}
 use Rattle.zone_table.proofs.Among.{among_at}
-use Rattle.zone_table.specs.Looking.{IsGroupNow, IsMember, slots_in}
+use Rattle.zone_table.specs.Looking.{IsGroupNow, IsSetOfGroup, slots_in}
 use Rattle.zone_table.specs.Octets.{body_octets, check_octets, head_octets}
 use Rattle.octets.specs.Numbers.{four_octets}
 use Rattle.routing.specs.declared.policies.Place.{Place}
@@ -20,7 +20,7 @@ use Rattle.routing.specs.declared.policies.Routing.{Routing}
 use Rattle.routing.specs.declared.policies.Routing.TheVariants as policy
 use Rattle.zone_table.specs.Octets.{place_octets, role_number, routing_octets, set_octets, text_octets}
 use Rattle.zone_table.specs.SetsOfSetReading.{IsPlace, IsRouting}
-use Rattle.zone_table.specs.Placed.{Placed}
+use Rattle.zone_table.specs.Slotted.{Slotted}
 use Rattle.zone_table.specs.Policies.{PolicyIsAt}
 use Rattle.zone_table.specs.RecordSetRecord.{RecordSet}
 use Rattle.zone_table.specs.SetRefRecord.{SetRef}
@@ -90,22 +90,22 @@ all_placed zones g (name, rtype, is) first i n at its = λ set there.
 
 -- ---- a member by its slot
 
-slot_back : (o : Option Placed) (slot : ℕ) → option_map (λ (p : Placed). p.slot) o ≡ Some slot
-    → (p : Placed) × (o ≡ Some p) × (p.slot ≡ slot)
+slot_back : (o : Option Slotted) (slot : ℕ) → option_map (λ (p : Slotted). p.slot) o ≡ Some slot
+    → (p : Slotted) × (o ≡ Some p) × (p.slot ≡ slot)
 slot_back None slot e = absurd (grind (arith, e))
 slot_back (Some p) slot e = (p, refl, (let same : p.slot ≡ slot = grind (arith, e) in same))
 
 pub member_there : (zones : List Zone) (g : Group) (slots : List ℕ) → slots ≡ slots_in zones g
     → (i slot : ℕ) → slice_get slots i ≡ Some slot
-    → (p : Placed) × (slice_get (members_of zones g) i ≡ Some p) × (p.slot ≡ slot)
+    → (p : Slotted) × (slice_get (members_of zones g) i ≡ Some p) × (p.slot ≡ slot)
 member_there zones g slots are i slot at =
     slot_back (slice_get (members_of zones g) i) slot
-    (sym (slice_get-map (λ (p : Placed). p.slot) (members_of zones g) i)
+    (sym (slice_get-map (λ (p : Slotted). p.slot) (members_of zones g) i)
     ∙ ap (λ (ks : List ℕ). slice_get ks i) (sym are) ∙ at)
 
 pub member_of : (zones : List Zone) (g : Group) (slots : List ℕ) → slots ≡ slots_in zones g
     → (i : ℕ) (ref : SetRef) → i < g.length → ref.zone ≡ g.zone → slice_get slots i ≡ Some ref.slot
-    → IsMember zones g i ref
+    → IsSetOfGroup zones g i ref
 member_of zones g slots are i ref within zone at =
     let there = member_there zones g slots are i ref.slot at in
     let all = placed_in zones g.zone in
@@ -123,8 +123,8 @@ member_of zones g slots are i ref within zone at =
 pub as_many_slots : (zones : List Zone) (g : Group) → IsGroupNow zones g
     → length (slots_in zones g) ≡ g.length
 as_many_slots zones g now =
-    length-map (members_of zones g) (λ (p : Placed). p.slot)
-    ∙ sym (length-map (members_of zones g) (λ (p : Placed). p.set)) ∙ as_many zones g now
+    length-map (members_of zones g) (λ (p : Slotted). p.slot)
+    ∙ sym (length-map (members_of zones g) (λ (p : Slotted). p.set)) ∙ as_many zones g now
 
 pub in_slots : (zones : List Zone) (g : Group) (slots : List ℕ) (i : ℕ) → IsGroupNow zones g
     → slots ≡ slots_in zones g → i < g.length → i < length slots
@@ -140,7 +140,7 @@ pub flag_there : (zones : List Zone) (view : SetRef → Bool) (g : Group) (slots
     → slice_get (flags_in zones view g) i ≡ Some flag
 flag_there zones view g slots are i ref flag zone at says =
     let there = member_there zones g slots are i ref.slot at in
-    let said = λ (p : Placed). view (record { zone = g.zone; slot = p.slot }) in
+    let said = λ (p : Slotted). view (record { zone = g.zone; slot = p.slot }) in
     let same : view ref ≡ said there.0 =
     ap (λ (z : ℕ). view (record { zone = z; slot = ref.slot })) zone
     ∙ ap (λ (k : ℕ). view (record { zone = g.zone; slot = k })) (sym there.2) in

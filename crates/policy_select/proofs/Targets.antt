@@ -20,7 +20,7 @@ use Rattle.zone_table.specs.Bodies.{alias_of}
 use Rattle.zone_table.specs.Found.{IsGroupAt}
 use Rattle.zone_table.specs.Zones.{Zone, placed_in}
 use Rattle.zone_table.specs.Sets.{IsAmong, group, is_of_group, target_group_of}
-use Rattle.zone_table.specs.Placed.{Placed}
+use Rattle.zone_table.specs.Slotted.{Slotted}
 use Rattle.zone_table.specs.Looking.{IsGroup, IsGroupNow}
 use Rattle.zone_table.specs.declared.refs.Group.{Group}
 use Rattle.answer_model.specs.Descent.{sets_at}
@@ -62,7 +62,7 @@ of_its_type own all name rtype set there =
 pub of_zone : (zones : List Zone) (g : Group)
     → sets_in zones g ≡ take g.length (drop g.start (sets_in_zone zones g.zone))
 of_zone zones g =
-    let f = λ (p : Placed). p.set in
+    let f = λ (p : Slotted). p.set in
     let placed = placed_in zones g.zone in
     sym (take-map f g.length (drop g.start placed)) ∙ ap (take g.length)
     (sym (drop-map f g.start placed))

@@ -20,7 +20,7 @@ pub use Rattle.zone_table.specs.BoundRecord
 pub use Rattle.answer_model.specs.Existing
 pub use Rattle.answer_model.specs.Hosted
 pub use Rattle.answer_model.specs.Keys
-pub use Rattle.answer_model.specs.Placed
+pub use Rattle.answer_model.specs.Slotted
 pub use Rattle.answer_model.specs.ZonesOfZoneModel
 pub use Rattle.answer_model.specs.Sets
 pub use Rattle.answer_model.specs.RecordSetRecord

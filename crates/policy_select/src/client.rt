@@ -4,7 +4,7 @@ ghost use Rattle.std.specs.Prelude.{◌≡◌};
 ghost use Rattle.std.specs.Option.{option_copied};
 ghost use Rattle.answer_model.specs.Clients.{blocks_scope, location_in};
 ghost use Rattle.answer_model.specs.Location.{scope_in, told_in};
-ghost use Rattle.answer_model.specs.Stored.{collection_at};
+ghost use Rattle.answer_model.specs.Stored.{collection_with};
 
 use address_text::IpAddress;
 use answer_model::{Latencies, Location, Tables, locates_as_told, told_in_collections};
@@ -44,8 +44,8 @@ pub(crate) fn block_of(
     client: IpAddress,
 ) -> (Option<&Ident>, u8)
     ensures location { option_copied result.0
-        ≡ location_in (collection_at id collections.now.list) client }
-    ensures scope { result.1 ≡ blocks_scope (collection_at id collections.now.list) client }
+        ≡ location_in (collection_with id collections.now.list) client }
+    ensures scope { result.1 ≡ blocks_scope (collection_with id collections.now.list) client }
 {
     told_in_collections();
     collections.location(id, client)

@@ -3,7 +3,7 @@
 ghost use Rattle.std.specs.Prelude.{◌≡◌, ◌<◌, ◌≤◌, ◌+◌, ℕ, Bool, IfSome, IsTrue, Some, length};
 ghost use Rattle.std.specs.Prelude.{slice_get};
 ghost use Rattle.std.specs.Option.{option_map};
-ghost use Rattle.answer_model.specs.Clients.{Client, client_at};
+ghost use Rattle.answer_model.specs.Clients.{Client, client_with};
 ghost use Rattle.answer_model.specs.Descent.{descend as descended, descends, group_uses, word_of};
 ghost use Rattle.answer_model.specs.declared.used.Used.{Used};
 ghost use Rattle.zone_table.specs.Reasons.{IsAlias};
@@ -54,7 +54,7 @@ pub fn descend<V: HealthView>(
     requires few { FewInGroups (sets_in_zone zones.now.zones group.zone) }
     requires room { choices.old ≤ 238 }
     ensures gives { GivesDescent zones.now.zones (V.test view.now)
-        (client_at tables.now zones.now.collections.list client) words.now group descended
+        (client_with tables.now zones.now.collections.list client) words.now group descended
         (record { count = choices.old; used = used.old }) result choices.new used.new }
     ensures places { AreOfGroup zones.now.zones result }
     ensures held { HoldsFirst zones.now.zones result scratch.new }
@@ -87,7 +87,7 @@ pub fn descend_seen<V: HealthView>(
     requires room { choices.old ≤ 238 }
     requires seen { IsSeen tables.now client seen.old }
     ensures gives { GivesDescent zones.now.zones (V.test view.now)
-        (client_at tables.now zones.now.collections.list client) words.now group descended
+        (client_with tables.now zones.now.collections.list client) words.now group descended
         (record { count = choices.old; used = used.old }) result choices.new used.new }
     ensures places { AreOfGroup zones.now.zones result }
     ensures held { HoldsFirst zones.now.zones result scratch.new }
@@ -120,7 +120,7 @@ fn descend_from<V: HealthView>(
     requires room { choices.old + most ≤ 255 }
     requires seen { IsSeen tables.now client seen.old }
     ensures gives { GivesDescent zones.now.zones (V.test view.now)
-        (client_at tables.now zones.now.collections.list client) words.now group (descends most)
+        (client_with tables.now zones.now.collections.list client) words.now group (descends most)
         (record { count = choices.old; used = used.old }) result choices.new used.new }
     ensures places { AreOfGroup zones.now.zones result }
     ensures held { HoldsFirst zones.now.zones result scratch.new }
@@ -175,11 +175,11 @@ fn choose_next<V: HealthView>(
     requires seen { IsSeen tables.now client seen.old }
     ensures selected { result
         ≡ choice_of zones.now.zones (V.test view.now)
-        (client_at tables.now zones.now.collections.list client) group
+        (client_with tables.now zones.now.collections.list client) group
         (word_of words.now choices.old) }
     ensures choices { choices.new ≡ choices.old + 1 }
     ensures used { used.new
-        ≡ group_uses (client_at tables.now zones.now.collections.list client)
+        ≡ group_uses (client_with tables.now zones.now.collections.list client)
         (sets_in zones.now.zones group) used.old }
     ensures places { AreOfGroup zones.now.zones result }
     ensures zone { IsInZone group.zone result }
@@ -259,9 +259,9 @@ fn choose_held<V: HealthView>(
     requires seen { IsSeen tables.now client seen.old }
     ensures selected { result
         ≡ choice_of zones.now.zones (V.test view.now)
-        (client_at tables.now zones.now.collections.list client) group word }
+        (client_with tables.now zones.now.collections.list client) group word }
     ensures used { used.new
-        ≡ group_uses (client_at tables.now zones.now.collections.list client)
+        ≡ group_uses (client_with tables.now zones.now.collections.list client)
         (sets_in zones.now.zones group) used.old }
     ensures places { AreOfGroup zones.now.zones result }
     ensures held { HoldsFirst zones.now.zones result scratch.new }

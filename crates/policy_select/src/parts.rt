@@ -138,7 +138,7 @@ pub(crate) fn place_at(octets: &[u8]) -> Place
     match octets {
         [1, number, ..] => Place::Continent(continent_of(*number)),
         [2, x, y, ..] => Place::Country([*x, *y]),
-        [3, x, y, others @ ..] => part_of([*x, *y], others),
+        [3, x, y, others @ ..] => subdivision_of([*x, *y], others),
         _ => Place::Anywhere,
     }
 }
@@ -159,7 +159,7 @@ fn continent_of(number: u8) -> Continent
 }
 
 /// The subdivision of a country whose code stands at the front.
-fn part_of(country: [u8; 2], octets: &[u8]) -> Place
+fn subdivision_of(country: [u8; 2], octets: &[u8]) -> Place
     ensures { (code rest : List ℕ) → IsSubdivision code → octets.now ≡ text_octets code ++ rest
         → result ≡ Subdivision country code }
 {

@@ -2,7 +2,7 @@
 
 ghost use Rattle.std.specs.Prelude.{◌≡◌, ◌<◌, ◌≤◌, ◌∷◌, [], ℕ, List, Some};
 ghost use Rattle.std.specs.Prelude.{option_to_list, slice_get};
-ghost use Rattle.answer_model.specs.Clients.{client_at};
+ghost use Rattle.answer_model.specs.Clients.{client_with};
 ghost use Rattle.answer_model.specs.Descent.{group_uses};
 ghost use Rattle.multivalue.specs.Answer.{picked};
 ghost use Rattle.zone_table.specs.RecordSetRecord.{RecordSet};
@@ -51,7 +51,7 @@ pub fn select<V: HealthView>(
     requires few { group.length ≤ 100 }
     ensures { result
         ≡ choice_of zones.now.zones (V.test view.now)
-        (client_at tables.now zones.now.collections.list client) group word }
+        (client_with tables.now zones.now.collections.list client) group word }
 {
     let mut used = Used {
         places: false,
@@ -96,9 +96,9 @@ pub(crate) fn choose<V: HealthView>(
     requires held { scratch.old ≡ slice_get (sets_in zones.now.zones group) 0 }
     ensures selected { result
         ≡ choice_of zones.now.zones (V.test view.now)
-        (client_at tables.now zones.now.collections.list client) group word }
+        (client_with tables.now zones.now.collections.list client) group word }
     ensures used { used.new
-        ≡ group_uses (client_at tables.now zones.now.collections.list client)
+        ≡ group_uses (client_with tables.now zones.now.collections.list client)
         (sets_in zones.now.zones group) used.old }
     ensures seen { IsSeen tables.now client seen.new }
     ensures held { scratch.new ≡ scratch.old }

@@ -3,7 +3,7 @@ use Rattle.std.proofs.Common.{◌≡◌, Some, None, [], ◌∷◌, refl}
 use Rattle.std.specs.Prelude.{codes}
 use Rattle.ip_table.specs.IpAddressRecord.TheVariants.{V4}
 use Rattle.ip_table.specs.Bits as bits
-use Rattle.prefix_text.specs.Prefixes.{plain_number, block_of, prefix_of}
+use Rattle.prefix_text.specs.Prefixes.{plain_number, block_of, prefix_of_text}
 
 zero : plain_number 128 (codes "0") ≡ Some 0
 zero = refl
@@ -20,7 +20,7 @@ above = refl
 nothing : plain_number 128 [] ≡ None
 nothing = refl
 
-no_mark : prefix_of (codes "198.51.100.0") ≡ None
+no_mark : prefix_of_text (codes "198.51.100.0") ≡ None
 no_mark = refl
 
 bit_behind : block_of (V4 (198 ∷ 51 ∷ 101 ∷ 0 ∷ [])) 23 ≡ None

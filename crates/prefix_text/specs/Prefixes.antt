@@ -22,8 +22,8 @@ known (Some octets) other = Some (V4 octets)
 known None (Some octets) = Some (V6 octets)
 known None None = None
 
-abbrev pub address_of : List ℕ → Option IpAddress
-address_of text = known (ipv4_of text) (ipv6_of text)
+abbrev pub address_of_text : List ℕ → Option IpAddress
+address_of_text text = known (ipv4_of text) (ipv6_of text)
 
 -- the prefix of an address with so many bits, where it has so many and each later one is 0
 abbrev pub block_of : IpAddress → (length : ℕ) → Option Prefix
@@ -40,7 +40,7 @@ block_of_parts (Some address) (Some length) = block_of address length
 abbrev pub around : List ℕ → (place : Option ℕ) → Option Prefix
 around text None = None
 around text (Some at) =
-    block_of_parts (address_of (take at text)) (plain_number 128 (drop (at + 1) text))
+    block_of_parts (address_of_text (take at text)) (plain_number 128 (drop (at + 1) text))
 
-abbrev pub prefix_of : List ℕ → Option Prefix
-prefix_of text = around text (place_of 0x2F text)
+abbrev pub prefix_of_text : List ℕ → Option Prefix
+prefix_of_text text = around text (place_of 0x2F text)

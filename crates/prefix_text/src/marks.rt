@@ -3,13 +3,13 @@
 ghost use Rattle.std.specs.Prelude.{◌≡◌, ◌<◌, length, IfSome};
 ghost use Rattle.prefix_text.specs.Marks.{place_of};
 
-/// The first place at which a mark stands in a text.
-pub fn place_of(mark: u8, text: &[u8]) -> Option<usize>
-    ensures place { result ≡ place_of mark text.now }
+/// The first place at which a separator stands in a text.
+pub fn place_of(separator: u8, text: &[u8]) -> Option<usize>
+    ensures place { result ≡ place_of separator text.now }
     ensures within { IfSome result (λ at. at < length text.now) }
 {
     for i in 0..text.len() {
-        if text[i] == mark {
+        if text[i] == separator {
             return Some(i);
         }
     }

@@ -1,7 +1,7 @@
-//! An address, the mark behind it and a length.
+//! An address, the separator behind it and a length.
 
 ghost use Rattle.std.specs.Prelude.{◌≡◌, ◌≤◌, IfSome};
-ghost use Rattle.prefix_text.specs.Prefixes.{address_of, block_of, plain_number, prefix_of};
+ghost use Rattle.prefix_text.specs.Prefixes.{address_of_text, block_of, plain_number, prefix_of_text};
 
 use crate::marks::place_of;
 use ip_table::{IpAddress, IpPrefix, ipv4_of_text, ipv6_of_text, read_ipv4, read_ipv6};
@@ -10,7 +10,7 @@ use value_text::number;
 
 /// The prefix of a text: an address, `/` and a length, with each bit behind the length 0.
 pub fn read_prefix(text: &[u8]) -> Option<IpPrefix>
-    ensures { result ≡ prefix_of text.now }
+    ensures { result ≡ prefix_of_text text.now }
 {
     let Some(at) = place_of(b'/', text) else {
         return None;
@@ -37,7 +37,7 @@ pub fn read_number(text: &[u8], most: u32) -> Option<u32>
 
 /// The address of a text, of either version.
 pub fn read_address(text: &[u8]) -> Option<IpAddress>
-    ensures { result ≡ address_of text.now }
+    ensures { result ≡ address_of_text text.now }
 {
     ipv4_of_text();
     ipv6_of_text();

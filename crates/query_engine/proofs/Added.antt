@@ -5,12 +5,12 @@ use Rattle.std.proofs.lemmas.List.{append-nil}
 use Rattle.dns_wire.specs.Draft.{Draft, StandsFor, with_records}
 use Rattle.dns_wire.specs.Message.{Message, Record}
 use Rattle.dns_wire.specs.declared.reply.Section.TheVariants.{Additional, Answer, Authority}
-use Rattle.reply_records.specs.Writing.{IsOpen, Writes}
+use Rattle.reply_records.specs.Writing.{TakesRecords, Writes}
 use Rattle.zone_lookup.specs.Sections.{Sections, ends, with_cname}
 use Rattle.zone_lookup.specs.UsedRecord.{Used}
-use Rattle.query_engine.specs.Adding.{Adds}
+use Rattle.query_engine.specs.Adding.{WritesAll}
 
-pub open_authority : (d : Draft) → IsOpen Answer d → IsOpen Authority d
+pub open_authority : (d : Draft) → TakesRecords Answer d → TakesRecords Authority d
 open_authority d (m, is, follows) = (m, is, follows.1)
 
 -- a message with its sections, one by one
@@ -22,7 +22,7 @@ sections_are m a a2 b b2 c c2 ea eb ec =
     ∙ (ap (λ (x : List Record). record m { answers = a2; authorities = x; additionals = c }) eb
     ∙ ap (λ (x : List Record). record m { answers = a2; authorities = b2; additionals = x }) ec)
 
-pub nothing_more : (used : Used) (d : Draft) → Adds (ends used) d d
+pub nothing_more : (used : Used) (d : Draft) → WritesAll (ends used) d d
 nothing_more used d = record {
   stands = λ m is follows. subst (λ (x : Message). StandsFor x d)
       (sections_are m m.answers (m.answers ++ []) m.authorities (m.authorities ++ [])
@@ -34,7 +34,7 @@ nothing_more used d = record {
 
 -- answers alone
 pub answers_alone : (s : Sections) (a b : Draft) → s.authorities ≡ [] → s.additionals ≡ []
-    → Writes Answer s.answers a b → Adds s a b
+    → Writes Answer s.answers a b → WritesAll s a b
 answers_alone s a b none none_too wrote = record {
   stands = λ m is follows. subst (λ (x : Message). StandsFor x b)
       (sections_are m (m.answers ++ s.answers) (m.answers ++ s.answers)
@@ -49,7 +49,7 @@ answers_alone s a b none none_too wrote = record {
 
 -- authorities, and additionals behind them
 pub authorities_and_more : (s : Sections) (a b c : Draft) → s.answers ≡ []
-    → Writes Authority s.authorities a b → Writes Additional s.additionals b c → Adds s a c
+    → Writes Authority s.authorities a b → Writes Additional s.additionals b c → WritesAll s a c
 authorities_and_more s a b c none wrote wrote_more = record {
   stands = λ m is follows. subst (λ (x : Message). StandsFor x c)
       (sections_are m m.answers (m.answers ++ s.answers)
@@ -63,7 +63,7 @@ authorities_and_more s a b c none wrote wrote_more = record {
 }
 
 pub authorities_alone : (s : Sections) (a b : Draft) → s.answers ≡ [] → s.additionals ≡ []
-    → Writes Authority s.authorities a b → Adds s a b
+    → Writes Authority s.authorities a b → WritesAll s a b
 authorities_alone s a b none none_too wrote = record {
   stands = λ m is follows. subst (λ (x : Message). StandsFor x b)
       (sections_are m m.answers (m.answers ++ s.answers)
@@ -79,7 +79,7 @@ authorities_alone s a b none none_too wrote = record {
 
 -- a CNAME record before the rest
 pub cname_before : (r : Record) (s : Sections) (a b c : Draft) → Writes Answer (r ∷ []) a b
-    → Adds s b c → Adds (with_cname r s) a c
+    → WritesAll s b c → WritesAll (with_cname r s) a c
 cname_before r s a b c wrote rest = record {
   stands = λ m is follows. subst (λ (x : Message). StandsFor x c)
       (sections_are m ((m.answers ++ r ∷ []) ++ s.answers) (m.answers ++ (r ∷ s.answers))
@@ -91,7 +91,7 @@ cname_before r s a b c wrote rest = record {
   room = rest.room ∙ wrote.room;
 }
 
-pub still_open : (r : Record) (a b : Draft) → IsOpen Answer a → Writes Answer (r ∷ []) a b
-    → IsOpen Answer b
+pub still_open : (r : Record) (a b : Draft) → TakesRecords Answer a → Writes Answer (r ∷ []) a b
+    → TakesRecords Answer b
 still_open r a b (m, is, follows) wrote =
     (with_records Answer (r ∷ []) m, wrote.stands m is follows, follows)

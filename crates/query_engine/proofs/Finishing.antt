@@ -5,7 +5,7 @@ use Rattle.dns_message.specs.declared.query.Query.{Query}
 use Rattle.dns_name.specs.Suffix.{EndsWith}
 use Rattle.dns_wire.specs.Draft.{opt_of, reply_to}
 use Rattle.dns_wire.specs.Limit.{refusal_of}
-use Rattle.dns_wire.specs.Message.{wire}
+use Rattle.dns_wire.specs.Message.{octets_within}
 use Rattle.std.specs.Prelude.{cond}
 use Rattle.zone_lookup.specs.ZonesOfZoneList.{Zone}
 use Rattle.zone_lookup.specs.Laws.{ZoneOrNone, ZonesAreLongest}
@@ -25,38 +25,38 @@ found_inside longest zones name id apex found =
 pub finished : (query : Query) (s : Sections) (aa : Bool) (rcode : ℕ) (edns : Option Edns)
     (scope told limit most : ℕ) → aa ≡ s.aa → rcode ≡ s.rcode → edns ≡ query.edns → scope ≡ told
     → limit ≡ most
-    → wire (record (with_sections s (reply_to query)) {
+    → octets_within (record (with_sections s (reply_to query)) {
       aa = aa;
       rcode = rcode;
       opt = opt_of edns scope;
     }) limit
-    ≡ wire (record (with_sections s (reply_to query)) {
+    ≡ octets_within (record (with_sections s (reply_to query)) {
       aa = s.aa;
       rcode = s.rcode;
       opt = opt_of query.edns told;
     }) most
 finished query s aa rcode edns scope told limit most ea er ee es el =
-    ap (λ (x : Bool). wire (record (with_sections s (reply_to query)) {
+    ap (λ (x : Bool). octets_within (record (with_sections s (reply_to query)) {
       aa = x;
       rcode = rcode;
       opt = opt_of edns scope;
     }) limit) ea
-    ∙ (ap (λ (x : ℕ). wire (record (with_sections s (reply_to query)) {
+    ∙ (ap (λ (x : ℕ). octets_within (record (with_sections s (reply_to query)) {
       aa = s.aa;
       rcode = x;
       opt = opt_of edns scope;
     }) limit) er
-    ∙ (ap (λ (x : Option Edns). wire (record (with_sections s (reply_to query)) {
+    ∙ (ap (λ (x : Option Edns). octets_within (record (with_sections s (reply_to query)) {
       aa = s.aa;
       rcode = s.rcode;
       opt = opt_of x scope;
     }) limit) ee
-    ∙ (ap (λ (x : ℕ). wire (record (with_sections s (reply_to query)) {
+    ∙ (ap (λ (x : ℕ). octets_within (record (with_sections s (reply_to query)) {
       aa = s.aa;
       rcode = s.rcode;
       opt = opt_of query.edns x;
     }) limit) es
-    ∙ ap (λ (x : ℕ). wire (record (with_sections s (reply_to query)) {
+    ∙ ap (λ (x : ℕ). octets_within (record (with_sections s (reply_to query)) {
       aa = s.aa;
       rcode = s.rcode;
       opt = opt_of query.edns told;

@@ -11,10 +11,10 @@ use Rattle.zone_lookup.specs.UsedRecord.{Used}
 use Rattle.zone_lookup.specs.Descent.{Choices}
 use Rattle.zone_lookup.specs.Sections.{Lookup, Sections, ended, ends, followed, is_zone}
 use Rattle.zone_lookup.specs.Sections.{look_up, step, with_cname}
-use Rattle.zone_lookup.specs.Sections.Step.{Ends, Follows}
+use Rattle.zone_lookup.specs.Sections.NameOutcome.{Ends, Follows}
 use Rattle.zone_lookup.specs.Zones.{zone_for}
 use Rattle.reply_records.specs.Writing.{Writes}
-use Rattle.query_engine.specs.Adding.{Adds}
+use Rattle.query_engine.specs.Adding.{WritesAll}
 use Rattle.query_engine.specs.Asking.{EndsAs}
 use Rattle.query_engine.specs.declared.asking.End.{End}
 use Rattle.query_engine.proofs.Added.{cname_before, nothing_more}
@@ -50,7 +50,7 @@ module _ (lookup : Lookup) (name : List (List ℕ)) (choices : Choices) (cname :
       (record { aa = true; rcode = 0 }) made.used) (sym none)
       (subst (λ (s : Sections). EndsAs s old new (record { aa = true; rcode = 0 }) made.used)
       (sym (ap ended is)) (record {
-        adds = subst (λ (d : Draft). Adds (ends made.used) old d) (sym same)
+        adds = subst (λ (d : Draft). WritesAll (ends made.used) old d) (sym same)
             (nothing_more made.used old);
         aa = refl;
         rcode = refl;

@@ -24,7 +24,7 @@ use Rattle.zone_lookup.specs.Names.{closest, if_exists, source}
 use Rattle.zone_lookup.specs.Records.{answer_records, data_of}
 use Rattle.zone_lookup.specs.Sections.{Lookup, asked, asked_group, asked_step}
 use Rattle.zone_lookup.specs.Sections.{canonical, cname_step, cut_above, ends, no_data, step_of}
-use Rattle.zone_lookup.specs.Sections.Step.{Ends, Follows}
+use Rattle.zone_lookup.specs.Sections.NameOutcome.{Ends, Follows}
 use Rattle.reply_records.specs.Groups.{Agrees, sets_in, sets_in_zone}
 use Rattle.reply_records.specs.Selecting.{Gives, GivesDescent, means_of, selected_sets}
 use Rattle.reply_records.proofs.Targets.{as_many}

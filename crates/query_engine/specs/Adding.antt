@@ -14,7 +14,7 @@ with_sections s m = record m {
 }
 
 -- The reply has the records of these sections more, and is otherwise as it was.
-pub record Adds (s : Sections) (old new : Draft) : Type 0 where
+pub record WritesAll (s : Sections) (old new : Draft) : Type 0 where
   pub stands : (m : Message) → StandsFor m old → Follows Answer m
       → StandsFor (with_sections s m) new
   pub edns : new.edns ≡ old.edns

@@ -12,14 +12,14 @@ use Rattle.record_set.specs.declared.sets.RecordSet.{RecordSet}
 use Rattle.record_set.specs.declared.sets.SetKey.{SetKey}
 use Rattle.zone_lookup.specs.ZonesOfZoneList.{Zone}
 use Rattle.zone_lookup.specs.UsedRecord.{Used}
-use Rattle.zone_lookup.specs.Clients.{client_at}
+use Rattle.zone_lookup.specs.Clients.{client_with}
 use Rattle.zone_lookup.specs.Descent.{Choices}
 use Rattle.zone_lookup.specs.Records.{data_of}
 use Rattle.zone_lookup.specs.Reply.{Asker, Served, zone_reply}
-use Rattle.zone_lookup.specs.Sections.{Lookup, Sections, Step}
-use Rattle.zone_lookup.specs.Sections.Step.{Ends, Follows}
+use Rattle.zone_lookup.specs.Sections.{Lookup, Sections, NameOutcome}
+use Rattle.zone_lookup.specs.Sections.NameOutcome.{Ends, Follows}
 use Rattle.zone_lookup.specs.Served.{hosted_of, zone_of}
-use Rattle.query_engine.specs.Adding.{Adds}
+use Rattle.query_engine.specs.Adding.{WritesAll}
 use Rattle.query_engine.specs.declared.asking.Asked.{Asked}
 use Rattle.query_engine.specs.declared.asking.End.{End}
 use Rattle.query_engine.specs.declared.asking.Next.{Next}
@@ -44,7 +44,7 @@ asked_of zones collections healthy tables asked = record {
   zone = zone_of zones asked.zone asked.apex.now;
   means = record {
     healthy = healthy asked.zone;
-    client = client_at tables collections asked.client;
+    client = client_with tables collections asked.client;
     words = asked.words.now;
   };
   qtype = asked.qtype;
@@ -56,20 +56,20 @@ choices_of progress = record { count = progress.count; used = progress.used }
 
 -- The sections are written, and the answer ends as they say.
 pub record EndsAs (s : Sections) (old new : Draft) (end : End) (used : Used) : Type 0 where
-  pub adds : Adds s old new
+  pub adds : WritesAll s old new
   pub aa : end.aa ≡ s.aa
   pub rcode : end.rcode ≡ s.rcode
   pub uses : used ≡ s.used
 
 -- The step is the end of the answer, and is written.
-pub record IsEnd (step : Step) (old new : Draft) (end : End) (used : Used) : Type 0 where
+pub record IsEnd (step : NameOutcome) (old new : Draft) (end : End) (used : Used) : Type 0 where
   pub sections : Sections
   pub ends : step ≡ Ends sections
   pub leaves : EndsAs sections old new end used
 
 -- The step is a CNAME record, which isn't written yet: its data are the first value of the set that
 -- is held.
-pub record IsCname (step : Step) (name : List (List ℕ)) (held : Option RecordSet) (ttl : ℕ)
+pub record IsCname (step : NameOutcome) (name : List (List ℕ)) (held : Option RecordSet) (ttl : ℕ)
     (made : Choices) : Type 0 where
   pub set : RecordSet
   pub is_held : held ≡ Some set
@@ -80,10 +80,10 @@ pub record IsCname (step : Step) (name : List (List ℕ)) (held : Option RecordS
       ≡ Follows (record { owner = name; rtype = rtype.Cname; ttl = ttl; rdata = rdata }) made
 
 -- what a name comes to
-abbrev pub Comes : Step → (name : List (List ℕ)) → (old new : Draft) → (held : Option RecordSet)
+abbrev pub ComesTo : NameOutcome → (name : List (List ℕ)) → (old new : Draft) → (held : Option RecordSet)
     → Progress → Next → Type 0
-Comes step name old new held progress (next.Ends end) = IsEnd step old new end progress.used
-Comes step name old new held progress (next.Follows ttl) =
+ComesTo step name old new held progress (next.Ends end) = IsEnd step old new end progress.used
+ComesTo step name old new held progress (next.Follows ttl) =
     IsCname step name held ttl (choices_of progress) × (new ≡ old)
 
 -- A set is held whose type is CNAME, and which has a value.

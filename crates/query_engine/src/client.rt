@@ -1,7 +1,7 @@
 //! The client's address, and how far an answer reaches (RFC 7871, 7.2.1).
 
 ghost use Rattle.std.specs.Prelude.{◌≡◌, IfSome, Some, take};
-ghost use Rattle.zone_lookup.specs.Clients.{client_address, client_at};
+ghost use Rattle.zone_lookup.specs.Clients.{client_address, client_with};
 ghost use Rattle.zone_lookup.specs.Location.{scope_in};
 ghost use Rattle.zone_lookup.specs.Reply.{if_used, told_scope};
 ghost use Rattle.zone_lookup.specs.Seen.{IsSeen};
@@ -60,7 +60,7 @@ pub(crate) fn told_scope(
     requires { IsSeen tables.now client progress.now.seen }
     ensures { result
         ≡ told_scope (subnet_of edns.now)
-        (client_at tables.now zones.now.collections.list client) progress.now.used }
+        (client_with tables.now zones.now.collections.list client) progress.now.used }
 {
     let Some(edns) = edns else {
         return 0;

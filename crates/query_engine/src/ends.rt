@@ -7,7 +7,7 @@ ghost use Rattle.dns_wire.specs.declared.reply.Section.TheVariants.{Answer};
 ghost use Rattle.reply_records.specs.Groups.{sets_in, sets_in_zone};
 ghost use Rattle.rdata_layout.specs.declared.types.RType.TheVariants as rtype;
 ghost use Rattle.record_set.specs.declared.sets.RecordSet.{RecordSet};
-ghost use Rattle.reply_records.specs.Writing.{IsOpen};
+ghost use Rattle.reply_records.specs.Writing.{TakesRecords};
 ghost use Rattle.zone_lookup.specs.Served.{zone_of};
 ghost use Rattle.zone_lookup.specs.Looking.{IsGroupNow};
 ghost use Rattle.query_engine.specs.Asking.{EndsAs};
@@ -27,7 +27,7 @@ pub(crate) fn answer_nodata(
     reply: &mut Reply,
     scratch: &mut Scratch,
 ) -> End
-    requires { IsOpen Answer reply.old }
+    requires { TakesRecords Answer reply.old }
     ensures ends { (used : Used)
         → EndsAs (no_data (zone_of zones.now.zones asked.now.zone asked.now.apex.now) used)
         reply.old reply.new result used }
@@ -45,7 +45,7 @@ pub(crate) fn answer_nxdomain(
     reply: &mut Reply,
     scratch: &mut Scratch,
 ) -> End
-    requires { IsOpen Answer reply.old }
+    requires { TakesRecords Answer reply.old }
     ensures ends { (used : Used)
         → EndsAs (nxdomain (zone_of zones.now.zones asked.now.zone asked.now.apex.now) used)
         reply.old reply.new result used }
@@ -71,7 +71,7 @@ pub(crate) fn answer_referral(
     requires some { 0 < cut.length }
     requires servers { (set : RecordSet)
         → slice_get (sets_in zones.now.zones cut) 0 ≡ Some set → set.rtype ≡ rtype.Ns }
-    requires open { IsOpen Answer reply.old }
+    requires open { TakesRecords Answer reply.old }
     ensures ends { (set : RecordSet) (used : Used)
         → slice_get (sets_in zones.now.zones cut) 0 ≡ Some set
         → EndsAs (referral (sets_in_zone zones.now.zones cut.zone) set used)

@@ -8,7 +8,7 @@ ghost use Rattle.dns_message.specs.Whole.{GivesWhole, IsWhole};
 ghost use Rattle.dns_wire.specs.Draft.{reply_to};
 ghost use Rattle.dns_wire.specs.Header.{FitsRcode};
 ghost use Rattle.dns_wire.specs.Limit.{limit_of as most_of};
-ghost use Rattle.dns_wire.specs.Message.{wire};
+ghost use Rattle.dns_wire.specs.Message.{octets_within};
 ghost use Rattle.reply_records.specs.Groups.{Agrees};
 ghost use Rattle.record_set.specs.declared.sets.SetKey.{SetKey};
 ghost use Rattle.zone_lookup.specs.Served.{AreServed, IsFound};
@@ -113,7 +113,7 @@ fn refuse(query: &Query, rcode: u16, reply: &mut Reply) -> usize
     requires rcode { FitsRcode rcode query.now.edns }
     requires room { 4096 ≤ reply.old.room }
     ensures bytes { reply.new.bytes
-        ≡ wire (record (reply_to query.now) { rcode = rcode }) (most_of query.now.edns) }
+        ≡ octets_within (record (reply_to query.now) { rcode = rcode }) (most_of query.now.edns) }
     ensures length { result ≡ length reply.new.bytes }
     ensures room { reply.new.room ≡ reply.old.room }
 {
@@ -144,7 +144,7 @@ fn answer_query<V: HealthView>(
     requires room { 4096 ≤ reply.old.room }
     ensures bytes { (healthy : ℕ → SetKey → Bool)
         → Agrees zones.now.zones (V.test view.now) healthy
-        → reply.new.bytes ≡ wire (query_reply
+        → reply.new.bytes ≡ octets_within (query_reply
         (served_by zones.now.zones zones.now.collections.list healthy tables.now)
         (asker_of peer words.now) query.now) (most_of query.now.edns) }
     ensures length { result ≡ length reply.new.bytes }
@@ -180,7 +180,7 @@ fn answer_in_zone<V: HealthView>(
     requires room { 4096 ≤ reply.old.room }
     ensures bytes { (healthy : ℕ → SetKey → Bool)
         → Agrees zones.now.zones (V.test view.now) healthy
-        → reply.new.bytes ≡ wire (zone_reply_of
+        → reply.new.bytes ≡ octets_within (zone_reply_of
         (served_by zones.now.zones zones.now.collections.list healthy tables.now)
         (asker_of peer words.now) query.now zones.now.zones zone apex.now)
         (most_of query.now.edns) }

@@ -16,7 +16,7 @@ ghost use Rattle.reply_records.specs.Selecting.{AreOfGroup, HoldsFirst, selected
 ghost use Rattle.rdata_layout.specs.declared.types.RType.TheVariants as rtype;
 ghost use Rattle.record_set.specs.declared.sets.RecordSet.{RecordSet};
 ghost use Rattle.record_set.specs.declared.sets.SetKey.{SetKey};
-ghost use Rattle.reply_records.specs.Writing.{IsOpen, Writes};
+ghost use Rattle.reply_records.specs.Writing.{TakesRecords, Writes};
 ghost use Rattle.set_search.specs.Found.{IsFirstNamed};
 ghost use Rattle.zone_lookup.specs.ZonesOfZoneList.{placed_in};
 ghost use Rattle.zone_lookup.specs.Cuts.{HasSets};
@@ -24,7 +24,7 @@ ghost use Rattle.zone_lookup.specs.Served.{AreServed};
 ghost use Rattle.zone_model.specs.Zones.{IsAmong, group};
 ghost use Rattle.zone_lookup.specs.Looking.{IsApex, IsGroupNow};
 ghost use Rattle.zone_lookup.specs.Seen.{IsSeen};
-ghost use Rattle.query_engine.specs.Asking.{Comes, EndsWell, HoldsCname, HoldsNext, IsCname};
+ghost use Rattle.query_engine.specs.Asking.{ComesTo, EndsWell, HoldsCname, HoldsNext, IsCname};
 ghost use Rattle.query_engine.specs.Asking.{EndsAs, IsEnd, asked_of, choices_of};
 
 use crate::asking::{Asked, End, Next, Progress};
@@ -60,7 +60,7 @@ fn answer_group<V: HealthView>(
     requires few { FewInGroups (sets_in_zone zones.now.zones group.zone) }
     requires room { progress.old.count ≤ 238 }
     requires seen { IsSeen tables.now asked.now.client progress.old.seen }
-    requires open { IsOpen Answer reply.old }
+    requires open { TakesRecords Answer reply.old }
     ensures ends { (healthy : ℕ → SetKey → Bool)
         → Agrees zones.now.zones (V.test view.now) healthy
         → IsEnd (answered (asked_of zones.now.zones zones.now.collections.list healthy tables.now
@@ -102,7 +102,7 @@ fn answer_chosen(
 ) -> End
     requires places { AreOfGroup zones.now.zones selected.now }
     requires held { HoldsFirst zones.now.zones selected.now scratch.old }
-    requires open { IsOpen Answer reply.old }
+    requires open { TakesRecords Answer reply.old }
     ensures ends { (used : Used) → EndsAs (record (ends used) {
       answers = answer_records name.now (selected_sets zones.now.zones selected.now);
     }) reply.old reply.new result used }
@@ -132,10 +132,10 @@ fn step_cname<V: HealthView>(
     requires few { FewInGroups (sets_in_zone zones.now.zones asked.now.zone) }
     requires room { progress.old.count ≤ 238 }
     requires seen { IsSeen tables.now asked.now.client progress.old.seen }
-    requires open { IsOpen Answer reply.old }
+    requires open { TakesRecords Answer reply.old }
     ensures comes { (healthy : ℕ → SetKey → Bool)
         → Agrees zones.now.zones (V.test view.now) healthy
-        → Comes (canonical (asked_of zones.now.zones zones.now.collections.list healthy tables.now
+        → ComesTo (canonical (asked_of zones.now.zones zones.now.collections.list healthy tables.now
         asked.now) name.now
         (descended (asked_of zones.now.zones zones.now.collections.list healthy tables.now
         asked.now).means (sets_in_zone zones.now.zones asked.now.zone)
@@ -185,10 +185,10 @@ fn step_untyped<V: HealthView>(
         asked.now.qtype ≡ [] }
     requires room { progress.old.count ≤ 238 }
     requires seen { IsSeen tables.now asked.now.client progress.old.seen }
-    requires open { IsOpen Answer reply.old }
+    requires open { TakesRecords Answer reply.old }
     ensures comes { (healthy : ℕ → SetKey → Bool)
         → Agrees zones.now.zones (V.test view.now) healthy
-        → Comes (step_of (asked_of zones.now.zones zones.now.collections.list healthy tables.now
+        → ComesTo (step_of (asked_of zones.now.zones zones.now.collections.list healthy tables.now
         asked.now) name.now
         (asked_group (sets_in_zone zones.now.zones asked.now.zone) from.now asked.now.qtype)
         (group (sets_in_zone zones.now.zones asked.now.zone) from.now rtype.Cname)
@@ -222,10 +222,10 @@ fn step_from<V: HealthView>(
     requires few { FewInGroups (sets_in_zone zones.now.zones asked.now.zone) }
     requires room { progress.old.count ≤ 238 }
     requires seen { IsSeen tables.now asked.now.client progress.old.seen }
-    requires open { IsOpen Answer reply.old }
+    requires open { TakesRecords Answer reply.old }
     ensures comes { (healthy : ℕ → SetKey → Bool)
         → Agrees zones.now.zones (V.test view.now) healthy
-        → Comes (step_of (asked_of zones.now.zones zones.now.collections.list healthy tables.now
+        → ComesTo (step_of (asked_of zones.now.zones zones.now.collections.list healthy tables.now
         asked.now) name.now
         (asked_group (sets_in_zone zones.now.zones asked.now.zone) from.now asked.now.qtype)
         (group (sets_in_zone zones.now.zones asked.now.zone) from.now rtype.Cname)
@@ -266,10 +266,10 @@ fn step_taken<V: HealthView>(
         asked.now.qtype ≡ [] }
     requires room { progress.old.count ≤ 238 }
     requires seen { IsSeen tables.now asked.now.client progress.old.seen }
-    requires open { IsOpen Answer reply.old }
+    requires open { TakesRecords Answer reply.old }
     ensures comes { (healthy : ℕ → SetKey → Bool)
         → Agrees zones.now.zones (V.test view.now) healthy
-        → Comes (step_of (asked_of zones.now.zones zones.now.collections.list healthy tables.now
+        → ComesTo (step_of (asked_of zones.now.zones zones.now.collections.list healthy tables.now
         asked.now) name.now
         (asked_group (sets_in_zone zones.now.zones asked.now.zone) from.now asked.now.qtype)
         (group (sets_in_zone zones.now.zones asked.now.zone) from.now rtype.Cname)
@@ -314,10 +314,10 @@ fn step_standing<V: HealthView>(
     requires place { IsFirstNamed (sets_in_zone zones.now.zones asked.now.zone) name.now place }
     requires room { progress.old.count ≤ 238 }
     requires seen { IsSeen tables.now asked.now.client progress.old.seen }
-    requires open { IsOpen Answer reply.old }
+    requires open { TakesRecords Answer reply.old }
     ensures comes { (healthy : ℕ → SetKey → Bool)
         → Agrees zones.now.zones (V.test view.now) healthy
-        → Comes (step_at (asked_of zones.now.zones zones.now.collections.list healthy tables.now
+        → ComesTo (step_at (asked_of zones.now.zones zones.now.collections.list healthy tables.now
         asked.now) name.now (choices_of progress.old)) name.now
         reply.old reply.new scratch.new progress.new result }
     ensures held { HoldsNext scratch.new result }
@@ -356,10 +356,10 @@ fn step_typed<V: HealthView>(
         (asked_group (sets_in_zone zones.now.zones asked.now.zone) name.now asked.now.qtype) group }
     requires room { progress.old.count ≤ 238 }
     requires seen { IsSeen tables.now asked.now.client progress.old.seen }
-    requires open { IsOpen Answer reply.old }
+    requires open { TakesRecords Answer reply.old }
     ensures comes { (healthy : ℕ → SetKey → Bool)
         → Agrees zones.now.zones (V.test view.now) healthy
-        → Comes (step_at (asked_of zones.now.zones zones.now.collections.list healthy tables.now
+        → ComesTo (step_at (asked_of zones.now.zones zones.now.collections.list healthy tables.now
         asked.now) name.now (choices_of progress.old)) name.now
         reply.old reply.new scratch.new progress.new result }
     ensures held { HoldsNext scratch.new result }
@@ -398,10 +398,10 @@ fn step<V: HealthView>(
     requires inside { EndsWith name.now asked.now.apex.now }
     requires room { progress.old.count ≤ 238 }
     requires seen { IsSeen tables.now asked.now.client progress.old.seen }
-    requires open { IsOpen Answer reply.old }
+    requires open { TakesRecords Answer reply.old }
     ensures comes { (healthy : ℕ → SetKey → Bool)
         → Agrees zones.now.zones (V.test view.now) healthy
-        → Comes (step_at (asked_of zones.now.zones zones.now.collections.list healthy tables.now
+        → ComesTo (step_at (asked_of zones.now.zones zones.now.collections.list healthy tables.now
         asked.now) name.now (choices_of progress.old)) name.now
         reply.old reply.new scratch.new progress.new result }
     ensures held { HoldsNext scratch.new result }
@@ -439,7 +439,7 @@ pub(crate) fn look_up<V: HealthView>(
     requires inside { EndsWith name.now asked.now.apex.now }
     requires room { progress.old.count + 17 * most ≤ 238 }
     requires seen { IsSeen tables.now asked.now.client progress.old.seen }
-    requires open { IsOpen Answer reply.old }
+    requires open { TakesRecords Answer reply.old }
     ensures found { (healthy : ℕ → SetKey → Bool)
         → Agrees zones.now.zones (V.test view.now) healthy
         → EndsAs (found most (asked_of zones.now.zones zones.now.collections.list healthy tables.now
@@ -480,7 +480,7 @@ fn follow<V: HealthView>(
     requires held { HoldsCname scratch.old }
     requires room { progress.old.count + 17 * most ≤ 255 }
     requires seen { IsSeen tables.now asked.now.client progress.old.seen }
-    requires open { IsOpen Answer reply.old }
+    requires open { TakesRecords Answer reply.old }
     ensures found { (healthy : ℕ → SetKey → Bool) (choices : Choices)
         → Agrees zones.now.zones (V.test view.now) healthy
         → IsCname (step_at (asked_of zones.now.zones zones.now.collections.list healthy tables.now
@@ -528,7 +528,7 @@ fn target_held(scratch: &Scratch) -> Name
 /// Writes a CNAME record, whose set is held.
 fn write_cname(name: &Name, ttl: u32, reply: &mut Reply, scratch: &Scratch)
     requires held { HoldsCname scratch.now }
-    requires open { IsOpen Answer reply.old }
+    requires open { TakesRecords Answer reply.old }
     ensures { (set : RecordSet) (rdata : List ℕ) → scratch.now ≡ Some set
         → slice_get (data_of set.body) 0 ≡ Some rdata
         → Writes Answer (record {

@@ -1,7 +1,7 @@
 -- The lines that ask, serve and compact: Query, Bind, Serve and Compact (own).
 use Rattle.std.specs.Prelude.{ℕ, ◌-◌, ◌^◌, List, [], ◌∷◌, length, nat_le, if◌then◌else◌, unwrap_or, Result, Ok, Err}
 use Rattle.prefix_text.specs.IpAddressRecord.{IpAddress}
-use Rattle.prefix_text.specs.Prefixes.{address_of}
+use Rattle.prefix_text.specs.Prefixes.{address_of_text}
 use Rattle.hex.specs.Hex.{decode_of}
 use Rattle.hex.specs.declared.error.FromHexError.{FromHexError}
 use Rattle.serde_json.specs.Data.{Data}
@@ -31,7 +31,7 @@ packet h d = text h d >>= octets_of h
 
 -- an address of either version
 unfoldable pub address : Member → Data → Result IpAddress LineFault
-address h d = text h d >>= λ s. or_bad (address_of s) BadAddress h
+address h d = text h d >>= λ s. or_bad (address_of_text s) BadAddress h
 
 -- exactly eight numbers below 2^64
 unfoldable pub words : Member → Data → Result (List ℕ) LineFault

@@ -2,7 +2,7 @@
 
 ghost use Rattle.std.specs.Prelude.{◌≡◌};
 ghost use Rattle.serde_json.specs.View.{view};
-ghost use Rattle.line_reading.specs.Reading.{Reads};
+ghost use Rattle.line_reading.specs.Reading.{Gives};
 ghost use Rattle.query_lines.specs.Queries.{packet, octets_of};
 
 use hex::FromHexError;
@@ -47,7 +47,7 @@ impl Packet {
 /// A packet.
 #[tactic(auto, unfolding(crate::specs::Queries::packet))]
 pub(crate) fn read_packet(alloc: Global, member: Member, value: &Value) -> Result<Packet, LineFault>
-    ensures { Reads result (packet member (view value.now)) }
+    ensures { Gives result (packet member (view value.now)) }
 {
     match value.as_str() {
         Some(text) => octets_of(alloc, member, text),
@@ -57,7 +57,7 @@ pub(crate) fn read_packet(alloc: Global, member: Member, value: &Value) -> Resul
 
 /// The octets of a text.
 fn octets_of(alloc: Global, member: Member, text: &str) -> Result<Packet, LineFault>
-    ensures { Reads result (octets_of member text.now) }
+    ensures { Gives result (octets_of member text.now) }
 {
     if text.len() > MOST_DIGITS {
         return Err(LineFault::bad(LineReason::BadHex, member));

@@ -3,7 +3,7 @@
 ghost use Rattle.std.specs.Prelude.{◌≡◌, ◌-◌, ◌^◌, length};
 ghost use Rattle.serde_json.specs.Data.{item, no_items};
 ghost use Rattle.serde_json.specs.View.{view, items_view};
-ghost use Rattle.line_reading.specs.Reading.{Reads, each};
+ghost use Rattle.line_reading.specs.Reading.{Gives, each};
 ghost use Rattle.line_reading.specs.Kinds.{number};
 ghost use Rattle.query_lines.specs.Queries.{query, address, words};
 
@@ -26,7 +26,7 @@ pub struct QueryLine {
 /// The line Query.
 #[tactic(auto, unfolding(crate::specs::Queries::query))]
 pub fn query(alloc: Global, value: &Value) -> Result<QueryLine, LineFault>
-    ensures { Reads result (query (view value.now)) }
+    ensures { Gives result (query (view value.now)) }
 {
     object(
         value,

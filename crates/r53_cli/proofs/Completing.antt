@@ -12,8 +12,8 @@ use Rattle.geo_latency.specs.declared.tables.Tables.{Tables}
 use Rattle.line_splitting.specs.Lines.{is_too_long}
 use Rattle.octets.specs.Counts.{Rose}
 use Rattle.r53_cli.specs.Completing.{DrillCompletes, DumpCompletes, InitCompletes, NoneRose, RunCompletes}
-use Rattle.r53_cli.specs.Run.{IsServed}
-use Rattle.r53_cli.specs.Sessions.{Counts, Drills, Dumps, Makes, Runs, of_drilled, of_dumped, of_ended, of_init, of_ran}
+use Rattle.r53_cli.specs.Run.{IsCarriedOut}
+use Rattle.r53_cli.specs.Sessions.{Counts, Drills, Dumps, InitRuns, Runs, of_drilled, of_dumped, of_ended, of_init, of_ran}
 use Rattle.r53_cli.specs.declared.status.Status.{Status}
 use Rattle.r53_cli.specs.declared.status.Status.TheVariants as status
 use Rattle.session_run.specs.Steps.{State}
@@ -46,7 +46,7 @@ module _ {D : Type 0} (reading : D → Option (List ℕ)) (images : D → List �
   pub runs : NoStoreOrBeginning → RunCompletes reading images moment images_since
   runs law result a_old a_new b_old b_new before after were are r given start tables told begins good
       short none =
-      subst IsServed (sym r.status_is)
+      subst IsCarriedOut (sym r.status_is)
       (by r.answer (r.tables_say given.rows told.rows_are)
       (r.files_say given.x given.y told.x_is told.y_is) (r.leaves given told) r.cause)
     where
@@ -55,7 +55,7 @@ module _ {D : Type 0} (reading : D → Option (List ℕ)) (images : D → List �
           after.sent
           → HasCauseOf answer were.input are.input were.tables are.tables were.a are.a were.b are.b
           were.link are.link were.out are.out
-          → IsServed (of_ran answer)
+          → IsCarriedOut (of_ran answer)
       by (ran.BadTables number) says files leaves cause = absurd (ok_or_err good says)
       by ran.TablesFault says files leaves cause = absurd (none.1 cause)
       by ran.TablesTooLong says files leaves cause = absurd (ok_or_err good says)
@@ -86,12 +86,12 @@ module _ {D : Type 0} (reading : D → Option (List ℕ)) (images : D → List �
   pub dumps : DumpCompletes reading images moment images_since
   dumps result a_old a_new b_old b_new before after out_were out_are a_were a_are b_were b_are d x y
       config x_is y_is opens still a_still b_still =
-      subst IsServed (sym d.status_is)
+      subst IsCarriedOut (sym d.status_is)
       (by d.answer (d.told x y x_is y_is) d.disk_failed d.sink_failed)
     where
       by : (answer : Dumped) → DumpIsTold answer x y
           → (answer ≡ dumped.OpeningFault → Rose a_were a_are ⊎ Rose b_were b_are)
-          → (answer ≡ dumped.WriteFault → Rose out_were out_are) → IsServed (of_dumped answer)
+          → (answer ≡ dumped.WriteFault → Rose out_were out_are) → IsCarriedOut (of_dumped answer)
       by dumped.Written told failed stuck = inl refl
       by (dumped.NotAStore side place) told failed stuck = absurd (told.1 config opens)
       by dumped.OpeningFault told failed stuck = absurd (none_of a_still b_still (failed refl))
@@ -101,13 +101,13 @@ module _ {D : Type 0} (reading : D → Option (List ℕ)) (images : D → List �
   pub drills : DrillCompletes reading images moment images_since
   drills events result a_old a_new b_old b_new before after out_were out_are a_were a_are b_were b_are
       d x y x_is y_is shut shut_too still a_still b_still =
-      subst IsServed (sym d.status_is) (by d.answer (d.leaves x y x_is y_is) d.cause)
+      subst IsCarriedOut (sym d.status_is) (by d.answer (d.leaves x y x_is y_is) d.cause)
     where
       by : (answer : Drilled)
           → DrillLeaves answer reading images moment images_since a_old a_new b_old b_new events x y
           before after
           → DrillHasCause answer a_were a_are b_were b_are out_were out_are
-          → IsServed (of_drilled answer)
+          → IsCarriedOut (of_drilled answer)
       by drilled.Written leaves cause = inl refl
       by (drilled.AlreadyAStore A) leaves cause = absurd (shut leaves.0.0)
       by (drilled.AlreadyAStore B) leaves cause = absurd (shut_too leaves.0.1)

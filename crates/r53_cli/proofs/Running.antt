@@ -8,7 +8,7 @@ use Rattle.drill_run.specs.Leaving.{IfUnwritten}
 use Rattle.drill_run.specs.declared.answers.Drilled.{Drilled}
 use Rattle.drill_run.specs.declared.answers.Drilled.TheVariants as drilled
 use Rattle.r53_cli.specs.Forms.{IsFew, IsForm, MayBeOnce}
-use Rattle.r53_cli.specs.Sessions.{Counts, FormLeaves, Seen, of_init}
+use Rattle.r53_cli.specs.Sessions.{Counts, FormLeaves, Devices, of_init}
 use Rattle.r53_cli.specs.declared.form.Form.{Form}
 use Rattle.r53_cli.specs.declared.form.Form.TheVariants as form
 use Rattle.r53_cli.specs.declared.status.Status.TheVariants as status
@@ -43,7 +43,7 @@ two_are_not_four a b c d e f is = absurd (Prim.cc)
 
 -- Want of memory for words: they may be those of `once` alone, and nothing was done.
 module _ {D : Type 0} (reading : D → Option (List ℕ)) (images : D → List ℕ → Type 0)
-    (moment : D → ℕ) (images_since : D → ℕ → List ℕ → Type 0) (a b : D) (seen : Seen)
+    (moment : D → ℕ) (images_since : D → ℕ → List ℕ → Type 0) (a b : D) (seen : Devices)
     (counts : Counts) (words : List (List ℕ)) (may : MayBeOnce words) where
   pub starved : (its : Form) → IsForm words its
       → FormLeaves reading images moment images_since its status.OutOfMemory a a b b seen seen counts
@@ -98,7 +98,7 @@ module _ {S K L R : Type 0} (left : S → Option (List ℕ)) (in_faults : S → 
     (held : K → Option (List ℕ)) (out_faults : K → ℕ) (ports : L → Option (ℕ → ℕ → ℕ × ℕ))
     (coming : L → Option (List Incoming)) (sent : L → Option (List Datagram)) (link_faults : L → ℕ)
     (stream : R → Stream) where
-  seen : S → K → L → R → Option (List ℕ) → Seen
+  seen : S → K → L → R → Option (List ℕ) → Devices
   seen input out link words rows = record {
     left = left input;
     rows = rows;
@@ -113,7 +113,7 @@ module _ {S K L R : Type 0} (left : S → Option (List ℕ)) (in_faults : S → 
       (words words_new : R) (rows rows_new : Option (List ℕ)) (t t_new a a_new b b_new : ℕ)
       → UnlessEnded answer ((input_new ≡ input) × (out_new ≡ out) × (link_new ≡ link)
       × (words_new ≡ words))
-      → UnlessEnded answer ((◌≡◌ {A = Seen} (record {
+      → UnlessEnded answer ((◌≡◌ {A = Devices} (record {
         left = left input_new;
         rows = rows_new;
         held = held out_new;

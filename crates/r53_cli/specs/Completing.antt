@@ -5,8 +5,8 @@ use Rattle.gate_journal.specs.Layout.{IsOpen}
 use Rattle.geo_latency.specs.declared.tables.Tables.{Tables}
 use Rattle.line_splitting.specs.Lines.{is_too_long}
 use Rattle.octets.specs.Counts.{Rose}
-use Rattle.r53_cli.specs.Run.{IsServed}
-use Rattle.r53_cli.specs.Sessions.{Counts, Drills, Dumps, Makes, Runs, Seen}
+use Rattle.r53_cli.specs.Run.{IsCarriedOut}
+use Rattle.r53_cli.specs.Sessions.{Counts, Drills, Dumps, InitRuns, Runs, Devices}
 use Rattle.r53_cli.specs.declared.status.Status.{Status}
 use Rattle.r53_cli.specs.declared.status.Status.TheVariants as status
 use Rattle.session_run.specs.Steps.{State}
@@ -26,13 +26,13 @@ abbrev pub RunCompletes : {D : Type 0} → (reading : D → Option (List ℕ))
     → (images : D → List ℕ → Type 0) → (moment : D → ℕ)
     → (images_since : D → ℕ → List ℕ → Type 0) → Type 0
 RunCompletes {D} reading images moment images_since =
-    (result : Status) (a_old a_new b_old b_new : D) (before after : Seen) (were are : Counts)
+    (result : Status) (a_old a_new b_old b_new : D) (before after : Devices) (were are : Counts)
     → Runs reading images moment images_since result a_old a_new b_old b_new before after were are
     → (given : Given) (start : State) (tables : Tables)
     → IsTold given before.left before.rows (reading a_old) (reading b_old) before.held before.ports
     before.coming before.sent before.words
     → IsBeginning given start → tables_of given.rows ≡ Ok tables → is_too_long given.input ≡ false
-    → NoneRose were are → IsServed result
+    → NoneRose were are → IsCarriedOut result
 
 -- `init` where neither file is open: it takes no memory.
 abbrev pub InitCompletes : {D : Type 0} → (reading : D → Option (List ℕ))
@@ -40,7 +40,7 @@ abbrev pub InitCompletes : {D : Type 0} → (reading : D → Option (List ℕ))
     → (images_since : D → ℕ → List ℕ → Type 0) → Type 0
 InitCompletes {D} reading images moment images_since =
     (result : Status) (a_old a_new b_old b_new : D) (a_were a_are b_were b_are : ℕ)
-    → Makes reading images moment images_since result a_old a_new b_old b_new a_were a_are b_were
+    → InitRuns reading images moment images_since result a_old a_new b_old b_new a_were a_are b_were
     b_are
     → (x y : List ℕ) → reading a_old ≡ Some x → reading b_old ≡ Some y → (IsOpen x → ⊥)
     → (IsOpen y → ⊥) → (Rose a_were a_are → ⊥) → (Rose b_were b_are → ⊥)
@@ -57,7 +57,7 @@ DumpCompletes {D} reading images moment images_since =
     out_are a_were a_are b_were b_are
     → (x y : List ℕ) (config : Config) → reading a_old ≡ Some x → reading b_old ≡ Some y
     → OpensConfig x y config → (Rose out_were out_are → ⊥) → (Rose a_were a_are → ⊥)
-    → (Rose b_were b_are → ⊥) → IsServed result
+    → (Rose b_were b_are → ⊥) → IsCarriedOut result
 
 -- `drill` where neither file is open.
 abbrev pub DrillCompletes : {D : Type 0} → (reading : D → Option (List ℕ))
@@ -70,4 +70,4 @@ DrillCompletes {D} reading images moment images_since =
     out_were out_are a_were a_are b_were b_are
     → (x y : List ℕ) → reading a_old ≡ Some x → reading b_old ≡ Some y → (IsOpen x → ⊥)
     → (IsOpen y → ⊥) → (Rose out_were out_are → ⊥) → (Rose a_were a_are → ⊥)
-    → (Rose b_were b_are → ⊥) → IsServed result
+    → (Rose b_were b_are → ⊥) → IsCarriedOut result

@@ -14,7 +14,7 @@ use Rattle.dns_message.specs.Judge.{Judges}
 use Rattle.dns_wire.specs.Draft.{reply_to}
 use Rattle.dns_wire.specs.Header.{short_reply}
 use Rattle.dns_wire.specs.Limit.{limit_of, refusal_of, version_refusal_of}
-use Rattle.dns_wire.specs.Message.{Message, wire}
+use Rattle.dns_wire.specs.Message.{Message, octets_within}
 use Rattle.r53_cli.specs.declared.once.Once.{Once}
 
 -- a word that is no option
@@ -67,14 +67,14 @@ answer_of once query = record (reply_to query) {
 -- the octets of the reply to a query: the answer, or REFUSED to every other question
 abbrev pub RepliesTo : Once → Query → List ℕ → Type 0
 RepliesTo once query output =
-    (IsAsked once query × (output ≡ wire (answer_of once query) (limit_of query.edns)))
-    ⊎ ((IsAsked once query → ⊥) × (output ≡ wire (refusal_of query) (limit_of query.edns)))
+    (IsAsked once query × (output ≡ octets_within (answer_of once query) (limit_of query.edns)))
+    ⊎ ((IsAsked once query → ⊥) × (output ≡ octets_within (refusal_of query) (limit_of query.edns)))
 
 -- the octets of the reply to what was read; silence is none
 abbrev pub Replies : Once → QueryRead → List ℕ → Type 0
 Replies once read.Silent output = output ≡ []
 Replies once (read.Bad id opcode rd rcode) output = output ≡ short_reply id opcode rd rcode
-Replies once (read.BadVersion query) output = output ≡ wire (version_refusal_of query) (limit_of query.edns)
+Replies once (read.BadVersion query) output = output ≡ octets_within (version_refusal_of query) (limit_of query.edns)
 Replies once (read.Query query) output = RepliesTo once query output
 
 -- the octets of the reply to a packet

@@ -95,8 +95,8 @@ HasCause status.DiskFault input_before input_now output_before output_now = ⊥
 HasCause status.LinkFault input_before input_now output_before output_now = ⊥
 
 -- the run did what it was asked, or found no memory
-abbrev pub IsServed : Status → Type 0
-IsServed result = (result ≡ status.Done) ⊎ (result ≡ status.OutOfMemory)
+abbrev pub IsCarriedOut : Status → Type 0
+IsCarriedOut result = (result ≡ status.Done) ⊎ (result ≡ status.OutOfMemory)
 
 -- words of no form: the run says so, or finds no memory to read an address among them
 abbrev pub IsRefused : (words : List (List ℕ)) → Status → Type 0

@@ -32,7 +32,7 @@ use Rattle.zone_journal.specs.declared.answers.Init.TheVariants as init
 -- What all but the disks that a run asks tells: what the input and the tables have left, what the output
 -- holds, the ports that the network gives, what is to come from it and what was sent, and the random
 -- words.
-pub record Seen : Type 0 where
+pub record Devices : Type 0 where
   pub left : Option (List ℕ)
   pub rows : Option (List ℕ)
   pub held : Option (List ℕ)
@@ -69,7 +69,7 @@ pub record Inits {D : Type 0} (reading : D → Option (List ℕ)) (images : D �
 
 -- The making of a store: its status, the cause of a fault, and what it leaves of files that are told.
 -- Of `b` nothing is written.
-pub record Makes {D : Type 0} (reading : D → Option (List ℕ)) (images : D → List ℕ → Type 0)
+pub record InitRuns {D : Type 0} (reading : D → Option (List ℕ)) (images : D → List ℕ → Type 0)
     (moment : D → ℕ) (images_since : D → ℕ → List ℕ → Type 0) (result : Status)
     (a_old a_new b_old b_new : D) (a_were a_are b_were b_are : ℕ) : Type 0 where
   pub answer : Init
@@ -104,7 +104,7 @@ of_ran (ran.Ended how) = of_ended how
 -- the tables ended it them alone, and the files are as they were; each fault has its cause.
 pub record Runs {D : Type 0} (reading : D → Option (List ℕ)) (images : D → List ℕ → Type 0)
     (moment : D → ℕ) (images_since : D → ℕ → List ℕ → Type 0) (result : Status)
-    (a_old a_new b_old b_new : D) (before after : Seen) (were are : Counts) : Type 0 where
+    (a_old a_new b_old b_new : D) (before after : Devices) (were are : Counts) : Type 0 where
   pub answer : Ran
   pub status_is : result ≡ of_ran answer
   pub unasked : UnlessEnded answer ((after ≡ record before { rows = after.rows })
@@ -193,7 +193,7 @@ IsOnceForm (form.Drill events) = ⊥
 -- The run says that the words are of no form, or finds no memory to read an address among them, and
 -- asks nothing.
 abbrev pub Refuses : {D : Type 0} → (words : List (List ℕ)) → (result : Status)
-    → (a_old a_new b_old b_new : D) → (before after : Seen) → (were are : Counts) → Type 0
+    → (a_old a_new b_old b_new : D) → (before after : Devices) → (were are : Counts) → Type 0
 Refuses words result a_old a_new b_old b_new before after were are =
     IsRefused words result × (a_new ≡ a_old) × (b_new ≡ b_old) × (after ≡ before) × (are ≡ were)
 
@@ -201,7 +201,7 @@ Refuses words result a_old a_new b_old b_new before after were are =
 abbrev pub FormLeaves : {D : Type 0} → (reading : D → Option (List ℕ))
     → (images : D → List ℕ → Type 0) → (moment : D → ℕ)
     → (images_since : D → ℕ → List ℕ → Type 0) → Form → (result : Status)
-    → (a_old a_new b_old b_new : D) → (before after : Seen) → (were are : Counts) → Type 0
+    → (a_old a_new b_old b_new : D) → (before after : Devices) → (were are : Counts) → Type 0
 -- Of all that a run asks `once` asks the input and the output alone.
 FormLeaves reading images moment images_since (form.Once once) result a_old a_new b_old b_new before
     after were are =
@@ -214,7 +214,7 @@ FormLeaves reading images moment images_since (form.Once once) result a_old a_ne
 -- `init` asks the disks alone.
 FormLeaves reading images moment images_since form.Init result a_old a_new b_old b_new before after
     were are =
-    Makes reading images moment images_since result a_old a_new b_old b_new were.a are.a were.b are.b
+    InitRuns reading images moment images_since result a_old a_new b_old b_new were.a are.a were.b are.b
     × (after ≡ before) × (are ≡ record were { a = are.a; b = are.b })
 FormLeaves reading images moment images_since form.Run result a_old a_new b_old b_new before after
     were are =

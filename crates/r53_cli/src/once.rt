@@ -3,7 +3,7 @@
 ghost use Rattle.std.specs.Prelude.{◌≡◌, ◌≤◌, [], IsTrue, ◌↔◌, IfSome, IfNone, length};
 ghost use Rattle.dns_message.specs.Whole.{HasEdns, IsWhole};
 ghost use Rattle.dns_wire.specs.Limit.{limit_of, version_refusal_of};
-ghost use Rattle.dns_wire.specs.Message.{wire};
+ghost use Rattle.dns_wire.specs.Message.{octets_within};
 ghost use Rattle.r53_cli.specs.Once.{IsAsked, Answers, RepliesTo};
 
 use dns_message::rcode::{BADVERS, REFUSED};
@@ -82,7 +82,7 @@ fn refuse_version(query: &Query, reply: &mut Reply) -> usize
     requires whole { IsWhole query.now }
     requires edns { HasEdns query.now.edns }
     requires room { 4096 ≤ reply.old.room }
-    ensures replied { reply.new.bytes ≡ wire (version_refusal_of query.now) (limit_of query.now.edns) }
+    ensures replied { reply.new.bytes ≡ octets_within (version_refusal_of query.now) (limit_of query.now.edns) }
     ensures len { result ≡ length reply.new.bytes }
 {
     reply.begin(query);

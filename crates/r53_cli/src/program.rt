@@ -5,7 +5,7 @@ ghost use Rattle.std.specs.String.{string_bytes};
 ghost use Rattle.octets.specs.Counts.{Rose};
 ghost use Rattle.r53_cli.specs.Forms.{HasNoForm, IsFew, IsForm};
 ghost use Rattle.r53_cli.specs.Once.{HasOnce};
-ghost use Rattle.r53_cli.specs.Run.{Ran, Responds, HasCause, IsServed};
+ghost use Rattle.r53_cli.specs.Run.{Ran, Responds, HasCause, IsCarriedOut};
 ghost use Rattle.r53_cli.specs.Sessions.{FormLeaves, IsOnceForm, Refuses};
 ghost use Rattle.r53_cli.specs.declared.form.Form.{Form};
 ghost use Rattle.r53_cli.specs.Streams.{input_limit};
@@ -127,7 +127,7 @@ pub fn run<S: Source, T: Source, K: Sink, D: Disk, L: Link, R: Rng>(
         → (bytes : List ℕ) → S.left input.old ≡ Some bytes → length bytes < input_limit
         → (Rose (S.faults input.old) (S.faults input.new) → ⊥)
         → (Rose (K.faults out.old) (K.faults out.new) → ⊥)
-        → IsServed result }
+        → IsCarriedOut result }
 {
     one_form();
     match form_of(alloc, args) {
@@ -191,7 +191,7 @@ fn run_form<S: Source, T: Source, K: Sink, D: Disk, L: Link, R: Rng>(
         → (bytes : List ℕ) → S.left input.old ≡ Some bytes → length bytes < input_limit
         → (Rose (S.faults input.old) (S.faults input.new) → ⊥)
         → (Rose (K.faults out.old) (K.faults out.new) → ⊥)
-        → IsServed result }
+        → IsCarriedOut result }
 {
     match form {
         Form::Once(once) => run_once(alloc, once, input, out),
@@ -212,7 +212,7 @@ fn run_once<S: Source, K: Sink>(alloc: Global, once: &Once, input: &mut S, out: 
     ensures complete { (bytes : List ℕ) → S.left input.old ≡ Some bytes → length bytes < input_limit
         → (Rose (S.faults input.old) (S.faults input.new) → ⊥)
         → (Rose (K.faults out.old) (K.faults out.new) → ⊥)
-        → IsServed result }
+        → IsCarriedOut result }
 {
     match answer_once(alloc, once, input, out) {
         Ok(status) => status,

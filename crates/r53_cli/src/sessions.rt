@@ -1,7 +1,7 @@
 //! Runs over a store: it is made, the lines of an input are taken, or what it holds is written.
 
 ghost use Rattle.std.specs.Prelude.{◌≡◌, ◌≢◌, ◌≤◌};
-ghost use Rattle.r53_cli.specs.Sessions.{Drills, Dumps, Makes, Runs, of_drilled};
+ghost use Rattle.r53_cli.specs.Sessions.{Drills, Dumps, InitRuns, Runs, of_drilled};
 ghost use Rattle.r53_cli.specs.Sessions.{of_dumped, of_ended, of_init, of_ran};
 ghost use Rattle.r53_cli.specs.declared.status.Status.TheVariants as Status;
 
@@ -17,7 +17,7 @@ use zone_journal::{Init, init};
 
 /// Makes a store with nothing in it.
 pub(crate) fn run_init<D: Disk>(a: &mut D, b: &mut D) -> Status
-    ensures makes { Makes D.reading D.images D.moment D.images_since result a.old a.new b.old b.new
+    ensures makes { InitRuns D.reading D.images D.moment D.images_since result a.old a.new b.old b.new
         (D.faults a.old) (D.faults a.new) (D.faults b.old) (D.faults b.new) }
     ensures built { result ≢ Status.Usage }
 {

@@ -17,9 +17,9 @@ use Rattle.sound_configs.specs.RefusalRecord.TheVariants as refusal
 use Rattle.sound_configs.specs.Engine.{Engine, Fits, IsFull, Journal, Plan as ToldPlan, grown, longer, size_of}
 use Rattle.file_building.specs.Building.{Plan}
 use Rattle.zone_journal.specs.Layout.{most}
-use Rattle.sound_configs.specs.Following.{Follows}
+use Rattle.sound_configs.specs.Later.{AreLater}
 use Rattle.sound_configs.specs.Index.{Index, StandsFor as HasHealth}
-use Rattle.sound_configs.specs.LawsOfHealthIndex.{CommandsFollow}
+use Rattle.sound_configs.specs.LawsOfHealthIndex.{ChecksAreLater}
 use Rattle.sound_configs.specs.Leaving.{AreLeft}
 use Rattle.health_model.specs.Statuses.{Report}
 use Rattle.config_opening.specs.Journals.{journal_of, plan_of}
@@ -110,7 +110,7 @@ same_checks_of checks (command.Health health) none = absurd (none tt)
 same_checks_of checks (command.Cidr cidr) none = refl
 
 -- the sets that a command tells are its own
-pub leaves_all : CommandsFollow → (before after : Held) (given : Command)
+pub leaves_all : ChecksAreLater → (before after : Held) (given : Command)
     (edit : Option ReadyEdit) → IsWorkReady before given edit → TellsSets before edit after
     → after.checks.checks ≡ checks_of before.checks.checks given
     → AreLeft before.table.zones before.checks.checks after.table.zones after.checks.checks after.told
@@ -118,7 +118,7 @@ leaves_all commands before after given (Some ready) (none, is_ready, edit_for) t
     inl (ready.made, (is_ready.allowed, told, checks ∙ same_checks_of before.checks.checks given none))
 leaves_all commands before after (command.Health health) None is (told, table) checks = inr (
   ap (λ (t : Table). t.zones) table,
-  subst (λ (cs : Checks). Follows before.checks.checks cs) (sym checks)
+  subst (λ (cs : Checks). AreLater before.checks.checks cs) (sym checks)
       (commands before.checks.checks health),
   ap (λ (d : Delta). d.zone) told,
 )
@@ -146,11 +146,11 @@ module _ (before after : Held) (are : AreZones before.table.zones) (ready : Read
 
   same_zones : (made : ZoneEdit) → ready.made ≡ made → zone_of made ≡ 0
       → after.table.zones ≡ before.table.zones
-  same_zones (zone_edit.Open zone name sets) is none =
+  same_zones (zone_edit.Begin zone name sets) is none =
       let its = subst (IsAllowed before.table.zones) is allowed in
       let some = its.3 in
       absurd (omega (arith, some, none))
-  same_zones (zone_edit.Close zone) is none =
+  same_zones (zone_edit.End zone) is none =
       absurd (no_zone (subst (IsZoneId before.table.zones) none (subst (IsAllowed before.table.zones) is allowed)))
   same_zones (zone_edit.Change zone remove add) is none =
       absurd (no_zone (subst (IsZoneId before.table.zones) none (subst (IsAllowed before.table.zones) is allowed).0))
@@ -250,7 +250,7 @@ module _ (engine : Engine) (k0 k1 : Kept) (i0 i1 : Index)
     pub made : (what : Made) (k2 : Kept) (now : State) → IsCommitted what k1 ready k2
         → now.kept ≡ k2
         → ((p : Plan) → k1.journal.plan ≡ Some p → PlanFits k1.journal p)
-        → CommandsFollow → (collections : Bool) → (IsTrue collections → IsOnCollections given)
+        → ChecksAreLater → (collections : Bool) → (IsTrue collections → IsOnCollections given)
         → ((zones : List Zone) (checks : Checks) (reports : List Report)
         → HasHealth zones checks reports i1
         → AreLeft zones checks k2.config.table.zones k2.config.checks.checks k2.config.told

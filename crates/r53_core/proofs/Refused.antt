@@ -17,8 +17,8 @@ use Rattle.cidr_blocks.specs.Idents.{star}
 use Rattle.cidr_blocks.specs.declared.places.Collection.{Collection}
 use Rattle.cidr_changes.specs.declared.faults.CidrFault.{CidrFault}
 use Rattle.cidr_changes.specs.declared.faults.CidrFault.TheVariants as fault
-use Rattle.cidr_commands.specs.Commands.{answer}
-use Rattle.cidr_commands.specs.Stored.{Stored, collection_at}
+use Rattle.cidr_commands.specs.Commands.{outcome}
+use Rattle.cidr_commands.specs.Stored.{Stored, collection_with}
 use Rattle.sound_configs.specs.CommandRecord.{Command}
 use Rattle.sound_configs.specs.CommandRecord.TheVariants as command
 use Rattle.sound_configs.specs.Applying.{Applies, Decides, Outcome}
@@ -32,7 +32,7 @@ use Rattle.sound_configs.specs.NewZones.{are_most, create_refusal, end_of, end_r
 use Rattle.sound_configs.specs.NewZones.{is_another, is_repeated, is_zone_name, with_zone}
 use Rattle.sound_configs.specs.Others.{in_use, is_check_named, made_check, made_collection, used_by}
 use Rattle.sound_configs.specs.Others.{with_collections}
-use Rattle.sound_configs.specs.Telling.{first_of, invalid, of_batch, of_check, of_fault, rule, unless}
+use Rattle.sound_configs.specs.Telling.{first_of, invalid, of_batch, of_check, of_fault, refuse_if, unless}
 use Rattle.sound_configs.specs.InputReasonRecord.TheVariants as reason
 use Rattle.sound_configs.specs.MadeRecord.{Made}
 use Rattle.sound_configs.specs.MadeRecord.TheVariants as made
@@ -62,7 +62,7 @@ no_answer why answer e = grind (arith, e)
 
 -- ---- rules
 
-ruled : (b : Bool) (why : Refusal) → is_fault why ≡ false → Safe (rule b why)
+ruled : (b : Bool) (why : Refusal) → is_fault why ≡ false → Safe (refuse_if b why)
 ruled true why safe = safe
 ruled false why safe = tt
 
@@ -111,8 +111,8 @@ check_named checks (Some id) =
 collection_named : (list : List (ℕ × Collection)) (chosen : Routing)
     → Safe (named_collection list chosen) × Safe (named_location list chosen)
 collection_named list (routing.Cidr ident id location) = (
-  ruled (not (is_some (collection_at id list))) (refusal.NoSuchCidrCollection id) refl,
-  ruled (not (bytes_eq location star || is_location_in (collection_at id list) location))
+  ruled (not (is_some (collection_with id list))) (refusal.NoSuchCidrCollection id) refl,
+  ruled (not (bytes_eq location star || is_location_in (collection_with id list) location))
       (refusal.NoSuchCidrLocation location) refl,
 )
 collection_named list other = (tt, tt)
@@ -125,7 +125,7 @@ sets_safe checks list zone = of_all
     ∷ first_among (location_refusal list) zone
     ∷ first_among (target_refusal zone) zone
     ∷ first_among (depth_refusal zone) zone
-    ∷ rule (is_zone_full zone) refusal.ZoneFull
+    ∷ refuse_if (is_zone_full zone) refusal.ZoneFull
     ∷ []) (
       among (check_refusal checks) (λ set. check_named checks set.check) zone,
       (
@@ -170,11 +170,11 @@ batch_told config given (Some zone) why (inr (after, prepared, e)) = told
 create_safe : (config : Config) (name : List (List ℕ)) (servers : List (List (List ℕ)))
     → Safe (create_refusal config name servers)
 create_safe config name servers = of_all
-    (rule (not (is_zone_name name)) (invalid reason.BadZoneName)
-    ∷ rule (is_repeated servers) (invalid reason.RepeatedValue)
-    ∷ rule (has_zone config.zones name) (invalid reason.ZoneExists)
-    ∷ rule (are_most (length config.zones)) refusal.TooManyHostedZones
-    ∷ rule (config.next_zone == 4294967295) refusal.IdsEnded
+    (refuse_if (not (is_zone_name name)) (invalid reason.BadZoneName)
+    ∷ refuse_if (is_repeated servers) (invalid reason.RepeatedValue)
+    ∷ refuse_if (has_zone config.zones name) (invalid reason.ZoneExists)
+    ∷ refuse_if (are_most (length config.zones)) refusal.TooManyHostedZones
+    ∷ refuse_if (config.next_zone == 4294967295) refusal.IdsEnded
     ∷ store_refusal (with_zone config name servers).zones
     ∷ []) (
       ruled (not (is_zone_name name)) (invalid reason.BadZoneName) refl,
@@ -198,7 +198,7 @@ end_told : (config : Config) (found : Option HostedZone) (why : Refusal)
 end_told config None why e =
     subst (λ (r : Refusal). is_fault r ≡ false) (sym (same_why why refusal.NoSuchHostedZone e)) refl
 end_told config (Some zone) why e = told (end_refusal zone)
-    (of_all (rule (list_any (is_another zone.apex) zone.sets) refusal.HostedZoneNotEmpty ∷ [])
+    (of_all (refuse_if (list_any (is_another zone.apex) zone.sets) refusal.HostedZoneNotEmpty ∷ [])
     (ruled (list_any (is_another zone.apex) zone.sets) refusal.HostedZoneNotEmpty refl, tt))
     (record config { zones = without_zone config.zones zone.id }, made.Nothing) why e
 
@@ -260,7 +260,7 @@ by_rules config (command.Health given) why e = told
     ) why e
 by_rules config (command.Cidr given) why e =
     cidr_told config (made_collection config.collections given)
-    (answer config.collections given (used_by config.zones)) why e
+    (outcome config.collections given (used_by config.zones)) why e
 
 pub no_fault : (config : Config) (given : Command) → Applies config given (Err refusal.DiskFault)
     → ⊥

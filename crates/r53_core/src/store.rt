@@ -36,8 +36,8 @@ ghost use Rattle.config_opening.specs.Kept.{IsAccepted};
 ghost use Rattle.record_set.specs.Sets.{key_of};
 ghost use Rattle.sound_configs.specs.Octets.{snapshot};
 ghost use Rattle.record_set.specs.declared.sets.RecordSet.{RecordSet};
-ghost use Rattle.query_engine.specs.Looking.{Names};
-ghost use Rattle.zone_journal.specs.Pairs.{EachPair, Leaves, OpensPair, Unwritten};
+ghost use Rattle.query_engine.specs.Looking.{RefersTo};
+ghost use Rattle.zone_journal.specs.Pairs.{EachPair, BothRead, OpensPair, Unwritten};
 ghost use Rattle.zone_journal.specs.Standing.{StandsOn};
 ghost use Rattle.zone_journal.specs.declared.answers.OpenFault.TheVariants as OpenFault;
 
@@ -51,8 +51,8 @@ use octets::OutOfMemory;
 use query_engine::{HealthView, Scratch, SetRef, Zones, answer};
 use r53_disk::Disk;
 use sound_configs::{
-    Command, Compacted, HealthIndex, Made, Refusal, Reported, Steps, commands_follow, index_serves,
-    sound_is_served, sound_is_watched,
+    Command, Compacted, HealthIndex, Made, Refusal, Reported, Steps, checks_are_later,
+    index_serves, sound_is_served, sound_is_watched,
 };
 use std::alloc::Global;
 use std::marker::Model;
@@ -87,7 +87,7 @@ impl Store {
         ensures stands { IfOk result (λ store.
             StandsOn D.reading D.images store.kept.journal a.new b.new) }
         ensures holds { (x y : List ℕ) → D.reading a.old ≡ Some x → D.reading b.old ≡ Some y
-            → IfOk result (λ store. Leaves D.reading a.new b.new (Holds store.kept)) }
+            → IfOk result (λ store. BothRead D.reading a.new b.new (Holds store.kept)) }
         ensures faulty { (x y : List ℕ) → D.reading a.old ≡ Some x → D.reading b.old ≡ Some y
             → IsFault result (IsNoStore x y) }
         ensures idle { IfOk result (λ store. store.kept.journal.plan ≡ None) }
@@ -172,20 +172,20 @@ impl Store {
             → CommandGives engine command result self.new }
         ensures stands { UnlessFault result
             (StandsOn D.reading D.images self.new.kept.journal a.new b.new) }
-        ensures holds { Leaves D.reading a.old b.old (Holds self.old.kept)
-            → UnlessFault result (Leaves D.reading a.new b.new (Holds self.new.kept)) }
+        ensures holds { BothRead D.reading a.old b.old (Holds self.old.kept)
+            → UnlessFault result (BothRead D.reading a.new b.new (Holds self.new.kept)) }
 
         // The octets of a command that was made stand behind the entries before them.
         ensures written { (g : ℕ) (s : List ℕ) (es : List (List ℕ)) (x y : List ℕ)
             → D.reading a.old ≡ Some x → D.reading b.old ≡ Some y → OpensPair x y g s es
-            → OnMade result (Leaves D.reading a.new b.new
+            → OnMade result (BothRead D.reading a.new b.new
             (λ u v. OpensPair u v g s (es ++ command_octets command ∷ []))) }
 
         // Of a command that is accepted nothing is asked of the disks, or at each moment every image
         // pair opens to the configuration before or to the one after. At a refusal no disk is asked.
         ensures any_moment { (after : Config) (what : Made)
             → Decides (config_of self.old.kept) command (Ok (after, what))
-            → Leaves D.reading a.old b.old (Holds self.old.kept)
+            → BothRead D.reading a.old b.old (Holds self.old.kept)
             → ((a.new ≡ a.old) × (b.new ≡ b.old))
             ⊎ EachPair D.moment D.images_since a.old a.new b.old b.new
             (OpensEither (config_of self.old.kept) after) }
@@ -199,7 +199,7 @@ impl Store {
         ensures failed { result ≡ Err refusal.DiskFault
             → Rose (D.faults a.old) (D.faults a.new) ⊎ Rose (D.faults b.old) (D.faults b.new) }
     {
-        commands_follow();
+        checks_are_later();
         let collections = is_on_collections(&command);
         let ready = match self.kept.prepare(alloc, command) {
             Ok(ready) => ready,
@@ -261,12 +261,12 @@ impl Store {
             → CompactionGives engine pieces result self.new }
         ensures stands { UnlessFaulty result
             (StandsOn D.reading D.images self.new.kept.journal a.new b.new) }
-        ensures holds { Leaves D.reading a.old b.old (Holds self.old.kept)
-            → UnlessFaulty result (Leaves D.reading a.new b.new (Holds self.new.kept)) }
+        ensures holds { BothRead D.reading a.old b.old (Holds self.old.kept)
+            → UnlessFaulty result (BothRead D.reading a.new b.new (Holds self.new.kept)) }
 
         // At each moment every image pair opens to the configuration. Where no piece is made no disk
         // is asked.
-        ensures any_moment { Leaves D.reading a.old b.old (Holds self.old.kept)
+        ensures any_moment { BothRead D.reading a.old b.old (Holds self.old.kept)
             → EachPair D.moment D.images_since a.old a.new b.old b.new
             (λ x y. OpensConfig x y (config_of self.old.kept)) }
         ensures none { WhereNone result ((a.new ≡ a.old) × (b.new ≡ b.old)) }
@@ -360,7 +360,7 @@ impl Store {
     /// Whether the set that a reference names is healthy, by all reports.
     pub fn is_healthy(&self, set: SetRef) -> bool
         ensures { (engine : Engine) (named : RecordSet) → StandsFor engine self.now
-            → Names self.now.kept.config.table.zones set named
+            → RefersTo self.now.kept.config.table.zones set named
             → result ≡ is_healthy engine.config engine.reports set.zone (key_of named) }
     {
         index_serves();

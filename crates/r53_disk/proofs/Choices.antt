@@ -3,7 +3,7 @@ use Rattle.std.proofs.Common.{◌≡◌, ◌≤◌, ℕ, List, [], ◌∷◌, le
 use Rattle.std.proofs.lemmas.List.{length-replicate}
 use Rattle.r53_disk.specs.Disk.{Torn, TornFrom, written}
 use Rattle.r53_disk.specs.Laws.{whole_is_torn, untouched, length-written}
-use Rattle.r53_disk.specs.Memory.{History, Step, Wrote, Tried, Synced, place, ImagesAfter, IsImage}
+use Rattle.r53_disk.specs.Memory.{History, Trace, Wrote, Tried, Synced, place, ImagesAfter, IsImage}
 use Rattle.r53_disk.specs.Images.{torn_write, torn_after, image_of}
 use Rattle.r53_disk.specs.declared.memory.Torn.{Torn as Choice}
 use Rattle.r53_disk.specs.declared.memory.Torn.TheVariants as torn
@@ -74,7 +74,7 @@ as_long torn.Kept bytes = omega arith
 as_long torn.Lost bytes = tt
 as_long (torn.Filled value) bytes = omega arith
 
-leaves : (t : Choice) (bytes image : List ℕ) (images : List ℕ → Type 0) (steps : List Step)
+leaves : (t : Choice) (bytes image : List ℕ) (images : List ℕ → Type 0) (steps : List Trace)
     → AsLong t bytes image → images image
     → ImagesAfter bytes images steps (torn_after t bytes image steps)
 leaves t bytes image images [] long here = here

@@ -2,22 +2,22 @@
 use Rattle.std.proofs.Common.{◌≡◌, ◌⊎◌, inl, inr, ⊎_elim, ℕ, ◌+◌, ◌≤◌, List, [], ◌∷◌, ◌++◌, length, take, Some, refl, sym, ◌∙◌, ap, subst, arith, length-append}
 use Rattle.std.proofs.lemmas.List.{take_all, take-append-le}
 use Rattle.std.proofs.lemmas.Bool.{cases_lt}
-use Rattle.r53_disk.specs.Disk.{TornFrom, Same, Frees, Settles, WriteLeaves, Elapses, written}
+use Rattle.r53_disk.specs.Disk.{TornFrom, Same, Unsettles, Settles, WriteLeaves, Elapses, written}
 use Rattle.r53_disk.specs.declared.disk.Done.{Done}
 use Rattle.r53_disk.specs.declared.disk.Done.TheVariants as done
-use Rattle.r53_disk.specs.Memory.{History, Step, Wrote, Tried, Synced, place, reading_after, reading_of, ImagesAfter, IsImage, IsImageSince, AfterWrite, AfterSync}
-use Rattle.r53_disk.specs.Calls.{step_of, steps_of}
+use Rattle.r53_disk.specs.Memory.{History, Trace, Wrote, Tried, Synced, place, reading_after, reading_of, ImagesAfter, IsImage, IsImageSince, AfterWrite, AfterSync}
+use Rattle.r53_disk.specs.Calls.{trace_of, traces_of}
 use Rattle.r53_disk.specs.declared.record.Call.{Call}
 
 pub steps_of-push : (calls : List Call) (call : Call)
-    → steps_of (calls ++ call ∷ []) ≡ steps_of calls ++ step_of call ∷ []
+    → traces_of (calls ++ call ∷ []) ≡ traces_of calls ++ trace_of call ∷ []
 steps_of-push [] call = refl
-steps_of-push (c ∷ calls) call = ap (λ l. step_of c ∷ l) (steps_of-push calls call)
+steps_of-push (c ∷ calls) call = ap (λ l. trace_of c ∷ l) (steps_of-push calls call)
 
 pub same : (P : List ℕ → Type 0) → Same P P
 same P c = (λ p. p, λ p. p)
 
-pub reading-write : (bytes : List ℕ) (steps : List Step) (at : ℕ) (from : List ℕ)
+pub reading-write : (bytes : List ℕ) (steps : List Trace) (at : ℕ) (from : List ℕ)
     → at ≤ length (reading_after bytes steps)
     → reading_after bytes (steps ++ Wrote at from ∷ [])
     ≡ written (reading_after bytes steps) at from
@@ -28,7 +28,7 @@ reading-write bytes (Wrote a w ∷ steps) at from within =
 reading-write bytes (Tried a w ∷ steps) at from within = reading-write bytes steps at from within
 reading-write bytes (Synced ∷ steps) at from within = reading-write bytes steps at from within
 
-pub reading-try : (bytes : List ℕ) (steps : List Step) (at : ℕ) (from : List ℕ)
+pub reading-try : (bytes : List ℕ) (steps : List Trace) (at : ℕ) (from : List ℕ)
     → reading_after bytes (steps ++ Tried at from ∷ []) ≡ reading_after bytes steps
 reading-try bytes [] at from = refl
 reading-try bytes (Wrote a w ∷ steps) at from =
@@ -36,7 +36,7 @@ reading-try bytes (Wrote a w ∷ steps) at from =
 reading-try bytes (Tried a w ∷ steps) at from = reading-try bytes steps at from
 reading-try bytes (Synced ∷ steps) at from = reading-try bytes steps at from
 
-pub reading-sync : (bytes : List ℕ) (steps : List Step)
+pub reading-sync : (bytes : List ℕ) (steps : List Trace)
     → reading_after bytes (steps ++ Synced ∷ []) ≡ reading_after bytes steps
 reading-sync bytes [] = refl
 reading-sync bytes (Wrote a w ∷ steps) = reading-sync (written bytes (place a bytes) w) steps
@@ -50,7 +50,7 @@ torn_there at n bytes images within =
     subst (λ k. Same (TornFrom k n images) (TornFrom (place at bytes) n images)) (sym is) (same _)
 
 images-write : (bytes : List ℕ) (images : List ℕ
-    → Type 0) (steps : List Step) (at : ℕ) (from : List ℕ) → at ≤ length (reading_after bytes steps)
+    → Type 0) (steps : List Trace) (at : ℕ) (from : List ℕ) → at ≤ length (reading_after bytes steps)
     → Same (TornFrom at (length from) (ImagesAfter bytes images steps))
     (ImagesAfter bytes images (steps ++ Wrote at from ∷ []))
 images-write bytes images [] at from within = torn_there at (length from) bytes images within
@@ -63,7 +63,7 @@ images-write bytes images (Synced ∷ steps) at from within =
     images-write bytes (λ file. file ≡ bytes) steps at from within
 
 images-try : (bytes : List ℕ) (images : List ℕ
-    → Type 0) (steps : List Step) (at : ℕ) (from : List ℕ) → at ≤ length (reading_after bytes steps)
+    → Type 0) (steps : List Trace) (at : ℕ) (from : List ℕ) → at ≤ length (reading_after bytes steps)
     → Same (TornFrom at (length from) (ImagesAfter bytes images steps))
     (ImagesAfter bytes images (steps ++ Tried at from ∷ []))
 images-try bytes images [] at from within = torn_there at (length from) bytes images within
@@ -75,7 +75,7 @@ images-try bytes images (Tried a w ∷ steps) at from within =
 images-try bytes images (Synced ∷ steps) at from within =
     images-try bytes (λ file. file ≡ bytes) steps at from within
 
-images-sync : (bytes : List ℕ) (images : List ℕ → Type 0) (steps : List Step) (c : List ℕ)
+images-sync : (bytes : List ℕ) (images : List ℕ → Type 0) (steps : List Trace) (c : List ℕ)
     → ImagesAfter bytes images (steps ++ Synced ∷ []) c → c ≡ reading_after bytes steps
 images-sync bytes images [] c is = is
 images-sync bytes images (Wrote a w ∷ steps) c is =
@@ -91,19 +91,19 @@ rests : (old new : History) → new.first ≡ old.first → new.steps ≡ old.st
 rests old new first steps = record {
   later = omega (arith, ap length steps);
   nothing_else =
-      λ t c le left. inl (subst (λ (p : List ℕ × List Step). Since p.0 p.1 t c) both left);
-  keeps = λ t c le left. subst (λ (p : List ℕ × List Step). Since p.0 p.1 t c) (sym both) left;
+      λ t c le left. inl (subst (λ (p : List ℕ × List Trace). Since p.0 p.1 t c) both left);
+  keeps = λ t c le left. subst (λ (p : List ℕ × List Trace). Since p.0 p.1 t c) (sym both) left;
 }
   where
-    Since : List ℕ → List Step → ℕ → List ℕ → Type 0
+    Since : List ℕ → List Trace → ℕ → List ℕ → Type 0
     Since f ss t c = (k : ℕ) × (t ≤ k) × (k ≤ length ss)
         × ImagesAfter f (λ file. file ≡ f) (take k ss) c
 
-    both : Path (List ℕ × List Step) (new.first, new.steps) (old.first, old.steps)
+    both : Path (List ℕ × List Trace) (new.first, new.steps) (old.first, old.steps)
     both = λ i. (first i, steps i)
 
 -- one step more
-elapses : (old new : History) (step : Step) → new.first ≡ old.first
+elapses : (old new : History) (step : Trace) → new.first ≡ old.first
     → new.steps ≡ old.steps ++ step ∷ []
     → Elapses (λ (h : History). length h.steps) IsImageSince IsImage old new
 elapses old new step first more = record {
@@ -113,12 +113,12 @@ elapses old new step first more = record {
     left.0,
     left.1,
     omega (arith, left.2, longer),
-    subst (λ (p : List ℕ × List Step). Image p.0 p.1 c)
+    subst (λ (p : List ℕ × List Trace). Image p.0 p.1 c)
         (λ i. (sym first i, sym (front left.0 left.2) i)) left.3,
   );
 }
   where
-    Image : List ℕ → List Step → List ℕ → Type 0
+    Image : List ℕ → List Trace → List ℕ → Type 0
     Image f ss c = ImagesAfter f (λ file. file ≡ f) ss c
 
     longer : length new.steps ≡ length old.steps + 1
@@ -138,7 +138,7 @@ elapses old new step first more = record {
           left.0,
           left.1,
           before,
-          subst (λ (p : List ℕ × List Step). Image p.0 p.1 c)
+          subst (λ (p : List ℕ × List Trace). Image p.0 p.1 c)
               (λ i. (first i, front left.0 before i))
               left.3,
         )
@@ -158,7 +158,7 @@ module _ (old new : History) (at : ℕ) (from : List ℕ) (within : at ≤ lengt
   told done.Failed after bytes is = (reading_of new, refl)
 
   pub frees : (r : Done) → AfterWrite old r at from new
-      → Frees r at (length from) (IsImage old) (IsImage new)
+      → Unsettles r at (length from) (IsImage old) (IsImage new)
   frees done.Whole after =
       subst (λ h. Same (TornFrom at (length from) (IsImage old)) (IsImage h)) (sym after.1)
       (images-write old.first (λ file. file ≡ old.first) old.steps at from within)
@@ -206,7 +206,7 @@ module _ (old new : History) where
       rests old new (ap (λ (h : History). h.first) after) (ap (λ (h : History). h.steps) after)
 
 -- the bytes that are kept are what the steps read as
-pub bytes_written : (first old new : List ℕ) (steps after : List Step) (at : ℕ) (from : List ℕ)
+pub bytes_written : (first old new : List ℕ) (steps after : List Trace) (at : ℕ) (from : List ℕ)
     → old ≡ reading_after first steps → at ≤ length (reading_after first steps)
     → after ≡ steps ++ Wrote at from ∷ [] → new ≡ written old at from
     → new ≡ reading_after first after
@@ -214,13 +214,13 @@ bytes_written first old new steps after at from was within more now =
     now ∙ ap (λ l. written l at from) was ∙ sym (reading-write first steps at from within)
     ∙ ap (reading_after first) (sym more)
 
-pub bytes_tried : (first bytes : List ℕ) (steps after : List Step) (at : ℕ) (from : List ℕ)
+pub bytes_tried : (first bytes : List ℕ) (steps after : List Trace) (at : ℕ) (from : List ℕ)
     → bytes ≡ reading_after first steps → after ≡ steps ++ Tried at from ∷ []
     → bytes ≡ reading_after first after
 bytes_tried first bytes steps after at from was more = was
     ∙ sym (ap (reading_after first) more ∙ reading-try first steps at from)
 
-pub bytes_synced : (first bytes : List ℕ) (steps after : List Step)
+pub bytes_synced : (first bytes : List ℕ) (steps after : List Trace)
     → bytes ≡ reading_after first steps → after ≡ steps ++ Synced ∷ []
     → bytes ≡ reading_after first after
 bytes_synced first bytes steps after was more = was

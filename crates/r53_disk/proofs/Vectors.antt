@@ -1,12 +1,12 @@
 -- Images of a disk that was made with the bytes 1 2 3: what is kept, what is lost, and what is
 -- filled with 7.
 use Rattle.std.proofs.Common.{◌≡◌, List, [], ◌∷◌, refl}
-use Rattle.r53_disk.specs.Memory.{Step, Wrote, Tried, Synced, reading_after}
+use Rattle.r53_disk.specs.Memory.{Trace, Wrote, Tried, Synced, reading_after}
 use Rattle.r53_disk.specs.Images.{torn_after}
 use Rattle.r53_disk.specs.declared.memory.Torn.TheVariants as torn
 
 -- 9 8 written over the last byte and past the end
-abbrev written_past : List Step
+abbrev written_past : List Trace
 written_past = Wrote 2 (9 ∷ 8 ∷ []) ∷ []
 
 pub read : reading_after (1 ∷ 2 ∷ 3 ∷ []) written_past ≡ 1 ∷ 2 ∷ 9 ∷ 8 ∷ []

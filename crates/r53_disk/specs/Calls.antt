@@ -1,14 +1,14 @@
 -- The record that a disk in memory keeps of its calls, as the steps that it stands for.
 use Rattle.std.specs.Prelude.{List, [], ◌∷◌}
-use Rattle.r53_disk.specs.Memory.{Step, Wrote, Tried, Synced}
+use Rattle.r53_disk.specs.Memory.{Trace, Wrote, Tried, Synced}
 use Rattle.r53_disk.specs.declared.record.Call.{Call}
 use Rattle.r53_disk.specs.declared.record.Call.TheVariants as call
 
-abbrev pub step_of : Call → Step
-step_of (call.Write at from) = Wrote at from.items
-step_of (call.Try at from) = Tried at from.items
-step_of call.Sync = Synced
+abbrev pub trace_of : Call → Trace
+trace_of (call.Write at from) = Wrote at from.items
+trace_of (call.Try at from) = Tried at from.items
+trace_of call.Sync = Synced
 
-abbrev pub steps_of : List Call → List Step
-steps_of [] = []
-steps_of (call ∷ calls) = step_of call ∷ steps_of calls
+abbrev pub traces_of : List Call → List Trace
+traces_of [] = []
+traces_of (call ∷ calls) = trace_of call ∷ traces_of calls

@@ -35,9 +35,9 @@ abbrev pub TornFrom : ℕ → ℕ → (List ℕ → Type 0) → List ℕ → Typ
 TornFrom at n images c = (old : List ℕ) × images old × Torn at n old c
 
 -- The images after a write. One that failed frees the same bytes, or it tried nothing.
-abbrev pub Frees : Done → ℕ → ℕ → (List ℕ → Type 0) → (List ℕ → Type 0) → Type 0
-Frees done.Whole at n old new = Same (TornFrom at n old) new
-Frees done.Failed at n old new = Same (TornFrom at n old) new ⊎ Same old new
+abbrev pub Unsettles : Done → ℕ → ℕ → (List ℕ → Type 0) → (List ℕ → Type 0) → Type 0
+Unsettles done.Whole at n old new = Same (TornFrom at n old) new
+Unsettles done.Failed at n old new = Same (TornFrom at n old) new ⊎ Same old new
 
 -- the images after a sync of a disk that reads as these bytes
 abbrev pub Settles : Done → List ℕ → (List ℕ → Type 0) → (List ℕ → Type 0) → Type 0

@@ -1,7 +1,7 @@
 -- The images of a disk in memory that can be asked for.
 use Rattle.std.specs.Prelude.{ℕ, List, [], ◌∷◌, length, replicate}
 use Rattle.r53_disk.specs.Disk.{written}
-use Rattle.r53_disk.specs.Memory.{History, Step, Wrote, Tried, Synced, place}
+use Rattle.r53_disk.specs.Memory.{History, Trace, Wrote, Tried, Synced, place}
 use Rattle.r53_disk.specs.declared.memory.Torn.{Torn}
 use Rattle.r53_disk.specs.declared.memory.Torn.TheVariants as torn
 
@@ -12,7 +12,7 @@ torn_write torn.Lost image at from = image
 torn_write (torn.Filled value) image at from = written image (place at image) (replicate (length from) value)
 
 -- what these steps leave, from the reading and the image before them
-abbrev pub torn_after : Torn → List ℕ → List ℕ → List Step → List ℕ
+abbrev pub torn_after : Torn → List ℕ → List ℕ → List Trace → List ℕ
 torn_after torn bytes image [] = image
 torn_after torn bytes image (Wrote at from ∷ steps) =
     torn_after torn (written bytes (place at bytes) from) (torn_write torn image (place at bytes) from) steps

@@ -3,7 +3,7 @@ use Rattle.std.specs.Prelude.{◌≡◌, ℕ, ◌≤◌, List, [], ◌∷◌, �
 use Rattle.std.proofs.Common.{refl, sym, ◌∙◌, ap, subst, arith, ◌+◌, ◌-◌, drop, append_assoc, length-append, length-drop, length-take-le}
 use Rattle.std.proofs.lemmas.List.{take_all, take_at, drop_at}
 use Rattle.r53_disk.specs.Disk.{Torn, written}
-use Rattle.r53_disk.specs.Memory.{History, Step, Wrote, Tried, Synced, reading_of, reading_after, place, ImagesAfter, IsImage, IsImageSince}
+use Rattle.r53_disk.specs.Memory.{History, Trace, Wrote, Tried, Synced, reading_of, reading_after, place, ImagesAfter, IsImage, IsImageSince}
 
 -- a write that a crash doesn't cut short
 module _ (at : ℕ) (old from : List ℕ) (within : at ≤ length old) where
@@ -33,7 +33,7 @@ module _ (at : ℕ) (old from : List ℕ) (within : at ≤ length old) where
 pub untouched : (at n : ℕ) (old : List ℕ) → Torn at n old old
 untouched at n old = record { before = refl; after = refl; no_shorter = omega arith; no_longer = omega arith }
 
-reads_from : (bytes : List ℕ) (images : List ℕ → Type 0) (steps : List Step) → images bytes → ImagesAfter bytes images steps (reading_after bytes steps)
+reads_from : (bytes : List ℕ) (images : List ℕ → Type 0) (steps : List Trace) → images bytes → ImagesAfter bytes images steps (reading_after bytes steps)
 reads_from bytes images [] here = here
 reads_from bytes images (Wrote at from ∷ steps) here =
     reads_from (written bytes (place at bytes) from) _ steps (bytes, here, whole_is_torn (place at bytes) bytes from (omega arith))

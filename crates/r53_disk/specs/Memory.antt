@@ -9,24 +9,24 @@ use Rattle.r53_disk.specs.declared.disk.Size.{Size}
 use Rattle.r53_disk.specs.declared.disk.Size.TheVariants as size
 
 -- a step that a crash can tell from none: a write that was done, one that failed, or a sync that succeeded
-pub data Step : Type 0 where
-  Wrote : (at : ℕ) (from : List ℕ) → Step
-  Tried : (at : ℕ) (from : List ℕ) → Step
-  Synced : Step
+pub data Trace : Type 0 where
+  Wrote : (at : ℕ) (from : List ℕ) → Trace
+  Tried : (at : ℕ) (from : List ℕ) → Trace
+  Synced : Trace
 
 -- where a write begins: none begins past the end
 abbrev pub place : ℕ → List ℕ → ℕ
 place at bytes = min at (length bytes)
 
 -- What is read after these steps, from what is read before them. A write that failed leaves it.
-abbrev pub reading_after : List ℕ → List Step → List ℕ
+abbrev pub reading_after : List ℕ → List Trace → List ℕ
 reading_after bytes [] = bytes
 reading_after bytes (Wrote at from ∷ steps) = reading_after (written bytes (place at bytes) from) steps
 reading_after bytes (Tried at from ∷ steps) = reading_after bytes steps
 reading_after bytes (Synced ∷ steps) = reading_after bytes steps
 
 -- The images after these steps, from those before them. A write that failed tears like one that was done.
-abbrev pub ImagesAfter : List ℕ → (List ℕ → Type 0) → List Step → List ℕ → Type 0
+abbrev pub ImagesAfter : List ℕ → (List ℕ → Type 0) → List Trace → List ℕ → Type 0
 ImagesAfter bytes images [] c = images c
 ImagesAfter bytes images (Wrote at from ∷ steps) c =
     ImagesAfter (written bytes (place at bytes) from) (TornFrom (place at bytes) (length from) images) steps c
@@ -38,7 +38,7 @@ ImagesAfter bytes images (Synced ∷ steps) c = ImagesAfter bytes (λ file. file
 -- of the calls that fail, the number of the next call, its count of faults, and that of the calls that found no memory.
 pub record History : Type 0 where
   pub first : List ℕ
-  pub steps : List Step
+  pub steps : List Trace
   pub room : ℕ
   pub fail : List ℕ
   pub calls : ℕ

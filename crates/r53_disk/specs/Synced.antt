@@ -9,6 +9,6 @@ abbrev pub OldOrTorn : ℕ → ℕ → (List ℕ → Type 0) → List ℕ → Ty
 OldOrTorn at n images file = images file ⊎ TornFrom at n images file
 
 -- The write is read, and is the only image. After one that failed the reading is told still.
-abbrev pub Keeps : Done → List ℕ → ℕ → List ℕ → Option (List ℕ) → (List ℕ → Type 0) → Type 0
-Keeps done.Whole bytes at from after images = (after ≡ Some (written bytes at from)) × Only (written bytes at from) images
-Keeps done.Failed bytes at from after images = (now : List ℕ) × (after ≡ Some now)
+abbrev pub WritesSynced : Done → List ℕ → ℕ → List ℕ → Option (List ℕ) → (List ℕ → Type 0) → Type 0
+WritesSynced done.Whole bytes at from after images = (after ≡ Some (written bytes at from)) × Only (written bytes at from) images
+WritesSynced done.Failed bytes at from after images = (now : List ℕ) × (after ≡ Some now)

@@ -2,7 +2,7 @@
 
 ghost use Rattle.std.specs.Prelude.{◌≡◌, ◌≤◌, ◌+◌, ℕ, List, length, Option, Some, None};
 ghost use Rattle.octets.specs.Counts.{Rose};
-ghost use Rattle.r53_disk.specs.Disk.{Reaches, Rests, GivesSize, GivesBytes, WriteLeaves, Frees, Settles, Elapses};
+ghost use Rattle.r53_disk.specs.Disk.{Reaches, Rests, GivesSize, GivesBytes, WriteLeaves, Unsettles, Settles, Elapses};
 
 /// Whether a call of a disk did what it was asked.
 #[derive(Clone, Copy, Debug, PartialEq, Eq)]
@@ -66,7 +66,7 @@ pub trait Disk {
             → WriteLeaves result bytes at from.now (reading self.new) }
         ensures untold { reading self.old ≡ None → reading self.new ≡ None }
         ensures images { (bytes : List ℕ) → reading self.old ≡ Some bytes
-            → Frees result at (length from.now) (images self.old) (images self.new) }
+            → Unsettles result at (length from.now) (images self.old) (images self.new) }
         ensures time { Elapses moment images_since images self.old self.new }
         ensures counts { faults self.old ≤ faults self.new }
         ensures failed { result ≡ Done.Failed → Rose (faults self.old) (faults self.new) };

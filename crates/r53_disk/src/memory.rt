@@ -2,9 +2,9 @@
 
 ghost use Rattle.std.specs.Prelude.{◌≡◌, ◌⊎◌, ◌↔◌, ℕ, ◌+◌, ◌<◌, ◌≤◌, List, [], ◌∷◌, ◌++◌, length, take, drop, Some, IfOk, OnOk, OnErr};
 ghost use Rattle.octets.specs.Counts.{Rose};
-ghost use Rattle.r53_disk.specs.Disk.{Rests, GivesSize, GivesBytes, WriteLeaves, Frees, Settles, Elapses};
+ghost use Rattle.r53_disk.specs.Disk.{Rests, GivesSize, GivesBytes, WriteLeaves, Unsettles, Settles, Elapses};
 ghost use Rattle.r53_disk.specs.Memory.{History, reading_of, IsImage, IsImageSince, AfterSize, AfterRead, AfterWrite, AfterSync};
-ghost use Rattle.r53_disk.specs.Calls.{steps_of};
+ghost use Rattle.r53_disk.specs.Calls.{traces_of};
 ghost use Rattle.r53_disk.specs.declared.record.Call.{Call};
 ghost use Rattle.r53_disk.specs.Images.{torn_write, torn_after, image_of};
 
@@ -44,13 +44,13 @@ pub struct MemoryDisk {
 impl Model for MemoryDisk {
     ghost use Rattle.std.specs.Prelude.{◌≡◌};
     ghost use Rattle.r53_disk.specs.Memory.{History, reading_after};
-    ghost use Rattle.r53_disk.specs.Calls.{steps_of};
+    ghost use Rattle.r53_disk.specs.Calls.{traces_of};
 
     ghost Value = { History };
 
     ghost view = { λ d. record {
       first = d.first.items;
-      steps = steps_of d.kept.items;
+      steps = traces_of d.kept.items;
       room = d.room;
       fail = d.fail.items;
       calls = d.calls;
@@ -58,7 +58,7 @@ impl Model for MemoryDisk {
       starved = d.starved;
     } };
 
-    ghost invariant = { λ d. d.bytes.items ≡ reading_after d.first.items (steps_of d.kept.items) };
+    ghost invariant = { λ d. d.bytes.items ≡ reading_after d.first.items (traces_of d.kept.items) };
 }
 
 impl MemoryDisk {
@@ -239,7 +239,7 @@ impl Disk for MemoryDisk {
         requires { at ≤ length (reading_of self.old) }
         ensures reading { (bytes : List ℕ) → Some (reading_of self.old) ≡ Some bytes
             → WriteLeaves result bytes at from.now (Some (reading_of self.new)) }
-        ensures images { Frees result at (length from.now) (IsImage self.old) (IsImage self.new) }
+        ensures images { Unsettles result at (length from.now) (IsImage self.old) (IsImage self.new) }
         ensures time { Elapses (λ d. length d.steps) IsImageSince IsImage self.old self.new }
         ensures counts { self.old.faults ≤ self.new.faults }
         ensures failed { result ≡ Done.Failed → Rose self.old.faults self.new.faults }
@@ -274,7 +274,7 @@ fn copy_from(into: &mut [u8], bytes: &[u8], at: usize)
 
 /// What these calls leave, on a disk that was made with these bytes.
 fn replay(alloc: Global, torn: Torn, first: &[u8], calls: &[Call]) -> Result<Vec<u8>, OutOfMemory>
-    ensures { IfOk result (λ image. image.items ≡ torn_after torn first.now first.now (steps_of calls.now)) }
+    ensures { IfOk result (λ image. image.items ≡ torn_after torn first.now first.now (traces_of calls.now)) }
 {
     let mut reading = first.to_vec(alloc)?;
     let mut image = first.to_vec(alloc)?;
@@ -293,8 +293,8 @@ fn replay_call(
     image: &mut Vec<u8>,
 ) -> Result<(), OutOfMemory>
     ensures { OnOk result ((rest : List Call)
-        → torn_after torn reading.old.items image.old.items (steps_of (call.now ∷ rest))
-        ≡ torn_after torn reading.new.items image.new.items (steps_of rest)) }
+        → torn_after torn reading.old.items image.old.items (traces_of (call.now ∷ rest))
+        ≡ torn_after torn reading.new.items image.new.items (traces_of rest)) }
 {
     match call {
         Call::Write(at, from) => {

@@ -4,7 +4,7 @@ ghost use Rattle.std.specs.Prelude.{◌≡◌, ◌≤◌, ◌++◌, [], ◌∷�
 ghost use Rattle.std.specs.List.{Contains};
 ghost use Rattle.r53_disk.specs.Disk.{written};
 ghost use Rattle.r53_disk.specs.Memory.{Wrote, Tried, Synced};
-ghost use Rattle.r53_disk.specs.Calls.{steps_of};
+ghost use Rattle.r53_disk.specs.Calls.{traces_of};
 
 use octets::{OutOfMemory, put_at};
 use std::alloc::Global;
@@ -41,8 +41,8 @@ pub(crate) fn note_write(
     from: &[u8],
 ) -> Result<(), OutOfMemory>
     requires { at ≤ length bytes.old.items }
-    ensures kept { OnOk result (steps_of calls.new.items
-        ≡ steps_of calls.old.items ++ Wrote at from.now ∷ []) }
+    ensures kept { OnOk result (traces_of calls.new.items
+        ≡ traces_of calls.old.items ++ Wrote at from.now ∷ []) }
     ensures reads { OnOk result (bytes.new.items ≡ written bytes.old.items at from.now) }
     ensures nothing { OnErr result ((calls.new.items ≡ calls.old.items)
         × (bytes.new.items ≡ bytes.old.items)) }
@@ -61,8 +61,8 @@ pub(crate) fn note_try(
     at: u64,
     from: &[u8],
 ) -> Result<(), OutOfMemory>
-    ensures kept { OnOk result (steps_of calls.new.items
-        ≡ steps_of calls.old.items ++ Tried at from.now ∷ []) }
+    ensures kept { OnOk result (traces_of calls.new.items
+        ≡ traces_of calls.old.items ++ Tried at from.now ∷ []) }
     ensures nothing { OnErr result (calls.new.items ≡ calls.old.items) }
 {
     let piece = from.to_vec(alloc)?;
@@ -72,7 +72,7 @@ pub(crate) fn note_try(
 
 /// Keeps a sync that succeeds.
 pub(crate) fn note_sync(calls: &mut Vec<Call>) -> Result<(), OutOfMemory>
-    ensures kept { OnOk result (steps_of calls.new.items ≡ steps_of calls.old.items ++ Synced ∷ []) }
+    ensures kept { OnOk result (traces_of calls.new.items ≡ traces_of calls.old.items ++ Synced ∷ []) }
     ensures nothing { OnErr result (calls.new.items ≡ calls.old.items) }
 {
     calls.push(Call::Sync)?;

@@ -3,7 +3,7 @@
 ghost use Rattle.std.specs.Prelude.{◌≡◌, ◌≤◌, ℕ, List, length, Some, None};
 ghost use Rattle.octets.specs.Counts.{Rose};
 ghost use Rattle.r53_disk.specs.Disk.{Reaches, LeavesOnly};
-ghost use Rattle.r53_disk.specs.Synced.{OldOrTorn, Keeps};
+ghost use Rattle.r53_disk.specs.Synced.{OldOrTorn, WritesSynced};
 
 use crate::{Disk, Done};
 
@@ -15,7 +15,7 @@ pub fn write_synced<D: Disk>(disk: &mut D, at: u64, from: &[u8]) -> Done
 
     // Once it is whole, every crash leaves the write.
     ensures kept { (bytes : List ℕ) → D.reading disk.old ≡ Some bytes
-        → Keeps result bytes at from.now (D.reading disk.new) (D.images disk.new) }
+        → WritesSynced result bytes at from.now (D.reading disk.new) (D.images disk.new) }
     ensures untold { D.reading disk.old ≡ None → D.reading disk.new ≡ None }
 
     // At each moment a crash leaves an image from before, with any bytes in the range or without.

@@ -2,7 +2,7 @@
 use Rattle.std.proofs.Common.{◌≡◌, ◌++◌, codes, length, refl}
 use Rattle.std.specs.Fmt.{digits}
 use Rattle.hex.specs.Hex.{encode_with}
-use Rattle.r53_gen.specs.Lines.{batch, compaction, event, failover_sets, listed, setup, top_set, weighted_sets}
+use Rattle.r53_gen.specs.Lines.{batch, compaction, event_line, failover_sets, listed, setup, top_set, weighted_sets}
 
 -- the zone
 pub zone_first : setup 0 ≡ codes "{\"CreateHostedZone\":{\"Name\":\"example.com\"}}"
@@ -87,19 +87,19 @@ unfolding digits
 tops_length = refl
 
 -- the first report
-pub event_0 : event 0 ≡ codes "{\"Observe\":{\"HealthCheckId\":\"h1\",\"Checker\":0,\"Pass\":false}}"
+pub event_0 : event_line 0 ≡ codes "{\"Observe\":{\"HealthCheckId\":\"h1\",\"Checker\":0,\"Pass\":false}}"
 unfolding digits
 event_0 = refl
 
 -- the first query
-pub event_1 : event 1 ≡
+pub event_1 : event_line 1 ≡
     codes "{\"Query\":{\"Packet\":\"00010000000100000000000003746f70076578616d706c650363"
     ++ codes "6f6d0000010001\",\"Address\":\"192.0.2.9\",\"Words\":[0,0,0,0,0,0,0,0]}}"
 unfolding digits encode_with
 event_1 = refl
 
 -- the first batch
-pub event_2 : event 2 ≡
+pub event_2 : event_line 2 ≡
     codes "{\"ChangeResourceRecordSets\":{\"HostedZoneId\":\"Z1\",\"ChangeBatch\":{\"Changes"
     ++ (codes "\":[{\"Action\":\"UPSERT\",\"ResourceRecordSet\":{\"Name\":\"u0.example.com\",\"Type"
     ++ codes "\":\"A\",\"TTL\":60,\"ResourceRecords\":[{\"Value\":\"198.51.100.0\"}]}}]}}}")
@@ -107,24 +107,24 @@ unfolding digits
 event_2 = refl
 
 -- the query for its set
-pub event_3 : event 3 ≡
+pub event_3 : event_line 3 ≡
     codes "{\"Query\":{\"Packet\":\"000300000001000000000000027530076578616d706c6503636f"
     ++ codes "6d0000010001\",\"Address\":\"192.0.2.9\",\"Words\":[0,0,0,0,0,0,0,0]}}"
 unfolding digits encode_with
 event_3 = refl
 
 -- the last of a thousand reports: the last check and the last checker, a failure
-pub event_3996 : event 3996 ≡ codes "{\"Observe\":{\"HealthCheckId\":\"h20\",\"Checker\":49,\"Pass\":false}}"
+pub event_3996 : event_line 3996 ≡ codes "{\"Observe\":{\"HealthCheckId\":\"h20\",\"Checker\":49,\"Pass\":false}}"
 unfolding digits
 event_3996 = refl
 
 -- the next one, which passes
-pub event_4000 : event 4000 ≡ codes "{\"Observe\":{\"HealthCheckId\":\"h1\",\"Checker\":0,\"Pass\":true}}"
+pub event_4000 : event_line 4000 ≡ codes "{\"Observe\":{\"HealthCheckId\":\"h1\",\"Checker\":0,\"Pass\":true}}"
 unfolding digits
 event_4000 = refl
 
 -- the greatest last octet of an address
-pub event_1022 : event 1022 ≡
+pub event_1022 : event_line 1022 ≡
     codes "{\"ChangeResourceRecordSets\":{\"HostedZoneId\":\"Z1\",\"ChangeBatch\":{\"Changes"
     ++ (codes "\":[{\"Action\":\"UPSERT\",\"ResourceRecordSet\":{\"Name\":\"u55.example.com\",\"Typ"
     ++ codes "e\":\"A\",\"TTL\":60,\"ResourceRecords\":[{\"Value\":\"198.51.100.255\"}]}}]}}}")
@@ -132,7 +132,7 @@ unfolding digits
 event_1022 = refl
 
 -- a set that is written by no batch
-pub event_799 : event 799 ≡
+pub event_799 : event_line 799 ≡
     codes "{\"Query\":{\"Packet\":\"031f000000010000000000000475313939076578616d706c6503"
     ++ (codes "636f6d0000010001\",\"Address\":\"192.0.2.9\",\"Words\":[199,199,199,199,199,199"
     ++ codes ",199,199]}}")
@@ -140,7 +140,7 @@ unfolding digits encode_with
 event_799 = refl
 
 -- an ID behind the greatest
-pub event_70001 : event 70001 ≡
+pub event_70001 : event_line 70001 ≡
     codes "{\"Query\":{\"Packet\":\"11710000000100000000000003746f70076578616d706c650363"
     ++ (codes "6f6d0000010001\",\"Address\":\"192.0.2.9\",\"Words\":[17500,17500,17500,17500,1"
     ++ codes "7500,17500,17500,17500]}}")

@@ -49,12 +49,12 @@ weighted_sets i =
     weighted_set i (codes "a") (2 * i + 1)
     ++ (codes "," ++ weighted_set i (codes "b") (2 * i + 2))
 
--- a failover set `t<i>`, with its identifier and its part: an evaluated alias to `l<target>`
-abbrev pub failover_set : (i : ℕ) → (ident part : List ℕ) → (target : ℕ) → List ℕ
-failover_set i ident part target =
+-- a failover set `t<i>`, with its identifier and its role: an evaluated alias to `l<target>`
+abbrev pub failover_set : (i : ℕ) → (ident role : List ℕ) → (target : ℕ) → List ℕ
+failover_set i ident role target =
     codes "{\"Action\":\"CREATE\",\"ResourceRecordSet\":{\"Name\":\"t" ++ (decimal i
     ++ (codes ".example.com\",\"Type\":\"A\",\"SetIdentifier\":\"" ++ (ident
-    ++ (codes "\",\"Failover\":\"" ++ (part
+    ++ (codes "\",\"Failover\":\"" ++ (role
     ++ (codes "\",\"AliasTarget\":{\"HostedZoneId\":\"Z1\",\"DNSName\":\"l" ++ (decimal target
     ++ codes ".example.com\",\"EvaluateTargetHealth\":true}}}")))))))
 
@@ -121,8 +121,8 @@ upsert j = batch (
     ++ (codes ".example.com\",\"Type\":\"A\",\"TTL\":60,\"ResourceRecords\":[{\"Value\":\"198.51.100."
     ++ (decimal (j % 256) ++ codes "\"}]}}"))))
 
-abbrev pub event : (k : ℕ) → List ℕ
-event k =
+abbrev pub event_line : (k : ℕ) → List ℕ
+event_line k =
     if k % 4 == 0 then observation (k / 4)
     else if k % 4 == 1 then query k (k / 4) (codes "top")
     else if k % 4 == 2 then upsert (k / 4)

@@ -97,17 +97,17 @@ pub(crate) fn put_leaves(into: &mut [u8]) -> usize
 fn put_failover_set(
     i: u32,
     ident: &[u8],
-    part: &[u8],
+    role: &[u8],
     target: u32,
     at: usize,
     into: &mut [u8],
 ) -> usize
     requires short { length ident.now ≡ 1 }
-    requires named { length part.now ≤ 9 }
+    requires named { length role.now ≤ 9 }
     requires room { at + 260 ≤ length into.old }
     ensures text { take result into.new
-        ≡ take at into.old ++ failover_set i ident.now part.now target }
-    ensures end { result ≡ at + length (failover_set i ident.now part.now target) }
+        ≡ take at into.old ++ failover_set i ident.now role.now target }
+    ensures end { result ≡ at + length (failover_set i ident.now role.now target) }
     ensures within { result ≤ at + 260 }
     ensures room { length into.new ≡ length into.old }
 {
@@ -124,7 +124,7 @@ fn put_failover_set(
     );
     let at = put(ident, at, into);
     let at = put(b"\",\"Failover\":\"", at, into);
-    let at = put(part, at, into);
+    let at = put(role, at, into);
     let at = put(
         b"\",\"AliasTarget\":{\"HostedZoneId\":\"Z1\",\"DNSName\":\"l",
         at,

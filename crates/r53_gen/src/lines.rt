@@ -1,7 +1,7 @@
 //! The line of each number.
 
 ghost use Rattle.std.specs.Prelude.{◌≡◌, ◌<◌, ◌≤◌, IfSome, IfNone, length, take};
-ghost use Rattle.r53_gen.specs.Lines.{compaction, event, setup, setup_count};
+ghost use Rattle.r53_gen.specs.Lines.{compaction, event_line, setup, setup_count};
 
 use crate::changes::{put_leaves, put_pairs, put_tops, put_upsert};
 use crate::events::put_observation;
@@ -56,8 +56,8 @@ fn put_setup(i: u32, into: &mut [u8]) -> usize
 
 /// Writes the line of an event to the front, and answers how long it is.
 pub fn event_line(k: u32, into: &mut [u8; 16384]) -> usize
-    ensures text { take result into.new ≡ event k }
-    ensures len { result ≡ length (event k) }
+    ensures text { take result into.new ≡ event_line k }
+    ensures len { result ≡ length (event_line k) }
 {
     put_event(k, into)
 }
@@ -65,8 +65,8 @@ pub fn event_line(k: u32, into: &mut [u8; 16384]) -> usize
 /// Writes the line of an event.
 fn put_event(k: u32, into: &mut [u8]) -> usize
     requires { 16384 ≤ length into.old }
-    ensures text { take result into.new ≡ event k }
-    ensures end { result ≡ length (event k) }
+    ensures text { take result into.new ≡ event_line k }
+    ensures end { result ≡ length (event_line k) }
 {
     if k % 4 == 0 {
         return put_observation(k / 4, into);

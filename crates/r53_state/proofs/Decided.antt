@@ -8,7 +8,7 @@ use Rattle.zone_commands.specs.BatchRecord.{Batch}
 use Rattle.check_model.specs.Commands.{checks_after, refusal_of}
 use Rattle.check_model.specs.declared.checks.CheckCommand.{CheckCommand}
 use Rattle.cidr_changes.specs.declared.faults.CidrFault.{CidrFault}
-use Rattle.cidr_commands.specs.Commands.{answer}
+use Rattle.cidr_commands.specs.Commands.{outcome}
 use Rattle.cidr_commands.specs.Stored.{Stored}
 use Rattle.zone_commands.specs.CommandRecord.{Command}
 use Rattle.zone_commands.specs.CommandRecord.TheVariants as command
@@ -21,13 +21,13 @@ use Rattle.check_commands.specs.NewZones.{are_most, create_refusal, end_of, end_
 use Rattle.check_commands.specs.NewZones.{is_repeated, is_zone_name, with_zone}
 use Rattle.check_commands.specs.Others.{change_checks, in_use, made_check, made_collection, used_by}
 use Rattle.check_commands.specs.Others.{with_collections}
-use Rattle.check_commands.specs.Telling.{first_of, invalid, of_check, rule}
+use Rattle.check_commands.specs.Telling.{first_of, invalid, of_check, refuse_if}
 use Rattle.check_commands.specs.InputReasonRecord.TheVariants as reason
 use Rattle.check_commands.specs.MadeRecord.{Made}
 use Rattle.check_commands.specs.MadeRecord.TheVariants as made
 use Rattle.check_commands.specs.RefusalRecord.{Refusal}
 use Rattle.check_commands.specs.RefusalRecord.TheVariants as refusal
-use Rattle.r53_state.specs.Steps.{OpensZone, checks_of, made_of, next_after}
+use Rattle.r53_state.specs.Steps.{BeginsZone, checks_of, made_of, next_after}
 use Rattle.zone_model.specs.Hosted.{HostedZone}
 
 -- what was made, the next number of a zone, and the checks
@@ -36,7 +36,7 @@ pub record PartsAre (config : Config) (command : Command) (after : Config) (what
   pub made : what ≡ made_of config command
   pub next : after.next_zone ≡ next_after config.next_zone command
   pub checks : after.checks ≡ checks_of config.checks command
-  pub numbered : OpensZone command → config.next_zone ≢ 4294967295
+  pub numbered : BeginsZone command → config.next_zone ≢ 4294967295
 
 abbrev Answer : Type 0
 Answer = Config × Made
@@ -49,11 +49,11 @@ module _ (config after : Config) (what : Made) where
       let now = with_zone config name servers in
       let both = accepted (create_refusal config name servers) (after, what)
       (now, made.Zone config.next_zone) e in
-      let none = parts (rule (not (is_zone_name name)) (invalid reason.BadZoneName))
-      (rule (is_repeated servers) (invalid reason.RepeatedValue))
-      (rule (has_zone config.zones name) (invalid reason.ZoneExists))
-      (rule (are_most (length config.zones)) refusal.TooManyHostedZones)
-      (rule (config.next_zone == 4294967295) refusal.IdsEnded)
+      let none = parts (refuse_if (not (is_zone_name name)) (invalid reason.BadZoneName))
+      (refuse_if (is_repeated servers) (invalid reason.RepeatedValue))
+      (refuse_if (has_zone config.zones name) (invalid reason.ZoneExists))
+      (refuse_if (are_most (length config.zones)) refusal.TooManyHostedZones)
+      (refuse_if (config.next_zone == 4294967295) refusal.IdsEnded)
       (store_refusal now.zones) both.0 in
       record {
         made = ap (λ (a : Answer). a.1) both.1;
@@ -142,7 +142,7 @@ module _ (config after : Config) (what : Made) where
   decided (command.Health health) e = check_parts health e
   decided (command.Cidr cidr) e =
       let is = cidr_by (made_collection config.collections cidr)
-      (answer config.collections cidr (used_by config.zones)) e in
+      (outcome config.collections cidr (used_by config.zones)) e in
       record {
         made = is.0;
         next = is.1;

@@ -17,7 +17,7 @@ use Rattle.check_commands.specs.MadeRecord.{Made}
 use Rattle.zone_commands.specs.Configured.{IsEditFor, config_of}
 use Rattle.health_check.specs.Stored.{Kept}
 use Rattle.r53_state.specs.States.{IsAccepted, IsOnChecks, State, config_in}
-use Rattle.r53_state.specs.Steps.{CanApply, OpensZone, checks_of, made_of, next_after}
+use Rattle.r53_state.specs.Steps.{CanApply, BeginsZone, checks_of, made_of, next_after}
 use Rattle.r53_state.proofs.Decided.{check_becomes, decided, not_refused}
 use Rattle.zone_commands.specs.Zones.{AreZones}
 use Rattle.zone_model.specs.Hosted.{HostedZone}
@@ -120,7 +120,7 @@ module _ (table now : Table) (checks : Checks) (next : ℕ) (given : Command) wh
           (not_refused config health accepted.0 accepted.1 accepted.2, bounded)
 
   -- and there is a number for another zone, where one comes
-  pub counts : Sound config → IsAccepted config given → OpensZone given → next < 4294967295
+  pub counts : Sound config → IsAccepted config given → BeginsZone given → next < 4294967295
   counts sound accepted opens =
       let last = (decided config accepted.0 accepted.1 given accepted.2).numbered opens in
       let to = sound.to in
@@ -156,7 +156,7 @@ module _ (before : State) (table now : Table) (checks : Kept) (next next_now : �
 
   -- there is a number for another zone, where one comes
   pub numbered : Sound (config_in before) → (made : ZoneEdit)
-      → IsEditFor (config_in before) given before.table made → OpensZone given
+      → IsEditFor (config_in before) given before.table made → BeginsZone given
       → next < 4294967295
   numbered sound made (after, what, decides, leads, about) opens =
       let less = counts before.table before.table before.checks.checks before.next_zone given sound

@@ -8,11 +8,11 @@ use Rattle.config_reading.specs.SnapshotFaultRecord.TheVariants as fault
 
 -- Octets are a snapshot of a sound configuration, which is read, with nothing told of sets; or they
 -- are one of none; or memory is wanted.
-abbrev pub ReadsSnapshot : (octets : List ℕ) → Result State SnapshotFault → Type 0
-ReadsSnapshot octets (Ok state) =
+abbrev pub GivesSnapshot : (octets : List ℕ) → Result State SnapshotFault → Type 0
+GivesSnapshot octets (Ok state) =
     IsOfSound octets (config_in state) × (state.told ≡ nothing_told)
-ReadsSnapshot octets (Err fault.Bad) = IsOfNone octets
-ReadsSnapshot octets (Err fault.OutOfMemory) = ⊤
+GivesSnapshot octets (Err fault.Bad) = IsOfNone octets
+GivesSnapshot octets (Err fault.OutOfMemory) = ⊤
 
 -- A configuration is read as it was, or memory is wanted.
 abbrev pub ComesBack : Config → Result State SnapshotFault → Type 0

@@ -40,9 +40,9 @@ made_of config (command.Health health) = made_check config.checks health
 made_of config (command.Cidr cidr) = made_collection config.collections cidr
 
 -- a command by which a zone comes
-abbrev pub OpensZone : Command → Type 0
-OpensZone (command.CreateZone name servers) = ⊤
-OpensZone other = ⊥
+abbrev pub BeginsZone : Command → Type 0
+BeginsZone (command.CreateZone name servers) = ⊤
+BeginsZone other = ⊥
 
 -- the number that the next zone gets after a command
 abbrev pub next_after : ℕ → Command → ℕ

@@ -3,7 +3,7 @@
 ghost use Rattle.std.specs.Prelude.{◌≡◌, ◌<◌};
 ghost use Rattle.zone_commands.specs.Configured.{config_of};
 ghost use Rattle.health_check.specs.Stored.{HasRoom};
-ghost use Rattle.r53_state.specs.Steps.{CanApply, checks_of, OpensZone, made_of, next_after};
+ghost use Rattle.r53_state.specs.Steps.{CanApply, checks_of, BeginsZone, made_of, next_after};
 
 use check_commands::Made;
 use cidr_routing::CidrCommand;
@@ -28,7 +28,7 @@ pub fn made_by(zones: &Zones, checks: &CheckTable, next: u32, command: &Command)
 
 /// The number that the next zone gets after a command.
 pub fn next_after(next: u32, command: &Command) -> u32
-    requires { OpensZone command.now → next < 4294967295 }
+    requires { BeginsZone command.now → next < 4294967295 }
     ensures { result ≡ next_after next command.now }
 {
     match command {

@@ -3,7 +3,7 @@
 ghost use Rattle.std.specs.Prelude.{◌≡◌, ◌≤◌, IfOk, length};
 ghost use Rattle.check_commands.specs.Configs.{Config as Configuration};
 ghost use Rattle.config_reading.specs.Reading.{IsOfSound};
-ghost use Rattle.r53_state.specs.Snapshots.{ComesBack, ReadsSnapshot};
+ghost use Rattle.r53_state.specs.Snapshots.{ComesBack, GivesSnapshot};
 ghost use Rattle.r53_state.specs.States.{config_in};
 ghost use Rattle.config_reading.specs.Octets.{snapshot};
 
@@ -30,7 +30,7 @@ impl Config {
     /// They are Bad exactly where they are outside the grammar of snapshots, or what they say isn't
     /// sound. Memory may be wanted at any point.
     pub fn from_snapshot(alloc: Global, octets: &[u8]) -> Result<Config, SnapshotFault>
-        ensures reads { ReadsSnapshot octets.now result }
+        ensures reads { GivesSnapshot octets.now result }
         ensures comes_back { (config : Configuration) → IsOfSound octets.now config
             → ComesBack config result }
     {

@@ -13,7 +13,7 @@ use Rattle.field_text.specs.TailRecord.{Tail}
 use Rattle.field_text.specs.Written.{text_of_field}
 use Rattle.field_text.specs.Fields.{IsField}
 use Rattle.field_text.specs.Layout.{string_octets, IsShort, AreStrings, AreFields}
-use Rattle.rdata.specs.Written.{cut_strings, strings_of, field_texts}
+use Rattle.rdata.specs.Written.{split_strings, strings_of, field_texts}
 use Rattle.field_text.specs.Fields.{field_size}
 
 -- how long a field at the front is
@@ -32,12 +32,12 @@ field_front Tag piece rest octets is e =
     ap (λ t. slice_index t 0 + 1) (e ∙ ap (λ t. t ++ rest) is.2) ∙ omega (arith, ap length is.2)
 
 -- the string at the front, and those behind it
-cut_front : (octets : List ℕ) → (cut_strings 0 octets).0 ≡ []
+cut_front : (octets : List ℕ) → (split_strings 0 octets).0 ≡ []
 cut_front [] = refl
 cut_front (n ∷ octets) = refl
 
 cut_string : (string rest : List ℕ)
-    → cut_strings (length string) (string ++ rest) ≡ (string, strings_of rest)
+    → split_strings (length string) (string ++ rest) ≡ (string, strings_of rest)
 cut_string [] rest = ap (λ t. (t, strings_of rest)) (cut_front rest)
 cut_string (b ∷ string) rest =
     ap (λ (r : List ℕ × List (List ℕ)). (b ∷ r.0, r.1)) (cut_string string rest)

@@ -12,7 +12,7 @@ use Rattle.field_text.specs.Layout.{fields_of, tail_of}
 use Rattle.field_text.specs.Laws as fields
 use Rattle.field_text.specs.OctetsOfText.{octets_of_text}
 use Rattle.rdata.specs.Datum.{Datum}
-use Rattle.rdata.specs.Gives.{IsValueOfText, ReadsText}
+use Rattle.rdata.specs.Gives.{IsValueOfText, GivesText}
 use Rattle.rdata.specs.Laws as laws
 use Rattle.rdata.specs.TextFields.{AreTheFields, bytes_of}
 use Rattle.rdata.specs.Reading.{Reads, ReadsFields, string_first, most_text}
@@ -137,7 +137,7 @@ value_is law one rtype text read = (
 
 -- what reading a text answers
 pub texts_read : laws.ValueOfText → (rtype : RType) (text : List ℕ) (read : Result Datum ValueFault)
-    → ReadsText rtype text read ↔ IsValueOfText rtype text read
+    → GivesText rtype text read ↔ IsValueOfText rtype text read
 texts_read law rtype text (Ok datum) = (
   λ h. (h.0, (law rtype text (Ok datum.wire)).1 h.1),
   λ h. (h.0, (law rtype text (Ok datum.wire)).0 h.1),

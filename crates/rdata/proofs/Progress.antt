@@ -10,7 +10,7 @@ use Rattle.field_text.specs.Layout.{string_octets}
 use Rattle.field_text.specs.Spelling.{Spells}
 use Rattle.rdata.specs.TextFields.{bytes_of}
 use Rattle.rdata.specs.Reading.{ReadsFields, tail_gives, strings_of, string_first, in_front, at_the_end}
-use Rattle.rdata.specs.Steps.{Passes, ReadsAll, ReadsTail, ReadsStrings, PassesStrings}
+use Rattle.rdata.specs.Steps.{ReadsUpTo, ReadsAll, ReadsTail, ReadsStrings, PassesStrings}
 use Rattle.rdata.specs.declared.faults.ValueFault.{ValueFault}
 use Rattle.rdata.specs.declared.faults.ValueFault.TheVariants.{BadField, MissingField, SurplusField}
 use Rattle.rdata.proofs.Fields.{begins, none_left}
@@ -26,7 +26,7 @@ both_in_front octets more (Ok rest) = ap Ok (sym (append_assoc octets more rest)
 both_in_front octets more (Err fault) = refl
 
 -- at the start all fields are left
-pub starts : (text : List ℕ) (kinds : List Field) → Passes text kinds kinds 0 []
+pub starts : (text : List ℕ) (kinds : List Field) → ReadsUpTo text kinds kinds 0 []
 starts text kinds end all are =
     record {
       left = all;
@@ -47,8 +47,8 @@ pub passes : (text : List ℕ) (kinds : List Field) (i at : ℕ) (none : Field)
     → i < length kinds
     → next_field at (drop at text) ≡ Some field → bytes ≡ bytes_of text field
     → Spells (get_or kinds i none) bytes piece → after ≡ octets ++ piece
-    → Passes text kinds (drop i kinds) at octets
-    → Passes text kinds (drop (i + 1) kinds) field.end after
+    → ReadsUpTo text kinds (drop i kinds) at octets
+    → ReadsUpTo text kinds (drop (i + 1) kinds) field.end after
 passes text kinds i at none octets piece bytes after field some next part spelled whole before end
     all are =
     let l = before end all are in
@@ -74,7 +74,7 @@ pub meets_other : (text : List ℕ) (kinds : List Field) (i at : ℕ) (none : Fi
     (octets bytes : List ℕ) (field : text_field.Field) → i < length kinds
     → next_field at (drop at text) ≡ Some field → bytes ≡ bytes_of text field
     → ((piece : List ℕ) → Spells (get_or kinds i none) bytes piece → ⊥)
-    → Passes text kinds (drop i kinds) at octets → ReadsAll text kinds (Err (BadField field.start))
+    → ReadsUpTo text kinds (drop i kinds) at octets → ReadsAll text kinds (Err (BadField field.start))
 meets_other text kinds i at none octets bytes field some next part spelled before end all are =
     let l = before end all are in
     let b = begins text at field l.left next l.fields in
@@ -93,7 +93,7 @@ meets_other text kinds i at none octets bytes field some next part spelled befor
 pub meets_none : (text : List ℕ) (kinds : List Field) (i at : ℕ) (none : Field) (octets : List ℕ)
     → i < length kinds
     → next_field at (drop at text) ≡ None
-    → Passes text kinds (drop i kinds) at octets
+    → ReadsUpTo text kinds (drop i kinds) at octets
     → ReadsAll text kinds (Err (MissingField (length text)))
 meets_none text kinds i at none octets some next before end all are =
     let l = before end all are in

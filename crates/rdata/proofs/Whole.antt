@@ -9,7 +9,7 @@ use Rattle.field_text.specs.Laws.{SpelledIsField}
 use Rattle.field_text.specs.FieldRecordOfValueText as text_field
 use Rattle.rdata.specs.TextFields.{AreTheFields}
 use Rattle.rdata.specs.Reading.{ReadsFields, IsRead, in_front, most_text}
-use Rattle.rdata.specs.Steps.{FailsWith, Passes, ReadsAll, ReadsTail, AppendsTail, tail_most}
+use Rattle.rdata.specs.Steps.{FailsWith, ReadsUpTo, ReadsAll, ReadsTail, AppendsTail, tail_most}
 use Rattle.rdata.specs.declared.faults.ValueFault.{ValueFault}
 use Rattle.rdata.specs.declared.faults.ValueFault.TheVariants.{BadField, MissingField, SurplusField, TooLong, OutOfMemory}
 use Rattle.rdata.proofs.Fields.{the_fields}
@@ -35,7 +35,7 @@ all_read go rtype text kinds read short e reads =
 pub tail_read : FieldsGoOn
     → (rtype : RType) (text : List ℕ) (kinds : List Field) (end : Tail) (at : ℕ) (first : List ℕ)
     (read : Result (List ℕ) ValueFault) → length text ≤ most_text
-    → kinds ≡ fields_of rtype → end ≡ tail_of rtype → Passes text kinds [] at first
+    → kinds ≡ fields_of rtype → end ≡ tail_of rtype → ReadsUpTo text kinds [] at first
     → ReadsTail text at end read
     → IsRead rtype text (in_front first read)
 tail_read go rtype text kinds end at first read short e f passes reads =

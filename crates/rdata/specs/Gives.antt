@@ -18,9 +18,9 @@ ReadsWire rtype octets (Err wire.Bad) = IsLayout rtype octets → ⊥
 ReadsWire rtype octets (Err wire.OutOfMemory) = ⊤
 
 -- The value of a text, or its first fault.
-abbrev pub ReadsText : RType → (text : List ℕ) → Result Datum ValueFault → Type 0
-ReadsText rtype text (Ok datum) = (datum.rtype ≡ rtype) × Reads rtype text (Ok datum.wire)
-ReadsText rtype text (Err fault) = FailsWith (Reads rtype text) fault
+abbrev pub GivesText : RType → (text : List ℕ) → Result Datum ValueFault → Type 0
+GivesText rtype text (Ok datum) = (datum.rtype ≡ rtype) × Reads rtype text (Ok datum.wire)
+GivesText rtype text (Err fault) = FailsWith (Reads rtype text) fault
 
 -- The same with the function that gives the value.
 abbrev pub IsValueOfText : RType → (text : List ℕ) → Result Datum ValueFault → Type 0

@@ -4,7 +4,7 @@ use Rattle.field_text.specs.Names.{AreOctets}
 use Rattle.field_text.specs.RTypeRecord.{RType}
 use Rattle.field_text.specs.Layout.{IsLayout}
 use Rattle.rdata.specs.Datum.{Datum}
-use Rattle.rdata.specs.Gives.{IsValueOfText, ReadsText, ReadsWire}
+use Rattle.rdata.specs.Gives.{IsValueOfText, GivesText, ReadsWire}
 use Rattle.rdata.specs.Reading.{Reads, most_text}
 use Rattle.rdata.specs.ValueOfText.{value_of_text}
 use Rattle.rdata.specs.Written.{text_of}
@@ -43,4 +43,4 @@ ValueOfText =
 abbrev pub TextsReadAsValues : Type 0
 TextsReadAsValues =
     (rtype : RType) (text : List ℕ) (read : Result Datum ValueFault)
-    → ReadsText rtype text read ↔ IsValueOfText rtype text read
+    → GivesText rtype text read ↔ IsValueOfText rtype text read

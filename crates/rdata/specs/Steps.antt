@@ -27,9 +27,9 @@ pub record Left (text : List ℕ) (kinds rest : List Field) (end : Tail) (all : 
       → ReadsFields text kinds end all (in_front octets read)
 
 -- A text is read up to a place, and fields of these kinds are still to come.
-abbrev pub Passes : (text : List ℕ) → (kinds rest : List Field) → (at : ℕ) → (octets : List ℕ)
+abbrev pub ReadsUpTo : (text : List ℕ) → (kinds rest : List Field) → (at : ℕ) → (octets : List ℕ)
     → Type 0
-Passes text kinds rest at octets =
+ReadsUpTo text kinds rest at octets =
     (end : Tail) (all : List text_field.Field) → AreTheFields text 0 all
     → Left text kinds rest end all at octets
 

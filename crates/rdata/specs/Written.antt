@@ -11,13 +11,13 @@ use Rattle.field_text.specs.Written.{text_of_field}
 
 -- The strings of octets, where `need` octets of the first are still to come: that string, and those
 -- behind it.
-abbrev pub cut_strings : (need : ℕ) → List ℕ → List ℕ × List (List ℕ)
-cut_strings need [] = ([], [])
-cut_strings zero (n ∷ octets) = let r = cut_strings n octets in ([], r.0 ∷ r.1)
-cut_strings (suc need) (b ∷ octets) = let r = cut_strings need octets in (b ∷ r.0, r.1)
+abbrev pub split_strings : (need : ℕ) → List ℕ → List ℕ × List (List ℕ)
+split_strings need [] = ([], [])
+split_strings zero (n ∷ octets) = let r = split_strings n octets in ([], r.0 ∷ r.1)
+split_strings (suc need) (b ∷ octets) = let r = split_strings need octets in (b ∷ r.0, r.1)
 
 abbrev pub strings_of : List ℕ → List (List ℕ)
-strings_of octets = (cut_strings 0 octets).1
+strings_of octets = (split_strings 0 octets).1
 
 abbrev pub tail_texts : Tail → List ℕ → List (List ℕ)
 tail_texts tail.Nothing octets = []

@@ -5,7 +5,7 @@ ghost use Rattle.field_text.specs.Strings.{string_of_text};
 ghost use Rattle.field_text.specs.Spelling.{Spells};
 ghost use Rattle.field_text.specs.TailRecord.TheVariants as tail;
 ghost use Rattle.rdata.specs.TextFields.{bytes_of};
-ghost use Rattle.rdata.specs.Steps.{FailsWith, Passes, ReadsAll, ReadsTail, ReadsStrings, PassesStrings, AppendsTail};
+ghost use Rattle.rdata.specs.Steps.{FailsWith, ReadsUpTo, ReadsAll, ReadsTail, ReadsStrings, PassesStrings, AppendsTail};
 
 use crate::faults::ValueFault;
 use field_text::{Field, Tail, next_field, read_field, read_string};
@@ -19,7 +19,7 @@ pub(crate) fn read_fields(
     into: &mut Vec<u8>,
 ) -> Result<usize, ValueFault>
     requires { into.old.items ≡ [] }
-    ensures ok { IfOk result (λ at. Passes text.now kinds.now [] at into.new.items) }
+    ensures ok { IfOk result (λ at. ReadsUpTo text.now kinds.now [] at into.new.items) }
     ensures within { IfOk result (λ at. at ≤ length text.now) }
     ensures size { IfOk result (λ _. length into.new.items ≤ 255 * length kinds.now) }
     ensures err { IfErr result (FailsWith (ReadsAll text.now kinds.now)) }

@@ -4,7 +4,7 @@ ghost use Rattle.std.specs.Prelude.{◌≡◌, ◌≤◌, ◌++◌, ◌↔◌, [
 ghost use Rattle.rdata.specs.Reading.{IsRead, most_text};
 ghost use Rattle.rdata.specs.Steps.{FailsWith};
 ghost use Rattle.rdata.specs.Written.{text_of};
-ghost use Rattle.rdata.specs.Gives.{ReadsWire, ReadsText};
+ghost use Rattle.rdata.specs.Gives.{ReadsWire, GivesText};
 ghost use Rattle.field_text.specs.Layout.{IsLayout};
 ghost use Rattle.field_text.specs.Names.{AreOctets};
 
@@ -43,7 +43,7 @@ impl RData {
     ///
     /// A text of more than 4,000 bytes is too long, whatever it spells.
     pub fn from_text(alloc: Global, rtype: RType, text: &[u8]) -> Result<RData, ValueFault>
-        ensures { ReadsText rtype text.now result }
+        ensures { GivesText rtype text.now result }
     {
         if text.len() > MOST_TEXT {
             return Err(ValueFault::TooLong);

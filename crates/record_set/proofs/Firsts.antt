@@ -5,11 +5,11 @@ use Rattle.record_set.specs.declared.reasons.Reason.{Reason}
 use Rattle.record_set.specs.declared.reasons.Reason.TheVariants.{NoValues, TooManyValuesInSet, RepeatedValue}
 use Rattle.record_set.specs.declared.reasons.Reason.TheVariants.{OneValueOnly, SoaNotAtApex, PolicyNotAllowed}
 use Rattle.record_set.specs.declared.reasons.Reason.TheVariants.{WildcardNs}
-use Rattle.record_set.specs.Reasons.{Holds, IsFirst, NoneHolds, reasons}
+use Rattle.record_set.specs.Reasons.{HoldsOf, IsFirst, NoneHolds, reasons}
 
 -- of all reasons none holds
 none_holds : (reason : Reason) (set : RecordSet) (apex : List (List ℕ)) → NoneHolds reasons set apex
-    → Holds reason set apex → ⊥
+    → HoldsOf reason set apex → ⊥
 none_holds NoValues set apex none h = none.0 h
 none_holds TooManyValuesInSet set apex none h = none.1.0 h
 none_holds RepeatedValue set apex none h = none.1.1.0 h

@@ -57,14 +57,14 @@ abbrev pub AnswersSeveral : RecordSet → Type 0
 AnswersSeveral set = IsMultivalue set.routing × ((set.rtype ≡ rtype.Cname) ⊎ IsOfZone set.rtype ⊎ IsAlias set.body)
 
 -- When a reason holds of a set in the zone of this apex. The most values of a set are 400 (Route 53 quotas).
-abbrev pub Holds : Reason → RecordSet → (apex : List (List ℕ)) → Type 0
-Holds reason.NoValues set apex = WithValues (λ values. values ≡ []) set.body
-Holds reason.TooManyValuesInSet set apex = WithValues (λ values. 400 < length values) set.body
-Holds reason.RepeatedValue set apex = WithValues HasRepeated set.body
-Holds reason.OneValueOnly set apex = HasOneValue set.rtype × WithValues (λ values. 1 < length values) set.body
-Holds reason.SoaNotAtApex set apex = (set.rtype ≡ rtype.Soa) × (set.name ≢ apex)
-Holds reason.PolicyNotAllowed set apex = RoutesZone set ⊎ AnswersSeveral set
-Holds reason.WildcardNs set apex = (set.rtype ≡ rtype.Ns) × ((rest : List (List ℕ)) × (set.name ≡ wildcard ∷ rest))
+abbrev pub HoldsOf : Reason → RecordSet → (apex : List (List ℕ)) → Type 0
+HoldsOf reason.NoValues set apex = WithValues (λ values. values ≡ []) set.body
+HoldsOf reason.TooManyValuesInSet set apex = WithValues (λ values. 400 < length values) set.body
+HoldsOf reason.RepeatedValue set apex = WithValues HasRepeated set.body
+HoldsOf reason.OneValueOnly set apex = HasOneValue set.rtype × WithValues (λ values. 1 < length values) set.body
+HoldsOf reason.SoaNotAtApex set apex = (set.rtype ≡ rtype.Soa) × (set.name ≢ apex)
+HoldsOf reason.PolicyNotAllowed set apex = RoutesZone set ⊎ AnswersSeveral set
+HoldsOf reason.WildcardNs set apex = (set.rtype ≡ rtype.Ns) × ((rest : List (List ℕ)) × (set.name ≡ wildcard ∷ rest))
 
 -- all reasons, in the order in which they are told
 abbrev pub reasons : List Reason
@@ -88,9 +88,9 @@ before reason.WildcardNs =
 
 abbrev pub NoneHolds : List Reason → RecordSet → (apex : List (List ℕ)) → Type 0
 NoneHolds [] set apex = ⊤
-NoneHolds (first ∷ others) set apex = (Holds first set apex → ⊥) × NoneHolds others set apex
+NoneHolds (first ∷ others) set apex = (HoldsOf first set apex → ⊥) × NoneHolds others set apex
 
 -- the first reason that holds, or none
 abbrev pub IsFirst : Option Reason → RecordSet → (apex : List (List ℕ)) → Type 0
 IsFirst None set apex = NoneHolds reasons set apex
-IsFirst (Some first) set apex = Holds first set apex × NoneHolds (before first) set apex
+IsFirst (Some first) set apex = HoldsOf first set apex × NoneHolds (before first) set apex

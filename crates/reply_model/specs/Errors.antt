@@ -12,38 +12,38 @@ use Rattle.line_faults.specs.declared.member.Member.TheVariants as m
 use Rattle.config_model.specs.ReasonRecord.{Reason}
 use Rattle.config_model.specs.ReasonRecord.TheVariants as reason
 use Rattle.config_model.specs.SetKeyRecord.{SetKey}
-use Rattle.reply_model.specs.Json.{Field, check_text, collection_text, count, field, name_text}
+use Rattle.reply_model.specs.Json.{NamedValue, check_text, collection_text, count, field, name_text}
 use Rattle.reply_model.specs.Json.{object_of, type_text}
 use Rattle.reply_model.specs.Sets.{ident_fields}
 
-abbrev pub error : (name : List ℕ) → (number : ℕ) → List Field → Data
+abbrev pub error : (name : List ℕ) → (number : ℕ) → List NamedValue → Data
 error name number fields =
     object_of ((codes "Error", string name) ∷ (codes "Number", count number) ∷ fields)
 
 -- ---- what is told
 
-abbrev pub in_change : ℕ → List Field
+abbrev pub in_change : ℕ → List NamedValue
 in_change i = (codes "Change", count i) ∷ []
 
-abbrev pub if_in_change : Option ℕ → List Field
+abbrev pub if_in_change : Option ℕ → List NamedValue
 if_in_change None = []
 if_in_change (Some i) = in_change i
 
-abbrev pub told_name : (name : List (List ℕ)) → List Field
+abbrev pub told_name : (name : List (List ℕ)) → List NamedValue
 told_name name = field m.Name (name_text name) ∷ []
 
-abbrev pub told_key : SetKey → List Field
+abbrev pub told_key : SetKey → List NamedValue
 told_key key =
     field m.Name (name_text key.name) ∷ field m.«Type» (type_text key.rtype)
     ∷ ident_fields key.ident
 
-abbrev pub told_check : ℕ → List Field
+abbrev pub told_check : ℕ → List NamedValue
 told_check id = field m.HealthCheckId (check_text id) ∷ []
 
-abbrev pub told_location : (name : List ℕ) → List Field
+abbrev pub told_location : (name : List ℕ) → List NamedValue
 told_location name = field m.LocationName (string name) ∷ []
 
-abbrev pub told_reason : List ℕ → List Field
+abbrev pub told_reason : List ℕ → List NamedValue
 told_reason why = (codes "Reason", string why) ∷ []
 
 -- ---- reasons

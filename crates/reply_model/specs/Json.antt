@@ -10,15 +10,15 @@ use Rattle.config_model.specs.Types as types
 use Rattle.config_model.specs.RTypeRecord.{RType}
 
 -- a member of an object: its name, and its value
-abbrev pub Field : Type 0
-Field = List ℕ × Data
+abbrev pub NamedValue : Type 0
+NamedValue = List ℕ × Data
 
 -- the members in byte order of their names, in whichever order they are given
-abbrev pub ordered : List Field → Members
+abbrev pub ordered : List NamedValue → Members
 ordered [] = no_members
 ordered (field ∷ fields) = put field.0 field.1 (ordered fields)
 
-abbrev pub object_of : List Field → Data
+abbrev pub object_of : List NamedValue → Data
 object_of fields = object (ordered fields)
 
 abbrev pub items_of : List Data → Items
@@ -32,7 +32,7 @@ abbrev pub count : ℕ → Data
 count n = number (unsigned n)
 
 -- the members of control lines have their names in replies too
-abbrev pub field : Member → Data → Field
+abbrev pub field : Member → Data → NamedValue
 field m d = (text_of m, d)
 
 abbrev pub name_text : (name : List (List ℕ)) → Data
@@ -59,5 +59,5 @@ unfoldable pub line_of : Data → List ℕ
 line_of d = compact_text d ++ 0x0A ∷ []
 
 -- a line that was done, with what else is told
-abbrev pub done : Member → List Field → Data
+abbrev pub done : Member → List NamedValue → Data
 done line fields = object_of ((codes "Ok", string (text_of line)) ∷ fields)

@@ -6,16 +6,16 @@ use Rattle.serde_json.specs.Data.{Data, boolean, null, string}
 use Rattle.line_faults.specs.declared.member.Member.TheVariants as m
 use Rattle.config_model.specs.Sets.{ident_of}
 use Rattle.config_model.specs.RecordSetRecord.{RecordSet}
-use Rattle.reply_model.specs.Json.{Field, done, list_of, name_text, type_text}
+use Rattle.reply_model.specs.Json.{NamedValue, done, list_of, name_text, type_text}
 use Rattle.reply_model.specs.Sets.{set_object}
 
 -- the identifier of the next set, where it has one
-abbrev pub next_ident : Option (List ℕ) → List Field
+abbrev pub next_ident : Option (List ℕ) → List NamedValue
 next_ident None = []
 next_ident (Some ident) = (codes "NextRecordIdentifier", string ident) ∷ []
 
 -- whether the list was cut, and where it would go on
-abbrev pub next_fields : Option RecordSet → List Field
+abbrev pub next_fields : Option RecordSet → List NamedValue
 next_fields None = (codes "IsTruncated", boolean false) ∷ []
 next_fields (Some next) =
     (codes "IsTruncated", boolean true)

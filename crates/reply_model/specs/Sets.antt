@@ -16,7 +16,7 @@ use Rattle.routing.specs.declared.policies.Role.{Role}
 use Rattle.routing.specs.declared.policies.Role.TheVariants as role
 use Rattle.routing.specs.declared.policies.Routing.{Routing}
 use Rattle.routing.specs.declared.policies.Routing.TheVariants as routing
-use Rattle.reply_model.specs.Json.{Field, check_text, collection_text, count, field, list_of}
+use Rattle.reply_model.specs.Json.{NamedValue, check_text, collection_text, count, field, list_of}
 use Rattle.reply_model.specs.Json.{name_text, object_of, type_text, zone_text}
 
 -- ---- policies
@@ -25,7 +25,7 @@ abbrev pub role_text : Role → List ℕ
 role_text role.Primary = codes "PRIMARY"
 role_text role.Secondary = codes "SECONDARY"
 
-abbrev pub place_fields : Place → List Field
+abbrev pub place_fields : Place → List NamedValue
 place_fields (place.Continent continent) =
     field m.ContinentCode (string (code_of continent)) ∷ []
 place_fields (place.Country letters) = field m.CountryCode (string letters) ∷ []
@@ -33,7 +33,7 @@ place_fields (place.Subdivision letters part) =
     field m.CountryCode (string letters) ∷ field m.SubdivisionCode (string part) ∷ []
 place_fields place.Anywhere = field m.CountryCode (string (codes "*")) ∷ []
 
-abbrev pub policy_fields : Routing → List Field
+abbrev pub policy_fields : Routing → List NamedValue
 policy_fields routing.Simple = []
 policy_fields (routing.Weighted ident weight) = field m.Weight (count weight) ∷ []
 policy_fields (routing.Failover ident part) = field m.Failover (string (role_text part)) ∷ []
@@ -47,11 +47,11 @@ policy_fields (routing.Cidr ident collection location) =
 
 -- ---- what is there or not
 
-abbrev pub ident_fields : Option (List ℕ) → List Field
+abbrev pub ident_fields : Option (List ℕ) → List NamedValue
 ident_fields None = []
 ident_fields (Some ident) = field m.SetIdentifier (string ident) ∷ []
 
-abbrev pub check_fields : Option ℕ → List Field
+abbrev pub check_fields : Option ℕ → List NamedValue
 check_fields None = []
 check_fields (Some check) = field m.HealthCheckId (check_text check) ∷ []
 
@@ -61,7 +61,7 @@ abbrev pub value_object : Datum → Data
 value_object value = object_of (field m.Value (string (text_of value.rtype value.wire)) ∷ [])
 
 -- A target stands in the zone itself.
-abbrev pub body_fields : (zone : ℕ) → Body → List Field
+abbrev pub body_fields : (zone : ℕ) → Body → List NamedValue
 body_fields zone (Values ttl values) =
     field m.Ttl (count ttl) ∷ field m.ResourceRecords (list_of (map value_object values)) ∷ []
 body_fields zone (Alias target evaluate) =

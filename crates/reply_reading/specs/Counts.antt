@@ -7,23 +7,23 @@ use Rattle.line_faults.specs.declared.fault.LineFault.TheVariants as line
 use Rattle.reply_model.specs.declared.outcomes.Outcome.{Outcome}
 use Rattle.reply_model.specs.declared.outcomes.Outcome.TheVariants as outcome
 
-abbrev pub IsCount : ℕ → Type 0
-IsCount n = n < 2 ^ 64
+abbrev pub Is64Bits : ℕ → Type 0
+Is64Bits n = n < 2 ^ 64
 
 abbrev pub IfCount : Option ℕ → Type 0
 IfCount None = ⊤
-IfCount (Some n) = IsCount n
+IfCount (Some n) = Is64Bits n
 
 abbrev pub RefusalCounts : Refusal → Type 0
 RefusalCounts refusal.NoSuchHostedZone = ⊤
 RefusalCounts (refusal.InvalidInput change why) = IfCount change
 RefusalCounts refusal.TooManyValues = ⊤
 RefusalCounts refusal.TooManyCharacters = ⊤
-RefusalCounts (refusal.NotInZone n) = IsCount n
-RefusalCounts (refusal.AlreadyExists n) = IsCount n
-RefusalCounts (refusal.NotFound n) = IsCount n
-RefusalCounts (refusal.ValuesDiffer n) = IsCount n
-RefusalCounts (refusal.ApexProtected n) = IsCount n
+RefusalCounts (refusal.NotInZone n) = Is64Bits n
+RefusalCounts (refusal.AlreadyExists n) = Is64Bits n
+RefusalCounts (refusal.NotFound n) = Is64Bits n
+RefusalCounts (refusal.ValuesDiffer n) = Is64Bits n
+RefusalCounts (refusal.ApexProtected n) = Is64Bits n
 RefusalCounts (refusal.MixedPolicies key) = ⊤
 RefusalCounts (refusal.CnameConflict name) = ⊤
 RefusalCounts (refusal.SamePlace key) = ⊤
@@ -33,7 +33,7 @@ RefusalCounts (refusal.AliasTargetMissing key) = ⊤
 RefusalCounts (refusal.AliasTooDeep key) = ⊤
 RefusalCounts refusal.ZoneFull = ⊤
 RefusalCounts refusal.StoreFull = ⊤
-RefusalCounts (refusal.JournalFull n) = IsCount n
+RefusalCounts (refusal.JournalFull n) = Is64Bits n
 RefusalCounts refusal.OutOfMemory = ⊤
 RefusalCounts refusal.DiskFault = ⊤
 RefusalCounts refusal.HostedZoneNotEmpty = ⊤
@@ -59,13 +59,13 @@ HasCounts (outcome.Done what) = ⊤
 HasCounts (outcome.ZoneMade id name) = ⊤
 HasCounts (outcome.CheckMade id) = ⊤
 HasCounts (outcome.CollectionMade id) = ⊤
-HasCounts (outcome.Status healthy passing) = IsCount passing
-HasCounts (outcome.Bound ports) = IsCount ports.queries × IsCount ports.reports
+HasCounts (outcome.Status healthy passing) = Is64Bits passing
+HasCounts (outcome.Bound ports) = Is64Bits ports.queries × Is64Bits ports.reports
 HasCounts (outcome.Served turns) =
-    IsCount turns.answered × IsCount turns.quiet × IsCount turns.reports × IsCount turns.silent
-    × IsCount turns.turns × IsCount turns.unknown
-HasCounts (outcome.Left octets) = IsCount octets
-HasCounts (outcome.Compacted generation) = IsCount generation
+    Is64Bits turns.answered × Is64Bits turns.quiet × Is64Bits turns.reports × Is64Bits turns.silent
+    × Is64Bits turns.turns × Is64Bits turns.unknown
+HasCounts (outcome.Left octets) = Is64Bits octets
+HasCounts (outcome.Compacted generation) = Is64Bits generation
 HasCounts (outcome.Refused why) = RefusalCounts why
 HasCounts (outcome.NotRead why) = FaultCounts why
 HasCounts outcome.LineTooLong = ⊤

@@ -24,7 +24,7 @@ use Rattle.reply_records.specs.Chosen.{all_data, new_data}
 use Rattle.dns_wire.specs.declared.reply.Section.{Section}
 use Rattle.dns_wire.specs.declared.reply.Section.TheVariants.{Additional, Answer, Authority}
 use Rattle.zone_model.proofs.Lists.{split, take_more}
-use Rattle.reply_records.specs.Writing.{IsOpen, Writes}
+use Rattle.reply_records.specs.Writing.{TakesRecords, Writes}
 
 -- equal lists of records
 pub same : (section : Section) (first second : List Record) (a b : Draft) → first ≡ second
@@ -66,8 +66,8 @@ module _ (adds : RecordsAddUp) (section : Section) where
     room = bc.room ∙ ab.room;
   }
 
-  pub still_open : (first : List Record) (a b : Draft) → IsOpen section a
-      → Writes section first a b → IsOpen section b
+  pub still_open : (first : List Record) (a b : Draft) → TakesRecords section a
+      → Writes section first a b → TakesRecords section b
   still_open first a b (m, is, follows) ab =
       (with_records section first m, ab.stands m is follows, adds.follows section first m follows)
 
@@ -136,12 +136,12 @@ size_more Additional rs m =
       octets_append n m.authorities m.additionals,
     )
 
-holds_none : (m : Message) (d : Draft) → d.is_cut ≡ true → HoldsAll m d ⊎ HoldsNone m d
+holds_none : (m : Message) (d : Draft) → d.is_truncated ≡ true → HoldsAll m d ⊎ HoldsNone m d
     → HoldsNone m d
-holds_none m d cut (inl all) = absurd (grind (arith, cut, all.uncut))
+holds_none m d cut (inl all) = absurd (grind (arith, cut, all.untruncated))
 holds_none m d cut (inr none) = none
 
-module _ (m : Message) (d : Draft) (cut : d.is_cut ≡ true) (is : StandsFor m d) where
+module _ (m : Message) (d : Draft) (cut : d.is_truncated ≡ true) (is : StandsFor m d) where
   none : HoldsNone m d
   none = holds_none m d cut is.records
 
@@ -156,7 +156,7 @@ module _ (m : Message) (d : Draft) (cut : d.is_cut ≡ true) (is : StandsFor m d
     records = inr (record {
       longer = omega (arith, none.longer, size_more Answer rs m);
       emptied = record {
-        is_cut = none.emptied.is_cut;
+        is_truncated = none.emptied.is_truncated;
         answers = none.emptied.answers;
         authorities = none.emptied.authorities;
         additionals = none.emptied.additionals;
@@ -173,7 +173,7 @@ module _ (m : Message) (d : Draft) (cut : d.is_cut ≡ true) (is : StandsFor m d
     records = inr (record {
       longer = omega (arith, none.longer, size_more Authority rs m);
       emptied = record {
-        is_cut = none.emptied.is_cut;
+        is_truncated = none.emptied.is_truncated;
         answers = none.emptied.answers;
         authorities = none.emptied.authorities;
         additionals = none.emptied.additionals;
@@ -190,7 +190,7 @@ module _ (m : Message) (d : Draft) (cut : d.is_cut ≡ true) (is : StandsFor m d
     records = inr (record {
       longer = omega (arith, none.longer, size_more Additional rs m);
       emptied = record {
-        is_cut = none.emptied.is_cut;
+        is_truncated = none.emptied.is_truncated;
         answers = none.emptied.answers;
         authorities = none.emptied.authorities;
         additionals = none.emptied.additionals;
@@ -200,7 +200,7 @@ module _ (m : Message) (d : Draft) (cut : d.is_cut ≡ true) (is : StandsFor m d
   }
 
 -- What would be written behind a cut is written as soon as the reply is cut.
-pub behind_cut : (section : Section) (rs : List Record) (d : Draft) → d.is_cut ≡ true
+pub behind_cut : (section : Section) (rs : List Record) (d : Draft) → d.is_truncated ≡ true
     → Writes section rs d d
 behind_cut section rs d cut = record {
   stands = λ m is follows. still_cut m d cut is section rs;
@@ -234,7 +234,7 @@ whole_size m d all =
 -- A reply that has no more octets with a record more is cut.
 pub cut_shown : (section : Section) (r : Record) (m : Message) (a b : Draft) → StandsFor m a
     → StandsFor (with_records section (r ∷ []) m) b → b.room ≡ a.room
-    → length b.bytes ≤ length a.bytes → b.is_cut ≡ true
+    → length b.bytes ≤ length a.bytes → b.is_truncated ≡ true
 cut_shown section r m a b was is room le = by was.records is.records
   where
     larger : size_of m < size_of (with_records section (r ∷ []) m)
@@ -250,8 +250,8 @@ cut_shown section r m a b was is room le = by was.records is.records
     by : HoldsAll m a ⊎ HoldsNone m a
         → HoldsAll (with_records section (r ∷ []) m) b
         ⊎ HoldsNone (with_records section (r ∷ []) m) b
-        → b.is_cut ≡ true
-    by before (inr none) = none.emptied.is_cut
+        → b.is_truncated ≡ true
+    by before (inr none) = none.emptied.is_truncated
     by (inl before) (inl all) =
         absurd (omega (
           arith,
@@ -265,7 +265,7 @@ cut_shown section r m a b was is room le = by was.records is.records
 module _ (adds : RecordsAddUp) (section : Section) where
   -- the first elements of a list are written, and then the reply is cut
   pub map_cut : {X : Type 0} (f : X → Record) (xs : List X) (n : ℕ) (a b : Draft)
-      → Writes section (map f (take n xs)) a b → b.is_cut ≡ true → Writes section (map f xs) a b
+      → Writes section (map f (take n xs)) a b → b.is_truncated ≡ true → Writes section (map f xs) a b
   map_cut f xs n a b ab cut =
       same section (map f (take n xs) ++ map f (drop n xs)) (map f xs) a b
       (sym (map-append f (take n xs) (drop n xs)) ∙ ap (map f) (sym (split n xs)))
@@ -273,7 +273,7 @@ module _ (adds : RecordsAddUp) (section : Section) where
       (behind_cut section (map f (drop n xs)) b cut))
 
   pub flat_cut : {X : Type 0} (f : X → List Record) (xs : List X) (n : ℕ) (a b : Draft)
-      → Writes section (flat_map f (take n xs)) a b → b.is_cut ≡ true
+      → Writes section (flat_map f (take n xs)) a b → b.is_truncated ≡ true
       → Writes section (flat_map f xs) a b
   flat_cut {X} f xs n a b ab cut =
       same section (flat_map f (take n xs) ++ flat_map f (drop n xs)) (flat_map f xs) a b
@@ -305,7 +305,7 @@ module _ (adds : RecordsAddUp) (section : Section) where
 -- ---- joint data
 
 module _ (adds : RecordsAddUp) (owner : List (List ℕ)) (rtype : RType) (ttl : ℕ) (a b : Draft)
-    (cut : b.is_cut ≡ true) where
+    (cut : b.is_truncated ≡ true) where
   abbrev row : List ℕ → Record
   row rdata = record { owner = owner; rtype = rtype; ttl = ttl; rdata = rdata }
 
@@ -330,7 +330,7 @@ module _ (adds : RecordsAddUp) (owner : List (List ℕ)) (rtype : RType) (ttl : 
 pub new_cut : RecordsAddUp → (earlier : List RecordSet) (rdatas : List (List ℕ)) (n : ℕ)
     (owner : List (List ℕ)) (rtype : RType) (ttl : ℕ) (a b : Draft)
     → Writes Answer (records owner rtype ttl (new_data earlier (take n rdatas))) a b
-    → b.is_cut ≡ true → Writes Answer (records owner rtype ttl (new_data earlier rdatas)) a b
+    → b.is_truncated ≡ true → Writes Answer (records owner rtype ttl (new_data earlier rdatas)) a b
 new_cut adds earlier rdatas n owner rtype ttl a b ab cut =
     front_cut adds owner rtype ttl a b cut (new_data earlier rdatas)
     (new_data earlier (take n rdatas)) (new_data earlier (drop n rdatas))

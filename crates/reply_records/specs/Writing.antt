@@ -5,8 +5,8 @@ use Rattle.dns_wire.specs.Message.{Message, Record}
 use Rattle.dns_wire.specs.declared.reply.Section.{Section}
 
 -- A reply to a query stands here, without a record in a later section.
-abbrev pub IsOpen : Section → Draft → Type 0
-IsOpen section d = (m : Message) × StandsFor m d × Follows section m
+abbrev pub TakesRecords : Section → Draft → Type 0
+TakesRecords section d = (m : Message) × StandsFor m d × Follows section m
 
 -- The reply has these records more at the end of a section, and is otherwise as it was.
 pub record Writes (section : Section) (records : List Record) (old new : Draft) : Type 0 where

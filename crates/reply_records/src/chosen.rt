@@ -8,7 +8,7 @@ ghost use Rattle.record_set.specs.declared.sets.RecordSet.{RecordSet};
 ghost use Rattle.policy_select.specs.Holding.{IsHolding};
 ghost use Rattle.policy_select.specs.Looking.{IsGroupNow};
 ghost use Rattle.reply_records.specs.Chosen.{ArePlaces, HoldsValued, StartsOrNone, sets_of_places};
-ghost use Rattle.reply_records.specs.Writing.{IsOpen, Writes};
+ghost use Rattle.reply_records.specs.Writing.{TakesRecords, Writes};
 
 use crate::held::{count_of, rtype_of, ttl_of, write_values};
 use crate::joint::{least_ttl, write_joint};
@@ -31,7 +31,7 @@ pub fn write_chosen(
 )
     requires places { AreOfGroup zones.now.zones selected.now }
     requires held { HoldsFirst zones.now.zones selected.now scratch.old }
-    requires open { IsOpen Answer reply.old }
+    requires open { TakesRecords Answer reply.old }
     ensures { Writes Answer (answer_records owner.now
         (selected_sets zones.now.zones selected.now)) reply.old reply.new }
 {
@@ -59,7 +59,7 @@ fn write_several(
     requires group { IsGroupNow zones.now.zones group }
     requires places { ArePlaces group places.now }
     requires some { 0 < length places.now }
-    requires open { IsOpen Answer reply.old }
+    requires open { TakesRecords Answer reply.old }
     ensures { Writes Answer (answer_records owner.now
         (sets_of_places zones.now.zones group places.now)) reply.old reply.new }
 {

@@ -13,7 +13,7 @@ ghost use Rattle.policy_select.specs.Holding.{HasValue, IsHolding};
 ghost use Rattle.policy_select.specs.Looking.{IsGroupNow};
 ghost use Rattle.reply_records.specs.Delegating.{AreAddresses, Delegates, servers_glue};
 ghost use Rattle.reply_records.specs.Delegating.{simple_part};
-ghost use Rattle.reply_records.specs.Writing.{IsOpen, Writes};
+ghost use Rattle.reply_records.specs.Writing.{TakesRecords, Writes};
 
 use crate::held::{count_of, rdata_at, ttl_of, write_until_cut};
 use dns_name::Name;
@@ -29,7 +29,7 @@ pub fn write_delegation(zones: &Zones, cut: Group, reply: &mut Reply, scratch: &
     requires some { 0 < cut.length }
     requires servers { (set : RecordSet)
         → slice_get (sets_in zones.now.zones cut) 0 ≡ Some set → set.rtype ≡ rtype.Ns }
-    requires open { IsOpen Authority reply.old }
+    requires open { TakesRecords Authority reply.old }
     ensures { (set : RecordSet) → slice_get (sets_in zones.now.zones cut) 0 ≡ Some set
         → Delegates (sets_in_zone zones.now.zones cut.zone) set reply.old reply.new }
 {
@@ -45,10 +45,10 @@ pub fn write_delegation(zones: &Zones, cut: Group, reply: &mut Reply, scratch: &
 /// be cut.
 fn write_held(reply: &mut Reply, section: Section, scratch: &Scratch) -> bool
     requires held { IsHolding scratch.now }
-    requires open { IsOpen section reply.old }
+    requires open { TakesRecords section reply.old }
     ensures written { (set : RecordSet) → scratch.now ≡ Some set
         → Writes section (set_records set) reply.old reply.new }
-    ensures cut { IsTrue result → reply.new.is_cut ≡ true }
+    ensures truncated { IsTrue result → reply.new.is_truncated ≡ true }
 {
     let owner = scratch.name();
     write_until_cut(reply, section, &owner, ttl_of(scratch), scratch)
@@ -61,7 +61,7 @@ fn write_all_glue(zones: &Zones, cut: Group, reply: &mut Reply, scratch: &mut Sc
     requires servers { (set : RecordSet)
         → slice_get (sets_in zones.now.zones cut) 0 ≡ Some set → set.rtype ≡ rtype.Ns }
     requires held { scratch.old ≡ slice_get (sets_in zones.now.zones cut) 0 }
-    requires open { IsOpen Additional reply.old }
+    requires open { TakesRecords Additional reply.old }
     ensures { (set : RecordSet) → slice_get (sets_in zones.now.zones cut) 0 ≡ Some set
         → Writes Additional
         (flat_map (glue_of (sets_in_zone zones.now.zones cut.zone))
@@ -86,11 +86,11 @@ fn write_first_glue(
     requires held { IsHolding scratch.old }
     requires servers { (set : RecordSet) → scratch.old ≡ Some set → set.rtype ≡ rtype.Ns }
     requires values { (i : ℕ) → i < count → HasValue scratch.old i }
-    requires open { IsOpen Additional reply.old }
+    requires open { TakesRecords Additional reply.old }
     ensures written { (set : RecordSet) → scratch.old ≡ Some set
         → Writes Additional (servers_glue (sets_in_zone zones.now.zones zone)
         (take count (data_of set.body))) reply.old reply.new }
-    ensures cut { IsTrue result → reply.new.is_cut ≡ true }
+    ensures truncated { IsTrue result → reply.new.is_truncated ≡ true }
 {
     records_add_up();
     if count == 0 {
@@ -144,12 +144,12 @@ fn write_addresses(
 ) -> bool
     requires four { IsGroupNow zones.now.zones found.now.four }
     requires six { IsGroupNow zones.now.zones found.now.six }
-    requires open { IsOpen Additional reply.old }
+    requires open { TakesRecords Additional reply.old }
     ensures written { Writes Additional
         (flat_map simple_part (sets_in zones.now.zones found.now.four)
         ++ flat_map simple_part (sets_in zones.now.zones found.now.six))
         reply.old reply.new }
-    ensures cut { IsTrue result → reply.new.is_cut ≡ true }
+    ensures truncated { IsTrue result → reply.new.is_truncated ≡ true }
 {
     records_add_up();
     if write_simple(zones, found.four, reply, scratch) {
@@ -161,10 +161,10 @@ fn write_addresses(
 /// Writes the records of the simple sets of a group, and tells whether the reply is known to be cut.
 fn write_simple(zones: &Zones, group: Group, reply: &mut Reply, scratch: &mut Scratch) -> bool
     requires group { IsGroupNow zones.now.zones group }
-    requires open { IsOpen Additional reply.old }
+    requires open { TakesRecords Additional reply.old }
     ensures written { Writes Additional (flat_map simple_part (sets_in zones.now.zones group))
         reply.old reply.new }
-    ensures cut { IsTrue result → reply.new.is_cut ≡ true }
+    ensures truncated { IsTrue result → reply.new.is_truncated ≡ true }
 {
     records_add_up();
     for i in 0..group.length {
@@ -180,10 +180,10 @@ fn write_simple(zones: &Zones, group: Group, reply: &mut Reply, scratch: &mut Sc
 /// reply is known to be cut.
 fn write_if_simple(reply: &mut Reply, scratch: &Scratch) -> bool
     requires held { IsHolding scratch.now }
-    requires open { IsOpen Additional reply.old }
+    requires open { TakesRecords Additional reply.old }
     ensures written { (set : RecordSet) → scratch.now ≡ Some set
         → Writes Additional (simple_part set) reply.old reply.new }
-    ensures cut { IsTrue result → reply.new.is_cut ≡ true }
+    ensures truncated { IsTrue result → reply.new.is_truncated ≡ true }
 {
     records_add_up();
     match scratch.routing() {

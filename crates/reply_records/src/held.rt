@@ -6,7 +6,7 @@ ghost use Rattle.dns_wire.specs.Message.{Record};
 ghost use Rattle.rdata_layout.specs.Layout.{IsLayout};
 ghost use Rattle.record_set.specs.declared.sets.RecordSet.{RecordSet};
 ghost use Rattle.policy_select.specs.Holding.{HasValue, IsHolding};
-ghost use Rattle.reply_records.specs.Writing.{IsOpen, Writes};
+ghost use Rattle.reply_records.specs.Writing.{TakesRecords, Writes};
 
 use dns_name::Name;
 use dns_wire::{Reply, Section, records_add_up};
@@ -22,7 +22,7 @@ pub fn write_one(
     ttl: u32,
     rdata: &[u8],
 )
-    requires open { IsOpen section reply.old }
+    requires open { TakesRecords section reply.old }
     requires layout { IsLayout rtype rdata.now }
     ensures { Writes section (record {
       owner = owner.now;
@@ -45,7 +45,7 @@ pub(crate) fn write_or_cut(
     ttl: u32,
     rdata: &[u8],
 ) -> bool
-    requires open { IsOpen section reply.old }
+    requires open { TakesRecords section reply.old }
     requires layout { IsLayout rtype rdata.now }
     ensures written { Writes section (record {
       owner = owner.now;
@@ -53,7 +53,7 @@ pub(crate) fn write_or_cut(
       ttl = ttl;
       rdata = rdata.now;
     } ∷ []) reply.old reply.new }
-    ensures cut { IsTrue result → reply.new.is_cut ≡ true }
+    ensures truncated { IsTrue result → reply.new.is_truncated ≡ true }
 {
     records_add_up();
     let before = reply.bytes().len();
@@ -63,7 +63,7 @@ pub(crate) fn write_or_cut(
 
 /// Writes the values of the set that is held, as records of this name with this TTL.
 pub fn write_values(reply: &mut Reply, section: Section, owner: &Name, ttl: u32, scratch: &Scratch)
-    requires open { IsOpen section reply.old }
+    requires open { TakesRecords section reply.old }
     requires held { IsHolding scratch.now }
     ensures { (set : RecordSet) → scratch.now ≡ Some set
         → Writes section (records owner.now set.rtype ttl (data_of set.body))
@@ -81,12 +81,12 @@ pub(crate) fn write_until_cut(
     ttl: u32,
     scratch: &Scratch,
 ) -> bool
-    requires open { IsOpen section reply.old }
+    requires open { TakesRecords section reply.old }
     requires held { IsHolding scratch.now }
     ensures written { (set : RecordSet) → scratch.now ≡ Some set
         → Writes section (records owner.now set.rtype ttl (data_of set.body))
         reply.old reply.new }
-    ensures cut { IsTrue result → reply.new.is_cut ≡ true }
+    ensures truncated { IsTrue result → reply.new.is_truncated ≡ true }
 {
     records_add_up();
     let rtype = rtype_of(scratch);

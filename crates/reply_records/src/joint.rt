@@ -12,7 +12,7 @@ ghost use Rattle.policy_select.specs.Holding.{HasValue, IsHolding};
 ghost use Rattle.policy_select.specs.Looking.{IsGroupNow};
 ghost use Rattle.reply_records.specs.Chosen.{ArePlaces, all_data, new_data, sets_of_places};
 ghost use Rattle.reply_records.specs.Seeing.{Sees};
-ghost use Rattle.reply_records.specs.Writing.{IsOpen, Writes};
+ghost use Rattle.reply_records.specs.Writing.{TakesRecords, Writes};
 
 use crate::held::{count_of, rdata_at, ttl_of, write_or_cut, write_until_cut};
 use crate::seen::{Seen, Short, is_seen, note_held};
@@ -63,7 +63,7 @@ pub(crate) fn write_joint(
     requires places { ArePlaces group places.now }
     requires rtype { (i : ℕ) (set : RecordSet)
         → slice_get (sets_in zones.now.zones group) i ≡ Some set → set.rtype ≡ rtype }
-    requires open { IsOpen Answer reply.old }
+    requires open { TakesRecords Answer reply.old }
     ensures { Writes Answer (records owner.now rtype ttl
         (joint_data [] (sets_of_places zones.now.zones group places.now))) reply.old reply.new }
 {
@@ -113,14 +113,14 @@ fn write_new(
     requires sees { Sees (all_data (sets_of_places zones.now.zones group earlier.now)) values.old
         seen.old }
     requires within { seen.old.count ≤ length values.old }
-    requires open { IsOpen Answer reply.old }
+    requires open { TakesRecords Answer reply.old }
     ensures there { (set : RecordSet) × (slice_get (sets_in zones.now.zones group) place ≡ Some set) }
     ensures written { (set : RecordSet)
         → slice_get (sets_in zones.now.zones group) place ≡ Some set
         → Writes Answer (records owner.now rtype ttl
         (new_data (sets_of_places zones.now.zones group earlier.now) (data_of set.body)))
         reply.old reply.new }
-    ensures cut { IsTrue result → reply.new.is_cut ≡ true }
+    ensures truncated { IsTrue result → reply.new.is_truncated ≡ true }
     ensures sees { (set : RecordSet)
         → slice_get (sets_in zones.now.zones group) place ≡ Some set → result ≡ false
         → Sees (all_data (sets_of_places zones.now.zones group earlier.now) ++ data_of set.body)
@@ -160,14 +160,14 @@ fn write_held(
     requires sees { Sees (all_data (sets_of_places zones.now.zones group earlier.now)) values.now
         seen.now }
     requires within { seen.now.count ≤ length values.now }
-    requires open { IsOpen Answer reply.old }
+    requires open { TakesRecords Answer reply.old }
     ensures held { scratch.new ≡ scratch.old }
     ensures written { (set : RecordSet)
         → slice_get (sets_in zones.now.zones group) place ≡ Some set
         → Writes Answer (records owner.now rtype ttl
         (new_data (sets_of_places zones.now.zones group earlier.now) (data_of set.body)))
         reply.old reply.new }
-    ensures cut { IsTrue result → reply.new.is_cut ≡ true }
+    ensures truncated { IsTrue result → reply.new.is_truncated ≡ true }
 {
     if earlier.len() == 0 {
         return write_until_cut(reply, Section::Answer, owner, ttl, scratch);
@@ -200,14 +200,14 @@ fn write_those_new(
     requires sees { Sees (all_data (sets_of_places zones.now.zones group earlier.now)) values.now
         seen.now }
     requires within { seen.now.count ≤ length values.now }
-    requires open { IsOpen Answer reply.old }
+    requires open { TakesRecords Answer reply.old }
     ensures held { scratch.new ≡ scratch.old }
     ensures written { (set : RecordSet)
         → slice_get (sets_in zones.now.zones group) place ≡ Some set
         → Writes Answer (records owner.now rtype ttl
         (new_data (sets_of_places zones.now.zones group earlier.now) (data_of set.body)))
         reply.old reply.new }
-    ensures cut { IsTrue result → reply.new.is_cut ≡ true }
+    ensures truncated { IsTrue result → reply.new.is_truncated ≡ true }
 {
     records_add_up();
     for i in 0..count_of(scratch) {
@@ -245,14 +245,14 @@ fn write_if_new(
     requires sees { Sees (all_data (sets_of_places zones.now.zones group earlier.now)) values.now
         seen.now }
     requires within { seen.now.count ≤ length values.now }
-    requires open { IsOpen Answer reply.old }
+    requires open { TakesRecords Answer reply.old }
     ensures held { scratch.new ≡ scratch.old }
     ensures written { (set : RecordSet) (rdata : List ℕ) → scratch.old ≡ Some set
         → slice_get (data_of set.body) i ≡ Some rdata
         → Writes Answer (records owner.now rtype ttl
         (new_data (sets_of_places zones.now.zones group earlier.now) (rdata ∷ [])))
         reply.old reply.new }
-    ensures cut { IsTrue result → reply.new.is_cut ≡ true }
+    ensures truncated { IsTrue result → reply.new.is_truncated ≡ true }
 {
     match is_seen(values, seen, rdata_at(scratch, rtype, i)) {
         Some(is_old) => {
@@ -287,14 +287,14 @@ fn write_compared(
     requires held { scratch.old ≡ slice_get (sets_in zones.now.zones group) place }
     requires value { HasValue scratch.old i }
     requires rtype { (set : RecordSet) → scratch.old ≡ Some set → set.rtype ≡ rtype }
-    requires open { IsOpen Answer reply.old }
+    requires open { TakesRecords Answer reply.old }
     ensures held { scratch.new ≡ scratch.old }
     ensures written { (set : RecordSet) (rdata : List ℕ) → scratch.old ≡ Some set
         → slice_get (data_of set.body) i ≡ Some rdata
         → Writes Answer (records owner.now rtype ttl
         (new_data (sets_of_places zones.now.zones group earlier.now) (rdata ∷ [])))
         reply.old reply.new }
-    ensures cut { IsTrue result → reply.new.is_cut ≡ true }
+    ensures truncated { IsTrue result → reply.new.is_truncated ≡ true }
 {
     if rdata_at(scratch, rtype, i).len() <= FEW_OCTETS {
         let mut octets = [0; FEW_OCTETS];
@@ -350,14 +350,14 @@ fn write_copied(
     requires rtype { (set : RecordSet) → scratch.old ≡ Some set → set.rtype ≡ rtype }
     requires room { (set : RecordSet) (rdata : List ℕ) → scratch.old ≡ Some set
         → slice_get (data_of set.body) i ≡ Some rdata → length rdata ≤ length octets.old }
-    requires open { IsOpen Answer reply.old }
+    requires open { TakesRecords Answer reply.old }
     ensures held { scratch.new ≡ scratch.old }
     ensures written { (set : RecordSet) (rdata : List ℕ) → scratch.old ≡ Some set
         → slice_get (data_of set.body) i ≡ Some rdata
         → Writes Answer (records owner.now rtype ttl
         (new_data (sets_of_places zones.now.zones group earlier.now) (rdata ∷ [])))
         reply.old reply.new }
-    ensures cut { IsTrue result → reply.new.is_cut ≡ true }
+    ensures truncated { IsTrue result → reply.new.is_truncated ≡ true }
 {
     records_add_up();
     let length = copy_rdata(scratch, rtype, i, octets);

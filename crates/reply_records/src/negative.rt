@@ -8,7 +8,7 @@ ghost use Rattle.rdata_layout.specs.Layout.{IsLayout};
 ghost use Rattle.rdata_layout.specs.declared.types.RType.TheVariants as rtype;
 ghost use Rattle.record_set.specs.declared.sets.RecordSet.{RecordSet};
 ghost use Rattle.policy_select.specs.Holding.{IsHolding};
-ghost use Rattle.reply_records.specs.Writing.{IsOpen, Writes};
+ghost use Rattle.reply_records.specs.Writing.{TakesRecords, Writes};
 
 use crate::held::{count_of, rdata_at, ttl_of, write_one};
 use dns_name::Name;
@@ -19,7 +19,7 @@ use rdata_layout::{RType, types_have_their_own_number};
 
 /// Writes the SOA of a zone into the authority section, with the lesser of its TTL and MINIMUM.
 pub fn write_soa(zones: &Zones, zone: u32, apex: &Name, reply: &mut Reply, scratch: &mut Scratch)
-    requires { IsOpen Authority reply.old }
+    requires { TakesRecords Authority reply.old }
     ensures { Writes Authority (soa_records (record {
       id = zone;
       apex = apex.now;
@@ -39,7 +39,7 @@ pub fn write_soa(zones: &Zones, zone: u32, apex: &Name, reply: &mut Reply, scrat
 fn write_held_soa(apex: &Name, reply: &mut Reply, scratch: &Scratch)
     requires held { IsHolding scratch.now }
     requires soa { (set : RecordSet) → scratch.now ≡ Some set → set.rtype ≡ rtype.Soa }
-    requires open { IsOpen Authority reply.old }
+    requires open { TakesRecords Authority reply.old }
     ensures { (set : RecordSet) → scratch.now ≡ Some set
         → Writes Authority (map (soa_record apex.now (ttl_of set.body)) (data_of set.body))
         reply.old reply.new }

@@ -51,7 +51,7 @@ fn sets(rt: &impl Abort, alloc: Global, rows: &[Set]) -> Sets {
 /// Zone 1, the root, with simple sets.
 pub fn root(rt: &impl Abort, alloc: Global, rows: &[Set]) -> Zones {
     let mut zones = Zones::new(alloc);
-    let edit = ZoneEdit::Open {
+    let edit = ZoneEdit::Begin {
         zone: 1,
         name: Name::root(),
         sets: sets(rt, alloc, rows),

@@ -1,7 +1,7 @@
 //! A datagram, read field by field.
 
 ghost use Rattle.std.specs.Prelude.{◌≡◌, ◌<◌, IfSome, Some};
-ghost use Rattle.report_lines.specs.Reports.{checker_of, cut, id_of, pass_of, report_of, told};
+ghost use Rattle.report_lines.specs.Reports.{checker_of_text, split, id_of_text, pass_of_text, report_of, all_there};
 ghost use Rattle.report_lines.specs.Reports.{with_checker, with_id, with_word, without_feed, if_some};
 ghost use Rattle.prefix_text.specs.Prefixes.{plain_number};
 
@@ -40,7 +40,7 @@ fn without_feed(datagram: &[u8]) -> &[u8]
 
 /// The report from its word on.
 fn with_word(text: &[u8]) -> Option<Observation>
-    ensures same { result ≡ with_word (cut text.now) }
+    ensures same { result ≡ with_word (split text.now) }
     ensures checker { IfSome result (λ seen. seen.checker < 50) }
 {
     let Some(at) = place_of(b' ', text) else {
@@ -54,7 +54,7 @@ fn with_word(text: &[u8]) -> Option<Observation>
 
 /// The report from its id on.
 fn with_id(text: &[u8]) -> Option<Observation>
-    ensures same { result ≡ with_id (cut text.now) }
+    ensures same { result ≡ with_id (split text.now) }
     ensures checker { IfSome result (λ seen. seen.checker < 50) }
 {
     let Some(at) = place_of(b' ', text) else {
@@ -65,22 +65,22 @@ fn with_id(text: &[u8]) -> Option<Observation>
 
 /// The report of an id, from its checker on.
 fn with_checker(id: &[u8], text: &[u8]) -> Option<Observation>
-    ensures same { result ≡ with_checker id.now (cut text.now) }
+    ensures same { result ≡ with_checker id.now (split text.now) }
     ensures checker { IfSome result (λ seen. seen.checker < 50) }
 {
     let Some(at) = place_of(b' ', text) else {
         return None;
     };
     told(
-        id_of(id),
-        checker_of(front(text, at)),
-        pass_of(behind(text, at + 1)),
+        id_of_text(id),
+        checker_of_text(front(text, at)),
+        pass_of_text(behind(text, at + 1)),
     )
 }
 
 /// What is told, where each part of it is.
 fn told(id: Option<u32>, checker: Option<u8>, pass: Option<bool>) -> Option<Observation>
-    ensures same { result ≡ told id checker pass }
+    ensures same { result ≡ all_there id checker pass }
     ensures checker { IfSome result (λ seen. Some seen.checker ≡ checker) }
 {
     match (id, checker, pass) {
@@ -90,8 +90,8 @@ fn told(id: Option<u32>, checker: Option<u8>, pass: Option<bool>) -> Option<Obse
 }
 
 /// The number in an id.
-fn id_of(text: &[u8]) -> Option<u32>
-    ensures { result ≡ id_of text.now }
+fn id_of_text(text: &[u8]) -> Option<u32>
+    ensures { result ≡ id_of_text text.now }
 {
     match text {
         [b'h', digits @ ..] => some_number(digits),
@@ -110,8 +110,8 @@ fn some_number(digits: &[u8]) -> Option<u32>
 }
 
 /// One of fifty checkers.
-fn checker_of(digits: &[u8]) -> Option<u8>
-    ensures same { result ≡ checker_of digits.now }
+fn checker_of_text(digits: &[u8]) -> Option<u8>
+    ensures same { result ≡ checker_of_text digits.now }
     ensures within { IfSome result (λ checker. checker < 50) }
 {
     match read_number(digits, LAST_CHECKER) {
@@ -121,8 +121,8 @@ fn checker_of(digits: &[u8]) -> Option<u8>
 }
 
 /// `1` or `0`.
-fn pass_of(text: &[u8]) -> Option<bool>
-    ensures { result ≡ pass_of text.now }
+fn pass_of_text(text: &[u8]) -> Option<bool>
+    ensures { result ≡ pass_of_text text.now }
 {
     match text {
         [b'1'] => Some(true),

@@ -44,7 +44,7 @@ IsSubdivision text = IsText is_subdivision_byte 3 text
 abbrev pub IsLocationName : List ℕ → Type 0
 IsLocationName text = IsText is_location_byte 16 text
 
--- what a set names: a location, or `*` for all clients that no other set is for
+-- what a set names: a location, or `*`, which applies to each client, behind the set of its location
 abbrev pub IsLocation : List ℕ → Type 0
 IsLocation text = IsLocationName text ⊎ (text ≡ 0x2A ∷ [])
 

@@ -31,11 +31,11 @@ pub enum Place {
     Country([u8; 2]),
     /// A subdivision of a country.
     Subdivision([u8; 2], Sub),
-    /// Wherever no other set applies.
+    /// Each client, behind every smaller place.
     Anywhere,
 }
 
-/// The part of a failover set.
+/// The role of a failover set.
 #[derive(Clone, Copy, Debug, PartialEq, Eq)]
 pub enum Role {
     Primary,
@@ -64,8 +64,8 @@ impl Place {
         match (self, other) {
             (Place::Continent(x), Place::Continent(y)) => x == y,
             (Place::Country(x), Place::Country(y)) => x == y,
-            (Place::Subdivision(x, part), Place::Subdivision(y, other_part)) => {
-                x == y && part.is_same(other_part)
+            (Place::Subdivision(x, subdivision), Place::Subdivision(y, other_subdivision)) => {
+                x == y && subdivision.is_same(other_subdivision)
             }
             (Place::Anywhere, Place::Anywhere) => true,
             _ => false,

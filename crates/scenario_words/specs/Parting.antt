@@ -12,10 +12,10 @@ abbrev pub rest_of : (place : Option ℕ) → List ℕ → List ℕ
 rest_of None text = []
 rest_of (Some at) text = drop (at + 1) text
 
--- what stands before the first mark
-abbrev pub before : (mark : ℕ) → List ℕ → List ℕ
-before mark text = front_of (place_of mark text) text
+-- what stands before the first separator
+abbrev pub before : (separator : ℕ) → List ℕ → List ℕ
+before separator text = front_of (place_of separator text) text
 
--- what stands behind the first mark
-abbrev pub behind : (mark : ℕ) → List ℕ → List ℕ
-behind mark text = rest_of (place_of mark text) text
+-- what stands behind the first separator
+abbrev pub behind : (separator : ℕ) → List ℕ → List ℕ
+behind separator text = rest_of (place_of separator text) text

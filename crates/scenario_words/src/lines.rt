@@ -14,12 +14,12 @@ use octets::{OutOfMemory, append, behind, front};
 use prefix_text::{place_of, read_number};
 use std::alloc::Global;
 
-/// What stands before the first mark of this kind, and what stands behind it.
-pub fn parted(text: &[u8], mark: u8) -> (&[u8], &[u8])
-    ensures before { result.0.now ≡ before mark text.now }
-    ensures behind { result.1.now ≡ behind mark text.now }
+/// What stands before the first separator of this kind, and what stands behind it.
+pub fn parted(text: &[u8], separator: u8) -> (&[u8], &[u8])
+    ensures before { result.0.now ≡ before separator text.now }
+    ensures behind { result.1.now ≡ behind separator text.now }
 {
-    match place_of(mark, text) {
+    match place_of(separator, text) {
         Some(at) => (front(text, at), behind(text, at + 1)),
         None => (text, &[]),
     }
@@ -101,25 +101,25 @@ fn put_marked(part: &[u8], number: u32, i: u32, into: &mut Vec<u8>) -> Result<()
     for _ in 0..part.len() {
         let (before, behind) = parted(rest, b'%');
         append(before, into)?;
-        let [mark, after @ ..] = behind else {
+        let [separator, after @ ..] = behind else {
             return Ok(());
         };
-        put_mark(*mark, number, i, into)?;
+        put_mark(*separator, number, i, into)?;
         rest = after;
     }
     Ok(())
 }
 
-/// Appends what a mark stands for.
-fn put_mark(mark: u8, number: u32, i: u32, into: &mut Vec<u8>) -> Result<(), OutOfMemory> {
-    match mark {
+/// Appends what a separator stands for.
+fn put_mark(separator: u8, number: u32, i: u32, into: &mut Vec<u8>) -> Result<(), OutOfMemory> {
+    match separator {
         b'n' => put_number(u64::from(number), into),
         b'i' => put_number(u64::from(i), into),
         b'h' => put_number(u64::from(i / 256), into),
         b'l' => put_number(u64::from(i % 256), into),
         b't' => append(b"\t", into),
         b'r' => append(b"\r", into),
-        _ => append(&[b'%', mark], into),
+        _ => append(&[b'%', separator], into),
     }
 }
 

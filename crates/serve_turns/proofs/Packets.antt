@@ -5,14 +5,14 @@ use Rattle.geo_latency.specs.declared.tables.Tables.{Tables}
 use Rattle.r53_io.specs.Network.{Dns, Incoming}
 use Rattle.r53_io.specs.declared.network.Peer.{Peer}
 use Rattle.session_model.specs.TurnsRecord.{Turns}
-use Rattle.serve_turns.specs.Turning.{PacketLeaves, Standing, Stands, TurnLeaves}
+use Rattle.serve_turns.specs.Turning.{PacketLeaves, Standing, IsAsDefined, TurnLeaves}
 use Rattle.serve_turns.specs.declared.turning.Turn.{Turn}
 use Rattle.serve_turns.specs.declared.turning.Turn.TheVariants as turn
-use Rattle.session_model.specs.Serving.{Datagram, Served, after_packet, answered_too, behind_words}
+use Rattle.session_model.specs.Serving.{Datagram, TurnsOutcome, after_packet, answered_too, behind_words}
 use Rattle.session_model.specs.Serving.{silent_too, words_of}
 
-module _ (tables : Tables) (before : List Datagram) (peer : Peer) (packet : List ℕ) (old : Served)
-    (arrivals : List Incoming) (now : Standing) (stands : Stands before old arrivals now)
+module _ (tables : Tables) (before : List Datagram) (peer : Peer) (packet : List ℕ) (old : TurnsOutcome)
+    (arrivals : List Incoming) (now : Standing) (stands : IsAsDefined before old arrivals now)
     (P : Engine → Type 0) (drawn : List ℕ) (are : drawn ≡ words_of 8 now.words)
     (here : P old.engine) (then : Standing) (words : then.words ≡ behind_words 8 now.words)
     (coming : then.coming ≡ now.coming) where
@@ -58,7 +58,7 @@ module _ (tables : Tables) (before : List Datagram) (peer : Peer) (packet : List
 
 -- the turn, from what the packet came to
 pub turned : (answer : Turn) (tables : Tables) (before : List Datagram) (peer : Peer)
-    (packet octets : List ℕ) → packet ≡ octets → (old : Served) (arrivals more : List Incoming)
+    (packet octets : List ℕ) → packet ≡ octets → (old : TurnsOutcome) (arrivals more : List Incoming)
     → arrivals ≡ Dns peer octets ∷ more → (P : Engine → Type 0) (now : Standing)
     → PacketLeaves answer tables before peer packet old more P now
     → TurnLeaves answer tables before old arrivals P now

@@ -9,9 +9,9 @@ use Rattle.r53_core.specs.Stores.{StandsFor, State as Store}
 use Rattle.r53_io.specs.Network.{Incoming, Report}
 use Rattle.report_lines.specs.Reports.{report_of}
 use Rattle.session_model.specs.TurnsRecord.{Turns}
-use Rattle.serve_turns.specs.Turning.{IsTaken, Standing, Stands, TurnLeaves}
+use Rattle.serve_turns.specs.Turning.{IsReported, Standing, IsAsDefined, TurnLeaves}
 use Rattle.serve_turns.specs.declared.turning.Turn.TheVariants as turn
-use Rattle.session_model.specs.Serving.{Datagram, IsKnown, Served, TakesTurn, after_report}
+use Rattle.session_model.specs.Serving.{Datagram, IsKnown, TurnsOutcome, TakesTurn, after_report}
 use Rattle.session_model.specs.Serving.{reported_too, unknown_too}
 
 some_same : {X : Type 0} {x y : X} → Some x ≡ Some y → x ≡ y
@@ -20,7 +20,7 @@ some_same e = cc
 module _ (engine after : Engine) (octets : List ℕ) (seen : Observation) (store : Store)
     (is : report_of octets ≡ Some seen) (stands : StandsFor after store) where
   pub taken : ReportSteps engine seen.id seen.checker seen.pass reported.Taken after
-      → IsTaken true engine octets (λ e. StandsFor e store)
+      → IsReported true engine octets (λ e. StandsFor e store)
   taken (endpoint, within, same) = (
     seen,
     (is, endpoint),
@@ -28,7 +28,7 @@ module _ (engine after : Engine) (octets : List ℕ) (seen : Observation) (store
   )
 
   pub no_check : ReportSteps engine seen.id seen.checker seen.pass reported.NoSuchHealthCheck after
-      → IsTaken false engine octets (λ e. StandsFor e store)
+      → IsReported false engine octets (λ e. StandsFor e store)
   no_check (none, same) = (
     λ other known. none (subst (λ (s : Observation). IsEndpoint engine.config s.id)
         (some_same (sym known.0 ∙ is)) known.1),
@@ -36,20 +36,20 @@ module _ (engine after : Engine) (octets : List ℕ) (seen : Observation) (store
   )
 
   pub no_checker : ReportSteps engine seen.id seen.checker seen.pass reported.BadChecker after
-      → seen.checker < 50 → IsTaken false engine octets (λ e. StandsFor e store)
+      → seen.checker < 50 → IsReported false engine octets (λ e. StandsFor e store)
   no_checker (endpoint, many, same) few = absurd (omega (arith, many, few))
 
 -- ---- its turn
 
-module _ (tables : Tables) (before : List Datagram) (old : Served) (arrivals more : List Incoming)
+module _ (tables : Tables) (before : List Datagram) (old : TurnsOutcome) (arrivals more : List Incoming)
     (octets datagram : List ℕ) (is : datagram ≡ octets) (next : arrivals ≡ Report octets ∷ more)
     (P : Engine → Type 0) (at : Standing) where
-  leaves : (new : Served) → TakesTurn tables (Report octets) old new → P new.engine
-      → Stands before new more at → TurnLeaves turn.Taken tables before old arrivals P at
+  leaves : (new : TurnsOutcome) → TakesTurn tables (Report octets) old new → P new.engine
+      → IsAsDefined before new more at → TurnLeaves turn.Taken tables before old arrivals P at
   leaves new turned here stands = (Report octets, more, new, next, turned, here, stands)
 
-  pub turned : (counted : Bool) → IsTaken counted old.engine datagram P
-      → Stands before old more
+  pub turned : (counted : Bool) → IsReported counted old.engine datagram P
+      → IsAsDefined before old more
       (record at { turns = old.turns })
       → at.turns ≡ (if counted then reported_too old.turns else unknown_too old.turns)
       → TurnLeaves turn.Taken tables before old arrivals P at

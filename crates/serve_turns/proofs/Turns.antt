@@ -6,33 +6,33 @@ use Rattle.r53_core.specs.Stores.{StandsFor, State as Store}
 use Rattle.r53_io.specs.Network.{Incoming}
 use Rattle.rand_core.specs.Stream.{Stream}
 use Rattle.session_model.specs.TurnsRecord.{Turns}
-use Rattle.serve_turns.specs.Turning.{AreWithin, Counts, Standing, Stands, TurnLeaves, TurnsLeave}
+use Rattle.serve_turns.specs.Turning.{AreWithin, Counts, Standing, IsAsDefined, TurnLeaves, TurnsLeave}
 use Rattle.serve_turns.specs.Turning.{first, with_turns}
-use Rattle.serve_turns.specs.declared.serving.Served.{Served as Answer}
-use Rattle.serve_turns.specs.declared.serving.Served.TheVariants as answer
+use Rattle.serve_turns.specs.declared.serving.TurnsTaken.{TurnsTaken as Answer}
+use Rattle.serve_turns.specs.declared.serving.TurnsTaken.TheVariants as answer
 use Rattle.serve_turns.specs.declared.turning.Turn.{Turn}
 use Rattle.serve_turns.specs.declared.turning.Turn.TheVariants as turn
-use Rattle.session_model.specs.Serving.{Datagram, Served, TakesTurn, TakesTurns, none}
+use Rattle.session_model.specs.Serving.{Datagram, TurnsOutcome, TakesTurn, TakesTurns, none}
 
 module _ (tables : Tables) where
   -- one turn more
-  pub one_more : (n : ℕ) (arrivals : List Incoming) (old : Served) (came : Incoming)
-      (more : List Incoming) (mid new : Served)
+  pub one_more : (n : ℕ) (arrivals : List Incoming) (old : TurnsOutcome) (came : Incoming)
+      (more : List Incoming) (mid new : TurnsOutcome)
       → TakesTurns tables n arrivals old (came ∷ more) mid → TakesTurn tables came mid new
       → TakesTurns tables (suc n) arrivals old more new
   one_more zero arrivals old came more mid new (same, here) turn =
       subst (λ (l : List Incoming). TakesTurns tables 1 l old more new) same
-      (new, subst (λ (s : Served). TakesTurn tables came s new) here turn, (refl, refl))
+      (new, subst (λ (s : TurnsOutcome). TakesTurn tables came s new) here turn, (refl, refl))
   one_more (suc n) [] old came more mid new (never, here) turn = absurd (Prim.cc)
   one_more (suc n) (next ∷ arrivals) old came more mid new (then, one, others) turn =
       (then, one, one_more n arrivals then came more mid new others turn)
 
   -- where nothing is to come, more turns are none more
-  none_more : (k : ℕ) (old new : Served) → new ≡ old → TakesTurns tables k [] old [] new
+  none_more : (k : ℕ) (old new : TurnsOutcome) → new ≡ old → TakesTurns tables k [] old [] new
   none_more zero old new same = (refl, same)
   none_more (suc k) old new same = (refl, same)
 
-  pub closed : (n k : ℕ) (arrivals : List Incoming) (old new : Served)
+  pub closed : (n k : ℕ) (arrivals : List Incoming) (old new : TurnsOutcome)
       → TakesTurns tables n arrivals old [] new → TakesTurns tables (n + k) arrivals old [] new
   closed zero k arrivals old new (nothing, same) =
       let n : 0 + k ≡ k = omega arith in
@@ -51,10 +51,10 @@ module _ (tables : Tables) (start : Store) (words : Stream) (coming : Option (Li
   pub record Told (engine : Engine) (arrivals : List Incoming) (before : List Datagram)
       (store : Store) (now : Standing) : Type 0 where
     pub left : List Incoming
-    pub served : Served
+    pub served : TurnsOutcome
     pub taken : TakesTurns tables now.turns.turns arrivals (first engine words) left served
     pub stands_for : StandsFor served.engine store
-    pub stands : Stands before served left now
+    pub stands : IsAsDefined before served left now
 
   abbrev pub SoFar : Store → Standing → Type 0
   SoFar store now = (engine : Engine) (arrivals : List Incoming) (before : List Datagram)
@@ -63,8 +63,8 @@ module _ (tables : Tables) (start : Store) (words : Stream) (coming : Option (Li
 
   -- what comes of a turn
   abbrev pub Turned : (store next : Store) (now then : Standing) → Turn → Type 0
-  Turned store next now then came = (before : List Datagram) (old : Served)
-      (arrivals : List Incoming) → StandsFor old.engine store → Stands before old arrivals now
+  Turned store next now then came = (before : List Datagram) (old : TurnsOutcome)
+      (arrivals : List Incoming) → StandsFor old.engine store → IsAsDefined before old arrivals now
       → TurnLeaves came tables before old arrivals (λ engine. StandsFor engine next) then
 
   number : (m n : ℕ) → n ≡ m + 1 → suc m ≡ n

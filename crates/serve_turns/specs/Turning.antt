@@ -9,11 +9,11 @@ use Rattle.r53_io.specs.Network.{Dns, Incoming}
 use Rattle.r53_io.specs.declared.network.Peer.{Peer}
 use Rattle.rand_core.specs.Stream.{Stream}
 use Rattle.session_model.specs.TurnsRecord.{Turns}
-use Rattle.serve_turns.specs.declared.serving.Served.{Served as Answer}
-use Rattle.serve_turns.specs.declared.serving.Served.TheVariants as answer
+use Rattle.serve_turns.specs.declared.serving.TurnsTaken.{TurnsTaken as Answer}
+use Rattle.serve_turns.specs.declared.serving.TurnsTaken.TheVariants as answer
 use Rattle.serve_turns.specs.declared.turning.Turn.{Turn}
 use Rattle.serve_turns.specs.declared.turning.Turn.TheVariants as turn
-use Rattle.session_model.specs.Serving.{Datagram, IsKnown, Served, TakesTurn, TakesTurns, none}
+use Rattle.session_model.specs.Serving.{Datagram, IsKnown, TurnsOutcome, TakesTurn, TakesTurns, none}
 
 -- What stands where turns are taken: the random words to be drawn, the counts, what is to come and
 -- what was sent.
@@ -24,7 +24,7 @@ pub record Standing : Type 0 where
   pub sent : Option (List Datagram)
 
 -- It is this that the definitions have, with these arrivals to come, where so much was sent before.
-pub record Stands (before : List Datagram) (served : Served) (arrivals : List Incoming)
+pub record IsAsDefined (before : List Datagram) (served : TurnsOutcome) (arrivals : List Incoming)
     (now : Standing) : Type 0 where
   pub words : served.words ≡ now.words
   pub turns : served.turns ≡ now.turns
@@ -61,10 +61,10 @@ with_report seen engine = record engine {
 }
 
 -- A datagram is a report that counts, and P of the store with it; or it is none.
-abbrev pub IsTaken : Bool → (engine : Engine) → (octets : List ℕ) → (P : Engine → Type 0) → Type 0
-IsTaken true engine octets P =
+abbrev pub IsReported : Bool → (engine : Engine) → (octets : List ℕ) → (P : Engine → Type 0) → Type 0
+IsReported true engine octets P =
     (seen : Observation) × IsKnown engine octets seen × P (with_report seen engine)
-IsTaken false engine octets P = ((seen : Observation) → IsKnown engine octets seen → ⊥) × P engine
+IsReported false engine octets P = ((seen : Observation) → IsKnown engine octets seen → ⊥) × P engine
 
 -- ---- where the network failed
 
@@ -79,32 +79,32 @@ IsInHand left coming =
 
 -- The turn of a packet. Where the network failed its reply wasn't sent.
 abbrev pub PacketLeaves : Turn → Tables → (before : List Datagram) → (peer : Peer)
-    → (packet : List ℕ) → (old : Served) → (arrivals : List Incoming) → (P : Engine → Type 0)
+    → (packet : List ℕ) → (old : TurnsOutcome) → (arrivals : List Incoming) → (P : Engine → Type 0)
     → (now : Standing) → Type 0
 PacketLeaves turn.Taken tables before peer packet old arrivals P now =
-    (new : Served) × TakesTurn tables (Dns peer packet) old new × P new.engine
-    × Stands before new arrivals now
+    (new : TurnsOutcome) × TakesTurn tables (Dns peer packet) old new × P new.engine
+    × IsAsDefined before new arrivals now
 PacketLeaves turn.Closed tables before peer packet old arrivals P now = ⊥
 PacketLeaves turn.Failed tables before peer packet old arrivals P now =
     P old.engine × (now.sent ≡ Some (before ++ old.sent)) × (now.coming ≡ Some arrivals)
 
 -- One turn, where P tells what the store stands for after it. Where the network failed nothing was
 -- taken, or a packet was taken and its reply not sent.
-abbrev pub TurnLeaves : Turn → Tables → (before : List Datagram) → (old : Served)
+abbrev pub TurnLeaves : Turn → Tables → (before : List Datagram) → (old : TurnsOutcome)
     → (arrivals : List Incoming) → (P : Engine → Type 0) → (now : Standing) → Type 0
 TurnLeaves turn.Taken tables before old arrivals P now =
-    (came : Incoming) × (more : List Incoming) × (new : Served)
+    (came : Incoming) × (more : List Incoming) × (new : TurnsOutcome)
     × (arrivals ≡ came ∷ more) × TakesTurn tables came old new × P new.engine
-    × Stands before new more now
+    × IsAsDefined before new more now
 TurnLeaves turn.Closed tables before old arrivals P now =
-    (arrivals ≡ []) × P old.engine × Stands before old [] now
+    (arrivals ≡ []) × P old.engine × IsAsDefined before old [] now
 TurnLeaves turn.Failed tables before old arrivals P now =
     P old.engine × (now.sent ≡ Some (before ++ old.sent)) × IsInHand arrivals now.coming
 
 -- ---- turns
 
 -- where turns begin
-abbrev pub first : Engine → Stream → Served
+abbrev pub first : Engine → Stream → TurnsOutcome
 first engine words = record { engine = engine; words = words; turns = none; sent = [] }
 
 abbrev pub with_turns : Turns → Standing → Standing
@@ -112,12 +112,12 @@ with_turns turns now = record now { turns = turns }
 
 -- So many turns. Where the network failed, the datagrams that were sent are those of the turns that
 -- ended, and what is left of what was to come is told.
-abbrev pub TurnsLeave : Answer → Tables → (before : List Datagram) → (n : ℕ) → (old : Served)
+abbrev pub TurnsLeave : Answer → Tables → (before : List Datagram) → (n : ℕ) → (old : TurnsOutcome)
     → (arrivals : List Incoming) → (P : Engine → Type 0) → (now : Standing) → Type 0
 TurnsLeave (answer.Took turns) tables before n old arrivals P now =
-    (left : List Incoming) × (new : Served) × TakesTurns tables n arrivals old left new
-    × P new.engine × Stands before new left (with_turns turns now)
+    (left : List Incoming) × (new : TurnsOutcome) × TakesTurns tables n arrivals old left new
+    × P new.engine × IsAsDefined before new left (with_turns turns now)
 TurnsLeave answer.Failed tables before n old arrivals P now =
-    (k : ℕ) × (left : List Incoming) × (new : Served) × (k < n)
+    (k : ℕ) × (left : List Incoming) × (new : TurnsOutcome) × (k < n)
     × TakesTurns tables k arrivals old left new × P new.engine
     × (now.sent ≡ Some (before ++ new.sent)) × IsInHand left now.coming

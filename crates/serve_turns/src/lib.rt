@@ -12,5 +12,5 @@ mod serving;
 mod turning;
 
 pub use r53_core::{Reported, Steps, Store, standing_opens};
-pub use serving::{Served, serve};
+pub use serving::{TurnsTaken, serve};
 pub use session_model::Compacted;

@@ -3,7 +3,7 @@
 ghost use Rattle.std.specs.Prelude.{◌≡◌, ◌<◌};
 ghost use Rattle.session_model.specs.Engine.{Engine, ReportSteps};
 ghost use Rattle.r53_core.specs.Stores.{StandsFor};
-ghost use Rattle.serve_turns.specs.Turning.{GoesOn, IsTaken};
+ghost use Rattle.serve_turns.specs.Turning.{GoesOn, IsReported};
 
 use r53_core::{Reported, Steps, Store};
 use report_lines::{Observation, read_report};
@@ -13,7 +13,7 @@ use std::sync::ledger::{Blank, Ledger};
 /// Takes a datagram of the report port, and tells whether it is a report that counts.
 pub(crate) fn observe(store: &mut Store, datagram: &[u8]) -> bool
     ensures taken { (engine : Engine) → StandsFor engine store.old
-        → IsTaken result engine datagram.now (λ after. StandsFor after store.new) }
+        → IsReported result engine datagram.now (λ after. StandsFor after store.new) }
     ensures reports { GoesOn store.old store.new }
     ensures kept { store.new.kept ≡ store.old.kept }
 {

@@ -19,7 +19,7 @@ use session_model::Turns;
 
 /// What came of turns.
 #[derive(Clone, Copy, Debug, PartialEq, Eq)]
-pub enum Served {
+pub enum TurnsTaken {
     /// So many turns were taken: as many as were asked for, or fewer where the network was closed.
     Took(Turns),
     /// The network failed.
@@ -37,7 +37,7 @@ pub fn serve<L: Link, R: Rng>(
     n: u32,
     packet: &mut [u8],
     reply: &mut Reply,
-) -> Served
+) -> TurnsTaken
     requires packet { 65535 ≤ length packet.old }
     requires room { 4096 ≤ reply.old.room }
 
@@ -67,15 +67,15 @@ pub fn serve<L: Link, R: Rng>(
 
     // It fails only where the network's count rose.
     ensures counts { L.faults link.old ≤ L.faults link.new }
-    ensures failed { result ≡ Served.Failed → Rose (L.faults link.old) (L.faults link.new) }
+    ensures failed { result ≡ TurnsTaken.Failed → Rose (L.faults link.old) (L.faults link.new) }
 {
     let mut turns = no_turns();
     while turns.turns < n {
         match take_turn(store, tables, link, words, packet, reply, &mut turns) {
             Turn::Taken => {}
-            Turn::Closed => return Served::Took(turns),
-            Turn::Failed => return Served::Failed,
+            Turn::Closed => return TurnsTaken::Took(turns),
+            Turn::Failed => return TurnsTaken::Failed,
         }
     }
-    Served::Took(turns)
+    TurnsTaken::Took(turns)
 }

@@ -4,8 +4,8 @@ ghost use Rattle.std.specs.Prelude.{◌≡◌, ◌≢◌, ◌≤◌, List, lengt
 ghost use Rattle.octets.specs.Counts.{Rose};
 ghost use Rattle.r53_core.specs.Stores.{StandsFor};
 ghost use Rattle.r53_io.specs.Network.{Incoming};
-ghost use Rattle.serve_turns.specs.Turning.{AreWithin, Counts, GoesOn, PacketLeaves, Stands, TurnLeaves};
-ghost use Rattle.session_model.specs.Serving.{Datagram, Served};
+ghost use Rattle.serve_turns.specs.Turning.{AreWithin, Counts, GoesOn, PacketLeaves, IsAsDefined, TurnLeaves};
+ghost use Rattle.session_model.specs.Serving.{Datagram, TurnsOutcome};
 
 use crate::counting::{count_packet, count_quiet, count_report};
 use crate::drawing::draw;
@@ -42,9 +42,9 @@ pub(crate) fn take_turn<L: Link, R: Rng>(
     requires packet { 65535 ≤ length packet.old }
     requires room { 4096 ≤ reply.old.room }
     requires few { AreWithin 4294967294 turns.old }
-    ensures leaves { (before : List Datagram) (old : Served) (arrivals : List Incoming)
+    ensures leaves { (before : List Datagram) (old : TurnsOutcome) (arrivals : List Incoming)
         → StandsFor old.engine store.old
-        → Stands before old arrivals (record {
+        → IsAsDefined before old arrivals (record {
           words = R.stream words.old;
           turns = turns.old;
           coming = L.coming link.old;
@@ -106,9 +106,9 @@ fn answer<L: Link, R: Rng>(
 ) -> Turn
     requires room { 4096 ≤ reply.old.room }
     requires few { AreWithin 4294967294 turns.old }
-    ensures leaves { (before : List Datagram) (old : Served) (arrivals : List Incoming)
+    ensures leaves { (before : List Datagram) (old : TurnsOutcome) (arrivals : List Incoming)
         → StandsFor old.engine store.old
-        → Stands before old arrivals (record {
+        → IsAsDefined before old arrivals (record {
           words = R.stream words.old;
           turns = turns.old;
           coming = L.coming link.old;

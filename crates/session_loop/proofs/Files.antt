@@ -8,14 +8,14 @@ use Rattle.session_server.specs.Journaled.{State as Kept, config_of}
 use Rattle.session_server.specs.LawsOfStoreModel.{StandingOpens}
 use Rattle.store_model.specs.Laws.{StandingShapes}
 use Rattle.store_model.specs.Opening.{IsShape}
-use Rattle.zone_journal.specs.Pairs.{Leaves}
+use Rattle.zone_journal.specs.Pairs.{BothRead}
 use Rattle.zone_journal.specs.Standing.{StandsOn}
 use Rattle.zone_journal.specs.declared.answers.Side.{Side}
 
 -- where a journal stands on files that hold a configuration
 files_open : {D : Type 0} (reading : D → Option (List ℕ)) (images : D → List ℕ → Type 0)
     → StandingOpens reading images → (kept : Kept) (a b : D)
-    → StandsOn reading images kept.journal a b → Leaves reading a b (Holds kept)
+    → StandsOn reading images kept.journal a b → BothRead reading a b (Holds kept)
     → (config : Config) → config ≡ config_of kept → FilesOpen images a b config
 files_open reading images law kept a b stands leaves config is =
     subst (λ (c : Config). FilesOpen images a b c) (sym is)
@@ -31,7 +31,7 @@ files_open reading images law kept a b stands leaves config is =
 -- and what its journal is told to be
 pub are_files : {D : Type 0} (reading : D → Option (List ℕ)) (images : D → List ℕ → Type 0)
     → StandingOpens reading images → StandingShapes reading images → (kept : Kept) (a b : D)
-    → StandsOn reading images kept.journal a b → Leaves reading a b (Holds kept)
+    → StandsOn reading images kept.journal a b → BothRead reading a b (Holds kept)
     → (engine : Engine) → engine.config ≡ config_of kept
     → engine.journal.side ≡ kept.journal.side → engine.journal.generation ≡ kept.journal.generation
     → engine.journal.length ≡ kept.journal.at + 1 → AreFilesOf images a b engine

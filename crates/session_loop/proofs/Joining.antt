@@ -1,16 +1,16 @@
 -- A session over some lines, and one over the lines behind them, are one over all.
 use Rattle.std.proofs.Common.{◌≡◌, ◌∙◌, ℕ, List, [], ◌∷◌, ◌++◌, Bool, true, false, Option, Some, ap, append_assoc, refl, subst, sym}
 use Rattle.line_splitting.specs.Lines.{Event, Line, TooLong}
-use Rattle.line_splitting.specs.Reading.{Reader, events, is_cut, whole}
+use Rattle.line_splitting.specs.Reading.{Reader, events, is_over_limit, whole}
 use Rattle.r53_io.specs.Network.{Incoming}
 use Rattle.rand_core.specs.Stream.{Stream}
-use Rattle.session_loop.specs.Ending.{AllTold, Ends, First, IsAll, IsCut, IsBroken, AreReplied, IsTorn, IsUnsent}
+use Rattle.session_loop.specs.Ending.{AllTold, Ends, First, IsAll, IsPartWritten, IsBroken, AreReplied, IsHalted, IsUnsent}
 use Rattle.session_loop.specs.Turning.{GoesOn, beyond, input_of}
 use Rattle.session_loop.specs.declared.ended.Ended.{Ended}
 use Rattle.session_loop.specs.declared.ended.Ended.TheVariants as ended
 use Rattle.session_server.specs.Replies.{too_long_text}
 use Rattle.session_server.specs.Serving.{Datagram}
-use Rattle.session_server.specs.Sessions.{Comes, Session, begun, joined, told_alone}
+use Rattle.session_server.specs.Sessions.{ComesTo, Session, begun, joined, told_alone}
 use Rattle.session_server.specs.Steps.{State, Step, Surroundings}
 use Rattle.session_server.specs.Standing.{Server}
 use Rattle.session_server.specs.Taking.{PartOfOctets}
@@ -40,16 +40,16 @@ regroup step s t =
 
 module _ (around : Surroundings) where
   pub comes_join : (done more : List Event) (choices others : List Bool) (start : State)
-      (s t : Session) → Comes around done choices start s → Comes around more others s.new t
-      → Comes around (done ++ more) (choices ++ others) start (followed s t)
+      (s t : Session) → ComesTo around done choices start s → ComesTo around more others s.new t
+      → ComesTo around (done ++ more) (choices ++ others) start (followed s t)
   comes_join [] more [] others start s t is comes =
-      subst (λ (u : Session). Comes around more others u.new t
-      → Comes around more others start (followed u t)) (sym is) (λ its. its) comes
+      subst (λ (u : Session). ComesTo around more others u.new t
+      → ComesTo around more others start (followed u t)) (sym is) (λ its. its) comes
   comes_join [] more (choice ∷ choices) others start s t none comes = absurd none
   comes_join (TooLong ∷ done) more choices others start s t (rest, first, is) comes = (
     followed rest t,
     comes_join done more choices others start rest t first
-        (subst (λ (u : Session). Comes around more others u.new t) is comes),
+        (subst (λ (u : Session). ComesTo around more others u.new t) is comes),
     ap (λ (u : Session). followed u t) is ∙ regroup (told_alone too_long_text start) rest t,
   )
   comes_join (Line line ∷ done) more [] others start s t none comes = absurd none
@@ -59,7 +59,7 @@ module _ (around : Surroundings) where
         followed rest t,
         steps,
         comes_join done more choices others step.new rest t first
-            (subst (λ (u : Session). Comes around more others u.new t) is comes),
+            (subst (λ (u : Session). ComesTo around more others u.new t) is comes),
         ap (λ (u : Session). followed u t) is ∙ regroup step rest t,
       )
 

@@ -9,7 +9,7 @@ use Rattle.session_server.specs.Sessions.{begun}
 use Rattle.session_server.specs.Steps.{State, Surroundings}
 use Rattle.session_server.specs.Holding.{Holds}
 use Rattle.session_server.specs.Standing.{Server, StandsFor}
-use Rattle.zone_journal.specs.Pairs.{Leaves}
+use Rattle.zone_journal.specs.Pairs.{BothRead}
 use Rattle.zone_journal.specs.Standing.{StandsOn}
 
 -- no turn was made yet
@@ -48,8 +48,8 @@ pub record Going {S D L R K : Type 0} (left_in : S → Option (List ℕ)) (in_fa
     (a_old a b_old b : D) (link_old link : L) (words_old words : R) (out_old out : K)
     : Type 0 where
   pub stands : StandsOn reading images server.store.kept.journal a b
-  pub holds : Leaves reading a_old b_old (Holds server_old.store.kept)
-      → Leaves reading a b (Holds server.store.kept)
+  pub holds : BothRead reading a_old b_old (Holds server_old.store.kept)
+      → BothRead reading a b (Holds server.store.kept)
   pub tables : server.tables ≡ server_old.tables
   pub same_ports : ports link ≡ ports link_old
   pub in_counts : in_faults input_old ≤ in_faults input
@@ -60,7 +60,7 @@ pub record Going {S D L R K : Type 0} (left_in : S → Option (List ℕ)) (in_fa
   pub goes : (around : Surroundings) (start : State) (left : List ℕ) (held : List ℕ)
       (before : List Datagram) → around.tables ≡ server_old.tables
       → StandsFor start server_old (coming link_old) (stream words_old)
-      → Leaves reading a_old b_old (Holds server_old.store.kept)
+      → BothRead reading a_old b_old (Holds server_old.store.kept)
       → ports link_old ≡ Some around.given → left_in input_old ≡ Some left
       → held_by out_old ≡ Some held → sent_by link_old ≡ Some before
       → GoesOn around reader_old reader left (left_in input) start server (coming link)

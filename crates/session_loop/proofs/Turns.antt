@@ -6,17 +6,17 @@ use Rattle.std.proofs.lemmas.List.{drop-drop, take-append-drop}
 use Rattle.std.specs.Prelude.{◌&&◌, ◌+◌, ◌-◌, ◌≤◌, ◌↔◌, IfSome, IsTrue, drop, if◌then◌else◌, nat_le, not, length, take}
 use Rattle.session_server.specs.Configs.{Config}
 use Rattle.line_splitting.specs.Lines.{Event, Line, TooLong, ended_pieces}
-use Rattle.line_splitting.specs.Reading.{Gives, IsOver, Reader, ReadsOn, Took, TookNothing, begun as begun_with, events, is_cut, ready, whole}
+use Rattle.line_splitting.specs.Reading.{GivesLine, IsOver, Reader, ReadsMore, Took, TookNothing, begun as begun_with, events, is_over_limit, waiting_whole, whole}
 use Rattle.r53_io.specs.Network.{Incoming}
 use Rattle.rand_core.specs.Stream.{Stream}
 use Rattle.octets.specs.Counts.{Rose}
-use Rattle.session_loop.specs.Ending.{AllTold, AreFilesOf, EventComes, First, HasCause, IsAll, IsLeft, IsBroken, AreReplied}
-use Rattle.session_loop.specs.Turning.{GoesOn, TurnLeaves, beyond, ended_of, input_of}
+use Rattle.session_loop.specs.Ending.{AllTold, AreFilesOf, EventComesTo, First, HasCause, IsAll, IsLeft, IsBroken, AreReplied}
+use Rattle.session_loop.specs.Turning.{GoesOn, RoundLeaves, beyond, ended_of, input_of}
 use Rattle.session_loop.specs.declared.ended.Ended.{Ended}
 use Rattle.session_loop.specs.declared.ended.Ended.TheVariants as ended
 use Rattle.session_server.specs.Replies.{memory_text, too_long_text}
 use Rattle.session_server.specs.Serving.{Datagram}
-use Rattle.session_server.specs.Sessions.{Comes, Session, begun, joined, told_alone}
+use Rattle.session_server.specs.Sessions.{ComesTo, Session, begun, joined, told_alone}
 use Rattle.session_server.specs.Steps.{OctetsStep, State, Step, Surroundings}
 use Rattle.session_server.specs.Leaving.{HasCause as LineCause, ImagesOpen, Written}
 use Rattle.session_server.specs.Standing.{Server, StandsFor}
@@ -67,7 +67,7 @@ beyond_read old new left false going is counted end =
 pub read : (around : Surroundings) (old new : Reader) (left : List ℕ) (after : Option (List ℕ))
     (start : State) (server : Server) (network : Option (List Incoming)) (random : Stream)
     (held : List ℕ) (before : List Datagram) (out : Option (List ℕ))
-    (sent : Option (List Datagram)) → ReadsOn old → Took old left new after
+    (sent : Option (List Datagram)) → ReadsMore old → Took old left new after
     → StandsFor start server network random → out ≡ Some held → sent ≡ Some before
     → GoesOn around old new left after start server network random held before out sent
 unfolding some_first
@@ -79,7 +79,7 @@ read around old new left after start server network random held before out sent 
       parts = sym (take-append-drop (old.budget - new.budget) left);
       has = took.rest;
       first = some_first around (events old left) (events new _) start (sym took.events);
-      cut = took.is_cut;
+      cut = took.is_over_limit;
       beyond = beyond_read old new left new.ended on.going refl took.counted took.end;
       going = λ is. on.going;
       whole = λ is more. took.whole on.going is more;
@@ -88,7 +88,7 @@ read around old new left after start server network random held before out sent 
     }
 
 -- No line waits, and none ends within what was read since.
-pub none_ends : (old : Reader) → ready old ≡ [] → whole old [] ≡ []
+pub none_ends : (old : Reader) → waiting_whole old ≡ [] → whole old [] ≡ []
 none_ends old none =
     ap (λ (w : List ℕ). begun_with old.dropped (ended_pieces (not old.ended) w))
     (append-nil old.waiting) ∙ none
@@ -119,7 +119,7 @@ module _ {D : Type 0} (images : D → List ℕ → Type 0) (a b : D) (around : S
     told_now (events r left) [] none tells was files,
   )
 
-  pub broken_now : (r new : Reader) (left : List ℕ) (after : Option (List ℕ)) → ReadsOn r
+  pub broken_now : (r new : Reader) (left : List ℕ) (after : Option (List ℕ)) → ReadsMore r
       → TookNothing r left new after → out ≡ Some held → sent ≡ Some before
       → AreFilesOf images a b start.engine
       → IsBroken images a b around (input_of r left) start held before after network random out sent
@@ -144,10 +144,10 @@ at_limit r left is none =
     sym (ap (λ (e : Bool). if e then left else drop r.budget left) is
     ∙ ap (λ (n : ℕ). drop n left) none)
 
-pub is_whole : (r : Reader) (left : List ℕ) → r.ended ≡ true → is_cut r left ≡ false
+pub is_whole : (r : Reader) (left : List ℕ) → r.ended ≡ true → is_over_limit r left ≡ false
 is_whole r left is = ap (λ (e : Bool). not e && nat_le r.budget (length left)) is
 
-pub is_more : (r : Reader) (left : List ℕ) → r.ended ≡ false → r.budget ≡ 0 → is_cut r left ≡ true
+pub is_more : (r : Reader) (left : List ℕ) → r.ended ≡ false → r.budget ≡ 0 → is_over_limit r left ≡ true
 is_more r left is none =
     ap (λ (e : Bool). not e && nat_le r.budget (length left)) is
     ∙ ap (λ (n : ℕ). nat_le n (length left)) none ∙ leb-zero (length left)
@@ -157,18 +157,18 @@ is_more r left is none =
 -- what comes of a line, with its choice
 comes_of : (around : Surroundings) (octets : List ℕ) (old : State) (step : Step)
     → OrMemory (OctetsStep around octets old) old step
-    → EventComes around (Line octets) old step
+    → EventComesTo around (Line octets) old step
 comes_of around octets old step (inl is) = (true, is)
 comes_of around octets old step (inr steps) = (false, steps)
 
-same_beyond : (old new : Reader) (event : Event) (left : List ℕ) → Gives old event new
+same_beyond : (old new : Reader) (event : Event) (left : List ℕ) → GivesLine old event new
     → beyond new left ≡ beyond old left
 same_beyond old new event left gives =
     ap (λ (e : Bool). if e then left else drop new.budget left) gives.ended
     ∙ ap (λ (n : ℕ). if old.ended then left else drop n left) gives.budget
 
-same_cut : (old new : Reader) (event : Event) (left : List ℕ) → Gives old event new
-    → is_cut new left ≡ is_cut old left
+same_cut : (old new : Reader) (event : Event) (left : List ℕ) → GivesLine old event new
+    → is_over_limit new left ≡ is_over_limit old left
 same_cut old new event left gives =
     ap (λ (e : Bool). not e && nat_le new.budget (length left)) gives.ended
     ∙ ap (λ (n : ℕ). not old.ended && nat_le n (length left)) gives.budget
@@ -179,8 +179,8 @@ module _ {D : Type 0} (images : D → List ℕ → Type 0) (a b : D) (around : S
     (held : List ℕ) (before : List Datagram) (out : Option (List ℕ))
     (sent : Option (List Datagram)) where
   -- one step more, told whole
-  went : (event : Event) → Gives old event new → (step : Step) (choices : List Bool)
-      → Comes around (event ∷ []) choices start (joined step (begun step.new))
+  went : (event : Event) → GivesLine old event new → (step : Step) (choices : List Bool)
+      → ComesTo around (event ∷ []) choices start (joined step (begun step.new))
       → StandsFor step.new server network random → out ≡ Some (held ++ step.reply)
       → sent ≡ Some (before ++ step.sent)
       → GoesOn around old new left after start server network random held before out sent
@@ -208,11 +208,11 @@ module _ {D : Type 0} (images : D → List ℕ → Type 0) (a b : D) (around : S
   }
 
   -- a part of its reply was written
-  cut_off : (event : Event) → Gives old event new → (step : Step)
-      → EventComes around event start step → StandsFor step.new server network random
+  cut_off : (event : Event) → GivesLine old event new → (step : Step)
+      → EventComesTo around event start step → StandsFor step.new server network random
       → OutputOf held out output.Failed step.reply
       → sent ≡ Some (before ++ step.sent) → AreFilesOf images a b step.new.engine
-      → TurnLeaves (ended_of taken.WriteFault) images a b around old new left after start server
+      → RoundLeaves (ended_of taken.WriteFault) images a b around old new left after start server
       network random held before out sent
   cut_off event gives step comes here was so files = record {
     session = begun start;
@@ -228,7 +228,7 @@ module _ {D : Type 0} (images : D → List ℕ → Type 0) (a b : D) (around : S
     files = files;
   }
 
-  pub line_turn : (octets : List ℕ) → Gives old (Line octets) new → (Given : Type 0) → Given
+  pub line_turn : (octets : List ℕ) → GivesLine old (Line octets) new → (Given : Type 0) → Given
       → (answer : Taken)
       → ((now : State) → answer ≢ taken.DiskFault → StandsFor now server network random
       → AreFilesOf images a b now.engine)
@@ -239,7 +239,7 @@ module _ {D : Type 0} (images : D → List ℕ → Type 0) (a b : D) (around : S
       (PartOfOctets around octets start before network sent) Given
       (ImagesOpen images a b start.engine.config) start
       (λ now. StandsFor now server network random) held before out sent
-      → TurnLeaves (ended_of answer) images a b around old new left after start server network random
+      → RoundLeaves (ended_of answer) images a b around old new left after start server network random
       held before out sent
   line_turn octets gives Given given taken.Replied files still torn_left asks (step, came, here, was, so) =
       let comes = comes_of around octets start step came in
@@ -276,10 +276,10 @@ module _ {D : Type 0} (images : D → List ℕ → Type 0) (a b : D) (around : S
   }
 
   -- a line that is too long
-  pub long_turn : Gives old TooLong new → (answer : Taken)
+  pub long_turn : GivesLine old TooLong new → (answer : Taken)
       → StandsFor start server network random → sent ≡ Some before
       → AreFilesOf images a b start.engine → Written answer held out too_long_text
-      → TurnLeaves (ended_of answer) images a b around old new left after start server network random
+      → RoundLeaves (ended_of answer) images a b around old new left after start server network random
       held before out sent
   long_turn gives taken.Replied stands was files told =
       went TooLong gives (told_alone too_long_text start) [] (begun start, refl, refl) stands told

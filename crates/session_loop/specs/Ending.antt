@@ -15,7 +15,7 @@ use Rattle.session_loop.specs.declared.ended.Ended.{Ended}
 use Rattle.session_loop.specs.declared.ended.Ended.TheVariants as ended
 use Rattle.session_server.specs.Replies.{too_long_text}
 use Rattle.session_server.specs.Serving.{Datagram}
-use Rattle.session_server.specs.Sessions.{Comes, LineComes, Session, told_alone}
+use Rattle.session_server.specs.Sessions.{ComesTo, LineComes, Session, told_alone}
 use Rattle.session_server.specs.Steps.{OctetsStep, State, Step, Surroundings}
 use Rattle.session_server.specs.Leaving.{ImagesOpen}
 use Rattle.session_server.specs.Taking.{OctetsAskDisk, PartOfOctets}
@@ -39,7 +39,7 @@ pub record First (around : Surroundings) (lines : List Event) (start : State) (m
   pub done : List Event
   pub choices : List Bool
   pub parts : lines ≡ done ++ more
-  pub comes : Comes around done choices start session
+  pub comes : ComesTo around done choices start session
 
 -- All replies of a session were written, and its datagrams sent, behind what was before.
 pub record AllTold (session : Session) (held : List ℕ) (before : List Datagram)
@@ -62,10 +62,10 @@ pub record AreFilesOf {D : Type 0} (images : D → List ℕ → Type 0) (a b : D
       → IsShape x y engine.journal.side engine.journal.generation engine.journal.length
 
 -- what comes of a line that may be too long
-abbrev pub EventComes : Surroundings → Event → (old : State) → Step → Type 0
-EventComes around (Line octets) old step =
+abbrev pub EventComesTo : Surroundings → Event → (old : State) → Step → Type 0
+EventComesTo around (Line octets) old step =
     (wanted : Bool) × LineComes around octets wanted old step
-EventComes around TooLong old step = step ≡ told_alone too_long_text old
+EventComesTo around TooLong old step = step ≡ told_alone too_long_text old
 
 -- Of the network and of the random words what comes next is what a session has left.
 pub record IsLeft (now : State) (network : Option (List Incoming)) (random : Stream) : Type 0 where
@@ -100,7 +100,7 @@ pub record IsBroken {D : Type 0} (images : D → List ℕ → Type 0) (a b : D) 
 
 -- Behind a session over the first lines one more was taken, of whose reply a part was written that
 -- isn't the whole; the files are those of where it stands then.
-pub record IsCut {D : Type 0} (images : D → List ℕ → Type 0) (a b : D) (around : Surroundings)
+pub record IsPartWritten {D : Type 0} (images : D → List ℕ → Type 0) (a b : D) (around : Surroundings)
     (lines : List Event) (start : State) (held : List ℕ) (before : List Datagram)
     (network : Option (List Incoming)) (random : Stream) (out : Option (List ℕ))
     (sent : Option (List Datagram)) : Type 0 where
@@ -109,7 +109,7 @@ pub record IsCut {D : Type 0} (images : D → List ℕ → Type 0) (a b : D) (ar
   pub more : List Event
   pub step : Step
   pub first : First around lines start (event ∷ more) session
-  pub comes : EventComes around event session.new step
+  pub comes : EventComesTo around event session.new step
   pub reply : OutputOf (held ++ session.output) out output.Failed step.reply
   pub datagrams : sent ≡ Some (before ++ session.sent ++ step.sent)
   pub rest : IsLeft step.new network random
@@ -117,7 +117,7 @@ pub record IsCut {D : Type 0} (images : D → List ℕ → Type 0) (a b : D) (ar
 
 -- Behind a session over the first lines, all told, a disk failed with the next, which asks one: the
 -- files open to where the session stands, or to where it would with that line.
-pub record IsTorn {D : Type 0} (images : D → List ℕ → Type 0) (a b : D) (around : Surroundings)
+pub record IsHalted {D : Type 0} (images : D → List ℕ → Type 0) (a b : D) (around : Surroundings)
     (lines : List Event) (start : State) (held : List ℕ) (before : List Datagram)
     (network : Option (List Incoming)) (random : Stream) (out : Option (List ℕ))
     (sent : Option (List Datagram)) : Type 0 where
@@ -169,9 +169,9 @@ Ends ended.InputTooLong images a b around input start held before left network r
 Ends ended.ReadFault images a b around input start held before left network random out sent =
     IsBroken images a b around input start held before left network random out sent
 Ends ended.WriteFault images a b around input start held before left network random out sent =
-    IsCut images a b around input.lines start held before network random out sent
+    IsPartWritten images a b around input.lines start held before network random out sent
 Ends ended.DiskFault images a b around input start held before left network random out sent =
-    IsTorn images a b around input.lines start held before network random out sent
+    IsHalted images a b around input.lines start held before network random out sent
 Ends ended.LinkFault images a b around input start held before left network random out sent =
     IsUnsent images a b around input.lines start held before network out sent
 

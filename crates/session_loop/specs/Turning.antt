@@ -1,6 +1,6 @@
 -- What a turn of the loop leaves.
 use Rattle.std.specs.Prelude.{◌≡◌, ℕ, List, ◌++◌, drop, if◌then◌else◌, false, Option, None, Some}
-use Rattle.line_splitting.specs.Reading.{Reader, events, is_cut, whole}
+use Rattle.line_splitting.specs.Reading.{Reader, events, is_over_limit, whole}
 use Rattle.r53_io.specs.Network.{Incoming}
 use Rattle.rand_core.specs.Stream.{Stream}
 use Rattle.session_loop.specs.Ending.{AllTold, Ends, First, Input}
@@ -29,7 +29,7 @@ abbrev pub input_of : Reader → (left : List ℕ) → Input
 input_of r left = record {
   octets = left;
   lines = events r left;
-  is_long = is_cut r left;
+  is_long = is_over_limit r left;
   beyond = beyond r left;
   ending_in = whole r;
 }
@@ -47,7 +47,7 @@ pub record GoesOn (around : Surroundings) (old new : Reader) (left : List ℕ)
   pub parts : left ≡ seen ++ rest
   pub has : after ≡ Some rest
   pub first : First around (events old left) start (events new rest) session
-  pub cut : is_cut new rest ≡ is_cut old left
+  pub cut : is_over_limit new rest ≡ is_over_limit old left
   pub beyond : beyond new rest ≡ beyond old left
   pub going : new.ended ≡ false → old.ended ≡ false
   pub whole : new.ended ≡ false → (more : List ℕ)
@@ -55,14 +55,14 @@ pub record GoesOn (around : Surroundings) (old new : Reader) (left : List ℕ)
   pub told : AllTold session held before out sent
   pub stands : StandsFor session.new server network random
 
-abbrev pub TurnLeaves : {D : Type 0} → Option Ended → (images : D → List ℕ → Type 0) → (a b : D)
+abbrev pub RoundLeaves : {D : Type 0} → Option Ended → (images : D → List ℕ → Type 0) → (a b : D)
     → Surroundings → (old new : Reader) → (left : List ℕ) → (after : Option (List ℕ))
     → (start : State) → Server → (network : Option (List Incoming)) → (random : Stream)
     → (held : List ℕ) → (before : List Datagram) → (out : Option (List ℕ))
     → (sent : Option (List Datagram)) → Type 0
-TurnLeaves None images a b around old new left after start server network random held before out
+RoundLeaves None images a b around old new left after start server network random held before out
     sent =
     GoesOn around old new left after start server network random held before out sent
-TurnLeaves (Some ended) images a b around old new left after start server network random held
+RoundLeaves (Some ended) images a b around old new left after start server network random held
     before out sent =
     Ends ended images a b around (input_of old left) start held before after network random out sent

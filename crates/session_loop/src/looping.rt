@@ -7,7 +7,7 @@ ghost use Rattle.session_server.specs.Serving.{Datagram};
 ghost use Rattle.session_server.specs.Steps.{State, Surroundings};
 ghost use Rattle.session_server.specs.Holding.{Holds};
 ghost use Rattle.session_server.specs.Standing.{StandsFor};
-ghost use Rattle.zone_journal.specs.Pairs.{Leaves};
+ghost use Rattle.zone_journal.specs.Pairs.{BothRead};
 ghost use Rattle.zone_journal.specs.Standing.{StandsOn};
 
 use crate::ended::Ended;
@@ -38,7 +38,7 @@ pub fn take_lines<S: Source, D: Disk, L: Link, R: Rng, K: Sink>(
     ensures leaves { (around : Surroundings) (start : State) (left : List ℕ) (held : List ℕ)
         (before : List Datagram) → around.tables ≡ server.old.tables
         → StandsFor start server.old (L.coming link.old) (R.stream words.old)
-        → Leaves D.reading a.old b.old (Holds server.old.store.kept)
+        → BothRead D.reading a.old b.old (Holds server.old.store.kept)
         → L.ports link.old ≡ Some around.given → S.left input.old ≡ Some left
         → K.held out.old ≡ Some held → L.sent link.old ≡ Some before
         → Ends result D.images a.new b.new around (input_of reader.old left) start held before

@@ -3,12 +3,12 @@
 ghost use Rattle.std.specs.Prelude.{◌≡◌, ◌≤◌, ◌<◌, ℕ, List, IfSome, None, Some, false};
 ghost use Rattle.line_splitting.specs.Reading.{steps};
 ghost use Rattle.session_loop.specs.Ending.{HasCause};
-ghost use Rattle.session_loop.specs.Turning.{TurnLeaves, ended_of};
+ghost use Rattle.session_loop.specs.Turning.{RoundLeaves, ended_of};
 ghost use Rattle.session_server.specs.Serving.{Datagram};
 ghost use Rattle.session_server.specs.Steps.{State, Surroundings};
 ghost use Rattle.session_server.specs.Holding.{Holds};
 ghost use Rattle.session_server.specs.Standing.{StandsFor};
-ghost use Rattle.zone_journal.specs.Pairs.{Leaves};
+ghost use Rattle.zone_journal.specs.Pairs.{BothRead};
 ghost use Rattle.zone_journal.specs.Standing.{StandsOn};
 
 use crate::ended::Ended;
@@ -36,16 +36,16 @@ pub(crate) fn take_next<S: Source, D: Disk, L: Link, R: Rng, K: Sink>(
     ensures leaves { (around : Surroundings) (old : State) (left : List ℕ) (held : List ℕ)
         (before : List Datagram) → around.tables ≡ server.old.tables
         → StandsFor old server.old (L.coming link.old) (R.stream words.old)
-        → Leaves D.reading a.old b.old (Holds server.old.store.kept)
+        → BothRead D.reading a.old b.old (Holds server.old.store.kept)
         → L.ports link.old ≡ Some around.given → S.left input.old ≡ Some left
         → K.held out.old ≡ Some held → L.sent link.old ≡ Some before
-        → TurnLeaves result D.images a.new b.new around reader.old reader.new left
+        → RoundLeaves result D.images a.new b.new around reader.old reader.new left
         (S.left input.new) old server.new (L.coming link.new) (R.stream words.new) held before
         (K.held out.new) (L.sent link.new) }
     ensures stands { result ≡ None
         → StandsOn D.reading D.images server.new.store.kept.journal a.new b.new }
-    ensures holds { Leaves D.reading a.old b.old (Holds server.old.store.kept) → result ≡ None
-        → Leaves D.reading a.new b.new (Holds server.new.store.kept) }
+    ensures holds { BothRead D.reading a.old b.old (Holds server.old.store.kept) → result ≡ None
+        → BothRead D.reading a.new b.new (Holds server.new.store.kept) }
     ensures nearer { result ≡ None → steps reader.new < steps reader.old }
     ensures going { result ≡ Some Ended.ReadFault → reader.old.ended ≡ false }
     ensures tables { server.new.tables ≡ server.old.tables }

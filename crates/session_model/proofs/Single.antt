@@ -22,9 +22,9 @@ use Rattle.session_model.specs.Asking.{Asks}
 use Rattle.session_model.specs.Laws.{OneAsked, OneSession, OneStep}
 use Rattle.session_model.specs.Replies.{command_outcome, compact_outcome, query_text, report_outcome}
 use Rattle.session_model.specs.Replies.{too_long_text}
-use Rattle.session_model.specs.Serving.{Served, TakesTurn, TakesTurns, after_packet, after_report}
+use Rattle.session_model.specs.Serving.{TurnsOutcome, TakesTurn, TakesTurns, after_packet, after_report}
 use Rattle.session_model.specs.Serving.{words_of}
-use Rattle.session_model.specs.Sessions.{Comes, LineComes, Session, joined, told_alone}
+use Rattle.session_model.specs.Sessions.{ComesTo, LineComes, Session, joined, told_alone}
 use Rattle.session_model.specs.Steps.{LineSteps, OctetsStep, State, Step, Surroundings, ToldSteps}
 use Rattle.session_model.specs.Steps.{after_turns, at_first_turn, replied}
 
@@ -46,7 +46,7 @@ asked line told other (inr (none, so)) (inr (none_too, too)) = so ∙ sym too
 -- ---- turns
 
 module _ (reply : OneReply) (tables : Tables) where
-  turn : (came : Incoming) (old new other : Served) → TakesTurn tables came old new
+  turn : (came : Incoming) (old new other : TurnsOutcome) → TakesTurn tables came old new
       → TakesTurn tables came old other → new ≡ other
   turn (Dns peer packet) old new other (answer, gives, so) (told, gives_too, too) =
       so ∙ ap (λ (a : Option (List ℕ)). after_packet peer a old)
@@ -63,14 +63,14 @@ module _ (reply : OneReply) (tables : Tables) where
   turn (Report octets) old new other (inr (none, so)) (inr (none_too, too)) = so ∙ sym too
   turn Quiet old new other so too = so ∙ sym too
 
-  turns : (n : ℕ) (arrivals : List Incoming) (old : Served) (left rest : List Incoming)
-      (new other : Served) → TakesTurns tables n arrivals old left new
+  turns : (n : ℕ) (arrivals : List Incoming) (old : TurnsOutcome) (left rest : List Incoming)
+      (new other : TurnsOutcome) → TakesTurns tables n arrivals old left new
       → TakesTurns tables n arrivals old rest other → (left ≡ rest) × (new ≡ other)
   turns zero arrivals old left rest new other so too = (so.0 ∙ sym too.0, so.1 ∙ sym too.1)
   turns (suc n) [] old left rest new other so too = (so.0 ∙ sym too.0, so.1 ∙ sym too.1)
   turns (suc n) (came ∷ more) old left rest new other (mid, one, others) (then, one_too, others_too) =
       turns n more then left rest new other
-      (subst (λ (s : Served). TakesTurns tables n more s left new)
+      (subst (λ (s : TurnsOutcome). TakesTurns tables n more s left new)
       (turn came old mid then one one_too) others)
       others_too
 
@@ -114,7 +114,7 @@ module _ (reply : OneReply) (command : OneCommandStep) (report : OneReportStep)
       apart (sym is ∙ none)
   line_step (line.Serve n) old step other (inr (is, left, served, turned, so))
       (inr (is_too, rest, told, turned_too, too)) =
-      so ∙ both (λ (l : List Incoming) (s : Served). after_turns old l s)
+      so ∙ both (λ (l : List Incoming) (s : TurnsOutcome). after_turns old l s)
       (turns reply around.tables n old.arrivals (at_first_turn old) left rest served told turned
       turned_too)
       ∙ sym too
@@ -152,7 +152,7 @@ module _ (one : OneStep) (around : Surroundings) where
   line_comes line false old its other so too = one around line old its other so too
 
   pub comes : (lines : List Event) (choices : List Bool) (old : State) (session other : Session)
-      → Comes around lines choices old session → Comes around lines choices old other
+      → ComesTo around lines choices old session → ComesTo around lines choices old other
       → session ≡ other
   comes [] [] old session other so too = so ∙ sym too
   comes [] (choice ∷ choices) old session other never too = absurd never
@@ -165,7 +165,7 @@ module _ (one : OneStep) (around : Surroundings) where
       let same : its ≡ found = line_comes line choice old its found came came_too in
       so ∙ ap (λ (s : Step). joined s more) same
       ∙ ap (λ (s : Session). joined found s) (comes lines choices found.new more then
-      (subst (λ (s : Step). Comes around lines choices s.new more) same rest) rest_too)
+      (subst (λ (s : Step). ComesTo around lines choices s.new more) same rest) rest_too)
       ∙ sym too
 
 pub session : OneStep → OneSession

@@ -24,7 +24,7 @@ use Rattle.reply_model.specs.Json.{line_of}
 use Rattle.reply_model.specs.Outcomes.{reply_of, text_of}
 use Rattle.session_model.specs.Replies.{command_outcome, compact_outcome, list_text_of, memory_text}
 use Rattle.session_model.specs.Replies.{query_text, report_outcome, status_outcome, too_long_text}
-use Rattle.session_model.specs.Serving.{Served, TakesTurns, after_packet, none}
+use Rattle.session_model.specs.Serving.{TurnsOutcome, TakesTurns, after_packet, none}
 use Rattle.reply_model.specs.Lists.{query_reply}
 use Rattle.reply_model.specs.Errors.{refusal_error}
 use Rattle.hex.specs.Hex.{encode_with}
@@ -154,7 +154,7 @@ answer = refl
 -- ---- turns
 
 module _ (engine : Engine) (words : Stream) where
-  abbrev start : Served
+  abbrev start : TurnsOutcome
   start = record { engine = engine; words = words; turns = none; sent = [] }
 
   abbrev peer : Peer
@@ -173,7 +173,7 @@ module _ (engine : Engine) (words : Stream) where
 
   -- a report on h1, one on h9, which isn't there, and a while without an arrival; then it is closed
   pub record ThreeTurns (tables : Tables) : Type 0 where
-    pub served : Served
+    pub served : TurnsOutcome
     pub taken : TakesTurns tables 10
         (Report (codes "OBS h1 0 0") ∷ Report (codes "OBS h9 0 0") ∷ Quiet ∷ []) start [] served
     pub turns : served.turns

@@ -4,7 +4,7 @@ use Rattle.batch_json.specs.declared.asking.Line.{Line}
 use Rattle.line_faults.specs.declared.fault.LineFault.{LineFault}
 use Rattle.line_splitting.specs.Lines.{Event}
 use Rattle.session_model.specs.Asking.{Asks}
-use Rattle.session_model.specs.Sessions.{Comes, Session}
+use Rattle.session_model.specs.Sessions.{ComesTo, Session}
 use Rattle.session_model.specs.Steps.{OctetsStep, State, Step, Surroundings}
 
 -- Octets ask for one thing, or have one first fault.
@@ -20,5 +20,5 @@ OneStep = (around : Surroundings) (line : List ℕ) (old : State) (step other : 
 abbrev pub OneSession : Type 0
 OneSession = (around : Surroundings) (lines : List Event) (choices : List Bool) (old : State)
     (session other : Session)
-    → Comes around lines choices old session → Comes around lines choices old other
+    → ComesTo around lines choices old session → ComesTo around lines choices old other
     → session ≡ other

@@ -30,7 +30,7 @@ behind_words (suc n) stream = behind_words n (next_u64 stream).1
 
 -- What turns come to: the store, the words to be drawn, how many turns came to what, and what was
 -- sent.
-pub record Served : Type 0 where
+pub record TurnsOutcome : Type 0 where
   pub engine : Engine
   pub words : Stream
   pub turns : Turns
@@ -56,7 +56,7 @@ abbrev pub quiet_too : Turns → Turns
 quiet_too t = record t { turns = t.turns + 1; quiet = t.quiet + 1 }
 
 -- a packet's turn: eight words are drawn, also where nothing is answered
-abbrev pub after_packet : Peer → (answer : Option (List ℕ)) → Served → Served
+abbrev pub after_packet : Peer → (answer : Option (List ℕ)) → TurnsOutcome → TurnsOutcome
 after_packet peer None old = record old {
   words = behind_words 8 old.words;
   turns = silent_too old.turns;
@@ -72,7 +72,7 @@ abbrev pub IsKnown : Engine → (octets : List ℕ) → Observation → Type 0
 IsKnown engine octets seen = (report_of octets ≡ Some seen) × IsEndpoint engine.config seen.id
 
 -- with one report more
-abbrev pub after_report : Observation → Served → Served
+abbrev pub after_report : Observation → TurnsOutcome → TurnsOutcome
 after_report seen old = record old {
   engine = record old.engine {
     reports = record { check = seen.id; checker = seen.checker; pass = seen.pass }
@@ -82,7 +82,7 @@ after_report seen old = record old {
 }
 
 -- what an arrival makes of a store
-abbrev pub TakesTurn : Tables → Incoming → (old new : Served) → Type 0
+abbrev pub TakesTurn : Tables → Incoming → (old new : TurnsOutcome) → Type 0
 TakesTurn tables (Dns peer packet) old new =
     (answer : Option (List ℕ))
     × QueryGives old.engine tables (record { peer = peer.address; words = words_of 8 old.words })
@@ -95,9 +95,9 @@ TakesTurn tables (Report octets) old new =
 TakesTurn tables Quiet old new = new ≡ record old { turns = quiet_too old.turns }
 
 -- So many turns of these arrivals, or as many as there are: then the network is closed.
-abbrev pub TakesTurns : Tables → (n : ℕ) → (arrivals : List Incoming) → (old : Served)
-    → (left : List Incoming) → (new : Served) → Type 0
+abbrev pub TakesTurns : Tables → (n : ℕ) → (arrivals : List Incoming) → (old : TurnsOutcome)
+    → (left : List Incoming) → (new : TurnsOutcome) → Type 0
 TakesTurns tables zero arrivals old left new = (left ≡ arrivals) × (new ≡ old)
 TakesTurns tables (suc n) [] old left new = (left ≡ []) × (new ≡ old)
 TakesTurns tables (suc n) (arrival ∷ more) old left new =
-    (mid : Served) × TakesTurn tables arrival old mid × TakesTurns tables n more mid left new
+    (mid : TurnsOutcome) × TakesTurn tables arrival old mid × TakesTurns tables n more mid left new

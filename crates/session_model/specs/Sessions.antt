@@ -36,14 +36,14 @@ LineComes around line true old step = step ≡ told_alone memory_text old
 LineComes around line false old step = OctetsStep around line old step
 
 -- The lines of an input from where a session stands, with a choice for each line that isn't too long.
-abbrev pub Comes : Surroundings → (lines : List Event) → (choices : List Bool) → (old : State)
+abbrev pub ComesTo : Surroundings → (lines : List Event) → (choices : List Bool) → (old : State)
     → Session → Type 0
-Comes around [] [] old session = session ≡ begun old
-Comes around [] (choice ∷ choices) old session = ⊥
-Comes around (TooLong ∷ lines) choices old session =
-    (more : Session) × Comes around lines choices old more
+ComesTo around [] [] old session = session ≡ begun old
+ComesTo around [] (choice ∷ choices) old session = ⊥
+ComesTo around (TooLong ∷ lines) choices old session =
+    (more : Session) × ComesTo around lines choices old more
     × (session ≡ joined (told_alone too_long_text old) more)
-Comes around (Line line ∷ lines) [] old session = ⊥
-Comes around (Line line ∷ lines) (choice ∷ choices) old session =
+ComesTo around (Line line ∷ lines) [] old session = ⊥
+ComesTo around (Line line ∷ lines) (choice ∷ choices) old session =
     (step : Step) × (more : Session) × LineComes around line choice old step
-    × Comes around lines choices step.new more × (session ≡ joined step more)
+    × ComesTo around lines choices step.new more × (session ≡ joined step more)

@@ -19,7 +19,7 @@ use Rattle.reply_model.specs.declared.outcomes.Outcome.TheVariants as outcome
 use Rattle.session_model.specs.Asking.{Asks}
 use Rattle.session_model.specs.Replies.{command_outcome, compact_outcome, list_text, query_text}
 use Rattle.session_model.specs.Replies.{report_outcome, status_outcome}
-use Rattle.session_model.specs.Serving.{Datagram, Served, TakesTurns, none}
+use Rattle.session_model.specs.Serving.{Datagram, TurnsOutcome, TakesTurns, none}
 
 -- Where a session stands: the store, whether ports are bound, the arrivals to come from the network,
 -- and the random words to be drawn.
@@ -51,11 +51,11 @@ pub record Step : Type 0 where
 -- ---- serving
 
 -- turns begin
-abbrev pub at_first_turn : State → Served
+abbrev pub at_first_turn : State → TurnsOutcome
 at_first_turn old = record { engine = old.engine; words = old.words; turns = none; sent = [] }
 
 -- the session behind turns
-abbrev pub after_turns : State → (left : List Incoming) → Served → Step
+abbrev pub after_turns : State → (left : List Incoming) → TurnsOutcome → Step
 after_turns old left served = record {
   new = record old { engine = served.engine; arrivals = left; words = served.words };
   reply = text_of (outcome.Served served.turns);
@@ -99,7 +99,7 @@ LineSteps around (line.Bind ports) old step =
     }))
 LineSteps around (line.Serve turns) old step =
     ((old.bound ≡ false) × (step ≡ replied old old.engine (text_of outcome.NotBound)))
-    ⊎ ((old.bound ≡ true) × (left : List Incoming) × (served : Served)
+    ⊎ ((old.bound ≡ true) × (left : List Incoming) × (served : TurnsOutcome)
     × TakesTurns around.tables turns old.arrivals (at_first_turn old) left served
     × (step ≡ after_turns old left served))
 LineSteps around (line.Compact pieces) old step =

@@ -2,7 +2,7 @@
 use Rattle.std.proofs.Common.{◌≡◌, ◌∙◌, ℕ, List, Bool, Option, None, Some, Result, Ok, Err, ◌⊎◌, false, ap, refl, subst, sym}
 use Rattle.std.specs.Prelude.{⊤}
 use Rattle.line_splitting.specs.Lines.{Event, but_last, events_of, input_lines, is_too_long, pieces}
-use Rattle.line_splitting.specs.Reading.{FreshReader, Reader, events, fresh, is_cut, whole}
+use Rattle.line_splitting.specs.Reading.{FreshReader, Reader, events, fresh, is_over_limit, whole}
 use Rattle.config_model.specs.Configs.{Config}
 use Rattle.session_loop.specs.Ending.{Ends, Input}
 use Rattle.session_loop.specs.Turning.{input_of}
@@ -22,12 +22,12 @@ use Rattle.session_run.specs.Running.{Given, HasCauseOf, IsBeginning, RunLeaves,
 use Rattle.session_run.specs.Running.{FilesSay, IfUntabled, TablesSay, UnlessEnded, unopened, unread, whole_input}
 use Rattle.session_run.specs.declared.ran.Ran.{Ran}
 use Rattle.session_run.specs.declared.ran.Ran.TheVariants as ran
-use Rattle.table_lines.specs.Input.{Reads, tables_of}
+use Rattle.table_lines.specs.Input.{Gives, tables_of}
 use Rattle.table_lines.specs.declared.reading.TablesFault.{TablesFault}
 use Rattle.table_lines.specs.declared.reading.TablesFault.TheVariants as tables
 use Rattle.store_model.specs.Laws.{StandingPlace}
 use Rattle.store_model.specs.Opening.{IsNoStore, OpensAs, OpensConfig}
-use Rattle.zone_journal.specs.Pairs.{Leaves}
+use Rattle.zone_journal.specs.Pairs.{BothRead}
 use Rattle.zone_journal.specs.declared.answers.OpenFault.{OpenFault}
 use Rattle.zone_journal.specs.declared.answers.OpenFault.TheVariants as fault
 use Rattle.zone_journal.specs.declared.answers.Side.{Side}
@@ -49,7 +49,7 @@ beginning given kept = record {
 
 -- what files open to in which a store is held
 pub opens_as : {D : Type 0} (reading : D → Option (List ℕ)) (kept : Kept) (a b : D) (x y : List ℕ)
-    → (leaves : Leaves reading a b (Holds kept)) → reading a ≡ Some x → reading b ≡ Some y
+    → (leaves : BothRead reading a b (Holds kept)) → reading a ≡ Some x → reading b ≡ Some y
     → OpensAs x y kept.journal.generation leaves.has.snapshot leaves.has.entries
     (opened kept).config
 opens_as reading kept a b x y leaves x_is y_is =
@@ -60,7 +60,7 @@ opens_as reading kept a b x y leaves x_is y_is =
     leaves.has.opens)
 
 pub opens_config : {D : Type 0} (reading : D → Option (List ℕ)) (kept : Kept) (a b : D)
-    (x y : List ℕ) → Leaves reading a b (Holds kept) → reading a ≡ Some x → reading b ≡ Some y
+    (x y : List ℕ) → BothRead reading a b (Holds kept) → reading a ≡ Some x → reading b ≡ Some y
     → OpensConfig x y (opened kept).config
 opens_config reading kept a b x y leaves x_is y_is = record {
   generation = kept.journal.generation;
@@ -71,7 +71,7 @@ opens_config reading kept a b x y leaves x_is y_is = record {
 
 pub is_beginning : {D : Type 0} (reading : D → Option (List ℕ)) (images : D → List ℕ → Type 0)
     → StandingPlace reading images → (given : Given) (kept : Kept) (a b : D)
-    → StandsOn reading images kept.journal a b → Leaves reading a b (Holds kept)
+    → StandsOn reading images kept.journal a b → BothRead reading a b (Holds kept)
     → reading a ≡ Some given.x → reading b ≡ Some given.y → kept.journal.plan ≡ None
     → IsBeginning given (beginning given kept)
 is_beginning reading images law given kept a b stands leaves x_is y_is idle =
@@ -147,7 +147,7 @@ module _ {D : Type 0} (images : D → List ℕ → Type 0) (a b : D) (around : S
       (λ first. events_of (but_last (pieces first))) (λ first. (law first).2)
       (subst (λ (cut : Bool). Ends how images a b around (with_lines left (input_lines left) cut its (whole fresh)) start
       held before after network random out sent) ((law left).1)
-      (subst (λ (l : List Event). Ends how images a b around (with_lines left l (is_cut fresh left) its (whole fresh)) start
+      (subst (λ (l : List Event). Ends how images a b around (with_lines left l (is_over_limit fresh left) its (whole fresh)) start
       held before after network random out sent) ((law left).0)
       (subst (λ (r : Reader). Ends how images a b around (input_of r left) start held before after network random out
       sent) is has)))
@@ -179,7 +179,7 @@ place_told fault.OutOfMemory P = ⊤
 module _ {D : Type 0} (images : D → List ℕ → Type 0) (a b : D) (given : Given)
     (left : Option (List ℕ)) (network : Option (List Incoming)) (random : Stream)
     (out : Option (List ℕ)) (sent : Option (List Datagram)) (still : Still given out sent) where
-  pub not_read : (after : Option (List ℕ)) (f : TablesFault) → Reads given.rows after (Err f)
+  pub not_read : (after : Option (List ℕ)) (f : TablesFault) → Gives given.rows after (Err f)
       → RunLeaves (unread f) images a b given left network random out sent
   not_read after (tables.Bad number) reads = (reads, still)
   not_read after tables.ReadFault reads = still
@@ -244,7 +244,7 @@ tabled_any (ran.Ended how) P none = tt
 -- ---- what the tables and the files say
 
 pub tables_faulty : (rows : List ℕ) (after : Option (List ℕ)) (f : TablesFault)
-    → Reads rows after (Err f) → TablesSay (unread f) rows
+    → Gives rows after (Err f) → TablesSay (unread f) rows
 tables_faulty rows after (tables.Bad number) reads = reads
 tables_faulty rows after tables.ReadFault reads = tt
 tables_faulty rows after tables.TooLong reads = reads.0

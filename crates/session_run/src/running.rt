@@ -10,7 +10,7 @@ ghost use Rattle.session_model.specs.Steps.{State, Surroundings};
 ghost use Rattle.session_run.specs.Running.{Given, HasCauseOf, IsTold, RunLeaves, SessionLeaves};
 ghost use Rattle.session_run.specs.Running.{FilesSay, IfUntabled, TablesSay, UnlessEnded};
 ghost use Rattle.session_run.specs.Running.{unopened, unread, whole_input};
-ghost use Rattle.zone_journal.specs.Pairs.{Leaves, Unwritten};
+ghost use Rattle.zone_journal.specs.Pairs.{BothRead, Unwritten};
 ghost use Rattle.zone_journal.specs.Standing.{StandsOn};
 
 use crate::ran::Ran;
@@ -182,7 +182,7 @@ fn go_on<S: Source, D: Disk, L: Link, R: Rng, K: Sink>(
     ensures leaves { (around : Surroundings) (start : State) (left : List ℕ) (held : List ℕ)
         (before : List Datagram) → around.tables ≡ begun.server.tables
         → StandsFor start begun.server (L.coming link.old) (R.stream words.old)
-        → Leaves D.reading a.old b.old (Holds begun.server.store.kept)
+        → BothRead D.reading a.old b.old (Holds begun.server.store.kept)
         → L.ports link.old ≡ Some around.given → S.left input.old ≡ Some left
         → K.held out.old ≡ Some held → L.sent link.old ≡ Some before
         → Ends result D.images a.new b.new around (whole_input left) start held before

@@ -8,7 +8,7 @@ use Rattle.line_bounds.specs.Configs.{Config, zone_with}
 use Rattle.list_sending.specs.Engine.{Engine, QueryGives}
 use Rattle.geo_latency.specs.declared.tables.Tables.{Tables}
 use Rattle.line_server.specs.Leaving.{Replies, StoreLeaves, taken_of}
-use Rattle.line_server.specs.Replying.{Answered, Commanded, Compacts, Observed, Told}
+use Rattle.line_server.specs.Replying.{Answered, Commanded, Compacts, Observed, StatusTold}
 use Rattle.line_server.specs.Standing.{IsBound, Server, StandsFor}
 use Rattle.line_server.specs.Stores.{StandsFor as StoreStandsFor, State as Store}
 use Rattle.line_server.specs.declared.answers.Taken.{Taken}
@@ -77,13 +77,13 @@ module _ (around : Surroundings) (old : State) (server : Server)
       answer torn leaves
 
   pub status : (id : ℕ) (answer : Taken)
-      → Replies answer (Told id) old.engine (λ after. StoreStandsFor after store) held out
+      → Replies answer (StatusTold id) old.engine (λ after. StoreStandsFor after store) held out
       → LineLeaves answer (LineSteps around (line.Status id) old) Part Given Opens old
       (λ new. StandsFor new (record { store = store; tables = server.tables; bound = server.bound })
       network random) held before out sent
   status id answer leaves =
       of_replies (LineSteps around (line.Status id) old) Part Given Opens old
-      (with_store server store) network random held before out sent unsent ⊤ (Told id)
+      (with_store server store) network random held before out sent unsent ⊤ (StatusTold id)
       (λ after reply c. ap (λ (e : Engine). replied old e reply) c.0
       ∙ ap (λ (r : List ℕ). replied old old.engine r) c.1) rest answer (inr leaves)
 

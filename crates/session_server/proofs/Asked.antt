@@ -13,7 +13,7 @@ use Rattle.line_faults.specs.declared.fault.LineFault.{LineFault}
 use Rattle.line_faults.specs.declared.fault.LineFault.TheVariants.{BadLine, OutOfMemory, Unsupported}
 use Rattle.line_faults.specs.declared.fault.LineReason.TheVariants.{NotJson}
 use Rattle.line_faults.specs.declared.member.Member.TheVariants as m
-use Rattle.line_reading.specs.Reading.{Reads, bad}
+use Rattle.line_reading.specs.Reading.{Gives, bad}
 use Rattle.serde_json.specs.Data.{Data}
 use Rattle.serde_json.specs.Read.{read}
 use Rattle.list_sending.specs.Asking.{Asks}
@@ -23,7 +23,7 @@ use Rattle.session_server.specs.Taking.{IsWithin}
 -- ---- what a line asks for
 
 -- what was read, but for want of memory
-is_read : (told wanted : Result Line LineFault) → Reads told wanted → told ≢ Err OutOfMemory
+is_read : (told wanted : Result Line LineFault) → Gives told wanted → told ≢ Err OutOfMemory
     → told ≡ wanted
 is_read (Ok asked) wanted is some = sym is
 is_read (Err (BadLine reason member change)) wanted is some = sym is

@@ -7,7 +7,7 @@ ghost use Rattle.line_bounds.specs.LawsOfConfigModel.{IsBounded};
 ghost use Rattle.line_bounds.specs.Laws.{start_of};
 ghost use Rattle.line_server.specs.Asking.{CommandAsksDisk, CompactionAsksDisk};
 ghost use Rattle.line_server.specs.Holding.{Holds};
-ghost use Rattle.line_server.specs.Leaving.{HasCause, ImagesOpen, UnlessTorn, Written};
+ghost use Rattle.line_server.specs.Leaving.{HasCause, ImagesOpen, UnlessHalted, Written};
 ghost use Rattle.line_server.specs.Standing.{StandsFor};
 ghost use Rattle.line_server.specs.Stores.{StandsFor as StoreStandsFor};
 ghost use Rattle.line_server.specs.declared.answers.Taken.TheVariants as Taken;
@@ -22,7 +22,7 @@ ghost use Rattle.list_sending.specs.Serving.{Datagram};
 ghost use Rattle.list_sending.specs.Steps.{LineSteps, OctetsStep, State, Surroundings};
 ghost use Rattle.session_server.specs.Taking.{AsksDisk, AsksLink, IsWithin, LineLeaves};
 ghost use Rattle.session_server.specs.Taking.{OctetsAskDisk, OctetsAskLink, PartOf, PartOfOctets};
-ghost use Rattle.zone_journal.specs.Pairs.{Leaves};
+ghost use Rattle.zone_journal.specs.Pairs.{BothRead};
 ghost use Rattle.zone_journal.specs.Standing.{StandsOn};
 
 use crate::asking::ask;
@@ -103,14 +103,14 @@ impl Server {
             → L.sent link.old ≡ Some before
             → LineLeaves result (OctetsStep around octets.now old)
             (PartOfOctets around octets.now old before (L.coming link.new) (L.sent link.new))
-            (Leaves D.reading a.old b.old (Holds self.old.store.kept))
+            (BothRead D.reading a.old b.old (Holds self.old.store.kept))
             (ImagesOpen D.images a.new b.new old.engine.config)
             old (λ new. StandsFor new self.new (L.coming link.new) (R.stream words.new)) held before
             (K.held out.new) (L.sent link.new) }
-        ensures stands { UnlessTorn result
+        ensures stands { UnlessHalted result
             (StandsOn D.reading D.images self.new.store.kept.journal a.new b.new) }
-        ensures holds { Leaves D.reading a.old b.old (Holds self.old.store.kept)
-            → UnlessTorn result (Leaves D.reading a.new b.new (Holds self.new.store.kept)) }
+        ensures holds { BothRead D.reading a.old b.old (Holds self.old.store.kept)
+            → UnlessHalted result (BothRead D.reading a.new b.new (Holds self.new.store.kept)) }
         ensures kept { result ≡ Taken.LinkFault → self.new.store.kept ≡ self.old.store.kept }
         // Where a disk failed the network has the same to come, and the random words are those before.
         ensures undrawn { result ≡ Taken.DiskFault → (L.coming link.new ≡ L.coming link.old)
@@ -178,14 +178,14 @@ impl Server {
             → L.sent link.old ≡ Some before
             → LineLeaves result (LineSteps around asked old)
             (PartOf around asked old before (L.coming link.new) (L.sent link.new))
-            (Leaves D.reading a.old b.old (Holds self.old.store.kept))
+            (BothRead D.reading a.old b.old (Holds self.old.store.kept))
             (ImagesOpen D.images a.new b.new old.engine.config)
             old (λ new. StandsFor new self.new (L.coming link.new) (R.stream words.new)) held before
             (K.held out.new) (L.sent link.new) }
-        ensures stands { UnlessTorn result
+        ensures stands { UnlessHalted result
             (StandsOn D.reading D.images self.new.store.kept.journal a.new b.new) }
-        ensures holds { Leaves D.reading a.old b.old (Holds self.old.store.kept)
-            → UnlessTorn result (Leaves D.reading a.new b.new (Holds self.new.store.kept)) }
+        ensures holds { BothRead D.reading a.old b.old (Holds self.old.store.kept)
+            → UnlessHalted result (BothRead D.reading a.new b.new (Holds self.new.store.kept)) }
         ensures kept { result ≡ Taken.LinkFault → self.new.store.kept ≡ self.old.store.kept }
         ensures undrawn { result ≡ Taken.DiskFault → (L.coming link.new ≡ L.coming link.old)
             × (R.stream words.new ≡ R.stream words.old) }
@@ -233,13 +233,13 @@ impl Server {
             → told ≡ Some before
             → LineLeaves result (LineSteps around (line.Control command) old)
             (PartOf around (line.Control command) old before network told)
-            (Leaves D.reading a.old b.old (Holds self.old.store.kept))
+            (BothRead D.reading a.old b.old (Holds self.old.store.kept))
             (ImagesOpen D.images a.new b.new old.engine.config)
             old (λ new. StandsFor new self.new network random) held before (K.held out.new) told }
-        ensures stands { UnlessTorn result
+        ensures stands { UnlessHalted result
             (StandsOn D.reading D.images self.new.store.kept.journal a.new b.new) }
-        ensures holds { Leaves D.reading a.old b.old (Holds self.old.store.kept)
-            → UnlessTorn result (Leaves D.reading a.new b.new (Holds self.new.store.kept)) }
+        ensures holds { BothRead D.reading a.old b.old (Holds self.old.store.kept)
+            → UnlessHalted result (BothRead D.reading a.new b.new (Holds self.new.store.kept)) }
         ensures tables { self.new.tables ≡ self.old.tables }
         ensures a_counts { D.faults a.old ≤ D.faults a.new }
         ensures b_counts { D.faults b.old ≤ D.faults b.new }
@@ -278,13 +278,13 @@ impl Server {
             → told ≡ Some before
             → LineLeaves result (LineSteps around (line.Compact pieces) old)
             (PartOf around (line.Compact pieces) old before network told)
-            (Leaves D.reading a.old b.old (Holds self.old.store.kept))
+            (BothRead D.reading a.old b.old (Holds self.old.store.kept))
             (ImagesOpen D.images a.new b.new old.engine.config)
             old (λ new. StandsFor new self.new network random) held before (K.held out.new) told }
-        ensures stands { UnlessTorn result
+        ensures stands { UnlessHalted result
             (StandsOn D.reading D.images self.new.store.kept.journal a.new b.new) }
-        ensures holds { Leaves D.reading a.old b.old (Holds self.old.store.kept)
-            → UnlessTorn result (Leaves D.reading a.new b.new (Holds self.new.store.kept)) }
+        ensures holds { BothRead D.reading a.old b.old (Holds self.old.store.kept)
+            → UnlessHalted result (BothRead D.reading a.new b.new (Holds self.new.store.kept)) }
         ensures tables { self.new.tables ≡ self.old.tables }
         ensures a_counts { D.faults a.old ≤ D.faults a.new }
         ensures b_counts { D.faults b.old ≤ D.faults b.new }

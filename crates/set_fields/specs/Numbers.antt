@@ -25,24 +25,24 @@ abbrev pub roles : List Role
 roles = role.Primary ∷ role.Secondary ∷ []
 
 -- what a number stands for
-unfoldable pub type_of : ℕ → Option RType
-type_of n = numbered number_of types n
+unfoldable pub type_of_number : ℕ → Option RType
+type_of_number n = numbered number_of types n
 
-abbrev pub continent_of : ℕ → Option Continent
-continent_of n = numbered continent_number continents n
+abbrev pub continent_of_number : ℕ → Option Continent
+continent_of_number n = numbered continent_number continents n
 
-abbrev pub role_of : ℕ → Option Role
-role_of n = numbered role_number roles n
+abbrev pub role_of_number : ℕ → Option Role
+role_of_number n = numbered role_number roles n
 
 -- a type, a continent and the part of a failover set, each by its number
 unfoldable pub type_at : List ℕ → Result (RType × List ℕ) ℕ
-type_at octets = meaning type_of two_at octets
+type_at octets = meaning type_of_number two_at octets
 
 unfoldable pub continent_at : List ℕ → Result (Continent × List ℕ) ℕ
-continent_at octets = meaning continent_of octet_at octets
+continent_at octets = meaning continent_of_number octet_at octets
 
 unfoldable pub role_at : List ℕ → Result (Role × List ℕ) ℕ
-role_at octets = meaning role_of octet_at octets
+role_at octets = meaning role_of_number octet_at octets
 
 -- a time to live below 2^31
 unfoldable pub ttl_at : List ℕ → Result (ℕ × List ℕ) ℕ

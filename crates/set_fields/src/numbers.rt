@@ -2,7 +2,7 @@
 
 ghost use Rattle.std.specs.Prelude.{◌≡◌};
 ghost use Rattle.octet_reading.specs.Reading.{Gives};
-ghost use Rattle.set_fields.specs.Numbers.{type_of, type_at, continent_of, continent_at, role_of};
+ghost use Rattle.set_fields.specs.Numbers.{type_of_number, type_at, continent_of_number, continent_at, role_of_number};
 ghost use Rattle.set_fields.specs.Numbers.{role_at, ttl_at};
 
 use octet_reading::{Fault, RType, four_at, octet_at, two_at};
@@ -14,15 +14,15 @@ pub fn type_at(bytes: &[u8]) -> Result<(RType, &[u8]), Fault>
     ensures { Gives (λ x. (x.0, x.1.now)) result (type_at bytes.now) }
 {
     let (n, rest) = two_at(bytes)?;
-    let Some(rtype) = type_of(n) else {
+    let Some(rtype) = type_of_number(n) else {
         return Err(Fault(bytes.len()));
     };
     Ok((rtype, rest))
 }
 
 /// The type of a number.
-fn type_of(n: u16) -> Option<RType>
-    ensures { result ≡ type_of n }
+fn type_of_number(n: u16) -> Option<RType>
+    ensures { result ≡ type_of_number n }
 {
     RType::from_number(n)
 }
@@ -33,15 +33,15 @@ pub fn continent_at(bytes: &[u8]) -> Result<(Continent, &[u8]), Fault>
     ensures { Gives (λ x. (x.0, x.1.now)) result (continent_at bytes.now) }
 {
     let (n, rest) = octet_at(bytes)?;
-    let Some(continent) = continent_of(n) else {
+    let Some(continent) = continent_of_number(n) else {
         return Err(Fault(bytes.len()));
     };
     Ok((continent, rest))
 }
 
 /// The continent of a number.
-fn continent_of(n: u8) -> Option<Continent>
-    ensures { result ≡ continent_of n }
+fn continent_of_number(n: u8) -> Option<Continent>
+    ensures { result ≡ continent_of_number n }
 {
     match n {
         1 => Some(Continent::Af),
@@ -61,15 +61,15 @@ pub fn role_at(bytes: &[u8]) -> Result<(Role, &[u8]), Fault>
     ensures { Gives (λ x. (x.0, x.1.now)) result (role_at bytes.now) }
 {
     let (n, rest) = octet_at(bytes)?;
-    let Some(role) = role_of(n) else {
+    let Some(role) = role_of_number(n) else {
         return Err(Fault(bytes.len()));
     };
     Ok((role, rest))
 }
 
 /// The role of a number.
-fn role_of(n: u8) -> Option<Role>
-    ensures { result ≡ role_of n }
+fn role_of_number(n: u8) -> Option<Role>
+    ensures { result ≡ role_of_number n }
 {
     match n {
         1 => Some(Role::Primary),

@@ -3,7 +3,7 @@ use Rattle.std.specs.Prelude.{ℕ, List, [], ◌∷◌, codes, if◌then◌else�
 use Rattle.std.specs.Str.{bytes_eq}
 use Rattle.serde_json.specs.Data.{Data}
 use Rattle.line_reading.specs.Reading.{◌>>=◌, object, required, each, in_change}
-use Rattle.line_reading.specs.Kinds.{text, list, word, id_of, without_prefix}
+use Rattle.line_reading.specs.Kinds.{text, list, one_of_texts, id_of, without_prefix}
 use Rattle.line_faults.specs.declared.member.Member.{Member}
 use Rattle.line_faults.specs.declared.member.Member.TheVariants as m
 use Rattle.line_faults.specs.declared.fault.LineFault.{LineFault}
@@ -23,7 +23,7 @@ action_of s =
 unfoldable pub change : (zone : List ℕ) → Member → Data → Result Change LineFault
 change zone h o = do
   _ ← object h [] (m.Action ∷ m.ResourceRecordSet ∷ []) o
-  act ← required m.Action (word action_of) o
+  act ← required m.Action (one_of_texts action_of) o
   counted ← required m.ResourceRecordSet (resource_record_set zone) o
   Ok (record { action = act; characters = counted.characters; set = counted.set })
 

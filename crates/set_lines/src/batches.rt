@@ -2,7 +2,7 @@
 
 ghost use Rattle.std.specs.Prelude.{◌≡◌, ◌<◌, length};
 ghost use Rattle.serde_json.specs.View.{view, items_view};
-ghost use Rattle.line_reading.specs.Reading.{Reads, each, in_change};
+ghost use Rattle.line_reading.specs.Reading.{Gives, each, in_change};
 ghost use Rattle.set_lines.specs.ChangeLines.{action_of, change, changes, change_batch};
 ghost use Rattle.set_lines.specs.ChangeLines.{change_sets};
 
@@ -17,7 +17,7 @@ use std::alloc::Global;
 /// The line ChangeResourceRecordSets.
 #[tactic(auto, unfolding(crate::specs::ChangeLines::change_sets))]
 pub fn change_sets(alloc: Global, value: &Value) -> Result<Batch, LineFault>
-    ensures { Reads result (change_sets (view value.now)) }
+    ensures { Gives result (change_sets (view value.now)) }
 {
     object(
         value,
@@ -42,7 +42,7 @@ fn change_batch(
     member: Member,
     value: &Value,
 ) -> Result<Changes, LineFault>
-    ensures { Reads result (change_batch zone.now member (view value.now)) }
+    ensures { Gives result (change_batch zone.now member (view value.now)) }
 {
     object(value, member, &[], &[Member::Comment, Member::Changes])?;
     changes(
@@ -56,7 +56,7 @@ fn change_batch(
 /// The changes of a list.
 #[tactic(auto, unfolding(crate::specs::ChangeLines::changes))]
 fn changes(alloc: Global, zone: &[u8], member: Member, value: &Value) -> Result<Changes, LineFault>
-    ensures { Reads result (changes zone.now member (view value.now)) }
+    ensures { Gives result (changes zone.now member (view value.now)) }
 {
     let items = list(0, 65_535, member, value)?;
     changes_in(alloc, zone, member, items)
@@ -70,7 +70,7 @@ fn changes_in(
     items: &[Value],
 ) -> Result<Changes, LineFault>
     requires { length items.now < 65536 }
-    ensures { Reads result
+    ensures { Gives result
         (each (λ k o. in_change k (change zone.now member o)) 0 (items_view items.now)) }
 {
     match each(
@@ -91,7 +91,7 @@ fn change_at(
     index: u16,
     value: &Value,
 ) -> Result<Change, LineFault>
-    ensures { Reads result (in_change index (change zone.now member (view value.now))) }
+    ensures { Gives result (in_change index (change zone.now member (view value.now))) }
 {
     match one_change(alloc, zone, member, value) {
         Ok(change) => Ok(change),
@@ -107,7 +107,7 @@ fn one_change(
     member: Member,
     value: &Value,
 ) -> Result<Change, LineFault>
-    ensures { Reads result (change zone.now member (view value.now)) }
+    ensures { Gives result (change zone.now member (view value.now)) }
 {
     object(
         value,

@@ -2,7 +2,7 @@
 
 ghost use Rattle.std.specs.Prelude.{◌≡◌};
 ghost use Rattle.serde_json.specs.View.{view};
-ghost use Rattle.line_reading.specs.Reading.{Reads};
+ghost use Rattle.line_reading.specs.Reading.{Gives};
 ghost use Rattle.set_lines.specs.Sets.{content_members, body_with, resource_record_set};
 
 use crate::aliases::{Alias, alias_target};
@@ -47,7 +47,7 @@ pub(crate) fn resource_record_set(
     member: Member,
     value: &Value,
 ) -> Result<CountedSet, LineFault>
-    ensures { Reads result (resource_record_set zone.now member (view value.now)) }
+    ensures { Gives result (resource_record_set zone.now member (view value.now)) }
 {
     object(
         value,
@@ -99,7 +99,7 @@ fn content_members(
     rtype: RType,
     value: &Value,
 ) -> Result<Contents, LineFault>
-    ensures { Reads result (content_members zone.now rtype (view value.now)) }
+    ensures { Gives result (content_members zone.now rtype (view value.now)) }
 {
     let ttl = optional_u32(value, Member::Ttl, 0, 2_147_483_647)?;
     let records = optional_owned(

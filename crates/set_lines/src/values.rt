@@ -3,7 +3,7 @@
 ghost use Rattle.std.specs.Prelude.{◌≡◌, ◌≤◌, length, IfOk};
 ghost use Rattle.serde_json.specs.View.{view, items_view};
 ghost use Rattle.batch_model.specs.Gives.{IsValueOfText};
-ghost use Rattle.line_reading.specs.Reading.{Reads};
+ghost use Rattle.line_reading.specs.Reading.{Gives};
 ghost use Rattle.set_lines.specs.Values.{value_of, value, record_value, together, values_in};
 ghost use Rattle.set_lines.specs.Values.{records};
 
@@ -38,7 +38,7 @@ pub(crate) fn records(
     member: Member,
     value: &Value,
 ) -> Result<Valued, LineFault>
-    ensures { Reads result (records rtype member (view value.now)) }
+    ensures { Gives result (records rtype member (view value.now)) }
 {
     let items = list(0, 65_535, member, value)?;
     values_in(alloc, rtype, member, items)
@@ -53,7 +53,7 @@ fn values_in(
     items: &[Value],
 ) -> Result<Valued, LineFault>
     requires { length items.now ≤ 65535 }
-    ensures { Reads result (values_in rtype member (items_view items.now)) }
+    ensures { Gives result (values_in rtype member (items_view items.now)) }
 {
     let list = each(
         alloc,
@@ -100,7 +100,7 @@ fn record_value(
     member: Member,
     item: &Value,
 ) -> Result<Counted, LineFault>
-    ensures { Reads result (record_value rtype member (view item.now)) }
+    ensures { Gives result (record_value rtype member (view item.now)) }
 {
     object(item, member, &[], &[Member::Value])?;
     let found = required(item, Member::Value)?;
@@ -110,7 +110,7 @@ fn record_value(
 /// A value of this type.
 #[tactic(auto, unfolding(crate::specs::Values::value))]
 fn value(alloc: Global, rtype: RType, member: Member, found: &Value) -> Result<Counted, LineFault>
-    ensures { Reads result (value rtype member (view found.now)) }
+    ensures { Gives result (value rtype member (view found.now)) }
 {
     match found.as_str() {
         Some(text) => value_of(alloc, rtype, member, text.as_bytes()),
@@ -120,7 +120,7 @@ fn value(alloc: Global, rtype: RType, member: Member, found: &Value) -> Result<C
 
 /// The value of a text.
 fn value_of(alloc: Global, rtype: RType, member: Member, text: &[u8]) -> Result<Counted, LineFault>
-    ensures { Reads result (value_of member rtype text.now) }
+    ensures { Gives result (value_of member rtype text.now) }
 {
     if text.len() > MOST_TEXT {
         return Err(LineFault::bad(LineReason::BadValue, member));

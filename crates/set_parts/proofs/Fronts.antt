@@ -15,7 +15,7 @@ use Rattle.set_reading.specs.Sets.{IsRouting}
 abbrev policy_back : Routing → List ℕ
 policy_back routing.Simple = []
 policy_back (routing.Weighted ident weight) = weight ∷ []
-policy_back (routing.Failover ident part) = role_number part ∷ []
+policy_back (routing.Failover ident role) = role_number role ∷ []
 policy_back (routing.Geolocation ident where_to) = place_octets where_to
 policy_back (routing.Latency ident region) = text_octets region
 policy_back (routing.Multivalue ident) = []
@@ -28,7 +28,7 @@ append_nothing (x ∷ xs) = ap (λ ys. x ∷ ys) (append_nothing xs)
 halves : (policy : Routing) → routing_octets policy ≡ policy_front policy ++ policy_back policy
 halves routing.Simple = refl
 halves (routing.Weighted ident weight) = refl
-halves (routing.Failover ident part) = refl
+halves (routing.Failover ident role) = refl
 halves (routing.Geolocation ident where_to) = refl
 halves (routing.Latency ident region) = refl
 halves (routing.Multivalue ident) = ap (λ xs. 5 ∷ length ident ∷ xs) (sym (append_nothing ident))
@@ -38,7 +38,7 @@ halves (routing.Cidr ident collection location) =
 few : (policy : Routing) → IsRouting policy → length (policy_front policy) ≤ 130
 few routing.Simple is = omega arith
 few (routing.Weighted ident weight) is = let most = is.short in omega (arith, most)
-few (routing.Failover ident part) is = let most = is.short in omega (arith, most)
+few (routing.Failover ident role) is = let most = is.short in omega (arith, most)
 few (routing.Geolocation ident where_to) is = let most = is.0.short in omega (arith, most)
 few (routing.Latency ident region) is = let most = is.0.short in omega (arith, most)
 few (routing.Multivalue ident) is = let most = is.short in omega (arith, most)

@@ -9,13 +9,13 @@ use Rattle.set_reading.specs.RoutingRecord.TheVariants as routing
 use Rattle.set_reading.specs.SetsOfRecordSet.{ident_of}
 use Rattle.set_reading.specs.RecordSetRecord.{RecordSet}
 use Rattle.set_reading.specs.Octets.{text_octets}
-use Rattle.set_parts.specs.declared.heads.Head.{Head}
+use Rattle.set_parts.specs.declared.heads.KeyFront.{KeyFront}
 
 -- the kind of a policy and the identifier, with which its octets begin
 abbrev pub policy_front : Routing → List ℕ
 policy_front routing.Simple = 0 ∷ []
 policy_front (routing.Weighted ident weight) = 1 ∷ text_octets ident
-policy_front (routing.Failover ident part) = 2 ∷ text_octets ident
+policy_front (routing.Failover ident role) = 2 ∷ text_octets ident
 policy_front (routing.Geolocation ident where_to) = 3 ∷ text_octets ident
 policy_front (routing.Latency ident region) = 4 ∷ text_octets ident
 policy_front (routing.Multivalue ident) = 5 ∷ text_octets ident
@@ -33,18 +33,18 @@ Tells (Some text) None = ⊥
 Tells (Some text) (Some told) = told.now ≡ text
 
 -- a text without its length
-abbrev pub text_of : List ℕ → List ℕ
-text_of [] = []
-text_of (size ∷ octets) = take size octets
+abbrev pub text_behind : List ℕ → List ℕ
+text_behind [] = []
+text_behind (size ∷ octets) = take size octets
 
 -- the identifier behind a kind, where 0 is the kind without one
 abbrev pub told_ident : List ℕ → Option (List ℕ)
 told_ident [] = None
 told_ident (zero ∷ octets) = None
-told_ident (suc kind ∷ octets) = Some (text_of octets)
+told_ident (suc kind ∷ octets) = Some (text_behind octets)
 
 -- What is told of a set's key.
-pub record IsHeadOf (set : RecordSet) (head : Head) : Type 0 where
+pub record IsKeyFrontOf (set : RecordSet) (head : KeyFront) : Type 0 where
   pub name : head.name.now ≡ wire set.name
   pub rtype : head.rtype ≡ set.rtype
   pub ident : Tells (ident_of set.routing) head.ident

@@ -10,7 +10,7 @@ ghost use Rattle.set_reading.specs.RecordSetRecord.{RecordSet};
 ghost use Rattle.set_reading.specs.RoutingRecord.{Routing};
 ghost use Rattle.octets.specs.Numbers.{two_octets};
 ghost use Rattle.set_reading.specs.Octets.{body_octets, check_octets, routing_octets, set_octets};
-ghost use Rattle.set_parts.specs.Heads.{IsHeadOf, Tells, key_octets, policy_front, text_of};
+ghost use Rattle.set_parts.specs.Heads.{IsKeyFrontOf, Tells, key_octets, policy_front, text_behind};
 ghost use Rattle.set_parts.specs.Heads.{told_ident};
 ghost use Rattle.set_reading.specs.Sets.{IsSet};
 
@@ -19,7 +19,7 @@ use set_reading::{RType, fields_are_read, type_at};
 
 /// What a set's key is told by.
 #[derive(Clone, Copy)]
-pub struct Head<'a> {
+pub struct KeyFront<'a> {
     /// The octets of the name on the wire.
     pub name: &'a [u8],
     /// The type.
@@ -29,14 +29,14 @@ pub struct Head<'a> {
 }
 
 /// The key of a set, from octets that begin with all that tells it.
-pub fn head_of(octets: &[u8]) -> Head
+pub fn head_of(octets: &[u8]) -> KeyFront
     ensures { (set : RecordSet) (rest : List ℕ) → IsSet set
-        → octets.now ≡ key_octets set ++ rest → IsHeadOf set result }
+        → octets.now ≡ key_octets set ++ rest → IsKeyFrontOf set result }
 {
     let (name, behind) = name_and_rest(octets);
     let (rtype, policy) = type_and_rest(behind);
     let ident = ident_in_front(policy);
-    Head { name, rtype, ident }
+    KeyFront { name, rtype, ident }
 }
 
 /// A name, and what stands behind it.
@@ -86,7 +86,7 @@ pub fn ident_in_front(octets: &[u8]) -> Option<&[u8]>
 
 /// A text without its length.
 fn text_in_front(octets: &[u8]) -> &[u8]
-    ensures { result.now ≡ text_of octets.now }
+    ensures { result.now ≡ text_behind octets.now }
 {
     match octets {
         [] => octets,

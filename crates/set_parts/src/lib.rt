@@ -9,7 +9,9 @@ mod heads;
 mod laws;
 mod passing;
 
-pub use heads::{Head, body_of, head_of, ident_in_front, name_and_rest, policy_of, type_and_rest};
+pub use heads::{
+    KeyFront, body_of, head_of, ident_in_front, name_and_rest, policy_of, type_and_rest,
+};
 pub use laws::keys_are_in_front;
 pub use passing::{behind_check, behind_name, behind_place, behind_policy, behind_text, past};
 pub use set_reading::{

@@ -4,7 +4,7 @@ use Rattle.std.specs.Prelude.{⊤}
 use Rattle.std.specs.List.{flat_map}
 use Rattle.octets.specs.Numbers.{two_octets, four_octets}
 use Rattle.set_fields.specs.Readers.{has_kind}
-use Rattle.set_fields.specs.Rules.{IsReadAs, AreListed, WhereSome, optional_octets}
+use Rattle.set_fields.specs.Rules.{IsReadAs, AreListable, WhereSome, optional_octets}
 use Rattle.set_fields.proofs.Base.{flag_read, name_read}
 use Rattle.set_fields.proofs.Composed.{in_turn_read, in_turn_by_read}
 use Rattle.set_fields.proofs.OfKind.{kinds_read}
@@ -39,7 +39,7 @@ abbrev Of : RType → ℕ → Body → Type 0
 Of type n answers = IsGoodBody type answers × (kind answers ≡ n)
 
 records_from : (type : RType) (x : Body) → Of type 0 x
-    → (p : ℕ × List Datum) × ((p.0 < 2 ^ 31) × AreListed (IsValue type) p.1)
+    → (p : ℕ × List Datum) × ((p.0 < 2 ^ 31) × AreListable (IsValue type) p.1)
     × (body.Values p.0 p.1 ≡ x)
 records_from type (body.Values ttl values) h = (
   (ttl, values),

@@ -11,12 +11,12 @@ use Rattle.set_fields.specs.BodyRecord.TheVariants as body
 use Rattle.set_fields.specs.Layouts.{is_layout}
 use Rattle.set_fields.specs.Names.{name_at}
 use Rattle.set_fields.specs.Octets.{set_octets}
-use Rattle.set_fields.specs.Numbers.{type_of, type_at, continent_at, role_at, ttl_at}
+use Rattle.set_fields.specs.Numbers.{type_of_number, type_at, continent_at, role_at, ttl_at}
 use Rattle.set_fields.specs.Readers.{text_at}
 use Rattle.set_fields.specs.Texts.{location_at, country_at}
 use Rattle.set_reading.specs.Reading.{subdivision_at, place_at, weighted_at, failover_at, geolocation_at}
 use Rattle.set_reading.specs.Reading.{latency_at, multivalue_at, cidr_at, routing_at, value_at, records_at}
-use Rattle.set_reading.specs.Reading.{alias_at, body_at, check_at, set_at, placed, read}
+use Rattle.set_reading.specs.Reading.{alias_at, body_at, check_at, set_at, by_place, read}
 
 -- the name www.example.com on the wire
 abbrev www : List ℕ
@@ -46,7 +46,7 @@ simple_is_written = refl
 
 -- seven octets follow
 pub simple_is_read : read (simple_octets ++ 1 ∷ 2 ∷ 3 ∷ 4 ∷ 5 ∷ 6 ∷ 7 ∷ []) ≡ Ok (simple, 34)
-unfolding read set_at name_at type_at type_of routing_at weighted_at failover_at geolocation_at
+unfolding read set_at name_at type_at type_of_number routing_at weighted_at failover_at geolocation_at
     latency_at multivalue_at cidr_at location_at place_at subdivision_at country_at continent_at
     role_at text_at body_at records_at alias_at ttl_at value_at is_layout check_at
 simple_is_read = refl
@@ -79,7 +79,7 @@ pub weighted_is_written : set_octets weighted ≡ weighted_octets
 weighted_is_written = refl
 
 pub weighted_is_read : read weighted_octets ≡ Ok (weighted, 39)
-unfolding read set_at name_at type_at type_of routing_at weighted_at failover_at geolocation_at
+unfolding read set_at name_at type_at type_of_number routing_at weighted_at failover_at geolocation_at
     latency_at multivalue_at cidr_at location_at place_at subdivision_at country_at continent_at
     role_at text_at body_at records_at alias_at ttl_at value_at is_layout check_at
 weighted_is_read = refl
@@ -105,7 +105,7 @@ pub geolocation_is_written : set_octets geolocation ≡ geolocation_octets
 geolocation_is_written = refl
 
 pub geolocation_is_read : read geolocation_octets ≡ Ok (geolocation, 29)
-unfolding read set_at name_at type_at type_of routing_at weighted_at failover_at geolocation_at
+unfolding read set_at name_at type_at type_of_number routing_at weighted_at failover_at geolocation_at
     latency_at multivalue_at cidr_at location_at place_at subdivision_at country_at continent_at
     role_at text_at body_at records_at alias_at ttl_at value_at is_layout check_at
 geolocation_is_read = refl
@@ -131,7 +131,7 @@ pub latency_is_written : set_octets latency ≡ latency_octets
 latency_is_written = refl
 
 pub latency_is_read : read latency_octets ≡ Ok (latency, 22)
-unfolding read set_at name_at type_at type_of routing_at weighted_at failover_at geolocation_at
+unfolding read set_at name_at type_at type_of_number routing_at weighted_at failover_at geolocation_at
     latency_at multivalue_at cidr_at location_at place_at subdivision_at country_at continent_at
     role_at text_at body_at records_at alias_at ttl_at value_at is_layout check_at
 latency_is_read = refl
@@ -143,7 +143,7 @@ places octets = map read octets
 -- in a label that is cut off
 pub faults_in_names : places ([] ∷ take 5 www ∷ (1 ∷ 0x41 ∷ 0 ∷ []) ∷ (1 ∷ 0x61 ∷ 0xC0 ∷ 12 ∷ [])
     ∷ (3 ∷ 0x61 ∷ 0x41 ∷ []) ∷ []) ≡ Err 0 ∷ Err 5 ∷ Err 0 ∷ Err 0 ∷ Err 0 ∷ []
-unfolding read set_at name_at type_at type_of routing_at weighted_at failover_at geolocation_at
+unfolding read set_at name_at type_at type_of_number routing_at weighted_at failover_at geolocation_at
     latency_at multivalue_at cidr_at location_at place_at subdivision_at country_at continent_at
     role_at text_at body_at records_at alias_at ttl_at value_at is_layout check_at
 faults_in_names = refl
@@ -155,7 +155,7 @@ www_a = www ++ 0 ∷ 1 ∷ []
 -- types: one octet, and the type 0; policies: none, and kind 7
 pub faults_in_types : places ((www ++ 0 ∷ []) ∷ (www ++ 0 ∷ 0 ∷ 0 ∷ []) ∷ www_a
     ∷ (www_a ++ 7 ∷ 0 ∷ []) ∷ []) ≡ Err 18 ∷ Err 17 ∷ Err 19 ∷ Err 19 ∷ []
-unfolding read set_at name_at type_at type_of routing_at weighted_at failover_at geolocation_at
+unfolding read set_at name_at type_at type_of_number routing_at weighted_at failover_at geolocation_at
     latency_at multivalue_at cidr_at location_at place_at subdivision_at country_at continent_at
     role_at text_at body_at records_at alias_at ttl_at value_at is_layout check_at
 faults_in_types = refl
@@ -166,7 +166,7 @@ pub faults_in_identifiers : places ((www_a ++ 1 ∷ 0 ∷ []) ∷ (www_a ++ 1 �
     ∷ (www_a ++ 1 ∷ 9 ∷ 0x1F ∷ []) ∷ (www_a ++ 1 ∷ 9 ∷ 0x20 ∷ []) ∷ (www_a ++ 2 ∷ 1 ∷ 0x20 ∷ 3 ∷ [])
     ∷ (www_a ++ 2 ∷ 1 ∷ 0x20 ∷ []) ∷ [])
     ≡ Err 20 ∷ Err 20 ∷ Err 20 ∷ Err 22 ∷ Err 22 ∷ Err 22 ∷ []
-unfolding read set_at name_at type_at type_of routing_at weighted_at failover_at geolocation_at
+unfolding read set_at name_at type_at type_of_number routing_at weighted_at failover_at geolocation_at
     latency_at multivalue_at cidr_at location_at place_at subdivision_at country_at continent_at
     role_at text_at body_at records_at alias_at ttl_at value_at is_layout check_at
 faults_in_identifiers = refl
@@ -182,7 +182,7 @@ pub faults_in_places : places ((geo ++ 0 ∷ []) ∷ (geo ++ 5 ∷ []) ∷ (geo 
     ∷ (geo ++ 2 ∷ 0x75 ∷ 0x73 ∷ []) ∷ (geo ++ 2 ∷ 0x55 ∷ []) ∷ (geo ++ 3 ∷ 0x55 ∷ 0x53 ∷ 4 ∷ [])
     ∷ (geo ++ 3 ∷ 0x55 ∷ 0x53 ∷ 2 ∷ 0x63 ∷ []) ∷ [])
     ≡ Err 22 ∷ Err 22 ∷ Err 23 ∷ Err 23 ∷ Err 23 ∷ Err 24 ∷ Err 25 ∷ Err 25 ∷ []
-unfolding read set_at name_at type_at type_of routing_at weighted_at failover_at geolocation_at
+unfolding read set_at name_at type_at type_of_number routing_at weighted_at failover_at geolocation_at
     latency_at multivalue_at cidr_at location_at place_at subdivision_at country_at continent_at
     role_at text_at body_at records_at alias_at ttl_at value_at is_layout check_at
 faults_in_places = refl
@@ -245,7 +245,7 @@ pub faults_in_locations :
     ((0 ∷ []) ∷ (17 ∷ []) ∷ (2 ∷ 0x2A ∷ []) ∷ (1 ∷ 0x2E ∷ []) ∷ (3 ∷ 0x61 ∷ []) ∷ []
     ∷ (1 ∷ 0x2A ∷ 2 ∷ []) ∷ []))
     ≡ Err 25 ∷ Err 26 ∷ Err 26 ∷ Err 26 ∷ Err 26 ∷ Err 28 ∷ Err 26 ∷ Err 28 ∷ []
-unfolding read set_at name_at type_at type_of routing_at weighted_at failover_at geolocation_at
+unfolding read set_at name_at type_at type_of_number routing_at weighted_at failover_at geolocation_at
     latency_at multivalue_at cidr_at location_at place_at subdivision_at country_at continent_at
     role_at text_at body_at records_at alias_at ttl_at value_at is_layout check_at
 faults_in_locations = refl
@@ -259,7 +259,7 @@ pub faults_in_answers : places ((www_a ++ 0 ∷ 2 ∷ []) ∷ (www_a ++ 0 ∷ 0 
     ∷ (www_a ++ 0 ∷ 0 ∷ 0 ∷ 0 ∷ 0 ∷ 0 ∷ 0 ∷ 1 ∷ 0 ∷ 3 ∷ 1 ∷ 2 ∷ 3 ∷ 0 ∷ [])
     ∷ (www_a ++ 0 ∷ 0 ∷ 0 ∷ 0 ∷ 0 ∷ 0 ∷ 0 ∷ 1 ∷ 0 ∷ 0 ∷ []) ∷ (www_a ++ 0 ∷ 1 ∷ 0 ∷ 2 ∷ []) ∷ [])
     ≡ Err 20 ∷ Err 21 ∷ Err 26 ∷ Err 32 ∷ Err 29 ∷ Err 29 ∷ Err 22 ∷ []
-unfolding read set_at name_at type_at type_of routing_at weighted_at failover_at geolocation_at
+unfolding read set_at name_at type_at type_of_number routing_at weighted_at failover_at geolocation_at
     latency_at multivalue_at cidr_at location_at place_at subdivision_at country_at continent_at
     role_at text_at body_at records_at alias_at ttl_at value_at is_layout check_at
 faults_in_answers = refl
@@ -267,7 +267,7 @@ faults_in_answers = refl
 -- checks: no flag, a flag of 2, a number of three octets
 pub faults_in_checks : places (take 33 simple_octets ∷ (take 33 simple_octets ++ 2 ∷ [])
     ∷ (take 33 simple_octets ++ 1 ∷ 0 ∷ 0 ∷ 0 ∷ []) ∷ []) ≡ Err 33 ∷ Err 33 ∷ Err 37 ∷ []
-unfolding read set_at name_at type_at type_of routing_at weighted_at failover_at geolocation_at
+unfolding read set_at name_at type_at type_of_number routing_at weighted_at failover_at geolocation_at
     latency_at multivalue_at cidr_at location_at place_at subdivision_at country_at continent_at
     role_at text_at body_at records_at alias_at ttl_at value_at is_layout check_at
 faults_in_checks = refl
@@ -285,12 +285,12 @@ pub no_values : read (1 ∷ 0x61 ∷ 0 ∷ 0 ∷ 1 ∷ 0 ∷ 0 ∷ 0 ∷ 0 ∷ 0
       },
       14,
     )
-unfolding read set_at name_at type_at type_of routing_at weighted_at failover_at geolocation_at
+unfolding read set_at name_at type_at type_of_number routing_at weighted_at failover_at geolocation_at
     latency_at multivalue_at cidr_at location_at place_at subdivision_at country_at continent_at
     role_at text_at body_at records_at alias_at ttl_at value_at is_layout check_at
 no_values = refl
 
 -- sets of 65,536 and of 65,537 octets
-pub longest : (placed 65536 (Ok (simple, [])) ≡ Ok (simple, 65536))
-    × (placed 65537 (Ok (simple, [])) ≡ Err 0)
+pub longest : (by_place 65536 (Ok (simple, [])) ≡ Ok (simple, 65536))
+    × (by_place 65537 (Ok (simple, [])) ≡ Err 0)
 longest = (refl, refl)

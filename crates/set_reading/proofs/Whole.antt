@@ -7,11 +7,11 @@ use Rattle.set_fields.proofs.Digits.{ok_is}
 use Rattle.set_fields.specs.NamesOfDnsName.{AreOctets}
 use Rattle.set_fields.specs.RecordSetRecord.{RecordSet}
 use Rattle.set_reading.specs.declared.faults.ReadFault.{ReadFault}
-use Rattle.set_reading.specs.Gives.{ReadsSet}
+use Rattle.set_reading.specs.Gives.{GivesSet}
 use Rattle.set_reading.specs.Laws.{OneSpelling, WrittenReadsBack, TellsSet, SetsAreTold}
 use Rattle.set_fields.specs.Octets.{set_octets, most_octets}
 use Rattle.set_fields.specs.Laws.{FieldsAreRead}
-use Rattle.set_reading.specs.Reading.{set_at, placed, read}
+use Rattle.set_reading.specs.Reading.{set_at, by_place, read}
 use Rattle.set_reading.specs.Sets.{BeginsWithSet}
 use Rattle.set_reading.proofs.Answering.{set_read}
 
@@ -27,7 +27,7 @@ refused true y place e = cc
 refused false y place e = absurd cc
 
 placed_inside : (total : ℕ) (parts : Result (RecordSet × List ℕ) ℕ) (place : ℕ)
-    → placed total parts ≡ Err place → place ≤ total
+    → by_place total parts ≡ Err place → place ≤ total
 placed_inside total (Ok x) place e = let first = refused (nat_lt most_octets (total - length x.1))
     (x.0, total - length x.1) place e in omega (arith, first)
 placed_inside total (Err left) place e = let same : total - left ≡ place = cc in omega (arith, same)
@@ -38,7 +38,7 @@ inside octets place e = placed_inside (length octets) (set_at octets) place e
 
 -- a set that is no longer than sets may be
 placed_ok : (total : ℕ) (x : RecordSet × List ℕ) (n : ℕ) → total - length x.1 ≡ n → n ≤ most_octets
-    → placed total (Ok x) ≡ Ok (x.0, n)
+    → by_place total (Ok x) ≡ Ok (x.0, n)
 placed_ok total x n size short =
     let fits : nat_lt most_octets n ≡ false = le-ltb most_octets n short in
     rw (size, fits) refl
@@ -46,7 +46,7 @@ placed_ok total x n size short =
 module _ (fields : FieldsAreRead) where
   found : (octets : List ℕ) (parts : Result (RecordSet × List ℕ) ℕ) (y : RecordSet × ℕ)
       → AreOctets octets
-      → set_at octets ≡ parts → placed (length octets) parts ≡ Ok y → BeginsWithSet octets y.0 y.1
+      → set_at octets ≡ parts → by_place (length octets) parts ≡ Ok y → BeginsWithSet octets y.0 y.1
   found octets (Ok x) y bytes s e =
       let n = length octets - length x.1 in
       let g = guard_ok (nat_lt most_octets n) 0 (Ok (x.0, n)) y e in
@@ -90,21 +90,21 @@ module _ (fields : FieldsAreRead) where
       }) in
       let size : length octets - length b.rest ≡ n =
       omega (arith, ap length b.spelled, length-append (set_octets set) b.rest, b.size) in
-      ap (placed (length octets)) parts
+      ap (by_place (length octets)) parts
       ∙ placed_ok (length octets) (
         set,
         b.rest,
       ) n size (omega (arith, b.size, b.has_spelling.short))
 
   pub is_found : (octets : List ℕ) (result : Result (RecordSet × ℕ) ReadFault) → AreOctets octets
-      → ReadsSet result (read octets) → IfOk result (λ r. BeginsWithSet octets r.0 r.1)
+      → GivesSet result (read octets) → IfOk result (λ r. BeginsWithSet octets r.0 r.1)
   is_found octets (Ok r) bytes e = read_found octets r bytes e
   is_found octets (Err fault) bytes e = tt
 
   pub is_only : (octets : List ℕ) (result : Result (RecordSet × ℕ) ReadFault)
-      → ReadsSet result (read octets)
-      → (set : RecordSet) (n : ℕ) → BeginsWithSet octets set n → ReadsSet result (Ok (set, n))
-  is_only octets result e set n b = subst (ReadsSet result) (read_again octets set n b) e
+      → GivesSet result (read octets)
+      → (set : RecordSet) (n : ℕ) → BeginsWithSet octets set n → GivesSet result (Ok (set, n))
+  is_only octets result e set n b = subst (GivesSet result) (read_again octets set n b) e
 
   pub written_reads_back : WrittenReadsBack
   written_reads_back set rest is spelling =

@@ -10,10 +10,10 @@ use Rattle.set_reading.specs.declared.faults.ReadFault.{ReadFault}
 use Rattle.set_reading.specs.declared.faults.ReadFault.TheVariants as fault
 
 -- What a call answered is what reading says, unless memory ran out.
-abbrev pub ReadsSet : Result (RecordSet × ℕ) ReadFault → Result (RecordSet × ℕ) ℕ → Type 0
-ReadsSet (Ok x) read = read ≡ Ok x
-ReadsSet (Err (fault.Bad place)) read = read ≡ Err place
-ReadsSet (Err fault.OutOfMemory) read = ⊤
+abbrev pub GivesSet : Result (RecordSet × ℕ) ReadFault → Result (RecordSet × ℕ) ℕ → Type 0
+GivesSet (Ok x) read = read ≡ Ok x
+GivesSet (Err (fault.Bad place)) read = read ≡ Err place
+GivesSet (Err fault.OutOfMemory) read = ⊤
 
 -- A set's octets are among those that were given, and a fault stands at one of them or behind the last.
 abbrev pub IsInside : ℕ → Result (RecordSet × ℕ) ReadFault → Type 0

@@ -1,6 +1,6 @@
 -- Reading the octets of sets from left to right, with the first fault that is met (FORMATS, Octets of sets).
 use Rattle.std.specs.Prelude.{ℕ, ◌-◌, List, [], ◌∷◌, length, take, drop, nat_lt, Option, Result, Ok, Err, if◌then◌else◌}
-use Rattle.set_fields.specs.Readers.{seen, in_turn, in_turn_by, list_at, optional_at, kinds}
+use Rattle.set_fields.specs.Readers.{mapped, in_turn, in_turn_by, list_at, optional_at, kinds}
 use Rattle.set_fields.specs.Reading.{◌>>=◌, octet_at, two_at, four_at, flag_at}
 use Rattle.set_fields.specs.Names.{name_at}
 use Rattle.set_fields.specs.Layouts.{is_layout}
@@ -23,13 +23,13 @@ alone x octets = Ok (x, octets)
 
 -- a country and a subdivision of it
 unfoldable pub subdivision_at : List ℕ → Result (Place × List ℕ) ℕ
-subdivision_at octets = seen (λ x. place.Subdivision x.0 x.1) (in_turn country_at sub_at) octets
+subdivision_at octets = mapped (λ x. place.Subdivision x.0 x.1) (in_turn country_at sub_at) octets
 
 -- a place: its kind, and what belongs to it
 abbrev pub places : List (ℕ × (List ℕ → Result (Place × List ℕ) ℕ))
 places =
-    (1, seen (λ x. place.Continent x) continent_at)
-    ∷ (2, seen (λ x. place.Country x) country_at)
+    (1, mapped (λ x. place.Continent x) continent_at)
+    ∷ (2, mapped (λ x. place.Country x) country_at)
     ∷ (3, subdivision_at)
     ∷ (4, alone place.Anywhere)
     ∷ []
@@ -39,23 +39,23 @@ place_at octets = kinds places octets
 
 -- the policies, each behind its kind: an identifier, and what belongs to it
 unfoldable pub weighted_at : List ℕ → Result (Routing × List ℕ) ℕ
-weighted_at octets = seen (λ x. routing.Weighted x.0 x.1) (in_turn ident_at octet_at) octets
+weighted_at octets = mapped (λ x. routing.Weighted x.0 x.1) (in_turn ident_at octet_at) octets
 
 unfoldable pub failover_at : List ℕ → Result (Routing × List ℕ) ℕ
-failover_at octets = seen (λ x. routing.Failover x.0 x.1) (in_turn ident_at role_at) octets
+failover_at octets = mapped (λ x. routing.Failover x.0 x.1) (in_turn ident_at role_at) octets
 
 unfoldable pub geolocation_at : List ℕ → Result (Routing × List ℕ) ℕ
-geolocation_at octets = seen (λ x. routing.Geolocation x.0 x.1) (in_turn ident_at place_at) octets
+geolocation_at octets = mapped (λ x. routing.Geolocation x.0 x.1) (in_turn ident_at place_at) octets
 
 unfoldable pub latency_at : List ℕ → Result (Routing × List ℕ) ℕ
-latency_at octets = seen (λ x. routing.Latency x.0 x.1) (in_turn ident_at region_at) octets
+latency_at octets = mapped (λ x. routing.Latency x.0 x.1) (in_turn ident_at region_at) octets
 
 unfoldable pub multivalue_at : List ℕ → Result (Routing × List ℕ) ℕ
-multivalue_at octets = seen (λ x. routing.Multivalue x) ident_at octets
+multivalue_at octets = mapped (λ x. routing.Multivalue x) ident_at octets
 
 unfoldable pub cidr_at : List ℕ → Result (Routing × List ℕ) ℕ
 cidr_at octets =
-    seen (λ x. routing.Cidr x.0.0 x.0.1 x.1) (in_turn (in_turn ident_at four_at) location_at) octets
+    mapped (λ x. routing.Cidr x.0.0 x.0.1 x.1) (in_turn (in_turn ident_at four_at) location_at) octets
 
 -- a policy: its kind, and what belongs to it
 abbrev pub policies : List (ℕ × (List ℕ → Result (Routing × List ℕ) ℕ))
@@ -83,11 +83,11 @@ value_at type octets = do
 -- a time to live, and a list of values
 unfoldable pub records_at : RType → List ℕ → Result (Body × List ℕ) ℕ
 records_at type octets =
-    seen (λ x. body.Values x.0 x.1) (in_turn ttl_at (list_at (value_at type))) octets
+    mapped (λ x. body.Values x.0 x.1) (in_turn ttl_at (list_at (value_at type))) octets
 
 -- the target of an alias, and whether its health counts
 unfoldable pub alias_at : List ℕ → Result (Body × List ℕ) ℕ
-alias_at octets = seen (λ x. body.Alias x.0 x.1) (in_turn name_at flag_at) octets
+alias_at octets = mapped (λ x. body.Alias x.0 x.1) (in_turn name_at flag_at) octets
 
 -- what a set of the type answers: its kind, and what belongs to it
 abbrev pub bodies : RType → List (ℕ × (List ℕ → Result (Body × List ℕ) ℕ))
@@ -113,13 +113,13 @@ set_of x = record { name = x.0.0.0; rtype = x.0.0.1; routing = x.0.1; body = x.1
 
 -- the fields of a set in their order
 unfoldable pub set_at : List ℕ → Result (RecordSet × List ℕ) ℕ
-set_at octets = seen set_of (in_turn_by head_at (λ head. tail_at head.0.1)) octets
+set_at octets = mapped set_of (in_turn_by head_at (λ head. tail_at head.0.1)) octets
 
 -- The set that octets begin with, and how many octets it has; or the place of the first fault. Where a set is longer than
 -- sets may be, that is its first octet.
-abbrev pub placed : (total : ℕ) → Result (RecordSet × List ℕ) ℕ → Result (RecordSet × ℕ) ℕ
-placed total (Ok x) = if nat_lt most_octets (total - length x.1) then Err 0 else Ok (x.0, total - length x.1)
-placed total (Err left) = Err (total - left)
+abbrev pub by_place : (total : ℕ) → Result (RecordSet × List ℕ) ℕ → Result (RecordSet × ℕ) ℕ
+by_place total (Ok x) = if nat_lt most_octets (total - length x.1) then Err 0 else Ok (x.0, total - length x.1)
+by_place total (Err left) = Err (total - left)
 
 unfoldable pub read : List ℕ → Result (RecordSet × ℕ) ℕ
-read octets = placed (length octets) (set_at octets)
+read octets = by_place (length octets) (set_at octets)

@@ -4,7 +4,7 @@ ghost use Rattle.std.specs.Prelude.{◌≡◌, ℕ, length, take, drop, IfOk, Ok
 ghost use Rattle.set_fields.specs.RecordSetRecord.{RecordSet};
 ghost use Rattle.set_reading.specs.Sets.{BeginsWithSet};
 ghost use Rattle.set_fields.specs.Reading.{Gives, GivesOrStops};
-ghost use Rattle.set_reading.specs.Gives.{IsInside, ReadsSet, ReadsValue};
+ghost use Rattle.set_reading.specs.Gives.{IsInside, GivesSet, ReadsValue};
 ghost use Rattle.set_reading.specs.Reading.{place_at, subdivision_at, weighted_at, failover_at};
 ghost use Rattle.set_reading.specs.Reading.{geolocation_at, latency_at, multivalue_at, cidr_at};
 ghost use Rattle.set_reading.specs.Reading.{routing_at, value_at, records_at, alias_at, body_at};
@@ -23,9 +23,9 @@ pub fn read_set(alloc: Global, bytes: &[u8]) -> Result<(RecordSet, usize), ReadF
     // What is read stands there.
     ensures found { IfOk result (λ r. BeginsWithSet bytes.now r.0 r.1) }
     // What stands there is read, unless memory runs out.
-    ensures only { (set : RecordSet) (n : ℕ) → BeginsWithSet bytes.now set n → ReadsSet result (Ok (set, n)) }
+    ensures only { (set : RecordSet) (n : ℕ) → BeginsWithSet bytes.now set n → GivesSet result (Ok (set, n)) }
     // Which fault it is, and at which place.
-    ensures exact { ReadsSet result (read bytes.now) }
+    ensures exact { GivesSet result (read bytes.now) }
     ensures inside { IsInside (length bytes.now) result }
 {
     fields_are_read();
@@ -35,7 +35,7 @@ pub fn read_set(alloc: Global, bytes: &[u8]) -> Result<(RecordSet, usize), ReadF
 /// The set at the front, or the place of the first fault: its fields one behind another.
 #[tactic(auto, unfolding(crate::specs::Reading::read, crate::specs::Reading::set_at))]
 fn read(alloc: Global, bytes: &[u8]) -> Result<(RecordSet, usize), ReadFault>
-    ensures exact { ReadsSet result (read bytes.now) }
+    ensures exact { GivesSet result (read bytes.now) }
     ensures inside { IsInside (length bytes.now) result }
 {
     let total = bytes.len();

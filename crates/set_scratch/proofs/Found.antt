@@ -14,7 +14,7 @@ use Rattle.set_parts.specs.Octets.{set_octets, HasSpelling}
 use Rattle.set_parts.specs.LawsOfSetReading.{WrittenReadsBack}
 use Rattle.set_parts.specs.Reading.{read}
 use Rattle.set_parts.specs.Sets.{IsRouting, IsSet}
-use Rattle.set_scratch.specs.Kept.{AreAt, AreOf, IsKept, most_values}
+use Rattle.set_scratch.specs.Kept.{AreAt, AreOf, IsIntact, most_values}
 use Rattle.set_scratch.specs.Spelling.{Spells, from_body, from_type, held_of, set_of, set_read}
 use Rattle.set_scratch.specs.declared.places.Places.{Places}
 
@@ -103,7 +103,7 @@ module _ (back : WrittenReadsBack) where
   pub kept : (octets starts : List ℕ) (places : Places) (room : ℕ) (set : RecordSet)
       → length octets ≡ most_octets → most_values ≤ room → places.len ≤ length octets
       → Spells (take places.len octets) set → AreAt set places starts
-      → IsKept octets places starts room
+      → IsIntact octets places starts room
   kept octets starts places room set size room_for_all used spelled at = record {
     size = size;
     room_for_all = room_for_all;
@@ -115,7 +115,7 @@ module _ (back : WrittenReadsBack) where
   pub kept_front : (octets front starts : List ℕ) (len room : ℕ) (places : Places) (set : RecordSet)
       → length octets ≡ most_octets → most_values ≤ room → len ≤ length octets → front ≡ take len octets
       → Spells front set → AreAt set places starts
-      → IsKept octets places starts room × (held_of octets places.len ≡ Some set)
+      → IsIntact octets places starts room × (held_of octets places.len ≡ Some set)
   kept_front octets front starts len room places set size room_for_all used is spelled at =
       let same : places.len ≡ len =
       at.len ∙ ap length (sym spelled.same) ∙ ap length is ∙ length-take-le len octets used in
@@ -130,7 +130,7 @@ module _ (back : WrittenReadsBack) where
       → len ≡ 0 + length (set_octets set) → octets ≡ set_octets set ++ drop len others
       → length others ≡ most_octets → most_values ≤ room → front ≡ take len octets
       → IsSet set → HasSpelling set → (Spells front set → AreAt set places starts)
-      → IsKept octets places starts room × (held_of octets places.len ≡ Some set)
+      → IsIntact octets places starts room × (held_of octets places.len ≡ Some set)
   kept_written octets others front starts len room places set end filled size enough is set_is spelling at =
       let long : len ≡ length (set_octets set) = omega (arith, end) in
       let same : take len octets ≡ set_octets set =

@@ -32,7 +32,7 @@ AreOf octets places starts None = ⊤
 AreOf octets places starts (Some set) = Spells (take places.len octets) set × AreAt set places starts
 
 -- The buffer and the places of values have room for any set, and hold the set that is held.
-pub record IsKept (octets : List ℕ) (places : Places) (starts : List ℕ) (room : ℕ) : Type 0 where
+pub record IsIntact (octets : List ℕ) (places : Places) (starts : List ℕ) (room : ℕ) : Type 0 where
   pub size : length octets ≡ most_octets
   pub room_for_all : most_values ≤ room
   pub used : places.len ≤ length octets

@@ -9,7 +9,7 @@ ghost use Rattle.set_parts.specs.RecordSetRecord.{RecordSet};
 ghost use Rattle.set_parts.specs.Octets.{HasSpelling, check_octets, most_octets, set_octets};
 ghost use Rattle.set_scratch.specs.Bodies.{alias_of, ttl_of, values_of, wires_of};
 ghost use Rattle.set_scratch.specs.Holding.{HasValue, IsHolding};
-ghost use Rattle.set_scratch.specs.Kept.{IsKept, most_values};
+ghost use Rattle.set_scratch.specs.Kept.{IsIntact, most_values};
 ghost use Rattle.set_scratch.specs.Spelling.{IsPart, Spells, from_body, from_policy, from_type};
 ghost use Rattle.set_scratch.specs.Spelling.{held_of};
 
@@ -42,7 +42,7 @@ pub struct Scratch {
 impl Model for Scratch {
     ghost use Rattle.std.specs.Prelude.{Option, vec_capacity};
     ghost use Rattle.set_parts.specs.RecordSetRecord.{RecordSet};
-    ghost use Rattle.set_scratch.specs.Kept.{IsKept};
+    ghost use Rattle.set_scratch.specs.Kept.{IsIntact};
     ghost use Rattle.set_scratch.specs.Spelling.{held_of};
 
     ghost Value = { Option RecordSet };
@@ -50,7 +50,7 @@ impl Model for Scratch {
     ghost view = { λ a. held_of a.octets.items a.places.len };
 
     ghost invariant = { λ a.
-        IsKept a.octets.items a.places a.starts.items (vec_capacity a.starts) };
+        IsIntact a.octets.items a.places a.starts.items (vec_capacity a.starts) };
 }
 
 impl Scratch {
@@ -219,7 +219,7 @@ fn keep_set(set: &RecordSet, octets: &mut [u8], starts: &mut Vec<u16>) -> Places
     requires size { length octets.old ≡ most_octets }
     requires room { most_values ≤ vec_capacity starts.old }
     requires spelling { HasSpelling set.now }
-    ensures kept { IsKept octets.new result starts.new.items (vec_capacity starts.new) }
+    ensures kept { IsIntact octets.new result starts.new.items (vec_capacity starts.new) }
     ensures held { held_of octets.new result.len ≡ Some set.now }
 {
     well_formed(set);
@@ -234,7 +234,7 @@ fn keep_octets(region: &Region, handle: Handle, octets: &mut [u8], starts: &mut 
     requires room { most_values ≤ vec_capacity starts.old }
     requires spelled { (set : RecordSet) × (spelling : List ℕ)
         × (map.get region.now.held handle ≡ Some spelling) × Spells spelling set }
-    ensures kept { IsKept octets.new result starts.new.items (vec_capacity starts.new) }
+    ensures kept { IsIntact octets.new result starts.new.items (vec_capacity starts.new) }
     ensures held { (set : RecordSet) (spelling : List ℕ)
         → map.get region.now.held handle ≡ Some spelling → Spells spelling set
         → held_of octets.new result.len ≡ Some set }

@@ -16,7 +16,7 @@ use Rattle.zone_model.proofs.Ordered.{one_number}
 use Rattle.set_search.specs.declared.bounds.Bound.{Bound}
 use Rattle.set_search.specs.declared.bounds.Bound.TheVariants as bound
 use Rattle.set_search.specs.Bounds.{is_before, group_cmp}
-use Rattle.set_search.specs.Found.{EndsBetween, IsBracket, IsCount, IsMemberAt, IsOf}
+use Rattle.set_search.specs.Found.{EndsBetween, IsBracket, IsCount, IsSetOfGroupAt, IsOf}
 use Rattle.set_search.proofs.Lookups.{all_before, low_up, high_down}
 use Rattle.set_search.proofs.Together.{before_start, below_not_above, first_key, of_group}
 
@@ -62,7 +62,7 @@ module _ (name : List (List ℕ)) (rtype : RType) where
   ends x is = ap (λ o. not (is_gt o)) (tied x is)
 
   module _ (sets : List RecordSet) (rising : IsRising sets) (place : ℕ)
-      (member : IsMemberAt sets name rtype place) where
+      (member : IsSetOfGroupAt sets name rtype place) where
     within : place < length sets
     within = slice_get_within sets place member.0 member.1
 
@@ -141,7 +141,7 @@ module _ (name : List (List ℕ)) (rtype : RType) where
 
   -- a later member
   pub ends_later : (sets : List RecordSet) → IsRising sets → (last high later : ℕ)
-      → later < high → EndsBetween sets name rtype last high → IsMemberAt sets name rtype later
+      → later < high → EndsBetween sets name rtype last high → IsSetOfGroupAt sets name rtype later
       → EndsBetween sets name rtype later high
   ends_later sets rising last high later below ends member = record {
     member = member;

@@ -10,7 +10,7 @@ use Rattle.zone_model.specs.RTypeRecord.{RType}
 use Rattle.zone_model.specs.RecordSetRecord.{RecordSet}
 use Rattle.zone_model.specs.SetKeyRecord.{SetKey}
 use Rattle.zone_model.specs.Sets.{key_of}
-use Rattle.zone_model.specs.Placing.{comes_before, comes_behind, Keeps, IsThere}
+use Rattle.zone_model.specs.Placing.{comes_before, comes_behind, IsSetOf, IsThere}
 use Rattle.zone_model.specs.Zones.{group}
 use Rattle.set_search.specs.declared.bounds.Bound.{Bound}
 use Rattle.set_search.specs.declared.bounds.Bound.TheVariants as bound
@@ -45,14 +45,14 @@ IsTypedAt sets name place number =
     × (number ≡ number_of set.rtype)
 
 -- the set at a place has the name and the type
-abbrev pub IsMemberAt : List RecordSet → (name : List (List ℕ)) → RType → (place : ℕ) → Type 0
-IsMemberAt sets name rtype place =
+abbrev pub IsSetOfGroupAt : List RecordSet → (name : List (List ℕ)) → RType → (place : ℕ) → Type 0
+IsSetOfGroupAt sets name rtype place =
     (set : RecordSet) × (slice_get sets place ≡ Some set) × IsOf name rtype set
 
 -- The set at place `last` has the name and the type, and the last one with both stands before `high`.
 pub record EndsBetween (sets : List RecordSet) (name : List (List ℕ)) (rtype : RType)
     (last high : ℕ) : Type 0 where
-  pub member : IsMemberAt sets name rtype last
+  pub member : IsSetOfGroupAt sets name rtype last
   pub bracket : IsBracket sets (bound.PastGroup name rtype) (last + 1) high
 
 -- The sets of a name and type stand side by side, from place `start` on.
@@ -80,8 +80,8 @@ pub record FindsAt (sets : List RecordSet) (key : SetKey) (n : ℕ) : Type 0 whe
   pub kept : RecordSet
   pub there : slice_get sets n ≡ Some kept
   pub same_key : key_of kept ≡ key
-  pub keeps : Keeps sets key kept
-  pub only : (other : RecordSet) → Keeps sets key other → other ≡ kept
+  pub keeps : IsSetOf sets key kept
+  pub only : (other : RecordSet) → IsSetOf sets key other → other ≡ kept
   pub before : (k : ℕ) (x : RecordSet) → k < n → slice_get sets k ≡ Some x
       → comes_before key x ≡ true
   pub behind : (k : ℕ) (x : RecordSet) → n < k → slice_get sets k ≡ Some x

@@ -22,5 +22,5 @@ pub use Rattle.zone_model.specs.Stored
 pub use Rattle.zone_model.specs.Suffix
 pub use Rattle.zone_model.specs.RoutingRecord
 pub use Rattle.zone_model.specs.Laws
-pub use Rattle.zone_model.specs.Placed
+pub use Rattle.zone_model.specs.Slotted
 pub use Rattle.zone_model.specs.Hosted

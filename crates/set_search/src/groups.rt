@@ -3,7 +3,7 @@
 ghost use Rattle.std.specs.Prelude.{◌≡◌, ◌<◌, ℕ, length, None};
 ghost use Rattle.zone_model.specs.Types.{number_of};
 ghost use Rattle.zone_model.specs.Zones.{IsRising};
-ghost use Rattle.set_search.specs.Found.{EndsBetween, IsBracket, IsCount, IsGroupAt, IsMemberAt, IsTypedAt};
+ghost use Rattle.set_search.specs.Found.{EndsBetween, IsBracket, IsCount, IsGroupAt, IsSetOfGroupAt, IsTypedAt};
 ghost use Rattle.set_search.specs.declared.bounds.Bound.TheVariants.{From, PastGroup};
 
 use crate::bounds::Stop;
@@ -121,7 +121,7 @@ fn start_in_front<S: SetList>(sets: &S, name: &Name, rtype: RType, place: usize)
 /// The same where a set of the group stands at a place.
 fn group_round<S: SetList>(sets: &S, name: &Name, rtype: RType, place: usize) -> (usize, usize)
     requires rising { IsRising (S.sets sets.now) }
-    requires member { IsMemberAt (S.sets sets.now) name.now rtype place }
+    requires member { IsSetOfGroupAt (S.sets sets.now) name.now rtype place }
     ensures { IsGroupAt (S.sets sets.now) name.now rtype result.0 result.1 }
 {
     let start = start_of(sets, name, rtype, place);
@@ -148,7 +148,7 @@ fn end_from<S: SetList>(sets: &S, name: &Name, rtype: RType, start: usize) -> us
 /// The place of the first set of a group, of which one stands at a place.
 fn start_of<S: SetList>(sets: &S, name: &Name, rtype: RType, place: usize) -> usize
     requires rising { IsRising (S.sets sets.now) }
-    requires member { IsMemberAt (S.sets sets.now) name.now rtype place }
+    requires member { IsSetOfGroupAt (S.sets sets.now) name.now rtype place }
     ensures { IsCount (S.sets sets.now)
         (From (record { name = name.now; rtype = rtype; ident = None })) result }
 {
@@ -166,7 +166,7 @@ fn start_of<S: SetList>(sets: &S, name: &Name, rtype: RType, place: usize) -> us
 /// Whether a set is of the group tells its name's octets, which is less than the order of two names.
 fn end_of<S: SetList>(sets: &S, name: &Name, rtype: RType, place: usize) -> usize
     requires rising { IsRising (S.sets sets.now) }
-    requires member { IsMemberAt (S.sets sets.now) name.now rtype place }
+    requires member { IsSetOfGroupAt (S.sets sets.now) name.now rtype place }
     ensures { IsCount (S.sets sets.now) (PastGroup name.now rtype) result }
 {
     let (last, high) = end_round(sets, name, rtype, place);
@@ -177,7 +177,7 @@ fn end_of<S: SetList>(sets: &S, name: &Name, rtype: RType, place: usize) -> usiz
 /// from one that a set of the group has.
 fn end_round<S: SetList>(sets: &S, name: &Name, rtype: RType, start: usize) -> (usize, usize)
     requires rising { IsRising (S.sets sets.now) }
-    requires member { IsMemberAt (S.sets sets.now) name.now rtype start }
+    requires member { IsSetOfGroupAt (S.sets sets.now) name.now rtype start }
     ensures { EndsBetween (S.sets sets.now) name.now rtype result.0 result.1 }
 {
     let mut last = start;

@@ -18,8 +18,8 @@ IsPassedOrFailed held sink buffer output.Whole rest text = IsPassed held sink bu
 IsPassedOrFailed held sink buffer output.Failed rest text = OutputOf held sink output.Failed text
 
 -- The next piece of a text was passed on, whatever the text is.
-abbrev pub Passes : (sink : Option (List ℕ)) (buffer : List ℕ) (sink_now : Option (List ℕ))
+abbrev pub PassesOn : (sink : Option (List ℕ)) (buffer : List ℕ) (sink_now : Option (List ℕ))
     (buffer_now : List ℕ) → Output → (piece : List ℕ) → Type 0
-Passes sink buffer sink_now buffer_now result piece = (held rest text : List ℕ)
+PassesOn sink buffer sink_now buffer_now result piece = (held rest text : List ℕ)
     → IsPassed held sink buffer (piece ++ rest) text
     → IsPassedOrFailed held sink_now buffer_now result rest text

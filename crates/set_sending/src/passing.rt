@@ -3,7 +3,7 @@
 ghost use Rattle.std.specs.Prelude.{◌≡◌, ◌≤◌, ◌+◌, ◌++◌, ℕ, List, [], vec_capacity, vec_len};
 ghost use Rattle.octets.specs.Counts.{Rose};
 ghost use Rattle.whole_writing.specs.Output.{OutputOf};
-ghost use Rattle.set_sending.specs.Passing.{IsPassed, Passes};
+ghost use Rattle.set_sending.specs.Passing.{IsPassed, PassesOn};
 
 use r53_io::Sink;
 use whole_writing::{Output, write_whole};
@@ -15,7 +15,7 @@ pub const ROOM: usize = 131_072;
 /// Makes room for a piece: where the buffer has no room for it, what it holds is written out.
 pub fn make_room<K: Sink>(most: usize, text: &mut Vec<u8>, out: &mut K) -> Output
     requires { most ≤ vec_capacity text.old }
-    ensures passes { Passes (K.held out.old) text.old.items (K.held out.new) text.new.items
+    ensures passes { PassesOn (K.held out.old) text.old.items (K.held out.new) text.new.items
         result [] }
     ensures room { result ≡ Output.Whole → vec_len text.new + most ≤ vec_capacity text.new }
     ensures capacity { vec_capacity text.old ≤ vec_capacity text.new }

@@ -8,7 +8,7 @@ ghost use Rattle.octets.specs.Counts.{Rose};
 ghost use Rattle.record_set.specs.declared.sets.RecordSet.{RecordSet};
 ghost use Rattle.list_writing.specs.Bodies.{wires_of};
 ghost use Rattle.list_writing.specs.Holding.{HasValue, IsHolding};
-ghost use Rattle.set_sending.specs.Passing.{Passes};
+ghost use Rattle.set_sending.specs.Passing.{PassesOn};
 
 use crate::passing::{ROOM, make_room};
 use list_writing::{
@@ -29,7 +29,7 @@ pub fn send_set<K: Sink>(
     requires held { IsHolding scratch.now }
     requires room { ROOM ≤ vec_capacity text.old }
     ensures passes { (set : RecordSet) → scratch.now ≡ Some set
-        → Passes (K.held out.old) text.old.items (K.held out.new) text.new.items result
+        → PassesOn (K.held out.old) text.old.items (K.held out.new) text.new.items result
         (set_pieces later zone set) }
     ensures capacity { vec_capacity text.old ≤ vec_capacity text.new }
     ensures counts { K.faults out.old ≤ K.faults out.new }
@@ -57,7 +57,7 @@ fn send_front<K: Sink>(
     requires held { IsHolding scratch.now }
     requires room { ROOM ≤ vec_capacity text.old }
     ensures passes { (set : RecordSet) → scratch.now ≡ Some set
-        → Passes (K.held out.old) text.old.items (K.held out.new) text.new.items result
+        → PassesOn (K.held out.old) text.old.items (K.held out.new) text.new.items result
         (set_front later zone set) }
     ensures capacity { vec_capacity text.old ≤ vec_capacity text.new }
     ensures counts { K.faults out.old ≤ K.faults out.new }
@@ -82,7 +82,7 @@ fn send_values<K: Sink>(
     requires held { IsHolding scratch.now }
     requires room { ROOM ≤ vec_capacity text.old }
     ensures passes { (set : RecordSet) → scratch.now ≡ Some set
-        → Passes (K.held out.old) text.old.items (K.held out.new) text.new.items result
+        → PassesOn (K.held out.old) text.old.items (K.held out.new) text.new.items result
         (value_pieces false set.rtype (wires_of set.body)) }
     ensures capacity { vec_capacity text.old ≤ vec_capacity text.new }
     ensures counts { K.faults out.old ≤ K.faults out.new }
@@ -109,7 +109,7 @@ fn send_value<K: Sink>(
     requires room { ROOM ≤ vec_capacity text.old }
     ensures passes { (set : RecordSet) (wire : List ℕ) → scratch.now ≡ Some set
         → slice_get (wires_of set.body) i ≡ Some wire
-        → Passes (K.held out.old) text.old.items (K.held out.new) text.new.items result
+        → PassesOn (K.held out.old) text.old.items (K.held out.new) text.new.items result
         (value_piece (nat_lt 0 i) set.rtype wire) }
     ensures capacity { vec_capacity text.old ≤ vec_capacity text.new }
     ensures counts { K.faults out.old ≤ K.faults out.new }
@@ -129,7 +129,7 @@ fn send_rest<K: Sink>(scratch: &Scratch, text: &mut Vec<u8>, out: &mut K) -> Out
     requires held { IsHolding scratch.now }
     requires room { ROOM ≤ vec_capacity text.old }
     ensures passes { (set : RecordSet) → scratch.now ≡ Some set
-        → Passes (K.held out.old) text.old.items (K.held out.new) text.new.items result
+        → PassesOn (K.held out.old) text.old.items (K.held out.new) text.new.items result
         (set_rest set) }
     ensures capacity { vec_capacity text.old ≤ vec_capacity text.new }
     ensures counts { K.faults out.old ≤ K.faults out.new }

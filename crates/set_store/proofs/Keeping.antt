@@ -12,8 +12,8 @@ use Rattle.set_scratch.specs.Octets.{set_octets}
 use Rattle.set_scratch.specs.LawsOfSetReading.{WrittenReadsBack}
 use Rattle.set_scratch.specs.Reading.{read}
 use Rattle.set_store.specs.declared.slots.Slot.{Slot}
-use Rattle.set_store.specs.Index.{IsIndex, IsLive, kept_in, no_cell, octets_in, set_of, set_read}
-use Rattle.set_store.specs.Stored.{IsSpelling, IsTaken, Kept, Spells}
+use Rattle.set_store.specs.Index.{IsIntact, IsLive, kept_in, no_cell, octets_in, set_of, set_read}
+use Rattle.set_store.specs.Stored.{IsSpelling, IsInUse, Kept, Spells}
 use Rattle.set_store.proofs.Lists.{get_other, get_same, same_or_not, set_agree}
 
 -- a set is the one of its octets
@@ -76,7 +76,7 @@ pub is_cell : (h cells all : ℕ) → all ≡ cells → all < 2 ^ 27 → h < cel
 is_cell h cells all e most below = λ f. absurd (omega (arith, e, most, below, f))
 
 -- One slot changes, and the octets of all others stay.
-module _ (held now : Held) (slots : List Slot) (free spare : ℕ) (index : IsIndex held slots free spare)
+module _ (held now : Held) (slots : List Slot) (free spare : ℕ) (index : IsIntact held slots free spare)
     (i : ℕ)
     (inside : i < length slots) (x : Slot)
     (stays : (j : ℕ) (slot : Slot) → j ≢ i → slice_get slots j ≡ Some slot → IsLive slot
@@ -136,7 +136,7 @@ kept_at held slots i slot v at is =
     slice_get-map (kept_in held) slots i ∙ ap (option_map (kept_in held)) at ∙ ap Some is
 
 -- A slot in use beside others.
-module _ (held : Held) (slots : List Slot) (free spare : ℕ) (index : IsIndex held slots free spare) (i : ℕ)
+module _ (held : Held) (slots : List Slot) (free spare : ℕ) (index : IsIntact held slots free spare) (i : ℕ)
     (slot : Slot)
     (at : slice_get slots i ≡ Some slot) (live : IsLive slot) where
   -- each other slot has another handle
@@ -151,7 +151,7 @@ module _ (held : Held) (slots : List Slot) (free spare : ℕ) (index : IsIndex h
 
 -- The slot at a place, of which something is told.
 module _ (held : Held) (slots : List Slot) (i : ℕ) (slot : Slot) (at : slice_get slots i ≡ Some slot) where
-  pub is_live : IsTaken (map (kept_in held) slots) i → IsLive slot
+  pub is_live : IsInUse (map (kept_in held) slots) i → IsLive slot
   is_live (kept, there) dead =
       not_both (slice_get (map (kept_in held) slots) i) kept (kept_at held slots i slot None at
       (kept_free held slot dead)) there

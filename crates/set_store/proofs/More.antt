@@ -5,7 +5,7 @@ use Rattle.std.proofs.lemmas.List.{map-append}
 use Rattle.std.proofs.lemmas.Option.{slice_get_within}
 use Rattle.set_scratch.specs.Stored.{Held}
 use Rattle.set_store.specs.declared.slots.Slot.{Slot}
-use Rattle.set_store.specs.Index.{IsChain, IsIndex, IsLive, kept_in, new_slot}
+use Rattle.set_store.specs.Index.{IsChain, IsIntact, IsLive, kept_in, new_slot}
 use Rattle.set_store.specs.Stored.{Kept, nothing}
 use Rattle.set_store.proofs.Chains.{moved}
 use Rattle.set_store.proofs.Counts.{count_more, used_free}
@@ -13,7 +13,7 @@ use Rattle.set_store.proofs.Keeping.{kept_free}
 use Rattle.set_store.proofs.Lists.{get_last, get_within, before_last}
 use Rattle.set_store.proofs.Takes.{ranked, ranked_at, ranked_other}
 
-module _ (held : Held) (slots : List Slot) (free spare : ℕ) (index : IsIndex held slots free spare)
+module _ (held : Held) (slots : List Slot) (free spare : ℕ) (index : IsIntact held slots free spare)
     (few : length slots + 1 < 2 ^ 32) where
   abbrev new : Slot
   new = new_slot free
@@ -39,7 +39,7 @@ module _ (held : Held) (slots : List Slot) (free spare : ℕ) (index : IsIndex h
   free_apart k slot at e = (let inside = slice_get_within slots k slot at in absurd (omega
       (arith, e, inside)))
 
-  pub given : IsIndex held longer (length slots) (spare + 1)
+  pub given : IsIntact held longer (length slots) (spare + 1)
   given = record {
     live = λ i slot at live. index.live i slot (old_at i slot at live) live;
     apart = apart_now;

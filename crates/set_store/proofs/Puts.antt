@@ -8,7 +8,7 @@ use Rattle.set_scratch.specs.Stored.{Held}
 use Rattle.set_search.specs.RecordSetRecord.{RecordSet}
 use Rattle.set_scratch.specs.LawsOfSetReading.{WrittenReadsBack}
 use Rattle.set_store.specs.declared.slots.Slot.{Slot}
-use Rattle.set_store.specs.Index.{IsChain, IsIndex, IsLive, kept_in, no_cell}
+use Rattle.set_store.specs.Index.{IsChain, IsIntact, IsLive, kept_in, no_cell}
 use Rattle.set_store.specs.Stored.{IsSpelling, IsVacant, Spells}
 use Rattle.set_store.proofs.Chains.{first, moved}
 use Rattle.set_store.proofs.Counts.{count_set, used_free, used_live}
@@ -19,7 +19,7 @@ use Rattle.set_store.proofs.Lists.{get_other}
 module _ (held now : Held) (h : ℕ) (octets : List ℕ) (fresh : finmap.get held h ≡ None)
     (here : finmap.get now h ≡ Some octets)
     (others : (other : ℕ) → other ≢ h → finmap.get now other ≡ finmap.get held other)
-    (slots : List Slot) (free spare : ℕ) (index : IsIndex held slots free spare) where
+    (slots : List Slot) (free spare : ℕ) (index : IsIntact held slots free spare) where
   -- each slot in use has another handle
   pub other_cell : (i : ℕ) (slot : Slot) → slice_get slots i ≡ Some slot → IsLive slot → slot.cell ≢ h
   other_cell i slot at live same =
@@ -43,7 +43,7 @@ module _ (held now : Held) (h : ℕ) (octets : List ℕ) (fresh : finmap.get hel
     inside = slice_get_within slots free front.0 front.1
 
     pub filled : IsSpelling octets → (next : ℕ) → next ≡ front.0.zone
-        → IsIndex now (set slots free new) next (spare - 1)
+        → IsIntact now (set slots free new) next (spare - 1)
     filled spelling next is_next = record {
       live = live_now held now slots free spare index free inside new
           (λ j slot ne at live. stays j slot at live)

@@ -10,7 +10,7 @@ use Rattle.set_scratch.specs.Heads.{key_octets}
 use Rattle.set_scratch.specs.Laws.{KeysAreInFront}
 use Rattle.set_scratch.specs.LawsOfSetReading.{WrittenReadsBack}
 use Rattle.set_store.specs.declared.slots.Slot.{Slot}
-use Rattle.set_store.specs.Index.{HoldsAt, IsIndex, kept_in, set_of}
+use Rattle.set_store.specs.Index.{HoldsAt, IsIntact, kept_in, set_of}
 use Rattle.set_store.specs.Stored.{IsKept, Kept, Spells}
 use Rattle.set_store.proofs.Keeping.{both, is_live, kept_at, kept_live, none_or_some, set_told}
 
@@ -23,7 +23,7 @@ pub record IsFoundAt (held : Held) (slots : List Slot) (i : ℕ) (set : RecordSe
   pub there : HoldsAt held slots i octets
   pub spelled : Spells octets set
 
-module _ (held : Held) (slots : List Slot) (free spare : ℕ) (index : IsIndex held slots free spare)
+module _ (held : Held) (slots : List Slot) (free spare : ℕ) (index : IsIntact held slots free spare)
     (back : WrittenReadsBack)
     (i : ℕ) (kept : Kept) (there : IsKept (map (kept_in held) slots) i kept) where
   pub found_in : (slot : Slot) → slice_get slots i ≡ Some slot → IsFoundAt held slots i kept.set

@@ -8,7 +8,7 @@ use Rattle.set_scratch.specs.Stored.{Held}
 use Rattle.set_search.specs.RecordSetRecord.{RecordSet}
 use Rattle.set_scratch.specs.LawsOfSetReading.{WrittenReadsBack}
 use Rattle.set_store.specs.declared.slots.Slot.{Slot}
-use Rattle.set_store.specs.Index.{IsIndex, IsLive, kept_in, no_cell, set_of}
+use Rattle.set_store.specs.Index.{IsIntact, IsLive, kept_in, no_cell, set_of}
 use Rattle.set_store.specs.Stored.{IsSpelling, Spells}
 use Rattle.set_store.proofs.Chains.{moved}
 use Rattle.set_store.proofs.Counts.{count_set, used_live}
@@ -19,7 +19,7 @@ use Rattle.set_store.proofs.Puts as put
 module _ (held mid now : Held) (h : ℕ) (octets : List ℕ) (fresh : finmap.get held h ≡ None)
     (here : finmap.get mid h ≡ Some octets)
     (others : (other : ℕ) → other ≢ h → finmap.get mid other ≡ finmap.get held other)
-    (slots : List Slot) (free spare : ℕ) (index : IsIndex held slots free spare) (i : ℕ) (slot : Slot)
+    (slots : List Slot) (free spare : ℕ) (index : IsIntact held slots free spare) (i : ℕ) (slot : Slot)
     (at : slice_get slots i ≡ Some slot) (live : IsLive slot)
     (kept : (other : ℕ) → other ≢ slot.cell → finmap.get now other ≡ finmap.get mid other)
     (few : h ≢ no_cell) where
@@ -44,7 +44,7 @@ module _ (held mid now : Held) (h : ℕ) (octets : List ℕ) (fresh : finmap.get
   within : i < length slots
   within = slice_get_within slots i slot at
 
-  pub replaced : IsSpelling octets → IsIndex now (set slots i new) free spare
+  pub replaced : IsSpelling octets → IsIntact now (set slots i new) free spare
   replaced spelling = record {
     live = live_now held now slots free spare index i within new stays own (λ l. (octets, there, spelling));
     apart = apart_now held now slots free spare index i within new stays own (λ l. (octets, there, spelling));

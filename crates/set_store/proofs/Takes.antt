@@ -8,7 +8,7 @@ use Rattle.std.proofs.lemmas.List.{length-set}
 use Rattle.std.proofs.lemmas.Option.{slice_get_within}
 use Rattle.set_scratch.specs.Stored.{Held}
 use Rattle.set_store.specs.declared.slots.Slot.{Slot}
-use Rattle.set_store.specs.Index.{IsChain, IsIndex, IsLive, kept_in, no_cell}
+use Rattle.set_store.specs.Index.{IsChain, IsIntact, IsLive, kept_in, no_cell}
 use Rattle.set_store.proofs.Chains.{moved}
 use Rattle.set_store.proofs.Counts.{count_set, used_free, used_live}
 use Rattle.set_store.proofs.Keeping.{apart_now, few_now, kept_free, live_now, another, free_apart, seen}
@@ -27,7 +27,7 @@ ranked_other rank at n k apart = elim (eqb_tells k at) [
   | inr e ↦ (ap (λ b. cond b n (rank k)) e.0)
 ]
 
-module _ (held now : Held) (slots : List Slot) (free spare : ℕ) (index : IsIndex held slots free spare)
+module _ (held now : Held) (slots : List Slot) (free spare : ℕ) (index : IsIntact held slots free spare)
     (i : ℕ) (slot : Slot)
     (at : slice_get slots i ≡ Some slot) (live : IsLive slot)
     (others : (other : ℕ) → other ≢ slot.cell → finmap.get now other ≡ finmap.get held other) where
@@ -42,7 +42,7 @@ module _ (held now : Held) (slots : List Slot) (free spare : ℕ) (index : IsInd
   stays j other ne at_j is = others other.cell
       (another held slots free spare index i slot at live j other ne at_j is)
 
-  pub taken : IsIndex now (set slots i new) i (spare + 1)
+  pub taken : IsIntact now (set slots i new) i (spare + 1)
   taken = record {
     live = live_now held now slots free spare index i within new stays (λ j other ne at_j is. is)
         (λ l. absurd (l refl));

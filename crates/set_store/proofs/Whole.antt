@@ -9,7 +9,7 @@ use Rattle.set_search.specs.RecordSetRecord.{RecordSet}
 use Rattle.set_scratch.specs.Octets.{set_octets}
 use Rattle.set_scratch.specs.ReadFaultRecord.{ReadFault}
 use Rattle.set_scratch.specs.ReadFaultRecord.TheVariants as fault
-use Rattle.set_scratch.specs.Gives.{ReadsSet}
+use Rattle.set_scratch.specs.Gives.{GivesSet}
 use Rattle.set_scratch.specs.Sets.{BeginsWithSet}
 use Rattle.set_store.specs.declared.slots.Slot.{Slot}
 use Rattle.set_store.specs.Index.{HoldsAt}
@@ -27,11 +27,11 @@ begins octets set spells = record {
 }
 
 -- what is read is the set that stands there
-pub told_set : (x y : RecordSet × ℕ) → ReadsSet (Ok x) (Ok y) → x.0 ≡ y.0
+pub told_set : (x y : RecordSet × ℕ) → GivesSet (Ok x) (Ok y) → x.0 ≡ y.0
 told_set x y e = let same : y ≡ x = cc in ap (λ (p : RecordSet × ℕ). p.0) (sym same)
 
 pub never_bad : (why : ReadFault) (place : ℕ) (y : RecordSet × ℕ) → why ≡ fault.Bad place
-    → ReadsSet (Err why) (Ok y) → ⊥
+    → GivesSet (Err why) (Ok y) → ⊥
 never_bad (fault.Bad n) place y is e = cc
 never_bad fault.OutOfMemory place y is e = cc
 

@@ -12,8 +12,8 @@ use Rattle.set_scratch.specs.Sets.{IsSet}
 use Rattle.set_search.specs.Bounds.{group_cmp}
 
 -- the octets begin with those that tell the key of a set
-abbrev pub IsHead : List ℕ → Type 0
-IsHead octets = (set : RecordSet) × (rest : List ℕ) × IsSet set × (octets ≡ key_octets set ++ rest)
+abbrev pub IsKeyFront : List ℕ → Type 0
+IsKeyFront octets = (set : RecordSet) × (rest : List ℕ) × IsSet set × (octets ≡ key_octets set ++ rest)
 
 -- The set is of this name and type, and its policy is told; or else which comes first.
 abbrev pub IsPartedBy : RecordSet → (name : List (List ℕ)) → RType → (rest : List ℕ)
@@ -24,8 +24,8 @@ IsPartedBy set name rtype rest (Err order) = (group_cmp set name rtype ≡ order
     × ((order ≡ Equal) → ⊥)
 
 -- The octets begin with those that tell the key of this set.
-abbrev pub IsHeadIn : List ℕ → RecordSet → Type 0
-IsHeadIn octets set = (rest : List ℕ) × IsSet set × (octets ≡ key_octets set ++ rest)
+abbrev pub BeginsWithKey : List ℕ → RecordSet → Type 0
+BeginsWithKey octets set = (rest : List ℕ) × IsSet set × (octets ≡ key_octets set ++ rest)
 
 -- The number in the two octets behind a piece, where the octets begin with that piece.
 abbrev pub IsTypeBehind : (octets piece : List ℕ) → Option ℕ → Type 0

@@ -72,7 +72,7 @@ used (slot ∷ slots) = used_by slot + used slots
 
 -- Each slot in use has a handle of its own, whose octets are those of a set; and so many free slots
 -- are in a chain.
-pub record IsIndex (held : Held) (slots : List Slot) (free spare : ℕ) : Type 0 where
+pub record IsIntact (held : Held) (slots : List Slot) (free spare : ℕ) : Type 0 where
   pub live : (i : ℕ) (slot : Slot) → slice_get slots i ≡ Some slot → IsLive slot
       → (octets : List ℕ) × (finmap.get held slot.cell ≡ Some octets) × IsSpelling octets
   pub apart : (i j : ℕ) (slot other : Slot) → slice_get slots i ≡ Some slot

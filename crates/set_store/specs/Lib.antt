@@ -11,7 +11,7 @@ pub use Rattle.set_scratch.specs.declared.telling.Watch as WatchRecord
 pub use Rattle.set_search.specs.Found
 pub use Rattle.set_search.specs.Keys
 pub use Rattle.set_search.specs.Laws
-pub use Rattle.set_search.specs.Placed
+pub use Rattle.set_search.specs.Slotted
 pub use Rattle.set_search.specs.Placing
 pub use Rattle.set_search.specs.Zones
 pub use Rattle.set_search.specs.Sets as SetsOfRecordSet

@@ -10,7 +10,7 @@ pub record Kept : Type 0 where
 
 -- For each slot what is kept there, if anything is; how many cells are free; and how many slots can
 -- be given without memory.
-pub record Store : Type 0 where
+pub record Slots : Type 0 where
   pub slots : List (Option Kept)
   pub cells : ℕ
   pub free : ℕ
@@ -20,8 +20,8 @@ abbrev pub IsKept : List (Option Kept) → (slot : ℕ) → Kept → Type 0
 IsKept slots slot kept = slice_get slots slot ≡ Some (Some kept)
 
 -- something is kept in the slot
-abbrev pub IsTaken : List (Option Kept) → (slot : ℕ) → Type 0
-IsTaken slots slot = (kept : Kept) × IsKept slots slot kept
+abbrev pub IsInUse : List (Option Kept) → (slot : ℕ) → Type 0
+IsInUse slots slot = (kept : Kept) × IsKept slots slot kept
 
 -- nothing is kept in the slot
 abbrev pub IsVacant : List (Option Kept) → (slot : ℕ) → Type 0

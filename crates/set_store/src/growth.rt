@@ -3,7 +3,7 @@
 ghost use Rattle.std.specs.Prelude.{◌≡◌, ◌≤◌, ◌<◌, ◌+◌, ◌^◌, ◌++◌, ◌∷◌, [], ℕ, length, IsTrue};
 ghost use Rattle.std.specs.Prelude.{None, map, vec_len, vec_capacity};
 ghost use Rattle.set_scratch.specs.Stored.{Held};
-ghost use Rattle.set_store.specs.Index.{IsIndex, kept_in, new_slot};
+ghost use Rattle.set_store.specs.Index.{IsIntact, kept_in, new_slot};
 ghost use Rattle.set_store.specs.Stored.{nothing};
 
 use crate::slots::{NO_CELL, Slot};
@@ -29,8 +29,8 @@ pub(crate) fn make_room(slots: &mut Vec<Slot>, more: usize) -> bool
 pub(crate) fn give_slots(slots: &mut Vec<Slot>, free: u32, spare: usize, more: usize) -> u32
     requires room { vec_len slots.old + more ≤ vec_capacity slots.old }
     requires few { vec_len slots.old + more < 2 ^ 32 }
-    ensures index { (held : Held) → IsIndex held slots.old.items free spare
-        → IsIndex held slots.new.items result (spare + more) }
+    ensures index { (held : Held) → IsIntact held slots.old.items free spare
+        → IsIntact held slots.new.items result (spare + more) }
     ensures seen { (held : Held)
         → map (kept_in held) slots.new.items ≡ map (kept_in held) slots.old.items ++ nothing more }
 {

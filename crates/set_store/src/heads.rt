@@ -15,7 +15,7 @@ ghost use Rattle.set_scratch.specs.Sets.{IsSet};
 ghost use Rattle.set_search.specs.Keys.{ident_cmp, key_cmp};
 ghost use Rattle.set_search.specs.Bounds.{group_cmp, is_before};
 ghost use Rattle.set_search.specs.Stops.{bound_of};
-ghost use Rattle.set_store.specs.Heads.{IsHead, IsPartedBy};
+ghost use Rattle.set_store.specs.Heads.{IsKeyFront, IsPartedBy};
 ghost use Rattle.set_store.specs.Servers.{server_labels};
 
 use set_scratch::{base_fields_are_read, ident_in_front, name_and_rest, name_at, type_and_rest};
@@ -24,7 +24,7 @@ use std::cmp::Ordering;
 
 /// Whether a set stands before a bound, from octets that begin with all that tells its key.
 pub fn head_is_before(octets: &[u8], stop: &Stop) -> bool
-    requires { IsHead octets.now }
+    requires { IsKeyFront octets.now }
     ensures { (set : RecordSet) (rest : List ℕ) → IsSet set
         → octets.now ≡ key_octets set ++ rest → result ≡ is_before (bound_of stop.now) set }
 {
@@ -37,7 +37,7 @@ pub fn head_is_before(octets: &[u8], stop: &Stop) -> bool
 
 /// Whether a set has the name, or one below it, from octets that begin with all that tells its key.
 pub fn head_is_below(octets: &[u8], name: &Name) -> bool
-    requires { IsHead octets.now }
+    requires { IsKeyFront octets.now }
     ensures { (set : RecordSet) (rest : List ℕ) → IsSet set
         → octets.now ≡ key_octets set ++ rest → IsTrue result ↔ EndsWith set.name name.now }
 {
@@ -50,7 +50,7 @@ pub fn head_is_below(octets: &[u8], name: &Name) -> bool
 
 /// How many labels the name of an NS set has, from octets that begin with all that tells its key.
 pub fn head_server_labels(octets: &[u8]) -> Option<usize>
-    requires { IsHead octets.now }
+    requires { IsKeyFront octets.now }
     ensures { (set : RecordSet) (rest : List ℕ) → IsSet set
         → octets.now ≡ key_octets set ++ rest → result ≡ server_labels set }
 {
@@ -63,7 +63,7 @@ pub fn head_server_labels(octets: &[u8]) -> Option<usize>
 
 /// The number of a set's type.
 fn head_number(octets: &[u8]) -> u16
-    requires { IsHead octets.now }
+    requires { IsKeyFront octets.now }
     ensures { (set : RecordSet) (rest : List ℕ) → IsSet set
         → octets.now ≡ key_octets set ++ rest → result ≡ number_of set.rtype }
 {
@@ -74,7 +74,7 @@ fn head_number(octets: &[u8]) -> u16
 
 /// How many labels a set's name has.
 fn head_labels(octets: &[u8]) -> usize
-    requires { IsHead octets.now }
+    requires { IsKeyFront octets.now }
     ensures { (set : RecordSet) (rest : List ℕ) → IsSet set
         → octets.now ≡ key_octets set ++ rest → result ≡ length set.name }
 {
@@ -87,7 +87,7 @@ fn head_labels(octets: &[u8]) -> usize
 
 /// The order of a set's key and another.
 fn key_order(octets: &[u8], name: &Name, rtype: RType, ident: Option<&Ident>) -> Ordering
-    requires { IsHead octets.now }
+    requires { IsKeyFront octets.now }
     ensures { (set : RecordSet) (rest : List ℕ) → IsSet set
         → octets.now ≡ key_octets set ++ rest
         → result ≡ key_cmp (key_of set)
@@ -101,7 +101,7 @@ fn key_order(octets: &[u8], name: &Name, rtype: RType, ident: Option<&Ident>) ->
 
 /// The order of a set's name and type and others.
 fn group_order(octets: &[u8], name: &Name, rtype: RType) -> Ordering
-    requires { IsHead octets.now }
+    requires { IsKeyFront octets.now }
     ensures { (set : RecordSet) (rest : List ℕ) → IsSet set
         → octets.now ≡ key_octets set ++ rest → result ≡ group_cmp set name.now rtype }
 {
@@ -113,7 +113,7 @@ fn group_order(octets: &[u8], name: &Name, rtype: RType) -> Ordering
 
 /// What stands behind a set's name and type where they are these, or else their order.
 fn parted<'a>(octets: &'a [u8], name: &Name, rtype: RType) -> Result<&'a [u8], Ordering>
-    requires { IsHead octets.now }
+    requires { IsKeyFront octets.now }
     ensures { (set : RecordSet) (rest : List ℕ) → IsSet set
         → octets.now ≡ key_octets set ++ rest → IsPartedBy set name.now rtype rest result }
 {

@@ -23,4 +23,4 @@ pub use set_search::{
     Body, Name, RType, RecordSet, SetKey, SetList, Stop, before_key, behind_key, closest_in,
     count_before, exists_in, find, find_near, group_in, key_cmp, keys_are_ordered, placed_rise,
 };
-pub use store::SetStore;
+pub use store::SetSlots;

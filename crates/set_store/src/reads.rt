@@ -14,13 +14,13 @@ ghost use Rattle.set_store.specs.declared.slots.Slot.{Slot};
 ghost use Rattle.set_store.specs.Index.{HoldsAt};
 ghost use Rattle.set_store.specs.Policies.{PolicyIsAt};
 ghost use Rattle.set_store.specs.Servers.{server_labels};
-ghost use Rattle.set_store.specs.Stored.{IsKept, IsSpelling, IsTaken, Kept, Spells, zone_told};
+ghost use Rattle.set_store.specs.Stored.{IsKept, IsSpelling, IsInUse, Kept, Spells, zone_told};
 
 use crate::hashes::hash_of;
 use crate::heads::{head_is_before, head_is_below, head_server_labels};
 use crate::siblings::is_before_beside;
 use crate::slots::{NO_CELL, Slot};
-use crate::store::SetStore;
+use crate::store::SetSlots;
 use crate::typed::{is_of_at, type_under};
 use octets::{OutOfMemory, behind, front, zeros};
 use set_scratch::{
@@ -36,7 +36,7 @@ const SHORT: usize = 64;
 /// Sets of so many octets or fewer are copied to be read; for longer ones there is a larger buffer.
 const FEW: usize = 128;
 
-impl SetStore {
+impl SetSlots {
     /// The number of the zone of a slot's set. None where the slot is vacant or not there.
     pub fn zone_of(&self, slot: u32) -> Option<u32>
         ensures { result ≡ zone_told (slice_get self.now.slots slot) }
@@ -54,7 +54,7 @@ impl SetStore {
 
     /// Whether the set of a slot stands before a bound.
     pub fn is_before(&self, slot: u32, stop: &Stop) -> bool
-        requires { IsTaken self.now.slots slot }
+        requires { IsInUse self.now.slots slot }
         ensures { (kept : Kept) → IsKept self.now.slots slot kept
             → result ≡ is_before (bound_of stop.now) kept.set }
     {
@@ -74,7 +74,7 @@ impl SetStore {
 
     /// Whether the set of a slot has the name, or one below it.
     pub fn is_below(&self, slot: u32, name: &Name) -> bool
-        requires { IsTaken self.now.slots slot }
+        requires { IsInUse self.now.slots slot }
         ensures { (kept : Kept) → IsKept self.now.slots slot kept
             → IsTrue result ↔ EndsWith kept.set.name name.now }
     {
@@ -91,7 +91,7 @@ impl SetStore {
 
     /// Whether the set of a slot has the name and the type, told where its octets stand.
     pub fn is_of(&self, slot: u32, name: &Name, rtype: RType) -> bool
-        requires { IsTaken self.now.slots slot }
+        requires { IsInUse self.now.slots slot }
         ensures { (kept : Kept) → IsKept self.now.slots slot kept
             → IsTrue result ↔ IsOf name.now rtype kept.set }
     {
@@ -101,7 +101,7 @@ impl SetStore {
 
     /// The number of the type of a slot's set, where it has the name. None where it has not.
     pub fn type_at(&self, slot: u32, name: &Name) -> Option<u16>
-        requires { IsTaken self.now.slots slot }
+        requires { IsInUse self.now.slots slot }
         ensures { (kept : Kept) → IsKept self.now.slots slot kept
             → TypeOrNone name.now kept.set result }
     {
@@ -111,7 +111,7 @@ impl SetStore {
 
     /// How many labels the name of a slot's set has, where that is an NS set.
     pub fn server_labels(&self, slot: u32) -> Option<usize>
-        requires { IsTaken self.now.slots slot }
+        requires { IsInUse self.now.slots slot }
         ensures { (kept : Kept) → IsKept self.now.slots slot kept
             → result ≡ server_labels kept.set }
     {
@@ -125,7 +125,7 @@ impl SetStore {
 
     /// A hash of the name of a slot's set, of which no contract speaks.
     pub fn name_hash(&self, slot: u32) -> u64
-        requires { IsTaken self.now.slots slot }
+        requires { IsInUse self.now.slots slot }
     {
         written_reads_back();
         name_hash_at(&self.region, &self.slots, slot)
@@ -133,7 +133,7 @@ impl SetStore {
 
     /// How many octets the set of a slot has.
     pub fn size(&self, slot: u32) -> usize
-        requires { IsTaken self.now.slots slot }
+        requires { IsInUse self.now.slots slot }
         ensures { (kept : Kept) → IsKept self.now.slots slot kept
             → result ≡ length (set_octets kept.set) }
     {
@@ -143,7 +143,7 @@ impl SetStore {
 
     /// Whether the set of a slot is an alias.
     pub fn is_alias(&self, slot: u32) -> bool
-        requires { IsTaken self.now.slots slot }
+        requires { IsInUse self.now.slots slot }
         ensures { (kept : Kept) → IsKept self.now.slots slot kept
             → result ≡ is_alias kept.set.body }
     {
@@ -153,7 +153,7 @@ impl SetStore {
 
     /// What decides the health of the set of a slot.
     pub fn watch(&self, slot: u32) -> Watch
-        requires { IsTaken self.now.slots slot }
+        requires { IsInUse self.now.slots slot }
         ensures { (kept : Kept) → IsKept self.now.slots slot kept → result ≡ watch_of kept.set }
     {
         written_reads_back();
@@ -162,7 +162,7 @@ impl SetStore {
 
     /// The name and the type of the target group of a slot's set, which an alias alone has.
     pub fn target(&self, slot: u32) -> Option<(Name, RType)>
-        requires { IsTaken self.now.slots slot }
+        requires { IsInUse self.now.slots slot }
         ensures { (kept : Kept) → IsKept self.now.slots slot kept → result ≡ target_of kept.set }
     {
         written_reads_back();
@@ -171,7 +171,7 @@ impl SetStore {
 
     /// Holds the set of a slot in a scratch, in place of the set that it held, and takes no memory.
     pub fn hold(&self, slot: u32, into: &mut Scratch)
-        requires { IsTaken self.now.slots slot }
+        requires { IsInUse self.now.slots slot }
         ensures { (kept : Kept) → IsKept self.now.slots slot kept → into.new ≡ Some kept.set }
     {
         written_reads_back();
@@ -181,7 +181,7 @@ impl SetStore {
     /// The octets of a slot's set from its policy on, as many as a buffer has room for. The caller
     /// knows the place at which the policy stands: two octets behind the name.
     pub fn policy<'a>(&self, slot: u32, at: usize, buffer: &'a mut [u8]) -> &'a [u8]
-        requires { IsTaken self.now.slots slot }
+        requires { IsInUse self.now.slots slot }
         ensures { (kept : Kept) → IsKept self.now.slots slot kept → PolicyIsAt kept.set at
             → IsPart result.now (take (length buffer.old) (from_policy kept.set)) kept.set }
     {
@@ -191,7 +191,7 @@ impl SetStore {
 
     /// The same of those among the first 32 octets of the set, lent.
     pub fn policy_front(&self, slot: u32, at: usize) -> &[u8]
-        requires { IsTaken self.now.slots slot }
+        requires { IsInUse self.now.slots slot }
         ensures { (kept : Kept) → IsKept self.now.slots slot kept → PolicyIsAt kept.set at
             → IsPart result.now (take (32 - at) (from_policy kept.set)) kept.set }
     {
@@ -201,7 +201,7 @@ impl SetStore {
 
     /// The set of a slot.
     pub fn read(&self, alloc: Global, slot: u32) -> Result<RecordSet, OutOfMemory>
-        requires { IsTaken self.now.slots slot }
+        requires { IsInUse self.now.slots slot }
         ensures { IfOk result (λ set. (kept : Kept) → IsKept self.now.slots slot kept
             → set ≡ kept.set) }
     {

@@ -6,7 +6,7 @@ ghost use Rattle.set_scratch.specs.Cells.{cells_for};
 ghost use Rattle.set_search.specs.RecordSetRecord.{RecordSet};
 ghost use Rattle.set_scratch.specs.Octets.{set_octets};
 ghost use Rattle.set_store.specs.declared.slots.Slot.{Slot};
-ghost use Rattle.set_store.specs.Stored.{IsKept, IsSpelling, IsTaken, IsVacant, Kept, Spells};
+ghost use Rattle.set_store.specs.Stored.{IsKept, IsSpelling, IsInUse, IsVacant, Kept, Spells};
 ghost use Rattle.set_store.specs.Stored.{nothing};
 
 use crate::growth::{give_slots, make_room};
@@ -21,7 +21,7 @@ const MOST_SLOTS: usize = 0xffff_ffff;
 
 /// Sets by slots. Contracts see what is kept in each slot, and how much can be put without memory.
 #[derive(Drop)]
-pub struct SetStore {
+pub struct SetSlots {
     pub(crate) region: Region,
     pub(crate) slots: Vec<Slot>,
     /// The first free slot, where there is one.
@@ -30,13 +30,13 @@ pub struct SetStore {
     spare: usize,
 }
 
-impl Model for SetStore {
+impl Model for SetSlots {
     ghost use Rattle.std.specs.Prelude.{map};
-    ghost use Rattle.set_store.specs.Index.{IsIndex, kept_in};
+    ghost use Rattle.set_store.specs.Index.{IsIntact, kept_in};
     ghost use Rattle.set_store.specs.declared.slots.Slot.{Slot};
-    ghost use Rattle.set_store.specs.Stored.{Store};
+    ghost use Rattle.set_store.specs.Stored.{Slots};
 
-    ghost Value = { Store };
+    ghost Value = { Slots };
 
     ghost view = { λ s. record {
       slots = map
@@ -45,15 +45,15 @@ impl Model for SetStore {
       free = s.spare;
     } };
 
-    ghost invariant = { λ s. IsIndex s.region.held s.slots.items s.free s.spare };
+    ghost invariant = { λ s. IsIntact s.region.held s.slots.items s.free s.spare };
 }
 
-impl SetStore {
+impl SetSlots {
     /// A store that holds nothing.
-    pub fn new(alloc: Global) -> SetStore
+    pub fn new(alloc: Global) -> SetSlots
         ensures { result ≡ record { slots = []; cells = 0; free = 0 } }
     {
-        SetStore {
+        SetSlots {
             region: Region::new(alloc),
             slots: Vec::new(alloc),
             free: 0,
@@ -144,7 +144,7 @@ impl SetStore {
 
     /// Gives the set of a slot other octets. It stays in its slot and of its zone.
     pub fn replace(&mut self, slot: u32, octets: &[u8])
-        requires taken { IsTaken self.old.slots slot }
+        requires taken { IsInUse self.old.slots slot }
         requires spelling { IsSpelling octets.now }
         requires cells { cells_for (length octets.now) ≤ self.old.cells }
         ensures slots { (set : RecordSet) (kept : Kept) → Spells octets.now set
@@ -182,7 +182,7 @@ impl SetStore {
 
     /// Takes away the set of a slot.
     pub fn take(&mut self, slot: u32)
-        requires taken { IsTaken self.old.slots slot }
+        requires taken { IsInUse self.old.slots slot }
         ensures slots { self.new.slots ≡ slice_set self.old.slots slot None }
 
         // The same by slots.

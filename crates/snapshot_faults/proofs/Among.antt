@@ -3,7 +3,7 @@
 use Rattle.std.proofs.Common.{◌≡◌, ℕ, zero, suc, ◌≤◌, ◌<◌, inl, inr, List, [], ◌∷◌, ◌++◌, length, arith, ap, ◌∙◌, sym, refl, subst, append_assoc, Result, Ok, Err}
 use Rattle.std.specs.List.{AllByRecursion, flat_map}
 use Rattle.rdata_layout.specs.Names.{AreOctets}
-use Rattle.octet_reading.specs.Readers.{Reader, seen, in_turn_by, so_many}
+use Rattle.octet_reading.specs.Readers.{Reader, mapped, in_turn_by, so_many}
 use Rattle.octet_reading.specs.Reading.{◌>>=◌}
 use Rattle.octet_reading.specs.Rules.{IsReadAs}
 use Rattle.octet_reading.proofs.Composed.{so_many_read}
@@ -19,7 +19,7 @@ pub record Differs {A : Type 0} (Long : List ℕ → ℕ → Type 0) (here any :
 -- ---- seen through a function
 
 pub seen_differs : {A B : Type 0} {Long : List ℕ → ℕ → Type 0} {here any : Reader A} (view : A → B)
-    → Differs Long here any → Differs Long (seen view here) (seen view any)
+    → Differs Long here any → Differs Long (mapped view here) (mapped view any)
 seen_differs {Long = Long} {here = here} {any = any} view d = record {
   agrees = λ octets are.
       agree_then (Long octets) (here octets) (any octets) (λ x. Ok (view x.0, x.1))

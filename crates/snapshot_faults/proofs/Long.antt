@@ -18,7 +18,7 @@ use Rattle.command_codec.proofs.Fields.{set_read}
 use Rattle.snapshot_octets.specs.Configs.{Config}
 use Rattle.snapshot_octets.specs.Hosted.{HostedZone}
 use Rattle.snapshot_octets.specs.Octets.{IsVersion, IsSpelledSet, IsSpelledZone, zone_octets}
-use Rattle.snapshot_octets.specs.Reading.{hosted, zone_at, configured, config_at, front_at}
+use Rattle.snapshot_octets.specs.Reading.{hosted, zone_at, configured, config_at, versioned_at}
 use Rattle.snapshot_octets.proofs.Fields.{version_read, zone_read}
 use Rattle.fault_places.specs.Fields.{spelling}
 use Rattle.command_faults.proofs.Checks.{number_part}
@@ -79,12 +79,12 @@ abbrev FrontLong : List ℕ → ℕ → Type 0
 FrontLong octets left =
     BehindLong IsVersion (λ version. version ∷ []) ConfigLong octets left
 
-front_differs : Differs FrontLong front_at any_front_at
-unfolding front_at
+front_differs : Differs FrontLong versioned_at any_front_at
+unfolding versioned_at
 front_differs = behind_differs version_read (λ version h. config_differs version)
 
 pub front_agrees : (octets : List ℕ) → AreOctets octets
-    → Agree (FrontLong octets) (front_at octets) (any_front_at octets)
+    → Agree (FrontLong octets) (versioned_at octets) (any_front_at octets)
 front_agrees = front_differs.agrees
 
 -- ---- the same by places
@@ -192,7 +192,7 @@ fronts_of config = (
 )
 
 pub long_is_front : (octets : List ℕ) (place : ℕ) → HasLongSetAt octets place
-    → (left : ℕ) × (front_at octets ≡ Err left) × (place + left ≡ length octets)
+    → (left : ℕ) × (versioned_at octets ≡ Err left) × (place + left ≡ length octets)
 long_is_front octets place h =
     let p = fronts_of h.config in
     let head : ℕ × List (List ℕ) = (h.zone.id, h.zone.apex) in

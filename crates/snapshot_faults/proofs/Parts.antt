@@ -9,9 +9,9 @@ use Rattle.octet_reading.specs.Rules.{IsReadAs}
 use Rattle.octet_reading.proofs.Composed.{so_many_read, tested_read}
 use Rattle.octet_reading.proofs.Rules.{err_is, alike, nothing_read, then_read}
 use Rattle.check_octets.specs.Octets as checks
-use Rattle.check_reading.specs.Fields.{counted_at, told_at}
+use Rattle.check_reading.specs.Fields.{counted_at, spelled_at}
 use Rattle.check_reading.proofs.Parts.{number_read}
-use Rattle.snapshot_octets.specs.Octets.{IsWhereTold, counted_octets}
+use Rattle.snapshot_octets.specs.Octets.{IsWhereSpelled, counted_octets}
 use Rattle.snapshot_octets.specs.Reading.{is_later, later_at}
 use Rattle.fault_places.specs.Fields.{Field, spelling, Stops}
 use Rattle.fault_places.specs.Fields.Ending.{Sized}
@@ -19,7 +19,7 @@ use Rattle.fault_places.specs.Sets.{sized}
 use Rattle.fault_places.proofs.Composed.{nothing_faults}
 use Rattle.fault_places.proofs.Leaves.{four_faults}
 use Rattle.fault_places.proofs.Steps.{Faults, Dead, dead_by, one_field, field_faults, sized_meets, alike_faults, then_faults}
-use Rattle.command_faults.specs.Commands.{four_fields, where_told}
+use Rattle.command_faults.specs.Commands.{four_fields, where_spelled}
 use Rattle.command_faults.proofs.Parts.{Part, one_part, so_many_part, flat_spelled, refused}
 use Rattle.snapshot_faults.specs.Snapshots.{counted_fields}
 
@@ -82,29 +82,29 @@ later_part = one_part (λ next. sized (four_octets next)) (λ next. refl) later_
 module _ {A : Type 0} {is : A → Type 0} {octets_of : A → List ℕ} {fields : A → List Field}
     {read : Reader A} (left : A) (part : Part is octets_of fields read) where
   told_read : (told : Bool)
-      → IsReadAs (IsWhereTold told left is) (λ x. checks.where_told told (octets_of x))
-      (told_at told left read)
+      → IsReadAs (IsWhereSpelled told left is) (λ x. checks.where_spelled told (octets_of x))
+      (spelled_at told left read)
   told_read true = alike part.reads (λ x h. (h, refl)) (λ x h. h)
   told_read false = alike (nothing_read left) (λ x h. (h, refl)) (λ x h. h)
 
   told_spells : (told : Bool) (x : A)
-      → spelling (where_told told (fields x)) ≡ checks.where_told told (octets_of x)
+      → spelling (where_spelled told (fields x)) ≡ checks.where_spelled told (octets_of x)
   told_spells true x = part.spells x
   told_spells false x = refl
 
-  told_faults : (told : Bool) → Faults (IsWhereTold told left is) (λ x. where_told told (fields x))
-      (told_at told left read)
+  told_faults : (told : Bool) → Faults (IsWhereSpelled told left is) (λ x. where_spelled told (fields x))
+      (spelled_at told left read)
   told_faults true = alike_faults part.told (λ x h. (h, refl)) (λ x h. h)
   told_faults false =
-      nothing_faults (λ x. x ≡ left) (λ x. where_told false (fields x)) left (λ x h. refl)
+      nothing_faults (λ x. x ≡ left) (λ x. where_spelled false (fields x)) left (λ x h. refl)
 
-  some_told : (told : Bool) → (x : A) × IsWhereTold told left is x
+  some_told : (told : Bool) → (x : A) × IsWhereSpelled told left is x
   some_told true = (part.some, part.is_some)
   some_told false = (left, refl)
 
   pub told_part : (told : Bool)
-      → Part (IsWhereTold told left is) (λ x. checks.where_told told (octets_of x))
-      (λ x. where_told told (fields x)) (told_at told left read)
+      → Part (IsWhereSpelled told left is) (λ x. checks.where_spelled told (octets_of x))
+      (λ x. where_spelled told (fields x)) (spelled_at told left read)
   told_part told = let s = some_told told in record {
     reads = told_read told;
     spells = told_spells told;

@@ -3,15 +3,15 @@ use Rattle.std.proofs.Common.{ℕ, ◌≤◌, inl, List, [], ◌∷◌, ◌++◌
 use Rattle.std.specs.Prelude.{⊤}
 use Rattle.octets.specs.Numbers.{four_octets}
 use Rattle.octet_reading.specs.Names.{name_at}
-use Rattle.octet_reading.specs.Readers.{Reader, seen, in_turn, in_turn_by, list_at}
+use Rattle.octet_reading.specs.Readers.{Reader, mapped, in_turn, in_turn_by, list_at}
 use Rattle.octet_reading.specs.Reading.{four_at}
-use Rattle.octet_reading.specs.Rules.{AreListed, list_octets}
+use Rattle.octet_reading.specs.Rules.{AreListable, list_octets}
 use Rattle.set_reading.specs.Labels.{wire}
 use Rattle.set_reading.specs.Names.{IsName}
 use Rattle.set_reading.specs.Reading as sets
 use Rattle.check_octets.specs.Octets as checks
 use Rattle.check_model.specs.declared.checks.Check.{Check}
-use Rattle.check_reading.specs.Fields.{counted_at, told_at}
+use Rattle.check_reading.specs.Fields.{counted_at, spelled_at}
 use Rattle.block_octets.specs.Idents.{IsCollectionName}
 use Rattle.block_octets.specs.Prefixes.{Prefix}
 use Rattle.block_octets.specs.Texts.{IsLocationName}
@@ -21,14 +21,14 @@ use Rattle.config_model.specs.CidrLocationRecord.{CidrLocation}
 use Rattle.config_model.specs.CollectionRecord.{Collection}
 use Rattle.snapshot_octets.specs.Configs.{Config}
 use Rattle.snapshot_octets.specs.Hosted.{HostedZone}
-use Rattle.snapshot_octets.specs.Octets.{IsVersion, IsWhereTold, IsHeldCheck, IsHeldCollection, IsPrefixed, IsSpelledLocation, IsSpelledCollection, tells_collections, held_check_octets, location_octets, collection_octets, held_collection_octets, zone_octets}
-use Rattle.snapshot_octets.specs.Reading.{is_version, version_at, held_check_at, located, location_at, collected, collection_at, held_collection_at, later_at, hosted, configured}
+use Rattle.snapshot_octets.specs.Octets.{IsVersion, IsWhereSpelled, IsHeldCheck, IsHeldCollection, IsPrefixed, IsSpelledLocation, IsSpelledCollection, spells_collections, numbered_check_octets, location_octets, collection_octets, held_collection_octets, zone_octets}
+use Rattle.snapshot_octets.specs.Reading.{is_version, version_at, numbered_check_at, located, location_at, collected, collection_at, numbered_collection_at, later_at, hosted, configured}
 use Rattle.snapshot_octets.proofs.Fields.{version_read}
 use Rattle.fault_places.specs.Fields.{Field}
 use Rattle.fault_places.specs.Sets.{sized}
 use Rattle.fault_places.proofs.Leaves.{tested_octet}
 use Rattle.fault_places.proofs.Steps.{Faults}
-use Rattle.command_faults.specs.Commands.{four_fields, list_fields, name_fields, where_told}
+use Rattle.command_faults.specs.Commands.{four_fields, list_fields, name_fields, where_spelled}
 use Rattle.command_faults.proofs.Parts.{Part, one_part, in_turn_part, in_turn_by_part, seen_part, alike_part, list_part}
 use Rattle.command_faults.proofs.Checks.{number_part, check_part}
 use Rattle.command_faults.proofs.Blocks as blocks
@@ -38,15 +38,15 @@ use Rattle.snapshot_faults.proofs.Parts.{later_part, told_part, counted_part}
 
 -- ---- checks
 
-held_check_part : (version : ℕ) → Part (IsHeldCheck version) (held_check_octets version)
-    (held_check_fields version) (held_check_at version)
-unfolding held_check_at
+held_check_part : (version : ℕ) → Part (IsHeldCheck version) (numbered_check_octets version)
+    (held_check_fields version) (numbered_check_at version)
+unfolding numbered_check_at
 held_check_part version = alike_part (in_turn_part number_part (check_part version))
     (λ held h. h.1) (λ held h. (tt, h)) (λ held. refl) (λ held. refl)
 
 -- ---- collections
 
-location_inner : Part (λ (p : List ℕ × List Prefix). IsLocationName p.0 × AreListed IsPrefixed p.1)
+location_inner : Part (λ (p : List ℕ × List Prefix). IsLocationName p.0 × AreListable IsPrefixed p.1)
     (λ p. location_octets (located p)) (λ p. location_fields (located p))
     (in_turn collections.location_at (list_at block_at))
 location_inner = in_turn_part blocks.location_part (list_part blocks.block_part)
@@ -60,7 +60,7 @@ location_part =
     (λ location. location_inner.spells (location.name, location.blocks))
 
 collection_inner : Part
-    (λ (p : List ℕ × List CidrLocation). IsCollectionName p.0 × AreListed IsSpelledLocation p.1)
+    (λ (p : List ℕ × List CidrLocation). IsCollectionName p.0 × AreListable IsSpelledLocation p.1)
     (λ p. collection_octets (collected p)) (λ p. collection_fields (collected p))
     (in_turn collections.name_at (list_at location_at))
 collection_inner = in_turn_part blocks.name_part (list_part location_part)
@@ -74,8 +74,8 @@ collection_part =
     (λ collection. collection_inner.spells (collection.name, collection.locations))
 
 held_collection_part : Part IsHeldCollection held_collection_octets held_collection_fields
-    held_collection_at
-unfolding held_collection_at
+    numbered_collection_at
+unfolding numbered_collection_at
 held_collection_part = alike_part (in_turn_part number_part collection_part)
     (λ held h. h.1) (λ held h. (tt, h)) (λ held. refl) (λ held. refl)
 
@@ -89,7 +89,7 @@ head_part = in_turn_part number_part name_part
 -- zones whose sets have as many octets as you like
 abbrev pub any_zone_at : Reader HostedZone
 any_zone_at octets =
-    seen hosted (in_turn (in_turn four_at name_at) (counted_at four_at sets.set_at)) octets
+    mapped hosted (in_turn (in_turn four_at name_at) (counted_at four_at sets.set_at)) octets
 
 pub zone_part : Part IsZoneInGrammar zone_octets zone_fields any_zone_at
 zone_part =
@@ -106,44 +106,44 @@ Fronts = (((ℕ × ℕ) × ℕ) × List (ℕ × Check)) × List (ℕ × Collecti
 
 abbrev pub IsFront : (version : ℕ) → Fronts → Type 0
 IsFront version p =
-    (((⊤ × ⊤) × IsWhereTold (tells_collections version) 1 (λ next. 2 ≤ next) p.0.0.1)
-    × AreListed (IsHeldCheck version) p.0.1)
-    × IsWhereTold (tells_collections version) [] (AreListed IsHeldCollection) p.1
+    (((⊤ × ⊤) × IsWhereSpelled (spells_collections version) 1 (λ next. 2 ≤ next) p.0.0.1)
+    × AreListable (IsHeldCheck version) p.0.1)
+    × IsWhereSpelled (spells_collections version) [] (AreListable IsHeldCollection) p.1
 
 abbrev pub fronts_octets : (version : ℕ) → Fronts → List ℕ
 fronts_octets version p =
     four_octets p.0.0.0.0 ++ four_octets p.0.0.0.1
-    ++ checks.where_told (tells_collections version) (four_octets p.0.0.1)
-    ++ list_octets (held_check_octets version) p.0.1
-    ++ checks.where_told (tells_collections version) (list_octets held_collection_octets p.1)
+    ++ checks.where_spelled (spells_collections version) (four_octets p.0.0.1)
+    ++ list_octets (numbered_check_octets version) p.0.1
+    ++ checks.where_spelled (spells_collections version) (list_octets held_collection_octets p.1)
 
 abbrev fronts_fields : (version : ℕ) → Fronts → List Field
 fronts_fields version p =
     sized (four_octets p.0.0.0.0) ∷ sized (four_octets p.0.0.0.1)
-    ∷ (where_told (tells_collections version) (four_fields p.0.0.1)
+    ∷ (where_spelled (spells_collections version) (four_fields p.0.0.1)
     ++ list_fields (held_check_fields version) p.0.1
-    ++ where_told (tells_collections version) (list_fields held_collection_fields p.1))
+    ++ where_spelled (spells_collections version) (list_fields held_collection_fields p.1))
 
 abbrev pub fronts_at : (version : ℕ) → Reader Fronts
 fronts_at version octets =
     in_turn (in_turn (in_turn (in_turn four_at four_at)
-    (told_at (tells_collections version) 1 later_at))
-    (list_at (held_check_at version)))
-    (told_at (tells_collections version) [] (list_at held_collection_at)) octets
+    (spelled_at (spells_collections version) 1 later_at))
+    (list_at (numbered_check_at version)))
+    (spelled_at (spells_collections version) [] (list_at numbered_collection_at)) octets
 
 pub fronts_part : (version : ℕ) → Part (IsFront version) (fronts_octets version)
     (fronts_fields version) (fronts_at version)
 fronts_part version =
     in_turn_part (in_turn_part (in_turn_part (in_turn_part number_part number_part)
-    (told_part 1 later_part (tells_collections version)))
+    (told_part 1 later_part (spells_collections version)))
     (list_part (held_check_part version)))
-    (told_part [] (list_part held_collection_part) (tells_collections version))
+    (told_part [] (list_part held_collection_part) (spells_collections version))
 
 -- ---- snapshots
 
 abbrev pub any_config_at : (version : ℕ) → Reader Config
 any_config_at version octets =
-    seen configured (in_turn (fronts_at version) (list_at any_zone_at)) octets
+    mapped configured (in_turn (fronts_at version) (list_at any_zone_at)) octets
 
 abbrev fronts_of : Config → Fronts
 fronts_of config = (
@@ -153,7 +153,7 @@ fronts_of config = (
 
 abbrev IsBehind : (version : ℕ) → Config → Type 0
 IsBehind version config =
-    IsFront version (fronts_of config) × AreListed IsZoneInGrammar config.zones
+    IsFront version (fronts_of config) × AreListable IsZoneInGrammar config.zones
 
 abbrev octets_behind : (version : ℕ) → Config → List ℕ
 octets_behind version config =

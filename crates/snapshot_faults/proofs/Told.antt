@@ -2,14 +2,14 @@
 use Rattle.std.proofs.Common.{◌≡◌, ℕ, ◌+◌, ◌-◌, ◌≤◌, ◌<◌, inl, inr, Bool, true, false, List, [], ◌∷◌, ◌++◌, length, arith, ap, ◌∙◌, sym, refl, subst, eqb, cond, length-append, Result, Ok, Err}
 use Rattle.std.proofs.lemmas.Bool.{eqb-true}
 use Rattle.rdata_layout.specs.Names.{AreOctets}
-use Rattle.octet_reading.specs.Readers.{alone, placed}
+use Rattle.octet_reading.specs.Readers.{alone, by_place}
 use Rattle.octet_reading.specs.Reading.{◌>>=◌}
 use Rattle.octet_reading.specs.Rules.{IsReadAs}
 use Rattle.octet_reading.proofs.Rules.{err_is}
 use Rattle.set_fields.proofs.Fields.{fields_are_read}
 use Rattle.set_reading.proofs.Whole.{written_reads_back, sets_are_told}
 use Rattle.snapshot_octets.specs.Configs.{Config}
-use Rattle.snapshot_octets.specs.Reading.{front_at, unversioned, read}
+use Rattle.snapshot_octets.specs.Reading.{versioned_at, unversioned, read}
 use Rattle.snapshot_octets.proofs.Fields.{IsIn, octets_in, front_read}
 use Rattle.fault_places.specs.Fields.{Field, StandsBehind, StopsIn, led_by}
 use Rattle.fault_places.proofs.Places.{none_begins, one_stop}
@@ -26,20 +26,20 @@ snapshots_are_fields versioned = sym (front_part.spells versioned)
 pub no_field_is_empty : NoFieldIsEmpty
 no_field_is_empty = front_part.told.places.filled
 
-front : IsReadAs IsIn octets_in front_at
+front : IsReadAs IsIn octets_in versioned_at
 front = front_read (written_reads_back fields_are_read) (sets_are_told fields_are_read)
 
 -- ---- octets as a whole
 
 abbrev answer : (octets : List ℕ) → Result ((ℕ × Config) × List ℕ) ℕ → Result Config ℕ
-answer octets parts = unversioned (placed (length octets) (parts >>= alone))
+answer octets parts = unversioned (by_place (length octets) (parts >>= alone))
 
-read_is : (octets : List ℕ) → read octets ≡ answer octets (front_at octets)
+read_is : (octets : List ℕ) → read octets ≡ answer octets (versioned_at octets)
 unfolding read
 read_is octets = refl
 
 -- where reading its front stops
-front_stops : (octets : List ℕ) (place left : ℕ) → front_at octets ≡ Err left
+front_stops : (octets : List ℕ) (place left : ℕ) → versioned_at octets ≡ Err left
     → place + left ≡ length octets → read octets ≡ Err place
 front_stops octets place left e size =
     let same : length octets - left ≡ place = omega (arith, size) in
@@ -55,15 +55,15 @@ some_is n some = go (eqb n 0) refl
 behind_it : (octets surplus : List ℕ) (what : ℕ × Config) → 0 < length surplus
     → answer octets (Ok (what, surplus)) ≡ Err (length octets - length surplus)
 behind_it octets surplus what some =
-    ap (λ b. unversioned (placed (length octets)
+    ap (λ b. unversioned (by_place (length octets)
     (cond {A = Result (ℕ × Config) ℕ} b (Ok what) (Err (length surplus)))))
     (some_is (length surplus) some)
 
 surplus_is_told : (octets : List ℕ) (place : ℕ) → HasSurplusAt octets place
     → read octets ≡ Err place
 surplus_is_told octets place s =
-    let parts : front_at octets ≡ Ok ((s.is.version, s.config), s.surplus) =
-    ap front_at (s.parts ∙ ap (λ t. t ++ s.surplus) s.is.spelled)
+    let parts : versioned_at octets ≡ Ok ((s.is.version, s.config), s.surplus) =
+    ap versioned_at (s.parts ∙ ap (λ t. t ++ s.surplus) s.is.spelled)
     ∙ front.again (s.is.version, s.config) s.surplus s.is.has in
     let same : length octets - length s.surplus ≡ place =
     omega (arith, ap length s.parts, length-append s.front s.surplus, s.behind) in
@@ -72,7 +72,7 @@ surplus_is_told octets place s =
 
 -- ---- what reading tells
 
-none_before : (octets : List ℕ) (place left : ℕ) → front_at octets ≡ Err left
+none_before : (octets : List ℕ) (place left : ℕ) → versioned_at octets ≡ Err left
     → place + left ≡ length octets → (other : ℕ) → HasLongSetAt octets other → other < place → ⊥
 none_before octets place left e size other h less =
     let f = long_is_front octets other h in
@@ -80,7 +80,7 @@ none_before octets place left e size other h less =
     err_is {A = (ℕ × Config) × List ℕ} f.0 left (sym f.1 ∙ e) in
     let k : ⊥ = omega (arith, same, f.2, size, less) in k
 
-told_by_front : (octets : List ℕ) (place left : ℕ) → AreOctets octets → front_at octets ≡ Err left
+told_by_front : (octets : List ℕ) (place left : ℕ) → AreOctets octets → versioned_at octets ≡ Err left
     → place + left ≡ length octets → HasFaultAt octets place
 told_by_front octets place left are e size =
     elim (front_agrees octets are) [
@@ -101,7 +101,7 @@ told_by_front octets place left are e size =
     ]
 
 told : (octets : List ℕ) (place : ℕ) (parts : Result ((ℕ × Config) × List ℕ) ℕ) → AreOctets octets
-    → front_at octets ≡ parts → answer octets parts ≡ Err place → HasFaultAt octets place
+    → versioned_at octets ≡ parts → answer octets parts ≡ Err place → HasFaultAt octets place
 told octets place (Ok (what, [])) are f e =
     absurd (let k : Ok what.1 ≡ Err place = e in cc)
 told octets place (Ok (what, b ∷ surplus)) are f e =
@@ -164,7 +164,7 @@ has_told octets place are (inr (inr s)) = surplus_is_told octets place s
 
 pub snapshot_faults_as_told : SnapshotFaultsAsTold
 snapshot_faults_as_told octets place are = (
-  (λ e. told octets place (front_at octets) are refl (sym (read_is octets) ∙ e)),
+  (λ e. told octets place (versioned_at octets) are refl (sym (read_is octets) ∙ e)),
   has_told octets place are,
 )
 

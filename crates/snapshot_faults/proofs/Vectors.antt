@@ -18,7 +18,7 @@ use Rattle.set_reading.specs.Octets.{set_octets}
 use Rattle.set_reading.specs.RecordSetRecord.{RecordSet}
 use Rattle.set_reading.specs.Values.{IsInLayout}
 use Rattle.snapshot_octets.specs.Configs.{Config, empty}
-use Rattle.snapshot_octets.specs.Reading.{read, front_at, version_at, config_at, later_at, zone_at}
+use Rattle.snapshot_octets.specs.Reading.{read, versioned_at, version_at, config_at, later_at, zone_at}
 use Rattle.fault_places.specs.Fields.{Field}
 use Rattle.fault_places.specs.Fields.Ending.{Sized, Open, Counted}
 use Rattle.fault_places.specs.Sets.{sized}
@@ -125,7 +125,7 @@ cut_at (n ∷ numbers) e =
 -- wherever it is cut off, octets are missing behind the last
 pub cut_off : AllByRecursion (λ n. HasFaultAt (take n nothing) n)
     (0 ∷ 1 ∷ 2 ∷ 3 ∷ 4 ∷ 5 ∷ 6 ∷ 7 ∷ 8 ∷ 9 ∷ 10 ∷ 11 ∷ 12 ∷ [])
-unfolding read front_at version_at config_at
+unfolding read versioned_at version_at config_at
 cut_off = cut_at (0 ∷ 1 ∷ 2 ∷ 3 ∷ 4 ∷ 5 ∷ 6 ∷ 7 ∷ 8 ∷ 9 ∷ 10 ∷ 11 ∷ 12 ∷ []) refl
 
 -- the number that the next zone gets, cut off, by the definition alone
@@ -158,25 +158,25 @@ stops_at = record {
 
 -- version 4
 pub no_version : HasFaultAt (4 ∷ 0 ∷ 0 ∷ 0 ∷ 1 ∷ []) 0
-unfolding read front_at version_at
+unfolding read versioned_at version_at
 no_version = fault_at (4 ∷ 0 ∷ 0 ∷ 0 ∷ 1 ∷ []) 0 refl refl
 
 -- version 3, where the next collection gets number 1
 pub no_collection : HasFaultAt
     (3 ∷ 0 ∷ 0 ∷ 0 ∷ 1 ∷ 0 ∷ 0 ∷ 0 ∷ 1 ∷ 0 ∷ 0 ∷ 0 ∷ 1 ∷ 0 ∷ 0 ∷ 0 ∷ 0 ∷ 0 ∷ 0 ∷ []) 9
-unfolding read front_at version_at config_at later_at
+unfolding read versioned_at version_at config_at later_at
 no_collection = fault_at
     (3 ∷ 0 ∷ 0 ∷ 0 ∷ 1 ∷ 0 ∷ 0 ∷ 0 ∷ 1 ∷ 0 ∷ 0 ∷ 0 ∷ 1 ∷ 0 ∷ 0 ∷ 0 ∷ 0 ∷ 0 ∷ 0 ∷ []) 9 refl refl
 
 -- an octet behind a whole one
 pub surplus : HasFaultAt (2 ∷ 0 ∷ 0 ∷ 0 ∷ 1 ∷ 0 ∷ 0 ∷ 0 ∷ 1 ∷ 0 ∷ 0 ∷ 0 ∷ 0 ∷ 7 ∷ []) 13
-unfolding read front_at version_at config_at
+unfolding read versioned_at version_at config_at
 surplus = fault_at (2 ∷ 0 ∷ 0 ∷ 0 ∷ 1 ∷ 0 ∷ 0 ∷ 0 ∷ 1 ∷ 0 ∷ 0 ∷ 0 ∷ 0 ∷ 7 ∷ []) 13 refl refl
 
 -- zone 7, with the name `a`, of which the root's length is missing
 pub cut_name : HasFaultAt
     (2 ∷ 0 ∷ 0 ∷ 0 ∷ 8 ∷ 0 ∷ 0 ∷ 0 ∷ 1 ∷ 0 ∷ 0 ∷ 0 ∷ 1 ∷ 0 ∷ 0 ∷ 0 ∷ 7 ∷ 1 ∷ 0x61 ∷ []) 19
-unfolding read front_at version_at config_at zone_at name_at
+unfolding read versioned_at version_at config_at zone_at name_at
 cut_name = fault_at
     (2 ∷ 0 ∷ 0 ∷ 0 ∷ 8 ∷ 0 ∷ 0 ∷ 0 ∷ 1 ∷ 0 ∷ 0 ∷ 0 ∷ 1 ∷ 0 ∷ 0 ∷ 0 ∷ 7 ∷ 1 ∷ 0x61 ∷ []) 19
     refl refl
@@ -184,7 +184,7 @@ cut_name = fault_at
 -- zone 7, with a name that has a capital letter
 pub no_name : HasFaultAt
     (2 ∷ 0 ∷ 0 ∷ 0 ∷ 8 ∷ 0 ∷ 0 ∷ 0 ∷ 1 ∷ 0 ∷ 0 ∷ 0 ∷ 1 ∷ 0 ∷ 0 ∷ 0 ∷ 7 ∷ 1 ∷ 0x41 ∷ 0 ∷ []) 17
-unfolding read front_at version_at config_at zone_at name_at
+unfolding read versioned_at version_at config_at zone_at name_at
 no_name = fault_at
     (2 ∷ 0 ∷ 0 ∷ 0 ∷ 8 ∷ 0 ∷ 0 ∷ 0 ∷ 1 ∷ 0 ∷ 0 ∷ 0 ∷ 1 ∷ 0 ∷ 0 ∷ 0 ∷ 7 ∷ 1 ∷ 0x41 ∷ 0 ∷ []) 17
     refl refl

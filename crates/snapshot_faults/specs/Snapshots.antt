@@ -2,7 +2,7 @@
 use Rattle.std.specs.Prelude.{◌≡◌, ℕ, ◌<◌, ◌≤◌, ◌^◌, List, [], ◌∷◌, ◌++◌, length}
 use Rattle.std.specs.List.{flat_map, AllByRecursion}
 use Rattle.octets.specs.Numbers.{two_octets, four_octets}
-use Rattle.octet_reading.specs.Rules.{AreListed, text_octets}
+use Rattle.octet_reading.specs.Rules.{AreListable, text_octets}
 use Rattle.set_reading.specs.Labels.{wire}
 use Rattle.set_reading.specs.Names.{IsName}
 use Rattle.set_reading.specs.Octets.{set_octets, most_octets}
@@ -12,12 +12,12 @@ use Rattle.config_model.specs.CidrLocationRecord.{CidrLocation}
 use Rattle.config_model.specs.CollectionRecord.{Collection}
 use Rattle.snapshot_octets.specs.Configs.{Config}
 use Rattle.snapshot_octets.specs.Hosted.{HostedZone}
-use Rattle.snapshot_octets.specs.Octets.{IsVersion, tells_collections, zone_octets, snapshot_octets}
-use Rattle.snapshot_octets.specs.Octets.{IsWhereTold, IsHeldCheck, IsHeldCollection, IsSpelledZone}
+use Rattle.snapshot_octets.specs.Octets.{IsVersion, spells_collections, zone_octets, snapshot_octets}
+use Rattle.snapshot_octets.specs.Octets.{IsWhereSpelled, IsHeldCheck, IsHeldCollection, IsSpelledZone}
 use Rattle.snapshot_octets.specs.Octets.{HasSnapshot, IsSnapshot}
 use Rattle.fault_places.specs.Fields.{Field, spelling}
 use Rattle.fault_places.specs.Sets.{sized, open_ended, fields_of_set, IsInGrammar}
-use Rattle.command_faults.specs.Commands.{four_fields, list_fields, where_told, check_fields, block_fields}
+use Rattle.command_faults.specs.Commands.{four_fields, list_fields, where_spelled, check_fields, block_fields}
 
 -- a check behind its number
 abbrev pub held_check_fields : (version : ℕ) → ℕ × Check → List Field
@@ -52,9 +52,9 @@ abbrev pub front_fields : ℕ × Config → List Field
 front_fields versioned =
     sized (versioned.0 ∷ []) ∷ sized (four_octets versioned.1.next_zone)
     ∷ sized (four_octets versioned.1.checks.next)
-    ∷ (where_told (tells_collections versioned.0) (four_fields versioned.1.collections.next)
+    ∷ (where_spelled (spells_collections versioned.0) (four_fields versioned.1.collections.next)
     ++ list_fields (held_check_fields versioned.0) versioned.1.checks.list
-    ++ where_told (tells_collections versioned.0)
+    ++ where_spelled (spells_collections versioned.0)
     (list_fields held_collection_fields versioned.1.collections.list))
 
 -- that, and the zones
@@ -73,11 +73,11 @@ pub record IsZoneInGrammar (zone : HostedZone) : Type 0 where
 -- What has a snapshot in a version, but that its sets may have as many octets as you like.
 pub record HasGrammar (version : ℕ) (config : Config) : Type 0 where
   pub known : IsVersion version
-  pub next : IsWhereTold (tells_collections version) 1 (λ next. 2 ≤ next) config.collections.next
-  pub checks : AreListed (IsHeldCheck version) config.checks.list
-  pub collections : IsWhereTold (tells_collections version) [] (AreListed IsHeldCollection)
+  pub next : IsWhereSpelled (spells_collections version) 1 (λ next. 2 ≤ next) config.collections.next
+  pub checks : AreListable (IsHeldCheck version) config.checks.list
+  pub collections : IsWhereSpelled (spells_collections version) [] (AreListable IsHeldCollection)
       config.collections.list
-  pub zones : AreListed IsZoneInGrammar config.zones
+  pub zones : AreListable IsZoneInGrammar config.zones
 
 -- A version, and a configuration whose fields are in that version's grammar.
 abbrev pub IsSnapshotInGrammar : ℕ × Config → Type 0

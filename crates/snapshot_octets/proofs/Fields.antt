@@ -5,28 +5,28 @@ use Rattle.std.specs.List.{AllByRecursion}
 use Rattle.octets.specs.Numbers.{four_octets}
 use Rattle.config_model.specs.Readers.{Reader}
 use Rattle.config_model.specs.Reading.{four_at}
-use Rattle.config_model.specs.RulesOfOctetReading.{AreListed, IsReadAs, list_octets}
+use Rattle.config_model.specs.RulesOfOctetReading.{AreListable, IsReadAs, list_octets}
 use Rattle.config_model.proofs.Base.{name_read, octet_read}
 use Rattle.config_model.proofs.Composed.{in_turn_by_read, in_turn_read, so_many_read, tested_read}
 use Rattle.config_model.proofs.Optional.{list_read}
 use Rattle.config_model.proofs.Rules.{alike, nothing_read, seen_read, then_read}
 use Rattle.command_codec.proofs.Prefixes.{block_read}
 use Rattle.command_codec.proofs.Texts as texts
-use Rattle.config_model.specs.OctetsOfCheckOctets.{where_told}
+use Rattle.config_model.specs.OctetsOfCheckOctets.{where_spelled}
 use Rattle.command_codec.proofs.CommandsOfCheckReading.{check_read}
 use Rattle.command_codec.proofs.PartsOfCheckReading.{number_read}
-use Rattle.command_codec.specs.Fields.{counted_at, told_at}
+use Rattle.command_codec.specs.Fields.{counted_at, spelled_at}
 use Rattle.command_codec.proofs.Fields.{set_read}
 use Rattle.config_model.specs.Configs.{Config}
 use Rattle.config_model.specs.LawsOfSetReading as set_laws
 use Rattle.snapshot_octets.specs.Octets.{HasSnapshot, IsHeldCheck, IsHeldCollection}
 use Rattle.snapshot_octets.specs.Octets.{IsSpelledCollection, IsSpelledLocation}
-use Rattle.snapshot_octets.specs.Octets.{IsSpelledZone, IsVersion, IsWhereTold, collection_octets}
-use Rattle.snapshot_octets.specs.Octets.{counted_octets, held_check_octets, held_collection_octets}
-use Rattle.snapshot_octets.specs.Octets.{location_octets, snapshot_octets, tells_collections}
+use Rattle.snapshot_octets.specs.Octets.{IsSpelledZone, IsVersion, IsWhereSpelled, collection_octets}
+use Rattle.snapshot_octets.specs.Octets.{counted_octets, numbered_check_octets, held_collection_octets}
+use Rattle.snapshot_octets.specs.Octets.{location_octets, snapshot_octets, spells_collections}
 use Rattle.snapshot_octets.specs.Octets.{zone_octets}
 use Rattle.snapshot_octets.specs.Reading.{collected, collection_at, config_at, configured}
-use Rattle.snapshot_octets.specs.Reading.{front_at, held_check_at, held_collection_at, hosted}
+use Rattle.snapshot_octets.specs.Reading.{versioned_at, numbered_check_at, numbered_collection_at, hosted}
 use Rattle.snapshot_octets.specs.Reading.{is_later, is_version, later_at, located, location_at}
 use Rattle.snapshot_octets.specs.Reading.{version_at, zone_at}
 
@@ -61,8 +61,8 @@ version_read =
 -- a field that stands there where it is told
 told_read : {A : Type 0} {is : A → Type 0} {octets_of : A → List ℕ} {read : Reader A}
     (told : Bool) (left : A) → IsReadAs is octets_of read
-    → IsReadAs (IsWhereTold told left is) (λ x. where_told told (octets_of x))
-    (told_at told left read)
+    → IsReadAs (IsWhereSpelled told left is) (λ x. where_spelled told (octets_of x))
+    (spelled_at told left read)
 told_read true left inside = alike inside (λ x h. (h, refl)) (λ x h. h)
 told_read false left inside = alike (nothing_read left) (λ x h. (h, refl)) (λ x h. h)
 
@@ -74,8 +74,8 @@ later_read = alike (tested_read is_later number_read) (λ next h. (leb-true 2 ne
 -- ---- checks
 
 pub held_check_read : (version : ℕ)
-    → IsReadAs (IsHeldCheck version) (held_check_octets version) (held_check_at version)
-unfolding held_check_at
+    → IsReadAs (IsHeldCheck version) (numbered_check_octets version) (numbered_check_at version)
+unfolding numbered_check_at
 held_check_read version = alike (in_turn_read number_read (check_read version))
     (λ held h. (h.1, refl)) (λ held h. (tt, h))
 
@@ -95,8 +95,8 @@ collection_read =
     (λ p h. (record { name = h.0; locations = h.1 }, refl))
     (λ collection h. ((collection.name, collection.locations), (h.name, h.locations), refl))
 
-pub held_collection_read : IsReadAs IsHeldCollection held_collection_octets held_collection_at
-unfolding held_collection_at
+pub held_collection_read : IsReadAs IsHeldCollection held_collection_octets numbered_collection_at
+unfolding numbered_collection_at
 held_collection_read = alike (in_turn_read number_read collection_read)
     (λ held h. (h.1, refl)) (λ held h. (tt, h))
 
@@ -131,18 +131,18 @@ module _ (written : set_laws.WrittenReadsBack) (told : set_laws.SetsAreTold) whe
   -- what stands behind the version
   abbrev IsBehind : (version : ℕ) → Config → Type 0
   IsBehind version config =
-      IsWhereTold (tells_collections version) 1 (λ next. 2 ≤ next) config.collections.next
-      × AreListed (IsHeldCheck version) config.checks.list
-      × IsWhereTold (tells_collections version) [] (AreListed IsHeldCollection)
+      IsWhereSpelled (spells_collections version) 1 (λ next. 2 ≤ next) config.collections.next
+      × AreListable (IsHeldCheck version) config.checks.list
+      × IsWhereSpelled (spells_collections version) [] (AreListable IsHeldCollection)
       config.collections.list
-      × AreListed IsSpelledZone config.zones
+      × AreListable IsSpelledZone config.zones
 
   abbrev octets_behind : (version : ℕ) → Config → List ℕ
   octets_behind version config =
       four_octets config.next_zone ++ four_octets config.checks.next
-      ++ where_told (tells_collections version) (four_octets config.collections.next)
-      ++ list_octets (held_check_octets version) config.checks.list
-      ++ where_told (tells_collections version)
+      ++ where_spelled (spells_collections version) (four_octets config.collections.next)
+      ++ list_octets (numbered_check_octets version) config.checks.list
+      ++ where_spelled (spells_collections version)
       (list_octets held_collection_octets config.collections.list)
       ++ list_octets zone_octets config.zones
 
@@ -152,9 +152,9 @@ module _ (written : set_laws.WrittenReadsBack) (told : set_laws.SetsAreTold) whe
   config_read version =
       seen_read configured
       (in_turn_read (in_turn_read (in_turn_read (in_turn_read (in_turn_read number_read number_read)
-      (told_read (tells_collections version) 1 later_read))
+      (told_read (spells_collections version) 1 later_read))
       (list_read (held_check_read version)))
-      (told_read (tells_collections version) [] (list_read held_collection_read)))
+      (told_read (spells_collections version) [] (list_read held_collection_read)))
       (list_read zone_read))
       (λ p h. ((h.0.0.0.1, h.0.0.1, h.0.1, h.1), refl))
       (λ config h. (
@@ -169,8 +169,8 @@ module _ (written : set_laws.WrittenReadsBack) (told : set_laws.SetsAreTold) whe
         refl,
       ))
 
-  pub front_read : IsReadAs IsIn octets_in front_at
-  unfolding front_at
+  pub front_read : IsReadAs IsIn octets_in versioned_at
+  unfolding versioned_at
   front_read = alike (in_turn_by_read version_read config_read)
       (λ p h. (
         record {

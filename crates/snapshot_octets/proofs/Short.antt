@@ -14,8 +14,8 @@ use Rattle.config_model.specs.Octets.{block_octets, family_of}
 use Rattle.check_model.specs.Checks.{IsBounded}
 use Rattle.check_model.specs.declared.checks.Check.{Check}
 use Rattle.check_model.specs.declared.checks.Check.TheVariants.{Calculated, Endpoint}
-use Rattle.config_model.specs.OctetsOfCheckOctets.{check_octets, disabled_octets, flag_octets, tells_disabled}
-use Rattle.config_model.specs.OctetsOfCheckOctets.{where_told}
+use Rattle.config_model.specs.OctetsOfCheckOctets.{check_octets, disabled_octets, flag_octets, spells_disabled}
+use Rattle.config_model.specs.OctetsOfCheckOctets.{where_spelled}
 use Rattle.config_model.specs.Places.{IsBlock, IsCidrLocation, IsCollection, octets_of, rows_of}
 use Rattle.config_model.specs.CidrLocationRecord.{CidrLocation}
 use Rattle.config_model.specs.CollectionRecord.{Collection}
@@ -27,8 +27,8 @@ use Rattle.config_model.specs.Prefixes.{IsPrefix, Prefix}
 use Rattle.config_model.specs.OctetsOfSetOctets.{set_octets}
 use Rattle.snapshot_octets.specs.Laws.{SoundAreShort}
 use Rattle.snapshot_octets.specs.Octets.{IsSpelledZone, collection_octets, counted_octets}
-use Rattle.snapshot_octets.specs.Octets.{held_check_octets, held_collection_octets}
-use Rattle.snapshot_octets.specs.Octets.{location_octets, snapshot_octets, tells_collections}
+use Rattle.snapshot_octets.specs.Octets.{numbered_check_octets, held_collection_octets}
+use Rattle.snapshot_octets.specs.Octets.{location_octets, snapshot_octets, spells_collections}
 use Rattle.snapshot_octets.specs.Octets.{version_of, zone_octets}
 use Rattle.snapshot_octets.proofs.Sound.{rows_are, sound_have_snapshots}
 use Rattle.config_model.specs.Hosted.{HostedZone}
@@ -50,7 +50,7 @@ short_list octets_of most (x ∷ xs) short =
     )
 
 -- what is told has its octets, and else there are none
-told_is : (told : Bool) (octets : List ℕ) → length (where_told told octets) ≤ length octets
+told_is : (told : Bool) (octets : List ℕ) → length (where_spelled told octets) ≤ length octets
 told_is true octets = omega arith
 told_is false octets = omega arith
 
@@ -64,19 +64,19 @@ short_children (child ∷ children) = (omega arith, short_children children)
 check_is : (version : ℕ) (check : Check) → IsBounded check
     → length (check_octets version check) ≤ 1027
 check_is version (Endpoint threshold inverted disabled) bounded =
-    omega (arith, told_is (tells_disabled version) (flag_octets disabled))
+    omega (arith, told_is (spells_disabled version) (flag_octets disabled))
 check_is version (Calculated threshold inverted disabled children) bounded =
     omega (
       arith,
       length-append (disabled_octets version disabled) (list_octets four_octets children),
-      told_is (tells_disabled version) (flag_octets disabled),
+      told_is (spells_disabled version) (flag_octets disabled),
       bounded.1,
       short_list four_octets 4 children (short_children children),
     )
 
 short_checks : (version : ℕ) (list : List (ℕ × Check))
     → AllByRecursion (λ (held : ℕ × Check). IsBounded held.1) list
-    → AllByRecursion (λ held. length (held_check_octets version held) ≤ 1031) list
+    → AllByRecursion (λ held. length (numbered_check_octets version held) ≤ 1031) list
 short_checks version [] bounded = tt
 short_checks version (held ∷ list) bounded =
     let is = check_is version held.1 bounded.0 in
@@ -170,12 +170,12 @@ zones_are (zone ∷ zones) are =
 
 module _ (refusals : RefusalsAreTold) (config : Config) (sound : Sound config) where
   checks_are : (version : ℕ)
-      → length (list_octets (held_check_octets version) config.checks.list) ≤ 206202
+      → length (list_octets (numbered_check_octets version) config.checks.list) ≤ 206202
   checks_are version =
       omega (
         arith,
         sound.checks.few,
-        short_list (held_check_octets version) 1031 config.checks.list
+        short_list (numbered_check_octets version) 1031 config.checks.list
             (short_checks version config.checks.list sound.checks.bounded),
       )
 
@@ -199,16 +199,16 @@ module _ (refusals : RefusalsAreTold) (config : Config) (sound : Sound config) w
 
   short_in : (version : ℕ) → length (snapshot_octets version config) ≤ 71153683
   short_in version =
-      let told = tells_collections version in
+      let told = spells_collections version in
       let numbers = four_octets config.next_zone ++ four_octets config.checks.next in
-      let next = where_told told (four_octets config.collections.next) in
-      let checks = list_octets (held_check_octets version) config.checks.list in
+      let next = where_spelled told (four_octets config.collections.next) in
+      let checks = list_octets (numbered_check_octets version) config.checks.list in
       let held = list_octets held_collection_octets config.collections.list in
       let zones = list_octets zone_octets config.zones in
       omega (
         arith,
-        length-append (((numbers ++ next) ++ checks) ++ where_told told held) zones,
-        length-append ((numbers ++ next) ++ checks) (where_told told held),
+        length-append (((numbers ++ next) ++ checks) ++ where_spelled told held) zones,
+        length-append ((numbers ++ next) ++ checks) (where_spelled told held),
         length-append (numbers ++ next) checks,
         length-append numbers next,
         told_is told (four_octets config.collections.next),

@@ -5,11 +5,11 @@ use Rattle.std.proofs.lemmas.List.{length-append, length-map}
 use Rattle.std.specs.Prelude.{nat_lt, if◌then◌else◌}
 use Rattle.std.specs.List.{AllByRecursion}
 use Rattle.dns_name.specs.Names.{IsName}
-use Rattle.config_model.specs.RulesOfOctetReading.{AreListed}
+use Rattle.config_model.specs.RulesOfOctetReading.{AreListable}
 use Rattle.check_model.specs.Checks.{Checks}
 use Rattle.check_model.specs.Checks as checks
 use Rattle.check_model.specs.declared.checks.Check.{Check}
-use Rattle.config_model.specs.OctetsOfCheckOctets.{disabled_of, tells_disabled}
+use Rattle.config_model.specs.OctetsOfCheckOctets.{disabled_of, spells_disabled}
 use Rattle.config_model.specs.Places.{IsBlock, IsCidrLocation, IsCollection, rows_at, rows_of}
 use Rattle.config_model.specs.CidrLocationRecord.{CidrLocation}
 use Rattle.config_model.specs.CollectionRecord.{Collection}
@@ -42,7 +42,7 @@ among is (y ∷ xs) x all (inr at) = among is xs x all.1 at
 
 -- what isn't told where a version is later than the first
 told_later : (version : ℕ) (check : Check) → 1 < version
-    → tells_disabled version ≡ false → disabled_of check ≡ false
+    → spells_disabled version ≡ false → disabled_of check ≡ false
 told_later version check later e = absurd (omega (arith, later, ltb-false 1 version e))
 
 held_checks : (version : ℕ) → 1 < version → (list : List (ℕ × Check))
@@ -124,13 +124,13 @@ zone_is list others zone is = record {
 
 module _ (config : Config) (sound : Sound config) where
   checks_have : (version : ℕ) → 1 < version
-      → AreListed (IsHeldCheck version) config.checks.list
+      → AreListable (IsHeldCheck version) config.checks.list
   checks_have version later = record {
     count = omega (arith, sound.checks.few);
     each = held_checks version later config.checks.list sound.checks.bounded;
   }
 
-  zones_have : AreListed IsSpelledZone config.zones
+  zones_have : AreListable IsSpelledZone config.zones
   zones_have = record {
     count = omega (arith, sound.few);
     each = each (IsSoundZone config.checks.list config.collections.list) IsSpelledZone

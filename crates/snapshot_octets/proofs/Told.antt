@@ -7,7 +7,7 @@ use Rattle.config_model.specs.Configs.{Config}
 use Rattle.config_model.specs.LawsOfSetReading as set_laws
 use Rattle.snapshot_octets.specs.Laws as laws
 use Rattle.snapshot_octets.specs.Octets.{IsSnapshot}
-use Rattle.snapshot_octets.specs.Reading.{front_at, read, unversioned}
+use Rattle.snapshot_octets.specs.Reading.{versioned_at, read, unversioned}
 use Rattle.snapshot_octets.proofs.Fields.{IsIn, front_read, octets_in}
 
 -- what reading as a whole tells, with the version, it tells of the configuration
@@ -20,7 +20,7 @@ same_ok : (config other : Config) → ◌≡◌ {A = Result Config ℕ} (Ok conf
 same_ok config other e = cc
 
 module _ (written : set_laws.WrittenReadsBack) (told : set_laws.SetsAreTold) where
-  front : IsReadAs IsIn octets_in front_at
+  front : IsReadAs IsIn octets_in versioned_at
   front = front_read written told
 
   pub snapshots_read_back : laws.SnapshotsReadBack
@@ -29,7 +29,7 @@ module _ (written : set_laws.WrittenReadsBack) (told : set_laws.SetsAreTold) whe
 
   pub snapshots_are_told : laws.SnapshotsAreTold
   unfolding read
-  snapshots_are_told octets are = told_of octets (whole front_at octets) (tells_whole front octets are)
+  snapshots_are_told octets are = told_of octets (whole versioned_at octets) (tells_whole front octets are)
 
   read_again : (octets : List ℕ) (config : Config) → IsSnapshot octets config
       → read octets ≡ Ok config

@@ -7,7 +7,7 @@ use Rattle.config_model.specs.RTypeRecord.TheVariants as rtype
 use Rattle.config_model.specs.BodyRecord.TheVariants as body
 use Rattle.routing.specs.declared.policies.Routing.TheVariants as routing
 use Rattle.snapshot_octets.specs.Octets.{snapshot, snapshot_octets}
-use Rattle.snapshot_octets.specs.Reading.{config_at, front_at, later_at, read, version_at}
+use Rattle.snapshot_octets.specs.Reading.{config_at, versioned_at, later_at, read, version_at}
 
 -- a new server: version 2, the next zone and the next check are 1, no checks, no zones
 pub of_nothing : snapshot empty
@@ -111,17 +111,17 @@ of_both = refl
 
 -- version 4
 pub no_version : read (4 ∷ 0 ∷ 0 ∷ 0 ∷ 1 ∷ 0 ∷ 0 ∷ 0 ∷ 1 ∷ 0 ∷ 0 ∷ 0 ∷ 0 ∷ []) ≡ Err 0
-unfolding read front_at version_at
+unfolding read versioned_at version_at
 no_version = refl
 
 -- version 3 where there never was a collection
 pub no_collections :
     read (3 ∷ 0 ∷ 0 ∷ 0 ∷ 1 ∷ 0 ∷ 0 ∷ 0 ∷ 1 ∷ 0 ∷ 0 ∷ 0 ∷ 1 ∷ 0 ∷ 0 ∷ 0 ∷ 0 ∷ 0 ∷ 0 ∷ [])
     ≡ Err 9
-unfolding read front_at version_at config_at later_at
+unfolding read versioned_at version_at config_at later_at
 no_collections = refl
 
 -- an octet behind it
 pub one_behind : read (2 ∷ 0 ∷ 0 ∷ 0 ∷ 1 ∷ 0 ∷ 0 ∷ 0 ∷ 1 ∷ 0 ∷ 0 ∷ 0 ∷ 0 ∷ 0 ∷ []) ≡ Err 13
-unfolding read front_at version_at config_at
+unfolding read versioned_at version_at config_at
 one_behind = refl

@@ -6,11 +6,11 @@ use Rattle.std.specs.List.{AllByRecursion, flat_map}
 use Rattle.octets.specs.Numbers.{four_octets}
 use Rattle.dns_name.specs.Labels.{wire}
 use Rattle.dns_name.specs.Names.{IsName}
-use Rattle.config_model.specs.RulesOfOctetReading.{AreListed, list_octets, text_octets}
+use Rattle.config_model.specs.RulesOfOctetReading.{AreListable, list_octets, text_octets}
 use Rattle.routing.specs.Texts.{IsLocationName}
 use Rattle.config_model.specs.Octets.{block_octets}
 use Rattle.check_model.specs.declared.checks.Check.{Check}
-use Rattle.config_model.specs.OctetsOfCheckOctets.{check_octets, where_told, IsSpelledCheck}
+use Rattle.config_model.specs.OctetsOfCheckOctets.{check_octets, where_spelled, IsSpelledCheck}
 use Rattle.config_model.specs.Idents.{IsCollectionName}
 use Rattle.config_model.specs.CidrLocationRecord.{CidrLocation}
 use Rattle.config_model.specs.CollectionRecord.{Collection}
@@ -27,12 +27,12 @@ abbrev pub IsVersion : ℕ → Type 0
 IsVersion version = (version ≡ 1) ⊎ (version ≡ 2) ⊎ (version ≡ 3)
 
 -- Collections are told in the third version.
-abbrev pub tells_collections : (version : ℕ) → Bool
-tells_collections version = nat_lt 2 version
+abbrev pub spells_collections : (version : ℕ) → Bool
+spells_collections version = nat_lt 2 version
 
 -- a check behind its number
-abbrev pub held_check_octets : (version : ℕ) → ℕ × Check → List ℕ
-held_check_octets version held = four_octets held.0 ++ check_octets version held.1
+abbrev pub numbered_check_octets : (version : ℕ) → ℕ × Check → List ℕ
+numbered_check_octets version held = four_octets held.0 ++ check_octets version held.1
 
 -- a location: its name, and its blocks
 abbrev pub location_octets : CidrLocation → List ℕ
@@ -60,9 +60,9 @@ zone_octets zone =
 abbrev pub snapshot_octets : (version : ℕ) → Config → List ℕ
 snapshot_octets version config =
     version ∷ (four_octets config.next_zone ++ four_octets config.checks.next
-    ++ where_told (tells_collections version) (four_octets config.collections.next)
-    ++ list_octets (held_check_octets version) config.checks.list
-    ++ where_told (tells_collections version)
+    ++ where_spelled (spells_collections version) (four_octets config.collections.next)
+    ++ list_octets (numbered_check_octets version) config.checks.list
+    ++ where_spelled (spells_collections version)
     (list_octets held_collection_octets config.collections.list)
     ++ list_octets zone_octets config.zones)
 
@@ -77,9 +77,9 @@ snapshot config = snapshot_octets (version_of config) config
 -- ---- which configurations have a snapshot in a version
 
 -- where it is told it is so; where it isn't, nothing is there
-abbrev pub IsWhereTold : {A : Type 0} → (told : Bool) (left : A) → (A → Type 0) → A → Type 0
-IsWhereTold true left is x = is x
-IsWhereTold false left is x = x ≡ left
+abbrev pub IsWhereSpelled : {A : Type 0} → (told : Bool) (left : A) → (A → Type 0) → A → Type 0
+IsWhereSpelled true left is x = is x
+IsWhereSpelled false left is x = x ≡ left
 
 abbrev pub IsHeldCheck : (version : ℕ) → ℕ × Check → Type 0
 IsHeldCheck version held = IsSpelledCheck version held.1
@@ -89,11 +89,11 @@ IsPrefixed block = IsPrefix block.address block.length
 
 pub record IsSpelledLocation (location : CidrLocation) : Type 0 where
   pub name : IsLocationName location.name
-  pub blocks : AreListed IsPrefixed location.blocks
+  pub blocks : AreListable IsPrefixed location.blocks
 
 pub record IsSpelledCollection (collection : Collection) : Type 0 where
   pub name : IsCollectionName collection.name
-  pub locations : AreListed IsSpelledLocation collection.locations
+  pub locations : AreListable IsSpelledLocation collection.locations
 
 abbrev pub IsHeldCollection : ℕ × Collection → Type 0
 IsHeldCollection held = IsSpelledCollection held.1
@@ -109,11 +109,11 @@ pub record IsSpelledZone (zone : HostedZone) : Type 0 where
 -- never were; in the third there were.
 pub record HasSnapshot (version : ℕ) (config : Config) : Type 0 where
   pub known : IsVersion version
-  pub next : IsWhereTold (tells_collections version) 1 (λ next. 2 ≤ next) config.collections.next
-  pub checks : AreListed (IsHeldCheck version) config.checks.list
-  pub collections : IsWhereTold (tells_collections version) [] (AreListed IsHeldCollection)
+  pub next : IsWhereSpelled (spells_collections version) 1 (λ next. 2 ≤ next) config.collections.next
+  pub checks : AreListable (IsHeldCheck version) config.checks.list
+  pub collections : IsWhereSpelled (spells_collections version) [] (AreListable IsHeldCollection)
       config.collections.list
-  pub zones : AreListed IsSpelledZone config.zones
+  pub zones : AreListable IsSpelledZone config.zones
 
 -- Octets are a snapshot of a configuration, in one of the versions.
 pub record IsSnapshot (octets : List ℕ) (config : Config) : Type 0 where

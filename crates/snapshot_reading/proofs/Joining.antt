@@ -1,15 +1,15 @@
 -- A snapshot is read as its parts are read one behind another.
 use Rattle.std.proofs.Common.{◌≡◌, ℕ, Bool, true, false, List, [], length, refl, cond, eqb}
 use Rattle.std.proofs.Common.{Result, Ok, Err}
-use Rattle.octet_reading.specs.Readers.{Reader, alone, in_turn, list_at, placed, so_many}
+use Rattle.octet_reading.specs.Readers.{Reader, alone, in_turn, list_at, by_place, so_many}
 use Rattle.octet_reading.specs.Reading.{◌>>=◌, four_at, two_at}
 use Rattle.check_model.specs.declared.checks.Check.{Check}
-use Rattle.check_reading.specs.Fields.{told_at}
+use Rattle.check_reading.specs.Fields.{spelled_at}
 use Rattle.cidr_blocks.specs.declared.places.Collection.{Collection}
 use Rattle.snapshot_octets.specs.Configs.{Config}
-use Rattle.snapshot_octets.specs.Octets.{tells_collections}
-use Rattle.snapshot_octets.specs.Reading.{config_at, configured, held_check_at}
-use Rattle.snapshot_octets.specs.Reading.{held_collection_at, later_at, read, unversioned}
+use Rattle.snapshot_octets.specs.Octets.{spells_collections}
+use Rattle.snapshot_octets.specs.Reading.{config_at, configured, numbered_check_at}
+use Rattle.snapshot_octets.specs.Reading.{numbered_collection_at, later_at, read, unversioned}
 use Rattle.snapshot_octets.specs.Reading.{version_at}
 use Rattle.snapshot_octets.specs.Reading.{zone_at}
 use Rattle.snapshot_octets.specs.Reading as snapshots
@@ -31,8 +31,8 @@ Fields = (((ℕ × ℕ) × ℕ) × List (ℕ × Check)) × List (ℕ × Collecti
 fields_at : (version : ℕ) → Reader Fields
 fields_at version =
     in_turn (in_turn (in_turn (in_turn four_at four_at)
-    (told_at (tells_collections version) 1 later_at)) (list_at (held_check_at version)))
-    (told_at (tells_collections version) [] (list_at held_collection_at))
+    (spelled_at (spells_collections version) 1 later_at)) (list_at (numbered_check_at version)))
+    (spelled_at (spells_collections version) [] (list_at numbered_collection_at))
 
 -- a value beside another, or seen through a function
 abbrev beside : {A B : Type 0} → A → B × List ℕ → Result ((A × B) × List ℕ) ℕ
@@ -53,22 +53,22 @@ count_behind x = two_at x.1 >>= beside x.0
 
 module _ (total version : ℕ) where
   abbrev once : Result (Config × List ℕ) ℕ → Result Config ℕ
-  once r = unversioned (placed total ((r >>= beside version) >>= alone))
+  once r = unversioned (by_place total ((r >>= beside version) >>= alone))
 
   abbrev in_steps : Result (Begun × List ℕ) ℕ → Result Config ℕ
   in_steps r =
-      placed total
+      by_place total
       ((((r >>= beside version) >>= viewed (λ (p : ℕ × Begun). p.1)) >>= zones_behind) >>= alone)
 
   at_end : (config : Config) (ended : Bool) (left : ℕ)
-      → unversioned (placed total (cond ended (Ok (version, config)) (Err left)))
-      ≡ placed total (cond ended (Ok config) (Err left))
+      → unversioned (by_place total (cond ended (Ok (version, config)) (Err left)))
+      ≡ by_place total (cond ended (Ok config) (Err left))
   at_end config true left = refl
   at_end config false left = refl
 
   after_zones : (fields : Fields) (count : ℕ) (r : Result (List HostedZone × List ℕ) ℕ)
       → once ((r >>= beside fields) >>= viewed configured)
-      ≡ placed total ((r >>= with_these (begun (fields, count))) >>= alone)
+      ≡ by_place total ((r >>= with_these (begun (fields, count))) >>= alone)
   after_zones fields count (Ok z) =
       at_end (configured (fields, z.0)) (eqb (length z.1) 0) (length z.1)
   after_zones fields count (Err left) = refl
@@ -97,13 +97,13 @@ abbrev begun_behind : ℕ × List ℕ → Result ((ℕ × Begun) × List ℕ) �
 begun_behind v = begun_at v.0 v.1 >>= beside v.0
 
 after_any : (total : ℕ) (r : Result (ℕ × List ℕ) ℕ)
-    → unversioned (placed total ((r >>= config_behind) >>= alone))
-    ≡ placed total
+    → unversioned (by_place total ((r >>= config_behind) >>= alone))
+    ≡ by_place total
     ((((r >>= begun_behind) >>= viewed (λ (p : ℕ × Begun). p.1)) >>= zones_behind) >>= alone)
 after_any total (Ok v) = after_version total v.0 v.1
 after_any total (Err left) = refl
 
 pub in_parts : (octets : List ℕ)
-    → read octets ≡ placed (length octets) ((front_at octets >>= zones_behind) >>= alone)
-unfolding read snapshots.front_at front_at
+    → read octets ≡ by_place (length octets) ((front_at octets >>= zones_behind) >>= alone)
+unfolding read snapshots.versioned_at front_at
 in_parts octets = after_any (length octets) (version_at octets)

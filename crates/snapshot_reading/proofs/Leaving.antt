@@ -4,7 +4,7 @@ use Rattle.std.proofs.Common.{suc, arith, ap, ◌∙◌, subst, Ok}
 use Rattle.std.specs.Prelude.{slice_index}
 use Rattle.std.proofs.lemmas.List.{length-append}
 use Rattle.dns_name.specs.Names.{AreOctets}
-use Rattle.octet_reading.specs.Readers.{Reader, in_turn_by, seen}
+use Rattle.octet_reading.specs.Readers.{Reader, in_turn_by, mapped}
 use Rattle.octet_reading.specs.Reading.{◌>>=◌}
 use Rattle.octet_reading.specs.Rules.{IsReadAs}
 use Rattle.octet_reading.proofs.Base.{four_read, two_read}
@@ -12,9 +12,9 @@ use Rattle.octet_reading.proofs.Composed.{tested_read}
 use Rattle.octet_reading.proofs.Digits.{bind_ok, joined, ok_is}
 use Rattle.octet_reading.proofs.Optional.{list_read}
 use Rattle.octet_reading.proofs.Rules.{behind_octets}
-use Rattle.check_reading.specs.Fields.{told_at}
+use Rattle.check_reading.specs.Fields.{spelled_at}
 use Rattle.snapshot_octets.specs.LawsOfSetReading as set_laws
-use Rattle.snapshot_octets.specs.Octets.{tells_collections}
+use Rattle.snapshot_octets.specs.Octets.{spells_collections}
 use Rattle.snapshot_octets.specs.Reading.{is_later, later_at, zone_at}
 use Rattle.snapshot_octets.proofs.Fields.{held_check_read, held_collection_read, version_read}
 use Rattle.snapshot_octets.proofs.Fields.{zone_read}
@@ -33,7 +33,7 @@ read_leaves {octets_of = octets_of} h octets x rest are e =
     (octets_of x, (h.stands octets x rest are e).0)
 
 seen_leaves : {A B : Type 0} {read : Reader A} (view : A → B) → Leaves read
-    → Leaves (seen view read)
+    → Leaves (mapped view read)
 seen_leaves {B = B} {read = read} view leaves octets y rest are e =
     let b = bind_ok (read octets) (λ x. Ok (view x.0, x.1)) (y, rest) e in
     let same : b.0.1 ≡ rest =
@@ -54,7 +54,7 @@ turns_leave {A = A} {B = B} {first = first} {next = next} leaves later octets y 
     (f.0 ++ l.0, subst (λ t. octets ≡ (f.0 ++ l.0) ++ t) same spelled)
 
 told_leaves : {A : Type 0} {read : Reader A} (told : Bool) (left : A) → Leaves read
-    → Leaves (told_at told left read)
+    → Leaves (spelled_at told left read)
 told_leaves true left leaves octets x rest are e = leaves octets x rest are e
 told_leaves {A = A} false left leaves octets x rest are e =
     ([], ap (λ (p : A × List ℕ). p.1) (ok_is (left, octets) (x, rest) e))
@@ -67,7 +67,7 @@ later_leaves = read_leaves (tested_read is_later four_read)
 
 next_leaves : (version : ℕ) → Leaves (next_collection_at version)
 unfolding next_collection_at
-next_leaves version = told_leaves (tells_collections version) 1 later_leaves
+next_leaves version = told_leaves (spells_collections version) 1 later_leaves
 
 checks_leave : (version : ℕ) → Leaves (checks_at version)
 unfolding checks_at
@@ -76,7 +76,7 @@ checks_leave version = read_leaves (list_read (held_check_read version))
 collections_leave : (version : ℕ) → Leaves (collections_at version)
 unfolding collections_at
 collections_leave version =
-    told_leaves (tells_collections version) [] (read_leaves (list_read held_collection_read))
+    told_leaves (spells_collections version) [] (read_leaves (list_read held_collection_read))
 
 begun_leaves : (version : ℕ) → Leaves (begun_at version)
 unfolding begun_at

@@ -7,7 +7,7 @@ use Rattle.std.proofs.lemmas.List.{append-nil, drop_all, length-drop}
 use Rattle.std.proofs.lemmas.Bool.{eqb-true}
 use Rattle.std.specs.Prelude.{◌≢◌, IsErr}
 use Rattle.dns_name.specs.Names.{AreOctets}
-use Rattle.octet_reading.specs.Readers.{alone, placed, so_many}
+use Rattle.octet_reading.specs.Readers.{alone, by_place, so_many}
 use Rattle.octet_reading.specs.Reading.{◌>>=◌}
 use Rattle.snapshot_octets.specs.Configs.{Config}
 use Rattle.snapshot_octets.specs.LawsOfSetReading as set_laws
@@ -97,7 +97,7 @@ module _ (written : set_laws.WrittenReadsBack) (told : set_laws.SetsAreTold) (oc
   -- ---- the whole
 
   abbrev whole_of : Result (Config × List ℕ) ℕ → Result Config ℕ
-  whole_of r = placed (length octets) (r >>= alone)
+  whole_of r = by_place (length octets) (r >>= alone)
 
   module _ (begun : Begun) (zones : List HostedZone) (at : ℕ)
       (to : IsReadTo octets begun zones at) where
@@ -114,10 +114,10 @@ module _ (written : set_laws.WrittenReadsBack) (told : set_laws.SetsAreTold) (oc
         (zones_and_more to.start zones at to.each more)
 
     all_zones : length zones ≡ begun.zones
-        → read octets ≡ placed (length octets) (alone (with_zones begun zones, drop at octets))
+        → read octets ≡ by_place (length octets) (alone (with_zones begun zones, drop at octets))
     all_zones e =
         behind_front 0 (omega (arith, e))
-        ∙ ap (λ list. placed (length octets) (alone (with_zones begun list, drop at octets)))
+        ∙ ap (λ list. by_place (length octets) (alone (with_zones begun list, drop at octets)))
         (append-nil zones)
 
     no_zone : length zones < begun.zones → found_at zone_at octets at ≡ None → IsErr (read octets)
@@ -136,7 +136,7 @@ module _ (written : set_laws.WrittenReadsBack) (told : set_laws.SetsAreTold) (oc
         subst (λ s. IsErr s) (sym (all_zones e)) (by (eqb (length (drop at octets)) 0) refl)
       where
         by : (b : Bool) → eqb (length (drop at octets)) 0 ≡ b
-            → IsErr (placed (length octets)
+            → IsErr (by_place (length octets)
             (cond b (Ok (with_zones begun zones)) (Err (length (drop at octets)))))
         by true f =
             let none = eqb-true (length (drop at octets)) 0 f in
@@ -148,7 +148,7 @@ module _ (written : set_laws.WrittenReadsBack) (told : set_laws.SetsAreTold) (oc
       → length zones ≡ begun.zones → read octets ≡ Ok (with_zones begun zones)
   ends begun zones to e =
       all_zones begun zones (length octets) to e
-      ∙ ap (λ rest. placed (length octets) (alone (with_zones begun zones, rest)))
+      ∙ ap (λ rest. by_place (length octets) (alone (with_zones begun zones, rest)))
       (drop_all (length octets) octets (omega arith))
 
 no_front : (octets : List ℕ) → found_at front_at octets 0 ≡ None → IsErr (read octets)
@@ -156,7 +156,7 @@ no_front octets e =
     let r = refused_there front_at octets 0 e in
     let is : read octets ≡ Err (length octets - r.0) =
     in_parts octets
-    ∙ ap (λ s. placed (length octets) ((s >>= zones_behind) >>= alone)) r.1 in
+    ∙ ap (λ s. by_place (length octets) ((s >>= zones_behind) >>= alone)) r.1 in
     subst (λ s. IsErr s) (sym is) refl
 
 pub snapshots_read_in_parts : set_laws.WrittenReadsBack → set_laws.SetsAreTold

@@ -2,17 +2,17 @@
 -- snapshots).
 use Rattle.std.specs.Prelude.{ℕ, List, [], Result}
 use Rattle.octet_reading.specs.Reading.{two_at, four_at}
-use Rattle.octet_reading.specs.Readers.{seen, in_turn, in_turn_by, list_at}
+use Rattle.octet_reading.specs.Readers.{mapped, in_turn, in_turn_by, list_at}
 use Rattle.check_model.specs.Checks.{Checks}
 use Rattle.check_model.specs.declared.checks.Check.{Check}
-use Rattle.check_reading.specs.Fields.{counted_at, told_at}
+use Rattle.check_reading.specs.Fields.{counted_at, spelled_at}
 use Rattle.cidr_blocks.specs.declared.places.Collection.{Collection}
 use Rattle.cidr_commands.specs.Stored.{Stored}
 use Rattle.snapshot_octets.specs.ReadingOfCommandCodec.{set_at}
 use Rattle.snapshot_octets.specs.Configs.{Config}
 use Rattle.snapshot_octets.specs.RecordSetRecord.{RecordSet}
-use Rattle.snapshot_octets.specs.Octets.{tells_collections}
-use Rattle.snapshot_octets.specs.Reading.{held_check_at, held_collection_at, later_at, version_at}
+use Rattle.snapshot_octets.specs.Octets.{spells_collections}
+use Rattle.snapshot_octets.specs.Reading.{numbered_check_at, numbered_collection_at, later_at, version_at}
 use Rattle.snapshot_reading.specs.declared.fronts.Front.{Front}
 use Rattle.snapshot_reading.specs.declared.zones.FoundZone.{FoundZone}
 use Rattle.snapshot_octets.specs.Hosted.{HostedZone}
@@ -35,17 +35,17 @@ with_zones front zones = record {
 
 -- the next number of a collection, which is 1 where it isn't told
 unfoldable pub next_collection_at : (version : ℕ) → List ℕ → Result (ℕ × List ℕ) ℕ
-next_collection_at version octets = told_at (tells_collections version) 1 later_at octets
+next_collection_at version octets = spelled_at (spells_collections version) 1 later_at octets
 
 -- the checks
 unfoldable pub checks_at : (version : ℕ) → List ℕ → Result (List (ℕ × Check) × List ℕ) ℕ
-checks_at version octets = list_at (held_check_at version) octets
+checks_at version octets = list_at (numbered_check_at version) octets
 
 -- the collections, of which there are none where they aren't told
 unfoldable pub collections_at : (version : ℕ) → List ℕ
     → Result (List (ℕ × Collection) × List ℕ) ℕ
 collections_at version octets =
-    told_at (tells_collections version) [] (list_at held_collection_at) octets
+    spelled_at (spells_collections version) [] (list_at numbered_collection_at) octets
 
 -- these fields, as what stands in front of the zones
 abbrev pub begun : ((((ℕ × ℕ) × ℕ) × List (ℕ × Check)) × List (ℕ × Collection)) × ℕ → Begun
@@ -59,13 +59,13 @@ begun fields = record {
 -- the next numbers, the checks and the collections, and how many zones follow
 unfoldable pub begun_at : (version : ℕ) → List ℕ → Result (Begun × List ℕ) ℕ
 begun_at version octets =
-    seen begun
+    mapped begun
     (in_turn (in_turn (in_turn (in_turn (in_turn four_at four_at) (next_collection_at version))
     (checks_at version)) (collections_at version)) two_at) octets
 
 -- The version, and behind it all that stands in front of the zones.
 unfoldable pub front_at : List ℕ → Result (Begun × List ℕ) ℕ
-front_at octets = seen (λ x. x.1) (in_turn_by version_at begun_at) octets
+front_at octets = mapped (λ x. x.1) (in_turn_by version_at begun_at) octets
 
 -- how many sets a zone has, and these
 unfoldable pub sets_at : List ℕ → Result (List RecordSet × List ℕ) ℕ

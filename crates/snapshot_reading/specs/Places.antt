@@ -15,7 +15,7 @@ abbrev pub found_at : {A : Type 0} → Reader A → (octets : List ℕ) → (at 
 found_at read octets at = with_place (length octets) (read (drop at octets))
 
 -- What a call answered, seen by view, is what is found, unless memory ran out.
-abbrev pub Finds : {X Y : Type 0} → (X → Y) → Result X SnapshotFault → Option Y → Type 0
-Finds view (Ok x) found = found ≡ Some (view x)
-Finds view (Err fault.Bad) found = found ≡ None
-Finds view (Err fault.OutOfMemory) found = ⊤
+abbrev pub GivesOrNone : {X Y : Type 0} → (X → Y) → Result X SnapshotFault → Option Y → Type 0
+GivesOrNone view (Ok x) found = found ≡ Some (view x)
+GivesOrNone view (Err fault.Bad) found = found ≡ None
+GivesOrNone view (Err fault.OutOfMemory) found = ⊤

@@ -2,7 +2,7 @@
 
 ghost use Rattle.octet_reading.specs.Reading.{GivesOrStops};
 ghost use Rattle.check_reading.specs.Reading.{check_at};
-ghost use Rattle.snapshot_octets.specs.Reading.{held_check_at};
+ghost use Rattle.snapshot_octets.specs.Reading.{numbered_check_at};
 ghost use Rattle.snapshot_reading.specs.Parts.{checks_at};
 
 use check_model::{Check, CheckCommand};
@@ -29,9 +29,9 @@ struct HeldCheck(u8);
 impl Field for HeldCheck {
     type Value = (u32, Check);
 
-    ghost use Rattle.snapshot_octets.specs.Reading.{held_check_at};
+    ghost use Rattle.snapshot_octets.specs.Reading.{numbered_check_at};
 
-    ghost reading = { λ a. held_check_at a.0 };
+    ghost reading = { λ a. numbered_check_at a.0 };
 
     fn read<'a>(&self, alloc: Global, bytes: &'a [u8]) -> Result<((u32, Check), &'a [u8]), Stop> {
         held_check_at(alloc, self.0, bytes)
@@ -39,9 +39,9 @@ impl Field for HeldCheck {
 }
 
 /// A check behind its number.
-#[tactic(auto, unfolding(snapshot_octets::specs::Reading::held_check_at))]
+#[tactic(auto, unfolding(snapshot_octets::specs::Reading::numbered_check_at))]
 fn held_check_at(alloc: Global, version: u8, bytes: &[u8]) -> Result<((u32, Check), &[u8]), Stop>
-    ensures { GivesOrStops (λ x. (x.0, x.1.now)) result (held_check_at version bytes.now) }
+    ensures { GivesOrStops (λ x. (x.0, x.1.now)) result (numbered_check_at version bytes.now) }
 {
     let (id, rest) = four_at(bytes)?;
     match check_at(alloc, version, rest) {

@@ -1,7 +1,7 @@
 //! Collections at the front of octets, each behind its number.
 
 ghost use Rattle.octet_reading.specs.Reading.{GivesOrStops};
-ghost use Rattle.snapshot_octets.specs.Reading.{collection_at, held_collection_at, location_at};
+ghost use Rattle.snapshot_octets.specs.Reading.{collection_at, numbered_collection_at, location_at};
 ghost use Rattle.snapshot_reading.specs.Parts.{collections_at};
 
 use crate::blocks::OneBlock;
@@ -34,9 +34,9 @@ struct HeldCollection;
 impl Field for HeldCollection {
     type Value = (u32, Collection);
 
-    ghost use Rattle.snapshot_octets.specs.Reading.{held_collection_at};
+    ghost use Rattle.snapshot_octets.specs.Reading.{numbered_collection_at};
 
-    ghost reading = { λ _. held_collection_at };
+    ghost reading = { λ _. numbered_collection_at };
 
     fn read<'a>(
         &self,
@@ -48,9 +48,9 @@ impl Field for HeldCollection {
 }
 
 /// A collection behind its number.
-#[tactic(auto, unfolding(snapshot_octets::specs::Reading::held_collection_at))]
+#[tactic(auto, unfolding(snapshot_octets::specs::Reading::numbered_collection_at))]
 fn held_collection_at(alloc: Global, bytes: &[u8]) -> Result<((u32, Collection), &[u8]), Stop>
-    ensures { GivesOrStops (λ x. (x.0, x.1.now)) result (held_collection_at bytes.now) }
+    ensures { GivesOrStops (λ x. (x.0, x.1.now)) result (numbered_collection_at bytes.now) }
 {
     let (id, rest) = four_at(bytes)?;
     match collection_at(alloc, rest) {

@@ -3,7 +3,7 @@
 ghost use Rattle.octet_reading.specs.Reading.{Gives, GivesOrStops};
 ghost use Rattle.snapshot_octets.specs.Reading.{later_at, version_at};
 ghost use Rattle.snapshot_reading.specs.Parts.{begun_at, begun_of, front_at, next_collection_at};
-ghost use Rattle.snapshot_reading.specs.Places.{Finds, found_at};
+ghost use Rattle.snapshot_reading.specs.Places.{GivesOrNone, found_at};
 
 use crate::checks::checks_at;
 use crate::collections::{TELLS_COLLECTIONS, collections_at};
@@ -32,7 +32,7 @@ pub struct Front {
 
 /// What stands in front of the zones of a snapshot in any version, and the place behind it.
 pub fn read_front(alloc: Global, octets: &[u8]) -> Result<(Front, usize), SnapshotFault>
-    ensures { Finds begun_of result (found_at front_at octets.now 0) }
+    ensures { GivesOrNone begun_of result (found_at front_at octets.now 0) }
 {
     match front_at(alloc, octets) {
         Ok((front, rest)) => Ok((front, place_of(octets, rest))),

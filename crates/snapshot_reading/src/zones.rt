@@ -4,7 +4,7 @@ ghost use Rattle.octet_reading.specs.Reading.{GivesOrStops};
 ghost use Rattle.snapshot_octets.specs.ReadingOfCommandCodec.{set_at};
 ghost use Rattle.snapshot_octets.specs.Reading.{zone_at};
 ghost use Rattle.snapshot_reading.specs.Parts.{hosted_of, sets_at};
-ghost use Rattle.snapshot_reading.specs.Places.{Finds, found_at};
+ghost use Rattle.snapshot_reading.specs.Places.{GivesOrNone, found_at};
 
 use crate::faults::SnapshotFault;
 use crate::places::{from_place, place_of};
@@ -28,7 +28,7 @@ pub fn read_zone(
     octets: &[u8],
     at: usize,
 ) -> Result<(FoundZone, usize), SnapshotFault>
-    ensures { Finds hosted_of result (found_at zone_at octets.now at) }
+    ensures { GivesOrNone hosted_of result (found_at zone_at octets.now at) }
 {
     snapshot_octets::written_reads_back();
     snapshot_octets::sets_are_told();

@@ -16,7 +16,7 @@ use Rattle.config_zones.proofs.MembersOfZoneList.{left_at, nothing_left}
 use Rattle.config_zones.specs.Found.{IsNextZone, NextZoneOrNone}
 use Rattle.config_zones.specs.Zones.{AreListed, AreZones, IsOne, Zone, hosted, placed_in}
 use Rattle.zone_model.specs.Hosted.{HostedZone}
-use Rattle.zone_model.specs.Placed.{Placed, sets_of}
+use Rattle.zone_model.specs.Slotted.{Slotted, sets_of}
 use Rattle.config_zones.specs.Counted.{sets_in_all}
 use Rattle.config_zones.specs.Looking.{IsApex}
 
@@ -58,7 +58,7 @@ seen_as : (zones : List Zone) → AreListed zones → (x : Zone) → IsOne zones
 seen_as zones listed x there id name its_id its_apex =
     ap (λ (n : ℕ). record { id = n; apex = x.apex; sets = sets_of x.placed }) its_id
     ∙ (ap (λ (a : List (List ℕ)). record { id = id; apex = a; sets = sets_of x.placed }) its_apex
-    ∙ ap (λ (ps : List Placed). record { id = id; apex = name; sets = sets_of ps })
+    ∙ ap (λ (ps : List Slotted). record { id = id; apex = name; sets = sets_of ps })
     (sym (its_placed zones listed x there) ∙ ap (placed_in zones) its_id))
 
 module _ (before : List ℕ) (zones : List Zone) (follow : ZonesFollow) (are : AreZones zones) where
@@ -103,7 +103,7 @@ module _ (before : List ℕ) (zones : List Zone) (follow : ZonesFollow) (are : A
 
 -- ---- how many sets a zone has
 
-few_more : (zone : Zone) (others : List Placed) (all : ℕ) → length others ≤ all → (b : Bool)
+few_more : (zone : Zone) (others : List Slotted) (all : ℕ) → length others ≤ all → (b : Bool)
     → length (cond b zone.placed others) ≤ length zone.placed + all
 few_more zone others all few true = omega arith
 few_more zone others all few false = omega (arith, few)

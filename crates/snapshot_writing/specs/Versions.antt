@@ -2,6 +2,6 @@
 use Rattle.std.specs.Prelude.{ℕ, Bool, true, false}
 
 -- the third where collections are told, else the second
-abbrev pub version_told : (told : Bool) → ℕ
-version_told true = 3
-version_told false = 2
+abbrev pub version_spelled : (told : Bool) → ℕ
+version_spelled true = 3
+version_spelled false = 2

@@ -3,7 +3,7 @@
 ghost use Rattle.std.specs.Prelude.{◌≡◌, ◌<◌, ◌^◌, ◌++◌, ℕ, length, OnOk};
 ghost use Rattle.std.specs.List.{AllByRecursion, flat_map};
 ghost use Rattle.octet_reading.specs.Rules.{list_octets};
-ghost use Rattle.check_octets.specs.Octets.{where_told};
+ghost use Rattle.check_octets.specs.Octets.{where_spelled};
 ghost use Rattle.cidr_blocks.specs.declared.places.Collection.{Collection};
 ghost use Rattle.snapshot_octets.specs.Octets.{IsHeldCollection, IsSpelledCollection};
 ghost use Rattle.snapshot_octets.specs.Octets.{IsSpelledLocation, collection_octets};
@@ -22,7 +22,7 @@ pub fn append_told_collections(
     requires few { length collections.now < 2 ^ 16 }
     requires spelled { AllByRecursion IsHeldCollection collections.now }
     ensures { OnOk result (into.new.items ≡ into.old.items
-        ++ where_told told (list_octets held_collection_octets collections.now)) }
+        ++ where_spelled told (list_octets held_collection_octets collections.now)) }
 {
     if told {
         return append_collections(collections, into);

@@ -6,8 +6,8 @@ ghost use Rattle.octets.specs.Numbers.{four_octets};
 ghost use Rattle.octet_reading.specs.Rules.{list_octets};
 ghost use Rattle.check_model.specs.Checks.{IsBounded};
 ghost use Rattle.check_model.specs.declared.checks.Check.{Check};
-ghost use Rattle.check_octets.specs.Octets.{where_told};
-ghost use Rattle.snapshot_octets.specs.Octets.{held_check_octets};
+ghost use Rattle.check_octets.specs.Octets.{where_spelled};
+ghost use Rattle.snapshot_octets.specs.Octets.{numbered_check_octets};
 
 use check_model::Check;
 use check_octets::write_check;
@@ -15,7 +15,7 @@ use octets::{OutOfMemory, append, four_octets, two_octets};
 
 /// Appends a number, where it is told.
 pub fn append_told_number(told: bool, n: u32, into: &mut Vec<u8>) -> Result<(), OutOfMemory>
-    ensures { OnOk result (into.new.items ≡ into.old.items ++ where_told told (four_octets n)) }
+    ensures { OnOk result (into.new.items ≡ into.old.items ++ where_spelled told (four_octets n)) }
 {
     if told {
         return append(&four_octets(n), into);
@@ -28,7 +28,7 @@ pub fn append_checks(checks: &[(u32, Check)], into: &mut Vec<u8>) -> Result<(), 
     requires few { length checks.now < 2 ^ 16 }
     requires bounded { AllByRecursion (λ (held : ℕ × Check). IsBounded held.1) checks.now }
     ensures { OnOk result (into.new.items
-        ≡ into.old.items ++ list_octets (held_check_octets 2) checks.now) }
+        ≡ into.old.items ++ list_octets (numbered_check_octets 2) checks.now) }
 {
     append(&two_octets(checks.len() as u16), into)?;
     append_held_checks(checks, into)
@@ -38,7 +38,7 @@ pub fn append_checks(checks: &[(u32, Check)], into: &mut Vec<u8>) -> Result<(), 
 fn append_held_checks(checks: &[(u32, Check)], into: &mut Vec<u8>) -> Result<(), OutOfMemory>
     requires { AllByRecursion (λ (held : ℕ × Check). IsBounded held.1) checks.now }
     ensures { OnOk result (into.new.items
-        ≡ into.old.items ++ flat_map (held_check_octets 2) checks.now) }
+        ≡ into.old.items ++ flat_map (numbered_check_octets 2) checks.now) }
 {
     for held in checks {
         if let Err(OutOfMemory) = append_held_check(held, into) {
@@ -51,7 +51,7 @@ fn append_held_checks(checks: &[(u32, Check)], into: &mut Vec<u8>) -> Result<(),
 /// Appends a check behind its number.
 fn append_held_check(held: &(u32, Check), into: &mut Vec<u8>) -> Result<(), OutOfMemory>
     requires { IsBounded held.now.1 }
-    ensures { OnOk result (into.new.items ≡ into.old.items ++ held_check_octets 2 held.now) }
+    ensures { OnOk result (into.new.items ≡ into.old.items ++ numbered_check_octets 2 held.now) }
 {
     append(&four_octets(held.0), into)?;
     write_check(&held.1, into)

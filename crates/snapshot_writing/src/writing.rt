@@ -4,7 +4,7 @@ ghost use Rattle.std.specs.Prelude.{◌≡◌, ◌≤◌, IfOk, length};
 ghost use Rattle.config_zones.specs.Sound.{Sound};
 ghost use Rattle.config_zones.specs.Configured.{config_of};
 ghost use Rattle.snapshot_octets.specs.Octets.{snapshot};
-ghost use Rattle.snapshot_writing.specs.Versions.{version_told};
+ghost use Rattle.snapshot_writing.specs.Versions.{version_spelled};
 
 use crate::collections::append_told_collections;
 use crate::numbers::{append_checks, append_told_number};
@@ -48,7 +48,7 @@ pub fn write_snapshot(
 
 /// The version that is written: the third where there ever was a collection, else the second.
 fn version_of(told: bool) -> u8
-    ensures { result ≡ version_told told }
+    ensures { result ≡ version_spelled told }
 {
     if told { 3 } else { 2 }
 }

@@ -8,7 +8,7 @@ ghost use Rattle.config_zones.specs.Octets.{set_octets};
 ghost use Rattle.config_zones.specs.Holding.{IsHolding};
 ghost use Rattle.snapshot_octets.specs.Octets.{counted_octets, zone_octets};
 ghost use Rattle.config_zones.specs.Zones.{IsZoneId, placed_in};
-ghost use Rattle.zone_model.specs.Placed.{sets_of};
+ghost use Rattle.zone_model.specs.Slotted.{sets_of};
 ghost use Rattle.config_zones.specs.Counted.{sets_in_all};
 ghost use Rattle.config_zones.specs.Looking.{IsApex};
 

@@ -21,7 +21,7 @@ use Rattle.config_edits.specs.Zones.{IsOne, Zone, hosted, placed_in}
 use Rattle.zone_lookup.specs.Served.{AreServed, CanAnswer}
 use Rattle.zone_model.proofs.Among.{place_of}
 use Rattle.zone_model.specs.Hosted.{HostedZone}
-use Rattle.zone_model.specs.Placed.{Placed, sets_of}
+use Rattle.zone_model.specs.Slotted.{Slotted, sets_of}
 use Rattle.zone_model.specs.Walks.{HasNoTarget, IsTooDeep}
 use Rattle.zone_model.specs.Zones.{IsAmong, group}
 
@@ -52,7 +52,7 @@ its_zone (first ∷ zones) id set among = elim (cases_eq first.id id) [
       let other : placed_in (first ∷ zones) id ≡ placed_in zones id =
       rw (ne_eqb first.id id apart) refl in
       let rest = its_zone zones id set
-      (subst (λ (ps : List Placed). IsAmong (sets_of ps) set) other among) in
+      (subst (λ (ps : List Slotted). IsAmong (sets_of ps) set) other among) in
       record { zone = rest.zone; there = inr rest.there; same = other ∙ rest.same }
 ]
 
@@ -70,7 +70,7 @@ few_in_rules sets apex meets = few_by_each_set sets each
       | inr few ↦ few
     ]
 
-some_there : (placed : List Placed) (set : RecordSet) → IsAmong (sets_of placed) set → placed ≢ []
+some_there : (placed : List Slotted) (set : RecordSet) → IsAmong (sets_of placed) set → placed ≢ []
 some_there [] set among none = among
 some_there (p ∷ placed) set among none = grind (arith, none)
 
@@ -98,7 +98,7 @@ module _ (zones : List Zone) (config : Config) (same : config.zones ≡ hosted_i
       → AreInOrder config.checks.list config.collections.list (sets_of (placed_in zones id))
   in_order id set among =
       let its = its_zone zones id set among in
-      subst (λ (ps : List Placed). AreInOrder config.checks.list config.collections.list
+      subst (λ (ps : List Slotted). AreInOrder config.checks.list config.collections.list
       (sets_of ps)) (sym its.same)
       (told.in_order config.checks.list config.collections.list (sets_of its.zone.placed)
       (sound_one its.zone its.there).last)

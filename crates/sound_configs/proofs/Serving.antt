@@ -7,30 +7,30 @@ use Rattle.std.specs.declared.cmp.Ordering.{Ordering}
 use Rattle.std.specs.declared.cmp.Ordering.TheVariants.{Less, Equal, Greater}
 use Rattle.std.proofs.lemmas.Cmp.{tied_itself}
 use Rattle.std.proofs.lemmas.Bool.{false≢true}
-use Rattle.check_model.specs.Checks.{Checks, check_at}
+use Rattle.check_model.specs.Checks.{Checks, check_with}
 use Rattle.check_model.specs.declared.checks.Check.{Check}
 use Rattle.check_model.specs.declared.checks.Check.TheVariants.{Endpoint, Calculated}
 use Rattle.config_edits.specs.Laws.{hosted_in}
 use Rattle.config_edits.specs.Configs.{Config}
 use Rattle.engine_model.specs.Engine.{is_healthy, watched_in}
 use Rattle.health_index.proofs.Truth.{zone_sets}
-use Rattle.health_index.specs.Following.{FollowsAt, HasThreshold}
+use Rattle.health_index.specs.Later.{IsLaterAt, HasThreshold}
 use Rattle.health_index.specs.Laws.{IndexTells}
 use Rattle.health_index.specs.Wired.{watched_of, watched_zone}
 use Rattle.health_model.specs.Healthy.{Watched, healthy, sets_of as sets_at}
 use Rattle.health_model.specs.Statuses.{Report}
 use Rattle.record_set.specs.Sets.{key_of}
 use Rattle.record_set.specs.declared.sets.RecordSet.{RecordSet}
-use Rattle.sound_configs.specs.Laws.{IndexServes, SameFollow}
+use Rattle.sound_configs.specs.Laws.{IndexServes, SameAreLater}
 use Rattle.config_edits.specs.Zones.{AreZones, Zone, placed_in}
 use Rattle.config_edits.specs.SetRefRecord.{SetRef}
 use Rattle.zone_model.proofs.Ordered.{keys_tie, keys_total}
 use Rattle.zone_model.specs.Hosted.{HostedZone}
 use Rattle.zone_model.specs.Keys.{key_cmp}
-use Rattle.zone_model.specs.Placed.{Placed, sets_of}
+use Rattle.zone_model.specs.Slotted.{Slotted, sets_of}
 use Rattle.zone_model.specs.Zones.{IsAmong, IsRising}
 use Rattle.config_edits.proofs.Holding.{kept_in}
-use Rattle.config_edits.specs.Looking.{Names}
+use Rattle.config_edits.specs.Looking.{RefersTo}
 
 -- ---- one set has a key
 
@@ -97,9 +97,9 @@ pub watched_hosted : (zones : List Zone)
 watched_hosted [] = refl
 watched_hosted (zone ∷ zones) = ap (λ rest. (zone.id, sets_of zone.placed) ∷ rest) (watched_hosted zones)
 
-its_set : (placed : List Placed) (p : Placed) → IsAmong placed p → IsAmong (sets_of placed) p.set
+its_set : (placed : List Slotted) (p : Slotted) → IsAmong placed p → IsAmong (sets_of placed) p.set
 its_set [] p there = there
-its_set (q ∷ placed) p (inl is) = inl (ap (λ (r : Placed). r.set) is)
+its_set (q ∷ placed) p (inl is) = inl (ap (λ (r : Slotted). r.set) is)
 its_set (q ∷ placed) p (inr there) = inr (its_set placed p there)
 
 module _ (zones : List Zone) (config : Config) (reports : List Report)
@@ -115,7 +115,7 @@ module _ (zones : List Zone) (config : Config) (reports : List Report)
       (ap (map (λ (zone : HostedZone). (zone.id, zone.sets))) same ∙ watched_hosted zones)
 
   -- the test of keys tells the health of the set with the key
-  by_key : AreZones zones → (set : SetRef) (named : RecordSet) → Names zones set named
+  by_key : AreZones zones → (set : SetRef) (named : RecordSet) → RefersTo zones set named
       → is_healthy config reports set.zone (key_of named) ≡ is_well its set.zone named
   by_key are set named names =
       subst (λ (w : Watched). list_any (with_key (is_well w set.zone) named) (sets_at w set.zone)
@@ -134,16 +134,16 @@ index_serves tells zones config reports index same stands set named names =
 -- ---- checks that stay
 
 has_threshold : (found : List (ℕ × Check)) (id threshold : ℕ) (inverted disabled : Bool)
-    → check_at found id ≡ Some (Endpoint threshold inverted disabled)
-    → HasThreshold (check_at found id) threshold
+    → check_with found id ≡ Some (Endpoint threshold inverted disabled)
+    → HasThreshold (check_with found id) threshold
 has_threshold list id threshold inverted disabled at =
     subst (λ o. HasThreshold o threshold) (sym at) refl
 
-follows_at : (checks : Checks) (id : ℕ) (check : Check) → check_at checks.list id ≡ Some check
-    → FollowsAt checks id check
+follows_at : (checks : Checks) (id : ℕ) (check : Check) → check_with checks.list id ≡ Some check
+    → IsLaterAt checks id check
 follows_at checks id (Endpoint threshold inverted disabled) at =
     inr (has_threshold checks.list id threshold inverted disabled at)
 follows_at checks id (Calculated threshold inverted disabled children) at = tt
 
-pub same_follow : SameFollow
+pub same_follow : SameAreLater
 same_follow checks = record { next = omega arith; each = follows_at checks }

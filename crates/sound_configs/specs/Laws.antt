@@ -6,7 +6,7 @@ use Rattle.config_edits.specs.Laws.{hosted_in}
 use Rattle.config_edits.specs.Configs.{Config}
 use Rattle.config_edits.specs.Sound.{Sound}
 use Rattle.engine_model.specs.Engine.{is_healthy}
-use Rattle.health_index.specs.Following.{Follows}
+use Rattle.health_index.specs.Later.{AreLater}
 use Rattle.health_index.specs.Index.{Index, StandsFor, healthy_in}
 use Rattle.health_index.specs.Wired.{watched_of}
 use Rattle.health_model.specs.Sound.{IsSound}
@@ -33,5 +33,5 @@ IndexServes = (zones : List Zone) (config : Config) (reports : List Report) (ind
     → Agrees zones (healthy_in index) (is_healthy config reports)
 
 -- Checks that stay as they are follow of themselves.
-abbrev pub SameFollow : Type 0
-SameFollow = (checks : Checks) → Follows checks checks
+abbrev pub SameAreLater : Type 0
+SameAreLater = (checks : Checks) → AreLater checks checks

@@ -4,7 +4,7 @@ pub use Rattle.config_edits.specs.Sound
 pub use Rattle.health_index.specs.Wired
 pub use Rattle.health_model.specs.Sound as Health
 pub use Rattle.zone_lookup.specs.Served
-pub use Rattle.health_index.specs.Following
+pub use Rattle.health_index.specs.Later
 pub use Rattle.health_index.specs.Index
 pub use Rattle.health_index.specs.Laws as LawsOfHealthIndex
 pub use Rattle.health_index.specs.Leaving

@@ -1,6 +1,6 @@
 //! The laws, each the contract of a function that does nothing.
 
-ghost use Rattle.sound_configs.specs.Laws.{IndexServes, SameFollow, SoundIsServed, SoundIsWatched};
+ghost use Rattle.sound_configs.specs.Laws.{IndexServes, SameAreLater, SoundIsServed, SoundIsWatched};
 
 /// Queries can be answered from the zones of a sound configuration.
 pub fn sound_is_served()
@@ -21,6 +21,6 @@ pub fn index_serves()
 }
 
 /// Checks that stay as they are follow of themselves.
-pub fn same_follow()
-    ensures { SameFollow }
+pub fn same_are_later()
+    ensures { SameAreLater }
 {}

@@ -6,5 +6,5 @@ mod laws;
 
 pub use config_edits::{Command, Made, Refusal};
 pub use engine_model::{Compacted, Reported};
-pub use health_index::{HealthIndex, Steps, commands_follow};
-pub use laws::{index_serves, same_follow, sound_is_served, sound_is_watched};
+pub use health_index::{HealthIndex, Steps, checks_are_later};
+pub use laws::{index_serves, same_are_later, sound_is_served, sound_is_watched};

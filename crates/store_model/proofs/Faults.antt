@@ -15,7 +15,7 @@ use Rattle.store_model.proofs.Taken.{takes_next}
 use Rattle.store_model.specs.Laws.{BaselessIsNoStore, BrokenIsNoStore, FaultyIsNoStore}
 use Rattle.store_model.specs.Laws.{NoStoreOrConfig, OneFault}
 use Rattle.store_model.specs.Opening.{IsBase, IsFaulty, IsNoBase, IsNoEntry, IsNoStore}
-use Rattle.store_model.specs.Opening.{IsUnreadable, MakesConfig, TakesEntry}
+use Rattle.store_model.specs.Opening.{IsUnreadable, MakesConfig, AcceptsEntry}
 use Rattle.zone_journal.specs.Pairs.{OpensPair, active_of}
 use Rattle.zone_journal.specs.declared.answers.Side.{Side}
 use Rattle.zone_journal.specs.declared.answers.Side.TheVariants.{A, B}
@@ -92,7 +92,7 @@ module _ (one_command : codec.ReadAsNothingElse) (one_outcome : OneOutcome)
         let next = takes_next one_command one_outcome one_base s es more e before config f.makes
         all in
         let same = one_entry file p g s es f.read q _ e other more later read in
-        never next.0 (subst (λ l. TakesEntry before l next.0) (sym same) next.1)
+        never next.0 (subst (λ l. AcceptsEntry before l next.0) (sym same) next.1)
 
     -- So what is read up to a later place ends there.
     ends_there : (p q : ℕ) (es fs : List (List ℕ)) (before config : Config)

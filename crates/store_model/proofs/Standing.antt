@@ -13,14 +13,14 @@ use Rattle.store_model.specs.Opening.{IsShape, OpensConfig}
 use Rattle.zone_journal.proofs.Stores.{opens_empty}
 use Rattle.zone_journal.specs.Making.{empty_snapshot}
 use Rattle.zone_journal.specs.Pairs.{IsActive, OpensPair, Yields, active_of, other_of}
-use Rattle.zone_journal.specs.Standing.{Stands, State}
+use Rattle.zone_journal.specs.Standing.{StandsWith, State}
 use Rattle.zone_journal.specs.declared.answers.Side.{Side}
 use Rattle.zone_journal.specs.declared.answers.Side.TheVariants.{A, B}
 
 module _ {D : Type 0} (reading : D → Option (List ℕ)) (images : D → List ℕ → Type 0)
     (is_image : (disk : D) (bytes : List ℕ) → reading disk ≡ Some bytes → images disk bytes) where
   -- the file of the journal decides beside each image of the other one
-  decides : (state : State) (active other : D) → Stands reading images state active other
+  decides : (state : State) (active other : D) → StandsWith reading images state active other
       → (x y : List ℕ) → reading active ≡ Some x → reading other ≡ Some y
       → (side : Side) → state.side ≡ side → (c : List ℕ) → images other c → IsActive side x c
   decides state active other stands x y tx ty side is c now =
@@ -33,7 +33,7 @@ module _ {D : Type 0} (reading : D → Option (List ℕ)) (images : D → List �
       )
 
   by_side : (side : Side) (state : State) (a b : D) → state.side ≡ side
-      → Stands reading images state (active_of side a b) (other_of side a b)
+      → StandsWith reading images state (active_of side a b) (other_of side a b)
       → (x y : List ℕ) → reading a ≡ Some x → reading b ≡ Some y
       → (g : ℕ) (s : List ℕ) (es : List (List ℕ)) → OpensPair x y g s es
       → (u v : List ℕ) → images a u → images b v → OpensPair u v g s es
@@ -56,7 +56,7 @@ module _ {D : Type 0} (reading : D → Option (List ℕ)) (images : D → List �
         makes = o.makes;
       }
 
-  placed : (state : State) (active other : D) → Stands reading images state active other
+  placed : (state : State) (active other : D) → StandsWith reading images state active other
       → (x : List ℕ) → reading active ≡ Some x
       → (g : ℕ) (s : List ℕ) (es : List (List ℕ)) → OpensTo x g s es
       → (state.generation ≡ g) × (state.at ≡ length (front g s es)) × OpensTo x g s es
@@ -69,7 +69,7 @@ module _ {D : Type 0} (reading : D → Option (List ℕ)) (images : D → List �
       )
 
   place_by : (side : Side) (state : State) (a b : D) → state.side ≡ side
-      → Stands reading images state (active_of side a b) (other_of side a b)
+      → StandsWith reading images state (active_of side a b) (other_of side a b)
       → (x y : List ℕ) → reading a ≡ Some x → reading b ≡ Some y
       → (g : ℕ) (s : List ℕ) (es : List (List ℕ)) → OpensPair x y g s es
       → IsActive side (active_of side x y) (other_of side x y) × (state.generation ≡ g)
@@ -94,7 +94,7 @@ module _ {D : Type 0} (reading : D → Option (List ℕ)) (images : D → List �
 
   -- the same of what a crash leaves of the two files
   shape_by : (side : Side) (state : State) (a b : D) → state.side ≡ side
-      → Stands reading images state (active_of side a b) (other_of side a b)
+      → StandsWith reading images state (active_of side a b) (other_of side a b)
       → (x y : List ℕ) → reading a ≡ Some x → reading b ≡ Some y
       → (g : ℕ) (s : List ℕ) (es : List (List ℕ)) → OpensPair x y g s es
       → (u v : List ℕ) → images a u → images b v

@@ -14,26 +14,26 @@ use Rattle.config_model.specs.declared.refusals.Made.{Made}
 use Rattle.config_model.specs.declared.refusals.Refusal.{Refusal}
 use Rattle.config_model.specs.declared.refusals.Refusal.TheVariants.{OutOfMemory}
 use Rattle.snapshot_octets.specs.Laws.{OneConfiguration}
-use Rattle.store_model.specs.Opening.{IsRefused, MakesConfig, TakesAll, TakesEntry}
+use Rattle.store_model.specs.Opening.{IsRefused, MakesConfig, AcceptsAll, AcceptsEntry}
 
 -- ---- from behind
 
 pub last_is_taken : (entries : List (List ℕ)) (base config after : Config) (entry : List ℕ)
-    → TakesAll base entries config → TakesEntry config entry after
-    → TakesAll base (entries ++ entry ∷ []) after
+    → AcceptsAll base entries config → AcceptsEntry config entry after
+    → AcceptsAll base (entries ++ entry ∷ []) after
 last_is_taken [] base config after entry is taken =
-    (after, subst (λ (c : Config). TakesEntry c entry after) is taken, refl)
+    (after, subst (λ (c : Config). AcceptsEntry c entry after) is taken, refl)
 last_is_taken (first ∷ entries) base config after entry all taken =
     (all.0, all.1, last_is_taken entries all.0 config after entry all.2 taken)
 
 -- What is taken up to a place, and from there on.
 pub record IsSplit (base : Config) (entries more : List (List ℕ)) (after : Config) : Type 0 where
   pub middle : Config
-  pub front : TakesAll base entries middle
-  pub back : TakesAll middle more after
+  pub front : AcceptsAll base entries middle
+  pub back : AcceptsAll middle more after
 
 front_more : (first : List ℕ) (entries more : List (List ℕ)) (base next after : Config)
-    → TakesEntry base first next → IsSplit next entries more after
+    → AcceptsEntry base first next → IsSplit next entries more after
     → IsSplit base (first ∷ entries) more after
 front_more first entries more base next after taken split = record {
   middle = split.middle;
@@ -42,7 +42,7 @@ front_more first entries more base next after taken split = record {
 }
 
 pub split_at : (entries more : List (List ℕ)) (base after : Config)
-    → TakesAll base (entries ++ more) after → IsSplit base entries more after
+    → AcceptsAll base (entries ++ more) after → IsSplit base entries more after
 split_at [] more base after all = record { middle = base; front = refl; back = all }
 split_at (first ∷ entries) more base after all = front_more first entries more base all.0 after
     all.1 (split_at entries more all.0 after all.2)
@@ -51,24 +51,24 @@ split_at (first ∷ entries) more base after all = front_more first entries more
 pub record IsLast (base : Config) (entries : List (List ℕ)) (entry : List ℕ) (after : Config)
     : Type 0 where
   pub config : Config
-  pub others : TakesAll base entries config
-  pub last : TakesEntry config entry after
+  pub others : AcceptsAll base entries config
+  pub last : AcceptsEntry config entry after
 
 pub last_was_taken : (entries : List (List ℕ)) (base after : Config) (entry : List ℕ)
-    → TakesAll base (entries ++ entry ∷ []) after → IsLast base entries entry after
+    → AcceptsAll base (entries ++ entry ∷ []) after → IsLast base entries entry after
 last_was_taken entries base after entry all =
     let split = split_at entries (entry ∷ []) base after all in
     let end : after ≡ split.back.0 = split.back.2 in
     record {
       config = split.middle;
       others = split.front;
-      last = subst (λ (c : Config). TakesEntry split.middle entry c) (sym end) split.back.1;
+      last = subst (λ (c : Config). AcceptsEntry split.middle entry c) (sym end) split.back.1;
     }
 
 -- with one more entry
 pub makes_more : (snapshot : List ℕ) (entries : List (List ℕ)) (before after : Config)
     (entry : List ℕ)
-    → MakesConfig snapshot entries before → TakesEntry before entry after
+    → MakesConfig snapshot entries before → AcceptsEntry before entry after
     → MakesConfig snapshot (entries ++ entry ∷ []) after
 makes_more snapshot entries before after entry makes taken = record {
   base = makes.base;
@@ -121,7 +121,7 @@ module _ (one_command : codec.ReadAsNothingElse) where
 
   module _ (one_outcome : OneOutcome) where
     pub one_after : (config : Config) (entry : List ℕ) (after other : Config)
-        → TakesEntry config entry after → TakesEntry config entry other → after ≡ other
+        → AcceptsEntry config entry after → AcceptsEntry config entry other → after ≡ other
     one_after config entry after other t u =
         let same = one_given entry t.given u.given t.spelled u.spelled in
         same_after after other t.what u.what
@@ -130,12 +130,12 @@ module _ (one_command : codec.ReadAsNothingElse) where
         (inr u.decides) (no_want after t.what) (no_want other u.what))
 
     pub one_end : (entries : List (List ℕ)) (config after other : Config)
-        → TakesAll config entries after → TakesAll config entries other → after ≡ other
+        → AcceptsAll config entries after → AcceptsAll config entries other → after ≡ other
     one_end [] config after other t u = t ∙ sym u
     one_end (entry ∷ entries) config after other t u =
         let same = one_after config entry t.0 u.0 t.1 u.1 in
         one_end entries u.0 after other
-        (subst (λ (c : Config). TakesAll c entries after) same t.2) u.2
+        (subst (λ (c : Config). AcceptsAll c entries after) same t.2) u.2
 
     -- a command that is refused isn't taken
     pub refused_are_refused : (config : Config) (entry : List ℕ) (given : Command) (why : Refusal)
@@ -156,30 +156,30 @@ module _ (one_command : codec.ReadAsNothingElse) where
       one_config snapshot entries config other m n =
           let base = one_base snapshot m.base n.base m.is_base.is n.is_base.is in
           one_end entries n.base config other
-          (subst (λ (c : Config). TakesAll c entries config) base m.taken) n.taken
+          (subst (λ (c : Config). AcceptsAll c entries config) base m.taken) n.taken
 
       -- What a longer list of entries makes takes the entry behind a shorter one.
       pub takes_next : (snapshot : List ℕ) (entries more : List (List ℕ)) (entry : List ℕ)
           (before config : Config)
           → MakesConfig snapshot entries before
           → MakesConfig snapshot (entries ++ entry ∷ more) config
-          → (after : Config) × TakesEntry before entry after
+          → (after : Config) × AcceptsEntry before entry after
       takes_next snapshot entries more entry before config m n =
           let split = split_at entries (entry ∷ more) n.base config n.taken in
           let same = one_config snapshot entries split.middle before
           (record { base = n.base; is_base = n.is_base; taken = split.front }) m in (
             split.back.0,
-            subst (λ (c : Config). TakesEntry c entry split.back.0) same split.back.1,
+            subst (λ (c : Config). AcceptsEntry c entry split.back.0) same split.back.1,
           )
 
 -- ---- soundness
 
 module _ (bounded : SpelledAreBounded) (keeps : KeepsSound) where
   pub taken_are_sound : (entries : List (List ℕ)) (base config : Config) → Sound base
-      → TakesAll base entries config → Sound config
+      → AcceptsAll base entries config → Sound config
   taken_are_sound [] base config sound is = subst Sound (sym is) sound
   taken_are_sound (entry ∷ entries) base config sound all =
-      let first : TakesEntry base entry all.0 = all.1 in
+      let first : AcceptsEntry base entry all.0 = all.1 in
       taken_are_sound entries all.0 config
       (keeps base all.0 first.given first.what sound (bounded entry first.given first.spelled)
       first.decides) all.2

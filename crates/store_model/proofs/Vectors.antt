@@ -20,7 +20,7 @@ use Rattle.snapshot_octets.specs.Octets.{IsSnapshot}
 use Rattle.store_model.proofs.Made.{unsound_are_baseless}
 use Rattle.store_model.proofs.Taken.{refused_are_refused}
 use Rattle.store_model.specs.Opening.{IsBase, IsNoEntry, IsNoStore, IsRefused, MakesConfig}
-use Rattle.store_model.specs.Opening.{OpensConfig, TakesEntry, snapshot_of}
+use Rattle.store_model.specs.Opening.{OpensConfig, AcceptsEntry, snapshot_of}
 use Rattle.zone_journal.specs.declared.answers.Side.TheVariants.{A}
 
 -- ---- the configuration of a new server
@@ -308,7 +308,7 @@ accepts_check : Decides empty (Health (Create (Endpoint 3 false false))) (Ok (wi
 unfolding is_too_deep
 accepts_check = refl
 
-takes_check : TakesEntry empty new_check with_check
+takes_check : AcceptsEntry empty new_check with_check
 takes_check = record {
   given = Health (Create (Endpoint 3 false false));
   spelled = record {
@@ -354,7 +354,7 @@ opens_first_version y closed = record {
 abbrev new_check_now : List ℕ
 new_check_now = 2 ∷ 4 ∷ 1 ∷ 3 ∷ 0 ∷ 0 ∷ []
 
-takes_check_now : TakesEntry empty new_check_now with_check
+takes_check_now : AcceptsEntry empty new_check_now with_check
 takes_check_now = record {
   given = Health (Create (Endpoint 3 false false));
   spelled = record {

@@ -6,11 +6,11 @@ use Rattle.gate_journal.specs.declared.answers.Appended.TheVariants as appended
 use Rattle.store_model.proofs.Taken.{makes_more}
 use Rattle.store_model.specs.Laws.{AppendsMayOpen, AppendsOpen, PiecesMayOpen, PiecesOpen}
 use Rattle.store_model.specs.Leaving.{AppendOpens, MayOpen, PieceOpens}
-use Rattle.store_model.specs.Opening.{MakesConfig, OpensAs, OpensConfig, TakesEntry}
+use Rattle.store_model.specs.Opening.{MakesConfig, OpensAs, OpensConfig, AcceptsEntry}
 use Rattle.zone_journal.specs.Appending.{AppendLeaves, MayLeave}
 use Rattle.zone_journal.specs.Building.{Plan}
 use Rattle.zone_journal.specs.Compacting.{IsOldOrNew, PieceLeaves}
-use Rattle.zone_journal.specs.Pairs.{EachPair, Leaves, OpensPair}
+use Rattle.zone_journal.specs.Pairs.{EachPair, BothRead, OpensPair}
 use Rattle.zone_journal.specs.Standing.{State}
 use Rattle.zone_journal.specs.declared.answers.Piece.{Piece}
 use Rattle.zone_journal.specs.declared.answers.Piece.TheVariants as piece
@@ -34,8 +34,8 @@ module _ {D : Type 0} (P Q : List ℕ → List ℕ → Type 0)
   }
 
   -- what is read
-  pub leaves_weaken : (reading : D → Option (List ℕ)) (a b : D) → Leaves reading a b P
-      → Leaves reading a b Q
+  pub leaves_weaken : (reading : D → Option (List ℕ)) (a b : D) → BothRead reading a b P
+      → BothRead reading a b Q
   leaves_weaken reading a b leaves = record {
     x = leaves.x;
     y = leaves.y;
@@ -60,7 +60,7 @@ opens_so x y g s es config makes opens = record {
 }
 
 module _ (g : ℕ) (s : List ℕ) (es : List (List ℕ)) (entry : List ℕ) (before after : Config)
-    (makes : MakesConfig s es before) (taken : TakesEntry before entry after) where
+    (makes : MakesConfig s es before) (taken : AcceptsEntry before entry after) where
   more : MakesConfig s (es ++ entry ∷ []) after
   more = makes_more s es before after entry makes taken
 

@@ -21,14 +21,14 @@ use Rattle.snapshot_octets.specs.Reading as snapshots
 use Rattle.store_model.specs.Leaving.{AppendOpens, IsPlanFor, MayOpen, PieceOpens}
 use Rattle.store_model.specs.Opening.{IsBase, IsConfigStore, IsFaulty, IsNoStore, IsRefused}
 use Rattle.store_model.specs.Opening.{IsShape}
-use Rattle.store_model.specs.Opening.{MakesConfig, OpensAs, OpensConfig, TakesAll, TakesEntry}
+use Rattle.store_model.specs.Opening.{MakesConfig, OpensAs, OpensConfig, AcceptsAll, AcceptsEntry}
 use Rattle.store_model.specs.Opening.{snapshot_of}
 use Rattle.zone_journal.specs.Appending.{AppendLeaves, MayLeave}
 use Rattle.zone_journal.specs.Building.{Plan}
 use Rattle.zone_journal.specs.Compacting.{IsOldOrNew, PieceLeaves}
 use Rattle.zone_journal.specs.Making.{InitGives, IsNoneOrEmpty, empty_snapshot}
 use Rattle.zone_journal.specs.Opening as opening
-use Rattle.zone_journal.specs.Pairs.{EachPair, IsActive, Leaves, OpensPair, active_of, other_of}
+use Rattle.zone_journal.specs.Pairs.{EachPair, IsActive, BothRead, OpensPair, active_of, other_of}
 use Rattle.zone_journal.specs.Standing.{StandsOn, State}
 use Rattle.zone_journal.specs.declared.answers.Init.TheVariants as init
 use Rattle.zone_journal.specs.declared.answers.Piece.{Piece}
@@ -119,27 +119,27 @@ UnsoundAreBaseless = (octets : List ℕ) (config : Config) → IsSnapshot octets
 -- Entries that are taken, and then one more, are taken together.
 abbrev pub LastIsTaken : Type 0
 LastIsTaken = (base config after : Config) (entries : List (List ℕ)) (entry : List ℕ)
-    → TakesAll base entries config → TakesEntry config entry after
-    → TakesAll base (entries ++ entry ∷ []) after
+    → AcceptsAll base entries config → AcceptsEntry config entry after
+    → AcceptsAll base (entries ++ entry ∷ []) after
 
 -- Of entries that are taken the last one is, behind the others.
 abbrev pub LastWasTaken : Type 0
 LastWasTaken = (base after : Config) (entries : List (List ℕ)) (entry : List ℕ)
-    → TakesAll base (entries ++ entry ∷ []) after
-    → (config : Config) × TakesAll base entries config × TakesEntry config entry after
+    → AcceptsAll base (entries ++ entry ∷ []) after
+    → (config : Config) × AcceptsAll base entries config × AcceptsEntry config entry after
 
 -- With one more entry that is taken, a snapshot and entries make the configuration after it.
 abbrev pub OneMoreMakes : Type 0
 OneMoreMakes = (octets : List ℕ) (entries : List (List ℕ)) (before after : Config)
     (entry : List ℕ)
-    → MakesConfig octets entries before → TakesEntry before entry after
+    → MakesConfig octets entries before → AcceptsEntry before entry after
     → MakesConfig octets (entries ++ entry ∷ []) after
 
 -- Files that hold one more entry, which is taken, open to the configuration after it.
 abbrev pub OneMoreOpens : Type 0
 OneMoreOpens = (x y u v : List ℕ) (generation : ℕ) (octets : List ℕ) (entries : List (List ℕ))
     (before after : Config) (entry : List ℕ)
-    → OpensAs x y generation octets entries before → TakesEntry before entry after
+    → OpensAs x y generation octets entries before → AcceptsEntry before entry after
     → OpensPair u v generation octets (entries ++ entry ∷ [])
     → OpensAs u v generation octets (entries ++ entry ∷ []) after
 
@@ -147,12 +147,12 @@ OneMoreOpens = (x y u v : List ℕ) (generation : ℕ) (octets : List ℕ) (entr
 abbrev pub AcceptedAreTaken : Type 0
 AcceptedAreTaken = (config after : Config) (given : Command) (what : Made)
     → IsBounded given → HasSpelling 2 given → Decides config given (Ok (after, what))
-    → TakesEntry config (command_octets given) after
+    → AcceptsEntry config (command_octets given) after
 
 -- What entries make of a sound configuration is sound.
 abbrev pub TakenAreSound : Type 0
 TakenAreSound = (base config : Config) (entries : List (List ℕ))
-    → Sound base → TakesAll base entries config → Sound config
+    → Sound base → AcceptsAll base entries config → Sound config
 
 -- Files open to a sound configuration.
 abbrev pub OpenedAreSound : Type 0
@@ -169,7 +169,7 @@ SoundAreBases = (config : Config) → Sound config → IsBase (snapshot config) 
 abbrev pub CompactedOpens : Type 0
 CompactedOpens = (x y : List ℕ) (generation : ℕ) (begun config : Config)
     (since : List (List ℕ))
-    → Sound begun → TakesAll begun since config
+    → Sound begun → AcceptsAll begun since config
     → OpensPair x y (generation + 1) (snapshot begun) since
     → OpensAs x y (generation + 1) (snapshot begun) since config
 
@@ -184,7 +184,7 @@ PlanBegins = (config : Config) (from generation : ℕ) (octets : List ℕ)
 abbrev pub PlanGoesOn : Type 0
 PlanGoesOn = (planned : List ℕ) (from generation : ℕ) (octets : List ℕ)
     (entries : List (List ℕ)) (before after : Config) (entry : List ℕ)
-    → IsPlanFor planned from generation octets entries before → TakesEntry before entry after
+    → IsPlanFor planned from generation octets entries before → AcceptsEntry before entry after
     → IsPlanFor planned from generation octets (entries ++ entry ∷ []) after
 
 -- The snapshot of a compaction that is in progress makes, with the entries since it began, the
@@ -268,7 +268,7 @@ abbrev pub AppendsMayOpen : {D : Type 0} → (moment : D → ℕ)
 AppendsMayOpen {D = D} moment images_since = (a_old a_new b_old b_new : D) (result : Appended)
     (generation : ℕ) (octets : List ℕ) (entries : List (List ℕ)) (entry : List ℕ)
     (before after : Config)
-    → MakesConfig octets entries before → TakesEntry before entry after
+    → MakesConfig octets entries before → AcceptsEntry before entry after
     → EachPair moment images_since a_old a_new b_old b_new
     (MayLeave result generation octets entries entry)
     → EachPair moment images_since a_old a_new b_old b_new (MayOpen result before after)
@@ -277,9 +277,9 @@ AppendsMayOpen {D = D} moment images_since = (a_old a_new b_old b_new : D) (resu
 abbrev pub AppendsOpen : {D : Type 0} → (reading : D → Option (List ℕ)) → Type 0
 AppendsOpen {D = D} reading = (a b : D) (result : Appended) (generation : ℕ) (octets : List ℕ)
     (entries : List (List ℕ)) (entry : List ℕ) (before after : Config)
-    → MakesConfig octets entries before → TakesEntry before entry after
-    → Leaves reading a b (AppendLeaves result generation octets entries entry)
-    → Leaves reading a b (AppendOpens result generation octets entries entry before after)
+    → MakesConfig octets entries before → AcceptsEntry before entry after
+    → BothRead reading a b (AppendLeaves result generation octets entries entry)
+    → BothRead reading a b (AppendOpens result generation octets entries entry before after)
 
 -- What a crash may leave at each moment of a piece of a compaction: the configuration.
 abbrev pub PiecesMayOpen : {D : Type 0} → (moment : D → ℕ)
@@ -297,8 +297,8 @@ abbrev pub PiecesOpen : {D : Type 0} → (reading : D → Option (List ℕ)) →
 PiecesOpen {D = D} reading = (a b : D) (result : Piece) (state : State) (plan : Plan)
     (generation : ℕ) (octets : List ℕ) (entries since : List (List ℕ)) (config : Config)
     → MakesConfig octets (entries ++ since) config → MakesConfig plan.snapshot since config
-    → Leaves reading a b (PieceLeaves result state plan generation octets entries since)
-    → Leaves reading a b
+    → BothRead reading a b (PieceLeaves result state plan generation octets entries since)
+    → BothRead reading a b
     (PieceOpens result plan.snapshot generation octets entries since config)
 
 -- Where each pair of images opens to the configuration during some pieces of a compaction and during

@@ -7,7 +7,7 @@ use Rattle.gate_journal.specs.Layout.{front}
 use Rattle.gate_journal.specs.declared.answers.Appended.{Appended}
 use Rattle.gate_journal.specs.declared.answers.Appended.TheVariants as appended
 use Rattle.snapshot_octets.specs.Octets.{snapshot}
-use Rattle.store_model.specs.Opening.{OpensAs, OpensConfig, TakesAll}
+use Rattle.store_model.specs.Opening.{OpensAs, OpensConfig, AcceptsAll}
 use Rattle.zone_journal.specs.declared.answers.Piece.{Piece}
 use Rattle.zone_journal.specs.declared.answers.Piece.TheVariants as piece
 
@@ -49,7 +49,7 @@ pub record IsPlanFor (planned : List ℕ) (from generation : ℕ) (octets : List
   pub begun : Config
   pub sound : Sound begun
   pub spelled : planned ≡ snapshot begun
-  pub taken : TakesAll begun since config
+  pub taken : AcceptsAll begun since config
 
 -- What the files open to after a piece: the old file, and at Done the new one, make the
 -- configuration.

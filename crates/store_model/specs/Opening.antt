@@ -22,7 +22,7 @@ pub record IsBase (snapshot : List ℕ) (config : Config) : Type 0 where
   pub sound : Sound config
 
 -- The entry is the octets of a command, in either version, which the configuration accepts.
-pub record TakesEntry (config : Config) (entry : List ℕ) (after : Config) : Type 0 where
+pub record AcceptsEntry (config : Config) (entry : List ℕ) (after : Config) : Type 0 where
   pub given : Command
   pub spelled : Spells entry given
   pub what : Made
@@ -30,20 +30,20 @@ pub record TakesEntry (config : Config) (entry : List ℕ) (after : Config) : Ty
 
 -- The configuration takes no such entry.
 abbrev pub IsRefused : Config → (entry : List ℕ) → Type 0
-IsRefused config entry = (after : Config) → TakesEntry config entry after → ⊥
+IsRefused config entry = (after : Config) → AcceptsEntry config entry after → ⊥
 
 -- The commands of entries are made one after another.
-abbrev pub TakesAll : Config → (entries : List (List ℕ)) → (after : Config) → Type 0
-TakesAll config [] after = after ≡ config
-TakesAll config (entry ∷ entries) after =
-    (middle : Config) × TakesEntry config entry middle × TakesAll middle entries after
+abbrev pub AcceptsAll : Config → (entries : List (List ℕ)) → (after : Config) → Type 0
+AcceptsAll config [] after = after ≡ config
+AcceptsAll config (entry ∷ entries) after =
+    (middle : Config) × AcceptsEntry config entry middle × AcceptsAll middle entries after
 
 -- A snapshot, with the commands of entries made one after another, makes a configuration.
 pub record MakesConfig (snapshot : List ℕ) (entries : List (List ℕ)) (config : Config)
     : Type 0 where
   pub base : Config
   pub is_base : IsBase snapshot base
-  pub taken : TakesAll base entries config
+  pub taken : AcceptsAll base entries config
 
 -- ---- a pair of files
 

@@ -7,7 +7,7 @@ use Rattle.std.proofs.lemmas.List.{take_all}
 use Rattle.geo_latency.specs.Tables.{outcome}
 use Rattle.geo_latency.specs.declared.tables.Tables.{Tables}
 use Rattle.line_splitting.specs.Lines.{first_piece, more_pieces, pieces}
-use Rattle.table_lines.specs.Input.{Reads, is_bad, octets_from, pieces_from, tables_of}
+use Rattle.table_lines.specs.Input.{Gives, is_bad, octets_from, pieces_from, tables_of}
 use Rattle.table_lines.specs.Laws.{IsTold, lines_from}
 use Rattle.table_lines.specs.Turns.{limited}
 use Rattle.table_lines.specs.declared.reading.TablesFault.{TablesFault}
@@ -15,7 +15,7 @@ use Rattle.table_lines.specs.declared.reading.TablesFault.TheVariants as fault
 
 -- an answer that neither the source nor the memory gave is that of the definition
 pub told : (input : List ℕ) (after : Option (List ℕ)) (answer : Result Tables TablesFault)
-    → Reads input after answer → IsTold answer → tables_of input ≡ answer
+    → Gives input after answer → IsTold answer → tables_of input ≡ answer
 told input after (Ok tables) reads is_told = reads.0
 told input after (Err (fault.Bad number)) reads is_told = reads
 told input after (Err fault.TooLong) reads is_told = reads.0

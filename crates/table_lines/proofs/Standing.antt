@@ -8,7 +8,7 @@ use Rattle.geo_latency.specs.declared.tables.Tables.{Tables}
 use Rattle.line_splitting.specs.Judging.{end_place}
 use Rattle.line_splitting.specs.Waiting.{AddsIn}
 use Rattle.table_lines.specs.Input.{last_piece, octets_from}
-use Rattle.table_lines.specs.Turns.{Stands, GoesOn, IsBadIn, IsOpen, TakesLast, AddsAll, limited}
+use Rattle.table_lines.specs.Turns.{IsReadSoFar, GoesOn, IsBadIn, IsUnended, TakesLast, AddsAll, limited}
 use Rattle.table_lines.specs.declared.reading.Added.{Added}
 use Rattle.table_lines.specs.declared.reading.Added.TheVariants as added
 use Rattle.table_lines.specs.declared.reading.TablesFault.TheVariants as fault
@@ -16,7 +16,7 @@ use Rattle.table_lines.proofs.Octets.{last_of, cut_short}
 
 -- nothing is read yet
 pub at_start : (most : ℕ) (old : Tables) (input : List ℕ) (after : Option (List ℕ)) (read : ℕ)
-    → read ≡ 0 → after ≡ Some input → Stands most old input after read old 1 []
+    → read ≡ 0 → after ≡ Some input → IsReadSoFar most old input after read old 1 []
 at_start most old input after read none is = record {
   within = omega (arith, none);
   rest = is ∙ ap (λ i. Some (drop i input)) (sym none);
@@ -38,7 +38,7 @@ next_octets most read n xs h =
 
 module _ (most : ℕ) (old : Tables) (input : List ℕ) (before : Option (List ℕ)) (read : ℕ)
     (tables : Tables) (number : ℕ) (waiting : List ℕ)
-    (stands : Stands most old input before read tables number waiting) where
+    (stands : IsReadSoFar most old input before read tables number waiting) where
   -- a read of n octets, which stand behind those that waited
   module _ (after : Option (List ℕ)) (n at : ℕ) (buffer_before buffer : List ℕ)
       (is_waiting : take at buffer_before ≡ waiting) (budget : read + n ≤ most)
@@ -59,7 +59,7 @@ module _ (most : ℕ) (old : Tables) (input : List ℕ) (before : Option (List �
 
     pub goes_on : (new : Tables) (next now : ℕ) (behind : List ℕ) → now ≡ read + n
         → GoesOn tables number (take (at + n) buffer) new next behind
-        → Stands most old input after now new next behind
+        → IsReadSoFar most old input after now new next behind
     goes_on new next now behind is_now lines =
         let a = adds (drop read input) stands.rest in
         let w = stands.within in
@@ -108,7 +108,7 @@ module _ (most : ℕ) (old : Tables) (input : List ℕ) (before : Option (List �
         by_answer added.ReadFault comes left takes = absurd takes
 
   -- as many octets as may be were read
-  pub at_limit : read ≡ most → IsOpen waiting
+  pub at_limit : read ≡ most → IsUnended waiting
       → (limited most old input ≡ Err fault.TooLong) × (before ≡ Some (drop most input))
   at_limit all is_open =
       let w = stands.within in

@@ -58,10 +58,10 @@ tables_of input = octets_from (is_too_long input) no_rows 1 (take input_limit in
 -- An answer, by what the source had left and has left after it. A bad line is told by the octets as
 -- far as its end, or as far as it is too long; how many were read is free. A read may fail, and
 -- memory may be wanting, at any octet.
-abbrev pub Reads : (input : List ℕ) → (after : Option (List ℕ)) → Result Tables TablesFault → Type 0
-Reads input after (Ok tables) = (tables_of input ≡ Ok tables) × (after ≡ Some [])
-Reads input after (Err (fault.Bad number)) = tables_of input ≡ Err (fault.Bad number)
-Reads input after (Err fault.TooLong) =
+abbrev pub Gives : (input : List ℕ) → (after : Option (List ℕ)) → Result Tables TablesFault → Type 0
+Gives input after (Ok tables) = (tables_of input ≡ Ok tables) × (after ≡ Some [])
+Gives input after (Err (fault.Bad number)) = tables_of input ≡ Err (fault.Bad number)
+Gives input after (Err fault.TooLong) =
     (tables_of input ≡ Err fault.TooLong) × (after ≡ Some (drop input_limit input))
-Reads input after (Err fault.ReadFault) = ⊤
-Reads input after (Err fault.OutOfMemory) = ⊤
+Gives input after (Err fault.ReadFault) = ⊤
+Gives input after (Err fault.OutOfMemory) = ⊤

@@ -4,7 +4,7 @@ use Rattle.std.specs.Prelude.{if◌then◌else◌}
 use Rattle.geo_latency.specs.Tables.{outcome}
 use Rattle.geo_latency.specs.declared.tables.Tables.{Tables}
 use Rattle.line_splitting.specs.Lines.{pieces, input_limit}
-use Rattle.table_lines.specs.Input.{Reads, is_bad, no_rows, tables_of}
+use Rattle.table_lines.specs.Input.{Gives, is_bad, no_rows, tables_of}
 use Rattle.table_lines.specs.declared.reading.TablesFault.{TablesFault}
 use Rattle.table_lines.specs.declared.reading.TablesFault.TheVariants as fault
 
@@ -15,7 +15,7 @@ IsTold answer = (answer ≢ Err fault.ReadFault) × (answer ≢ Err fault.OutOfM
 -- One input has one outcome.
 abbrev pub OneOutcome : Type 0
 OneOutcome = (input : List ℕ) (after other_after : Option (List ℕ)) (answer other : Result Tables TablesFault)
-    → Reads input after answer → Reads input other_after other → IsTold answer → IsTold other
+    → Gives input after answer → Gives input other_after other → IsTold answer → IsTold other
     → answer ≡ other
 
 -- The tables after these lines, of which the first has this number, or the number of the first that

@@ -25,11 +25,11 @@ IsBadIn old number octets bad = (goes_on : Bool) (x : List ℕ)
     → octets_from goes_on old number (octets ++ x) ≡ Err (fault.Bad bad)
 
 -- The begin of a line, within the most octets of one.
-abbrev pub IsOpen : List ℕ → Type 0
-IsOpen waiting = (end_place waiting ≡ None) × (length waiting ≤ most_octets)
+abbrev pub IsUnended : List ℕ → Type 0
+IsUnended waiting = (end_place waiting ≡ None) × (length waiting ≤ most_octets)
 
 abbrev pub TakesFirst : (old : Tables) → (waiting : List ℕ) → First → (new : Tables) → Type 0
-TakesFirst old waiting first.Open new = IsOpen waiting × (new ≡ old)
+TakesFirst old waiting first.Unended new = IsUnended waiting × (new ≡ old)
 TakesFirst old waiting (first.Line n) new = (0 < n) × (n ≤ length waiting)
     × ((number : ℕ) → GoesOn old number waiting new (number + 1) (drop n waiting))
 TakesFirst old waiting first.Bad new = (number : ℕ) → IsBadIn old number waiting number
@@ -39,7 +39,7 @@ TakesFirst old waiting first.OutOfMemory new = ⊤
 abbrev pub TakesLines : (old : Tables) → (waiting : List ℕ) → (number : ℕ) → Taken → (new : Tables)
     → Type 0
 TakesLines old waiting number (taken.Waits start next) new = (start ≤ length waiting)
-    × (next ≤ number + start) × IsOpen (drop start waiting)
+    × (next ≤ number + start) × IsUnended (drop start waiting)
     × GoesOn old number waiting new next (drop start waiting)
 TakesLines old waiting number (taken.Bad bad) new = IsBadIn old number waiting bad
 TakesLines old waiting number taken.OutOfMemory new = ⊤
@@ -48,7 +48,7 @@ TakesLines old waiting number taken.OutOfMemory new = ⊤
 abbrev pub TakesAll : (old : Tables) → (waiting : List ℕ) → (number : ℕ) → Taken → (new : Tables)
     → (buffer : List ℕ) → Type 0
 TakesAll old waiting number (taken.Waits len next) new buffer = (len ≤ length waiting)
-    × (next + len ≤ number + length waiting) × (len ≤ length buffer) × IsOpen (take len buffer)
+    × (next + len ≤ number + length waiting) × (len ≤ length buffer) × IsUnended (take len buffer)
     × GoesOn old number waiting new next (take len buffer)
 TakesAll old waiting number (taken.Bad bad) new buffer = IsBadIn old number waiting bad
 TakesAll old waiting number taken.OutOfMemory new buffer = ⊤
@@ -77,7 +77,7 @@ AddsAll most old input after added.OutOfMemory new = ⊤
 
 -- What the source has left behind so many octets that were read, and what comes of it behind what
 -- waits, is what comes of the whole input.
-pub record Stands (most : ℕ) (old : Tables) (input : List ℕ) (after : Option (List ℕ)) (read : ℕ)
+pub record IsReadSoFar (most : ℕ) (old : Tables) (input : List ℕ) (after : Option (List ℕ)) (read : ℕ)
     (tables : Tables) (number : ℕ) (waiting : List ℕ) : Type 0 where
   pub within : read ≤ length input
   pub rest : after ≡ Some (drop read input)

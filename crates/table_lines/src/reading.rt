@@ -2,7 +2,7 @@
 
 ghost use Rattle.std.specs.Prelude.{◌≡◌, ◌≤◌, ◌<◌, ◌^◌, ℕ, List, Some, Err, length};
 ghost use Rattle.octets.specs.Counts.{Rose};
-ghost use Rattle.table_lines.specs.Input.{Reads};
+ghost use Rattle.table_lines.specs.Input.{Gives};
 ghost use Rattle.table_lines.specs.Turns.{AddsAll};
 
 use crate::buffer::read_behind;
@@ -36,7 +36,7 @@ pub enum TablesFault {
 pub fn read_tables<S: Source>(alloc: Global, source: &mut S) -> Result<Tables, TablesFault>
     // What comes of all octets, where the source tells what it has left.
     ensures reads { (input : List ℕ) → S.left source.old ≡ Some input
-        → Reads input (S.left source.new) result }
+        → Gives input (S.left source.new) result }
 
     // A read fault is told only where the source's count rose.
     ensures counts { S.faults source.old ≤ S.faults source.new }

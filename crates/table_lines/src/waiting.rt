@@ -18,7 +18,7 @@ const MAX_LINE: usize = 4_096;
 #[derive(Clone, Copy, Debug, PartialEq, Eq)]
 pub(crate) enum First {
     /// It doesn't wait whole.
-    Open,
+    Unended,
     /// It was taken, with its 0x0A so many octets.
     Line(usize),
     Bad,
@@ -63,7 +63,7 @@ fn take_lines(alloc: Global, tables: &mut Tables, waiting: &[u8], first: u64) ->
     let mut number = first;
     loop {
         match take_first(alloc, tables, behind(waiting, start)) {
-            First::Open => return Taken::Waits(start, number),
+            First::Unended => return Taken::Waits(start, number),
             First::Line(n) => {
                 start += n;
                 number += 1;
@@ -97,7 +97,7 @@ fn judge_open(waiting: &[u8]) -> First
     if waiting.len() > MAX_LINE {
         return First::Bad;
     }
-    First::Open
+    First::Unended
 }
 
 /// The place of the first 0x0A.

@@ -7,7 +7,7 @@ use Rattle.std.proofs.lemmas.Bool.{and_parts, and_from, or_cases, or_left, or_ri
 use Rattle.std.proofs.lemmas.Bool.{le-leb, eq-eqb, ne_eqb, eqb-true, cases_Bool, cases_eq, cond-true, cond-false}
 use Rattle.std.proofs.lemmas.List.{drop_at}
 use Rattle.octets.specs.Octal.{has_octal, octal_of}
-use Rattle.value_text.specs.Strings.{read_from, step, is_escaped, is_printable, at_the_end, string_of_text}
+use Rattle.value_text.specs.Strings.{read_from, after_byte, is_escaped, is_printable, at_the_end, string_of_text}
 use Rattle.value_text.specs.Strings.Progress.{Opening, Reading, Closed, Broken}
 use Rattle.value_text.proofs.Reading.{broken, passed, not_quoted}
 use Rattle.text_meanings.specs.Characters.{backslash, IsEscape, AreCharacters}
@@ -22,31 +22,31 @@ record IsTaken (piece rest : List ℕ) (octet : ℕ) : Type 0 where
   behind : List ℕ
   bytes : piece ≡ first ∷ behind
   takes : (string : List ℕ)
-      → step (Reading 0 string) first (behind ++ rest)
+      → after_byte (Reading 0 string) first (behind ++ rest)
       ≡ Reading (length behind) (string ++ octet ∷ [])
 
 -- the steps of a byte that is no quote
 bare_step : (string : List ℕ) (b : ℕ) (rest : List ℕ) → (b ≡ quote → ⊥) → (b ≡ backslash → ⊥)
-    → is_printable b ≡ true → step (Reading 0 string) b rest ≡ Reading 0 (string ++ b ∷ [])
+    → is_printable b ≡ true → after_byte (Reading 0 string) b rest ≡ Reading 0 (string ++ b ∷ [])
 bare_step string b rest q s printable =
     let x = ne_eqb b quote q in let y = ne_eqb b backslash s in rw (x, y, printable) refl
 
 other_step : (string : List ℕ) (b : ℕ) (rest : List ℕ) → (b ≡ quote → ⊥) → (b ≡ backslash → ⊥)
-    → is_printable b ≡ false → step (Reading 0 string) b rest ≡ Broken
+    → is_printable b ≡ false → after_byte (Reading 0 string) b rest ≡ Broken
 other_step string b rest q s printable =
     let x = ne_eqb b quote q in let y = ne_eqb b backslash s in rw (x, y, printable) refl
 
 marked_step : (string rest : List ℕ) → is_escaped (slice_index rest 0) ≡ true
-    → step (Reading 0 string) backslash rest ≡ Reading 1 (string ++ slice_index rest 0 ∷ [])
+    → after_byte (Reading 0 string) backslash rest ≡ Reading 1 (string ++ slice_index rest 0 ∷ [])
 marked_step string rest marked = rw marked refl
 
 escape_step : (string rest : List ℕ) → is_escaped (slice_index rest 0) ≡ false
     → has_octal rest ≡ true
-    → step (Reading 0 string) backslash rest ≡ Reading 3 (string ++ octal_of rest ∷ [])
+    → after_byte (Reading 0 string) backslash rest ≡ Reading 3 (string ++ octal_of rest ∷ [])
 escape_step string rest unmarked has = rw (unmarked, has) refl
 
 broken_step : (string rest : List ℕ) → is_escaped (slice_index rest 0) ≡ false
-    → has_octal rest ≡ false → step (Reading 0 string) backslash rest ≡ Broken
+    → has_octal rest ≡ false → after_byte (Reading 0 string) backslash rest ≡ Broken
 broken_step string rest unmarked has = rw (unmarked, has) refl
 
 bare_taken : (piece rest : List ℕ) (octet : ℕ) → IsBareInString octet → piece ≡ octet ∷ []
@@ -151,8 +151,8 @@ record Next (b : ℕ) (rest string result : List ℕ) : Type 0 where
   goes : at_the_end (read_from (Reading 0 (string ++ octet ∷ [])) behind) ≡ Some result
 
 never : (string : List ℕ) (b : ℕ) (rest result : List ℕ)
-    → step (Reading 0 string) b rest ≡ Broken
-    → at_the_end (read_from (step (Reading 0 string) b rest) rest) ≡ Some result → ⊥
+    → after_byte (Reading 0 string) b rest ≡ Broken
+    → at_the_end (read_from (after_byte (Reading 0 string) b rest) rest) ≡ Some result → ⊥
 never string b rest result e h =
     let k = ap at_the_end (ap (λ p. read_from p rest) e ∙ broken rest) in cc
 
@@ -163,7 +163,7 @@ marks b h = elim (or_cases (b == quote) (b == backslash) h) [
 ]
 
 next_marked : (rest string result : List ℕ) → is_escaped (slice_index rest 0) ≡ true
-    → at_the_end (read_from (step (Reading 0 string) backslash rest) rest) ≡ Some result
+    → at_the_end (read_from (after_byte (Reading 0 string) backslash rest) rest) ≡ Some result
     → Next backslash rest string result
 next_marked [] string result m h = absurd (cc)
 next_marked (x ∷ rest) string result m h = record {
@@ -178,7 +178,7 @@ next_marked (x ∷ rest) string result m h = record {
 
 next_escape : (rest string result : List ℕ) → is_escaped (slice_index rest 0) ≡ false
     → has_octal rest ≡ true
-    → at_the_end (read_from (step (Reading 0 string) backslash rest) rest) ≡ Some result
+    → at_the_end (read_from (after_byte (Reading 0 string) backslash rest) rest) ≡ Some result
     → Next backslash rest string result
 next_escape rest string result unmarked has h =
     let a = escape_at rest has in
@@ -201,7 +201,7 @@ next_escape rest string result unmarked has h =
 
 next_bare : (b : ℕ) (rest string result : List ℕ) → (b ≡ quote → ⊥) → (b ≡ backslash → ⊥)
     → is_printable b ≡ true
-    → at_the_end (read_from (step (Reading 0 string) b rest) rest) ≡ Some result
+    → at_the_end (read_from (after_byte (Reading 0 string) b rest) rest) ≡ Some result
     → Next b rest string result
 next_bare b rest string result q s printable h =
     let p = and_parts (nat_le 0x20 b) (nat_le b 0x7E) printable in
@@ -227,19 +227,19 @@ next_bare b rest string result q s printable h =
     }
 
 next : (b : ℕ) (rest string result : List ℕ) → (b ≡ quote → ⊥)
-    → at_the_end (read_from (step (Reading 0 string) b rest) rest) ≡ Some result
+    → at_the_end (read_from (after_byte (Reading 0 string) b rest) rest) ≡ Some result
     → Next b rest string result
 next b rest string result q h = elim (cases_eq b backslash) [
   | inl e ↦
       subst (λ x. Next x rest string result) (sym e) (at_backslash
-      (subst (λ x. at_the_end (read_from (step (Reading 0 string) x rest) rest) ≡ Some result) e h))
+      (subst (λ x. at_the_end (read_from (after_byte (Reading 0 string) x rest) rest) ≡ Some result) e h))
   | inr s ↦ elim (cases_Bool (is_printable b)) [
     | inl printable ↦ next_bare b rest string result q s printable h
     | inr other ↦ absurd (never string b rest result (other_step string b rest q s other) h)
   ]
 ]
   where
-    at_backslash : at_the_end (read_from (step (Reading 0 string) backslash rest) rest) ≡ Some result
+    at_backslash : at_the_end (read_from (after_byte (Reading 0 string) backslash rest) rest) ≡ Some result
         → Next backslash rest string result
     at_backslash k = elim (cases_Bool (is_escaped (slice_index rest 0))) [
       | inl marked ↦ next_marked rest string result marked k
@@ -279,7 +279,7 @@ scan zero text inside string (b ∷ rest) result short c here h = absurd (omega 
 scan (suc n) text inside string (b ∷ rest) result short c here h = elim (cases_eq b quote) [
   | inl e ↦
       closing text inside string rest result c (here ∙ ap (λ x. quote ∷ (inside ++ x ∷ rest)) e)
-      (subst (λ x. at_the_end (read_from (step (Reading 0 string) x rest) rest) ≡ Some result) e h)
+      (subst (λ x. at_the_end (read_from (after_byte (Reading 0 string) x rest) rest) ≡ Some result) e h)
   | inr other ↦
       let k = next b rest string result other h in
       scan n text (inside ++ k.piece) (string ++ k.octet ∷ []) k.behind result
@@ -298,7 +298,7 @@ string_spelled (b ∷ rest) string h = elim (cases_eq b quote) [
   | inl e ↦
       scan (length rest) (b ∷ rest) [] [] rest string (omega arith) (no_characters IsStringCharacter)
       (ap (λ x. x ∷ rest) e)
-      (subst (λ x. at_the_end (read_from (step Opening x rest) rest) ≡ Some string) e h)
+      (subst (λ x. at_the_end (read_from (after_byte Opening x rest) rest) ≡ Some string) e h)
   | inr other ↦
       let k = not_quoted (b ∷ rest) (ne_eqb (length (b ∷ rest)) 0 (λ z. omega arith)) other in absurd (cc)
 ]

@@ -48,9 +48,9 @@ AfterSend old sent.Whole new = new ≡ old
 AfterSend old sent.Failed new = ⊥
 
 -- what sockets answer where none of their calls failed
-abbrev pub IsOpen : Arrival → Type 0
-IsOpen (arrival.Dns peer n) = ⊤
-IsOpen (arrival.Report n) = ⊤
-IsOpen arrival.Quiet = ⊤
-IsOpen arrival.Closed = ⊥
-IsOpen arrival.Failed = ⊥
+abbrev pub HasNotFailed : Arrival → Type 0
+HasNotFailed (arrival.Dns peer n) = ⊤
+HasNotFailed (arrival.Report n) = ⊤
+HasNotFailed arrival.Quiet = ⊤
+HasNotFailed arrival.Closed = ⊥
+HasNotFailed arrival.Failed = ⊥

@@ -4,7 +4,7 @@ ghost use Rattle.std.specs.Prelude.{◌≡◌, ℕ, ◌≤◌, List, Some, lengt
 ghost use Rattle.octets.specs.Counts.{Rose};
 ghost use Rattle.r53_io.specs.Network.{Incoming, BindGives, octets_given, ReceiveGives, SendLeaves};
 ghost use Rattle.r53_io.specs.declared.network.Peer.{Peer};
-ghost use Rattle.udp_link.specs.Link.{LinkState, IsOpen, AfterBind, AfterReceive, AfterSend, no_ports, none_coming, none_sent};
+ghost use Rattle.udp_link.specs.Link.{LinkState, HasNotFailed, AfterBind, AfterReceive, AfterSend, no_ports, none_coming, none_sent};
 
 use crate::sockets::Sockets;
 use r53_io::{Arrival, Bound, Link, Peer, Sent};
@@ -63,7 +63,7 @@ impl<'a, N: Net> UdpLink<'a, N> {
         ensures rests { self.new ≡ self.old }
         ensures bound { OnOk result (self.old.is_bound ≡ true) }
         ensures within { IfOk result (λ a. octets_given a ≤ length into.old) }
-        ensures open { IfOk result IsOpen }
+        ensures open { IfOk result HasNotFailed }
     {
         match &mut self.sockets {
             Some(sockets) => sockets.next(into),

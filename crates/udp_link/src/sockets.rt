@@ -2,7 +2,7 @@
 
 ghost use Rattle.std.specs.Prelude.{◌≡◌, ◌≤◌, length, IfOk, IfSome};
 ghost use Rattle.r53_io.specs.Network.{octets_given};
-ghost use Rattle.udp_link.specs.Link.{IsOpen};
+ghost use Rattle.udp_link.specs.Link.{HasNotFailed};
 
 use crate::peers::{peer_at, place_of};
 use mio::net::UdpSocket;
@@ -82,7 +82,7 @@ impl Sockets {
     /// A query goes first, but after 64 of them a report does, so that neither socket waits for ever.
     pub(crate) fn next(&mut self, into: &mut [u8]) -> io::Result<Arrival>
         ensures within { IfOk result (λ a. octets_given a ≤ length into.old) }
-        ensures open { IfOk result IsOpen }
+        ensures open { IfOk result HasNotFailed }
     {
         if self.queries >= MAX_QUERIES {
             self.queries = 0;
@@ -103,7 +103,7 @@ impl Sockets {
     /// The system tells once of what came: a socket of which it told is asked until nothing is there.
     fn wait(&mut self, into: &mut [u8]) -> io::Result<Arrival>
         ensures within { IfOk result (λ a. octets_given a ≤ length into.old) }
-        ensures open { IfOk result IsOpen }
+        ensures open { IfOk result HasNotFailed }
     {
         for _ in 0..MAX_WAITS {
             if self.is_reported
@@ -136,7 +136,7 @@ impl Sockets {
     fn query(&self, into: &mut [u8]) -> io::Result<Option<Arrival>>
         ensures within { IfOk result (λ found.
             IfSome found (λ a. octets_given a ≤ length into.old)) }
-        ensures open { IfOk result (λ found. IfSome found IsOpen) }
+        ensures open { IfOk result (λ found. IfSome found HasNotFailed) }
         ensures room { length into.new ≡ length into.old }
     {
         match self.query.recv_from(into) {
@@ -150,7 +150,7 @@ impl Sockets {
     fn report(&self, into: &mut [u8]) -> io::Result<Option<Arrival>>
         ensures within { IfOk result (λ found.
             IfSome found (λ a. octets_given a ≤ length into.old)) }
-        ensures open { IfOk result (λ found. IfSome found IsOpen) }
+        ensures open { IfOk result (λ found. IfSome found HasNotFailed) }
         ensures room { length into.new ≡ length into.old }
     {
         match self.report.recv_from(into) {

@@ -5,7 +5,7 @@ use Rattle.std.specs.Prelude.{◌==◌}
 use Rattle.std.proofs.lemmas.Bool.{true≢false, cond_both, lt-leb, ne_eqb, eq-eqb}
 use Rattle.std.proofs.lemmas.List.{drop_more}
 use Rattle.value_text.specs.Fields.{quote}
-use Rattle.value_text.specs.Strings.{Progress, read_from, step, add_character, character, at_the_end, string_of_text}
+use Rattle.value_text.specs.Strings.{Progress, read_from, after_byte, add_character, character, at_the_end, string_of_text}
 use Rattle.value_text.specs.Strings.Progress.{Opening, Reading, Closed, Broken}
 use Rattle.value_text.specs.declared.strings.Character.{Character}
 
@@ -34,7 +34,7 @@ long_added string None h = tt
 long_added string (Some c) h = let e = length-append string (c.value ∷ []) in omega arith
 
 long_step : (progress : Progress) (b : ℕ) (rest : List ℕ) → IsLong progress
-    → IsLong (step progress b rest)
+    → IsLong (after_byte progress b rest)
 long_step Opening b rest h = absurd h
 long_step (Reading zero string) b rest h =
     cond_both (b == quote) (Closed string) (add_character string (character b rest)) IsLong (λ _. h)
@@ -52,7 +52,7 @@ long_end Broken h = refl
 pub too_long : (progress : Progress) (text : List ℕ) → IsLong progress
     → at_the_end (read_from progress text) ≡ None
 too_long progress [] h = long_end progress h
-too_long progress (b ∷ rest) h = too_long (step progress b rest) rest (long_step progress b rest h)
+too_long progress (b ∷ rest) h = too_long (after_byte progress b rest) rest (long_step progress b rest h)
 
 -- a text without an opening quote
 pub not_quoted : (text : List ℕ) → (length text == 0) ≡ false → (get_or text 0 0 ≡ quote → ⊥)
@@ -64,14 +64,14 @@ not_quoted (b ∷ rest) some h =
 
 -- one character more, where no quote stands
 pub other_step : (string : List ℕ) (b : ℕ) (rest : List ℕ) → (b ≡ quote → ⊥)
-    → step (Reading 0 string) b rest ≡ add_character string (character b rest)
+    → after_byte (Reading 0 string) b rest ≡ add_character string (character b rest)
 other_step string b rest h =
     ap (λ t. cond t (Closed string) (add_character string (character b rest))) (ne_eqb b quote h)
 
 module _ (text : List ℕ) (at : ℕ) (string : List ℕ) (within : at < length text)
     (same : read_from Opening text ≡ read_from (Reading 0 string) (drop at text)) where
   byte : read_from (Reading 0 string) (drop at text)
-      ≡ read_from (step (Reading 0 string) (get_or text at 0) (drop (at + 1) text))
+      ≡ read_from (after_byte (Reading 0 string) (get_or text at 0) (drop (at + 1) text))
       (drop (at + 1) text)
   byte = ap (read_from (Reading 0 string)) (drop_more text at 0 within)
 

@@ -5,7 +5,7 @@ use Rattle.std.specs.Prelude.{if◌then◌else◌, Option, None, Some}
 abbrev pub is_digit : ℕ → Bool
 is_digit b = nat_le 0x30 b && nat_le b 0x39
 
--- the number of digits that stand behind digits of this value, where they are all decimal digits
+-- what digits come to that stand behind digits of this value, where they are all decimal digits
 abbrev pub number_from : (value : ℕ) → List ℕ → Option ℕ
 number_from value [] = Some value
 number_from value (b ∷ rest) =

@@ -41,17 +41,17 @@ add_character string None = Broken
 add_character string (Some c) = Reading c.more (string ++ c.value ∷ [])
 
 -- the byte at a place, with what stands behind it
-abbrev pub step : Progress → (b : ℕ) (rest : List ℕ) → Progress
-step Opening b rest = if b == quote then Reading 0 [] else Broken
-step (Reading zero string) b rest =
+abbrev pub after_byte : Progress → (b : ℕ) (rest : List ℕ) → Progress
+after_byte Opening b rest = if b == quote then Reading 0 [] else Broken
+after_byte (Reading zero string) b rest =
     if b == quote then Closed string else add_character string (character b rest)
-step (Reading (suc passing) string) b rest = Reading passing string
-step (Closed string) b rest = Broken
-step Broken b rest = Broken
+after_byte (Reading (suc passing) string) b rest = Reading passing string
+after_byte (Closed string) b rest = Broken
+after_byte Broken b rest = Broken
 
 abbrev pub read_from : Progress → List ℕ → Progress
 read_from progress [] = progress
-read_from progress (b ∷ rest) = read_from (step progress b rest) rest
+read_from progress (b ∷ rest) = read_from (after_byte progress b rest) rest
 
 -- at the end of a text: a string that is closed, of at most 255 bytes
 abbrev pub at_the_end : Progress → Option (List ℕ)

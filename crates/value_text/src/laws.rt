@@ -3,7 +3,7 @@
 ghost use Rattle.value_text.specs.Laws.{FieldsGoOn, NoFieldInBlanks, StringIsOneField};
 ghost use Rattle.value_text.specs.Laws.{WrittenNumberReadsBack, WrittenStringReadsBack};
 
-/// A field stands within the text, behind the place that it is looked for from, and isn't empty.
+/// A field stands within the text, at the place that it is looked for from or behind it, and isn't empty.
 pub fn fields_go_on()
     ensures { FieldsGoOn }
 {}

@@ -12,7 +12,7 @@ use Rattle.std.proofs.lemmas.List.Sums.{sum_by-cons, count_by-le-length}
 use Rattle.considered_sets.specs.Considered.{considered, places, IsConsidered}
 use Rattle.considered_sets.proofs.Places.{some_considered}
 use Rattle.considered_sets.proofs.Flags.{considered_flag, place_considered}
-use Rattle.weighted.specs.Choice.{laid_out, line, chosen}
+use Rattle.weighted.specs.Choice.{laid_out, stretches, chosen}
 use Rattle.weighted.specs.Laws.{times_chosen, ByWeight, OneEach, RunningSum, FairCounting}
 use Rattle.weighted.proofs.Whole.{positive}
 use Rattle.weighted.proofs.Counts.{times, times_laid, times_over, times_there, from_place}
@@ -84,16 +84,16 @@ module _ (weights : List ℕ) (hs : List Bool) where
       (subst (IsConsidered hs) (r.2) (place_considered hs (r.0) (r.1)), r.3)
 
   -- which line it is
-  is_laid : 0 < length laid → line weights hs ≡ laid
+  is_laid : 0 < length laid → stretches weights hs ≡ laid
   is_laid some =
       ap (λ b. if b then laid else places hs) (positive weights (places hs) ∙ lt-ltb 0 _ some)
 
-  is_even : length laid ≡ 0 → line weights hs ≡ places hs
+  is_even : length laid ≡ 0 → stretches weights hs ≡ places hs
   is_even none =
       ap (λ b. if b then laid else places hs) (positive weights (places hs) ∙ ap (nat_lt 0) none)
 
-  over : (xs : List ℕ) → line weights hs ≡ xs → (k : ℕ) → times_chosen weights hs k ≡ times k xs
-  over xs e k = times_over (line weights hs) k ∙ ap (times k) e
+  over : (xs : List ℕ) → stretches weights hs ≡ xs → (k : ℕ) → times_chosen weights hs k ≡ times k xs
+  over xs e k = times_over (stretches weights hs) k ∙ ap (times k) e
 
   long : (j : ℕ) → IsConsidered hs j → 0 < get_or weights j 0 → 0 < length laid
   long j is some = omega (arith, laid_once j is, count_by-le-length (λ x. x == j) laid)

@@ -1,6 +1,6 @@
 -- The definitions at values from outside: three sets of the weights 1, 0 and 3.
 use Rattle.std.proofs.Common.{◌≡◌, Bool, true, false, List, [], ◌∷◌, ℕ, refl}
-use Rattle.weighted.specs.Choice.{line, chosen}
+use Rattle.weighted.specs.Choice.{stretches, chosen}
 use Rattle.weighted.specs.Laws.{times_chosen}
 
 abbrev weights : List ℕ
@@ -9,7 +9,7 @@ weights = 1 ∷ 0 ∷ 3 ∷ []
 abbrev all : List Bool
 all = true ∷ true ∷ true ∷ []
 
-laid : line weights all ≡ 0 ∷ 2 ∷ 2 ∷ 2 ∷ []
+laid : stretches weights all ≡ 0 ∷ 2 ∷ 2 ∷ 2 ∷ []
 laid = refl
 
 word_0 : chosen weights all 0 ≡ 0
@@ -36,7 +36,7 @@ none_1 : chosen weights (false ∷ false ∷ false ∷ []) 1 ≡ 2
 none_1 = refl
 
 -- all weights are 0: one chance each
-zeros : line (0 ∷ 0 ∷ 0 ∷ []) (true ∷ false ∷ true ∷ []) ≡ 0 ∷ 2 ∷ []
+zeros : stretches (0 ∷ 0 ∷ 0 ∷ []) (true ∷ false ∷ true ∷ []) ≡ 0 ∷ 2 ∷ []
 zeros = refl
 
 -- the last word

@@ -5,13 +5,13 @@ use Rattle.std.proofs.Common.{replicate, arith, ap, sym, ◌∙◌, length-appen
 use Rattle.std.proofs.lemmas.List.{at_drop_more, at_drop_all, length-replicate, get_or_append_left}
 use Rattle.std.proofs.lemmas.List.{get_or-append_right, get_or-replicate}
 use Rattle.weighted.specs.Line.{stretch_of, rest_of_line}
-use Rattle.weighted.specs.declared.choice.Rule.{Rule}
+use Rattle.weighted.specs.declared.choice.StretchRule.{StretchRule}
 
 -- the line from a set on
-abbrev pub rest : Rule → List ℕ → List Bool → ℕ → List ℕ
+abbrev pub rest : StretchRule → List ℕ → List Bool → ℕ → List ℕ
 rest rule weights healthy i = rest_of_line rule weights i (drop i healthy)
 
-module _ (rule : Rule) (weights : List ℕ) (healthy : List Bool) (i : ℕ) where
+module _ (rule : StretchRule) (weights : List ℕ) (healthy : List Bool) (i : ℕ) where
   -- nothing is left behind the last set
   pub step_end : length healthy ≤ i → length (rest rule weights healthy i) ≡ 0
   step_end past = ap length (at_drop_all (rest_of_line rule weights i) healthy i past)

@@ -9,7 +9,7 @@ use Rattle.std.proofs.lemmas.Bool.{lt-ltb}
 use Rattle.std.proofs.lemmas.List.{length-replicate}
 use Rattle.considered_sets.specs.Considered.{places, some_healthy, places_from}
 use Rattle.considered_sets.proofs.Places.{noted_is, some_considered}
-use Rattle.weighted.specs.Choice.{laid_out, line}
+use Rattle.weighted.specs.Choice.{laid_out, stretches}
 use Rattle.weighted.specs.Line.{at_word, by_weight, one_each, rest_of_line}
 
 laid_is : (all : Bool) (weights : List ℕ) (at : ℕ) (hs : List Bool)
@@ -74,13 +74,13 @@ module _ (weights : List ℕ) (hs : List Bool) (s : Bool) (is : s ≡ some_healt
   some_even some = omega (arith, ap length whole_even, some_considered hs some)
 
   pub line_by_weight : 0 < length (rest_of_line (by_weight (not s)) weights 0 hs)
-      → rest_of_line (by_weight (not s)) weights 0 hs ≡ line weights hs
+      → rest_of_line (by_weight (not s)) weights 0 hs ≡ stretches weights hs
   line_by_weight lt =
       let some : 0 < length (laid_out weights (places hs)) = rw whole_laid at lt in
       whole_laid ∙ sym (ap line_if (positive weights (places hs) ∙ lt-ltb 0 _ some))
 
   pub line_even : length (rest_of_line (by_weight (not s)) weights 0 hs) ≡ 0
-      → rest_of_line (one_each (not s)) weights 0 hs ≡ line weights hs
+      → rest_of_line (one_each (not s)) weights 0 hs ≡ stretches weights hs
   line_even none =
       let no : length (laid_out weights (places hs)) ≡ 0 = rw whole_laid at none in
       whole_even ∙ sym (ap line_if (positive weights (places hs) ∙ ap (nat_lt 0) no))

@@ -10,16 +10,16 @@ abbrev pub laid_out : (weights : List ℕ) → (sets : List ℕ) → List ℕ
 laid_out weights sets = flat_map (λ place. replicate (slice_index weights place) place) sets
 
 -- The line that is chosen from. Where no considered set has a weight above 0, each has weight 1 (own).
-abbrev pub line : (weights : List ℕ) → (healthy : List Bool) → List ℕ
-line weights healthy =
+abbrev pub stretches : (weights : List ℕ) → (healthy : List Bool) → List ℕ
+stretches weights healthy =
     if list_any (λ place. nat_lt 0 (slice_index weights place)) (places healthy)
     then laid_out weights (places healthy)
     else places healthy
 
 -- the length of the line
 abbrev pub total : (weights : List ℕ) → (healthy : List Bool) → ℕ
-total weights healthy = length (line weights healthy)
+total weights healthy = length (stretches weights healthy)
 
 -- The chosen set: the one whose stretch holds `word mod total`.
 abbrev pub chosen : (weights : List ℕ) → (healthy : List Bool) → (word : ℕ) → ℕ
-chosen weights healthy word = slice_index (line weights healthy) (word % total weights healthy)
+chosen weights healthy word = slice_index (stretches weights healthy) (word % total weights healthy)

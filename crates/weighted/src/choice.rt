@@ -9,14 +9,14 @@ use considered_sets::some_healthy;
 /// Chooses a set of a weighted group by a random word. The answer is its place.
 ///
 /// The weights of the healthy sets, or of all where none is healthy, are laid end to end. The set is chosen
-/// whose stretch holds `word mod total`. Where these weights are all 0, each set has weight 1.
+/// whose stretch holds `word mod total`. Where these weights are all 0, each of these sets has weight 1.
 pub fn choose(weights: &[u8], healthy: &[bool], word: u64) -> usize
     requires one_length { length weights.now ≡ length healthy.now }
     requires some { 1 ≤ length healthy.now }
     requires most { length healthy.now ≤ 100 }
     ensures { result ≡ chosen weights.now healthy.now word }
 {
-    let rule = Rule {
+    let rule = StretchRule {
         all: false,
         even: false,
     };
@@ -38,7 +38,7 @@ fn choose_beside_zeros(weights: &[u8], healthy: &[bool], word: u64) -> usize
     if some_healthy(healthy) {
         return choose_evenly(weights, healthy, false, word);
     }
-    let rule = Rule {
+    let rule = StretchRule {
         all: true,
         even: false,
     };
@@ -56,7 +56,7 @@ fn choose_evenly(weights: &[u8], healthy: &[bool], all: bool, word: u64) -> usiz
     requires some { 0 < length (rest_of_line (one_each all) weights.now 0 healthy.now) }
     ensures { result ≡ at_word (rest_of_line (one_each all) weights.now 0 healthy.now) word }
 {
-    let rule = Rule { all, even: true };
+    let rule = StretchRule { all, even: true };
     let sets = total(weights, healthy, rule);
     place_at(weights, healthy, rule, point(word, sets))
 }
@@ -72,14 +72,14 @@ fn point(word: u64, total: u32) -> u32
 
 /// How long the stretches are that are laid end to end.
 #[derive(Clone, Copy)]
-struct Rule {
+struct StretchRule {
     /// Whether sets that are not healthy have stretches too.
     all: bool,
     /// Whether each stretch has the length 1 in place of the weight.
     even: bool,
 }
 
-impl Rule {
+impl StretchRule {
     /// The length of a set's stretch.
     fn stretch(self, weight: u8, healthy: bool) -> u32
         ensures exact { result ≡ stretch_of self weight healthy }
@@ -98,7 +98,7 @@ impl Rule {
 }
 
 /// The length of all stretches.
-fn total(weights: &[u8], healthy: &[bool], rule: Rule) -> u32
+fn total(weights: &[u8], healthy: &[bool], rule: StretchRule) -> u32
     requires one_length { length weights.now ≡ length healthy.now }
     requires most { length healthy.now ≤ 100 }
     ensures { result ≡ length (rest_of_line rule weights.now 0 healthy.now) }
@@ -112,7 +112,7 @@ fn total(weights: &[u8], healthy: &[bool], rule: Rule) -> u32
 
 /// The set whose stretch holds a point: before it stand as many sets as there are stretches that end at the
 /// point or before it.
-fn place_at(weights: &[u8], healthy: &[bool], rule: Rule, point: u32) -> usize
+fn place_at(weights: &[u8], healthy: &[bool], rule: StretchRule, point: u32) -> usize
     requires one_length { length weights.now ≡ length healthy.now }
     requires most { length healthy.now ≤ 100 }
     requires within { point < length (rest_of_line rule weights.now 0 healthy.now) }

@@ -23,7 +23,7 @@ use Rattle.zone_table.specs.SetRefRecord.{SetRef}
 use Rattle.zone_table.proofs.Among.{among_at, place_of}
 use Rattle.zone_table.proofs.Ordered.{keys_total}
 use Rattle.zone_table.specs.Keys.{key_cmp}
-use Rattle.zone_table.specs.Placed.{HaveOwnSlots, Placed, sets_of}
+use Rattle.zone_table.specs.Slotted.{HaveOwnSlots, Slotted, sets_of}
 use Rattle.zone_table.specs.Placing.{IsThere}
 use Rattle.zone_table.specs.Looking.{IsNextSet}
 
@@ -39,29 +39,29 @@ own_in (zone ∷ zones) each id = by (zone.id == id) (own_in zones each.1 id)
     by true rest = each.0.sets.own
     by false rest = rest
 
-one_place : (placed : List Placed) → HaveOwnSlots placed → (i j : ℕ) (p q : Placed)
+one_place : (placed : List Slotted) → HaveOwnSlots placed → (i j : ℕ) (p q : Slotted)
     → slice_get placed i ≡ Some p → slice_get placed j ≡ Some q → p.slot ≡ q.slot → i ≡ j
 one_place [] own i j p q at_p at_q same = absurd (grind (arith, at_p))
 one_place (x ∷ placed) own zero zero p q at_p at_q same = refl
 one_place (x ∷ placed) own zero (suc j) p q at_p at_q same =
     let e : x ≡ p = grind (arith, at_p) in
-    absurd (in_all (λ (y : Placed). x.slot ≢ y.slot) placed q own.0 (among_at placed j q at_q)
-    (ap (λ (y : Placed). y.slot) e ∙ same))
+    absurd (in_all (λ (y : Slotted). x.slot ≢ y.slot) placed q own.0 (among_at placed j q at_q)
+    (ap (λ (y : Slotted). y.slot) e ∙ same))
 one_place (x ∷ placed) own (suc i) zero p q at_p at_q same =
     let e : x ≡ q = grind (arith, at_q) in
-    absurd (in_all (λ (y : Placed). x.slot ≢ y.slot) placed p own.0 (among_at placed i p at_p)
-    (ap (λ (y : Placed). y.slot) e ∙ sym same))
+    absurd (in_all (λ (y : Slotted). x.slot ≢ y.slot) placed p own.0 (among_at placed i p at_p)
+    (ap (λ (y : Slotted). y.slot) e ∙ sym same))
 one_place (x ∷ placed) own (suc i) (suc j) p q at_p at_q same =
     ap suc (one_place placed own.1 i j p q at_p at_q same)
 
 -- ---- bounds
 
 -- what is told of a bound: its place, and the slot there
-pub record IsTold (placed : List Placed) (zone : ℕ) (to : Bound) (found : Option SetRef) : Type 0 where
+pub record IsTold (placed : List Slotted) (zone : ℕ) (to : Bound) (found : Option SetRef) : Type 0 where
   pub at : ℕ
   pub count : IsCount (sets_of placed) to at
   pub told : (found ≡ None × (at ≡ length placed))
-      ⊎ ((p : Placed) × (slice_get placed at ≡ Some p)
+      ⊎ ((p : Slotted) × (slice_get placed at ≡ Some p)
       × (found ≡ Some (record { zone = zone; slot = p.slot })))
 
 told : (zones : List Zone) (zone : ℕ) (to : Bound) (found : Option SetRef)
@@ -101,15 +101,15 @@ before_past key set = by (key_cmp (key_of set) key)
     by Equal e = absurd (grind (arith, e))
     by Greater e = absurd (grind (arith, e))
 
-module _ (placed : List Placed) (own : HaveOwnSlots placed) (zone : ℕ) (key : SetKey)
+module _ (placed : List Slotted) (own : HaveOwnSlots placed) (zone : ℕ) (key : SetKey)
     (from past : Option SetRef) (start : IsTold placed zone (bound.From key) from)
     (end : IsTold placed zone (bound.Past key) past) where
   abbrev sets : List RecordSet
   sets = sets_of placed
 
-  set_at : (i : ℕ) (p : Placed) → slice_get placed i ≡ Some p → slice_get sets i ≡ Some p.set
-  set_at i p at = slice_get-map (λ (q : Placed). q.set) placed i
-      ∙ ap (option_map (λ (q : Placed). q.set)) at
+  set_at : (i : ℕ) (p : Slotted) → slice_get placed i ≡ Some p → slice_get sets i ≡ Some p.set
+  set_at i p at = slice_get-map (λ (q : Slotted). q.set) placed i
+      ∙ ap (option_map (λ (q : Slotted). q.set)) at
 
   one : from ≡ past → start.at ≡ end.at
   one same = elim start.told [
@@ -169,11 +169,11 @@ module _ (placed : List Placed) (own : HaveOwnSlots placed) (zone : ℕ) (key : 
           subst (λ n. slice_get placed n ≡ Some some.0) place some.1 in
           let same : some.0 ≡ other.0 = grind (arith, here, other.1) in
           some.2
-          ∙ (ap (λ (p : Placed). Some (record { zone = zone; slot = p.slot })) same ∙ sym other.2)
+          ∙ (ap (λ (p : Slotted). Some (record { zone = zone; slot = p.slot })) same ∙ sym other.2)
     ]
   ]
     where
-      beyond : (ps : List Placed) (i : ℕ) (p : Placed) → i ≡ length ps → slice_get ps i ≡ Some p → ⊥
+      beyond : (ps : List Slotted) (i : ℕ) (p : Slotted) → i ≡ length ps → slice_get ps i ≡ Some p → ⊥
       beyond ps i p last at = let w = slice_get_within ps i p at in omega (arith, last, w)
 
   pub some_between : from ≢ past → IsThere sets key

@@ -4,7 +4,7 @@ use Rattle.std.proofs.lemmas.List.{length-append}
 use Rattle.dns_name.specs.Suffix.{EndsWith}
 use Rattle.zone_table.proofs.Listing.{one_zone}
 use Rattle.zone_table.specs.Zones.{AreZones, HasName, Zone}
-use Rattle.zone_table.specs.Looking.{Holds, IsApex}
+use Rattle.zone_table.specs.Looking.{IsZoneFor, IsApex}
 
 as_long : (first name other : List (List ℕ)) → name ≡ first ++ other → length name ≤ length other
     → other ≡ name
@@ -15,7 +15,7 @@ as_long (label ∷ first) name other e le =
     absurd (omega (arith, n, le))
 
 module _ (zones : List Zone) (are : AreZones zones) (name apex : List (List ℕ)) (id : ℕ)
-    (holds : Holds zones name id) (at : IsApex zones id apex) where
+    (holds : IsZoneFor zones name id) (at : IsApex zones id apex) where
   its : holds.zone.apex ≡ apex
   its =
       let same = one_zone zones are.listed holds.zone at.0 holds.there at.1

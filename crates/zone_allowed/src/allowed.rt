@@ -8,9 +8,9 @@ ghost use Rattle.zone_allowed.specs.New.{IsNewZone};
 ghost use Rattle.zone_table.specs.Changes.{CanBeAdded, IsKeyOf};
 ghost use Rattle.zone_table.specs.Zones.{CanStand, HasName, IsZoneId, placed_in};
 ghost use Rattle.zone_table.specs.Placing.{IsThere};
-ghost use Rattle.zone_table.specs.Placed.{sets_of};
+ghost use Rattle.zone_table.specs.Slotted.{sets_of};
 ghost use Rattle.zone_table.specs.Edits.{IsAllowed};
-ghost use Rattle.zone_table.specs.declared.edits.ZoneEdit.TheVariants.{Change, Open};
+ghost use Rattle.zone_table.specs.declared.edits.ZoneEdit.TheVariants.{Change, Begin};
 
 use crate::apart::sets_are_apart;
 use crate::there::{are_there, has_key, is_key_of};
@@ -22,8 +22,13 @@ pub fn is_allowed(zones: &Zones, edit: &ZoneEdit) -> bool
     ensures { IsTrue result ↔ IsAllowed zones.now.zones edit.now }
 {
     match edit {
-        ZoneEdit::Open { zone, name, sets } => is_open_allowed(zones, *zone, name, sets.as_slice()),
-        ZoneEdit::Close(zone) => has_zone(zones, *zone),
+        ZoneEdit::Begin { zone, name, sets } => is_open_allowed(
+            zones,
+            *zone,
+            name,
+            sets.as_slice(),
+        ),
+        ZoneEdit::End(zone) => has_zone(zones, *zone),
         ZoneEdit::Change { zone, remove, add } => {
             is_change_allowed(zones, *zone, remove.as_slice(), add.as_slice())
         }
@@ -33,7 +38,7 @@ pub fn is_allowed(zones: &Zones, edit: &ZoneEdit) -> bool
 
 /// Whether a zone of this number and name can be opened with these sets.
 fn is_open_allowed(zones: &Zones, zone: u32, name: &Name, sets: &[RecordSet]) -> bool
-    ensures { IsTrue result ↔ IsAllowed zones.now.zones (Open zone name.now sets.now) }
+    ensures { IsTrue result ↔ IsAllowed zones.now.zones (Begin zone name.now sets.now) }
 {
     is_new_zone(zones, zone, name) && can_be_added(name, sets)
 }

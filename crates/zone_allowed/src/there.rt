@@ -5,7 +5,7 @@ ghost use Rattle.std.specs.List.{AllByRecursion};
 ghost use Rattle.zone_table.specs.Changes.{AreThere, IsKeyOf};
 ghost use Rattle.zone_table.specs.Zones.{placed_in};
 ghost use Rattle.zone_table.specs.Placing.{IsThere};
-ghost use Rattle.zone_table.specs.Placed.{sets_of};
+ghost use Rattle.zone_table.specs.Slotted.{sets_of};
 
 use crate::apart::keys_are_apart;
 use zone_table::{SetKey, SetRef, Zones, key_cmp, keys_are_ordered};

@@ -4,7 +4,7 @@ use Rattle.std.proofs.Common.{ap, ◌∙◌, arith, inl, inr}
 use Rattle.std.specs.Prelude.{slice_get}
 use Rattle.std.specs.List.{insert, remove, sum_by}
 use Rattle.std.proofs.lemmas.List.Sums.{sum_by-append, sum_by-cons}
-use Rattle.zone_order.specs.Placed.{Placed, IsPut, IsTakenAt}
+use Rattle.zone_order.specs.Slotted.{Slotted, IsPut, IsTakenAt}
 use Rattle.zone_order.proofs.ListsOfZoneModel.{split, split_at}
 use Rattle.zone_changes.specs.Coming.{cells_in, cells_of, Comes}
 
@@ -45,7 +45,7 @@ module _ {X : Type 0} (f : X → ℕ) where
       omega (arith, with_it, without, a)
 
 -- one comes in place of another
-pub replaced_cells : (before : List Placed) (given was : Placed) (after : List Placed) (at : ℕ)
+pub replaced_cells : (before : List Slotted) (given was : Slotted) (after : List Slotted) (at : ℕ)
     → slice_get before at ≡ Some was → after ≡ set before at given → (old new many : ℕ)
     → many ≡ cells_in given → new + many ≡ old + cells_in was
     → new + sum_by cells_in after ≡ old + sum_by cells_in before
@@ -56,7 +56,7 @@ replaced_cells before given was after at there replaced old new many is gave =
     omega (arith, sums, here, is, gave)
 
 -- one more comes
-pub put_cells : (before : List Placed) (given : Placed) (after : List Placed)
+pub put_cells : (before : List Slotted) (given : Slotted) (after : List Slotted)
     → (r : IsPut before given after) → (old new many : ℕ) → many ≡ cells_in given → many ≤ old
     → new ≡ old - many
     → new + sum_by cells_in after ≡ old + sum_by cells_in before
@@ -66,7 +66,7 @@ put_cells before given after r old new many is enough took =
     omega (arith, sums, here, is, enough, took)
 
 -- one goes
-pub taken_cells : (before : List Placed) (at slot : ℕ) (after : List Placed)
+pub taken_cells : (before : List Slotted) (at slot : ℕ) (after : List Slotted)
     → (t : IsTakenAt before at slot after) → (old new : ℕ)
     → new ≡ old + cells_in (record { slot = slot; set = t.set })
     → new + sum_by cells_in after ≡ old + sum_by cells_in before
@@ -76,7 +76,7 @@ taken_cells before at slot after t old new gave =
     omega (arith, sums, here, gave)
 
 -- what comes takes no more cells than its own
-pub few_more : (before : List Placed) (given : Placed) (after : List Placed) → Comes before given after
+pub few_more : (before : List Slotted) (given : Slotted) (after : List Slotted) → Comes before given after
     → (old new : ℕ) → new + cells_of after ≡ old + cells_of before → old ≤ new + cells_in given
 few_more before given after (inl r) old new same =
     let sums = sum_set cells_in before r.at (record { slot = given.slot; set = r.was }) given r.there in

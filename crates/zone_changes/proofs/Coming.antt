@@ -9,8 +9,8 @@ use Rattle.zone_order.specs.Sets.{key_of}
 use Rattle.zone_order.specs.Laws.{OneSpelling}
 use Rattle.zone_order.specs.Found.{FindsAt}
 use Rattle.zone_order.specs.Stored.{Spells}
-use Rattle.zone_order.specs.Placed.{IsTaken, IsTakenAt, Placed, sets_of}
-use Rattle.zone_order.specs.Orders.{HasSet, placed_by}
+use Rattle.zone_order.specs.Slotted.{IsRemoved, IsTakenAt, Slotted, sets_of}
+use Rattle.zone_order.specs.Orders.{HasSet, slotted_by}
 use Rattle.zone_order.proofs.Orders.{at_place}
 use Rattle.zone_changes.specs.Coming.{IsReplaced}
 
@@ -27,20 +27,20 @@ same_set o x y e f = cc
 -- the set in a slot of the order, told by its place
 pub set_there : (get : ℕ → Option RecordSet) (order : List ℕ) → AllByRecursion (λ k. HasSet get k) order
     → (i k : ℕ) (was : RecordSet) → slice_get order i ≡ Some k
-    → slice_get (sets_of (placed_by get order)) i ≡ Some was
-    → slice_get (placed_by get order) i ≡ Some (record { slot = k; set = was })
+    → slice_get (sets_of (slotted_by get order)) i ≡ Some was
+    → slice_get (slotted_by get order) i ≡ Some (record { slot = k; set = was })
 set_there get order present i k was at is =
     let found = at_place get order present i k at in
-    let same : found.0 ≡ was = same_set (slice_get (sets_of (placed_by get order)) i) found.0 was
-    (slice_get-map (λ (p : Placed). p.set) (placed_by get order) i
-    ∙ ap (λ (o : Option Placed). option_map (λ (p : Placed). p.set) o) found.2) is in
+    let same : found.0 ≡ was = same_set (slice_get (sets_of (slotted_by get order)) i) found.0 was
+    (slice_get-map (λ (p : Slotted). p.set) (slotted_by get order) i
+    ∙ ap (λ (o : Option Slotted). option_map (λ (p : Slotted). p.set) o) found.2) is in
     found.2 ∙ ap (λ (s : RecordSet). Some (record { slot = k; set = s })) same
 
 pub gives_way : (get : ℕ → Option RecordSet) (order : List ℕ) → AllByRecursion (λ k. HasSet get k) order
-    → (i k : ℕ) (it : RecordSet) (after : List Placed) → slice_get order i ≡ Some k
-    → FindsAt (sets_of (placed_by get order)) (key_of it) i
-    → after ≡ set (placed_by get order) i (record { slot = k; set = it })
-    → IsReplaced (placed_by get order) (record { slot = k; set = it }) after
+    → (i k : ℕ) (it : RecordSet) (after : List Slotted) → slice_get order i ≡ Some k
+    → FindsAt (sets_of (slotted_by get order)) (key_of it) i
+    → after ≡ set (slotted_by get order) i (record { slot = k; set = it })
+    → IsReplaced (slotted_by get order) (record { slot = k; set = it }) after
 gives_way get order present i k it after at found is = record {
   at = i;
   was = found.kept;
@@ -49,18 +49,18 @@ gives_way get order present i k it after at found is = record {
   replaced = is;
 }
 
-same_placed : (o : Option Placed) (x y : Placed) → o ≡ Some x → o ≡ Some y → x ≡ y
+same_placed : (o : Option Slotted) (x y : Slotted) → o ≡ Some x → o ≡ Some y → x ≡ y
 same_placed o x y e f = cc
 
-pub goes_by_key : (before : List Placed) (key : SetKey) (i slot : ℕ) (after : List Placed)
+pub goes_by_key : (before : List Slotted) (key : SetKey) (i slot : ℕ) (after : List Slotted)
     → FindsAt (sets_of before) key i
-    → IsTakenAt before i slot after → IsTaken before key slot after
+    → IsTakenAt before i slot after → IsRemoved before key slot after
 goes_by_key before key i slot after found taken = record {
   at = i;
   taken = taken;
   same_key =
       ap key_of (same_set (slice_get (sets_of before) i) taken.set found.kept
-      (slice_get-map (λ (p : Placed). p.set) before i
-      ∙ ap (λ (o : Option Placed). option_map (λ (p : Placed). p.set) o) taken.there) found.there)
+      (slice_get-map (λ (p : Slotted). p.set) before i
+      ∙ ap (λ (o : Option Slotted). option_map (λ (p : Slotted). p.set) o) taken.there) found.there)
       ∙ found.same_key;
 }

@@ -2,7 +2,7 @@
 use Rattle.std.proofs.Common.{◌≡◌, ℕ, ◌+◌, ◌%◌, ◌^◌, ◌<◌, List, Some, set, ap, ◌∙◌, arith}
 use Rattle.std.specs.Prelude.{slice_get}
 use Rattle.std.specs.List.{sum_by}
-use Rattle.zone_order.specs.Placed.{Placed, IsPut, IsTakenAt}
+use Rattle.zone_order.specs.Slotted.{Slotted, IsPut, IsTakenAt}
 use Rattle.zone_changes.specs.declared.sums.Sums.{Sums}
 use Rattle.zone_changes.specs.Sums.{AreSmall, aliases_in, checked_in, labels_in, octets_in, plus, servers_in, sums_of}
 use Rattle.zone_changes.proofs.Cells.{sum_insert, sum_remove, sum_set}
@@ -30,7 +30,7 @@ swapped : (before after given was counted left : ℕ) → after + was ≡ before
 swapped before after given was counted left sum is few without = omega (arith, sum, is, few, without)
 
 -- one more comes
-pub put_sums : (before : List Placed) (given : Placed) (after : List Placed) → IsPut before given after
+pub put_sums : (before : List Slotted) (given : Slotted) (after : List Slotted) → IsPut before given after
     → (sums counted : Sums) → sums ≡ sums_of before → counted ≡ plus sums given → counted ≡ sums_of after
 put_sums before given after put sums counted so_far is =
     let now = is ∙ ap (λ s. plus s given) so_far in
@@ -52,7 +52,7 @@ put_sums before given after put sums counted so_far is =
     (ap (λ (s : Sums). s.checked) now))
 
 -- one comes in place of another
-pub replaced_sums : (before : List Placed) (given was : Placed) (after : List Placed) (at : ℕ)
+pub replaced_sums : (before : List Slotted) (given was : Slotted) (after : List Slotted) (at : ℕ)
     → slice_get before at ≡ Some was → after ≡ set before at given → (sums counted left : Sums)
     → sums ≡ sums_of before → counted ≡ plus sums given → AreSmall left
     → plus left was ≡ counted → left ≡ sums_of after
@@ -76,12 +76,12 @@ replaced_sums before given was after at there replaced sums counted left so_far 
     (ap (λ (s : Sums). s.checked) now) small.checked (ap (λ (s : Sums). s.checked) without))
 
 -- one goes
-pub taken_sums : (before : List Placed) (at slot : ℕ) (after : List Placed)
+pub taken_sums : (before : List Slotted) (at slot : ℕ) (after : List Slotted)
     → (t : IsTakenAt before at slot after) → (sums left : Sums) → sums ≡ sums_of before
     → AreSmall left
     → plus left (record { slot = slot; set = t.set }) ≡ sums → left ≡ sums_of after
 taken_sums before at slot after t sums left so_far small without =
-    let was : Placed = record { slot = slot; set = t.set } in
+    let was : Slotted = record { slot = slot; set = t.set } in
     let now = without ∙ so_far in
     all_five left (sums_of after)
     (fewer (sum_by octets_in before) (sum_by octets_in after) (octets_in was) left.octets

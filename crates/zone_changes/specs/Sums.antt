@@ -7,49 +7,49 @@ use Rattle.zone_order.specs.Octets.{set_octets}
 use Rattle.zone_order.specs.Servers.{server_labels}
 use Rattle.zone_order.specs.Telling.{is_alias}
 use Rattle.zone_changes.specs.declared.sums.Sums.{Sums}
-use Rattle.zone_order.specs.Placed.{Placed}
+use Rattle.zone_order.specs.Slotted.{Slotted}
 
-abbrev pub octets_in : Placed → ℕ
+abbrev pub octets_in : Slotted → ℕ
 octets_in placed = length (set_octets placed.set)
 
 abbrev pub one_of : Bool → ℕ
 one_of false = 0
 one_of true = 1
 
-abbrev pub aliases_in : Placed → ℕ
+abbrev pub aliases_in : Slotted → ℕ
 aliases_in placed = one_of (is_alias placed.set.body)
 
-abbrev pub servers_in : Placed → ℕ
+abbrev pub servers_in : Slotted → ℕ
 servers_in placed = one_of (is_some (server_labels placed.set))
 
-abbrev pub labels_in : Placed → ℕ
+abbrev pub labels_in : Slotted → ℕ
 labels_in placed = unwrap_or (server_labels placed.set) 0
 
-abbrev pub checked_in : Placed → ℕ
+abbrev pub checked_in : Slotted → ℕ
 checked_in placed = one_of (is_some placed.set.check)
 
 -- how many octets the sets have
-abbrev pub octets_of : List Placed → ℕ
+abbrev pub octets_of : List Slotted → ℕ
 octets_of placed = sum_by octets_in placed
 
 -- how many of the sets are aliases
-abbrev pub aliases_of : List Placed → ℕ
+abbrev pub aliases_of : List Slotted → ℕ
 aliases_of placed = sum_by aliases_in placed
 
 -- how many of the sets are NS sets
-abbrev pub servers_of : List Placed → ℕ
+abbrev pub servers_of : List Slotted → ℕ
 servers_of placed = sum_by servers_in placed
 
 -- how many labels the names of the NS sets have in all
-abbrev pub labels_of : List Placed → ℕ
+abbrev pub labels_of : List Slotted → ℕ
 labels_of placed = sum_by labels_in placed
 
 -- how many of the sets name a check
-abbrev pub checked_of : List Placed → ℕ
+abbrev pub checked_of : List Slotted → ℕ
 checked_of placed = sum_by checked_in placed
 
 -- all of them, as they are counted: modulo 2^64
-abbrev pub sums_of : List Placed → Sums
+abbrev pub sums_of : List Slotted → Sums
 sums_of placed = record {
   octets = octets_of placed % 2 ^ 64;
   aliases = aliases_of placed % 2 ^ 64;
@@ -59,7 +59,7 @@ sums_of placed = record {
 }
 
 -- with one more set
-abbrev pub plus : Sums → Placed → Sums
+abbrev pub plus : Sums → Slotted → Sums
 plus sums placed = record {
   octets = (sums.octets + octets_in placed) % 2 ^ 64;
   aliases = (sums.aliases + aliases_in placed) % 2 ^ 64;

@@ -5,11 +5,11 @@
 ghost use Rattle.std.specs.Prelude.{◌≡◌, ◌<◌, [], is_some, length, slice_get, Some};
 ghost use Rattle.zone_changes.specs.Sums.{AreSmall, aliases_in, checked_in, octets_in, one_of};
 ghost use Rattle.zone_changes.specs.Sums.{plus, sums_of};
-ghost use Rattle.zone_order.specs.Placed.{Placed};
-ghost use Rattle.zone_order.specs.Orders.{IsOrder, placed_of};
+ghost use Rattle.zone_order.specs.Slotted.{Slotted};
+ghost use Rattle.zone_order.specs.Orders.{IsOrder, slotted_of};
 ghost use Rattle.zone_order.specs.Servers.{server_labels};
 
-use zone_order::{Body, RType, RecordSet, SetStore};
+use zone_order::{Body, RType, RecordSet, SetSlots};
 
 /// How many octets sets have, how many of them are aliases, how many are NS sets, how many labels
 /// the names of these have in all, and how many sets name a check, each modulo 2^64.
@@ -39,7 +39,7 @@ pub fn no_sums() -> Sums
 
 /// The sums with one more set, which has so many octets.
 pub(crate) fn with_set(sums: Sums, octets: usize, set: &RecordSet) -> Sums
-    ensures { (given : Placed) → given.set ≡ set.now → octets ≡ octets_in given
+    ensures { (given : Slotted) → given.set ≡ set.now → octets ≡ octets_in given
         → result ≡ plus sums given }
 {
     let labels = labels_in(set);
@@ -54,7 +54,7 @@ pub(crate) fn with_set(sums: Sums, octets: usize, set: &RecordSet) -> Sums
 
 /// Whether a set is an alias.
 fn is_alias(set: &RecordSet) -> bool
-    ensures { (given : Placed) → given.set ≡ set.now → one_of result ≡ aliases_in given }
+    ensures { (given : Slotted) → given.set ≡ set.now → one_of result ≡ aliases_in given }
 {
     match set.body {
         Body::Alias { .. } => true,
@@ -64,7 +64,7 @@ fn is_alias(set: &RecordSet) -> bool
 
 /// Whether a set names a check.
 fn names_check(set: &RecordSet) -> bool
-    ensures { (given : Placed) → given.set ≡ set.now → one_of result ≡ checked_in given }
+    ensures { (given : Slotted) → given.set ≡ set.now → one_of result ≡ checked_in given }
 {
     set.check.is_some()
 }
@@ -82,15 +82,15 @@ fn labels_in(set: &RecordSet) -> Option<usize>
 /// The sums without the set at a place of a zone.
 pub(crate) fn without_at(
     sums: Sums,
-    store: &SetStore,
+    store: &SetSlots,
     zone: u32,
     order: &Vec<u32>,
     place: usize,
 ) -> Sums
     requires order { IsOrder store.now.slots zone order.now.items }
     requires place { place < length order.now.items }
-    ensures without { (was : Placed)
-        → slice_get (placed_of store.now.slots zone order.now.items) place ≡ Some was
+    ensures without { (was : Slotted)
+        → slice_get (slotted_of store.now.slots zone order.now.items) place ≡ Some was
         → plus result was ≡ sums }
     ensures small { AreSmall result }
 {
@@ -115,7 +115,7 @@ fn slot_at(order: &Vec<u32>, place: usize) -> u32
 /// The sums without a set of so many octets, which is an alias or not, an NS set where labels are
 /// told, and names a check or not.
 fn without(sums: Sums, octets: usize, alias: bool, labels: Option<usize>, checked: bool) -> Sums
-    ensures without { (was : Placed) → octets ≡ octets_in was → one_of alias ≡ aliases_in was
+    ensures without { (was : Slotted) → octets ≡ octets_in was → one_of alias ≡ aliases_in was
         → labels ≡ server_labels was.set → checked ≡ is_some was.set.check
         → plus result was ≡ sums }
     ensures small { AreSmall result }

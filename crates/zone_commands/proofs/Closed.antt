@@ -8,17 +8,17 @@ use Rattle.config_zones.specs.CommandRecord.TheVariants.{DeleteZone}
 use Rattle.config_zones.specs.Edited.{EditsAreTold, hosted_in}
 use Rattle.config_zones.specs.Configs.{Config, without_zone, zone_with}
 use Rattle.config_zones.specs.NewZones.{end_of, is_another}
-use Rattle.config_zones.specs.Telling.{first_of, rule, unless}
+use Rattle.config_zones.specs.Telling.{first_of, refuse_if, unless}
 use Rattle.config_zones.specs.MadeRecord.TheVariants as made
 use Rattle.config_zones.specs.RefusalRecord.TheVariants as refusal
-use Rattle.config_zones.specs.Configured.{IsEditFor, LeadsTo, TellsEditOnly, config_of}
+use Rattle.config_zones.specs.Configured.{IsEditFor, EditMakes, TellsEditOnly, config_of}
 use Rattle.config_zones.specs.Laws.{ZonesAreFound}
 use Rattle.config_zones.specs.Zones.{AreZones, IsZoneId, placed_in}
 use Rattle.zone_model.specs.Hosted.{HostedZone}
-use Rattle.zone_model.specs.Placed.{sets_of}
+use Rattle.zone_model.specs.Slotted.{sets_of}
 use Rattle.config_zones.specs.Looking.{IsApex}
 use Rattle.config_zones.specs.Tables.{Table}
-use Rattle.config_zones.specs.ZoneEditRecord.TheVariants.{Close}
+use Rattle.config_zones.specs.ZoneEditRecord.TheVariants.{End}
 
 module _ (table : Table) (id : ℕ) (checks : Checks) (next : ℕ) (found : ZonesAreFound) where
   abbrev config : Config
@@ -37,10 +37,10 @@ module _ (table : Table) (id : ℕ) (checks : Checks) (next : ℕ) (found : Zone
 
     ended : (b : _) → list_any (is_another apex) (sets_of (placed_in table.zones id)) ≡ b
         → end_of config (zone_with config.zones id)
-        ≡ unless (first_of (rule b refusal.HostedZoneNotEmpty ∷ [])) (after, made.Nothing)
+        ≡ unless (first_of (refuse_if b refusal.HostedZoneNotEmpty ∷ [])) (after, made.Nothing)
     ended b e =
         ap (end_of config) (found.found table.zones id apex are is)
-        ∙ ap (λ b. unless (first_of (rule b refusal.HostedZoneNotEmpty ∷ [])) (after, made.Nothing))
+        ∙ ap (λ b. unless (first_of (refuse_if b refusal.HostedZoneNotEmpty ∷ [])) (after, made.Nothing))
         e
 
     pub not_empty : list_any (is_another apex) (sets_of (placed_in table.zones id)) ≡ true
@@ -49,7 +49,7 @@ module _ (table : Table) (id : ℕ) (checks : Checks) (next : ℕ) (found : Zone
 
     pub closed : EditsAreTold
         → list_any (is_another apex) (sets_of (placed_in table.zones id)) ≡ false
-        → IsEditFor config (DeleteZone id) table (Close id)
+        → IsEditFor config (DeleteZone id) table (End id)
     closed edits e = (
       after,
       made.Nothing,

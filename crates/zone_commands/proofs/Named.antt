@@ -10,7 +10,7 @@ use Rattle.config_zones.specs.Laws.{ZonesAreFound}
 use Rattle.dns_name.specs.Suffix.{EndsWith}
 use Rattle.config_zones.specs.Zones.{AreZones, HasName, IsOne, Zone}
 use Rattle.config_zones.specs.LawsOfZoneTable.{OneApex}
-use Rattle.config_zones.specs.Looking.{Holds, IsApex}
+use Rattle.config_zones.specs.Looking.{IsZoneFor, IsApex}
 
 ends_with_itself : (name : List (List ℕ)) → EndsWith name name
 ends_with_itself name = ([], refl)
@@ -28,7 +28,7 @@ same_name name apex (front, is) le =
 
 module _ (zones : List Zone) (name : List (List ℕ)) where
   -- where the zone that holds the name has another, no zone has it
-  pub other_name : (id : ℕ) → Holds zones name id → (apex : List (List ℕ))
+  pub other_name : (id : ℕ) → IsZoneFor zones name id → (apex : List (List ℕ))
       → IsApex zones id apex → OneApex → AreZones zones → apex ≢ name → HasName zones name → ⊥
   other_name id holds apex is one are other (zone, there, its_name) =
       let longest = holds.longest zone there
@@ -47,7 +47,7 @@ module _ (zones : List Zone) (name : List (List ℕ)) where
       → HasName zones name
   has_it id apex (zone, there, its_id, its_apex) e = (zone, there, its_apex ∙ e)
 
-  pub is_told : (id : ℕ) → Holds zones name id → (apex : List (List ℕ)) → IsApex zones id apex
+  pub is_told : (id : ℕ) → IsZoneFor zones name id → (apex : List (List ℕ)) → IsApex zones id apex
       → OneApex → AreZones zones → ZonesAreFound → (b : Bool) → IsTrue b ↔ (apex ≡ name)
       → b ≡ has_zone (hosted_in zones) name
   is_told id holds apex is one are found true iff =

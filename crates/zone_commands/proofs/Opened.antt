@@ -17,7 +17,7 @@ use Rattle.config_zones.specs.NewZones.{are_most, create_refusal, create_zone, h
 use Rattle.config_zones.specs.NewZones.{is_repeated, is_zone_name, new_ns_set, new_soa_set}
 use Rattle.config_zones.specs.NewZones.{new_zone, with_zone}
 use Rattle.config_zones.specs.Sound.{IsSoundZone, Sound}
-use Rattle.config_zones.specs.Telling.{first_of, invalid, rule, unless}
+use Rattle.config_zones.specs.Telling.{first_of, invalid, refuse_if, unless}
 use Rattle.config_zones.specs.Told.{RefusalsAreTold}
 use Rattle.config_zones.specs.InputReasonRecord.TheVariants as reason
 use Rattle.config_zones.specs.MadeRecord.{Made}
@@ -25,7 +25,7 @@ use Rattle.config_zones.specs.MadeRecord.TheVariants as made
 use Rattle.config_zones.specs.RefusalRecord.{Refusal}
 use Rattle.config_zones.specs.RefusalRecord.TheVariants as refusal
 use Rattle.config_zones.proofs.Found.{in_hosted}
-use Rattle.config_zones.specs.Configured.{IsEditFor, LeadsTo, TellsEdit, config_of}
+use Rattle.config_zones.specs.Configured.{IsEditFor, EditMakes, TellsEdit, config_of}
 use Rattle.config_zones.specs.Laws.{CountsAgree, ZonesAreFound}
 use Rattle.dns_name.specs.Laws.{OneNameOfAWire}
 use Rattle.dns_name.specs.Names.{IsName}
@@ -38,7 +38,7 @@ use Rattle.zone_model.specs.Hosted.{HostedZone}
 use Rattle.config_zones.specs.Counted.{octets_in_all, sets_in_all}
 use Rattle.config_zones.specs.Edits.{Edits, IsAllowed}
 use Rattle.config_zones.specs.Tables.{Table}
-use Rattle.config_zones.specs.ZoneEditRecord.TheVariants.{Open}
+use Rattle.config_zones.specs.ZoneEditRecord.TheVariants.{Begin}
 use Rattle.config_zones.specs.DeltaRecord.{Delta}
 
 -- ---- the first of several rules
@@ -87,11 +87,11 @@ module _ (table : Table) (next : ℕ) (name : List (List ℕ)) (servers : List (
 
   abbrev named_rules : List (Option Refusal)
   named_rules =
-      rule (not (is_zone_name name)) (invalid reason.BadZoneName)
-      ∷ rule (is_repeated servers) (invalid reason.RepeatedValue)
-      ∷ rule (has_zone (hosted_in table.zones) name) (invalid reason.ZoneExists)
-      ∷ rule (are_most (length (hosted_in table.zones))) refusal.TooManyHostedZones
-      ∷ rule (next == 4294967295) refusal.IdsEnded
+      refuse_if (not (is_zone_name name)) (invalid reason.BadZoneName)
+      ∷ refuse_if (is_repeated servers) (invalid reason.RepeatedValue)
+      ∷ refuse_if (has_zone (hosted_in table.zones) name) (invalid reason.ZoneExists)
+      ∷ refuse_if (are_most (length (hosted_in table.zones))) refusal.TooManyHostedZones
+      ∷ refuse_if (next == 4294967295) refusal.IdsEnded
       ∷ []
 
   -- what is asked of the name, the servers and the number
@@ -99,32 +99,32 @@ module _ (table : Table) (next : ℕ) (name : List (List ℕ)) (servers : List (
       → TellsEdit config (CreateZone name servers) table (Err why)
   refused_early why is =
       inr (ap (λ (found : Option Refusal). unless found (after, made.Zone next))
-      (sym (early (rule (not (is_zone_name name)) (invalid reason.BadZoneName))
-      (rule (is_repeated servers) (invalid reason.RepeatedValue))
-      (rule (has_zone (hosted_in table.zones) name) (invalid reason.ZoneExists))
-      (rule (are_most (length (hosted_in table.zones))) refusal.TooManyHostedZones)
-      (rule (next == 4294967295) refusal.IdsEnded) (store_refusal after.zones) why is)))
+      (sym (early (refuse_if (not (is_zone_name name)) (invalid reason.BadZoneName))
+      (refuse_if (is_repeated servers) (invalid reason.RepeatedValue))
+      (refuse_if (has_zone (hosted_in table.zones) name) (invalid reason.ZoneExists))
+      (refuse_if (are_most (length (hosted_in table.zones))) refusal.TooManyHostedZones)
+      (refuse_if (next == 4294967295) refusal.IdsEnded) (store_refusal after.zones) why is)))
 
   module _ (none : None ≡ first_of named_rules) where
     last_rule : create_refusal config name servers ≡ store_refusal after.zones
     last_rule =
-        late (rule (not (is_zone_name name)) (invalid reason.BadZoneName))
-        (rule (is_repeated servers) (invalid reason.RepeatedValue))
-        (rule (has_zone (hosted_in table.zones) name) (invalid reason.ZoneExists))
-        (rule (are_most (length (hosted_in table.zones))) refusal.TooManyHostedZones)
-        (rule (next == 4294967295) refusal.IdsEnded) (store_refusal after.zones) none
+        late (refuse_if (not (is_zone_name name)) (invalid reason.BadZoneName))
+        (refuse_if (is_repeated servers) (invalid reason.RepeatedValue))
+        (refuse_if (has_zone (hosted_in table.zones) name) (invalid reason.ZoneExists))
+        (refuse_if (are_most (length (hosted_in table.zones))) refusal.TooManyHostedZones)
+        (refuse_if (next == 4294967295) refusal.IdsEnded) (store_refusal after.zones) none
 
-    abbrev none_of_them : (rule (not (is_zone_name name)) (invalid reason.BadZoneName) ≡ None)
-        × (rule (is_repeated servers) (invalid reason.RepeatedValue) ≡ None)
-        × (rule (has_zone (hosted_in table.zones) name) (invalid reason.ZoneExists) ≡ None)
-        × (rule (are_most (length (hosted_in table.zones))) refusal.TooManyHostedZones ≡ None)
-        × (rule (next == 4294967295) refusal.IdsEnded ≡ None)
+    abbrev none_of_them : (refuse_if (not (is_zone_name name)) (invalid reason.BadZoneName) ≡ None)
+        × (refuse_if (is_repeated servers) (invalid reason.RepeatedValue) ≡ None)
+        × (refuse_if (has_zone (hosted_in table.zones) name) (invalid reason.ZoneExists) ≡ None)
+        × (refuse_if (are_most (length (hosted_in table.zones))) refusal.TooManyHostedZones ≡ None)
+        × (refuse_if (next == 4294967295) refusal.IdsEnded ≡ None)
     none_of_them =
-        each_none (rule (not (is_zone_name name)) (invalid reason.BadZoneName))
-        (rule (is_repeated servers) (invalid reason.RepeatedValue))
-        (rule (has_zone (hosted_in table.zones) name) (invalid reason.ZoneExists))
-        (rule (are_most (length (hosted_in table.zones))) refusal.TooManyHostedZones)
-        (rule (next == 4294967295) refusal.IdsEnded) none
+        each_none (refuse_if (not (is_zone_name name)) (invalid reason.BadZoneName))
+        (refuse_if (is_repeated servers) (invalid reason.RepeatedValue))
+        (refuse_if (has_zone (hosted_in table.zones) name) (invalid reason.ZoneExists))
+        (refuse_if (are_most (length (hosted_in table.zones))) refusal.TooManyHostedZones)
+        (refuse_if (next == 4294967295) refusal.IdsEnded) none
 
     module _ (agree : CountsAgree) where
       -- all zones are full where they would be with its two sets
@@ -144,14 +144,14 @@ module _ (table : Table) (next : ℕ) (name : List (List ℕ)) (servers : List (
           → TellsEdit config (CreateZone name servers) table (Err refusal.StoreFull)
       refused_full over =
           inr (ap (λ (found : Option Refusal). unless found (after, made.Zone next))
-          (sym (last_rule ∙ ap (λ b. rule b refusal.StoreFull) (full_is ∙ over))))
+          (sym (last_rule ∙ ap (λ b. refuse_if b refusal.StoreFull) (full_is ∙ over))))
 
       accepted : is_over (sets_in_all table.zones + 2)
           (octets_in_all table.zones + sum_by (λ set. length (set_octets set)) sets) ≡ false
           → Ok (after, made.Zone next) ≡ create_zone config name servers
       accepted over =
           ap (λ (found : Option Refusal). unless found (after, made.Zone next))
-          (sym (last_rule ∙ ap (λ b. rule b refusal.StoreFull) (full_is ∙ over)))
+          (sym (last_rule ∙ ap (λ b. refuse_if b refusal.StoreFull) (full_is ∙ over)))
 
     module _ (law : OneNameOfAWire) (told : RefusalsAreTold) (is_name : IsName name)
         (names : AllByRecursion IsName servers) (four : length servers ≡ 4) where
@@ -179,7 +179,7 @@ module _ (table : Table) (next : ℕ) (name : List (List ℕ)) (servers : List (
             (all_at (λ (z : HostedZone). (1 ≤ z.id) × (z.id < next)) (hosted_in table.zones)
             (hosted zone) sound.numbers (in_hosted table.zones zone there)).1
 
-        allowed : IsAllowed table.zones (Open next name sets)
+        allowed : IsAllowed table.zones (Begin next name sets)
         allowed = (
           λ has. (let lt = below has.0 has.1 in let same = has.2 in omega (arith, lt, same)),
           λ has. has_none has,
@@ -197,7 +197,7 @@ module _ (table : Table) (next : ℕ) (name : List (List ℕ)) (servers : List (
         pub opened : CountsAgree → EditsAreTold
             → is_over (sets_in_all table.zones + 2)
             (octets_in_all table.zones + sum_by (λ set. length (set_octets set)) sets) ≡ false
-            → IsEditFor config (CreateZone name servers) table (Open next name sets)
+            → IsEditFor config (CreateZone name servers) table (Begin next name sets)
         opened agree edits over = (
           after,
           made.Zone next,

@@ -8,7 +8,7 @@ ghost use Rattle.config_zones.specs.NewZones.{is_another, is_of_zone};
 ghost use Rattle.config_zones.specs.Configured.{TellsEditOnly, config_of};
 ghost use Rattle.config_zones.specs.Holding.{IsHolding};
 ghost use Rattle.config_zones.specs.Zones.{placed_in};
-ghost use Rattle.zone_model.specs.Placed.{sets_of};
+ghost use Rattle.zone_model.specs.Slotted.{sets_of};
 
 use config_zones::{Refusal, Scratch, ZoneEdit, Zones, edits_are_told, hold_at, zones_are_found};
 use dns_name::Name;
@@ -31,7 +31,7 @@ pub fn delete_zone(zones: &Zones, id: u32, scratch: &mut Scratch) -> Result<Zone
     if has_another(zones, id, &apex, scratch) {
         return Err(Refusal::HostedZoneNotEmpty);
     }
-    Ok(ZoneEdit::Close(id))
+    Ok(ZoneEdit::End(id))
 }
 
 /// Whether a zone has a set other than the NS and SOA sets of its apex.

@@ -9,7 +9,7 @@ ghost use Rattle.config_zones.specs.Batches.{is_over};
 ghost use Rattle.config_zones.specs.LawsOfConfigModel.{IsBounded};
 ghost use Rattle.config_zones.specs.NewZones.{are_most, has_zone, is_repeated, is_zone_name};
 ghost use Rattle.config_zones.specs.Sound.{Sound};
-ghost use Rattle.config_zones.specs.Telling.{first_of, invalid, rule};
+ghost use Rattle.config_zones.specs.Telling.{first_of, invalid, refuse_if};
 ghost use Rattle.config_zones.specs.InputReasonRecord.TheVariants as reason;
 ghost use Rattle.config_zones.specs.RefusalRecord.TheVariants as refusal;
 ghost use Rattle.config_zones.specs.Configured.{TellsEdit, config_of};
@@ -65,7 +65,7 @@ pub fn create_zone(
     if is_over_with(zones, sets.as_slice()) {
         return Err(Refusal::StoreFull);
     }
-    Ok(ZoneEdit::Open {
+    Ok(ZoneEdit::Begin {
         zone: next,
         name: *name,
         sets: Sets::from_vec(sets),
@@ -93,11 +93,11 @@ fn four_names(servers: &[Name; 4])
 /// The first refusal of a new zone, but for the bounds of all zones' sets.
 fn named_refusal(zones: &Zones, next: u32, name: &Name, servers: &[Name]) -> Option<Refusal>
     ensures { result ≡ first_of (
-        rule (not (is_zone_name name.now)) (invalid reason.BadZoneName)
-        ∷ rule (is_repeated servers.now) (invalid reason.RepeatedValue)
-        ∷ rule (has_zone (hosted_in zones.now.zones) name.now) (invalid reason.ZoneExists)
-        ∷ rule (are_most (length (hosted_in zones.now.zones))) refusal.TooManyHostedZones
-        ∷ rule (next == 4294967295) refusal.IdsEnded
+        refuse_if (not (is_zone_name name.now)) (invalid reason.BadZoneName)
+        ∷ refuse_if (is_repeated servers.now) (invalid reason.RepeatedValue)
+        ∷ refuse_if (has_zone (hosted_in zones.now.zones) name.now) (invalid reason.ZoneExists)
+        ∷ refuse_if (are_most (length (hosted_in zones.now.zones))) refusal.TooManyHostedZones
+        ∷ refuse_if (next == 4294967295) refusal.IdsEnded
         ∷ []) }
 {
     counts_agree();

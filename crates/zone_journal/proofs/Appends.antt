@@ -12,7 +12,7 @@ use Rattle.file_building.proofs.AppendLemmas.{was_told}
 use Rattle.zone_journal.specs.Pairs.{Yields}
 use Rattle.zone_journal.specs.declared.answers.Side.TheVariants.{A, B}
 use Rattle.file_building.specs.Building.{Plan}
-use Rattle.zone_journal.specs.Standing.{State, PlanFits, HasCopied, Stands, planned}
+use Rattle.zone_journal.specs.Standing.{State, PlanFits, HasCopied, StandsWith, planned}
 use Rattle.zone_journal.specs.Appending.{AppendLeaves, MayLeave, Fits}
 use Rattle.file_building.proofs.Gates.{is_open, has_generation}
 
@@ -62,7 +62,7 @@ ends_there at x ends g s es o = let one =
     ∙ (λ i. length (front (one.generation i) (one.snapshot i) (one.entries i)))
 
 module _ {D : Type 0} (reading : D → Option (List ℕ)) (images : D → List ℕ
-    → Type 0) (v : State) (old new other : D) (stands : Stands reading images v old other)
+    → Type 0) (v : State) (old new other : D) (stands : StandsWith reading images v old other)
     (e : List ℕ) (fits : Fits v (length e))
     (untold : reading old ≡ None → reading new ≡ None)
     (leaves : (g : ℕ) (s : List ℕ) (es : List (List ℕ)) (x : List ℕ) → reading old ≡ Some x
@@ -137,7 +137,7 @@ module _ {D : Type 0} (reading : D → Option (List ℕ)) (images : D → List �
             ∷ body e) within) ∙ ap (take (p.next - 1)) (sym more);
       }
 
-  pub stands_on : Stands reading images after new other
+  pub stands_on : StandsWith reading images after new other
   stands_on = record {
     journal = ends;
     generation = generation;
@@ -150,7 +150,7 @@ module _ {D : Type 0} (reading : D → Option (List ℕ)) (images : D → List �
   }
 
 module _ {D : Type 0} (reading : D → Option (List ℕ)) (images : D → List ℕ
-    → Type 0) (v : State) (old new other : D) (stands : Stands reading images v old other)
+    → Type 0) (v : State) (old new other : D) (stands : StandsWith reading images v old other)
     (e : List ℕ) (fits : Fits v (length e))
     (untold : reading old ≡ None → reading new ≡ None) where
   -- by the answer of the append to the file
@@ -159,9 +159,9 @@ module _ {D : Type 0} (reading : D → Option (List ℕ)) (images : D → List �
       → ((g : ℕ) (s : List ℕ) (es : List (List ℕ)) (x : List ℕ) → reading old ≡ Some x
       → OpensTo x g s es → (after : List ℕ) × (reading new ≡ Some after)
       × FileLeaves r g s es e after)
-      → UnlessFault r (Stands reading images (record v { at = at }) new other)
+      → UnlessFault r (StandsWith reading images (record v { at = at }) new other)
   unless appended.Done at moves cause ends leaves =
-      subst (λ n. Stands reading images (record v { at = n }) new other) (sym moves)
+      subst (λ n. StandsWith reading images (record v { at = n }) new other) (sym moves)
       (stands_on reading images v old new other stands e fits untold leaves
       (subst (λ n. EndsOn reading images n new) moves ends))
   unless (appended.Full length) at moves cause ends leaves =

@@ -9,7 +9,7 @@ use Rattle.file_building.specs.JournalFaultRecord.{JournalFault}
 use Rattle.file_building.specs.JournalFaultRecord.TheVariants as journal
 use Rattle.zone_journal.specs.Pairs.{IsActive, Yields, active_of, other_of}
 use Rattle.file_building.specs.Building.{Plan}
-use Rattle.zone_journal.specs.Standing.{State, Reads, Stands}
+use Rattle.zone_journal.specs.Standing.{State, ReadsWith, StandsWith}
 use Rattle.zone_journal.specs.Opening.{BeginGives, OpenGives, IsNoStore, NextGives, OnNone, UnlessSome, IsNoMore, on_side}
 use Rattle.zone_journal.specs.declared.answers.Side.{Side}
 use Rattle.zone_journal.specs.declared.answers.Side.TheVariants.{A, B}
@@ -57,8 +57,8 @@ next_gives (Err journal.OutOfMemory) old new active s es moved gives = stayed ol
 pub stands_there : {D : Type 0} (reading : D → Option (List ℕ)) (images : D → List ℕ
     → Type 0) (moment : D → ℕ) (images_since : D → ℕ → List ℕ
     → Type 0) (v : State) (old new other : D)
-    → Reads reading images v old other → Rests reading images moment images_since old new → (at : ℕ)
-    → EndsOn reading images at new → Stands reading images (record v { at = at }) new other
+    → ReadsWith reading images v old other → Rests reading images moment images_since old new → (at : ℕ)
+    → EndsOn reading images at new → StandsWith reading images (record v { at = at }) new other
 stands_there reading images moment images_since v old new other reads rests at ends = record {
   journal = ends;
   generation = λ x told. reads.generation x (sym rests.reads ∙ told);
@@ -78,8 +78,8 @@ stands_there reading images moment images_since v old new other reads rests at e
 module _ {D : Type 0} (reading : D → Option (List ℕ)) (images : D → List ℕ → Type 0) (moment : D
     → ℕ) (images_since : D → ℕ → List ℕ → Type 0)
     (v : State) (old new other : D) (rests : Rests reading images moment images_since old new) where
-  pub reads_still : Reads reading images v old other → (at : ℕ) → ReadsFile reading images at new
-      → Reads reading images (record v { at = at }) new other
+  pub reads_still : ReadsWith reading images v old other → (at : ℕ) → ReadsFile reading images at new
+      → ReadsWith reading images (record v { at = at }) new other
   reads_still reads at here = record {
     journal = here;
     generation = λ x told. reads.generation x (sym rests.reads ∙ told);
@@ -89,7 +89,7 @@ module _ {D : Type 0} (reading : D → Option (List ℕ)) (images : D → List �
     no_plan = reads.no_plan;
   }
 
-  pub stands_still : Stands reading images v old other → Stands reading images v new other
+  pub stands_still : StandsWith reading images v old other → StandsWith reading images v new other
   stands_still stands = record {
     journal = record {
       within = stands.journal.within;
@@ -105,17 +105,17 @@ module _ {D : Type 0} (reading : D → Option (List ℕ)) (images : D → List �
     copied = λ p is x y told_x told_y. stands.copied p is x y (sym rests.reads ∙ told_x) told_y;
   }
 
-  pub stands_at : Stands reading images v old other → (at : ℕ) → at ≡ v.at
-      → Stands reading images (record v { at = at }) new other
+  pub stands_at : StandsWith reading images v old other → (at : ℕ) → at ≡ v.at
+      → StandsWith reading images (record v { at = at }) new other
   stands_at stands at same =
-      subst (λ n. Stands reading images (record v { at = n }) new other) (sym same)
+      subst (λ n. StandsWith reading images (record v { at = n }) new other) (sym same)
       (stands_still stands)
 
   pub at_none : (r : Result (Option (Vec ℕ Global)) JournalFault) (side : Side) (at : ℕ)
       → FileOnNone r (EndsOn reading images at new)
       → FileUnlessSome r (at ≡ v.at)
-      → (Reads reading images v old other ⊎ Stands reading images v old other)
-      → OnNone (on_side side r) (Stands reading images (record v { at = at }) new other)
+      → (ReadsWith reading images v old other ⊎ StandsWith reading images v old other)
+      → OnNone (on_side side r) (StandsWith reading images (record v { at = at }) new other)
   at_none (Ok (Some entry)) side at ends stays on = tt
   at_none (Ok None) side at ends stays on =
       ⊎_elim (λ reads. stands_there reading images moment images_since v old new other reads rests
@@ -126,8 +126,8 @@ module _ {D : Type 0} (reading : D → Option (List ℕ)) (images : D → List �
 
   pub unless_some : (r : Result (Option (Vec ℕ Global)) JournalFault) (side : Side) (at : ℕ)
       → FileUnlessSome r (at ≡ v.at)
-      → Stands reading images v old other
-      → UnlessSome (on_side side r) (Stands reading images (record v { at = at }) new other)
+      → StandsWith reading images v old other
+      → UnlessSome (on_side side r) (StandsWith reading images (record v { at = at }) new other)
   unless_some (Ok (Some entry)) side at stays stands = tt
   unless_some (Ok None) side at stays stands = stands_at stands at stays
   unless_some (Err (journal.Bad place)) side at stays stands = stands_at stands at stays

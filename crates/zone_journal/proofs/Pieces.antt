@@ -13,7 +13,7 @@ use Rattle.zone_journal.specs.Pairs.{Yields, IsBelow, OpensPair, opposite}
 use Rattle.zone_journal.specs.declared.answers.Side.{Side}
 use Rattle.zone_journal.specs.declared.answers.Side.TheVariants.{A, B}
 use Rattle.file_building.specs.Building.{Plan, IsShut, gate_opened}
-use Rattle.zone_journal.specs.Standing.{State, PlanFits, IsUnderway, HasCopied, Stands, planned, planned_length, left_of}
+use Rattle.zone_journal.specs.Standing.{State, PlanFits, IsUnderway, HasCopied, StandsWith, planned, planned_length, left_of}
 use Rattle.zone_journal.specs.Compacting.{with_plan, IsLast, IsSince, IsOldOrNew, YieldsOrOpens, OtherLeft, PieceLeaves}
 use Rattle.zone_journal.specs.declared.answers.Piece.{Piece}
 use Rattle.zone_journal.specs.declared.answers.Piece.TheVariants as piece
@@ -35,7 +35,7 @@ same_plan p q is = Prim.cc
 -- the compaction's gate was closed
 module _ {D : Type 0} (reading : D → Option (List ℕ)) (images : D → List ℕ
     → Type 0) (v : State) (p : Plan) (active other new : D)
-    (stands : Stands reading images (with_plan v p) active other) (first : p.next ≡ 0)
+    (stands : StandsWith reading images (with_plan v p) active other) (first : p.next ≡ 0)
     (untold : reading other ≡ None → reading new ≡ None) (closed : (y : List ℕ)
     → reading other ≡ Some y → (reading new ≡ Some (closed_file y))
     × Only (closed_file y) (images new)) where
@@ -57,7 +57,7 @@ module _ {D : Type 0} (reading : D → Option (List ℕ)) (images : D → List �
   fits = let f = stands.plan p refl in
       record { generation = f.generation; from = f.from; length = f.length; next = f.next }
 
-  pub closed_stands : Stands reading images (with_plan v (record p { next = 1 })) active new
+  pub closed_stands : StandsWith reading images (with_plan v (record p { next = 1 })) active new
   closed_stands = record {
     journal = stands.journal;
     generation = stands.generation;
@@ -263,7 +263,7 @@ old_below B h n is = omega (arith, is)
 module _ {D : Type 0} (reading : D → Option (List ℕ)) (images : D → List ℕ → Type 0) (moment : D
     → ℕ) (images_since : D → ℕ → List ℕ
     → Type 0) (v : State) (p : Plan) (active new_active other new : D)
-    (stands : Stands reading images (with_plan v p) active other) (n : ℕ) (piece : List ℕ)
+    (stands : StandsWith reading images (with_plan v p) active other) (n : ℕ) (piece : List ℕ)
     (one : 1 ≤ p.next) (room : n + 2 ≤ left_of v p) (long : length piece ≡ n)
     (rests : Rests reading images moment images_since active new_active) (untold : reading other
     ≡ None → reading new ≡ None)
@@ -342,7 +342,7 @@ module _ {D : Type 0} (reading : D → Option (List ℕ)) (images : D → List �
             one under.reaches long copy.bytes from_planned);
       }
 
-  pub more_stands : Stands reading images (with_plan v (record p { next = p.next + n })) new_active
+  pub more_stands : StandsWith reading images (with_plan v (record p { next = p.next + n })) new_active
       new
   more_stands = record {
     journal = record {
@@ -368,7 +368,7 @@ module _ {D : Type 0} (reading : D → Option (List ℕ)) (images : D → List �
 -- the new file was opened
 module _ {D : Type 0} (reading : D → Option (List ℕ)) (images : D → List ℕ
     → Type 0) (v : State) (p : Plan) (active other : D)
-    (stands : Stands reading images (with_plan v p) active other) (last : IsLast v p) where
+    (stands : StandsWith reading images (with_plan v p) active other) (last : IsLast v p) where
   short : length p.snapshot < 2 ^ 32
   short = omega (arith, (stands.plan p refl).length)
 
@@ -430,7 +430,7 @@ module _ {D : Type 0} (reading : D → Option (List ℕ)) (images : D → List �
     never q is = Prim.cc
 
     pub new_stands : EndsOn reading images (planned_length v p - 1) new
-        → Stands reading images
+        → StandsWith reading images
         (record {
           side = opposite v.side;
           generation = v.generation + 1;
@@ -520,9 +520,9 @@ first v snapshot = record { snapshot = snapshot; from = v.at; next = 0 }
 -- a compaction begins where the journal stands
 pub begun_stands : {D : Type 0} (reading : D → Option (List ℕ)) (images : D → List ℕ
     → Type 0) (v : State) (snapshot : List ℕ) (active other : D)
-    → Stands reading images v active other → v.plan ≡ None → length snapshot ≤ 268435435
+    → StandsWith reading images v active other → v.plan ≡ None → length snapshot ≤ 268435435
     → v.generation + 1 < 2 ^ 64
-    → Stands reading images (with_plan v (record { snapshot = snapshot; from = v.at; next = 0 }))
+    → StandsWith reading images (with_plan v (record { snapshot = snapshot; from = v.at; next = 0 }))
     active other
 begun_stands reading images v snapshot active other stands none short fits = record {
   journal = stands.journal;

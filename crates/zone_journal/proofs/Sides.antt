@@ -4,7 +4,7 @@ use Rattle.file_building.specs.Layout.{OpensTo}
 use Rattle.zone_journal.specs.Pairs.{OpensPair, Yields, active_of, other_of}
 use Rattle.zone_journal.specs.declared.answers.Side.{Side}
 use Rattle.zone_journal.specs.declared.answers.Side.TheVariants.{A, B}
-use Rattle.zone_journal.specs.Standing.{State, Stands, StandsOn}
+use Rattle.zone_journal.specs.Standing.{State, StandsWith, StandsOn}
 use Rattle.file_building.proofs.Gates.{has_generation}
 use Rattle.zone_journal.proofs.PairLemmas.{opens_by_a, opens_by_b}
 use Rattle.zone_journal.proofs.Appends.{ends_open}
@@ -26,7 +26,7 @@ module _ {D : Type 0} (reading : D → Option (List ℕ)) (images : D → List �
   pub of_a : v.side ≡ A → Sided A v.generation (images a) (images b) x y n s es
   of_a side =
       let here =
-      subst (λ q. Stands reading images v (active_of q a b) (other_of q a b)) side stands in
+      subst (λ q. StandsWith reading images v (active_of q a b) (other_of q a b)) side stands in
       let all =
       λ (c : List ℕ) (now : images b c). subst (λ q. Yields q v.generation c) side
       (here.yields y ty c now) in
@@ -45,7 +45,7 @@ module _ {D : Type 0} (reading : D → Option (List ℕ)) (images : D → List �
   pub of_b : v.side ≡ B → Sided B v.generation (images b) (images a) y x n s es
   of_b side =
       let here =
-      subst (λ q. Stands reading images v (active_of q a b) (other_of q a b)) side stands in
+      subst (λ q. StandsWith reading images v (active_of q a b) (other_of q a b)) side stands in
       let all =
       λ (c : List ℕ) (now : images a c). subst (λ q. Yields q v.generation c) side
       (here.yields x tx c now) in

@@ -4,13 +4,13 @@ use Rattle.std.proofs.lemmas.Bool.{cases_eq}
 use Rattle.file_building.specs.Disk.{Torn, Only, Rests, LeavesOnly, written}
 use Rattle.file_building.proofs.Moments.{only_still}
 use Rattle.zone_journal.specs.Pairs.{Unwritten}
-use Rattle.file_building.specs.Synced.{OldOrTorn, Keeps}
+use Rattle.file_building.specs.Synced.{OldOrTorn, WritesSynced}
 use Rattle.file_building.specs.DoneRecord.{Done}
 use Rattle.file_building.specs.DoneRecord.TheVariants as done
 use Rattle.file_building.specs.Layout.{IsOpen, OpensTo}
 use Rattle.file_building.specs.Closing.{closed_file, IsWholeOrShut}
 use Rattle.file_building.specs.Building.{IsShut}
-use Rattle.zone_journal.specs.Making.{empty_snapshot, empty_store, store_over, IsNoneOrEmpty, Makes, MakesFrom}
+use Rattle.zone_journal.specs.Making.{empty_snapshot, empty_store, store_over, IsNoneOrEmpty, WritesEmpty, NoneOrEmptyFrom}
 use Rattle.file_building.proofs.Gates.{not_open, torn_first}
 
 abbrev pub closed_gate : List ℕ → ℕ
@@ -107,8 +107,8 @@ opening bytes images only c (inr (d, was, torn)) =
     ]
 
 pub makes : (r : Done) (bytes : List ℕ) (after : Option (List ℕ)) (images : List ℕ → Type 0)
-    → Keeps r (written (closed_file bytes) 1 empty_store) 0 (1 ∷ []) after images
-    → Makes r bytes after images
+    → WritesSynced r (written (closed_file bytes) 1 empty_store) 0 (1 ∷ []) after images
+    → WritesEmpty r bytes after images
 makes done.Whole bytes after images kept =
     subst (λ l. (after ≡ Some l) × Only l images) (made bytes) kept
 makes done.Failed bytes after images kept = kept
@@ -124,7 +124,7 @@ module _ {D : Type 0} (reading : D → Option (List ℕ)) (images : D → List �
       → Only y (images b_synced) → (IsOpen x → ⊥) → (IsOpen y → ⊥)
       → LeavesOnly moment images_since a_seen a_new IsNoneOrEmpty
       → ((now : List ℕ) × (reading a_new ≡ Some now))
-      → MakesFrom reading images moment images_since x y a_old a_new b_old b_seen
+      → NoneOrEmptyFrom reading images moment images_since x y a_old a_new b_old b_seen
   made_from a_old a_synced a_seen a_new b_old b_synced b_seen x y a_same a_rests b_same b_rests only
       a_shut b_shut run told = record {
         a_shut = a_shut;
@@ -153,7 +153,7 @@ module _ {D : Type 0} (reading : D → Option (List ℕ)) (images : D → List �
       a_later = omega (arith, a_same.later, a_rests.at_moment)
 
 pub makes_told : (r : Done) (bytes : List ℕ) (after : Option (List ℕ)) (images : List ℕ → Type 0)
-    → Makes r bytes after images
+    → WritesEmpty r bytes after images
     → (now : List ℕ) × (after ≡ Some now)
 makes_told done.Whole bytes after images made = (store_over bytes, made.0)
 makes_told done.Failed bytes after images made = made

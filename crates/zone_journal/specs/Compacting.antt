@@ -3,7 +3,7 @@ use Rattle.std.specs.Prelude.{◌≡◌, ◌⊎◌, ℕ, ◌+◌, ◌-◌, ◌<�
 use Rattle.file_building.specs.Layout.{front, OpensTo}
 use Rattle.zone_journal.specs.Pairs.{OpensPair, Yields, opposite}
 use Rattle.file_building.specs.Building.{Plan}
-use Rattle.zone_journal.specs.Standing.{State, Stands, planned_length, left_of}
+use Rattle.zone_journal.specs.Standing.{State, StandsWith, planned_length, left_of}
 use Rattle.zone_journal.specs.declared.answers.Begun.{Begun}
 use Rattle.zone_journal.specs.declared.answers.Begun.TheVariants as begun
 use Rattle.zone_journal.specs.declared.answers.Piece.{Piece}
@@ -76,8 +76,8 @@ OtherLeft piece.DiskFault v p since other = YieldsOrOpens v p since other
 
 -- The journal stands after a piece: at Done the other disk is the active one.
 abbrev pub PieceStands : {D : Type 0} → (D → Option (List ℕ)) → (D → List ℕ → Type 0) → Piece → State → (active other : D) → Type 0
-PieceStands reading images (piece.Running left) v active other = Stands reading images v active other
-PieceStands reading images (piece.Done generation) v active other = Stands reading images v other active
+PieceStands reading images (piece.Running left) v active other = StandsWith reading images v active other
+PieceStands reading images (piece.Done generation) v active other = StandsWith reading images v other active
 PieceStands reading images piece.DiskFault v active other = ⊤
 
 -- P, but where a disk failed

@@ -26,9 +26,9 @@ abbrev pub IsNoneOrEmpty : List ℕ → Type 0
 IsNoneOrEmpty file = (¬ IsOpen file) ⊎ OpensTo file 1 empty_snapshot []
 
 -- the empty store is read, and is the only image
-abbrev pub Makes : Done → List ℕ → Option (List ℕ) → (List ℕ → Type 0) → Type 0
-Makes done.Whole bytes after images = (after ≡ Some (store_over bytes)) × Only (store_over bytes) images
-Makes done.Failed bytes after images = (now : List ℕ) × (after ≡ Some now)
+abbrev pub WritesEmpty : Done → List ℕ → Option (List ℕ) → (List ℕ → Type 0) → Type 0
+WritesEmpty done.Whole bytes after images = (after ≡ Some (store_over bytes)) × Only (store_over bytes) images
+WritesEmpty done.Failed bytes after images = (now : List ℕ) × (after ≡ Some now)
 
 -- Why each answer comes, and what is read after it: a case for each. `x` and `y` are the files of `a` and `b`.
 abbrev pub InitGives : {D : Type 0} → (D → Option (List ℕ)) → (D → List ℕ → Type 0) → Init → (x y : List ℕ) → (a b : D) → Type 0
@@ -41,7 +41,7 @@ InitGives reading images init.DiskFault x y a b = ⊤
 
 -- From the moment t of `a` and u of `b` on until now, when both had been synced and no file was open, each image pair
 -- holds no open file or the empty store. Until then a crash left what it might have left at the start.
-pub record MakesFrom {D : Type 0} (reading : D → Option (List ℕ)) (images : D → List ℕ → Type 0) (moment : D → ℕ) (images_since : D → ℕ → List ℕ → Type 0) (x y : List ℕ) (a_old a_new b_old b_new : D) : Type 0 where
+pub record NoneOrEmptyFrom {D : Type 0} (reading : D → Option (List ℕ)) (images : D → List ℕ → Type 0) (moment : D → ℕ) (images_since : D → ℕ → List ℕ → Type 0) (x y : List ℕ) (a_old a_new b_old b_new : D) : Type 0 where
   pub a_shut : ¬ IsOpen x
   pub b_shut : ¬ IsOpen y
   pub b_synced : Only y (images b_new)
@@ -63,9 +63,9 @@ CameToLook images x y a_old a_new b_old b_new =
 -- At each moment of the call, by its answer. Where a file is open in the reading, nothing is written.
 abbrev pub InitLeaves : {D : Type 0} → (D → Option (List ℕ)) → (D → List ℕ → Type 0) → (D → ℕ) → (D → ℕ → List ℕ → Type 0) → Init → (x y : List ℕ) → (a_old a_new b_old b_new : D) → Type 0
 InitLeaves reading images moment images_since init.Done x y a_old a_new b_old b_new =
-    MakesFrom reading images moment images_since x y a_old a_new b_old b_new
+    NoneOrEmptyFrom reading images moment images_since x y a_old a_new b_old b_new
 InitLeaves reading images moment images_since (init.AlreadyAStore side) x y a_old a_new b_old b_new =
     Unwritten reading images moment images_since a_old a_new
 InitLeaves reading images moment images_since init.DiskFault x y a_old a_new b_old b_new =
     (Unwritten reading images moment images_since a_old a_new × CameToLook images x y a_old a_new b_old b_new)
-    ⊎ MakesFrom reading images moment images_since x y a_old a_new b_old b_new
+    ⊎ NoneOrEmptyFrom reading images moment images_since x y a_old a_new b_old b_new

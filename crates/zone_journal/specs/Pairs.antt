@@ -59,7 +59,7 @@ pub record EachPair {D : Type 0} (moment : D → ℕ) (images_since : D → ℕ 
   pub from_b : (t : ℕ) (x y : List ℕ) → t ≤ moment b_old → images_since a_new (moment a_old) x → images_since b_new t y → images_since b_old t y ⊎ P x y
 
 -- What the two disks read as is told, and has P.
-pub record Leaves {D : Type 0} (reading : D → Option (List ℕ)) (a b : D) (P : List ℕ → List ℕ → Type 0) : Type 0 where
+pub record BothRead {D : Type 0} (reading : D → Option (List ℕ)) (a b : D) (P : List ℕ → List ℕ → Type 0) : Type 0 where
   pub x : List ℕ
   pub y : List ℕ
   pub a_reads : reading a ≡ Some x

@@ -64,7 +64,7 @@ pub record HasCopied (v : State) (p : Plan) (active other : List ℕ) : Type 0 w
   pub bytes : take (p.next - 1) (drop 1 other) ≡ take (p.next - 1) (planned (v.generation + 1) p.snapshot since)
 
 -- The journal stands with this disk as the active one and that as the other.
-pub record Stands {D : Type 0} (reading : D → Option (List ℕ)) (images : D → List ℕ → Type 0) (v : State) (active other : D) : Type 0 where
+pub record StandsWith {D : Type 0} (reading : D → Option (List ℕ)) (images : D → List ℕ → Type 0) (v : State) (active other : D) : Type 0 where
   pub journal : EndsOn reading images v.at active
   pub generation : (x : List ℕ) → reading active ≡ Some x → generation_of x ≡ v.generation
   pub fits : v.generation < 2 ^ 64
@@ -76,10 +76,10 @@ pub record Stands {D : Type 0} (reading : D → Option (List ℕ)) (images : D �
 
 -- The journal stands on the two disks.
 abbrev pub StandsOn : {D : Type 0} → (D → Option (List ℕ)) → (D → List ℕ → Type 0) → State → (a b : D) → Type 0
-StandsOn reading images v a b = Stands reading images v (active_of v.side a b) (other_of v.side a b)
+StandsOn reading images v a b = StandsWith reading images v (active_of v.side a b) (other_of v.side a b)
 
 -- The journal reads with this disk as the active one and that as the other.
-pub record Reads {D : Type 0} (reading : D → Option (List ℕ)) (images : D → List ℕ → Type 0) (v : State) (active other : D) : Type 0 where
+pub record ReadsWith {D : Type 0} (reading : D → Option (List ℕ)) (images : D → List ℕ → Type 0) (v : State) (active other : D) : Type 0 where
   pub journal : ReadsFile reading images v.at active
   pub generation : (x : List ℕ) → reading active ≡ Some x → generation_of x ≡ v.generation
   pub fits : v.generation < 2 ^ 64
@@ -89,7 +89,7 @@ pub record Reads {D : Type 0} (reading : D → Option (List ℕ)) (images : D �
 
 -- The journal reads on the two disks.
 abbrev pub ReadsOn : {D : Type 0} → (D → Option (List ℕ)) → (D → List ℕ → Type 0) → State → (a b : D) → Type 0
-ReadsOn reading images v a b = Reads reading images v (active_of v.side a b) (other_of v.side a b)
+ReadsOn reading images v a b = ReadsWith reading images v (active_of v.side a b) (other_of v.side a b)
 
 -- The journal is at a gate of its file: it reads on there, or it stands at the closed gate, with a compaction in progress
 -- or without.

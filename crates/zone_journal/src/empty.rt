@@ -5,7 +5,7 @@ ghost use Rattle.octets.specs.Counts.{Rose};
 ghost use Rattle.file_building.specs.Disk.{Only, LeavesOnly};
 ghost use Rattle.file_building.specs.Layout.{IsOpen};
 ghost use Rattle.zone_journal.specs.Pairs.{Unwritten};
-ghost use Rattle.zone_journal.specs.Making.{Makes, InitGives, InitLeaves, IsNoneOrEmpty};
+ghost use Rattle.zone_journal.specs.Making.{WritesEmpty, InitGives, InitLeaves, IsNoneOrEmpty};
 
 use crate::start::settle;
 use crate::{Init, Side};
@@ -66,7 +66,7 @@ fn make_store<D: Disk>(disk: &mut D) -> Done
     requires durable { (bytes : List ℕ) → D.reading disk.old ≡ Some bytes → Only bytes (D.images disk.old) }
     requires shut { (bytes : List ℕ) → D.reading disk.old ≡ Some bytes → ¬ IsOpen bytes }
     ensures made { (bytes : List ℕ) → D.reading disk.old ≡ Some bytes
-        → Makes result bytes (D.reading disk.new) (D.images disk.new) }
+        → WritesEmpty result bytes (D.reading disk.new) (D.images disk.new) }
     ensures any_moment { (bytes : List ℕ) → D.reading disk.old ≡ Some bytes
         → LeavesOnly D.moment D.images_since disk.old disk.new IsNoneOrEmpty }
     ensures counts { D.faults disk.old ≤ D.faults disk.new }

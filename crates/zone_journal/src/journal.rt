@@ -6,9 +6,9 @@ ghost use Rattle.file_building.specs.Disk.{Only, LeavesOnly, Rests};
 ghost use Rattle.file_building.specs.Append.{UnlessFault as UnlessAppendFault, OnFull, AppendLeaves as FileLeaves, MayLeave as FileMayLeave};
 ghost use Rattle.file_building.specs.Layout.{OpensTo, front};
 ghost use Rattle.file_building.specs.Read.{IsRead};
-ghost use Rattle.zone_journal.specs.Pairs.{OpensPair, EachPair, Leaves, Unwritten, active_of, other_of, opposite};
+ghost use Rattle.zone_journal.specs.Pairs.{OpensPair, EachPair, BothRead, Unwritten, active_of, other_of, opposite};
 ghost use Rattle.file_building.specs.Building.{Plan};
-ghost use Rattle.zone_journal.specs.Standing.{PlanFits, left_of, progress_of, StandsOn, ReadsOn, IsOn, Stands, Reads};
+ghost use Rattle.zone_journal.specs.Standing.{PlanFits, left_of, progress_of, StandsOn, ReadsOn, IsOn, StandsWith, ReadsWith};
 ghost use Rattle.zone_journal.specs.Appending.{AppendLeaves, MayLeave, MovesOn, HasCause, Fits, RefusesBy};
 ghost use Rattle.zone_journal.specs.Compacting.{Begins, with_plan, IsLast, IsSince, PieceStands, PieceMoves, PieceLeaves, OtherLeft, IsOldOrNew, YieldsOrOpens, UnlessFault};
 ghost use Rattle.zone_journal.specs.Opening.{OpenGives, OpenSyncs, BeginGives, NextGives, OnNone, UnlessSome, IsNoMore, IsChosen, on_side};
@@ -110,7 +110,7 @@ impl ZoneJournal {
         requires chosen { IsChosen D.reading side generation active.old other.now }
         ensures gives { (x y : List ℕ) → D.reading active.old ≡ Some x → D.reading other.now ≡ Some y
             → BeginGives side result x y }
-        ensures reads_on { IfOk result (λ opened. Reads D.reading D.images opened.0 active.new other.now) }
+        ensures reads_on { IfOk result (λ opened. ReadsWith D.reading D.images opened.0 active.new other.now) }
         ensures side { IfOk result (λ opened. opened.0.side ≡ side) }
         ensures rests { Rests D.reading D.images D.moment D.images_since active.old active.new }
         ensures counts { D.faults active.old ≤ D.faults active.new }
@@ -215,18 +215,18 @@ impl ZoneJournal {
         active: &mut D,
         other: &D,
     ) -> Result<Option<Vec<u8>>, OpenFault>
-        requires { Reads D.reading D.images self.old active.old other.now
-            ⊎ Stands D.reading D.images self.old active.old other.now }
+        requires { ReadsWith D.reading D.images self.old active.old other.now
+            ⊎ StandsWith D.reading D.images self.old active.old other.now }
         ensures gives { (s : List ℕ) (es : List (List ℕ)) (x : List ℕ)
             → D.reading active.old ≡ Some x → IsRead self.old.at x self.old.generation s es
             → NextGives result self.old self.new x s es }
-        ensures reads_on { Reads D.reading D.images self.old active.old other.now
-            → Reads D.reading D.images self.new active.new other.now }
-        ensures at_end { OnNone result (Stands D.reading D.images self.new active.new other.now) }
-        ensures stands { Stands D.reading D.images self.old active.old other.now
-            → UnlessSome result (Stands D.reading D.images self.new active.new other.now) }
+        ensures reads_on { ReadsWith D.reading D.images self.old active.old other.now
+            → ReadsWith D.reading D.images self.new active.new other.now }
+        ensures at_end { OnNone result (StandsWith D.reading D.images self.new active.new other.now) }
+        ensures stands { StandsWith D.reading D.images self.old active.old other.now
+            → UnlessSome result (StandsWith D.reading D.images self.new active.new other.now) }
         ensures ended { (x : List ℕ) → D.reading active.old ≡ Some x
-            → Stands D.reading D.images self.old active.old other.now → IsNoMore result }
+            → StandsWith D.reading D.images self.old active.old other.now → IsNoMore result }
         ensures forward { IfOk result (λ entry. IsSome entry → self.old.at < self.new.at) }
         ensures side { self.new.side ≡ self.old.side }
         ensures rests { Rests D.reading D.images D.moment D.images_since active.old active.new }
@@ -247,7 +247,7 @@ impl ZoneJournal {
         ensures stands { UnlessAppendFault result (StandsOn D.reading D.images self.new a.new b.new) }
         ensures leaves { (g : ℕ) (s : List ℕ) (es : List (List ℕ)) (x y : List ℕ)
             → D.reading a.old ≡ Some x → D.reading b.old ≡ Some y → OpensPair x y g s es
-            → Leaves D.reading a.new b.new (AppendLeaves result g s es entry.now) }
+            → BothRead D.reading a.new b.new (AppendLeaves result g s es entry.now) }
         ensures moves { MovesOn result self.old (length entry.now) self.new }
 
         // At each moment every image pair opens to the old entries, with the new one or without;
@@ -277,8 +277,8 @@ impl ZoneJournal {
     }
 
     fn append_to<D: Disk>(&mut self, active: &mut D, other: &D, entry: &Entry) -> Appended
-        requires { Stands D.reading D.images self.old active.old other.now }
-        ensures stands { UnlessAppendFault result (Stands D.reading D.images self.new active.new other.now) }
+        requires { StandsWith D.reading D.images self.old active.old other.now }
+        ensures stands { UnlessAppendFault result (StandsWith D.reading D.images self.new active.new other.now) }
         ensures leaves { (g : ℕ) (s : List ℕ) (es : List (List ℕ)) (x : List ℕ)
             → D.reading active.old ≡ Some x → OpensTo x g s es
             → (after : List ℕ) × (D.reading active.new ≡ Some after)
@@ -353,7 +353,7 @@ impl ZoneJournal {
         ensures leaves { (p : Plan) (g : ℕ) (s : List ℕ) (es since : List (List ℕ)) (x y : List ℕ)
             → self.old.plan ≡ Some p → p.from ≡ length (front g s es)
             → D.reading a.old ≡ Some x → D.reading b.old ≡ Some y → OpensPair x y g s (es ++ since)
-            → Leaves D.reading a.new b.new (PieceLeaves result self.old p g s es since) }
+            → BothRead D.reading a.new b.new (PieceLeaves result self.old p g s es since) }
 
         // At each moment every image pair opens to the old file's entries, or from the last piece
         // on to the new one's.
@@ -382,7 +382,7 @@ impl ZoneJournal {
     }
 
     fn piece<D: Disk>(&mut self, plan: Compaction, active: &mut D, other: &mut D) -> Piece
-        requires stands { Stands D.reading D.images (with_plan self.old plan) active.old other.old }
+        requires stands { StandsWith D.reading D.images (with_plan self.old plan) active.old other.old }
         requires taken { self.old.plan ≡ None }
         ensures stands { PieceStands D.reading D.images result self.new active.new other.new }
         ensures moves { PieceMoves result self.old plan self.new }
@@ -409,7 +409,7 @@ impl ZoneJournal {
 
     /// Closes the gate of the other file, for a compaction that has just begun.
     fn close_old<D: Disk>(&mut self, plan: Compaction, active: &D, other: &mut D) -> Piece
-        requires stands { Stands D.reading D.images (with_plan self.old plan) active.now other.old }
+        requires stands { StandsWith D.reading D.images (with_plan self.old plan) active.now other.old }
         requires taken { self.old.plan ≡ None }
         requires first { plan.next ≡ 0 }
         ensures stands { PieceStands D.reading D.images result self.new active.now other.new }
@@ -434,7 +434,7 @@ impl ZoneJournal {
 
     /// Copies the next bytes of the file that is built.
     fn copy_next<D: Disk>(&mut self, plan: Compaction, active: &mut D, other: &mut D) -> Piece
-        requires stands { Stands D.reading D.images (with_plan self.old plan) active.old other.old }
+        requires stands { StandsWith D.reading D.images (with_plan self.old plan) active.old other.old }
         requires taken { self.old.plan ≡ None }
         requires begun { 1 ≤ plan.next }
         requires more { 2 < left_of self.old plan }
@@ -467,7 +467,7 @@ impl ZoneJournal {
 
     /// Opens the file that is built, which decides from then on.
     fn open_new<D: Disk>(&mut self, plan: Compaction, active: &D, other: &mut D) -> Piece
-        requires stands { Stands D.reading D.images (with_plan self.old plan) active.now other.old }
+        requires stands { StandsWith D.reading D.images (with_plan self.old plan) active.now other.old }
         requires taken { self.old.plan ≡ None }
         requires last { IsLast self.old plan }
         ensures stands { PieceStands D.reading D.images result self.new active.now other.new }

@@ -5,8 +5,8 @@ use Rattle.serde_json.specs.Data.{Data}
 use Rattle.serde_json.specs.Find.{as_str}
 use Rattle.line_reading.specs.Reading.{◌>>=◌, object, required, optional, each, unsupported}
 use Rattle.line_reading.specs.Reading.{holds_or_bad}
-use Rattle.line_reading.specs.Kinds.{name, flag, list, number, word, zone_id}
-use Rattle.line_words.specs.Words.{ident_of, record_type}
+use Rattle.line_reading.specs.Kinds.{name, flag, list, number, one_of_texts, zone_id}
+use Rattle.line_words.specs.Words.{ident_of_text, record_type}
 use Rattle.line_faults.specs.declared.member.Member.{Member}
 use Rattle.line_faults.specs.declared.member.Member.TheVariants as m
 use Rattle.line_faults.specs.declared.fault.LineFault.{LineFault}
@@ -67,7 +67,7 @@ items_of s = at_least_one (number_of_text 0 s)
 -- a number, or a text of digits
 abbrev pub items_if_text : Member → Data → Option (List ℕ) → Result ℕ LineFault
 items_if_text h d None = number 1 300 h d
-items_if_text h d (Some s) = word items_of h d
+items_if_text h d (Some s) = one_of_texts items_of h d
 
 unfoldable pub max_items : Member → Data → Result ℕ LineFault
 max_items h d = items_if_text h d (as_str d)
@@ -80,7 +80,7 @@ list_sets o = do
   zone ← required m.HostedZoneId zone_id o
   owner ← optional m.StartRecordName name o
   type ← optional m.StartRecordType record_type o
-  id ← optional m.StartRecordIdentifier (word ident_of) o
+  id ← optional m.StartRecordIdentifier (one_of_texts ident_of_text) o
   items ← optional m.MaxItems max_items o
   _ ← holds_or_bad (not (is_some type && not (is_some owner))) Missing m.StartRecordName
   _ ← holds_or_bad (not (is_some id && not (is_some type))) Missing m.StartRecordType

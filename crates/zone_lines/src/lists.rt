@@ -6,10 +6,10 @@ ghost use Rattle.zone_lines.specs.Zones.{list_sets, max_items, items_of, number_
 
 use dns_name::Name;
 use line_reading::{
-    LineFault, LineReason, Member, name, number_u16, object, optional, optional_word, required,
-    word, zone_id,
+    LineFault, LineReason, Member, name, number_u16, object, one_of_texts, optional, optional_word,
+    required, zone_id,
 };
-use line_words::{ident_of, record_type};
+use line_words::{ident_of_text, record_type};
 use rdata_layout::RType;
 use routing::Ident;
 use serde_json::Value;
@@ -47,7 +47,11 @@ pub fn list_sets(value: &Value) -> Result<ListOfSets, LineFault>
     let zone = zone_id(Member::HostedZoneId, required(value, Member::HostedZoneId)?)?;
     let name = optional(value, Member::StartRecordName, |m, v| name(m, v))?;
     let rtype = optional(value, Member::StartRecordType, |m, v| record_type(m, v))?;
-    let ident = optional_word(value, Member::StartRecordIdentifier, |text| ident_of(text))?;
+    let ident = optional_word(
+        value,
+        Member::StartRecordIdentifier,
+        |text| ident_of_text(text),
+    )?;
     let items = optional(value, Member::MaxItems, max_items)?;
     if rtype.is_some() && name.is_none() {
         return Err(LineFault::bad(LineReason::Missing, Member::StartRecordName));
@@ -70,7 +74,7 @@ fn max_items(member: Member, value: &Value) -> Result<u16, LineFault>
     ensures { result ≡ max_items member (view value.now) }
 {
     match value.as_str() {
-        Some(_) => word(member, value, |text| items_of(text)),
+        Some(_) => one_of_texts(member, value, |text| items_of(text)),
         None => number_u16(1, 300, member, value),
     }
 }

@@ -10,7 +10,7 @@ use Rattle.zone_changes.specs.Sets.{key_of}
 use Rattle.zone_changes.specs.Coming.{Comes}
 use Rattle.zone_changes.specs.Placing.{IsThere}
 use Rattle.zone_changes.specs.Zones.{IsAmong, IsRising}
-use Rattle.zone_changes.specs.Placed.{Placed, AreOfZone, sets_of}
+use Rattle.zone_changes.specs.Slotted.{Slotted, AreOfZone, sets_of}
 use Rattle.zone_changes.proofs.ListsOfZoneModel.{in_put, in_itself, split, split_at}
 use Rattle.zone_list.specs.declared.refs.SetRef.{SetRef}
 use Rattle.zone_list.specs.Changes.{DifferByKey, ref_in}
@@ -26,15 +26,15 @@ set_parts (y ∷ xs) (suc n) x lt = ap (λ ys. y ∷ ys) (set_parts xs n x (omeg
 -- ---- one that comes
 
 -- the sets in front of it and those behind it, and whether one with its key stood between them
-record Parts (before : List Placed) (given : Placed) (after : List Placed) : Type 0 where
-  front : List Placed
-  back : List Placed
+record Parts (before : List Slotted) (given : Slotted) (after : List Slotted) : Type 0 where
+  front : List Slotted
+  back : List Slotted
   now : after ≡ front ++ given ∷ back
   was : (before ≡ front ++ back)
       ⊎ ((old : RecordSet) × (before ≡ front ++ record { slot = given.slot; set = old } ∷ back)
       × (key_of old ≡ key_of given.set))
 
-parts : (before : List Placed) (given : Placed) (after : List Placed) → Comes before given after
+parts : (before : List Slotted) (given : Slotted) (after : List Slotted) → Comes before given after
     → Parts before given after
 parts before given after (inl r) = record {
   front = take r.at before;
@@ -55,12 +55,12 @@ parts before given after (inr p) = record {
   was = inl (split p.at before);
 }
 
-module _ (before : List Placed) (given : Placed) (after : List Placed)
+module _ (before : List Slotted) (given : Slotted) (after : List Slotted)
     (comes : Comes before given after) where
   at : Parts before given after
   at = parts before given after comes
 
-  behind_front : (p : Placed) → IsAmong (at.front ++ at.back) p → IsAmong after p
+  behind_front : (p : Slotted) → IsAmong (at.front ++ at.back) p → IsAmong after p
   behind_front p there =
       subst (λ ps. IsAmong ps p) (sym at.now) (in_put at.front at.back given p there)
 
@@ -68,30 +68,30 @@ module _ (before : List Placed) (given : Placed) (after : List Placed)
   came = subst (λ ps. IsAmong ps given) (sym at.now) (in_itself at.front at.back given)
 
   -- each key keeps its slot
-  pub keeps : (p : Placed) → IsAmong before p
-      → (q : Placed) × IsAmong after q × (key_of q.set ≡ key_of p.set) × (q.slot ≡ p.slot)
+  pub keeps : (p : Slotted) → IsAmong before p
+      → (q : Slotted) × IsAmong after q × (key_of q.set ≡ key_of p.set) × (q.slot ≡ p.slot)
   keeps p there = by at.was
     where
       by : (before ≡ at.front ++ at.back)
           ⊎ ((old : RecordSet)
           × (before ≡ at.front ++ record { slot = given.slot; set = old } ∷ at.back)
           × (key_of old ≡ key_of given.set))
-          → (q : Placed) × IsAmong after q × (key_of q.set ≡ key_of p.set) × (q.slot ≡ p.slot)
+          → (q : Slotted) × IsAmong after q × (key_of q.set ≡ key_of p.set) × (q.slot ≡ p.slot)
       by (inl e) = (p, behind_front p (subst (λ ps. IsAmong ps p) e there), refl, refl)
       by (inr (old, e, same)) =
-          let was : Placed = record { slot = given.slot; set = old } in
+          let was : Slotted = record { slot = given.slot; set = old } in
           elim (put_or_in at.front at.back was p (subst (λ ps. IsAmong ps p) e there)) [
             | inl it ↦ (
               given,
               came,
-              sym same ∙ ap (λ (x : Placed). key_of x.set) it,
-              ap (λ (x : Placed). x.slot) it,
+              sym same ∙ ap (λ (x : Slotted). key_of x.set) it,
+              ap (λ (x : Slotted). x.slot) it,
             )
             | inr rest ↦ (p, behind_front p rest, refl, refl)
           ]
 
   -- sets of other keys stay
-  pub stays : (p : Placed) → IsAmong before p → key_of p.set ≢ key_of given.set → IsAmong after p
+  pub stays : (p : Slotted) → IsAmong before p → key_of p.set ≢ key_of given.set → IsAmong after p
   stays p there other = by at.was
     where
       by : (before ≡ at.front ++ at.back)
@@ -100,14 +100,14 @@ module _ (before : List Placed) (given : Placed) (after : List Placed)
           × (key_of old ≡ key_of given.set)) → IsAmong after p
       by (inl e) = behind_front p (subst (λ ps. IsAmong ps p) e there)
       by (inr (old, e, same)) =
-          let was : Placed = record { slot = given.slot; set = old } in
+          let was : Slotted = record { slot = given.slot; set = old } in
           elim (put_or_in at.front at.back was p (subst (λ ps. IsAmong ps p) e there)) [
-            | inl it ↦ absurd (other (ap (λ (x : Placed). key_of x.set) (sym it) ∙ same))
+            | inl it ↦ absurd (other (ap (λ (x : Slotted). key_of x.set) (sym it) ∙ same))
             | inr rest ↦ behind_front p rest
           ]
 
   -- what is there now came, or was there under another key
-  pub was_there : IsRising (sets_of after) → (q : Placed) → IsAmong after q
+  pub was_there : IsRising (sets_of after) → (q : Slotted) → IsAmong after q
       → (given ≡ q) ⊎ (IsAmong before q × (key_of q.set ≢ key_of given.set))
   was_there rising q there =
       elim (put_or_in at.front at.back given q (subst (λ ps. IsAmong ps q) at.now there)) [
@@ -158,18 +158,18 @@ none_of (set ∷ sets) key all there =
 -- ---- all that come
 
 module _ (zone : ℕ) where
-  pub comings_of_zone : (before : List Placed) (sets : List RecordSet) (told : List SetRef)
-      (after : List Placed) → AreOfZone before → Comings zone before sets told after
+  pub comings_of_zone : (before : List Slotted) (sets : List RecordSet) (told : List SetRef)
+      (after : List Slotted) → AreOfZone before → Comings zone before sets told after
       → AreOfZone after
   comings_of_zone before [] told after of_zone come =
       subst AreOfZone (sym come.1) of_zone
   comings_of_zone before (set ∷ sets) told after of_zone (slot, middle, rest, one, middle_is, is_told, more) =
       comings_of_zone middle sets rest after middle_is more
 
-  pub comings_keep : (before : List Placed) (sets : List RecordSet) (told : List SetRef)
-      (after : List Placed) → Comings zone before sets told after
-      → (p : Placed) → IsAmong before p
-      → (q : Placed) × IsAmong after q × (key_of q.set ≡ key_of p.set) × (q.slot ≡ p.slot)
+  pub comings_keep : (before : List Slotted) (sets : List RecordSet) (told : List SetRef)
+      (after : List Slotted) → Comings zone before sets told after
+      → (p : Slotted) → IsAmong before p
+      → (q : Slotted) × IsAmong after q × (key_of q.set ≡ key_of p.set) × (q.slot ≡ p.slot)
   comings_keep before [] told after come p there =
       (p, subst (λ ps. IsAmong ps p) (sym come.1) there, refl, refl)
   comings_keep before (set ∷ sets) told after (slot, middle, rest, one, middle_is, is_told, more) p there =
@@ -177,9 +177,9 @@ module _ (zone : ℕ) where
       let r = comings_keep middle sets rest after more q.0 q.1 in
       (r.0, r.1, r.2 ∙ q.2, r.3 ∙ q.3)
 
-  pub comings_stay : (before : List Placed) (sets : List RecordSet) (told : List SetRef)
-      (after : List Placed) → Comings zone before sets told after
-      → (p : Placed) → IsAmong before p → (IsThere sets (key_of p.set) → ⊥) → IsAmong after p
+  pub comings_stay : (before : List Slotted) (sets : List RecordSet) (told : List SetRef)
+      (after : List Slotted) → Comings zone before sets told after
+      → (p : Slotted) → IsAmong before p → (IsThere sets (key_of p.set) → ⊥) → IsAmong after p
   comings_stay before [] told after come p there other =
       subst (λ ps. IsAmong ps p) (sym come.1) there
   comings_stay before (set ∷ sets) told after (slot, middle, rest, one, middle_is, is_told, more) p there other =
@@ -188,9 +188,9 @@ module _ (zone : ℕ) where
       (λ e. other (first_there sets set (key_of p.set) (sym e))))
       (λ later. other (later_there sets set (key_of p.set) later))
 
-  pub comings_only : (before : List Placed) (sets : List RecordSet) (told : List SetRef)
-      (after : List Placed) → Comings zone before sets told after
-      → (q : Placed) → IsAmong after q
+  pub comings_only : (before : List Slotted) (sets : List RecordSet) (told : List SetRef)
+      (after : List Slotted) → Comings zone before sets told after
+      → (q : Slotted) → IsAmong after q
       → (IsAmong before q × (IsThere sets (key_of q.set) → ⊥))
       ⊎ ((i : ℕ) × (slice_get sets i ≡ Some q.set) × (slice_get told i ≡ Some (ref_in zone q)))
   comings_only before [] told after come q there =
@@ -203,9 +203,9 @@ module _ (zone : ℕ) where
               | inl e ↦
                   inr (
                     zero,
-                    ap (λ (x : Placed). Some x.set) e,
+                    ap (λ (x : Slotted). Some x.set) e,
                     ap (λ (refs : List SetRef). slice_get refs 0) is_told
-                        ∙ ap (λ (x : Placed). Some (ref_in zone x)) e,
+                        ∙ ap (λ (x : Slotted). Some (ref_in zone x)) e,
                   )
               | inr was ↦
                   inl (was.0, not_first sets set (key_of q.set) was.1 here.1)
@@ -214,15 +214,15 @@ module _ (zone : ℕ) where
             inr (suc i, at, ap (λ (refs : List SetRef). slice_get refs (suc i)) is_told ∙ told_at)
       ]
 
-  pub comings_come : (before : List Placed) (sets : List RecordSet) (told : List SetRef)
-      (after : List Placed) → Comings zone before sets told after → DifferByKey sets
+  pub comings_come : (before : List Slotted) (sets : List RecordSet) (told : List SetRef)
+      (after : List Slotted) → Comings zone before sets told after → DifferByKey sets
       → (i : ℕ) (set : RecordSet) → slice_get sets i ≡ Some set
       → (slot : ℕ) × (slice_get told i ≡ Some (record { zone = zone; slot = slot }))
       × IsAmong after (record { slot = slot; set = set })
   comings_come before [] told after come differ i set at = absurd (grind (arith, at))
   comings_come before (first ∷ sets) told after (slot, middle, rest, one, middle_is, is_told, more) differ zero set at =
       let same : first ≡ set = grind (arith, at) in
-      let given : Placed = record { slot = slot; set = first } in
+      let given : Slotted = record { slot = slot; set = first } in
       let here : IsAmong after given =
       comings_stay middle sets rest after more given (came before given middle one)
       (none_of sets (key_of first) differ.0) in (
@@ -234,20 +234,20 @@ module _ (zone : ℕ) where
       let later = comings_come middle sets rest after more differ.1 i set at in
       (later.0, ap (λ (refs : List SetRef). slice_get refs (suc i)) is_told ∙ later.1, later.2)
 
-  pub comings_as_many : (before : List Placed) (sets : List RecordSet) (told : List SetRef)
-      (after : List Placed) → Comings zone before sets told after → length told ≡ length sets
+  pub comings_as_many : (before : List Slotted) (sets : List RecordSet) (told : List SetRef)
+      (after : List Slotted) → Comings zone before sets told after → length told ≡ length sets
   comings_as_many before [] told after come = ap length come.0
   comings_as_many before (set ∷ sets) told after (slot, middle, rest, one, middle_is, is_told, more) =
       ap length is_told ∙ ap suc (comings_as_many middle sets rest after more)
 
   -- one more that comes, where what is left was what is left of all
-  pub more_come : (before now next : List Placed) (add left : List RecordSet) (set : RecordSet)
+  pub more_come : (before now next : List Slotted) (add left : List RecordSet) (set : RecordSet)
       (slot : ℕ) (added added_now : List SetRef)
-      → ((told : List SetRef) (after : List Placed) → Comings zone now (set ∷ left) told after
+      → ((told : List SetRef) (after : List Slotted) → Comings zone now (set ∷ left) told after
       → Comings zone before add (added ++ told) after)
       → Comes now (record { slot = slot; set = set }) next → AreOfZone next
       → added_now ≡ added ++ record { zone = zone; slot = slot } ∷ []
-      → (told : List SetRef) (after : List Placed) → Comings zone next left told after
+      → (told : List SetRef) (after : List Slotted) → Comings zone next left told after
       → Comings zone before add (added_now ++ told) after
   more_come before now next add left set slot added added_now so_far one of_zone is_now told after more =
       let ref : SetRef = record { zone = zone; slot = slot } in
@@ -256,9 +256,9 @@ module _ (zone : ℕ) where
       (so_far (ref ∷ told) after (slot, next, told, one, of_zone, refl, more))
 
   -- the slot that is told for a key that was there is the one that it had
-  pub came_back : (before : List Placed) (sets : List RecordSet) (told : List SetRef)
-      (after : List Placed) → Comings zone before sets told after → DifferByKey sets
-      → IsRising (sets_of after) → (p : Placed) → IsAmong before p
+  pub came_back : (before : List Slotted) (sets : List RecordSet) (told : List SetRef)
+      (after : List Slotted) → Comings zone before sets told after → DifferByKey sets
+      → IsRising (sets_of after) → (p : Slotted) → IsAmong before p
       → (i : ℕ) (set : RecordSet) → slice_get sets i ≡ Some set → key_of set ≡ key_of p.set
       → slice_get told i ≡ Some (ref_in zone p)
   came_back before sets told after come differ rising p there i set at same =
@@ -268,4 +268,4 @@ module _ (zone : ℕ) where
       one_of_key after rising q.0 (record { slot = here.0; set = set }) q.1 here.2
       (q.2 ∙ sym same) in
       here.1 ∙ ap (λ (n : ℕ). Some (record { zone = zone; slot = n }))
-      (ap (λ (x : Placed). x.slot) (sym one) ∙ q.3)
+      (ap (λ (x : Slotted). x.slot) (sym one) ∙ q.3)

@@ -8,27 +8,27 @@ use Rattle.zone_changes.specs.SetKeyRecord.{SetKey}
 use Rattle.zone_changes.specs.Sets.{key_of}
 use Rattle.zone_changes.specs.Placing.{IsThere}
 use Rattle.zone_changes.specs.Zones.{IsAmong, IsRising}
-use Rattle.zone_changes.specs.Placed.{Placed, IsTaken, sets_of}
+use Rattle.zone_changes.specs.Slotted.{Slotted, IsRemoved, sets_of}
 use Rattle.zone_changes.proofs.Among.{among_at}
 use Rattle.zone_changes.proofs.ListsOfZoneModel.{split_at}
 use Rattle.zone_changes.proofs.Rising.{rising_taken}
 use Rattle.zone_list.specs.declared.refs.SetRef.{SetRef}
 use Rattle.zone_list.specs.Changes.{AreThere, IsKeyOf}
-use Rattle.zone_list.specs.Steps.{HasCome, IsOfKey, Leaves, Leavings}
+use Rattle.zone_list.specs.Steps.{HasCome, IsOfKey, GoesUnlessCome, Goings}
 use Rattle.zone_list.proofs.Members.{key_is_there, stays_taken, there_by_key, was_taken, what_goes}
 
-once_rising : (before : List Placed) (key : SetKey) (slot : ℕ) (middle : List Placed)
-    → IsRising (sets_of before) → IsTaken before key slot middle → IsRising (sets_of middle)
+once_rising : (before : List Slotted) (key : SetKey) (slot : ℕ) (middle : List Slotted)
+    → IsRising (sets_of before) → IsRemoved before key slot middle → IsRising (sets_of middle)
 once_rising before key slot middle rising taken =
-    let gone : Placed = record { slot = slot; set = taken.taken.set } in
+    let gone : Slotted = record { slot = slot; set = taken.taken.set } in
     let front = take taken.at before in
     let back = drop (suc taken.at) before in
     let parts : IsRising (sets_of front ++ gone.set ∷ sets_of back) =
-    subst IsRising (map-append (λ (p : Placed). p.set) front (gone ∷ back))
+    subst IsRising (map-append (λ (p : Slotted). p.set) front (gone ∷ back))
     (subst (λ ps. IsRising (sets_of ps)) (split_at before taken.at gone taken.taken.there)
     rising) in
     subst IsRising (sym (ap sets_of taken.taken.removed
-    ∙ map-append (λ (p : Placed). p.set) front back))
+    ∙ map-append (λ (p : Slotted). p.set) front back))
     (rising_taken (sets_of front) (sets_of back) gone.set parts)
 
 -- a set that came for a key is there
@@ -45,33 +45,33 @@ there_at sets (first ∷ keys) there zero key at =
 there_at sets (first ∷ keys) there (suc i) key at = there_at sets keys there.2 i key at
 
 module _ (zone : ℕ) (add : List RecordSet) (added : List SetRef) where
-  one_rising : (before : List Placed) (key : SetKey) (slot : ℕ) (middle : List Placed)
-      → IsRising (sets_of before) → Leaves add added before key slot middle → IsRising (sets_of middle)
+  one_rising : (before : List Slotted) (key : SetKey) (slot : ℕ) (middle : List Slotted)
+      → IsRising (sets_of before) → GoesUnlessCome add added before key slot middle → IsRising (sets_of middle)
   one_rising before key slot middle rising (inl (come, same)) =
       subst (λ ps. IsRising (sets_of ps)) (sym same) rising
   one_rising before key slot middle rising (inr (none, taken)) =
       once_rising before key slot middle rising taken
 
-  one_stays : (before : List Placed) (key : SetKey) (slot : ℕ) (middle : List Placed)
-      → IsRising (sets_of before) → Leaves add added before key slot middle
-      → (p : Placed) → IsAmong before p → (key_of p.set ≡ key → IsThere add key) → IsAmong middle p
+  one_stays : (before : List Slotted) (key : SetKey) (slot : ℕ) (middle : List Slotted)
+      → IsRising (sets_of before) → GoesUnlessCome add added before key slot middle
+      → (p : Slotted) → IsAmong before p → (key_of p.set ≡ key → IsThere add key) → IsAmong middle p
   one_stays before key slot middle rising (inl (come, same)) p there back =
       subst (λ ps. IsAmong ps p) (sym same) there
   one_stays before key slot middle rising (inr (none, taken)) p there back =
       stays_taken before middle key slot rising taken p there (λ e. none (back e))
 
-  one_was : (before : List Placed) (key : SetKey) (slot : ℕ) (middle : List Placed)
-      → IsRising (sets_of before) → Leaves add added before key slot middle
-      → (q : Placed) → IsAmong middle q → IsAmong before q × (key_of q.set ≡ key → IsThere add key)
+  one_was : (before : List Slotted) (key : SetKey) (slot : ℕ) (middle : List Slotted)
+      → IsRising (sets_of before) → GoesUnlessCome add added before key slot middle
+      → (q : Slotted) → IsAmong middle q → IsAmong before q × (key_of q.set ≡ key → IsThere add key)
   one_was before key slot middle rising (inl (come, same)) q there =
       (subst (λ ps. IsAmong ps q) same there, λ e. come_there add key come.at come.came)
   one_was before key slot middle rising (inr (none, taken)) q there =
       let was = was_taken before middle key slot rising taken q there in
       (was.0, λ e. absurd (was.1 e))
 
-  pub leavings_stay : (before : List Placed) (keys : List SetKey) (told : List SetRef)
-      (after : List Placed) → IsRising (sets_of before) → Leavings zone add added before keys told after
-      → (p : Placed) → IsAmong before p
+  pub leavings_stay : (before : List Slotted) (keys : List SetKey) (told : List SetRef)
+      (after : List Slotted) → IsRising (sets_of before) → Goings zone add added before keys told after
+      → (p : Slotted) → IsAmong before p
       → (IsKeyOf keys (key_of p.set) → IsThere add (key_of p.set)) → IsAmong after p
   leavings_stay before [] told after rising leave p there back =
       subst (λ ps. IsAmong ps p) (sym leave.1) there
@@ -81,9 +81,9 @@ module _ (zone : ℕ) (add : List RecordSet) (added : List SetRef) where
       (λ e. subst (λ k. IsThere add k) e (back (inl (sym e)))))
       (λ named. back (inr named))
 
-  pub leavings_only : (before : List Placed) (keys : List SetKey) (told : List SetRef)
-      (after : List Placed) → IsRising (sets_of before) → Leavings zone add added before keys told after
-      → (q : Placed) → IsAmong after q
+  pub leavings_only : (before : List Slotted) (keys : List SetKey) (told : List SetRef)
+      (after : List Slotted) → IsRising (sets_of before) → Goings zone add added before keys told after
+      → (q : Slotted) → IsAmong after q
       → IsAmong before q × (IsKeyOf keys (key_of q.set) → IsThere add (key_of q.set))
   leavings_only before [] told after rising leave q there =
       (subst (λ ps. IsAmong ps q) leave.1 there, λ named. absurd named)
@@ -99,25 +99,25 @@ module _ (zone : ℕ) (add : List RecordSet) (added : List SetRef) where
       )
 
   -- how the slot of a key is told: of the set that came for it, or of the one that goes
-  pub leavings_go : (before : List Placed) (keys : List SetKey) (told : List SetRef)
-      (after : List Placed) → IsRising (sets_of before) → Leavings zone add added before keys told after
+  pub leavings_go : (before : List Slotted) (keys : List SetKey) (told : List SetRef)
+      (after : List Slotted) → IsRising (sets_of before) → Goings zone add added before keys told after
       → (i : ℕ) (key : SetKey) → slice_get keys i ≡ Some key
       → (slot : ℕ) × (slice_get told i ≡ Some (record { zone = zone; slot = slot }))
       × (HasCome add added key slot
-      ⊎ ((IsThere add key → ⊥) × ((p : Placed) × IsAmong before p × (key_of p.set ≡ key) × (p.slot ≡ slot))))
+      ⊎ ((IsThere add key → ⊥) × ((p : Slotted) × IsAmong before p × (key_of p.set ≡ key) × (p.slot ≡ slot))))
   leavings_go before [] told after rising leave i key at = absurd (grind (arith, at))
   leavings_go before (first ∷ keys) told after rising (slot, middle, rest, one, is_told, more) zero key at =
       let same : first ≡ key = grind (arith, at) in (
         slot,
         ap (λ (refs : List SetRef). slice_get refs 0) is_told,
         subst (λ k. HasCome add added k slot
-            ⊎ ((IsThere add k → ⊥) × ((p : Placed) × IsAmong before p × (key_of p.set ≡ k) × (p.slot ≡ slot))))
+            ⊎ ((IsThere add k → ⊥) × ((p : Slotted) × IsAmong before p × (key_of p.set ≡ k) × (p.slot ≡ slot))))
             same (by one),
       )
     where
-      by : Leaves add added before first slot middle → HasCome add added first slot
+      by : GoesUnlessCome add added before first slot middle → HasCome add added first slot
           ⊎ ((IsThere add first → ⊥)
-          × ((p : Placed) × IsAmong before p × (key_of p.set ≡ first) × (p.slot ≡ slot)))
+          × ((p : Slotted) × IsAmong before p × (key_of p.set ≡ first) × (p.slot ≡ slot)))
       by (inl (come, same)) = inl come
       by (inr (none, taken)) = inr (none, what_goes before middle first slot rising taken)
   leavings_go before (first ∷ keys) told after rising (slot, middle, rest, one, is_told, more) (suc i) key at =
@@ -132,14 +132,14 @@ module _ (zone : ℕ) (add : List RecordSet) (added : List SetRef) where
         ],
       )
 
-  pub leavings_as_many : (before : List Placed) (keys : List SetKey) (told : List SetRef)
-      (after : List Placed) → Leavings zone add added before keys told after → length told ≡ length keys
+  pub leavings_as_many : (before : List Slotted) (keys : List SetKey) (told : List SetRef)
+      (after : List Slotted) → Goings zone add added before keys told after → length told ≡ length keys
   leavings_as_many before [] told after leave = ap length leave.0
   leavings_as_many before (key ∷ keys) told after (slot, middle, rest, one, is_told, more) =
       ap length is_told ∙ ap suc (leavings_as_many middle keys rest after more)
 
-  still_there : (before after : List Placed) (key : SetKey) (slot : ℕ) → IsRising (sets_of before)
-      → Leaves add added before key slot after
+  still_there : (before after : List Slotted) (key : SetKey) (slot : ℕ) → IsRising (sets_of before)
+      → GoesUnlessCome add added before key slot after
       → (keys : List SetKey) → AllByRecursion (λ other. key ≢ other) keys
       → AreThere (sets_of before) keys → AreThere (sets_of after) keys
   still_there before after key slot rising one [] apart there = tt
@@ -153,24 +153,24 @@ module _ (zone : ℕ) (add : List RecordSet) (added : List SetRef) where
       )
 
   -- the keys behind are there still
-  pub there_after : (before after : List Placed) (key : SetKey) (slot : ℕ) (keys : List SetKey)
-      → IsRising (sets_of before) → Leaves add added before key slot after
+  pub there_after : (before after : List Slotted) (key : SetKey) (slot : ℕ) (keys : List SetKey)
+      → IsRising (sets_of before) → GoesUnlessCome add added before key slot after
       → AreThere (sets_of before) (key ∷ keys) → AreThere (sets_of after) keys
   there_after before after key slot keys rising one there =
       still_there before after key slot rising one keys there.1 there.2
 
   -- one more that goes, where what is left was what is left of all
-  pub more_leave : (before now next : List Placed) (keys left : List SetKey) (key : SetKey)
+  pub more_leave : (before now next : List Slotted) (keys left : List SetKey) (key : SetKey)
       (slot : ℕ) (removed removed_now : List SetRef)
-      → ((told : List SetRef) (after : List Placed) → Leavings zone add added now (key ∷ left) told after
-      → Leavings zone add added before keys (removed ++ told) after)
-      → Leaves add added now key slot next
+      → ((told : List SetRef) (after : List Slotted) → Goings zone add added now (key ∷ left) told after
+      → Goings zone add added before keys (removed ++ told) after)
+      → GoesUnlessCome add added now key slot next
       → removed_now ≡ removed ++ record { zone = zone; slot = slot } ∷ []
-      → (told : List SetRef) (after : List Placed) → Leavings zone add added next left told after
-      → Leavings zone add added before keys (removed_now ++ told) after
+      → (told : List SetRef) (after : List Slotted) → Goings zone add added next left told after
+      → Goings zone add added before keys (removed_now ++ told) after
   more_leave before now next keys left key slot removed removed_now so_far one is_now told after more =
       let ref : SetRef = record { zone = zone; slot = slot } in
-      subst (λ refs. Leavings zone add added before keys refs after)
+      subst (λ refs. Goings zone add added before keys refs after)
       (sym (append_assoc removed (ref ∷ []) told)
       ∙ ap (λ refs. refs ++ told) (sym is_now))
       (so_far (ref ∷ told) after (slot, next, told, one, refl, more))

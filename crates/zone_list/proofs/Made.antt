@@ -8,30 +8,30 @@ use Rattle.zone_changes.specs.SetKeyRecord.{SetKey}
 use Rattle.zone_changes.specs.Sets.{key_of}
 use Rattle.zone_changes.specs.Placing.{IsThere}
 use Rattle.zone_changes.specs.Zones.{IsAmong}
-use Rattle.zone_changes.specs.Placed.{AreOfZone, HaveOwnSlots, Placed, sets_of}
+use Rattle.zone_changes.specs.Slotted.{AreOfZone, HaveOwnSlots, Slotted, sets_of}
 use Rattle.zone_changes.proofs.Among.{among_at, place_of}
 use Rattle.zone_changes.proofs.ListsOfZoneModel.{take_more}
 use Rattle.zone_list.specs.declared.refs.SetRef.{SetRef}
 use Rattle.zone_list.specs.Changes.{AreThere, CanChange, Changes, IsKeyOf, KeepSlots, ref_in, with_all, without_all}
-use Rattle.zone_list.specs.Steps.{Comings, HasCome, Leavings}
+use Rattle.zone_list.specs.Steps.{Comings, HasCome, Goings}
 use Rattle.zone_list.proofs.Coming.{came_back, comings_as_many, comings_come, comings_keep, comings_of_zone, comings_only, comings_stay}
 use Rattle.zone_list.proofs.Leaving.{leavings_as_many, leavings_go, leavings_only, leavings_stay, there_at}
 use Rattle.zone_list.proofs.Equation.{in_with_all, in_without_all, new_with_all, of_with_all, of_without_all, with_all_rises, without_all_rises}
 use Rattle.zone_list.proofs.Members.{all_in, in_all, key_is_there, one_of_key, placed_with, same_sets, set_in, there_by_key}
 
-one_of_slot : (placed : List Placed) → HaveOwnSlots placed → (p q : Placed) → IsAmong placed p
+one_of_slot : (placed : List Slotted) → HaveOwnSlots placed → (p q : Slotted) → IsAmong placed p
     → IsAmong placed q → p.slot ≡ q.slot → p ≡ q
 one_of_slot [] own p q at_p at_q same = absurd at_p
 one_of_slot (x ∷ placed) own p q (inl ep) (inl eq) same = sym ep ∙ eq
 one_of_slot (x ∷ placed) own p q (inl ep) (inr at_q) same =
-    absurd (in_all (λ y. x.slot ≢ y.slot) placed q own.0 at_q (ap (λ (y : Placed). y.slot) ep ∙ same))
+    absurd (in_all (λ y. x.slot ≢ y.slot) placed q own.0 at_q (ap (λ (y : Slotted). y.slot) ep ∙ same))
 one_of_slot (x ∷ placed) own p q (inr at_p) (inl eq) same =
     absurd (in_all (λ y. x.slot ≢ y.slot) placed p own.0 at_p
-    (ap (λ (y : Placed). y.slot) eq ∙ sym same))
+    (ap (λ (y : Slotted). y.slot) eq ∙ sym same))
 one_of_slot (x ∷ placed) own p q (inr at_p) (inr at_q) same =
     one_of_slot placed own.1 p q at_p at_q same
 
-module _ (zone : ℕ) (apex : List (List ℕ)) (before middle after : List Placed) (remove : List SetKey)
+module _ (zone : ℕ) (apex : List (List ℕ)) (before middle after : List Slotted) (remove : List SetKey)
     (add : List RecordSet) (removed added : List SetRef) (of_zone : AreOfZone before)
     (come : Comings zone before add added middle)
     (can : CanChange apex before remove add) where
@@ -49,16 +49,16 @@ module _ (zone : ℕ) (apex : List (List ℕ)) (before middle after : List Place
           let q = comings_keep zone before add added middle come p.0 p.1 in
           (key_is_there middle key q.0 q.1 (q.2 ∙ p.2), there.1, by keys there.2)
 
-  module _ (leave : Leavings zone add added middle remove removed after) (now_is : AreOfZone after) where
+  module _ (leave : Goings zone add added middle remove removed after) (now_is : AreOfZone after) where
     -- a key that is there and stays isn't one that comes
-    not_added : (p : Placed) → IsAmong before p → (IsKeyOf remove (key_of p.set) → ⊥)
+    not_added : (p : Slotted) → IsAmong before p → (IsKeyOf remove (key_of p.set) → ⊥)
         → IsThere add (key_of p.set) → ⊥
     not_added p there other (set, keeps) =
         other (subst (λ k. IsKeyOf remove k) keeps.same_key
         (in_all (λ s. IsThere (sets_of before) (key_of s) → IsKeyOf remove (key_of s)) add set can.new
         keeps.there (key_is_there before (key_of set) p there (sym keeps.same_key))))
 
-    stay : (p : Placed) → IsAmong before p → (IsKeyOf remove (key_of p.set) → ⊥) → IsAmong after p
+    stay : (p : Slotted) → IsAmong before p → (IsKeyOf remove (key_of p.set) → ⊥) → IsAmong after p
     stay p there other =
         leavings_stay zone add added middle remove removed after middle_is.rising leave p
         (comings_stay zone before add added middle come p there (not_added p there other))
@@ -76,7 +76,7 @@ module _ (zone : ℕ) (apex : List (List ℕ)) (before middle after : List Place
               (λ named. (set, record { there = among_at add i set at; same_key = refl })),
         )
 
-    only : (q : Placed) → IsAmong after q
+    only : (q : Slotted) → IsAmong after q
         → (IsAmong before q × (IsKeyOf remove (key_of q.set) → ⊥))
         ⊎ ((i : ℕ) × (slice_get add i ≡ Some q.set) × (slice_get added i ≡ Some (ref_in zone q)))
     only q there =
@@ -88,7 +88,7 @@ module _ (zone : ℕ) (apex : List (List ℕ)) (before middle after : List Place
         ]
 
     goes : (i : ℕ) (key : SetKey) → slice_get remove i ≡ Some key
-        → (p : Placed) × IsAmong before p × (key_of p.set ≡ key)
+        → (p : Slotted) × IsAmong before p × (key_of p.set ≡ key)
         × (slice_get removed i ≡ Some (ref_in zone p))
     goes i key at =
         let told = leavings_go zone add added middle remove removed after middle_is.rising leave i key at
@@ -103,10 +103,10 @@ module _ (zone : ℕ) (apex : List (List ℕ)) (before middle after : List Place
         some_slot : (x y : SetRef) → Some x ≡ Some y → x ≡ y
         some_slot x y e = cc
 
-        slot_is : (p : (p : Placed) × IsAmong before p × (key_of p.set ≡ key)) (slot : ℕ)
+        slot_is : (p : (p : Slotted) × IsAmong before p × (key_of p.set ≡ key)) (slot : ℕ)
             → HasCome add added key slot
             ⊎ ((IsThere add key → ⊥)
-            × ((q : Placed) × IsAmong middle q × (key_of q.set ≡ key) × (q.slot ≡ slot)))
+            × ((q : Slotted) × IsAmong middle q × (key_of q.set ≡ key) × (q.slot ≡ slot)))
             → slot ≡ p.0.slot
         slot_is p slot (inl come_for) =
             let back = came_back zone before add added middle come can.added.differ middle_is.rising p.0
@@ -118,7 +118,7 @@ module _ (zone : ℕ) (apex : List (List ℕ)) (before middle after : List Place
             let r = comings_keep zone before add added middle come p.0 p.1 in
             let one : r.0 ≡ q.0 = one_of_key middle middle_is.rising r.0 q.0 r.1 q.1
             (r.2 ∙ (p.2 ∙ sym q.2)) in
-            sym q.3 ∙ (ap (λ (x : Placed). x.slot) (sym one) ∙ r.3)
+            sym q.3 ∙ (ap (λ (x : Slotted). x.slot) (sym one) ∙ r.3)
 
     slots : KeepSlots before after
     slots p q at_p at_q =
@@ -127,10 +127,10 @@ module _ (zone : ℕ) (apex : List (List ℕ)) (before middle after : List Place
         in (
           (λ e. (let one : p_now.0 ≡ q = one_of_key middle middle_is.rising p_now.0 q p_now.1 q_now.0
               (p_now.2 ∙ e) in
-              sym p_now.3 ∙ ap (λ (x : Placed). x.slot) one)),
+              sym p_now.3 ∙ ap (λ (x : Slotted). x.slot) one)),
           (λ e. (let one : p_now.0 ≡ q = one_of_slot middle middle_is.own p_now.0 q p_now.1 q_now.0
               (p_now.3 ∙ e) in
-              sym p_now.2 ∙ ap (λ (x : Placed). key_of x.set) one)),
+              sym p_now.2 ∙ ap (λ (x : Slotted). key_of x.set) one)),
         )
 
     sets : sets_of after ≡ with_all add (without_all remove (sets_of before))
@@ -182,14 +182,14 @@ module _ (zone : ℕ) (apex : List (List ℕ)) (before middle after : List Place
     }
 
 -- what holds of all that was there and of all that comes
-pub all_kept : (P : RecordSet → Type 0) (zone : ℕ) (before : List Placed) (remove : List SetKey)
-    (add : List RecordSet) (removed added : List SetRef) (after : List Placed)
+pub all_kept : (P : RecordSet → Type 0) (zone : ℕ) (before : List Slotted) (remove : List SetKey)
+    (add : List RecordSet) (removed added : List SetRef) (after : List Slotted)
     → Changes zone before remove add removed added after
     → AllByRecursion (λ p. P p.set) before → AllByRecursion P add
     → AllByRecursion (λ p. P p.set) after
 all_kept P zone before remove add removed added after changes all more = all_in (λ p. P p.set) after each
   where
-    each : (p : Placed) → IsAmong after p → P p.set
+    each : (p : Slotted) → IsAmong after p → P p.set
     each p there = elim (changes.only p there) [
       | inl old ↦ in_all (λ q. P q.set) before p all old.0
       | inr new ↦ in_all P add p.set more (among_at add new.0 p.set new.1)

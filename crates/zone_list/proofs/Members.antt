@@ -12,7 +12,7 @@ use Rattle.zone_changes.specs.Existing.{Exists}
 use Rattle.zone_changes.specs.Keys.{key_cmp}
 use Rattle.zone_changes.specs.Zones.{IsAmong, IsRising}
 use Rattle.zone_changes.proofs.Ordered.{keys_total}
-use Rattle.zone_changes.specs.Placed.{Placed, IsTaken, sets_of}
+use Rattle.zone_changes.specs.Slotted.{Slotted, IsRemoved, sets_of}
 use Rattle.zone_list.specs.Zones.{Zone, CanStand}
 use Rattle.zone_changes.proofs.ListsOfZoneModel.{in_put, in_itself, in_taken, split_at}
 
@@ -59,25 +59,25 @@ nothing_left [] (suc i) le = refl
 nothing_left (x ∷ xs) zero le = absurd (omega (arith, le))
 nothing_left (x ∷ xs) (suc i) le = nothing_left xs i (omega (arith, le))
 
-pub set_in : (placed : List Placed) (p : Placed) → IsAmong placed p → IsAmong (sets_of placed) p.set
+pub set_in : (placed : List Slotted) (p : Slotted) → IsAmong placed p → IsAmong (sets_of placed) p.set
 set_in [] p there = absurd there
-set_in (q ∷ placed) p (inl e) = inl (ap (λ (x : Placed). x.set) e)
+set_in (q ∷ placed) p (inl e) = inl (ap (λ (x : Slotted). x.set) e)
 set_in (q ∷ placed) p (inr there) = inr (set_in placed p there)
 
-pub placed_with : (placed : List Placed) (set : RecordSet) → IsAmong (sets_of placed) set
-    → (p : Placed) × IsAmong placed p × (p.set ≡ set)
+pub placed_with : (placed : List Slotted) (set : RecordSet) → IsAmong (sets_of placed) set
+    → (p : Slotted) × IsAmong placed p × (p.set ≡ set)
 placed_with [] set there = absurd there
 placed_with (q ∷ placed) set (inl e) = (q, inl refl, e)
 placed_with (q ∷ placed) set (inr there) = let rest = placed_with placed set there in
     (rest.0, inr rest.1, rest.2)
 
-pub there_by_key : (placed : List Placed) (key : SetKey) → IsThere (sets_of placed) key
-    → (p : Placed) × IsAmong placed p × (key_of p.set ≡ key)
+pub there_by_key : (placed : List Slotted) (key : SetKey) → IsThere (sets_of placed) key
+    → (p : Slotted) × IsAmong placed p × (key_of p.set ≡ key)
 there_by_key placed key (kept, keeps) =
     let found = placed_with placed kept keeps.there in
     (found.0, found.1, ap key_of found.2 ∙ keeps.same_key)
 
-pub key_is_there : (placed : List Placed) (key : SetKey) (p : Placed) → IsAmong placed p
+pub key_is_there : (placed : List Slotted) (key : SetKey) (p : Slotted) → IsAmong placed p
     → key_of p.set ≡ key → IsThere (sets_of placed) key
 key_is_there placed key p there same =
     (p.set, record { there = set_in placed p there; same_key = same })
@@ -90,8 +90,8 @@ other_key key other less e =
     grind (arith, less, tie)
 
 -- In zone order no two sets have one key.
-pub others_differ : (front back : List Placed) (p : Placed) → IsRising (sets_of (front ++ p ∷ back))
-    → (q : Placed) → IsAmong (front ++ back) q → key_of q.set ≢ key_of p.set
+pub others_differ : (front back : List Slotted) (p : Slotted) → IsRising (sets_of (front ++ p ∷ back))
+    → (q : Slotted) → IsAmong (front ++ back) q → key_of q.set ≢ key_of p.set
 others_differ [] back p rising q there =
     let lower =
     in_all (λ later. key_cmp (key_of p.set) (key_of later) ≡ Less) (sets_of back) q.set rising.0
@@ -101,19 +101,19 @@ others_differ (x ∷ front) back p rising q (inl e) =
     let lower =
     in_all (λ later. key_cmp (key_of x.set) (key_of later) ≡ Less) (sets_of (front ++ p ∷ back))
     p.set rising.0 (set_in (front ++ p ∷ back) p (in_itself front back p)) in
-    λ f. other_key (key_of x.set) (key_of p.set) lower (ap (λ (y : Placed). key_of y.set) e ∙ f)
+    λ f. other_key (key_of x.set) (key_of p.set) lower (ap (λ (y : Slotted). key_of y.set) e ∙ f)
 others_differ (x ∷ front) back p rising q (inr there) = others_differ front back p rising.1 q there
 
-pub one_of_key : (placed : List Placed) → IsRising (sets_of placed) → (p q : Placed)
+pub one_of_key : (placed : List Slotted) → IsRising (sets_of placed) → (p q : Slotted)
     → IsAmong placed p → IsAmong placed q → key_of p.set ≡ key_of q.set → p ≡ q
 one_of_key [] rising p q at_p at_q same = absurd at_p
 one_of_key (x ∷ placed) rising p q (inl ep) (inl eq) same = sym ep ∙ eq
 one_of_key (x ∷ placed) rising p q (inl ep) (inr at_q) same =
     absurd (others_differ [] placed x rising q at_q (sym same
-    ∙ ap (λ (y : Placed). key_of y.set) (sym ep)))
+    ∙ ap (λ (y : Slotted). key_of y.set) (sym ep)))
 one_of_key (x ∷ placed) rising p q (inr at_p) (inl eq) same =
     absurd (others_differ [] placed x rising p at_p (same
-    ∙ ap (λ (y : Placed). key_of y.set) (sym eq)))
+    ∙ ap (λ (y : Slotted). key_of y.set) (sym eq)))
 one_of_key (x ∷ placed) rising p q (inr at_p) (inr at_q) same =
     one_of_key placed rising.1 p q at_p at_q same
 
@@ -175,21 +175,21 @@ same_sets sets others rising rising_too to from =
     sorted_same Lower lower_one_way sets others (rising_sorted sets rising)
     (rising_sorted others rising_too) to from
 
-module _ (before after : List Placed) (key : SetKey) (slot : ℕ) (rising : IsRising (sets_of before))
-    (taken : IsTaken before key slot after) where
-  abbrev gone : Placed
+module _ (before after : List Slotted) (key : SetKey) (slot : ℕ) (rising : IsRising (sets_of before))
+    (taken : IsRemoved before key slot after) where
+  abbrev gone : Slotted
   gone = record { slot = slot; set = taken.taken.set }
 
-  abbrev front : List Placed
+  abbrev front : List Slotted
   front = take taken.at before
 
-  abbrev back : List Placed
+  abbrev back : List Slotted
   back = drop (suc taken.at) before
 
   whole : before ≡ front ++ gone ∷ back
   whole = split_at before taken.at gone taken.taken.there
 
-  pub what_goes : (p : Placed) × IsAmong before p × (key_of p.set ≡ key) × (p.slot ≡ slot)
+  pub what_goes : (p : Slotted) × IsAmong before p × (key_of p.set ≡ key) × (p.slot ≡ slot)
   what_goes = (
     gone,
     subst (λ ps. IsAmong ps gone) (sym whole) (in_itself front back gone),
@@ -197,13 +197,13 @@ module _ (before after : List Placed) (key : SetKey) (slot : ℕ) (rising : IsRi
     refl,
   )
 
-  pub stays_taken : (p : Placed) → IsAmong before p → key_of p.set ≢ key → IsAmong after p
+  pub stays_taken : (p : Slotted) → IsAmong before p → key_of p.set ≢ key → IsAmong after p
   stays_taken p there other =
       subst (λ ps. IsAmong ps p) (sym taken.taken.removed)
-      (in_taken front back gone p (λ e. other (ap (λ (x : Placed). key_of x.set) (sym e)
+      (in_taken front back gone p (λ e. other (ap (λ (x : Slotted). key_of x.set) (sym e)
       ∙ taken.same_key)) (subst (λ ps. IsAmong ps p) whole there))
 
-  pub was_taken : (p : Placed) → IsAmong after p → IsAmong before p × (key_of p.set ≢ key)
+  pub was_taken : (p : Slotted) → IsAmong after p → IsAmong before p × (key_of p.set ≢ key)
   was_taken p there =
       let still : IsAmong (front ++ back) p =
       subst (λ ps. IsAmong ps p) taken.taken.removed there in (
@@ -218,7 +218,7 @@ pub apex_exists : (zone : Zone) → (zone.placed ≡ [] → ⊥)
     → Exists (sets_of zone.placed) zone.apex
 apex_exists zone some each = by zone.placed some each
   where
-    by : (placed : List Placed) → (placed ≡ [] → ⊥)
+    by : (placed : List Slotted) → (placed ≡ [] → ⊥)
         → AllByRecursion (λ p. CanStand zone.apex p.set) placed → Exists (sets_of placed) zone.apex
     by [] some each = absurd (some refl)
     by (p ∷ placed) some each = (p.set, inl refl, each.0.inside)

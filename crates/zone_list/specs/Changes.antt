@@ -6,7 +6,7 @@ use Rattle.zone_changes.specs.SetKeyRecord.{SetKey}
 use Rattle.zone_changes.specs.Sets.{key_of}
 use Rattle.zone_changes.specs.Placing.{IsThere, placed, without}
 use Rattle.zone_changes.specs.Zones.{IsAmong}
-use Rattle.zone_changes.specs.Placed.{Placed, IsHere, AreOfZone, sets_of}
+use Rattle.zone_changes.specs.Slotted.{Slotted, IsHere, AreOfZone, sets_of}
 use Rattle.zone_list.specs.declared.refs.SetRef.{SetRef}
 use Rattle.zone_list.specs.Zones.{CanStand}
 
@@ -35,7 +35,7 @@ pub record CanBeAdded (apex : List (List ℕ)) (add : List RecordSet) : Type 0 w
 
 -- Sets can be changed: the keys to remove are there, and no key to add is there but one that is
 -- removed.
-pub record CanChange (apex : List (List ℕ)) (placed : List Placed) (remove : List SetKey)
+pub record CanChange (apex : List (List ℕ)) (placed : List Slotted) (remove : List SetKey)
     (add : List RecordSet) : Type 0 where
   pub there : AreThere (sets_of placed) remove
   pub added : CanBeAdded apex add
@@ -45,7 +45,7 @@ pub record CanChange (apex : List (List ℕ)) (placed : List Placed) (remove : L
 -- ---- what a change makes
 
 -- the reference of a set in a zone
-abbrev pub ref_in : (zone : ℕ) → Placed → SetRef
+abbrev pub ref_in : (zone : ℕ) → Slotted → SetRef
 ref_in zone p = record { zone = zone; slot = p.slot }
 
 -- the sets without those of the keys
@@ -60,26 +60,26 @@ with_all (set ∷ add) sets = with_all add (placed set sets)
 
 -- A key keeps its slot while it has a set, also where another set comes for it, and no slot goes
 -- from one key to another.
-abbrev pub KeepSlots : (before after : List Placed) → Type 0
-KeepSlots before after = (p q : Placed) → IsHere before p → IsHere after q
+abbrev pub KeepSlots : (before after : List Slotted) → Type 0
+KeepSlots before after = (p q : Slotted) → IsHere before p → IsHere after q
     → (key_of p.set ≡ key_of q.set) ↔ (p.slot ≡ q.slot)
 
 -- The sets of these keys are taken from a zone, and these sets are put, each in a slot of its own.
 -- A set that is in neither list keeps its slot, and so its reference. The references that are told
 -- are those of the two lists, in their order.
-pub record Changes (zone : ℕ) (before : List Placed) (remove : List SetKey) (add : List RecordSet)
-    (removed added : List SetRef) (after : List Placed) : Type 0 where
+pub record Changes (zone : ℕ) (before : List Slotted) (remove : List SetKey) (add : List RecordSet)
+    (removed added : List SetRef) (after : List Slotted) : Type 0 where
   pub sets : sets_of after ≡ with_all add (without_all remove (sets_of before))
   pub slots : KeepSlots before after
-  pub stays : (p : Placed) → IsHere before p → (IsKeyOf remove (key_of p.set) → ⊥) → IsHere after p
+  pub stays : (p : Slotted) → IsHere before p → (IsKeyOf remove (key_of p.set) → ⊥) → IsHere after p
   pub comes : (i : ℕ) (set : RecordSet) → slice_get add i ≡ Some set
       → (slot : ℕ) × (slice_get added i ≡ Some (record { zone = zone; slot = slot }))
       × IsHere after (record { slot = slot; set = set })
-  pub only : (p : Placed) → IsHere after p
+  pub only : (p : Slotted) → IsHere after p
       → (IsHere before p × (IsKeyOf remove (key_of p.set) → ⊥))
       ⊎ ((i : ℕ) × (slice_get add i ≡ Some p.set) × (slice_get added i ≡ Some (ref_in zone p)))
   pub goes : (i : ℕ) (key : SetKey) → slice_get remove i ≡ Some key
-      → (p : Placed) × IsHere before p × (key_of p.set ≡ key)
+      → (p : Slotted) × IsHere before p × (key_of p.set ≡ key)
       × (slice_get removed i ≡ Some (ref_in zone p))
   pub as_many_removed : length removed ≡ length remove
   pub as_many_added : length added ≡ length add

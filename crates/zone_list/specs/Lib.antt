@@ -6,7 +6,7 @@ pub mod Steps
 pub mod Zones
 pub use Rattle.zone_changes.specs.Placing
 pub use Rattle.zone_changes.specs.Zones as Sets
-pub use Rattle.zone_changes.specs.Placed
+pub use Rattle.zone_changes.specs.Slotted
 pub use Rattle.zone_changes.specs.Coming
 pub use Rattle.zone_changes.specs.Sums
 pub use Rattle.zone_changes.specs.Orders

@@ -9,7 +9,7 @@ use Rattle.zone_changes.specs.Sets.{key_of}
 use Rattle.zone_changes.specs.Octets.{set_octets}
 use Rattle.zone_changes.specs.Coming.{Comes}
 use Rattle.zone_changes.specs.Placing.{IsThere}
-use Rattle.zone_changes.specs.Placed.{AreOfZone, IsTaken, Placed}
+use Rattle.zone_changes.specs.Slotted.{AreOfZone, IsRemoved, Slotted}
 use Rattle.zone_list.specs.declared.refs.SetRef.{SetRef}
 
 -- how many cells the octets of the sets take
@@ -17,11 +17,11 @@ abbrev pub cells_in_all : List RecordSet → ℕ
 cells_in_all add = sum_by (λ set. cells_for (length (set_octets set))) add
 
 -- The sets come one after another.
-abbrev pub Comings : (zone : ℕ) → (before : List Placed) → List RecordSet → (told : List SetRef)
-    → (after : List Placed) → Type 0
+abbrev pub Comings : (zone : ℕ) → (before : List Slotted) → List RecordSet → (told : List SetRef)
+    → (after : List Slotted) → Type 0
 Comings zone before [] told after = (told ≡ []) × (after ≡ before)
 Comings zone before (set ∷ sets) told after =
-    (slot : ℕ) × (middle : List Placed) × (rest : List SetRef)
+    (slot : ℕ) × (middle : List Slotted) × (rest : List SetRef)
     × Comes before (record { slot = slot; set = set }) middle
     × AreOfZone middle × (told ≡ record { zone = zone; slot = slot } ∷ rest)
     × Comings zone middle sets rest after
@@ -54,20 +54,20 @@ pub record HasCome (add : List RecordSet) (added : List SetRef) (key : SetKey)
   pub its_slot : one.slot ≡ slot
 
 -- The set of a key goes, unless a set came for it.
-abbrev pub Leaves : List RecordSet → (added : List SetRef) → (before : List Placed) → SetKey
+abbrev pub GoesUnlessCome : List RecordSet → (added : List SetRef) → (before : List Slotted) → SetKey
     → (slot : ℕ)
-    → (after : List Placed) → Type 0
-Leaves add added before key slot after =
+    → (after : List Slotted) → Type 0
+GoesUnlessCome add added before key slot after =
     (HasCome add added key slot × (after ≡ before))
-    ⊎ ((IsThere add key → ⊥) × IsTaken before key slot after)
+    ⊎ ((IsThere add key → ⊥) × IsRemoved before key slot after)
 
 -- The sets of the keys go one after another.
-abbrev pub Leavings : (zone : ℕ) → List RecordSet → (added : List SetRef) → (before : List Placed)
+abbrev pub Goings : (zone : ℕ) → List RecordSet → (added : List SetRef) → (before : List Slotted)
     → List SetKey
-    → (told : List SetRef) → (after : List Placed) → Type 0
-Leavings zone add added before [] told after = (told ≡ []) × (after ≡ before)
-Leavings zone add added before (key ∷ keys) told after =
-    (slot : ℕ) × (middle : List Placed) × (rest : List SetRef)
-    × Leaves add added before key slot middle
+    → (told : List SetRef) → (after : List Slotted) → Type 0
+Goings zone add added before [] told after = (told ≡ []) × (after ≡ before)
+Goings zone add added before (key ∷ keys) told after =
+    (slot : ℕ) × (middle : List Slotted) × (rest : List SetRef)
+    × GoesUnlessCome add added before key slot middle
     × (told ≡ record { zone = zone; slot = slot } ∷ rest)
-    × Leavings zone add added middle keys rest after
+    × Goings zone add added middle keys rest after

@@ -6,13 +6,13 @@ use Rattle.zone_changes.specs.RecordSetRecord.{RecordSet}
 use Rattle.zone_changes.specs.Octets.{HasSpelling}
 use Rattle.zone_changes.specs.Hosted.{HostedZone}
 use Rattle.zone_changes.specs.Zones.{IsAmong}
-use Rattle.zone_changes.specs.Placed.{Placed, AreOfZone, sets_of}
+use Rattle.zone_changes.specs.Slotted.{Slotted, AreOfZone, sets_of}
 
 -- A zone: its number, the name of its apex, and its sets in zone order, each with its slot.
 pub record Zone : Type 0 where
   pub id : ℕ
   pub apex : List (List ℕ)
-  pub placed : List Placed
+  pub placed : List Slotted
 
 -- a zone without the slots of its sets
 abbrev pub hosted : Zone → HostedZone
@@ -31,7 +31,7 @@ abbrev pub HasName : List Zone → (name : List (List ℕ)) → Type 0
 HasName zones name = (zone : Zone) × IsOne zones zone × (zone.apex ≡ name)
 
 -- the sets of the zone with this number; there are none where no zone has it
-abbrev pub placed_in : List Zone → ℕ → List Placed
+abbrev pub placed_in : List Zone → ℕ → List Slotted
 placed_in [] id = []
 placed_in (zone ∷ zones) id = if zone.id == id then zone.placed else placed_in zones id
 

@@ -8,7 +8,7 @@ ghost use Rattle.std.specs.List.{insert};
 ghost use Rattle.zone_changes.specs.Suffix.{EndsWith};
 ghost use Rattle.zone_list.specs.Apexes.{AreInOrder, Comes, FindsNumber, Goes, IsLongestName};
 ghost use Rattle.zone_list.specs.Apexes.{IsParted, IsWith, IsWithout, LongestName, LongestOrNot};
-ghost use Rattle.zone_list.specs.declared.apexes.Apex.{Apex};
+ghost use Rattle.zone_list.specs.declared.apexes.NamedZone.{NamedZone};
 
 use crate::hints::Hints;
 use octets::{OutOfMemory, behind};
@@ -18,7 +18,7 @@ use zone_changes::Name;
 
 /// The number of a zone, and its name.
 #[derive(Clone, Copy)]
-pub struct Apex {
+pub struct NamedZone {
     /// The number.
     pub id: u32,
     /// The name of the apex.
@@ -29,7 +29,7 @@ pub struct Apex {
 /// which there was no room.
 #[derive(Drop)]
 pub struct Apexes {
-    list: Vec<Apex>,
+    list: Vec<NamedZone>,
     /// Where a name may stand.
     hints: Hints,
     /// Whether a zone came for which there was no room.
@@ -39,9 +39,9 @@ pub struct Apexes {
 impl Model for Apexes {
     ghost use Rattle.std.specs.Prelude.{List, Option, None, Some, if◌then◌else◌};
     ghost use Rattle.zone_list.specs.Apexes.{AreInOrder};
-    ghost use Rattle.zone_list.specs.declared.apexes.Apex.{Apex};
+    ghost use Rattle.zone_list.specs.declared.apexes.NamedZone.{NamedZone};
 
-    ghost Value = { Option (List Apex) };
+    ghost Value = { Option (List NamedZone) };
 
     ghost view = { λ a. if a.is_lost then None else Some a.list.items };
 
@@ -96,7 +96,7 @@ impl Apexes {
 
     /// The number of the zone of the longest name at or above this one.
     pub fn longest(&self, name: &Name) -> Option<u32>
-        ensures { (list : List Apex) → self.now ≡ Some list → LongestName list name.now result }
+        ensures { (list : List NamedZone) → self.now ≡ Some list → LongestName list name.now result }
     {
         longest_in(&self.list, name, hint_of(&self.hints, &self.list, name))
     }
@@ -104,7 +104,7 @@ impl Apexes {
 
 /// The place of the longest name at or above this one that a hint tells: it may be another place.
 /// Of one name alone it is known.
-fn hint_of(hints: &Hints, list: &[Apex], name: &Name) -> Option<usize> {
+fn hint_of(hints: &Hints, list: &[NamedZone], name: &Name) -> Option<usize> {
     if list.len() == 1 {
         return Some(0);
     }
@@ -123,7 +123,7 @@ fn hint_of(hints: &Hints, list: &[Apex], name: &Name) -> Option<usize> {
 }
 
 /// Whether the name of these octets stands at a place.
-fn is_at(list: &[Apex], place: usize, octets: &[u8]) -> bool {
+fn is_at(list: &[NamedZone], place: usize, octets: &[u8]) -> bool {
     match list.get(place) {
         Some(apex) => apex.name.octets() == octets,
         None => false,
@@ -131,7 +131,7 @@ fn is_at(list: &[Apex], place: usize, octets: &[u8]) -> bool {
 }
 
 /// The longest of the names at or above one, which may stand at the place of a hint.
-fn longest_in(list: &[Apex], name: &Name, hint: Option<usize>) -> Option<u32>
+fn longest_in(list: &[NamedZone], name: &Name, hint: Option<usize>) -> Option<u32>
     requires { AreInOrder list.now }
     ensures { LongestName list.now name.now result }
 {
@@ -144,7 +144,7 @@ fn longest_in(list: &[Apex], name: &Name, hint: Option<usize>) -> Option<u32>
 }
 
 /// The number at a place, where its name is at or above one and no name of the list is below it.
-fn last_above(list: &[Apex], name: &Name, place: usize) -> Option<u32>
+fn last_above(list: &[NamedZone], name: &Name, place: usize) -> Option<u32>
     requires { AreInOrder list.now }
     ensures { IfSome result (λ id. IsLongestName list.now name.now id) }
 {
@@ -162,8 +162,8 @@ fn last_above(list: &[Apex], name: &Name, place: usize) -> Option<u32>
 }
 
 /// Whether a name at or below one stands at a place.
-fn has_below(list: &[Apex], name: &Name, place: usize) -> bool
-    ensures { (apex : Apex) → slice_get list.now place ≡ Some apex
+fn has_below(list: &[NamedZone], name: &Name, place: usize) -> bool
+    ensures { (apex : NamedZone) → slice_get list.now place ≡ Some apex
         → IsTrue result ↔ EndsWith apex.name name.now }
 {
     if place >= list.len() {
@@ -173,7 +173,7 @@ fn has_below(list: &[Apex], name: &Name, place: usize) -> bool
 }
 
 /// The longest of the names at or above one, looked for from that name upwards.
-fn climb(list: &[Apex], name: &Name) -> Option<u32>
+fn climb(list: &[NamedZone], name: &Name) -> Option<u32>
     requires { AreInOrder list.now }
     ensures { LongestName list.now name.now result }
 {
@@ -191,7 +191,7 @@ fn climb(list: &[Apex], name: &Name) -> Option<u32>
 }
 
 /// The number of the last name that isn't behind one, where it is at or above that.
-fn nearest(list: &[Apex], name: &Name) -> Option<u32>
+fn nearest(list: &[NamedZone], name: &Name) -> Option<u32>
     requires { AreInOrder list.now }
     ensures { LongestOrNot list.now name.now result }
 {
@@ -207,7 +207,7 @@ fn nearest(list: &[Apex], name: &Name) -> Option<u32>
 }
 
 /// How many names are one or come before it.
-fn count_to(list: &[Apex], name: &Name) -> usize
+fn count_to(list: &[NamedZone], name: &Name) -> usize
     requires { AreInOrder list.now }
     ensures { IsParted list.now name.now result result }
 {
@@ -222,7 +222,7 @@ fn count_to(list: &[Apex], name: &Name) -> usize
 }
 
 /// Looks at the name in the middle between two places.
-fn halve(list: &[Apex], name: &Name, low: usize, high: usize) -> (usize, usize)
+fn halve(list: &[NamedZone], name: &Name, low: usize, high: usize) -> (usize, usize)
     requires order { AreInOrder list.now }
     requires parted { IsParted list.now name.now low high }
     requires apart { low < high }
@@ -237,7 +237,7 @@ fn halve(list: &[Apex], name: &Name, low: usize, high: usize) -> (usize, usize)
 }
 
 /// Puts a name at its place. `false` where it is there, or there is no room.
-fn put(list: &mut Vec<Apex>, id: u32, name: &Name) -> bool
+fn put(list: &mut Vec<NamedZone>, id: u32, name: &Name) -> bool
     requires { AreInOrder list.old.items }
     ensures order { AreInOrder list.new.items }
     ensures put { IsTrue result
@@ -250,14 +250,14 @@ fn put(list: &mut Vec<Apex>, id: u32, name: &Name) -> bool
     if is_named(list, name, place) {
         return false;
     }
-    insert_at(list, place, Apex { id, name: *name });
+    insert_at(list, place, NamedZone { id, name: *name });
     true
 }
 
 /// Whether a name is the one in front of a place.
-fn is_named(list: &[Apex], name: &Name, place: usize) -> bool
+fn is_named(list: &[NamedZone], name: &Name, place: usize) -> bool
     requires { place ≤ length list.now }
-    ensures { (apex : Apex) → 0 < place → slice_get list.now (place - 1) ≡ Some apex
+    ensures { (apex : NamedZone) → 0 < place → slice_get list.now (place - 1) ≡ Some apex
         → IsTrue result ↔ (apex.name ≡ name.now) }
 {
     if place == 0 {
@@ -267,7 +267,7 @@ fn is_named(list: &[Apex], name: &Name, place: usize) -> bool
 }
 
 /// Puts one before a place.
-fn insert_at(list: &mut Vec<Apex>, place: usize, apex: Apex)
+fn insert_at(list: &mut Vec<NamedZone>, place: usize, apex: NamedZone)
     requires place { place ≤ length list.old.items }
     requires room { length list.old.items < vec_capacity list.old }
     ensures { list.new.items ≡ insert list.old.items place apex }
@@ -279,7 +279,7 @@ fn insert_at(list: &mut Vec<Apex>, place: usize, apex: Apex)
 }
 
 /// Takes the name of a number away.
-fn take(list: &mut Vec<Apex>, id: u32)
+fn take(list: &mut Vec<NamedZone>, id: u32)
     requires { AreInOrder list.old.items }
     ensures order { AreInOrder list.new.items }
     ensures without { IsWithout list.old.items id list.new.items }
@@ -290,7 +290,7 @@ fn take(list: &mut Vec<Apex>, id: u32)
 }
 
 /// The place of the zone of a number.
-fn place_of(list: &[Apex], id: u32) -> Option<usize>
+fn place_of(list: &[NamedZone], id: u32) -> Option<usize>
     ensures { FindsNumber list.now id result }
 {
     for place in 0..list.len() {

@@ -7,23 +7,23 @@ ghost use Rattle.zone_changes.specs.Sets.{key_of};
 ghost use Rattle.zone_changes.specs.Octets.{HasSpelling, set_octets};
 ghost use Rattle.zone_changes.specs.Sums.{sums_of};
 ghost use Rattle.zone_changes.specs.Placing.{IsThere};
-ghost use Rattle.zone_changes.specs.Placed.{sets_of};
+ghost use Rattle.zone_changes.specs.Slotted.{sets_of};
 ghost use Rattle.zone_list.specs.Changes.{AreThere, ref_in};
 ghost use Rattle.zone_list.specs.Steps.{cells_in_all, Comings, FoundBetween};
-ghost use Rattle.zone_list.specs.Steps.{Leaves, Leavings, PlaceOrNone};
-ghost use Rattle.zone_changes.specs.Orders.{IsOrder, OthersStay, placed_of};
+ghost use Rattle.zone_list.specs.Steps.{GoesUnlessCome, Goings, PlaceOrNone};
+ghost use Rattle.zone_changes.specs.Orders.{IsOrder, OthersStay, slotted_of};
 
 use crate::hints::Hints;
 use crate::refs::SetRef;
 use zone_changes::{
-    RecordSet, SetKey, SetStore, Sums, come, go, key_cmp, keys_are_ordered, of_zone, take_at,
+    RecordSet, SetKey, SetSlots, Sums, come, go, key_cmp, keys_are_ordered, of_zone, take_at,
 };
 
 /// These sets come into a zone, and their references are told. Hints tell where the first of them
 /// may stand, and are told where each does; where they come in zone order, each other one is looked
 /// for behind the one before.
 pub fn come_all(
-    store: &mut SetStore,
+    store: &mut SetSlots,
     zone: u32,
     order: &mut Vec<u32>,
     add: &[RecordSet],
@@ -40,13 +40,13 @@ pub fn come_all(
     requires places { vec_len order.old + length add.now ≤ vec_capacity order.old }
     requires none { added.old.items ≡ [] }
     requires refs { length add.now ≤ vec_capacity added.old }
-    requires sums { sums.old ≡ sums_of (placed_of store.old.slots zone order.old.items) }
+    requires sums { sums.old ≡ sums_of (slotted_of store.old.slots zone order.old.items) }
     ensures order { IsOrder store.new.slots zone order.new.items }
-    ensures comes { Comings zone (placed_of store.old.slots zone order.old.items) add.now
-        added.new.items (placed_of store.new.slots zone order.new.items) }
+    ensures comes { Comings zone (slotted_of store.old.slots zone order.old.items) add.now
+        added.new.items (slotted_of store.new.slots zone order.new.items) }
     ensures others { OthersStay zone store.old.slots store.new.slots }
     ensures slots { length store.new.slots ≡ length store.old.slots }
-    ensures sums { sums.new ≡ sums_of (placed_of store.new.slots zone order.new.items) }
+    ensures sums { sums.new ≡ sums_of (slotted_of store.new.slots zone order.new.items) }
     ensures sets { store.new.free + length order.new.items
         ≡ store.old.free + length order.old.items }
 {
@@ -86,7 +86,7 @@ fn note(hints: &mut Hints, set: &RecordSet, behind: Option<usize>, count: usize)
 /// The sets of these keys go from a zone, but for those that came for one. Their references are
 /// told.
 pub fn leave_all(
-    store: &mut SetStore,
+    store: &mut SetSlots,
     zone: u32,
     order: &mut Vec<u32>,
     keys: &[SetKey],
@@ -96,18 +96,18 @@ pub fn leave_all(
     sums: &mut Sums,
 )
     requires order { IsOrder store.old.slots zone order.old.items }
-    requires there { AreThere (sets_of (placed_of store.old.slots zone order.old.items)) keys.now }
+    requires there { AreThere (sets_of (slotted_of store.old.slots zone order.old.items)) keys.now }
     requires told { length added.now ≡ length add.now }
     requires none { removed.old.items ≡ [] }
     requires room { length keys.now ≤ vec_capacity removed.old }
-    requires sums { sums.old ≡ sums_of (placed_of store.old.slots zone order.old.items) }
+    requires sums { sums.old ≡ sums_of (slotted_of store.old.slots zone order.old.items) }
     ensures order { IsOrder store.new.slots zone order.new.items }
-    ensures leaves { Leavings zone add.now added.now
-        (placed_of store.old.slots zone order.old.items) keys.now removed.new.items
-        (placed_of store.new.slots zone order.new.items) }
+    ensures leaves { Goings zone add.now added.now
+        (slotted_of store.old.slots zone order.old.items) keys.now removed.new.items
+        (slotted_of store.new.slots zone order.new.items) }
     ensures others { OthersStay zone store.old.slots store.new.slots }
     ensures slots { length store.new.slots ≡ length store.old.slots }
-    ensures sums { sums.new ≡ sums_of (placed_of store.new.slots zone order.new.items) }
+    ensures sums { sums.new ≡ sums_of (slotted_of store.new.slots zone order.new.items) }
     ensures sets { store.new.free + length order.new.items
         ≡ store.old.free + length order.old.items }
 {
@@ -130,7 +130,7 @@ fn behind(at: Option<usize>, hint: usize) -> usize {
 
 /// The set of a key goes from a zone, unless one came for it, at this place. Its slot is told.
 fn leave(
-    store: &mut SetStore,
+    store: &mut SetSlots,
     zone: u32,
     order: &mut Vec<u32>,
     key: &SetKey,
@@ -140,17 +140,17 @@ fn leave(
     sums: &mut Sums,
 ) -> u32
     requires order { IsOrder store.old.slots zone order.old.items }
-    requires there { IsThere (sets_of (placed_of store.old.slots zone order.old.items)) key.now }
+    requires there { IsThere (sets_of (slotted_of store.old.slots zone order.old.items)) key.now }
     requires at { PlaceOrNone add.now key.now at }
     requires told { length added.now ≡ length add.now }
-    requires sums { sums.old ≡ sums_of (placed_of store.old.slots zone order.old.items) }
+    requires sums { sums.old ≡ sums_of (slotted_of store.old.slots zone order.old.items) }
     ensures order { IsOrder store.new.slots zone order.new.items }
-    ensures leaves { Leaves add.now added.now
-        (placed_of store.old.slots zone order.old.items) key.now result
-        (placed_of store.new.slots zone order.new.items) }
+    ensures leaves { GoesUnlessCome add.now added.now
+        (slotted_of store.old.slots zone order.old.items) key.now result
+        (slotted_of store.new.slots zone order.new.items) }
     ensures others { OthersStay zone store.old.slots store.new.slots }
     ensures slots { length store.new.slots ≡ length store.old.slots }
-    ensures sums { sums.new ≡ sums_of (placed_of store.new.slots zone order.new.items) }
+    ensures sums { sums.new ≡ sums_of (slotted_of store.new.slots zone order.new.items) }
     ensures sets { store.new.free + length order.new.items
         ≡ store.old.free + length order.old.items }
 {
@@ -197,10 +197,10 @@ fn has_key(set: &RecordSet, key: &SetKey) -> bool
 }
 
 /// Tells the references of the sets in these slots, in their order.
-pub fn tell_all(store: &SetStore, order: &[u32], zone: u32, told: &mut Vec<SetRef>)
+pub fn tell_all(store: &SetSlots, order: &[u32], zone: u32, told: &mut Vec<SetRef>)
     requires none { told.old.items ≡ [] }
     requires room { length order.now ≤ vec_capacity told.old }
-    ensures { told.new.items ≡ map (ref_in zone) (placed_of store.now.slots zone order.now) }
+    ensures { told.new.items ≡ map (ref_in zone) (slotted_of store.now.slots zone order.now) }
 {
     for slot in order {
         told.push_reserved(SetRef { zone, slot: *slot });
@@ -208,7 +208,7 @@ pub fn tell_all(store: &SetStore, order: &[u32], zone: u32, told: &mut Vec<SetRe
 }
 
 /// All sets of a zone go, the last one first.
-pub fn clear(store: &mut SetStore, zone: u32, order: &mut Vec<u32>)
+pub fn clear(store: &mut SetSlots, zone: u32, order: &mut Vec<u32>)
     requires { IsOrder store.old.slots zone order.old.items }
     ensures order { IsOrder store.new.slots zone [] }
     ensures others { OthersStay zone store.old.slots store.new.slots }

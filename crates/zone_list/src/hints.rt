@@ -7,8 +7,8 @@
 
 ghost use Rattle.zone_changes.specs.Orders.{IsOrder};
 
-use crate::apexes::Apex;
-use zone_changes::{SetStore, hash_of};
+use crate::apexes::NamedZone;
+use zone_changes::{SetSlots, hash_of};
 
 /// An entry that tells nothing.
 const NOTHING: u32 = 0xffff_ffff;
@@ -106,7 +106,7 @@ impl Hints {
 
     /// Makes the table anew where its entries are wrong by too much; where that is put off, only if
     /// sets that were there were changed, as many as a sixteenth of all.
-    pub fn settle(&mut self, store: &SetStore, zone: u32, order: &[u32], put_off: bool)
+    pub fn settle(&mut self, store: &SetSlots, zone: u32, order: &[u32], put_off: bool)
         requires { IsOrder store.now.slots zone order.now }
     {
         if !self.is_old(order.len()) {
@@ -127,7 +127,7 @@ impl Hints {
     }
 
     /// Tells that the name of a zone came or went, and makes the table anew where these are many.
-    pub fn refresh_names(&mut self, list: &[Apex]) {
+    pub fn refresh_names(&mut self, list: &[NamedZone]) {
         self.moved = self.moved.saturating_add(1);
         if self.moved > list.len() / 64 {
             clear(&mut self.entries);
@@ -145,7 +145,7 @@ fn clear(entries: &mut Vec<u32>) {
 }
 
 /// Puts an entry for each name of the sets in these slots.
-fn fill(entries: &mut Vec<u32>, store: &SetStore, zone: u32, order: &[u32])
+fn fill(entries: &mut Vec<u32>, store: &SetSlots, zone: u32, order: &[u32])
     requires { IsOrder store.now.slots zone order.now }
 {
     let mut place: u32 = 0;
@@ -156,7 +156,7 @@ fn fill(entries: &mut Vec<u32>, store: &SetStore, zone: u32, order: &[u32])
 }
 
 /// Puts an entry for each of these names.
-fn fill_names(entries: &mut Vec<u32>, list: &[Apex]) {
+fn fill_names(entries: &mut Vec<u32>, list: &[NamedZone]) {
     let mut place: u32 = 0;
     for apex in list {
         put(entries, hash_of(apex.name.octets()), place);

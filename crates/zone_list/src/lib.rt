@@ -11,15 +11,15 @@ mod hints;
 mod refs;
 mod stored;
 
-pub use apexes::{Apex, Apexes};
+pub use apexes::{Apexes, NamedZone};
 pub use finding::{find_zone, first_from, longest, next_id};
 pub use hints::Hints;
 pub use octets::OutOfMemory;
 pub use refs::{SetRef, SetRefs};
 pub use stored::StoredZone;
 pub use zone_changes::{
-    Name, RType, RecordSet, Scratch, SetKey, SetList, SetStore, Stop, Sums, Watch, ZoneView,
+    Name, RType, RecordSet, Scratch, SetKey, SetList, SetSlots, Stop, Sums, Watch, ZoneSets,
     before_key, behind_key, behind_text, cells_for, closest_in, count_before, exists_in,
     fields_are_read, find, group_in, has_spelling, key_cmp, keys_are_ordered, make_room, no_sums,
-    region_at, set_len, sub_at, view_of,
+    region_at, set_len, sets_in_order, sub_at,
 };

@@ -7,14 +7,14 @@ ghost use Rattle.zone_changes.specs.Octets.{set_octets};
 ghost use Rattle.zone_changes.specs.Sums.{sums_of};
 ghost use Rattle.zone_list.specs.Changes.{CanChange, Changes, ref_in};
 ghost use Rattle.zone_list.specs.Steps.{cells_in_all};
-ghost use Rattle.zone_changes.specs.Orders.{IsOrder, OthersStay, placed_of};
+ghost use Rattle.zone_changes.specs.Orders.{IsOrder, OthersStay, slotted_of};
 
 use crate::changing::{clear, come_all, leave_all, tell_all};
 use crate::hints::Hints;
 use crate::refs::SetRef;
 use octets::OutOfMemory;
 use std::marker::Model;
-use zone_changes::{Name, RecordSet, SetKey, SetStore, Sums, no_sums};
+use zone_changes::{Name, RecordSet, SetKey, SetSlots, Sums, no_sums};
 
 /// A zone. Contracts see its number, its name, the slots of its sets in zone order, how many more
 /// of them it can take without memory, and what is counted of them.
@@ -115,7 +115,7 @@ impl StoredZone {
     /// are told.
     pub fn change(
         &mut self,
-        store: &mut SetStore,
+        store: &mut SetSlots,
         remove: &[SetKey],
         add: &[RecordSet],
         buffer: &mut [u8],
@@ -124,7 +124,7 @@ impl StoredZone {
     )
         requires order { IsOrder store.old.slots self.old.id self.old.order }
         requires can { CanChange self.old.apex
-            (placed_of store.old.slots self.old.id self.old.order) remove.now add.now }
+            (slotted_of store.old.slots self.old.id self.old.order) remove.now add.now }
         requires none_removed { removed.old.items ≡ [] }
         requires none_added { added.old.items ≡ [] }
         requires removable { length remove.now ≤ vec_capacity removed.old }
@@ -135,17 +135,17 @@ impl StoredZone {
         requires slots { length add.now ≤ store.old.free }
         requires places { length add.now ≤ self.old.room }
         requires sums { self.old.sums
-            ≡ sums_of (placed_of store.old.slots self.old.id self.old.order) }
+            ≡ sums_of (slotted_of store.old.slots self.old.id self.old.order) }
         ensures id { self.new.id ≡ self.old.id }
         ensures apex { self.new.apex ≡ self.old.apex }
         ensures order { IsOrder store.new.slots self.new.id self.new.order }
-        ensures changes { Changes self.old.id (placed_of store.old.slots self.old.id self.old.order)
+        ensures changes { Changes self.old.id (slotted_of store.old.slots self.old.id self.old.order)
             remove.now add.now removed.new.items added.new.items
-            (placed_of store.new.slots self.new.id self.new.order) }
+            (slotted_of store.new.slots self.new.id self.new.order) }
         ensures others { OthersStay self.old.id store.old.slots store.new.slots }
         ensures slots { length store.new.slots ≡ length store.old.slots }
         ensures sums { self.new.sums
-            ≡ sums_of (placed_of store.new.slots self.new.id self.new.order) }
+            ≡ sums_of (slotted_of store.new.slots self.new.id self.new.order) }
         ensures sets { store.new.free + length self.new.order
             ≡ store.old.free + length self.old.order }
     {
@@ -176,7 +176,7 @@ impl StoredZone {
 
     /// Makes its hints anew where they are old, or where that is put off, only if it pays at once.
     /// Nothing else changes.
-    pub fn settle(&mut self, store: &SetStore, put_off: bool)
+    pub fn settle(&mut self, store: &SetSlots, put_off: bool)
         requires { IsOrder store.now.slots self.old.id self.old.order }
         ensures { self.new ≡ self.old }
     {
@@ -184,12 +184,12 @@ impl StoredZone {
     }
 
     /// The zone goes, with all its sets. Their references are told, in zone order.
-    pub fn close(mut self, store: &mut SetStore, removed: &mut Vec<SetRef>)
+    pub fn close(mut self, store: &mut SetSlots, removed: &mut Vec<SetRef>)
         requires order { IsOrder store.old.slots self.id self.order }
         requires none { removed.old.items ≡ [] }
         requires room { length self.order ≤ vec_capacity removed.old }
         ensures told { removed.new.items
-            ≡ map (ref_in self.id) (placed_of store.old.slots self.id self.order) }
+            ≡ map (ref_in self.id) (slotted_of store.old.slots self.id self.order) }
         ensures order { IsOrder store.new.slots self.id [] }
         ensures others { OthersStay self.id store.old.slots store.new.slots }
         ensures slots { length store.new.slots ≡ length store.old.slots }

@@ -22,7 +22,7 @@ use Rattle.policy_select.specs.Zones.{StandsAlone, Zone, placed_in}
 use Rattle.policy_select.proofs.ListsOfZoneModel.{some_one}
 use Rattle.policy_select.specs.Existing.{Exists}
 use Rattle.policy_select.specs.Keys.{ident_cmp}
-use Rattle.policy_select.specs.Placed.{sets_of}
+use Rattle.policy_select.specs.Slotted.{sets_of}
 use Rattle.policy_select.specs.ZonesOfZoneModel.{IsRising}
 use Rattle.policy_select.specs.Groups.{sets_in_zone}
 use Rattle.zone_lookup.specs.Standing.{AreBeside, IsNearest, IsUnder, NamedAt, NamedBefore}

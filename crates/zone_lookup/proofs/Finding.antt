@@ -9,9 +9,9 @@ use Rattle.policy_select.proofs.Listing.{its_placed, one_zone}
 use Rattle.policy_select.proofs.MembersOfZoneList.{in_all}
 use Rattle.policy_select.specs.Zones.{AreListed, AreZones, IsOne, Zone, hosted, placed_in}
 use Rattle.policy_select.specs.Hosted.{HostedZone}
-use Rattle.policy_select.specs.Placed.{Placed, sets_of}
+use Rattle.policy_select.specs.Slotted.{Slotted, sets_of}
 use Rattle.policy_select.proofs.Naming.{in_map, of_map}
-use Rattle.policy_select.specs.Looking.{Holds, IsApex}
+use Rattle.policy_select.specs.Looking.{IsZoneFor, IsApex}
 use Rattle.policy_select.specs.Laws.{ZoneOrNone, ZonesAreLongest}
 use Rattle.policy_select.specs.Sections.{is_zone}
 use Rattle.policy_select.specs.ZonesOfAnswerModel.{zone_for}
@@ -45,7 +45,7 @@ pub its_hosted : (zones : List Zone) → AreListed zones → (x : Zone) → IsOn
 its_hosted zones listed x there id apex its_id its_apex =
     ap (λ (n : ℕ). record { id = n; apex = x.apex; sets = sets_of x.placed }) its_id
     ∙ (ap (λ (a : List (List ℕ)). record { id = id; apex = a; sets = sets_of x.placed }) its_apex
-    ∙ ap (λ (ps : List Placed). record { id = id; apex = apex; sets = sets_of ps })
+    ∙ ap (λ (ps : List Slotted). record { id = id; apex = apex; sets = sets_of ps })
     (sym (its_placed zones listed x there) ∙ ap (placed_in zones) its_id))
 
 -- two zones of one name are one
@@ -79,7 +79,7 @@ module _ (zones : List Zone) (are : AreZones zones) (longest : ZonesAreLongest)
           (subst (λ (h : HostedZone). EndsWith name h.apex) (sym from.2) is.above))
 
   -- the zone that holds the name is the one that is found
-  pub it_holds : (id : ℕ) (apex : List (List ℕ)) → Holds zones name id → IsApex zones id apex
+  pub it_holds : (id : ℕ) (apex : List (List ℕ)) → IsZoneFor zones name id → IsApex zones id apex
       → zone_for (hosted_of zones) name ≡ Some (zone_of zones id apex)
   it_holds id apex holds (x, there, its_id, its_apex) =
       by (zone_for (hosted_of zones) name) (longest (hosted_of zones) name)
@@ -117,14 +117,14 @@ served_sets zones are served id apex (x, there, its_id, its_apex) =
     let placed : x.placed ≡ placed_in zones id =
     sym (its_placed zones are.listed x there) ∙ ap (placed_in zones) its_id in
     let can = served.each x there in (
-      subst (λ (ps : List Placed). ps ≢ []) placed can.some,
-      subst (λ (ps : List Placed). FewInGroups (sets_of ps)) placed can.few,
+      subst (λ (ps : List Slotted). ps ≢ []) placed can.some,
+      subst (λ (ps : List Slotted). FewInGroups (sets_of ps)) placed can.few,
     )
 
 -- whether the zone that holds a name is the one of a number
 module _ (zones : List Zone) (are : AreZones zones) (longest : ZonesAreLongest)
     (name : List (List ℕ)) (zone : ℕ) where
-  pub same_number : (apex : List (List ℕ)) (found : ℕ) → Holds zones name found
+  pub same_number : (apex : List (List ℕ)) (found : ℕ) → IsZoneFor zones name found
       → (found == zone) ≡ is_zone (zone_of zones zone apex) (zone_for (hosted_of zones) name)
   same_number apex found holds =
       turned found zone
@@ -137,7 +137,7 @@ module _ (zones : List Zone) (are : AreZones zones) (longest : ZonesAreLongest)
   none_so apex none =
       ap (is_zone (zone_of zones zone apex)) (sym (none_holds zones are longest name none))
 
-  pub is_inside : (apex : List (List ℕ)) (found : ℕ) → Holds zones name found
+  pub is_inside : (apex : List (List ℕ)) (found : ℕ) → IsZoneFor zones name found
       → IsApex zones zone apex → (found == zone) ≡ true → EndsWith name apex
   is_inside apex found holds (x, there, its_id, its_apex) same =
       let one : holds.zone ≡ x = one_zone zones are.listed holds.zone x holds.there there

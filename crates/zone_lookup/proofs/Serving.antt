@@ -14,27 +14,27 @@ use Rattle.policy_select.specs.Found.{IsNextZone}
 use Rattle.policy_select.specs.Zones.{AreZones, IsOne, StandsAlone, Zone, placed_in}
 use Rattle.policy_select.specs.SetRefRecord.{SetRef}
 use Rattle.policy_select.proofs.Among.{among_at}
-use Rattle.policy_select.specs.Placed.{Placed, sets_of}
+use Rattle.policy_select.specs.Slotted.{Slotted, sets_of}
 use Rattle.policy_select.specs.ZonesOfZoneModel.{IsAmong}
-use Rattle.policy_select.specs.Looking.{IsSetAt, Names}
+use Rattle.policy_select.specs.Looking.{IsSetAt, RefersTo}
 use Rattle.zone_lookup.specs.Served.{AreServed, CanAnswer}
 
 -- the set that the reference of a place names stands there
 pub record IsNamedAt (zones : List Zone) (id i : ℕ) (ref : SetRef) : Type 0 where
   pub set : RecordSet
-  pub names : Names zones ref set
+  pub names : RefersTo zones ref set
   pub at : slice_get (sets_in_zone zones id) i ≡ Some set
 
 pub named_at : (zones : List Zone) (id i : ℕ) (ref : SetRef) → IsSetAt zones id i (Some ref)
     → IsNamedAt zones id i ref
 named_at zones id i ref (its_zone, (set, at)) =
-    let p : Placed = record { slot = ref.slot; set = set } in
+    let p : Slotted = record { slot = ref.slot; set = set } in
     record {
       set = set;
       names = subst (λ (z : ℕ). IsAmong (placed_in zones z) p) (sym its_zone)
           (among_at (placed_in zones id) i p at);
-      at = slice_get-map (λ (q : Placed). q.set) (placed_in zones id) i
-          ∙ ap (option_map (λ (q : Placed). q.set)) at;
+      at = slice_get-map (λ (q : Slotted). q.set) (placed_in zones id) i
+          ∙ ap (option_map (λ (q : Slotted). q.set)) at;
     }
 
 -- the zone of a number has a set, and few in each group
@@ -50,16 +50,16 @@ module _ (zones : List Zone) (are : AreZones zones) where
   can_be zone there can =
       let placed : placed_in zones zone.id ≡ zone.placed = its_placed zones are.listed zone there in
       record {
-        some = subst (λ (ps : List Placed). ps ≢ []) placed can.0;
-        few = subst (λ (ps : List Placed). FewInGroups (sets_of ps)) placed can.1;
+        some = subst (λ (ps : List Slotted). ps ≢ []) placed can.0;
+        few = subst (λ (ps : List Slotted). FewInGroups (sets_of ps)) placed can.1;
       }
 
   was : (zone : Zone) → IsOne zones zone → CanAnswer zone → CanBeAnswered zones zone.id
   was zone there can =
       let placed : zone.placed ≡ placed_in zones zone.id =
       sym (its_placed zones are.listed zone there) in (
-        subst (λ (ps : List Placed). ps ≢ []) placed can.some,
-        subst (λ (ps : List Placed). FewInGroups (sets_of ps)) placed can.few,
+        subst (λ (ps : List Slotted). ps ≢ []) placed can.some,
+        subst (λ (ps : List Slotted). FewInGroups (sets_of ps)) placed can.few,
       )
 
   -- no zone has number 0
@@ -93,4 +93,4 @@ module _ (zones : List Zone) (are : AreZones zones) where
 -- as many sets as sets with slots
 pub as_many : (zones : List Zone) (id : ℕ)
     → length (sets_in_zone zones id) ≡ length (placed_in zones id)
-as_many zones id = length-map (placed_in zones id) (λ (q : Placed). q.set)
+as_many zones id = length-map (placed_in zones id) (λ (q : Slotted). q.set)

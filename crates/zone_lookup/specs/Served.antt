@@ -3,7 +3,7 @@ use Rattle.std.specs.Prelude.{◌≡◌, ◌≢◌, ℕ, List, [], map, Option, 
 use Rattle.std.specs.Borrow.{Bor}
 use Rattle.policy_select.specs.Zones.{Zone, IsOne, hosted}
 use Rattle.policy_select.specs.Hosted.{HostedZone}
-use Rattle.policy_select.specs.Placed.{sets_of}
+use Rattle.policy_select.specs.Slotted.{sets_of}
 use Rattle.policy_select.specs.Looking.{IsApex}
 use Rattle.policy_select.specs.ZonesOfAnswerModel.{zone_for}
 use Rattle.policy_select.specs.Groups.{FewInGroups, sets_in_zone}

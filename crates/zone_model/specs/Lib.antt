@@ -4,7 +4,7 @@ pub mod Hosted
 pub mod KeyLaws
 pub mod Keys
 pub mod Laws
-pub mod Placed
+pub mod Slotted
 pub mod Placing
 pub mod Walks
 pub mod Zones

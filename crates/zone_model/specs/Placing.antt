@@ -25,10 +25,10 @@ abbrev pub placed : RecordSet → List RecordSet → List RecordSet
 placed set sets = filter (comes_before (key_of set)) sets ++ set ∷ filter (comes_behind (key_of set)) sets
 
 -- The kept set is the one of this key.
-pub record Keeps (sets : List RecordSet) (key : SetKey) (kept : RecordSet) : Type 0 where
+pub record IsSetOf (sets : List RecordSet) (key : SetKey) (kept : RecordSet) : Type 0 where
   pub there : IsAmong sets kept
   pub same_key : key_of kept ≡ key
 
 -- a set of this key is there
 abbrev pub IsThere : List RecordSet → SetKey → Type 0
-IsThere sets key = (kept : RecordSet) × Keeps sets key kept
+IsThere sets key = (kept : RecordSet) × IsSetOf sets key kept

@@ -13,9 +13,9 @@ use Rattle.set_store.specs.Found.{FindsAt}
 use Rattle.set_store.specs.Index.{no_set}
 use Rattle.set_store.proofs.Lists.{same_or_not, set_agree}
 use Rattle.set_store.proofs.Among.{among_at}
-use Rattle.set_store.specs.Placed.{Placed, sets_of}
+use Rattle.set_store.specs.Slotted.{Slotted, sets_of}
 use Rattle.set_store.proofs.ListsOfZoneModel.{all_found}
-use Rattle.zone_order.specs.Orders.{AreDistinct, HasSet, IsOrderBy, placed_at, placed_by}
+use Rattle.zone_order.specs.Orders.{AreDistinct, HasSet, IsOrderBy, slotted_at, slotted_by}
 use Rattle.zone_order.proofs.Orders.{Updates}
 
 -- an element replaced by itself
@@ -64,17 +64,17 @@ rising_stay (x ∷ sets) (suc i) was it at same rising =
 module _ (get now : ℕ → Option RecordSet) (order : List ℕ) (n k : ℕ) (it : RecordSet)
     (h : IsOrderBy get order)
     (at_n : slice_get order n ≡ Some k) (updates : Updates get now k (Some it))
-    (found : FindsAt (sets_of (placed_by get order)) (key_of it) n) where
-  abbrev new : Placed
+    (found : FindsAt (sets_of (slotted_by get order)) (key_of it) n) where
+  abbrev new : Slotted
   new = record { slot = k; set = it }
 
-  pub replaced : placed_by now order ≡ set (placed_by get order) n new
+  pub replaced : slotted_by now order ≡ set (slotted_by get order) n new
   replaced =
-      let here : placed_at now k ≡ new =
+      let here : slotted_at now k ≡ new =
       ap (λ (found : Option RecordSet). record { slot = k; set = unwrap_or found no_set }) updates.changed in
-      ap (map (placed_at now)) (sym (set_itself order n k at_n)) ∙ map-set (placed_at now) order n k
-      ∙ ap (λ v. set (placed_by now order) n v) here
-      ∙ set_agree (placed_at now) (placed_at get) order n new
+      ap (map (slotted_at now)) (sym (set_itself order n k at_n)) ∙ map-set (slotted_at now) order n k
+      ∙ ap (λ v. set (slotted_by now order) n v) here
+      ∙ set_agree (slotted_at now) (slotted_at get) order n new
       (λ j x apart at. ap (λ (found : Option RecordSet). record { slot = x; set = unwrap_or found no_set })
       (updates.others x (apart_at order h.distinct n j k x at_n at apart)))
 
@@ -100,8 +100,8 @@ module _ (get now : ℕ → Option RecordSet) (order : List ℕ) (n k : ℕ) (it
     only = only;
     distinct = h.distinct;
     few = h.few;
-    rising = subst IsRising (sym (ap sets_of replaced ∙ map-set (λ (p : Placed). p.set)
-        (placed_by get order) n new))
-        (rising_stay (sets_of (placed_by get order)) n found.kept it found.there
+    rising = subst IsRising (sym (ap sets_of replaced ∙ map-set (λ (p : Slotted). p.set)
+        (slotted_by get order) n new))
+        (rising_stay (sets_of (slotted_by get order)) n found.kept it found.there
         (sym found.same_key) h.rising);
   }

@@ -8,8 +8,8 @@ use Rattle.std.proofs.lemmas.Bool.Decides.{eqb_tells}
 use Rattle.set_store.specs.RecordSetRecord.{RecordSet}
 use Rattle.set_store.specs.Stored.{IsKept, IsVacant, Kept}
 use Rattle.set_store.proofs.Lists.{same_or_not}
-use Rattle.set_store.specs.Placed.{Placed, sets_of}
-use Rattle.zone_order.specs.Orders.{HasSet, of_zone, OthersStay, placed_of, set_in}
+use Rattle.set_store.specs.Slotted.{Slotted, sets_of}
+use Rattle.zone_order.specs.Orders.{HasSet, of_zone, OthersStay, slotted_of, set_in}
 use Rattle.zone_order.proofs.Orders.{Updates, at_place}
 
 -- a set of the zone
@@ -76,24 +76,24 @@ pub kept_at : (slots : List (Option Kept)) (zone : ℕ) (order : List ℕ)
     → AllByRecursion (λ k. HasSet (set_in slots zone) k) order
     → (i k : ℕ) → slice_get order i ≡ Some k
     → (set : RecordSet) × IsKept slots k (record { zone = zone; set = set })
-    × (slice_get (sets_of (placed_of slots zone order)) i ≡ Some set)
+    × (slice_get (sets_of (slotted_of slots zone order)) i ≡ Some set)
 kept_at slots zone order present i k at =
     let is = at_place (set_in slots zone) order present i k at in (
       is.0,
       its_kept slots zone k is.0 is.1,
-      slice_get-map (λ (p : Placed). p.set) (placed_of slots zone order) i
-          ∙ ap (λ (o : Option Placed). option_map (λ (p : Placed). p.set) o) is.2,
+      slice_get-map (λ (p : Slotted). p.set) (slotted_of slots zone order) i
+          ∙ ap (λ (o : Option Slotted). option_map (λ (p : Slotted). p.set) o) is.2,
     )
 
-told_set : (o : Option Placed) (k : ℕ) (set : RecordSet) (was : Placed)
+told_set : (o : Option Slotted) (k : ℕ) (set : RecordSet) (was : Slotted)
     → o ≡ Some (record { slot = k; set = set }) → o ≡ Some was → set ≡ was.set
 told_set o k set was e f = let same : record { slot = k; set = set } ≡ was = cc in
-    ap (λ (p : Placed). p.set) same
+    ap (λ (p : Slotted). p.set) same
 
 -- what is kept in the slot at a place is the set there
 pub kept_there : (slots : List (Option Kept)) (zone : ℕ) (order : List ℕ)
     → AllByRecursion (λ k. HasSet (set_in slots zone) k) order → (i k : ℕ) → slice_get order i ≡ Some k
-    → (was : Placed) → slice_get (placed_of slots zone order) i ≡ Some was
+    → (was : Slotted) → slice_get (slotted_of slots zone order) i ≡ Some was
     → IsKept slots k (record { zone = zone; set = was.set })
 kept_there slots zone order present i k at was is =
     let found = at_place (set_in slots zone) order present i k at in

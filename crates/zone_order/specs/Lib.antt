@@ -1,5 +1,5 @@
 pub mod Orders
-pub use Rattle.set_store.specs.Placed
+pub use Rattle.set_store.specs.Slotted
 pub use Rattle.set_store.specs.Servers
 pub use Rattle.set_store.specs.Stored
 pub use Rattle.set_store.specs.Telling

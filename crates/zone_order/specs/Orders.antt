@@ -6,7 +6,7 @@ use Rattle.set_store.specs.RecordSetRecord.{RecordSet}
 use Rattle.set_store.specs.Index.{no_set}
 use Rattle.set_store.specs.Stored.{Kept}
 use Rattle.set_store.specs.Zones.{IsAmong, IsRising}
-use Rattle.set_store.specs.Placed.{Placed, sets_of}
+use Rattle.set_store.specs.Slotted.{Slotted, sets_of}
 
 -- a set that is kept, where it is of the zone
 abbrev pub of_zone : ℕ → Option (Option Kept) → Option RecordSet
@@ -18,16 +18,16 @@ of_zone zone (Some (Some kept)) = if kept.zone == zone then Some kept.set else N
 abbrev pub set_in : List (Option Kept) → (zone : ℕ) → (slot : ℕ) → Option RecordSet
 set_in slots zone slot = of_zone zone (slice_get slots slot)
 
-abbrev pub placed_at : (get : ℕ → Option RecordSet) → (slot : ℕ) → Placed
-placed_at get slot = record { slot = slot; set = unwrap_or (get slot) no_set }
+abbrev pub slotted_at : (get : ℕ → Option RecordSet) → (slot : ℕ) → Slotted
+slotted_at get slot = record { slot = slot; set = unwrap_or (get slot) no_set }
 
 -- the sets of slots
-abbrev pub placed_by : (get : ℕ → Option RecordSet) → List ℕ → List Placed
-placed_by get order = map (placed_at get) order
+abbrev pub slotted_by : (get : ℕ → Option RecordSet) → List ℕ → List Slotted
+slotted_by get order = map (slotted_at get) order
 
 -- the sets of a zone in its order
-abbrev pub placed_of : List (Option Kept) → (zone : ℕ) → (order : List ℕ) → List Placed
-placed_of slots zone order = placed_by (set_in slots zone) order
+abbrev pub slotted_of : List (Option Kept) → (zone : ℕ) → (order : List ℕ) → List Slotted
+slotted_of slots zone order = slotted_by (set_in slots zone) order
 
 -- none stands twice
 abbrev pub AreDistinct : List ℕ → Type 0
@@ -43,7 +43,7 @@ pub record IsOrderBy (get : ℕ → Option RecordSet) (order : List ℕ) : Type 
   pub only : (k : ℕ) (set : RecordSet) → get k ≡ Some set → IsAmong order k
   pub distinct : AreDistinct order
   pub few : AllByRecursion (λ k. k < 2 ^ 32) order
-  pub rising : IsRising (sets_of (placed_by get order))
+  pub rising : IsRising (sets_of (slotted_by get order))
 
 -- the slots of the zone's sets, in zone order
 abbrev pub IsOrder : List (Option Kept) → (zone : ℕ) → (order : List ℕ) → Type 0

@@ -11,15 +11,15 @@ ghost use Rattle.set_store.specs.RecordSetRecord.{RecordSet};
 ghost use Rattle.set_store.specs.Octets.{set_octets};
 ghost use Rattle.set_store.specs.Found.{FindsAt, FindsNone};
 ghost use Rattle.set_store.specs.Stored.{IsSpelling, Spells};
-ghost use Rattle.zone_order.specs.Orders.{IsOrder, OthersStay, placed_of, set_in};
-ghost use Rattle.set_store.specs.Placed.{IsPut, IsSlotAt, IsTakenAt, Placed, sets_of};
+ghost use Rattle.zone_order.specs.Orders.{IsOrder, OthersStay, slotted_of, set_in};
+ghost use Rattle.set_store.specs.Slotted.{IsPut, IsSlotAt, IsTakenAt, Slotted, sets_of};
 
 use crate::views::slot_at;
-use set_store::{OutOfMemory, SetStore, placed_rise};
+use set_store::{OutOfMemory, SetSlots, placed_rise};
 
 /// Makes room in the store for so many more sets, of so many cells in all. The sets of all zones
 /// stay in their slots, and room that was there stays, also where memory runs out.
-pub fn make_room(store: &mut SetStore, slots: usize, cells: usize) -> Result<(), OutOfMemory>
+pub fn make_room(store: &mut SetSlots, slots: usize, cells: usize) -> Result<(), OutOfMemory>
     ensures stay { (zone slot : ℕ) → set_in store.new.slots zone slot ≡ set_in store.old.slots zone
         slot }
     ensures orders { (zone : ℕ) (order : List ℕ) → IsOrder store.old.slots zone order
@@ -36,7 +36,7 @@ pub fn make_room(store: &mut SetStore, slots: usize, cells: usize) -> Result<(),
 
 /// Puts a set, told by its octets, before a place of a zone, and answers its slot.
 pub fn put_at(
-    store: &mut SetStore,
+    store: &mut SetSlots,
     zone: u32,
     order: &mut Vec<u32>,
     place: usize,
@@ -45,15 +45,15 @@ pub fn put_at(
     requires order { IsOrder store.old.slots zone order.old.items }
     requires spelling { IsSpelling octets.now }
     requires absent { (set : RecordSet) → Spells octets.now set
-        → FindsNone (sets_of (placed_of store.old.slots zone order.old.items)) (key_of set) place }
+        → FindsNone (sets_of (slotted_of store.old.slots zone order.old.items)) (key_of set) place }
     requires cells { cells_for (length octets.now) ≤ store.old.cells }
     requires slot { 0 < store.old.free }
     requires room { vec_len order.old < vec_capacity order.old }
     ensures order { IsOrder store.new.slots zone order.new.items }
     ensures put { (set : RecordSet) → Spells octets.now set
-        → IsPut (placed_of store.old.slots zone order.old.items)
+        → IsPut (slotted_of store.old.slots zone order.old.items)
         (record { slot = result; set = set })
-        (placed_of store.new.slots zone order.new.items) }
+        (slotted_of store.new.slots zone order.new.items) }
     ensures others { OthersStay zone store.old.slots store.new.slots }
     ensures slots { length store.new.slots ≡ length store.old.slots }
     ensures cells { store.new.cells ≡ store.old.cells - cells_for (length octets.now) }
@@ -68,16 +68,16 @@ pub fn put_at(
 }
 
 /// Takes away the set at a place of a zone, and answers the slot that it had.
-pub fn take_at(store: &mut SetStore, zone: u32, order: &mut Vec<u32>, place: usize) -> u32
+pub fn take_at(store: &mut SetSlots, zone: u32, order: &mut Vec<u32>, place: usize) -> u32
     requires order { IsOrder store.old.slots zone order.old.items }
     requires place { place < length order.old.items }
     ensures order { IsOrder store.new.slots zone order.new.items }
-    ensures taken { IsTakenAt (placed_of store.old.slots zone order.old.items) place result
-        (placed_of store.new.slots zone order.new.items) }
+    ensures taken { IsTakenAt (slotted_of store.old.slots zone order.old.items) place result
+        (slotted_of store.new.slots zone order.new.items) }
     ensures others { OthersStay zone store.old.slots store.new.slots }
     ensures slots { length store.new.slots ≡ length store.old.slots }
-    ensures cells { (was : Placed)
-        → slice_get (placed_of store.old.slots zone order.old.items) place ≡ Some was
+    ensures cells { (was : Slotted)
+        → slice_get (slotted_of store.old.slots zone order.old.items) place ≡ Some was
         → store.new.cells ≡ store.old.cells + cells_for (length (set_octets was.set)) }
     ensures free { store.new.free ≡ store.old.free + 1 }
     ensures length { vec_len order.new + 1 ≡ vec_len order.old }
@@ -90,7 +90,7 @@ pub fn take_at(store: &mut SetStore, zone: u32, order: &mut Vec<u32>, place: usi
 
 /// Gives the set at a place of a zone other octets, of a set with its key, and answers its slot.
 pub fn replace_at(
-    store: &mut SetStore,
+    store: &mut SetSlots,
     zone: u32,
     order: &[u32],
     place: usize,
@@ -99,18 +99,18 @@ pub fn replace_at(
     requires order { IsOrder store.old.slots zone order.now }
     requires spelling { IsSpelling octets.now }
     requires there { (set : RecordSet) → Spells octets.now set
-        → FindsAt (sets_of (placed_of store.old.slots zone order.now)) (key_of set) place }
+        → FindsAt (sets_of (slotted_of store.old.slots zone order.now)) (key_of set) place }
     requires cells { cells_for (length octets.now) ≤ store.old.cells }
     ensures order { IsOrder store.new.slots zone order.now }
     ensures slot { slice_get order.now place ≡ Some result }
     ensures replaced { (set : RecordSet) → Spells octets.now set
-        → placed_of store.new.slots zone order.now
-        ≡ slice_set (placed_of store.old.slots zone order.now) place
+        → slotted_of store.new.slots zone order.now
+        ≡ slice_set (slotted_of store.old.slots zone order.now) place
         (record { slot = result; set = set }) }
     ensures others { OthersStay zone store.old.slots store.new.slots }
     ensures slots { length store.new.slots ≡ length store.old.slots }
-    ensures cells { (was : Placed)
-        → slice_get (placed_of store.old.slots zone order.now) place ≡ Some was
+    ensures cells { (was : Slotted)
+        → slice_get (slotted_of store.old.slots zone order.now) place ≡ Some was
         → store.new.cells + cells_for (length octets.now)
         ≡ store.old.cells + cells_for (length (set_octets was.set)) }
     ensures free { store.new.free ≡ store.old.free }

@@ -2,50 +2,50 @@
 
 ghost use Rattle.std.specs.Prelude.{◌≡◌, ◌<◌, length, slice_get, Some};
 ghost use Rattle.set_store.specs.RecordSetRecord.{RecordSet};
-ghost use Rattle.zone_order.specs.Orders.{IsOrder, placed_of};
-ghost use Rattle.set_store.specs.Placed.{AreOfZone, IsSlotAt, sets_of};
+ghost use Rattle.zone_order.specs.Orders.{IsOrder, slotted_of};
+ghost use Rattle.set_store.specs.Slotted.{AreOfZone, IsSlotAt, sets_of};
 
-use set_store::{Name, RType, Scratch, SetList, SetStore, Stop};
+use set_store::{Name, RType, Scratch, SetList, SetSlots, Stop};
 use std::marker::Model;
 
 /// The sets of a zone, in its order.
 #[derive(Drop)]
-pub struct ZoneView<'a> {
-    store: &'a SetStore,
+pub struct ZoneSets<'a> {
+    store: &'a SetSlots,
     zone: u32,
     order: &'a [u32],
 }
 
-impl<'a> Model for ZoneView<'a> {
+impl<'a> Model for ZoneSets<'a> {
     ghost use Rattle.std.specs.Prelude.{List};
     ghost use Rattle.std.specs.List.{AllByRecursion};
     ghost use Rattle.set_store.specs.RecordSetRecord.{RecordSet};
-    ghost use Rattle.zone_order.specs.Orders.{HasSet, placed_of, set_in};
-    ghost use Rattle.set_store.specs.Placed.{sets_of};
+    ghost use Rattle.zone_order.specs.Orders.{HasSet, slotted_of, set_in};
+    ghost use Rattle.set_store.specs.Slotted.{sets_of};
 
     ghost Value = { List RecordSet };
 
-    ghost view = { λ o. sets_of (placed_of o.store.now.slots o.zone o.order.now) };
+    ghost view = { λ o. sets_of (slotted_of o.store.now.slots o.zone o.order.now) };
 
     ghost invariant = { λ o. AllByRecursion (λ k. HasSet
         (set_in o.store.now.slots o.zone) k) o.order.now };
 }
 
 /// The sets of a zone, whose slots these are.
-pub fn view_of<'a>(store: &'a SetStore, zone: u32, order: &'a [u32]) -> ZoneView<'a>
+pub fn sets_in_order<'a>(store: &'a SetSlots, zone: u32, order: &'a [u32]) -> ZoneSets<'a>
     requires { IsOrder store.now.slots zone order.now }
-    ensures { result ≡ sets_of (placed_of store.now.slots zone order.now) }
+    ensures { result ≡ sets_of (slotted_of store.now.slots zone order.now) }
 {
-    ZoneView { store, zone, order }
+    ZoneSets { store, zone, order }
 }
 
 /// The sets of a zone stand in zone order, each in a slot of its own; it does nothing.
-pub fn of_zone(store: &SetStore, zone: u32, order: &[u32])
+pub fn of_zone(store: &SetSlots, zone: u32, order: &[u32])
     requires { IsOrder store.now.slots zone order.now }
-    ensures { AreOfZone (placed_of store.now.slots zone order.now) }
+    ensures { AreOfZone (slotted_of store.now.slots zone order.now) }
 {}
 
-impl<'a> ZoneView<'a> {
+impl<'a> ZoneSets<'a> {
     /// Holds the set at a place in a scratch, in place of the set that it held, and takes no
     /// memory.
     pub fn hold(&self, place: usize, into: &mut Scratch)
@@ -56,7 +56,7 @@ impl<'a> ZoneView<'a> {
     }
 }
 
-impl<'a> SetList for ZoneView<'a> {
+impl<'a> SetList for ZoneSets<'a> {
     ghost sets = { λ sets. sets };
 
     fn count(&self) -> usize {

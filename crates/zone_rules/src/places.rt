@@ -1,7 +1,7 @@
 //! The rule that each set of a group has a place of its own.
 
 ghost use Rattle.std.specs.Prelude.{◌≡◌, ◌<◌, ◌≤◌, [], length, IsTrue, ◌↔◌};
-ghost use Rattle.batch_model.specs.Rules.{OwnPlace, BreaksAt, AreOnePlace};
+ghost use Rattle.batch_model.specs.Rules.{OwnPlace, BreaksAt, AreRivals};
 ghost use Rattle.zone_rules.specs.Groups.{IsStart};
 ghost use Rattle.zone_rules.specs.Marks.{AreMarked};
 
@@ -39,7 +39,7 @@ fn is_place_taken(sets: &[RecordSet], start: usize, i: usize) -> bool
 
 /// Whether the two have one place, one failover role, one region or one location.
 pub fn is_one_place(policy: &Routing, other: &Routing) -> bool
-    ensures { IsTrue result ↔ AreOnePlace policy.now other.now }
+    ensures { IsTrue result ↔ AreRivals policy.now other.now }
 {
     match (policy, other) {
         (Routing::Failover(_, role), Routing::Failover(_, other_role)) => {

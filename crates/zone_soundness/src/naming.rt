@@ -6,7 +6,7 @@ ghost use Rattle.std.specs.Option.{option_copied};
 ghost use Rattle.std.specs.Str.{bytes_eq};
 ghost use Rattle.cidr_blocks.specs.Idents.{star};
 ghost use Rattle.cidr_blocks.specs.Places.{names_of};
-ghost use Rattle.cidr_changes.specs.Laws.{IsPlaced};
+ghost use Rattle.cidr_changes.specs.Laws.{IsStarOrLocation};
 ghost use Rattle.cidr_commands.specs.Kept.{IsThereIn};
 ghost use Rattle.zone_soundness.specs.Parts.{ArePlacesThere, IsCheckThere};
 
@@ -49,7 +49,7 @@ fn is_there_in(collection: Option<&Collection>, name: &[u8]) -> bool
 
 /// Whether a name is `*`, or that of a location.
 fn is_placed(locations: &[CidrLocation], name: &[u8]) -> bool
-    ensures { IsTrue result ↔ IsPlaced locations.now name.now }
+    ensures { IsTrue result ↔ IsStarOrLocation locations.now name.now }
 {
     is_star(name) || has_location(locations, name)
 }

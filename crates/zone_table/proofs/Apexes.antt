@@ -3,7 +3,7 @@ use Rattle.std.proofs.Common.{◌≡◌, ◌≢◌, ℕ, List, ◌∷◌, ap, �
 use Rattle.std.specs.Prelude.{◌⊎◌, ◌↔◌}
 use Rattle.zone_list.specs.Suffix.{EndsWith}
 use Rattle.zone_list.specs.Sets.{IsAmong}
-use Rattle.zone_list.specs.declared.apexes.Apex.{Apex}
+use Rattle.zone_list.specs.declared.apexes.NamedZone.{NamedZone}
 use Rattle.zone_list.specs.Apexes.{LongestName}
 use Rattle.zone_list.specs.Zones.{AreListed, IsZoneId, Zone}
 use Rattle.zone_table.specs.declared.edits.ZoneEdit.{ZoneEdit}
@@ -11,12 +11,12 @@ use Rattle.zone_table.specs.declared.edits.ZoneEdit.TheVariants as edit
 use Rattle.zone_table.specs.declared.refs.Delta.{Delta}
 use Rattle.zone_table.specs.Apexes.{KnowsNames, Notes}
 use Rattle.zone_table.specs.Edits.{Edits, IsAllowed, zone_of}
-use Rattle.zone_table.specs.Looking.{HoldsOrNone, IsApex}
+use Rattle.zone_table.specs.Looking.{IsZoneForOrNone, IsApex}
 use Rattle.zone_list.proofs.Listing.{one_zone}
 
 -- the zone of the longest name that is known
-pub held : (list : List Apex) (zones : List Zone) (name : List (List ℕ)) (found : Option ℕ)
-    → KnowsNames (Some list) zones → LongestName list name found → HoldsOrNone zones name found
+pub held : (list : List NamedZone) (zones : List Zone) (name : List (List ℕ)) (found : Option ℕ)
+    → KnowsNames (Some list) zones → LongestName list name found → IsZoneForOrNone zones name found
 held list zones name None knows none = λ zone there above.
     none (record { id = zone.id; name = zone.apex })
     ((knows (record { id = zone.id; name = zone.apex })).1 (zone, there, refl, refl)) above
@@ -34,10 +34,10 @@ held list zones name (Some id) knows longest =
           omega (arith, short, same));
     }
 
-pub held_by : (known : Option (List Apex)) (zones : List Zone) (name : List (List ℕ)) (found : Option ℕ)
+pub held_by : (known : Option (List NamedZone)) (zones : List Zone) (name : List (List ℕ)) (found : Option ℕ)
     → KnowsNames known zones → known ≢ None
-    → ((list : List Apex) → known ≡ Some list → LongestName list name found)
-    → HoldsOrNone zones name found
+    → ((list : List NamedZone) → known ≡ Some list → LongestName list name found)
+    → IsZoneForOrNone zones name found
 held_by None zones name found knows some longest = absurd (some refl)
 held_by (Some list) zones name found knows some longest =
     held list zones name found knows (longest list refl)
@@ -67,12 +67,12 @@ one_name zones listed id other name other_name e x y =
 opened : (before after : List Zone) (zone : ℕ) (name : List (List ℕ)) → AreListed after
     → (IsZoneId before zone → ⊥) → IsApex after zone name
     → ((id : ℕ) (n : List (List ℕ)) → id ≢ zone → IsApex before id n ↔ IsApex after id n)
-    → (old new : List Apex) → KnowsNames (Some old) before
-    → ((other : Apex) → IsAmong new other ↔ IsAmong (record { id = zone; name = name } ∷ old) other)
+    → (old new : List NamedZone) → KnowsNames (Some old) before
+    → ((other : NamedZone) → IsAmong new other ↔ IsAmong (record { id = zone; name = name } ∷ old) other)
     → KnowsNames (Some new) after
 opened before after zone name listed none its others old new knows with = λ apex. (
   (λ is. elim ((with apex).0 is) [
-    | inl e ↦ subst (λ (a : Apex). IsApex after a.id a.name) e its
+    | inl e ↦ subst (λ (a : NamedZone). IsApex after a.id a.name) e its
     | inr was ↦
         (let x = (knows apex).0 was in
         (others apex.id apex.name (λ e. none (x.0, x.1, x.2 ∙ e))).0 x)
@@ -89,8 +89,8 @@ opened before after zone name listed none its others old new knows with = λ ape
 
 closed : (before after : List Zone) (zone : ℕ) → (IsZoneId after zone → ⊥)
     → ((id : ℕ) (n : List (List ℕ)) → id ≢ zone → IsApex before id n ↔ IsApex after id n)
-    → (old new : List Apex) → KnowsNames (Some old) before
-    → ((other : Apex) → IsAmong new other ↔ (IsAmong old other × (other.id ≢ zone)))
+    → (old new : List NamedZone) → KnowsNames (Some old) before
+    → ((other : NamedZone) → IsAmong new other ↔ (IsAmong old other × (other.id ≢ zone)))
     → KnowsNames (Some new) after
 closed before after zone none others old new knows without = λ apex. (
   (λ is. (let x = (without apex).0 is in
@@ -102,20 +102,20 @@ closed before after zone none others old new knows without = λ apex. (
 changed : (before after : List Zone) (zone : ℕ) → AreListed after → IsZoneId before zone
     → ((apex : List (List ℕ)) → IsApex before zone apex → IsApex after zone apex)
     → ((id : ℕ) (n : List (List ℕ)) → id ≢ zone → IsApex before id n ↔ IsApex after id n)
-    → (list : List Apex) → KnowsNames (Some list) before → KnowsNames (Some list) after
+    → (list : List NamedZone) → KnowsNames (Some list) before → KnowsNames (Some list) after
 changed before after zone listed there stays others list knows = λ apex. (
   (λ is. forth apex ((knows apex).0 is) (same_number apex.id zone)),
   λ x. (knows apex).1 (back apex x (same_number apex.id zone)),
 )
   where
-    forth : (apex : Apex) → IsApex before apex.id apex.name → (apex.id ≡ zone) ⊎ (apex.id ≢ zone)
+    forth : (apex : NamedZone) → IsApex before apex.id apex.name → (apex.id ≡ zone) ⊎ (apex.id ≢ zone)
         → IsApex after apex.id apex.name
     forth apex x (inr apart) = (others apex.id apex.name apart).0 x
     forth apex x (inl e) =
         subst (λ n. IsApex after n apex.name) (sym e)
         (stays apex.name (subst (λ n. IsApex before n apex.name) e x))
 
-    back : (apex : Apex) → IsApex after apex.id apex.name → (apex.id ≡ zone) ⊎ (apex.id ≢ zone)
+    back : (apex : NamedZone) → IsApex after apex.id apex.name → (apex.id ≡ zone) ⊎ (apex.id ≢ zone)
         → IsApex before apex.id apex.name
     back apex x (inr apart) = (others apex.id apex.name apart).1 x
     back apex x (inl e) =
@@ -128,38 +128,38 @@ changed before after zone listed there stays others list knows = λ apex. (
 
 -- what is known stays right
 pub noted : (before after : List Zone) (made : ZoneEdit) (delta : Delta) → Edits before made after delta
-    → IsAllowed before made → AreListed after → (old new : Option (List Apex))
+    → IsAllowed before made → AreListed after → (old new : Option (List NamedZone))
     → KnowsNames old before → Notes old made new → KnowsNames new after
-noted before after (edit.Open zone name sets) delta edits allowed listed old None knows notes = tt
-noted before after (edit.Open zone name sets) delta edits allowed listed None (Some new) knows notes =
+noted before after (edit.Begin zone name sets) delta edits allowed listed old None knows notes = tt
+noted before after (edit.Begin zone name sets) delta edits allowed listed None (Some new) knows notes =
     absurd notes
-noted before after (edit.Open zone name sets) delta edits allowed listed (Some old) (Some new) knows notes =
+noted before after (edit.Begin zone name sets) delta edits allowed listed (Some old) (Some new) knows notes =
     opened before after zone name listed allowed.0 edits.its.0
-    (λ id n apart. others before after (edit.Open zone name sets) delta edits id n apart)
+    (λ id n apart. others before after (edit.Begin zone name sets) delta edits id n apart)
     old new knows notes
-noted before after (edit.Close zone) delta edits allowed listed old None knows notes = tt
-noted before after (edit.Close zone) delta edits allowed listed None (Some new) knows notes =
+noted before after (edit.End zone) delta edits allowed listed old None knows notes = tt
+noted before after (edit.End zone) delta edits allowed listed None (Some new) knows notes =
     absurd notes
-noted before after (edit.Close zone) delta edits allowed listed (Some old) (Some new) knows notes =
+noted before after (edit.End zone) delta edits allowed listed (Some old) (Some new) knows notes =
     closed before after zone edits.its.0
-    (λ id n apart. others before after (edit.Close zone) delta edits id n apart)
+    (λ id n apart. others before after (edit.End zone) delta edits id n apart)
     old new knows notes
 noted before after (edit.Change zone remove add) delta edits allowed listed old new knows notes =
-    subst (λ (o : Option (List Apex)). KnowsNames o after) (sym notes) (by old knows)
+    subst (λ (o : Option (List NamedZone)). KnowsNames o after) (sym notes) (by old knows)
   where
-    by : (o : Option (List Apex)) → KnowsNames o before → KnowsNames o after
+    by : (o : Option (List NamedZone)) → KnowsNames o before → KnowsNames o after
     by None known = tt
     by (Some list) known =
         changed before after zone listed allowed.0 edits.its.0
         (λ id n apart. others before after (edit.Change zone remove add) delta edits id n apart)
         list known
 noted before after (edit.Collections now) delta edits allowed listed old new knows notes =
-    subst (λ (o : Option (List Apex)). KnowsNames o after) (sym notes)
+    subst (λ (o : Option (List NamedZone)). KnowsNames o after) (sym notes)
     (subst (λ (zs : List Zone). KnowsNames old zs) (sym edits.its.0) knows)
 
 -- what is known of zones that stay
-pub still_known : (old new : Option (List Apex)) (before after : List Zone) → new ≡ old
+pub still_known : (old new : Option (List NamedZone)) (before after : List Zone) → new ≡ old
     → after ≡ before → KnowsNames old before → KnowsNames new after
 still_known old new before after same stay knows =
-    subst (λ (o : Option (List Apex)). KnowsNames o after) (sym same)
+    subst (λ (o : Option (List NamedZone)). KnowsNames o after) (sym same)
     (subst (λ (zs : List Zone). KnowsNames old zs) (sym stay) knows)

@@ -14,12 +14,12 @@ use Rattle.zone_list.specs.RecordSetRecord.{RecordSet}
 use Rattle.zone_list.specs.Octets.{body_octets, check_octets, routing_octets, set_octets}
 use Rattle.octets.specs.Numbers.{two_octets}
 use Rattle.zone_list.specs.Sums.{labels_in, labels_of, one_of, servers_in, servers_of}
-use Rattle.zone_list.specs.Placed.{Placed, sets_of}
+use Rattle.zone_list.specs.Slotted.{Slotted, sets_of}
 use Rattle.zone_list.specs.Sets.{IsAmong}
 use Rattle.zone_list.specs.SumsRecord.{Sums}
-use Rattle.zone_list.specs.Stored.{Store}
-use Rattle.zone_list.specs.Orders.{placed_of}
-use Rattle.zone_list.specs.Kept.{AreKept, Listed, Stands, zones_in}
+use Rattle.zone_list.specs.Stored.{Slots}
+use Rattle.zone_list.specs.Orders.{slotted_of}
+use Rattle.zone_list.specs.Kept.{AreIntact, Listed, IsIntact, zones_in}
 use Rattle.zone_list.specs.Zones.{CanStand, placed_in}
 use Rattle.zone_table.specs.Counted.{AreCounted}
 use Rattle.zone_table.specs.Looking.{ServersAreAt}
@@ -55,7 +55,7 @@ few_told : (b : Bool) (n most : ℕ) → n ≤ most → unwrap_or (cond b (Some 
 few_told true n most le = le
 few_told false n most le = omega arith
 
-pub few_in_all : (apex : List (List ℕ)) (placed : List Placed)
+pub few_in_all : (apex : List (List ℕ)) (placed : List Slotted)
     → AllByRecursion (λ p. CanStand apex p.set) placed → labels_of placed ≤ 65536 * length placed
 few_in_all apex [] each = omega arith
 few_in_all apex (p ∷ placed) each =
@@ -71,7 +71,7 @@ one_told : (b : Bool) (n : ℕ) → one_of (is_some (cond b (Some n) None)) ≤ 
 one_told true n = omega arith
 one_told false n = omega arith
 
-pub few_servers : (placed : List Placed) → servers_of placed ≤ length placed
+pub few_servers : (placed : List Slotted) → servers_of placed ≤ length placed
 few_servers [] = omega arith
 few_servers (p ∷ placed) =
     let one : servers_in p ≤ 1 = one_told (number_of p.set.rtype == 2) (length p.set.name) in
@@ -92,13 +92,13 @@ no_shorter name apex (first, e) =
 
 module _ (apex : List (List ℕ)) where
   -- as many labels as if the name were the apex
-  abbrev least_in : Placed → ℕ
+  abbrev least_in : Slotted → ℕ
   least_in p = servers_in p * length apex
 
   times : (s r n : ℕ) → (s + r) * n ≡ s * n + r * n
   times s r n = grind arith
 
-  pub least_of : (placed : List Placed) → sum_by least_in placed ≡ servers_of placed * length apex
+  pub least_of : (placed : List Slotted) → sum_by least_in placed ≡ servers_of placed * length apex
   least_of [] = (let e : 0 ≡ 0 * length apex = omega arith in e)
   least_of (p ∷ placed) =
       sum_by-cons least_in p placed
@@ -111,12 +111,12 @@ module _ (apex : List (List ℕ)) where
   least_told true n le = (let e : 1 * length apex ≡ length apex = omega arith in omega (arith, e, le))
   least_told false n le = omega arith
 
-  at_least : (p : Placed) → CanStand apex p.set → least_in p ≤ labels_in p
+  at_least : (p : Slotted) → CanStand apex p.set → least_in p ≤ labels_in p
   at_least p stands =
       least_told (number_of p.set.rtype == 2) (length p.set.name)
       (no_shorter p.set.name apex stands.inside)
 
-  pub all_least : (placed : List Placed) → AllByRecursion (λ p. CanStand apex p.set) placed
+  pub all_least : (placed : List Slotted) → AllByRecursion (λ p. CanStand apex p.set) placed
       → sum_by least_in placed ≤ labels_of placed
   all_least [] each = omega arith
   all_least (p ∷ placed) each =
@@ -126,7 +126,7 @@ module _ (apex : List (List ℕ)) where
       let high = sum_by-cons labels_in p placed in
       omega (arith, one, rest, low, high)
 
-  its_name : (p : Placed) → CanStand apex p.set → p.set.rtype ≡ rtype.Ns → least_in p ≡ labels_in p
+  its_name : (p : Slotted) → CanStand apex p.set → p.set.rtype ≡ rtype.Ns → least_in p ≡ labels_in p
       → p.set.name ≡ apex
   its_name p stands is same =
       let told_so : one_of (is_some (cond (number_of rtype.Ns == 2) (Some (length p.set.name)) None)) * length apex
@@ -137,7 +137,7 @@ module _ (apex : List (List ℕ)) where
       same_length p.set.name apex stands.inside (omega (arith, plain))
 
   -- where no more labels are counted, each NS set has the name of the apex
-  pub no_other : (placed : List Placed) → AllByRecursion (λ p. CanStand apex p.set) placed
+  pub no_other : (placed : List Slotted) → AllByRecursion (λ p. CanStand apex p.set) placed
       → sum_by least_in placed ≡ labels_of placed → (set : RecordSet) → IsAmong (sets_of placed) set
       → set.rtype ≡ rtype.Ns → set.name ≡ apex
   no_other [] each same set there is = absurd there
@@ -162,26 +162,26 @@ exact : (labels product least all servers n : ℕ) → least ≤ all → all ≤
 exact labels product least all servers n low high some few is made same =
     omega (arith, low, high, some, few, is, made, same)
 
-module _ (store : Store) (list : List Listed) (octets : ℕ) (kept : AreKept store.slots list)
+module _ (store : Slots) (list : List Listed) (octets : ℕ) (kept : AreIntact store.slots list)
     (counted : AreCounted store list octets) (few : length store.slots < 2 ^ 32) where
   -- what a zone counts tells that its NS sets have the name of the apex
   pub all_at : (id : ℕ) (k : Listed) → IsAmong list k → k.id ≡ id → (labels product : ℕ)
       → labels ≡ k.sums.labels → product ≡ (k.sums.servers * length k.apex) % 2 ^ 64
       → labels ≡ product → ServersAreAt (zones_in store.slots list) id k.apex
   all_at id k there its labels product is made same =
-      let placed : List Placed = placed_of store.slots k.id k.order in
-      let stands : Stands store.slots k = stands_here store.slots list kept k there in
+      let placed : List Slotted = slotted_of store.slots k.id k.order in
+      let stands : IsIntact store.slots k = stands_here store.slots list kept k there in
       let here : placed ≡ placed_in (zones_in store.slots list) id =
       sym (its_sets store.slots list kept k there) ∙ ap (placed_in (zones_in store.slots list)) its in
       let many : length placed < 2 ^ 32 =
-      subst (λ (ps : List Placed). length ps < 2 ^ 32) (sym here) (few_in store list octets kept counted few id) in
+      subst (λ (ps : List Slotted). length ps < 2 ^ 32) (sym here) (few_in store list octets kept counted few id) in
       let some = few_servers placed in
       let servers_are : k.sums.servers ≡ servers_of placed =
       (let e = ap (λ (s : Sums). s.servers) stands.counted in omega (arith, e, some, many)) in
       let least = sum_by (least_in k.apex) placed in
       let made_so : product ≡ least % 2 ^ 64 =
       made ∙ ap (λ n. n % 2 ^ 64) (ap (λ n. n * length k.apex) servers_are ∙ sym (least_of k.apex placed)) in
-      subst (λ (ps : List Placed). (set : RecordSet) → IsAmong (sets_of ps) set
+      subst (λ (ps : List Slotted). (set : RecordSet) → IsAmong (sets_of ps) set
       → set.rtype ≡ rtype.Ns → set.name ≡ k.apex) here
       (no_other k.apex placed stands.each
       (exact labels product least (labels_of placed) (servers_of placed) (length placed)

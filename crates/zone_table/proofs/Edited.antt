@@ -169,7 +169,7 @@ its_can zones z there listed id remove add its_id allowed =
 pub closed_edits : (zones now front back : List Zone) (z : Zone) → zones ≡ front ++ z ∷ back
     → now ≡ front ++ back → AreListed zones → (id : ℕ) (removed : List SetRef) → z.id ≡ id
     → removed ≡ map (ref_in z.id) z.placed
-    → Edits zones (edit.Close id) now (record { zone = id; removed = removed; added = [] })
+    → Edits zones (edit.End id) now (record { zone = id; removed = removed; added = [] })
 closed_edits zones now front back z whole taken listed id removed its_id told = record {
   zone = refl;
   others = λ other apart. (
@@ -202,7 +202,7 @@ closed_edits zones now front back z whole taken listed id removed its_id told = 
 pub opened_edits : (zones now front back : List Zone) (z : Zone) → zones ≡ front ++ back
     → now ≡ front ++ z ∷ back → AreListed now → (sets : List RecordSet) (removed added : List SetRef)
     → Changes z.id [] [] sets removed added z.placed
-    → Edits zones (edit.Open z.id z.apex sets) now
+    → Edits zones (edit.Begin z.id z.apex sets) now
     (record { zone = z.id; removed = removed; added = added })
 opened_edits zones now front back z parts put now_listed sets removed added changes = record {
   zone = refl;

@@ -8,9 +8,9 @@ use Rattle.zone_list.specs.RecordSetRecord.{RecordSet}
 use Rattle.zone_list.specs.Stored.{Kept}
 use Rattle.zone_list.specs.Sets.{IsAmong}
 use Rattle.zone_list.proofs.ListsOfZoneModel.{all_put, all_taken, in_itself, in_put, in_taken, split, split_at}
-use Rattle.zone_list.specs.Orders.{IsOrder, IsOrderBy, OthersStay, placed_by, placed_of, set_in}
+use Rattle.zone_list.specs.Orders.{IsOrder, IsOrderBy, OthersStay, slotted_by, slotted_of, set_in}
 use Rattle.zone_list.specs.Sums.{sums_of}
-use Rattle.zone_list.specs.Kept.{AreKept, HasId, Listed, named, named_of, Stands, zone_in, zones_in}
+use Rattle.zone_list.specs.Kept.{AreIntact, HasId, Listed, named, named_of, IsIntact, zone_in, zones_in}
 use Rattle.zone_list.specs.Zones.{AreListed, CanStand, Zone}
 use Rattle.zone_list.specs.SetKeyRecord.{SetKey}
 use Rattle.zone_list.specs.declared.refs.SetRef.{SetRef}
@@ -41,15 +41,15 @@ module _ (slots now : List (Option Kept)) (zone : ℕ) (others : OthersStay zone
 
   same_zone : (k : Listed) → k.id ≢ zone → zone_in now k ≡ zone_in slots k
   same_zone k ne =
-      ap (λ get. record { id = k.id; apex = k.apex; placed = placed_by get k.order }) (same_get k.id ne)
+      ap (λ get. record { id = k.id; apex = k.apex; placed = slotted_by get k.order }) (same_get k.id ne)
 
-  stands_still : (k : Listed) → k.id ≢ zone → Stands slots k → Stands now k
+  stands_still : (k : Listed) → k.id ≢ zone → IsIntact slots k → IsIntact now k
   stands_still k ne stands = record {
     numbered = stands.numbered;
     order = subst (λ get. IsOrderBy get k.order) (sym (same_get k.id ne)) stands.order;
-    each = subst (λ get. AllByRecursion (λ p. CanStand k.apex p.set) (placed_by get k.order))
+    each = subst (λ get. AllByRecursion (λ p. CanStand k.apex p.set) (slotted_by get k.order))
         (sym (same_get k.id ne)) stands.each;
-    counted = stands.counted ∙ ap (λ get. sums_of (placed_by get k.order)) (sym (same_get k.id ne));
+    counted = stands.counted ∙ ap (λ get. sums_of (slotted_by get k.order)) (sym (same_get k.id ne));
   }
 
   same_zones : (ks : List Listed) → AllByRecursion (λ k. k.id ≢ zone) ks → zones_in now ks ≡ zones_in slots ks
@@ -57,8 +57,8 @@ module _ (slots now : List (Option Kept)) (zone : ℕ) (others : OthersStay zone
   same_zones (k ∷ ks) all =
       ap (λ z. z ∷ zones_in now ks) (same_zone k all.0) ∙ ap (λ zs. zone_in slots k ∷ zs) (same_zones ks all.1)
 
-  all_stand : (ks : List Listed) → AllByRecursion (λ k. k.id ≢ zone) ks → AllByRecursion (Stands slots) ks
-      → AllByRecursion (Stands now) ks
+  all_stand : (ks : List Listed) → AllByRecursion (λ k. k.id ≢ zone) ks → AllByRecursion (IsIntact slots) ks
+      → AllByRecursion (IsIntact now) ks
   all_stand [] all each = tt
   all_stand (k ∷ ks) all each = (stands_still k all.0 each.0, all_stand ks all.1 each.1)
 
@@ -94,25 +94,25 @@ module _ (slots now : List (Option Kept)) (zone : ℕ) (others : OthersStay zone
 pub changed_stands : (slots now : List (Option Kept)) (k k_now : Listed) → k_now.apex ≡ k.apex
     → IsOrder now k_now.id k_now.order → (remove : List SetKey) (add : List RecordSet)
     → (removed added : List SetRef)
-    → Changes k.id (placed_of slots k.id k.order) remove add removed added (placed_of now k_now.id k_now.order)
-    → Stands slots k → AllByRecursion (CanStand k.apex) add
-    → k_now.sums ≡ sums_of (placed_of now k_now.id k_now.order) → k_now.id ≡ k.id → Stands now k_now
+    → Changes k.id (slotted_of slots k.id k.order) remove add removed added (slotted_of now k_now.id k_now.order)
+    → IsIntact slots k → AllByRecursion (CanStand k.apex) add
+    → k_now.sums ≡ sums_of (slotted_of now k_now.id k_now.order) → k_now.id ≡ k.id → IsIntact now k_now
 changed_stands slots now k k_now same_apex order remove add removed added changes stands each counted same_id = record {
   numbered = (let some = stands.numbered in omega (arith, some, same_id));
   order = order;
   each = subst (λ (a : List (List ℕ)). AllByRecursion (λ p. CanStand a p.set)
-      (placed_of now k_now.id k_now.order)) (sym same_apex)
-      (all_kept (CanStand k.apex) k.id (placed_of slots k.id k.order) remove add removed added
-      (placed_of now k_now.id k_now.order) changes stands.each each);
+      (slotted_of now k_now.id k_now.order)) (sym same_apex)
+      (all_kept (CanStand k.apex) k.id (slotted_of slots k.id k.order) remove add removed added
+      (slotted_of now k_now.id k_now.order) changes stands.each each);
   counted = counted;
 }
 
 -- ---- a zone changed
 
 module _ (slots now : List (Option Kept)) (list : List Listed) (i : ℕ) (k k_now : Listed)
-    (at : slice_get list i ≡ Some k) (inside : i < length list) (kept : AreKept slots list)
+    (at : slice_get list i ≡ Some k) (inside : i < length list) (kept : AreIntact slots list)
     (others : OthersStay k.id slots now) (same_id : k_now.id ≡ k.id) (same_apex : k_now.apex ≡ k.apex)
-    (stands : Stands now k_now) where
+    (stands : IsIntact now k_now) where
   abbrev front : List Listed
   front = take i list
 
@@ -142,12 +142,12 @@ module _ (slots now : List (Option Kept)) (list : List Listed) (i : ℕ) (k k_no
       ∙ ap (λ (a : List (List ℕ)). record { id = k.id; apex = a; placed = [] }) same_apex)
       ∙ sym (map-append named front (k ∷ back)))
 
-  pub changed_kept : AreKept now (slice_set list i k_now)
-  changed_kept = subst (AreKept now) (sym changed) (record {
+  pub changed_kept : AreIntact now (slice_set list i k_now)
+  changed_kept = subst (AreIntact now) (sym changed) (record {
     listed = subst AreListed (sym same_named) (subst (λ ks. AreListed (named_of ks)) whole kept.listed);
-    each = all_put (Stands now) front back k_now
+    each = all_put (IsIntact now) front back k_now
         (all_stand slots now k.id others (front ++ back) others_apart
-        (all_taken (Stands slots) front back k (subst (AllByRecursion (Stands slots)) whole kept.each)))
+        (all_taken (IsIntact slots) front back k (subst (AllByRecursion (IsIntact slots)) whole kept.each)))
         stands;
     owned = owned;
   })
@@ -171,7 +171,7 @@ module _ (slots now : List (Option Kept)) (list : List Listed) (i : ℕ) (k k_no
 -- ---- a zone closed
 
 module _ (slots now : List (Option Kept)) (list : List Listed) (i : ℕ) (k : Listed)
-    (at : slice_get list i ≡ Some k) (kept : AreKept slots list)
+    (at : slice_get list i ≡ Some k) (kept : AreIntact slots list)
     (others : OthersStay k.id slots now) (empty : IsOrder now k.id []) where
   abbrev low : List Listed
   low = take i list
@@ -191,12 +191,12 @@ module _ (slots now : List (Option Kept)) (list : List Listed) (i : ℕ) (k : Li
   pub all_zones : zones_in slots list ≡ zones_in slots low ++ zone_in slots k ∷ zones_in slots high
   all_zones = ap (zones_in slots) all ∙ map-append (zone_in slots) low (k ∷ high)
 
-  pub closed_kept : AreKept now (remove list i)
+  pub closed_kept : AreIntact now (remove list i)
   closed_kept = record {
     listed = still_listed low (subst (λ ks. AreListed (named_of ks)) all kept.listed);
     each =
         all_stand slots now k.id others (low ++ high) rest_apart
-        (all_taken (Stands slots) low high k (subst (AllByRecursion (Stands slots)) all kept.each));
+        (all_taken (IsIntact slots) low high k (subst (AllByRecursion (IsIntact slots)) all kept.each));
     owned = owned;
   }
     where
@@ -229,8 +229,8 @@ module _ (slots now : List (Option Kept)) (list : List Listed) (i : ℕ) (k : Li
 -- ---- a zone opened
 
 module _ (slots now : List (Option Kept)) (list : List Listed) (n : ℕ) (k : Listed)
-    (kept : AreKept slots list) (others : OthersStay k.id slots now)
-    (new : HasId list k.id → ⊥) (stands : Stands now k)
+    (kept : AreIntact slots list) (others : OthersStay k.id slots now)
+    (new : HasId list k.id → ⊥) (stands : IsIntact now k)
     (listed : AreListed (named_of (take n list ++ k ∷ drop n list))) where
   parts : list ≡ take n list ++ drop n list
   parts = split n list
@@ -251,12 +251,12 @@ module _ (slots now : List (Option Kept)) (list : List Listed) (n : ℕ) (k : Li
   pub part_zones : zones_in slots list ≡ zones_in slots (take n list) ++ zones_in slots (drop n list)
   part_zones = ap (zones_in slots) parts ∙ map-append (zone_in slots) (take n list) (drop n list)
 
-  pub opened_kept : AreKept now (insert list n k)
+  pub opened_kept : AreIntact now (insert list n k)
   opened_kept = record {
     listed = listed;
-    each = all_put (Stands now) (take n list) (drop n list) k
+    each = all_put (IsIntact now) (take n list) (drop n list) k
         (all_stand slots now k.id others (take n list ++ drop n list) ones
-        (subst (AllByRecursion (Stands slots)) parts kept.each)) stands;
+        (subst (AllByRecursion (IsIntact slots)) parts kept.each)) stands;
     owned = owned;
   }
     where

@@ -7,37 +7,37 @@ use Rattle.std.proofs.lemmas.List.{map-append}
 use Rattle.zone_list.specs.RecordSetRecord.{RecordSet}
 use Rattle.zone_list.specs.Index.{no_set}
 use Rattle.zone_list.specs.Stored.{IsKept, Kept, zone_told}
-use Rattle.zone_list.specs.Placed.{IsHere, Placed, sets_of}
+use Rattle.zone_list.specs.Slotted.{IsHere, Slotted, sets_of}
 use Rattle.zone_list.specs.FoundOfSetSearch.{TypeOrNone}
 use Rattle.zone_list.specs.Sets.{IsAmong}
 use Rattle.zone_list.specs.Existing.{Exists}
 use Rattle.zone_list.proofs.ListsOfZoneModel.{take_more}
-use Rattle.zone_list.specs.Orders.{HasSet, IsOrder, of_zone, placed_at, placed_by, placed_of, set_in}
+use Rattle.zone_list.specs.Orders.{HasSet, IsOrder, of_zone, slotted_at, slotted_by, slotted_of, set_in}
 use Rattle.zone_list.proofs.Orders.{at_place, there}
 use Rattle.zone_list.proofs.Slots.{its_kept}
-use Rattle.zone_list.specs.Kept.{AreKept, Listed, zones_in}
+use Rattle.zone_list.specs.Kept.{AreIntact, Listed, zones_in}
 use Rattle.zone_list.specs.Zones.{AreZones, placed_in, StandsAlone, Zone}
 use Rattle.zone_list.proofs.Listing.{its_placed}
 use Rattle.zone_list.proofs.Members.{apex_exists, filled, in_all}
 use Rattle.zone_list.specs.declared.refs.SetRef.{SetRef}
 use Rattle.zone_list.specs.RTypeRecord.{RType}
 use Rattle.zone_list.specs.Telling.{target_of}
-use Rattle.zone_table.specs.Looking.{IsApex, Names, Targets}
+use Rattle.zone_table.specs.Looking.{IsApex, RefersTo, Targets}
 use Rattle.zone_table.proofs.Naming.{its_sets, stands_here}
 
 -- the set of a slot, where it is among those of an order
 pub placed_set : (slot : ℕ) (set : RecordSet) (get : ℕ → Option RecordSet) (order : List ℕ) → AllByRecursion (λ j. HasSet get j) order
-    → IsHere (placed_by get order) (record { slot = slot; set = set }) → get slot ≡ Some set
+    → IsHere (slotted_by get order) (record { slot = slot; set = set }) → get slot ≡ Some set
 placed_set slot set get [] present at = absurd at
 placed_set slot set get (j ∷ order) present (inl e) =
-    let same : j ≡ slot = ap (λ (p : Placed). p.slot) e in
-    let its : unwrap_or (get j) no_set ≡ set = ap (λ (p : Placed). p.set) e in
+    let same : j ≡ slot = ap (λ (p : Slotted). p.slot) e in
+    let its : unwrap_or (get j) no_set ≡ set = ap (λ (p : Slotted). p.set) e in
     let has : get j ≡ Some present.0.0 = present.0.1 in
     let one : present.0.0 ≡ set = ap (λ (o : Option RecordSet). unwrap_or o no_set) (sym has) ∙ its in
     ap get (sym same) ∙ (has ∙ ap (λ (s : RecordSet). Some s) one)
 placed_set slot set get (j ∷ order) present (inr at) = placed_set slot set get order present.1 at
 
-module _ (slots : List (Option Kept)) (list : List Listed) (kept : AreKept slots list) (zone slot : ℕ) where
+module _ (slots : List (Option Kept)) (list : List Listed) (kept : AreIntact slots list) (zone slot : ℕ) where
   -- a set that is told of a zone is kept in its slot
   pub told_kept : zone_told (slice_get slots slot) ≡ Some zone
       → (set : RecordSet) × (slice_get slots slot ≡ Some (Some (record { zone = zone; set = set })))
@@ -81,18 +81,18 @@ module _ (slots : List (Option Kept)) (list : List Listed) (kept : AreKept slots
     where
       kept_here : (ks : List Listed) → IsHere (placed_in (zones_in slots ks) zone) (record { slot = slot; set = set })
           → (k : Listed) × IsAmong ks k × (k.id ≡ zone)
-          × IsHere (placed_of slots k.id k.order) (record { slot = slot; set = set })
+          × IsHere (slotted_of slots k.id k.order) (record { slot = slot; set = set })
       kept_here [] at = absurd at
       kept_here (k ∷ ks) at = by (k.id == zone) refl (kept_here ks) at
         where
           by : (b : Bool) → (k.id == zone) ≡ b
               → (IsHere (placed_in (zones_in slots ks) zone) (record { slot = slot; set = set })
               → (j : Listed) × IsAmong ks j × (j.id ≡ zone)
-              × IsHere (placed_of slots j.id j.order) (record { slot = slot; set = set }))
-              → IsHere (cond b (placed_of slots k.id k.order) (placed_in (zones_in slots ks) zone))
+              × IsHere (slotted_of slots j.id j.order) (record { slot = slot; set = set }))
+              → IsHere (cond b (slotted_of slots k.id k.order) (placed_in (zones_in slots ks) zone))
               (record { slot = slot; set = set })
               → (j : Listed) × IsAmong (k ∷ ks) j × (j.id ≡ zone)
-              × IsHere (placed_of slots j.id j.order) (record { slot = slot; set = set })
+              × IsHere (slotted_of slots j.id j.order) (record { slot = slot; set = set })
           by true e rest there = (k, inl refl, eqb-true k.id zone e, there)
           by false e rest there = let j = rest there in (j.0, inr j.1, j.2, j.3)
 
@@ -105,8 +105,8 @@ one_kept : (o : Option (Option Kept)) (x y : Kept) → o ≡ Some (Some x) → o
 one_kept o x y e f = cc
 
 -- the target of the set that a reference names
-pub its_target : (slots : List (Option Kept)) (list : List Listed) → AreKept slots list → (ref : SetRef)
-    → (named : RecordSet) → Names (zones_in slots list) ref named
+pub its_target : (slots : List (Option Kept)) (list : List Listed) → AreIntact slots list → (ref : SetRef)
+    → (named : RecordSet) → RefersTo (zones_in slots list) ref named
     → IsKept slots ref.slot (record { zone = ref.zone; set = named })
     → (told : Option (List (List ℕ) × RType)) → told ≡ target_of named → Targets (zones_in slots list) ref told
 its_target slots list kept ref named here at (Some target) is = (named, here, sym is)
@@ -120,22 +120,22 @@ its_target slots list kept ref named here at None is = λ other there.
 pub copies_more : (slots : List (Option Kept)) (zone : ℕ) (order : List ℕ) → IsOrder slots zone order
     → (i k : ℕ) → slice_get order i ≡ Some k → (copies now : List RecordSet) (set : RecordSet)
     → ((kept : Kept) → IsKept slots k kept → set ≡ kept.set)
-    → copies ≡ sets_of (placed_of slots zone (take i order)) → now ≡ copies ++ set ∷ []
-    → now ≡ sets_of (placed_of slots zone (take (i + 1) order))
+    → copies ≡ sets_of (slotted_of slots zone (take i order)) → now ≡ copies ++ set ∷ []
+    → now ≡ sets_of (slotted_of slots zone (take (i + 1) order))
 copies_more slots zone order is i k at copies now set read so_far more =
     let here = at_place (set_in slots zone) order is.present i k at in
     let kept = its_kept slots zone k here.0 here.1 in
     let one : set ≡ here.0 = read (record { zone = zone; set = here.0 }) kept in
-    let its : (placed_at (set_in slots zone) k).set ≡ here.0 =
+    let its : (slotted_at (set_in slots zone) k).set ≡ here.0 =
     ap (λ (o : Option RecordSet). unwrap_or o no_set) here.1 in
-    let rest : sets_of (placed_of slots zone (take (i + 1) order))
-    ≡ sets_of (placed_of slots zone (take i order)) ++ (placed_at (set_in slots zone) k).set ∷ [] =
-    ap sets_of (ap (λ ks. placed_of slots zone ks) (take_more order i k at)
-    ∙ map-append (placed_at (set_in slots zone)) (take i order) (k ∷ []))
-    ∙ map-append (λ (p : Placed). p.set) (placed_of slots zone (take i order))
-    (placed_at (set_in slots zone) k ∷ []) in
+    let rest : sets_of (slotted_of slots zone (take (i + 1) order))
+    ≡ sets_of (slotted_of slots zone (take i order)) ++ (slotted_at (set_in slots zone) k).set ∷ [] =
+    ap sets_of (ap (λ ks. slotted_of slots zone ks) (take_more order i k at)
+    ∙ map-append (slotted_at (set_in slots zone)) (take i order) (k ∷ []))
+    ∙ map-append (λ (p : Slotted). p.set) (slotted_of slots zone (take i order))
+    (slotted_at (set_in slots zone) k ∷ []) in
     more ∙ (ap (λ xs. xs ++ set ∷ []) so_far
-    ∙ (ap (λ s. sets_of (placed_of slots zone (take i order)) ++ s ∷ []) (one ∙ sym its) ∙ sym rest))
+    ∙ (ap (λ s. sets_of (slotted_of slots zone (take i order)) ++ s ∷ []) (one ∙ sym its) ∙ sym rest))
 
 -- where a zone has a set its apex exists
 pub apex_there : (zones : List Zone) → AreZones zones → (zone : ℕ) (apex : List (List ℕ))

@@ -8,14 +8,14 @@ use Rattle.zone_list.specs.Suffix.{EndsWith}
 use Rattle.zone_list.specs.Stored.{Kept}
 use Rattle.zone_list.specs.Sets.{IsAmong}
 use Rattle.zone_list.proofs.Among.{among_at}
-use Rattle.zone_list.specs.Orders.{IsOrder, placed_at, placed_of, set_in}
+use Rattle.zone_list.specs.Orders.{IsOrder, slotted_at, slotted_of, set_in}
 use Rattle.zone_list.proofs.Orders.{of_zone}
 use Rattle.zone_list.specs.Found.{IsAt, LongestOrNone, NextZoneOrNone}
-use Rattle.zone_list.specs.Kept.{AreKept, HasId, Listed, named, named_of, Stands, zone_in, zones_in}
+use Rattle.zone_list.specs.Kept.{AreIntact, HasId, Listed, named, named_of, IsIntact, zone_in, zones_in}
 use Rattle.zone_list.specs.Zones.{AreListed, AreZones, IsZoneId, StandsAlone, Zone, placed_in}
 use Rattle.zone_list.proofs.Listing.{its_placed, none_placed}
 use Rattle.zone_list.proofs.Members.{in_all}
-use Rattle.zone_table.specs.Looking.{HoldsOrNone, IsApex}
+use Rattle.zone_table.specs.Looking.{IsZoneForOrNone, IsApex}
 use Rattle.zone_table.specs.Stored.{IsNone, IsOrderIn}
 
 abbrev Before : Zone → Zone → Type 0
@@ -78,7 +78,7 @@ module _ (slots : List (Option Kept)) where
   pub holds : (list : List Listed) (name : List (List ℕ)) (found : Option (ℕ × ℕ))
       → LongestOrNone (named_of list) name found
       → (id : Option ℕ) → id ≡ option_map (λ (p : ℕ × ℕ). p.0) found
-      → HoldsOrNone (zones_in slots list) name id
+      → IsZoneForOrNone (zones_in slots list) name id
   holds list name None none None e = λ zone there above.
       let k = of_map (zone_in slots) list zone there in
       none (named k.0) (in_map named list k.0 k.1)
@@ -122,30 +122,30 @@ module _ (slots : List (Option Kept)) where
 
   -- ---- what is kept
 
-  pub alone : (k : Listed) → Stands slots k → StandsAlone (zone_in slots k)
+  pub alone : (k : Listed) → IsIntact slots k → StandsAlone (zone_in slots k)
   alone k stands = record {
     numbered = stands.numbered;
     sets = of_zone (set_in slots k.id) k.order stands.order;
     each = stands.each;
   }
 
-  pub all_alone : (list : List Listed) → AllByRecursion (Stands slots) list
+  pub all_alone : (list : List Listed) → AllByRecursion (IsIntact slots) list
       → AllByRecursion StandsAlone (zones_in slots list)
   all_alone [] each = tt
   all_alone (k ∷ list) each = (alone k each.0, all_alone list each.1)
 
-  module _ (list : List Listed) (kept : AreKept slots list) where
+  module _ (list : List Listed) (kept : AreIntact slots list) where
     pub are_zones : AreZones (zones_in slots list)
     are_zones = record { listed = with_sets list kept.listed; each = all_alone list kept.each }
 
     pub its_sets : (k : Listed) → IsAmong list k
-        → placed_in (zones_in slots list) k.id ≡ placed_of slots k.id k.order
+        → placed_in (zones_in slots list) k.id ≡ slotted_of slots k.id k.order
     its_sets k there =
         its_placed (zones_in slots list) are_zones.listed (zone_in slots k)
         (in_map (zone_in slots) list k there)
 
-    pub stands_here : (k : Listed) → IsAmong list k → Stands slots k
-    stands_here k there = in_all (Stands slots) list k kept.each there
+    pub stands_here : (k : Listed) → IsAmong list k → IsIntact slots k
+    stands_here k there = in_all (IsIntact slots) list k kept.each there
 
     pub order_is : (id i : ℕ) → IsAt (named_of list) id i → (k : Listed) → i < length list
         → k ≡ get_or list i k → IsOrderIn slots list id k.order
@@ -157,7 +157,7 @@ module _ (slots : List (Option Kept)) where
         let there : IsAmong list k = among_at list i k at in record {
           order_is = subst (λ n. IsOrder slots n k.order) its_id (stands_here k there).order;
           placed = ap (placed_in (zones_in slots list)) (sym its_id)
-              ∙ (its_sets k there ∙ ap (λ n. placed_of slots n k.order) its_id);
+              ∙ (its_sets k there ∙ ap (λ n. slotted_of slots n k.order) its_id);
           there = (zone_in slots k, in_map (zone_in slots) list k there, its_id);
         }
 
@@ -190,7 +190,7 @@ as_many_sets slots list id i listed found k inside is =
     sym (ap length (ap (placed_in (zones_in slots list)) (sym its_id)
     ∙ its_placed (zones_in slots list) (with_sets slots list listed) (zone_in slots k)
     (in_map (zone_in slots) list k (among_at list i k at)))
-    ∙ length-map k.order (placed_at (set_in slots k.id)))
+    ∙ length-map k.order (slotted_at (set_in slots k.id)))
 
 -- a zone that is found stands inside the list
 pub inside_of : (list : List Listed) (id i : ℕ) → IsAt (named_of list) id i → i < length list

@@ -8,7 +8,7 @@ use Rattle.zone_list.specs.RecordSetRecord.{RecordSet}
 use Rattle.zone_list.specs.SetKeyRecord.{SetKey}
 use Rattle.zone_list.specs.Hosted.{HostedZone}
 use Rattle.zone_list.specs.Sets.{IsAmong, IsRising}
-use Rattle.zone_list.specs.Placed.{Placed, sets_of}
+use Rattle.zone_list.specs.Slotted.{Slotted, sets_of}
 use Rattle.zone_list.specs.declared.refs.SetRef.{SetRef}
 use Rattle.zone_list.specs.Changes.{Changes, ref_in}
 use Rattle.zone_list.specs.Zones.{Zone, AreListed, AreZones, IsOne, IsZoneId, StandsAlone, hosted, placed_in}
@@ -49,7 +49,7 @@ same_refs (r ∷ refs) (q ∷ others) many each =
 
 -- ---- one zone
 
-module _ (zone : ℕ) (before one other : List Placed) (remove : List SetKey) (add : List RecordSet)
+module _ (zone : ℕ) (before one other : List Slotted) (remove : List SetKey) (add : List RecordSet)
     (removed added other_removed other_added : List SetRef)
     (c : Changes zone before remove add removed added one)
     (d : Changes zone before remove add other_removed other_added other) where
@@ -76,12 +76,12 @@ module _ (zone : ℕ) (before one other : List Placed) (remove : List SetKey) (a
           let p = c.goes i key.0 key.1 in
           let q = d.goes i key.0 key.1 in
           let same : p.0 ≡ q.0 = one_of_key before rising p.0 q.0 p.1 q.1 (p.2 ∙ sym q.2) in
-          q.3 ∙ (ap (λ (x : Placed). Some (ref_in zone x)) (sym same) ∙ (sym p.3 ∙ at))
+          q.3 ∙ (ap (λ (x : Slotted). Some (ref_in zone x)) (sym same) ∙ (sym p.3 ∙ at))
 
   same_added : length added ≡ length other_added
   same_added = c.as_many_added ∙ sym d.as_many_added
 
-alike : (zone : ℕ) (before one other : List Placed) (remove : List SetKey) (add : List RecordSet)
+alike : (zone : ℕ) (before one other : List Slotted) (remove : List SetKey) (add : List RecordSet)
     (removed added other_removed other_added : List SetRef)
     → Changes zone before remove add removed added one
     → Changes zone before remove add other_removed other_added other
@@ -115,7 +115,7 @@ its_hosted : (zones : List Zone) → AreListed zones → (x : Zone) → IsOne zo
 its_hosted zones listed x there zone name its_id its_apex =
     ap (λ (n : ℕ). record { id = n; apex = x.apex; sets = sets_of x.placed }) its_id
     ∙ (ap (λ (a : List (List ℕ)). record { id = zone; apex = a; sets = sets_of x.placed }) its_apex
-    ∙ ap (λ (ps : List Placed). record { id = zone; apex = name; sets = sets_of ps })
+    ∙ ap (λ (ps : List Slotted). record { id = zone; apex = name; sets = sets_of ps })
     (sym (its_placed zones listed x there) ∙ ap (placed_in zones) its_id))
 
 apex_hosted : (zones : List Zone) → AreListed zones → (zone : ℕ) (name : List (List ℕ))
@@ -168,7 +168,7 @@ rising_in : (zones : List Zone) → AreZones zones → (zone : ℕ) → IsZoneId
     → IsRising (sets_of (placed_in zones zone))
 rising_in zones are zone (x, there, its_id) =
     let alone = in_all StandsAlone zones x are.each there in
-    subst (λ (ps : List Placed). IsRising (sets_of ps)) (sym (its_placed zones are.listed x there)
+    subst (λ (ps : List Slotted). IsRising (sets_of ps)) (sym (its_placed zones are.listed x there)
     ∙ ap (placed_in zones) its_id) alone.sets.rising
 
 -- a zone has the number, or none
@@ -190,7 +190,7 @@ listed_or_not (zone ∷ zones) id = elim (cases_eq zone.id id) [
 module _ (before one other : List Zone) (told other_told : Delta) where
   both_leave : (made : ZoneEdit) → IsAllowed before made → Makes made before one told
       → Makes made before other other_told → Leave one other (zone_of made)
-  both_leave (edit.Open zone name sets) allowed m n =
+  both_leave (edit.Begin zone name sets) allowed m n =
       inr (
         name,
         (
@@ -200,7 +200,7 @@ module _ (before one other : List Zone) (told other_told : Delta) where
               other_told.removed other_told.added m.1 n.1,
         ),
       )
-  both_leave (edit.Close zone) allowed m n = inl (m.0, n.0)
+  both_leave (edit.End zone) allowed m n = inl (m.0, n.0)
   both_leave (edit.Change zone remove add) ((x, there, its_id), can) m n =
       let apex : IsApex before zone x.apex = (x, there, its_id, refl) in
       inr (
@@ -227,13 +227,13 @@ module _ (before one other : List Zone) (told other_told : Delta) where
   both_tell : (made : ZoneEdit) → AreZones before → IsAllowed before made
       → Makes made before one told → Makes made before other other_told
       → (told.removed ≡ other_told.removed) × (length told.added ≡ length other_told.added)
-  both_tell (edit.Open zone name sets) are allowed m n = (
+  both_tell (edit.Begin zone name sets) are allowed m n = (
     same_removed zone [] (placed_in one zone) (placed_in other zone) [] sets told.removed told.added
         other_told.removed other_told.added m.1 n.1 tt,
     same_added zone [] (placed_in one zone) (placed_in other zone) [] sets told.removed told.added
         other_told.removed other_told.added m.1 n.1,
   )
-  both_tell (edit.Close zone) are allowed m n = (m.1 ∙ sym n.1, ap length (m.2 ∙ sym n.2))
+  both_tell (edit.End zone) are allowed m n = (m.1 ∙ sym n.1, ap length (m.2 ∙ sym n.2))
   both_tell (edit.Collections now) are allowed m n = (m.1 ∙ sym n.1, ap length (m.2 ∙ sym n.2))
   both_tell (edit.Change zone remove add) are allowed m n = (
     same_removed zone (placed_in before zone) (placed_in one zone) (placed_in other zone) remove add

@@ -10,11 +10,11 @@ use Rattle.zone_list.specs.SetsOfRecordSet.{key_of}
 use Rattle.zone_list.specs.Placing.{IsThere}
 use Rattle.zone_list.proofs.Among.{among_at}
 use Rattle.zone_list.proofs.ListsOfZoneModel.{drop_map, split}
-use Rattle.zone_list.specs.Orders.{IsOrder, placed_of}
+use Rattle.zone_list.specs.Orders.{IsOrder, slotted_of}
 use Rattle.zone_list.specs.Changes.{CanBeAdded, CanChange, IsKeyOf}
 use Rattle.zone_list.specs.Found.{IsSplit}
 use Rattle.zone_list.specs.Sums.{sums_of}
-use Rattle.zone_list.specs.Kept.{AreKept, HasId, Listed, named, named_of, Stands, zone_in, zones_in}
+use Rattle.zone_list.specs.Kept.{AreIntact, HasId, Listed, named, named_of, IsIntact, zone_in, zones_in}
 use Rattle.zone_list.specs.Zones.{AreListed, CanStand, IsOne, Zone}
 use Rattle.zone_table.specs.declared.edits.ZoneEdit.TheVariants as edit
 use Rattle.zone_table.specs.Edits.{IsAllowed}
@@ -22,7 +22,7 @@ use Rattle.zone_table.proofs.Edited.{all_back, all_front, Before, listed_put}
 use Rattle.zone_table.proofs.Naming.{in_map, of_map, one_with}
 
 -- no set is of a zone that isn't there
-pub empty_order : (slots : List (Option Kept)) (list : List Listed) → AreKept slots list → (id : ℕ)
+pub empty_order : (slots : List (Option Kept)) (list : List Listed) → AreIntact slots list → (id : ℕ)
     → (HasId list id → ⊥) → IsOrder slots id []
 empty_order slots list kept id new = record {
   present = tt;
@@ -32,15 +32,15 @@ empty_order slots list kept id new = record {
   rising = tt;
 }
 
-pub stands_empty : (slots : List (Option Kept)) (list : List Listed) → AreKept slots list → (k : Listed)
-    → k.order ≡ [] → k.sums ≡ sums_of [] → 0 < k.id → (HasId list k.id → ⊥) → Stands slots k
+pub stands_empty : (slots : List (Option Kept)) (list : List Listed) → AreIntact slots list → (k : Listed)
+    → k.order ≡ [] → k.sums ≡ sums_of [] → 0 < k.id → (HasId list k.id → ⊥) → IsIntact slots k
 stands_empty slots list kept k empty none numbered new = record {
   numbered = numbered;
   order = subst (λ (order : List ℕ). IsOrder slots k.id order) (sym empty)
       (empty_order slots list kept k.id new);
   each = subst (λ (order : List ℕ). AllByRecursion (λ p. CanStand k.apex p.set)
-      (placed_of slots k.id order)) (sym empty) tt;
-  counted = none ∙ ap (λ (order : List ℕ). sums_of (placed_of slots k.id order)) (sym empty);
+      (slotted_of slots k.id order)) (sym empty) tt;
+  counted = none ∙ ap (λ (order : List ℕ). sums_of (slotted_of slots k.id order)) (sym empty);
 }
 
 -- sets that can be added to a zone without sets
@@ -55,7 +55,7 @@ can_open apex add added = record { there = tt; added = added; new = by add }
 
 module _ (slots : List (Option Kept)) (list : List Listed) (n : ℕ) (k : Listed) (sets : List RecordSet)
     (listed : AreListed (named_of list)) (here : IsSplit (named_of list) k.id n n)
-    (allowed : IsAllowed (zones_in slots list) (edit.Open k.id k.apex sets)) where
+    (allowed : IsAllowed (zones_in slots list) (edit.Begin k.id k.apex sets)) where
   abbrev all : List Zone
   all = named_of list
 

@@ -7,26 +7,26 @@ use Rattle.std.proofs.lemmas.Bool.{cases_eq}
 use Rattle.zone_list.specs.RecordSetRecord.{RecordSet}
 use Rattle.zone_list.specs.Octets.{HasSpelling, set_octets}
 use Rattle.cidr_routing.specs.Stored.{Stored}
-use Rattle.zone_list.specs.Stored.{Kept, Store}
+use Rattle.zone_list.specs.Stored.{Kept, Slots}
 use Rattle.zone_list.proofs.Among.{among_at}
-use Rattle.zone_list.specs.Orders.{IsOrderBy, placed_by, set_in}
+use Rattle.zone_list.specs.Orders.{IsOrderBy, slotted_by, set_in}
 use Rattle.zone_list.specs.SumsRecord.{Sums}
 use Rattle.zone_list.specs.Sums.{sums_of}
-use Rattle.zone_list.specs.Kept.{AreKept, HasId, Listed, named, named_of, Stands, zone_in, zones_in}
+use Rattle.zone_list.specs.Kept.{AreIntact, HasId, Listed, named, named_of, IsIntact, zone_in, zones_in}
 use Rattle.zone_list.specs.Zones.{AreListed, CanStand, IsZoneId, placed_in, Zone}
 use Rattle.zone_list.proofs.Listing.{listed_at}
 use Rattle.zone_table.specs.declared.edits.ZoneEdit.{ZoneEdit}
 use Rattle.zone_table.specs.declared.edits.ZoneEdit.TheVariants as edit
 use Rattle.zone_table.specs.declared.needs.Need.{Need}
 use Rattle.zone_table.specs.Edits.{HasRoom, HasRoomFor, HasRoomIn, IsAllowed, IsReady, Prepared, StayReady}
-use Rattle.zone_table.specs.Needs.{Adds, AreSpelled, CanTake, Counts, HasRoomToAdd, IsPrepared, IsReadyFor, IsRoomFor, KeepsRoom, NeedsNone, Row, row, same_rows}
+use Rattle.zone_table.specs.Needs.{NeedsFor, AreSpelled, CanTake, NeedsOfEdit, HasRoomToAdd, IsPrepared, IsReadyFor, IsRoomFor, KeepsRoom, NeedsNone, ZoneButRoom, zone_but_room, same_rows}
 use Rattle.zone_table.specs.Tables.{Table}
 use Rattle.zone_table.proofs.Naming.{in_map, map_at, of_map_at}
 
 -- ---- rows
 
 same_row : (k now : Listed) → now.id ≡ k.id → now.apex ≡ k.apex → now.order ≡ k.order → now.sums ≡ k.sums
-    → row now ≡ row k
+    → zone_but_room now ≡ zone_but_room k
 same_row k now id apex order sums =
     ap (λ (n : ℕ). record { id = n; apex = now.apex; order = now.order; sums = now.sums }) id
     ∙ (ap (λ (a : List (List ℕ)). record { id = k.id; apex = a; order = now.order; sums = now.sums }) apex
@@ -39,15 +39,15 @@ pub rows_kept : (list : List Listed) (i : ℕ) (k now : Listed) → slice_get li
 rows_kept [] i k now at id apex order sums = absurd (grind (arith, at))
 rows_kept (j ∷ list) zero k now at id apex order sums =
     let one : j ≡ k = grind (arith, at) in
-    ap (λ r. r ∷ map row list) (same_row k now id apex order sums ∙ ap row (sym one))
+    ap (λ r. r ∷ map zone_but_room list) (same_row k now id apex order sums ∙ ap zone_but_room (sym one))
 rows_kept (j ∷ list) (suc i) k now at id apex order sums =
-    ap (λ rs. row j ∷ rs) (rows_kept list i k now at id apex order sums)
+    ap (λ rs. zone_but_room j ∷ rs) (rows_kept list i k now at id apex order sums)
 
-abbrev zone_of_row : List (Option Kept) → Row → Zone
-zone_of_row slots r = record { id = r.id; apex = r.apex; placed = placed_by (set_in slots r.id) r.order }
+abbrev zone_of_row : List (Option Kept) → ZoneButRoom → Zone
+zone_of_row slots r = record { id = r.id; apex = r.apex; placed = slotted_by (set_in slots r.id) r.order }
 
 by_rows : (slots : List (Option Kept)) (list : List Listed)
-    → zones_in slots list ≡ map (zone_of_row slots) (map row list)
+    → zones_in slots list ≡ map (zone_of_row slots) (map zone_but_room list)
 by_rows slots [] = refl
 by_rows slots (k ∷ list) = ap (λ zs. zone_in slots k ∷ zs) (by_rows slots list)
 
@@ -57,61 +57,61 @@ rows_zones slots list now same =
     by_rows slots now ∙ (ap (map (zone_of_row slots)) same ∙ sym (by_rows slots list))
 
 named_by_rows : (list : List Listed)
-    → named_of list ≡ map (λ (r : Row). record { id = r.id; apex = r.apex; placed = [] }) (map row list)
+    → named_of list ≡ map (λ (r : ZoneButRoom). record { id = r.id; apex = r.apex; placed = [] }) (map zone_but_room list)
 named_by_rows [] = refl
 named_by_rows (k ∷ list) = ap (λ zs. named k ∷ zs) (named_by_rows list)
 
 rows_named : (list now : List Listed) → same_rows list now → named_of now ≡ named_of list
 rows_named list now same =
     named_by_rows now
-    ∙ (ap (map (λ (r : Row). record { id = r.id; apex = r.apex; placed = [] })) same
+    ∙ (ap (map (λ (r : ZoneButRoom). record { id = r.id; apex = r.apex; placed = [] })) same
     ∙ sym (named_by_rows list))
 
 rows_stand : (slots : List (Option Kept)) (list now : List Listed) → same_rows list now
-    → AllByRecursion (Stands slots) list → AllByRecursion (Stands slots) now
+    → AllByRecursion (IsIntact slots) list → AllByRecursion (IsIntact slots) now
 rows_stand slots [] [] same each = tt
 rows_stand slots [] (j ∷ now) same each = absurd (let h = ap length same in omega (arith, h))
 rows_stand slots (k ∷ list) [] same each = absurd (let h = ap length same in omega (arith, h))
 rows_stand slots (k ∷ list) (j ∷ now) same each =
-    let first : row j ≡ row k = head_same same in
+    let first : zone_but_room j ≡ zone_but_room k = head_same same in
     let rest : same_rows list now = tail_same same in (
       by first each.0,
       rows_stand slots list now rest each.1,
     )
   where
-    head_same : row j ∷ map row now ≡ row k ∷ map row list → row j ≡ row k
+    head_same : zone_but_room j ∷ map zone_but_room now ≡ zone_but_room k ∷ map zone_but_room list → zone_but_room j ≡ zone_but_room k
     head_same e = cc
 
-    tail_same : row j ∷ map row now ≡ row k ∷ map row list → map row now ≡ map row list
+    tail_same : zone_but_room j ∷ map zone_but_room now ≡ zone_but_room k ∷ map zone_but_room list → map zone_but_room now ≡ map zone_but_room list
     tail_same e = cc
 
-    stands_row : Row → Type 0
+    stands_row : ZoneButRoom → Type 0
     stands_row r = IsOrderBy (set_in slots r.id) r.order
-        × AllByRecursion (λ p. CanStand r.apex p.set) (placed_by (set_in slots r.id) r.order)
-        × (r.sums ≡ sums_of (placed_by (set_in slots r.id) r.order)) × (0 < r.id)
+        × AllByRecursion (λ p. CanStand r.apex p.set) (slotted_by (set_in slots r.id) r.order)
+        × (r.sums ≡ sums_of (slotted_by (set_in slots r.id) r.order)) × (0 < r.id)
 
-    by : row j ≡ row k → Stands slots k → Stands slots j
+    by : zone_but_room j ≡ zone_but_room k → IsIntact slots k → IsIntact slots j
     by e stands =
-        let h : stands_row (row j) = subst stands_row (sym e) (stands.order, stands.each, stands.counted, stands.numbered) in
+        let h : stands_row (zone_but_room j) = subst stands_row (sym e) (stands.order, stands.each, stands.counted, stands.numbered) in
         record { numbered = h.3; order = h.0; each = h.1; counted = h.2 }
 
 rows_ids : (list now : List Listed) → same_rows list now → (id : ℕ) → HasId list id → HasId now id
 rows_ids [] now same id is = absurd is.1
 rows_ids (k ∷ list) [] same id is = absurd (let h = ap length same in omega (arith, h))
 rows_ids (k ∷ list) (j ∷ now) same id (l, inl e, its) =
-    (j, inl refl, ap (λ (r : Row). r.id) (head_same same) ∙ (ap (λ (x : Listed). x.id) e ∙ its))
+    (j, inl refl, ap (λ (r : ZoneButRoom). r.id) (head_same same) ∙ (ap (λ (x : Listed). x.id) e ∙ its))
   where
-    head_same : row j ∷ map row now ≡ row k ∷ map row list → row j ≡ row k
+    head_same : zone_but_room j ∷ map zone_but_room now ≡ zone_but_room k ∷ map zone_but_room list → zone_but_room j ≡ zone_but_room k
     head_same e = cc
 rows_ids (k ∷ list) (j ∷ now) same id (l, inr there, its) =
     let rest = rows_ids list now (tail_same same) id (l, there, its) in (rest.0, inr rest.1, rest.2)
   where
-    tail_same : row j ∷ map row now ≡ row k ∷ map row list → map row now ≡ map row list
+    tail_same : zone_but_room j ∷ map zone_but_room now ≡ zone_but_room k ∷ map zone_but_room list → map zone_but_room now ≡ map zone_but_room list
     tail_same e = cc
 
 -- the same zones are kept
 pub rows_are_kept : (slots : List (Option Kept)) (list now : List Listed) → same_rows list now
-    → AreKept slots list → AreKept slots now
+    → AreIntact slots list → AreIntact slots now
 rows_are_kept slots list now same kept = record {
   listed = subst AreListed (sym (rows_named list now same)) kept.listed;
   each = rows_stand slots list now same kept.each;
@@ -124,20 +124,20 @@ module _ (slots now : List (Option Kept)) (stay : (zone slot : ℕ) → set_in n
   same_get : (zone : ℕ) → set_in now zone ≡ set_in slots zone
   same_get zone = λ i slot. stay zone slot i
 
-  still_stand : (list : List Listed) → AllByRecursion (Stands slots) list → AllByRecursion (Stands now) list
+  still_stand : (list : List Listed) → AllByRecursion (IsIntact slots) list → AllByRecursion (IsIntact now) list
   still_stand [] each = tt
   still_stand (k ∷ list) each = (
     record {
       numbered = each.0.numbered;
       order = subst (λ get. IsOrderBy get k.order) (sym (same_get k.id)) each.0.order;
-      each = subst (λ get. AllByRecursion (λ p. CanStand k.apex p.set) (placed_by get k.order))
+      each = subst (λ get. AllByRecursion (λ p. CanStand k.apex p.set) (slotted_by get k.order))
           (sym (same_get k.id)) each.0.each;
-      counted = each.0.counted ∙ ap (λ get. sums_of (placed_by get k.order)) (sym (same_get k.id));
+      counted = each.0.counted ∙ ap (λ get. sums_of (slotted_by get k.order)) (sym (same_get k.id));
     },
     still_stand list each.1,
   )
 
-  pub still_kept : (list : List Listed) → AreKept slots list → AreKept now list
+  pub still_kept : (list : List Listed) → AreIntact slots list → AreIntact now list
   still_kept list kept = record {
     listed = kept.listed;
     each = still_stand list kept.each;
@@ -147,7 +147,7 @@ module _ (slots now : List (Option Kept)) (stay : (zone slot : ℕ) → set_in n
   pub still_zones : (list : List Listed) → zones_in now list ≡ zones_in slots list
   still_zones [] = refl
   still_zones (k ∷ list) =
-      ap (λ get. record { id = k.id; apex = k.apex; placed = placed_by get k.order } ∷ zones_in now list)
+      ap (λ get. record { id = k.id; apex = k.apex; placed = slotted_by get k.order } ∷ zones_in now list)
       (same_get k.id)
       ∙ ap (λ zs. zone_in slots k ∷ zs) (still_zones list)
 
@@ -252,7 +252,7 @@ module _ {X E : Type 0} where
   on_ok_so (Ok x) p f = f p
   on_ok_so (Err e) p f = tt
 
-abbrev pub table_of : Store → Vec Listed Global → Stored → ℕ → Table
+abbrev pub table_of : Slots → Vec Listed Global → Stored → ℕ → Table
 table_of store list collections edits = record {
   zones = zones_in store.slots list.items;
   slots = length store.slots;
@@ -265,12 +265,12 @@ table_of store list collections edits = record {
 }
 
 pub spelled_of : (zones : List Zone) (made : ZoneEdit) → IsAllowed zones made → AreSpelled made
-spelled_of zones (edit.Open zone name sets) allowed = by sets allowed.2.each
+spelled_of zones (edit.Begin zone name sets) allowed = by sets allowed.2.each
   where
     by : (add : List RecordSet) → AllByRecursion (λ set. CanStand name set) add → AllByRecursion HasSpelling add
     by [] all = tt
     by (set ∷ add) all = (all.0.spelled, by add all.1)
-spelled_of zones (edit.Close zone) allowed = tt
+spelled_of zones (edit.End zone) allowed = tt
 spelled_of zones (edit.Collections now) allowed = tt
 spelled_of zones (edit.Change zone remove add) ((x, there, its), can) =
     by x.apex add (can x.apex (x, there, its, refl)).added.each
@@ -285,9 +285,9 @@ bounded : (add : List RecordSet) (n m : ℕ) → n ≤ m → AllByRecursion (λ 
 bounded [] n m le all = tt
 bounded (set ∷ add) n m le all = ((let h = all.0 in omega (arith, h, le)), bounded add n m le all.1)
 
-module _ (store : Store) (list : Vec Listed Global) (collections : Stored) (edits : ℕ) (need : Need) (ready : Prepared)
+module _ (store : Slots) (list : Vec Listed Global) (collections : Stored) (edits : ℕ) (need : Need) (ready : Prepared)
     (slots_are : need.addable ≤ store.free) (cells_are : need.cells ≤ store.cells) where
-  room_to_add : (made : ZoneEdit) → IsPrepared made edits need ready → (add : List RecordSet) → Adds add need
+  room_to_add : (made : ZoneEdit) → IsPrepared made edits need ready → (add : List RecordSet) → NeedsFor add need
       → HasRoomFor (table_of store list collections edits) ready add
   room_to_add made prepared add adds = record {
     addable = (let a = prepared.addable in let n = adds.addable in omega (arith, a, n));
@@ -296,14 +296,14 @@ module _ (store : Store) (list : Vec Listed Global) (collections : Stored) (edit
     buffer = bounded add need.buffer ready.buffer prepared.buffer adds.buffer;
   }
 
-  has_room : (made : ZoneEdit) → IsPrepared made edits need ready → Counts list.items made need
+  has_room : (made : ZoneEdit) → IsPrepared made edits need ready → NeedsOfEdit list.items made need
       → IsRoomFor list made → HasRoom (table_of store list collections edits) ready made
-  has_room (edit.Open zone name sets) prepared counts room = (
+  has_room (edit.Begin zone name sets) prepared counts room = (
     omega (arith, room),
     (let p = prepared.places in let n = counts.0 in omega (arith, p, n)),
-    room_to_add (edit.Open zone name sets) prepared sets counts.1,
+    room_to_add (edit.Begin zone name sets) prepared sets counts.1,
   )
-  has_room (edit.Close zone) prepared counts room =
+  has_room (edit.End zone) prepared counts room =
       let r = prepared.removable in let n = counts store.slots in omega (arith, r, n)
   has_room (edit.Collections now) prepared counts room = tt
   has_room (edit.Change zone remove add) prepared counts room = (
@@ -322,7 +322,7 @@ module _ (store : Store) (list : Vec Listed Global) (collections : Stored) (edit
           let its_is = k.2 in
           omega (arith, enough, its_is)
 
-  pub is_ready : (made : ZoneEdit) → IsPrepared made edits need ready → Counts list.items made need
+  pub is_ready : (made : ZoneEdit) → IsPrepared made edits need ready → NeedsOfEdit list.items made need
       → IsRoomFor list made → IsAllowed (zones_in store.slots list.items) made
       → IsReady (table_of store list collections edits) ready
   is_ready made prepared counts room allowed = record {
@@ -334,14 +334,14 @@ module _ (store : Store) (list : Vec Listed Global) (collections : Stored) (edit
 
 -- how much an edit wants is told of zones that are the same
 pub counts_still : (list now : List Listed) → same_rows list now → (made : ZoneEdit) (need : Need)
-    → Counts list made need → Counts now made need
-counts_still list now same (edit.Open zone name sets) need counts = counts
-counts_still list now same (edit.Close zone) need counts = λ slots.
+    → NeedsOfEdit list made need → NeedsOfEdit now made need
+counts_still list now same (edit.Begin zone name sets) need counts = counts
+counts_still list now same (edit.End zone) need counts = λ slots.
     counts slots ∙ ap (λ zs. length (placed_in zs zone)) (sym (rows_zones slots list now same))
 counts_still list now same (edit.Change zone remove add) need counts = counts
 counts_still list now same (edit.Collections given) need counts = counts
 
-module _ (store store_now : Store) (list now : Vec Listed Global) (collections : Stored) (edits : ℕ)
+module _ (store store_now : Slots) (list now : Vec Listed Global) (collections : Stored) (edits : ℕ)
     (same : zones_in store_now.slots now.items ≡ zones_in store.slots list.items)
     (free : store.free ≤ store_now.free) (cells : store.cells ≤ store_now.cells)
     (keeps : KeepsRoom list now) (rows : same_rows list.items now.items) where
@@ -358,10 +358,10 @@ module _ (store store_now : Store) (list now : Vec Listed Global) (collections :
   was_at : (i : ℕ) (k : Listed) → slice_get now.items i ≡ Some k
       → (j : Listed) × (slice_get list.items i ≡ Some j) × (j.id ≡ k.id)
   was_at i k at =
-      let r : slice_get (map row list.items) i ≡ Some (row k) =
-      subst (λ rs. slice_get rs i ≡ Some (row k)) rows (map_at row now.items i k at) in
-      let j = of_map_at row list.items i (row k) r in
-      (j.0, j.1, ap (λ (x : Row). x.id) j.2)
+      let r : slice_get (map zone_but_room list.items) i ≡ Some (zone_but_room k) =
+      subst (λ rs. slice_get rs i ≡ Some (zone_but_room k)) rows (map_at zone_but_room now.items i k at) in
+      let j = of_map_at zone_but_room list.items i (zone_but_room k) r in
+      (j.0, j.1, ap (λ (x : ZoneButRoom). x.id) j.2)
 
   pub stay_ready : StayReady (table_of store list collections edits) (table_of store_now now collections edits)
   stay_ready ready is = record {
@@ -372,12 +372,12 @@ module _ (store store_now : Store) (list now : Vec Listed Global) (collections :
     where
       by : (m : ZoneEdit) → HasRoom (table_of store list collections edits) ready m
           → HasRoom (table_of store_now now collections edits) ready m
-      by (edit.Open zone name sets) room = (
+      by (edit.Begin zone name sets) room = (
         (let some = room.0 in let spare = keeps.spare in omega (arith, some, spare)),
         room.1,
         still_room ready sets room.2,
       )
-      by (edit.Close zone) room =
+      by (edit.End zone) room =
           subst (λ zs. length (placed_in zs zone) ≤ ready.removable) (sym same) room
       by (edit.Collections given) room = tt
       by (edit.Change zone remove add) room = (room.0, enough, still_room ready add room.2)
@@ -397,7 +397,7 @@ module _ (store store_now : Store) (list now : Vec Listed Global) (collections :
               omega (arith, had, more, its_is)
 
 -- what is ready wants no memory of the store and of the zones
-pub ready_for : (store : Store) (list : Vec Listed Global) (collections : Stored) (edits : ℕ)
+pub ready_for : (store : Slots) (list : Vec Listed Global) (collections : Stored) (edits : ℕ)
     (ready : Prepared)
     → IsReady (table_of store list collections edits) ready → IsReadyFor store list ready
 ready_for store list collections edits ready is = record { allowed = is.allowed; room = by ready.made is.room }
@@ -412,9 +412,9 @@ ready_for store list collections edits ready is = record { allowed = is.allowed;
     }
 
     by : (m : ZoneEdit) → HasRoom (table_of store list collections edits) ready m → NeedsNone store list ready m
-    by (edit.Open zone name sets) room =
+    by (edit.Begin zone name sets) room =
         ((let some = room.0 in omega (arith, some)), room.1, to_add sets room.2)
-    by (edit.Close zone) room = room
+    by (edit.End zone) room = room
     by (edit.Collections given) room = tt
     by (edit.Change zone remove add) room = (room.0, take, to_add add room.2)
       where

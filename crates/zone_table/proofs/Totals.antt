@@ -5,22 +5,22 @@ use Rattle.std.specs.List.{AllByRecursion, insert, remove, sum_by}
 use Rattle.std.proofs.lemmas.List.{length-map}
 use Rattle.std.proofs.lemmas.List.Sums.{sum_by-cons}
 use Rattle.zone_list.specs.Telling.{is_alias}
-use Rattle.zone_list.specs.Stored.{Kept, Store}
+use Rattle.zone_list.specs.Stored.{Kept, Slots}
 use Rattle.zone_list.proofs.Cells.{sum_insert, sum_remove, sum_set}
 use Rattle.zone_list.specs.SumsRecord.{Sums}
 use Rattle.zone_list.specs.Sums.{aliases_in, aliases_of, checked_in, checked_of, octets_in, octets_of, one_of}
-use Rattle.zone_list.specs.Placed.{Placed}
-use Rattle.zone_list.specs.Orders.{placed_at, placed_of, set_in}
-use Rattle.zone_list.specs.Kept.{AreKept, Listed, Stands, zone_in, zones_in}
+use Rattle.zone_list.specs.Slotted.{Slotted}
+use Rattle.zone_list.specs.Orders.{slotted_at, slotted_of, set_in}
+use Rattle.zone_list.specs.Kept.{AreIntact, Listed, IsIntact, zone_in, zones_in}
 use Rattle.zone_list.specs.Zones.{CanStand, Zone, placed_in}
 use Rattle.zone_table.specs.Counted.{AreCounted, counted_in, octets_in_all, places_in, sets_in_all}
-use Rattle.zone_table.specs.Needs.{Row, row, same_rows}
+use Rattle.zone_table.specs.Needs.{ZoneButRoom, zone_but_room, same_rows}
 
 recounted : (octets total now before after r : ℕ) → octets ≡ total % 2 ^ 64 → now + before ≡ total + after
     → (r + before) % 2 ^ 64 ≡ (octets + after) % 2 ^ 64 → r < 2 ^ 64 → r ≡ now % 2 ^ 64
 recounted octets total now before after r is sum new few = omega (arith, is, sum, new, few)
 
-module _ (store now : Store) (list : List Listed) (octets : ℕ) (counted : AreCounted store list octets)
+module _ (store now : Slots) (list : List Listed) (octets : ℕ) (counted : AreCounted store list octets)
     (slots : length now.slots ≡ length store.slots) (r : ℕ) (few : r < 2 ^ 64) where
   pub changed_counted : (i : ℕ) (k k_now : Listed) → slice_get list i ≡ Some k
       → now.free + length k_now.order ≡ store.free + length k.order
@@ -56,33 +56,33 @@ module _ (store now : Store) (list : List Listed) (octets : ℕ) (counted : AreC
 
 -- ---- room
 
-pub roomy : (store now : Store) (list : List Listed) (octets : ℕ) → AreCounted store list octets
+pub roomy : (store now : Slots) (list : List Listed) (octets : ℕ) → AreCounted store list octets
     → length now.slots + store.free ≡ length store.slots + now.free → AreCounted now list octets
 roomy store now list octets counted grown = record {
   sets = (let was = counted.sets in omega (arith, was, grown));
   all_octets = counted.all_octets;
 }
 
-by_rows : (f : Row → ℕ) (list : List Listed) → sum_by (λ (k : Listed). f (row k)) list ≡ sum_by f (map row list)
+by_rows : (f : ZoneButRoom → ℕ) (list : List Listed) → sum_by (λ (k : Listed). f (zone_but_room k)) list ≡ sum_by f (map zone_but_room list)
 by_rows f [] = refl
 by_rows f (k ∷ list) =
-    sum_by-cons (λ (k : Listed). f (row k)) k list
-    ∙ (ap (λ n. f (row k) + n) (by_rows f list) ∙ sym (sum_by-cons f (row k) (map row list)))
+    sum_by-cons (λ (k : Listed). f (zone_but_room k)) k list
+    ∙ (ap (λ n. f (zone_but_room k) + n) (by_rows f list) ∙ sym (sum_by-cons f (zone_but_room k) (map zone_but_room list)))
 
-pub rows_counted : (store : Store) (list now : List Listed) (octets : ℕ) → same_rows list now
+pub rows_counted : (store : Slots) (list now : List Listed) (octets : ℕ) → same_rows list now
     → AreCounted store list octets → AreCounted store now octets
 rows_counted store list now octets same counted = record {
-  sets = (let a = by_rows (λ (r : Row). length r.order) now in let b = by_rows (λ (r : Row). length r.order) list in
-      let e = ap (sum_by (λ (r : Row). length r.order)) same in let was = counted.sets in
+  sets = (let a = by_rows (λ (r : ZoneButRoom). length r.order) now in let b = by_rows (λ (r : ZoneButRoom). length r.order) list in
+      let e = ap (sum_by (λ (r : ZoneButRoom). length r.order)) same in let was = counted.sets in
       omega (arith, a, b, e, was));
   all_octets = counted.all_octets
-      ∙ ap (λ n. n % 2 ^ 64) (by_rows (λ (r : Row). r.sums.octets) list
-      ∙ (ap (sum_by (λ (r : Row). r.sums.octets)) (sym same) ∙ sym (by_rows (λ (r : Row). r.sums.octets) now)));
+      ∙ ap (λ n. n % 2 ^ 64) (by_rows (λ (r : ZoneButRoom). r.sums.octets) list
+      ∙ (ap (sum_by (λ (r : ZoneButRoom). r.sums.octets)) (sym same) ∙ sym (by_rows (λ (r : ZoneButRoom). r.sums.octets) now)));
 }
 
 -- ---- how much there can be
 
-few_octets : (apex : List (List ℕ)) (placed : List Placed) → AllByRecursion (λ p. CanStand apex p.set) placed
+few_octets : (apex : List (List ℕ)) (placed : List Slotted) → AllByRecursion (λ p. CanStand apex p.set) placed
     → octets_of placed ≤ 65536 * length placed
 few_octets apex [] each = omega arith
 few_octets apex (p ∷ placed) each =
@@ -95,7 +95,7 @@ one_at_most : (b : Bool) → one_of b ≤ 1
 one_at_most false = omega arith
 one_at_most true = omega arith
 
-few_aliases : (placed : List Placed) → aliases_of placed ≤ length placed
+few_aliases : (placed : List Slotted) → aliases_of placed ≤ length placed
 few_aliases [] = omega arith
 few_aliases (p ∷ placed) =
     let one = one_at_most (is_alias p.set.body) in
@@ -103,7 +103,7 @@ few_aliases (p ∷ placed) =
     let sum = sum_by-cons aliases_in p placed in
     omega (arith, one, rest, sum)
 
-few_checked : (placed : List Placed) → checked_of placed ≤ length placed
+few_checked : (placed : List Slotted) → checked_of placed ≤ length placed
 few_checked [] = omega arith
 few_checked (p ∷ placed) =
     let one = one_at_most (is_some p.set.check) in
@@ -148,14 +148,14 @@ some_of_all (zone ∷ zones) id = by (zone.id == id) (some_of_all zones id)
         let h : length (placed_in zones id) ≤ sets_in_all (zone ∷ zones) = omega (arith, sum, rest) in h
 
 module _ (slots : List (Option Kept)) where
-  as_many : (k : Listed) → length (placed_of slots k.id k.order) ≡ length k.order
-  as_many k = length-map k.order (placed_at (set_in slots k.id))
+  as_many : (k : Listed) → length (slotted_of slots k.id k.order) ≡ length k.order
+  as_many k = length-map k.order (slotted_at (set_in slots k.id))
 
   pub all_places : (list : List Listed) → sets_in_all (zones_in slots list) ≡ sum_by places_in list
   all_places [] = refl
   all_places (k ∷ list) =
       let a : sets_in_all (zones_in slots (k ∷ list))
-      ≡ length (placed_of slots k.id k.order) + sets_in_all (zones_in slots list) =
+      ≡ length (slotted_of slots k.id k.order) + sets_in_all (zones_in slots list) =
       first_sets (zone_in slots k) (zones_in slots list) in
       let b = first_places k list in
       let one = as_many k in
@@ -163,52 +163,52 @@ module _ (slots : List (Option Kept)) where
       omega (arith, a, b, one, rest)
 
   -- what each zone counts is exact where there are few sets in all
-  exact : (k : Listed) → Stands slots k → length k.order < 2 ^ 32
-      → k.sums.octets ≡ octets_of (placed_of slots k.id k.order)
+  exact : (k : Listed) → IsIntact slots k → length k.order < 2 ^ 32
+      → k.sums.octets ≡ octets_of (slotted_of slots k.id k.order)
   exact k stands few =
-      let bound = few_octets k.apex (placed_of slots k.id k.order) stands.each in
+      let bound = few_octets k.apex (slotted_of slots k.id k.order) stands.each in
       let many = as_many k in
       let is = ap (λ (s : Sums). s.octets) stands.counted in
       omega (arith, bound, many, few, is)
 
-  all_exact : (list : List Listed) → AllByRecursion (Stands slots) list → sum_by places_in list < 2 ^ 32
+  all_exact : (list : List Listed) → AllByRecursion (IsIntact slots) list → sum_by places_in list < 2 ^ 32
       → sum_by counted_in list ≡ octets_in_all (zones_in slots list)
   all_exact [] each few = refl
   all_exact (k ∷ list) each few =
       let places = first_places k list in
       let a = first_counted k list in
       let b : octets_in_all (zones_in slots (k ∷ list))
-      ≡ octets_of (placed_of slots k.id k.order) + octets_in_all (zones_in slots list) =
+      ≡ octets_of (slotted_of slots k.id k.order) + octets_in_all (zones_in slots list) =
       first_octets (zone_in slots k) (zones_in slots list) in
       let one = exact k each.0 (omega (arith, places, few)) in
       let rest = all_exact list each.1 (omega (arith, places, few)) in
       omega (arith, a, b, one, rest)
 
-  bounded : (list : List Listed) → AllByRecursion (Stands slots) list
+  bounded : (list : List Listed) → AllByRecursion (IsIntact slots) list
       → octets_in_all (zones_in slots list) ≤ 65536 * sum_by places_in list
   bounded [] each = omega arith
   bounded (k ∷ list) each =
       let places = first_places k list in
       let b : octets_in_all (zones_in slots (k ∷ list))
-      ≡ octets_of (placed_of slots k.id k.order) + octets_in_all (zones_in slots list) =
+      ≡ octets_of (slotted_of slots k.id k.order) + octets_in_all (zones_in slots list) =
       first_octets (zone_in slots k) (zones_in slots list) in
-      let one = few_octets k.apex (placed_of slots k.id k.order) each.0.each in
+      let one = few_octets k.apex (slotted_of slots k.id k.order) each.0.each in
       let many = as_many k in
       let rest = bounded list each.1 in
       omega (arith, places, b, one, many, rest)
 
-  zone_bounded : (list : List Listed) → AllByRecursion (Stands slots) list → (id : ℕ)
+  zone_bounded : (list : List Listed) → AllByRecursion (IsIntact slots) list → (id : ℕ)
       → octets_of (placed_in (zones_in slots list) id) ≤ 65536 * length (placed_in (zones_in slots list) id)
   zone_bounded [] each id = omega arith
   zone_bounded (k ∷ list) each id = by (k.id == id) (zone_bounded list each.1 id)
     where
       by : (b : Bool) → octets_of (placed_in (zones_in slots list) id) ≤ 65536 * length (placed_in (zones_in slots list) id)
-          → octets_of (cond b (placed_of slots k.id k.order) (placed_in (zones_in slots list) id))
-          ≤ 65536 * length (cond b (placed_of slots k.id k.order) (placed_in (zones_in slots list) id))
-      by true rest = few_octets k.apex (placed_of slots k.id k.order) each.0.each
+          → octets_of (cond b (slotted_of slots k.id k.order) (placed_in (zones_in slots list) id))
+          ≤ 65536 * length (cond b (slotted_of slots k.id k.order) (placed_in (zones_in slots list) id))
+      by true rest = few_octets k.apex (slotted_of slots k.id k.order) each.0.each
       by false rest = rest
 
-module _ (store : Store) (list : List Listed) (octets : ℕ) (kept : AreKept store.slots list)
+module _ (store : Slots) (list : List Listed) (octets : ℕ) (kept : AreIntact store.slots list)
     (counted : AreCounted store list octets) (few : length store.slots < 2 ^ 32) where
   few_places : sum_by places_in list < 2 ^ 32
   few_places = let is = counted.sets in omega (arith, is, few)

@@ -1,7 +1,7 @@
 -- What is known of the names of a table's zones.
 use Rattle.std.specs.Prelude.{◌≡◌, ◌↔◌, List, Option, None, Some, ⊤}
 use Rattle.zone_list.specs.Sets.{IsAmong}
-use Rattle.zone_list.specs.declared.apexes.Apex.{Apex}
+use Rattle.zone_list.specs.declared.apexes.NamedZone.{NamedZone}
 use Rattle.zone_list.specs.Apexes.{Comes, Goes}
 use Rattle.zone_list.specs.Zones.{Zone}
 use Rattle.zone_table.specs.declared.edits.ZoneEdit.{ZoneEdit}
@@ -9,14 +9,14 @@ use Rattle.zone_table.specs.declared.edits.ZoneEdit.TheVariants as edit
 use Rattle.zone_table.specs.Looking.{IsApex}
 
 -- The numbers and names that are known, if any are, are those of the zones.
-abbrev pub KnowsNames : Option (List Apex) → List Zone → Type 0
+abbrev pub KnowsNames : Option (List NamedZone) → List Zone → Type 0
 KnowsNames None zones = ⊤
-KnowsNames (Some list) zones = (apex : Apex) → IsAmong list apex ↔ IsApex zones apex.id apex.name
+KnowsNames (Some list) zones = (apex : NamedZone) → IsAmong list apex ↔ IsApex zones apex.id apex.name
 
 -- what is known of names once an edit is noted
-abbrev pub Notes : Option (List Apex) → ZoneEdit → Option (List Apex) → Type 0
-Notes before (edit.Open zone name sets) after =
+abbrev pub Notes : Option (List NamedZone) → ZoneEdit → Option (List NamedZone) → Type 0
+Notes before (edit.Begin zone name sets) after =
     Comes before (record { id = zone; name = name }) after
-Notes before (edit.Close zone) after = Goes before zone after
+Notes before (edit.End zone) after = Goes before zone after
 Notes before (edit.Change zone remove add) after = after ≡ before
 Notes before (edit.Collections now) after = after ≡ before

@@ -15,8 +15,8 @@ use Rattle.zone_table.specs.Tables.{Table}
 
 -- the zone that an edit is about
 abbrev pub zone_of : ZoneEdit → ℕ
-zone_of (edit.Open zone name sets) = zone
-zone_of (edit.Close zone) = zone
+zone_of (edit.Begin zone name sets) = zone
+zone_of (edit.End zone) = zone
 zone_of (edit.Change zone remove add) = zone
 -- of none, which has number 0
 zone_of (edit.Collections now) = 0
@@ -26,9 +26,9 @@ zone_of (edit.Collections now) = 0
 -- when an edit is allowed
 abbrev pub IsAllowed : List Zone → ZoneEdit → Type 0
 -- no zone has the number or the name, and the number is not 0, which is of no zone
-IsAllowed zones (edit.Open zone name sets) =
+IsAllowed zones (edit.Begin zone name sets) =
     (IsZoneId zones zone → ⊥) × (HasName zones name → ⊥) × CanBeAdded name sets × (0 < zone)
-IsAllowed zones (edit.Close zone) = IsZoneId zones zone
+IsAllowed zones (edit.End zone) = IsZoneId zones zone
 IsAllowed zones (edit.Change zone remove add) =
     IsZoneId zones zone
     × ((apex : List (List ℕ)) → IsApex zones zone apex
@@ -39,11 +39,11 @@ IsAllowed zones (edit.Collections now) = ⊤
 
 -- What an edit makes of the zone that it is about, and which references it tells.
 abbrev pub Makes : ZoneEdit → (before after : List Zone) → Delta → Type 0
-Makes (edit.Open zone name sets) before after delta =
+Makes (edit.Begin zone name sets) before after delta =
     IsApex after zone name
     × Changes zone [] [] sets delta.removed delta.added (placed_in after zone)
 -- all its sets go, in zone order
-Makes (edit.Close zone) before after delta =
+Makes (edit.End zone) before after delta =
     (IsZoneId after zone → ⊥) × (delta.removed ≡ map (ref_in zone) (placed_in before zone))
     × (delta.added ≡ [])
 Makes (edit.Change zone remove add) before after delta =
@@ -56,8 +56,8 @@ Makes (edit.Collections now) before after delta = (after ≡ before) × (delta.r
 
 -- the collections after an edit
 abbrev pub collections_after : ZoneEdit → (before : Stored) → Stored
-collections_after (edit.Open zone name sets) before = before
-collections_after (edit.Close zone) before = before
+collections_after (edit.Begin zone name sets) before = before
+collections_after (edit.End zone) before = before
 collections_after (edit.Change zone remove add) before = before
 collections_after (edit.Collections now) before = now
 
@@ -96,9 +96,9 @@ pub record HasRoomFor (table : Table) (ready : Prepared) (add : List RecordSet) 
 
 -- nothing of the edit wants memory
 abbrev pub HasRoom : Table → Prepared → ZoneEdit → Type 0
-HasRoom table ready (edit.Open zone name sets) =
+HasRoom table ready (edit.Begin zone name sets) =
     (0 < table.spare) × (length sets ≤ ready.places) × HasRoomFor table ready sets
-HasRoom table ready (edit.Close zone) = length (placed_in table.zones zone) ≤ ready.removable
+HasRoom table ready (edit.End zone) = length (placed_in table.zones zone) ≤ ready.removable
 HasRoom table ready (edit.Change zone remove add) =
     (length remove ≤ ready.removable) × HasRoomIn table zone (length add)
     × HasRoomFor table ready add

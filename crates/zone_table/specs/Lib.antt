@@ -7,7 +7,7 @@ pub mod Needs
 pub mod Stored
 pub mod Tables
 pub use Rattle.zone_list.specs.Existing
-pub use Rattle.zone_list.specs.Placed
+pub use Rattle.zone_list.specs.Slotted
 pub use Rattle.zone_list.specs.Sets
 pub use Rattle.zone_list.specs.Telling
 pub use Rattle.zone_list.specs.Bounds

@@ -12,7 +12,7 @@ use Rattle.zone_list.specs.BoundRecord.TheVariants as bound
 use Rattle.zone_list.specs.WatchRecord.{Watch}
 use Rattle.zone_list.specs.Telling.{target_of, watch_of}
 use Rattle.zone_list.specs.FoundOfSetSearch.{IsCount, IsGroupAt}
-use Rattle.zone_list.specs.Placed.{Placed, IsHere, IsSlotAt, sets_of}
+use Rattle.zone_list.specs.Slotted.{Slotted, IsHere, IsSlotAt, sets_of}
 use Rattle.zone_list.specs.Sets.{IsAmong}
 use Rattle.zone_table.specs.declared.refs.Group.{Group}
 use Rattle.zone_list.specs.declared.refs.SetRef.{SetRef}
@@ -30,17 +30,17 @@ IsGroupNow zones group = (name : List (List ℕ)) × (rtype : RType)
     × IsGroup zones group.zone name rtype group
 
 -- the set at place i of a group
-pub record IsMember (zones : List Zone) (group : Group) (i : ℕ) (set : SetRef) : Type 0 where
+pub record IsSetOfGroup (zones : List Zone) (group : Group) (i : ℕ) (set : SetRef) : Type 0 where
   pub zone : set.zone ≡ group.zone
   pub slot : IsSlotAt (placed_in zones group.zone) (group.start + i) set.slot
 
 -- the slots of the sets of a group, in zone order
 abbrev pub slots_in : List Zone → Group → List ℕ
 slots_in zones group =
-    map (λ (p : Placed). p.slot) (take group.length (drop group.start (placed_in zones group.zone)))
+    map (λ (p : Slotted). p.slot) (take group.length (drop group.start (placed_in zones group.zone)))
 
 -- The slot of the set at place i, or none where there are no more sets than i.
-abbrev pub SlotAt : List Placed → (i : ℕ) → Option ℕ → Type 0
+abbrev pub SlotAt : List Slotted → (i : ℕ) → Option ℕ → Type 0
 SlotAt placed i (Some slot) = IsSlotAt placed i slot
 SlotAt placed i None = length placed ≤ i
 
@@ -56,28 +56,28 @@ HasNameAt zones zone i name = (set : RecordSet)
     × (slice_get (sets_of (placed_in zones zone)) i ≡ Some set) × (set.name ≡ name)
 
 -- a reference names this set
-abbrev pub Names : List Zone → SetRef → RecordSet → Type 0
-Names zones set named = IsHere (placed_in zones set.zone) (record { slot = set.slot; set = named })
+abbrev pub RefersTo : List Zone → SetRef → RecordSet → Type 0
+RefersTo zones set named = IsHere (placed_in zones set.zone) (record { slot = set.slot; set = named })
 
 -- The set that a reference names was loaded. Where it names none, what was held stays.
 abbrev pub Loads : List Zone → SetRef → (held held_now : Option RecordSet) → Bool → Type 0
-Loads zones set held held_now true = (named : RecordSet) × Names zones set named
+Loads zones set held held_now true = (named : RecordSet) × RefersTo zones set named
     × (held_now ≡ Some named)
-Loads zones set held held_now false = ((named : RecordSet) → Names zones set named → ⊥)
+Loads zones set held held_now false = ((named : RecordSet) → RefersTo zones set named → ⊥)
     × (held_now ≡ held)
 
 -- What decides the health of the set that a reference names, or none where it names none.
 abbrev pub Watches : List Zone → SetRef → Option Watch → Type 0
-Watches zones set (Some watch) = (named : RecordSet) × Names zones set named
+Watches zones set (Some watch) = (named : RecordSet) × RefersTo zones set named
     × (watch ≡ watch_of named)
-Watches zones set None = (named : RecordSet) → Names zones set named → ⊥
+Watches zones set None = (named : RecordSet) → RefersTo zones set named → ⊥
 
 -- The target of the set that a reference names, or none where it names none or one that is no
 -- alias.
 abbrev pub Targets : List Zone → SetRef → Option (List (List ℕ) × RType) → Type 0
-Targets zones set (Some target) = (named : RecordSet) × Names zones set named
+Targets zones set (Some target) = (named : RecordSet) × RefersTo zones set named
     × (target_of named ≡ Some target)
-Targets zones set None = (named : RecordSet) → Names zones set named → target_of named ≡ None
+Targets zones set None = (named : RecordSet) → RefersTo zones set named → target_of named ≡ None
 
 -- a search from the key on, or from what is behind it
 abbrev pub bound_of : SetKey → (past : Bool) → Bound
@@ -85,7 +85,7 @@ bound_of key true = bound.Past key
 bound_of key false = bound.From key
 
 -- The slot of the first set behind the bound, or none where all sets stand before it.
-abbrev pub SlotBehind : List Placed → Bound → Option ℕ → Type 0
+abbrev pub SlotBehind : List Slotted → Bound → Option ℕ → Type 0
 SlotBehind placed to (Some slot) = (at : ℕ) × IsCount (sets_of placed) to at
     × IsSlotAt placed at slot
 SlotBehind placed to None = IsCount (sets_of placed) to (length placed)
@@ -97,7 +97,7 @@ IsNextSet zones zone to (Some set) = (set.zone ≡ zone)
 IsNextSet zones zone to None = SlotBehind (placed_in zones zone) to None
 
 -- The zone that holds a name: of those at or above it that of the longest name (RFC 1034, 4.3.2).
-pub record Holds (zones : List Zone) (name : List (List ℕ)) (id : ℕ) : Type 0 where
+pub record IsZoneFor (zones : List Zone) (name : List (List ℕ)) (id : ℕ) : Type 0 where
   pub zone : Zone
   pub there : IsOne zones zone
   pub its_id : zone.id ≡ id
@@ -105,9 +105,9 @@ pub record Holds (zones : List Zone) (name : List (List ℕ)) (id : ℕ) : Type 
   pub longest : (other : Zone) → IsOne zones other → EndsWith name other.apex
       → length other.apex ≤ length zone.apex
 
-abbrev pub HoldsOrNone : List Zone → (name : List (List ℕ)) → Option ℕ → Type 0
-HoldsOrNone zones name (Some id) = Holds zones name id
-HoldsOrNone zones name None = (zone : Zone) → IsOne zones zone → EndsWith name zone.apex → ⊥
+abbrev pub IsZoneForOrNone : List Zone → (name : List (List ℕ)) → Option ℕ → Type 0
+IsZoneForOrNone zones name (Some id) = IsZoneFor zones name id
+IsZoneForOrNone zones name None = (zone : Zone) → IsOne zones zone → EndsWith name zone.apex → ⊥
 
 -- the name of the zone with this number
 abbrev pub IsApex : List Zone → ℕ → (name : List (List ℕ)) → Type 0
@@ -120,8 +120,8 @@ ApexOrNone zones id None = IsZoneId zones id → ⊥
 -- The zone that holds a name, with the name of its apex, or none.
 abbrev pub HolderOrNone : List Zone → (name : List (List ℕ)) → Option (ℕ × Bor (List (List ℕ)))
     → Type 0
-HolderOrNone zones name (Some (id, apex)) = Holds zones name id × IsApex zones id apex.now
-HolderOrNone zones name None = HoldsOrNone zones name None
+HolderOrNone zones name (Some (id, apex)) = IsZoneFor zones name id × IsApex zones id apex.now
+HolderOrNone zones name None = IsZoneForOrNone zones name None
 
 -- No NS set of the zone has another name.
 abbrev pub ServersAreAt : List Zone → (id : ℕ) → (name : List (List ℕ)) → Type 0

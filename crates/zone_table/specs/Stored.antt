@@ -6,16 +6,16 @@ use Rattle.zone_list.specs.Stored.{IsKept, Kept}
 use Rattle.zone_list.specs.Kept.{Listed, zones_in}
 use Rattle.zone_list.specs.Zones.{IsZoneId, Zone, placed_in}
 use Rattle.zone_list.specs.declared.refs.SetRef.{SetRef}
-use Rattle.zone_table.specs.Looking.{IsApex, Names}
-use Rattle.zone_list.specs.Placed.{sets_of}
+use Rattle.zone_table.specs.Looking.{IsApex, RefersTo}
+use Rattle.zone_list.specs.Slotted.{sets_of}
 use Rattle.zone_list.specs.Sets.{IsRising}
-use Rattle.zone_list.specs.Orders.{IsOrder, placed_of}
+use Rattle.zone_list.specs.Orders.{IsOrder, slotted_of}
 
 -- The slots are those of the zone with this number.
 pub record IsOrderIn (slots : List (Option Kept)) (list : List Listed) (id : ℕ)
     (order : List ℕ) : Type 0 where
   pub order_is : IsOrder slots id order
-  pub placed : placed_in (zones_in slots list) id ≡ placed_of slots id order
+  pub placed : placed_in (zones_in slots list) id ≡ slotted_of slots id order
   pub there : IsZoneId (zones_in slots list) id
 
 -- no zone has the number, and so no sets
@@ -38,18 +38,18 @@ GetsApex zones id (Some apex) = IsApex zones id apex.now
 GetsApex zones id None = IsZoneId zones id → ⊥
 
 -- the sets of the zone with this number, which are in zone order
-abbrev pub ViewsZone : List Zone → ℕ → Option (List RecordSet) → Type 0
-ViewsZone zones id (Some sets) = (sets ≡ sets_of (placed_in zones id)) × IsRising sets
+abbrev pub GivesZoneSets : List Zone → ℕ → Option (List RecordSet) → Type 0
+GivesZoneSets zones id (Some sets) = (sets ≡ sets_of (placed_in zones id)) × IsRising sets
     × IsZoneId zones id
-ViewsZone zones id None = IsNone zones id
+GivesZoneSets zones id None = IsNone zones id
 
 -- the same with a hint, which may be wrong
 abbrev pub ViewsNear : List Zone → ℕ → Option (List RecordSet × Option ℕ) → Type 0
-ViewsNear zones id (Some (sets, hint)) = ViewsZone zones id (Some sets)
+ViewsNear zones id (Some (sets, hint)) = GivesZoneSets zones id (Some sets)
 ViewsNear zones id None = IsNone zones id
 
 -- whether a reference names a set, which its slot holds then
-abbrev pub IsNamed : List (Option Kept) → List Zone → SetRef → Bool → Type 0
-IsNamed slots zones set true = (named : RecordSet) × Names zones set named
+abbrev pub IsReferredTo : List (Option Kept) → List Zone → SetRef → Bool → Type 0
+IsReferredTo slots zones set true = (named : RecordSet) × RefersTo zones set named
     × IsKept slots set.slot (record { zone = set.zone; set = named })
-IsNamed slots zones set false = (named : RecordSet) → Names zones set named → ⊥
+IsReferredTo slots zones set false = (named : RecordSet) → RefersTo zones set named → ⊥

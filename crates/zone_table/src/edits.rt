@@ -97,13 +97,13 @@ impl SetKeys {
 #[derive(Drop)]
 pub enum ZoneEdit {
     /// A zone comes, with these sets.
-    Open {
+    Begin {
         zone: u32,
         name: Name,
         sets: Sets,
     },
     /// The zone of this number goes, with all its sets.
-    Close(u32),
+    End(u32),
     /// These sets come into a zone, each in place of the one with its key, and the sets of these
     /// keys go, but of those for which one came.
     Change {

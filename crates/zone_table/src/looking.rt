@@ -4,29 +4,29 @@ ghost use Rattle.std.specs.Prelude.{◌≡◌, ◌≤◌, ◌<◌, ◌+◌, ◌-
 ghost use Rattle.std.specs.Prelude.{◌↔◌, IsTrue, List, drop, false, take};
 ghost use Rattle.zone_list.specs.Stops.{bound_of};
 ghost use Rattle.zone_list.specs.Sums.{sums_of};
-ghost use Rattle.zone_list.specs.Kept.{AreKept, named_of, zones_in};
+ghost use Rattle.zone_list.specs.Kept.{AreIntact, named_of, zones_in};
 ghost use Rattle.zone_list.specs.Zones.{AreListed, placed_in};
-ghost use Rattle.zone_list.specs.Placed.{IsSlotAt, sets_of};
-ghost use Rattle.zone_list.specs.Orders.{IsOrder, placed_of};
+ghost use Rattle.zone_list.specs.Slotted.{IsSlotAt, sets_of};
+ghost use Rattle.zone_list.specs.Orders.{IsOrder, slotted_of};
 ghost use Rattle.zone_list.specs.Policies.{PolicyIsAt};
 ghost use Rattle.zone_list.specs.Spelling.{IsPart, from_policy};
 ghost use Rattle.zone_table.specs.Counted.{AreCounted};
 ghost use Rattle.zone_table.specs.Looking.{HasNameAt, IsApex, Loads, ServersAreAt, SlotAt};
-ghost use Rattle.zone_table.specs.Looking.{Names, SlotBehind, Targets, Watches, slots_in};
-ghost use Rattle.zone_table.specs.Stored.{GetsApex, GetsNear, GetsOrder, IsNamed, ViewsNear};
-ghost use Rattle.zone_table.specs.Stored.{ViewsZone};
+ghost use Rattle.zone_table.specs.Looking.{RefersTo, SlotBehind, Targets, Watches, slots_in};
+ghost use Rattle.zone_table.specs.Stored.{GetsApex, GetsNear, GetsOrder, IsReferredTo, ViewsNear};
+ghost use Rattle.zone_table.specs.Stored.{GivesZoneSets};
 
 use crate::refs::Group;
 use octets::OutOfMemory;
 use std::alloc::Global;
 use zone_list::{
-    Name, RType, RecordSet, Scratch, SetList, SetRef, SetStore, Stop, StoredZone, Sums, Watch,
-    ZoneView, count_before, find_zone, no_sums, view_of,
+    Name, RType, RecordSet, Scratch, SetList, SetRef, SetSlots, Stop, StoredZone, Sums, Watch,
+    ZoneSets, count_before, find_zone, no_sums, sets_in_order,
 };
 
 /// The slots of a zone's sets, in zone order.
-pub fn order_of<'a>(store: &SetStore, list: &'a [StoredZone], zone: u32) -> Option<&'a [u32]>
-    requires { AreKept store.now.slots list.now }
+pub fn order_of<'a>(store: &SetSlots, list: &'a [StoredZone], zone: u32) -> Option<&'a [u32]>
+    requires { AreIntact store.now.slots list.now }
     ensures { GetsOrder store.now.slots list.now zone result }
 {
     match find_zone(list, zone) {
@@ -36,12 +36,12 @@ pub fn order_of<'a>(store: &SetStore, list: &'a [StoredZone], zone: u32) -> Opti
 }
 
 /// The sets of a zone, looked at by their places.
-pub fn view<'a>(store: &'a SetStore, list: &'a [StoredZone], zone: u32) -> Option<ZoneView<'a>>
-    requires { AreKept store.now.slots list.now }
-    ensures { ViewsZone (zones_in store.now.slots list.now) zone result }
+pub fn zone_sets<'a>(store: &'a SetSlots, list: &'a [StoredZone], zone: u32) -> Option<ZoneSets<'a>>
+    requires { AreIntact store.now.slots list.now }
+    ensures { GivesZoneSets (zones_in store.now.slots list.now) zone result }
 {
     match order_of(store, list, zone) {
-        Some(order) => Some(view_of(store, zone, order)),
+        Some(order) => Some(sets_in_order(store, zone, order)),
         None => None,
     }
 }
@@ -49,12 +49,12 @@ pub fn view<'a>(store: &'a SetStore, list: &'a [StoredZone], zone: u32) -> Optio
 /// The slots of a zone's sets, in zone order, and a place at which those of a name may stand: a hint,
 /// which may be wrong.
 fn order_near<'a>(
-    store: &SetStore,
+    store: &SetSlots,
     list: &'a [StoredZone],
     zone: u32,
     name: &Name,
 ) -> Option<(&'a [u32], Option<usize>)>
-    requires { AreKept store.now.slots list.now }
+    requires { AreIntact store.now.slots list.now }
     ensures { GetsNear store.now.slots list.now zone result }
 {
     match find_zone(list, zone) {
@@ -68,23 +68,23 @@ fn order_near<'a>(
 
 /// The sets of a zone, looked at by their places, with such a hint.
 pub fn view_near<'a>(
-    store: &'a SetStore,
+    store: &'a SetSlots,
     list: &'a [StoredZone],
     zone: u32,
     name: &Name,
-) -> Option<(ZoneView<'a>, Option<usize>)>
-    requires { AreKept store.now.slots list.now }
+) -> Option<(ZoneSets<'a>, Option<usize>)>
+    requires { AreIntact store.now.slots list.now }
     ensures { ViewsNear (zones_in store.now.slots list.now) zone result }
 {
     match order_near(store, list, zone, name) {
-        Some((order, hint)) => Some((view_of(store, zone, order), hint)),
+        Some((order, hint)) => Some((sets_in_order(store, zone, order), hint)),
         None => None,
     }
 }
 
 /// The name of a zone's apex.
-pub fn apex_of<'a>(store: &SetStore, list: &'a [StoredZone], zone: u32) -> Option<&'a Name>
-    requires { AreKept store.now.slots list.now }
+pub fn apex_of<'a>(store: &SetSlots, list: &'a [StoredZone], zone: u32) -> Option<&'a Name>
+    requires { AreIntact store.now.slots list.now }
     ensures { GetsApex (zones_in store.now.slots list.now) zone result }
 {
     match find_zone(list, zone) {
@@ -94,8 +94,8 @@ pub fn apex_of<'a>(store: &SetStore, list: &'a [StoredZone], zone: u32) -> Optio
 }
 
 /// The slot of the set at a place of a group that begins at another.
-pub fn slot_in(store: &SetStore, list: &[StoredZone], zone: u32, start: usize, i: usize) -> u32
-    requires kept { AreKept store.now.slots list.now }
+pub fn slot_in(store: &SetSlots, list: &[StoredZone], zone: u32, start: usize, i: usize) -> u32
+    requires kept { AreIntact store.now.slots list.now }
     requires place { start + i < length (placed_in (zones_in store.now.slots list.now) zone) }
     ensures { IsSlotAt (placed_in (zones_in store.now.slots list.now) zone) (start + i) result }
 {
@@ -106,8 +106,8 @@ pub fn slot_in(store: &SetStore, list: &[StoredZone], zone: u32, start: usize, i
 }
 
 /// The slots of the sets of a group, in zone order.
-pub fn slots_of<'a>(store: &SetStore, list: &'a [StoredZone], group: Group) -> &'a [u32]
-    requires kept { AreKept store.now.slots list.now }
+pub fn slots_of<'a>(store: &SetSlots, list: &'a [StoredZone], group: Group) -> &'a [u32]
+    requires kept { AreIntact store.now.slots list.now }
     requires within { group.start + group.length
         ≤ length (placed_in (zones_in store.now.slots list.now) group.zone) }
     ensures { result.now ≡ slots_in (zones_in store.now.slots list.now) group }
@@ -127,8 +127,8 @@ fn part_of(order: &[u32], start: usize, count: usize) -> &[u32]
 }
 
 /// The slot of the set at a place of a zone.
-pub fn slot_at(store: &SetStore, list: &[StoredZone], zone: u32, i: usize) -> Option<u32>
-    requires { AreKept store.now.slots list.now }
+pub fn slot_at(store: &SetSlots, list: &[StoredZone], zone: u32, i: usize) -> Option<u32>
+    requires { AreIntact store.now.slots list.now }
     ensures { SlotAt (placed_in (zones_in store.now.slots list.now) zone) i result }
 {
     let Some(order) = order_of(store, list, zone) else {
@@ -149,12 +149,12 @@ fn slot_of(order: &[u32], place: usize) -> u32
 }
 
 /// Whether there is a set at a place of a zone that has the name.
-pub fn has_name(store: &SetStore, list: &[StoredZone], zone: u32, place: usize, name: &Name) -> bool
-    requires { AreKept store.now.slots list.now }
+pub fn has_name(store: &SetSlots, list: &[StoredZone], zone: u32, place: usize, name: &Name) -> bool
+    requires { AreIntact store.now.slots list.now }
     ensures { IsTrue result
         ↔ HasNameAt (zones_in store.now.slots list.now) zone place name.now }
 {
-    let Some(sets) = view(store, list, zone) else {
+    let Some(sets) = zone_sets(store, list, zone) else {
         return false;
     };
     if place >= sets.count() {
@@ -168,17 +168,17 @@ pub fn has_name(store: &SetStore, list: &[StoredZone], zone: u32, place: usize, 
 
 /// The slot of the first set of a zone behind the bound, with a hint of its place.
 pub fn slot_behind(
-    store: &SetStore,
+    store: &SetSlots,
     list: &[StoredZone],
     zone: u32,
     to: &Stop,
     hint: Option<usize>,
 ) -> Option<u32>
-    requires { AreKept store.now.slots list.now }
+    requires { AreIntact store.now.slots list.now }
     ensures { SlotBehind (placed_in (zones_in store.now.slots list.now) zone) (bound_of to.now)
         result }
 {
-    let Some(sets) = view(store, list, zone) else {
+    let Some(sets) = zone_sets(store, list, zone) else {
         return None;
     };
     let place = count_before(&sets, to, hint);
@@ -199,8 +199,8 @@ pub fn hint_of(list: &[StoredZone], zone: u32, name: &Name) -> Option<usize>
 }
 
 /// How many octets the sets of a zone have, and how many of them are aliases.
-pub fn sums_in(store: &SetStore, list: &[StoredZone], zone: u32) -> Sums
-    requires { AreKept store.now.slots list.now }
+pub fn sums_in(store: &SetSlots, list: &[StoredZone], zone: u32) -> Sums
+    requires { AreIntact store.now.slots list.now }
     ensures { result ≡ sums_of (placed_in (zones_in store.now.slots list.now) zone) }
 {
     match find_zone(list, zone) {
@@ -211,8 +211,8 @@ pub fn sums_in(store: &SetStore, list: &[StoredZone], zone: u32) -> Sums
 
 /// Whether a zone may have NS sets of another name than its apex. It has none where the names of all
 /// have together as many labels as if each were the apex: no name of a zone has fewer.
-pub fn may_have_cuts(store: &SetStore, list: &[StoredZone], zone: u32) -> bool
-    requires kept { AreKept store.now.slots list.now }
+pub fn may_have_cuts(store: &SetSlots, list: &[StoredZone], zone: u32) -> bool
+    requires kept { AreIntact store.now.slots list.now }
     requires counted { (octets : ℕ) × AreCounted store.now list.now octets }
     requires few { length store.now.slots < 2 ^ 32 }
     ensures { result ≡ false → (apex : List (List ℕ))
@@ -232,9 +232,9 @@ pub fn may_have_cuts(store: &SetStore, list: &[StoredZone], zone: u32) -> bool
 }
 
 /// Whether a reference names a set.
-fn is_named(store: &SetStore, list: &[StoredZone], set: SetRef) -> bool
-    requires { AreKept store.now.slots list.now }
-    ensures { IsNamed store.now.slots (zones_in store.now.slots list.now) set result }
+fn is_named(store: &SetSlots, list: &[StoredZone], set: SetRef) -> bool
+    requires { AreIntact store.now.slots list.now }
+    ensures { IsReferredTo store.now.slots (zones_in store.now.slots list.now) set result }
 {
     match store.zone_of(set.slot) {
         None => false,
@@ -248,8 +248,8 @@ fn is_named(store: &SetStore, list: &[StoredZone], set: SetRef) -> bool
 }
 
 /// Holds the set that a reference names in a scratch. Where it names none, what was held stays.
-pub fn load(store: &SetStore, list: &[StoredZone], set: SetRef, into: &mut Scratch) -> bool
-    requires { AreKept store.now.slots list.now }
+pub fn load(store: &SetSlots, list: &[StoredZone], set: SetRef, into: &mut Scratch) -> bool
+    requires { AreIntact store.now.slots list.now }
     ensures { Loads (zones_in store.now.slots list.now) set into.old into.new result }
 {
     if !is_named(store, list, set) {
@@ -262,15 +262,15 @@ pub fn load(store: &SetStore, list: &[StoredZone], set: SetRef, into: &mut Scrat
 /// The octets of the set that a reference names from its policy on, as many as a buffer has room
 /// for.
 pub fn policy<'a>(
-    store: &SetStore,
+    store: &SetSlots,
     list: &[StoredZone],
     set: SetRef,
     at: usize,
     buffer: &'a mut [u8],
 ) -> &'a [u8]
-    requires kept { AreKept store.now.slots list.now }
-    requires named { (named : RecordSet) × Names (zones_in store.now.slots list.now) set named }
-    ensures { (named : RecordSet) → Names (zones_in store.now.slots list.now) set named
+    requires kept { AreIntact store.now.slots list.now }
+    requires named { (named : RecordSet) × RefersTo (zones_in store.now.slots list.now) set named }
+    ensures { (named : RecordSet) → RefersTo (zones_in store.now.slots list.now) set named
         → PolicyIsAt named at
         → IsPart result.now (take (length buffer.old) (from_policy named)) named }
 {
@@ -279,22 +279,22 @@ pub fn policy<'a>(
 
 /// The same of those among the first 32 octets of the set, lent.
 pub fn policy_front<'a>(
-    store: &'a SetStore,
+    store: &'a SetSlots,
     list: &[StoredZone],
     set: SetRef,
     at: usize,
 ) -> &'a [u8]
-    requires kept { AreKept store.now.slots list.now }
-    requires named { (named : RecordSet) × Names (zones_in store.now.slots list.now) set named }
-    ensures { (named : RecordSet) → Names (zones_in store.now.slots list.now) set named
+    requires kept { AreIntact store.now.slots list.now }
+    requires named { (named : RecordSet) × RefersTo (zones_in store.now.slots list.now) set named }
+    ensures { (named : RecordSet) → RefersTo (zones_in store.now.slots list.now) set named
         → PolicyIsAt named at → IsPart result.now (take (32 - at) (from_policy named)) named }
 {
     store.policy_front(set.slot, at)
 }
 
 /// What decides the health of the set that a reference names.
-pub fn watch(store: &SetStore, list: &[StoredZone], set: SetRef) -> Option<Watch>
-    requires { AreKept store.now.slots list.now }
+pub fn watch(store: &SetSlots, list: &[StoredZone], set: SetRef) -> Option<Watch>
+    requires { AreIntact store.now.slots list.now }
     ensures { Watches (zones_in store.now.slots list.now) set result }
 {
     if !is_named(store, list, set) {
@@ -304,8 +304,8 @@ pub fn watch(store: &SetStore, list: &[StoredZone], set: SetRef) -> Option<Watch
 }
 
 /// The name and the type of the target group of the alias that a reference names.
-pub fn target(store: &SetStore, list: &[StoredZone], set: SetRef) -> Option<(Name, RType)>
-    requires { AreKept store.now.slots list.now }
+pub fn target(store: &SetSlots, list: &[StoredZone], set: SetRef) -> Option<(Name, RType)>
+    requires { AreIntact store.now.slots list.now }
     ensures { Targets (zones_in store.now.slots list.now) set result }
 {
     if !is_named(store, list, set) {
@@ -317,13 +317,13 @@ pub fn target(store: &SetStore, list: &[StoredZone], set: SetRef) -> Option<(Nam
 /// Copies of the sets in these slots, in their order.
 pub fn copies(
     alloc: Global,
-    store: &SetStore,
+    store: &SetSlots,
     zone: u32,
     order: &[u32],
 ) -> Result<Vec<RecordSet>, OutOfMemory>
     requires { IsOrder store.now.slots zone order.now }
     ensures { IfOk result (λ copies. copies.items
-        ≡ sets_of (placed_of store.now.slots zone order.now)) }
+        ≡ sets_of (slotted_of store.now.slots zone order.now)) }
 {
     let mut copies = Vec::with_capacity(alloc, order.len())?;
     for slot in order {

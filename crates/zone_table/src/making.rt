@@ -5,10 +5,10 @@ ghost use Rattle.std.specs.Prelude.{vec_capacity};
 ghost use Rattle.std.specs.List.{AllByRecursion, insert};
 ghost use Rattle.zone_list.specs.Octets.{set_octets};
 ghost use Rattle.zone_list.specs.Sums.{sums_of};
-ghost use Rattle.zone_list.specs.Kept.{AreKept, Listed, zones_in};
+ghost use Rattle.zone_list.specs.Kept.{AreIntact, Listed, zones_in};
 ghost use Rattle.zone_list.specs.Steps.{cells_in_all};
 ghost use Rattle.zone_list.specs.Zones.{placed_in};
-ghost use Rattle.zone_table.specs.declared.edits.ZoneEdit.TheVariants.{Open, Close, Change};
+ghost use Rattle.zone_table.specs.declared.edits.ZoneEdit.TheVariants.{Begin, End, Change};
 ghost use Rattle.zone_table.specs.Apexes.{Notes};
 ghost use Rattle.zone_table.specs.Counted.{AreCounted};
 ghost use Rattle.zone_table.specs.Edits.{Edits, IsAllowed, collections_after};
@@ -17,15 +17,15 @@ ghost use Rattle.zone_table.specs.Needs.{CanTake, IsReadyFor};
 use crate::edits::{Ready, SetKeys, Sets, ZoneEdit};
 use crate::refs::Delta;
 use cidr_routing::Collections;
-use zone_list::{Apexes, SetRef, SetRefs, SetStore, StoredZone, find_zone, first_from};
+use zone_list::{Apexes, SetRef, SetRefs, SetSlots, StoredZone, find_zone, first_from};
 
 /// Notes the name of a zone that is opened, and forgets that of one that is closed.
 pub fn note_name(apexes: &mut Apexes, made: &ZoneEdit)
     ensures { Notes apexes.old made.now apexes.new }
 {
     match made {
-        ZoneEdit::Open { zone, name, .. } => apexes.come(*zone, name),
-        ZoneEdit::Close(zone) => apexes.go(*zone),
+        ZoneEdit::Begin { zone, name, .. } => apexes.come(*zone, name),
+        ZoneEdit::End(zone) => apexes.go(*zone),
         ZoneEdit::Change { .. } => {}
         ZoneEdit::Collections(_) => {}
     }
@@ -33,16 +33,16 @@ pub fn note_name(apexes: &mut Apexes, made: &ZoneEdit)
 
 /// Makes an edit that is ready.
 pub fn make(
-    store: &mut SetStore,
+    store: &mut SetSlots,
     list: &mut Vec<StoredZone>,
     collections: &mut Collections,
     octets: &mut u64,
     ready: Ready,
 ) -> Delta
-    requires kept { AreKept store.old.slots list.old.items }
+    requires kept { AreIntact store.old.slots list.old.items }
     requires counted { AreCounted store.old list.old.items octets.old }
     requires ready { IsReadyFor store.old list.old ready }
-    ensures kept { AreKept store.new.slots list.new.items }
+    ensures kept { AreIntact store.new.slots list.new.items }
     ensures counted { AreCounted store.new list.new.items octets.new }
     ensures slots { length store.new.slots ≡ length store.old.slots }
     ensures edits { Edits (zones_in store.old.slots list.old.items) ready.made
@@ -59,11 +59,11 @@ pub fn make(
         ..
     } = ready;
     match made {
-        ZoneEdit::Open { zone, name, sets } => {
+        ZoneEdit::Begin { zone, name, sets } => {
             let opened = StoredZone::new(zone, name, places, hints);
             open(store, list, octets, opened, sets, removed, added, buffer)
         }
-        ZoneEdit::Close(zone) => close(store, list, octets, zone, removed, added),
+        ZoneEdit::End(zone) => close(store, list, octets, zone, removed, added),
         ZoneEdit::Change { zone, remove, add } => {
             change(
                 store, list, octets, zone, remove, add, removed, added, buffer,
@@ -82,7 +82,7 @@ pub fn make(
 
 /// Opens a zone with these sets.
 fn open(
-    store: &mut SetStore,
+    store: &mut SetSlots,
     list: &mut Vec<StoredZone>,
     octets: &mut u64,
     mut opened: StoredZone,
@@ -91,10 +91,10 @@ fn open(
     mut added: Vec<SetRef>,
     mut buffer: Vec<u8>,
 ) -> Delta
-    requires kept { AreKept store.old.slots list.old.items }
+    requires kept { AreIntact store.old.slots list.old.items }
     requires counted { AreCounted store.old list.old.items octets.old }
     requires allowed { IsAllowed (zones_in store.old.slots list.old.items)
-        (Open opened.id opened.apex sets) }
+        (Begin opened.id opened.apex sets) }
     requires spare { length list.old.items < vec_capacity list.old }
     requires empty { opened.order ≡ [] }
     requires none { opened.sums ≡ sums_of [] }
@@ -105,11 +105,11 @@ fn open(
     requires slots { length sets ≤ store.old.free }
     requires cells { cells_in_all sets ≤ store.old.cells }
     requires buffer { AllByRecursion (λ set. length (set_octets set) ≤ length buffer.items) sets }
-    ensures kept { AreKept store.new.slots list.new.items }
+    ensures kept { AreIntact store.new.slots list.new.items }
     ensures counted { AreCounted store.new list.new.items octets.new }
     ensures slots { length store.new.slots ≡ length store.old.slots }
     ensures edits { Edits (zones_in store.old.slots list.old.items)
-        (Open opened.id opened.apex sets) (zones_in store.new.slots list.new.items) result }
+        (Begin opened.id opened.apex sets) (zones_in store.new.slots list.new.items) result }
 {
     let zone = opened.id();
     let add = sets.as_slice();
@@ -162,24 +162,24 @@ fn insert_zone(list: &mut Vec<StoredZone>, place: usize, zone: StoredZone)
 
 /// Closes a zone.
 fn close(
-    store: &mut SetStore,
+    store: &mut SetSlots,
     list: &mut Vec<StoredZone>,
     octets: &mut u64,
     zone: u32,
     mut removed: Vec<SetRef>,
     added: Vec<SetRef>,
 ) -> Delta
-    requires kept { AreKept store.old.slots list.old.items }
+    requires kept { AreIntact store.old.slots list.old.items }
     requires counted { AreCounted store.old list.old.items octets.old }
-    requires allowed { IsAllowed (zones_in store.old.slots list.old.items) (Close zone) }
+    requires allowed { IsAllowed (zones_in store.old.slots list.old.items) (End zone) }
     requires none_removed { removed.items ≡ [] }
     requires none_added { added.items ≡ [] }
     requires removable { length (placed_in (zones_in store.old.slots list.old.items) zone)
         ≤ vec_capacity removed }
-    ensures kept { AreKept store.new.slots list.new.items }
+    ensures kept { AreIntact store.new.slots list.new.items }
     ensures counted { AreCounted store.new list.new.items octets.new }
     ensures slots { length store.new.slots ≡ length store.old.slots }
-    ensures edits { Edits (zones_in store.old.slots list.old.items) (Close zone)
+    ensures edits { Edits (zones_in store.old.slots list.old.items) (End zone)
         (zones_in store.new.slots list.new.items) result }
 {
     let Some(place) = find_zone(list, zone) else {
@@ -197,7 +197,7 @@ fn close(
 
 /// Changes the sets of a zone.
 fn change(
-    store: &mut SetStore,
+    store: &mut SetSlots,
     list: &mut Vec<StoredZone>,
     octets: &mut u64,
     zone: u32,
@@ -207,7 +207,7 @@ fn change(
     mut added: Vec<SetRef>,
     mut buffer: Vec<u8>,
 ) -> Delta
-    requires kept { AreKept store.old.slots list.old.items }
+    requires kept { AreIntact store.old.slots list.old.items }
     requires counted { AreCounted store.old list.old.items octets.old }
     requires allowed { IsAllowed (zones_in store.old.slots list.old.items)
         (Change zone remove add) }
@@ -219,7 +219,7 @@ fn change(
     requires slots { length add ≤ store.old.free }
     requires cells { cells_in_all add ≤ store.old.cells }
     requires buffer { AllByRecursion (λ set. length (set_octets set) ≤ length buffer.items) add }
-    ensures kept { AreKept store.new.slots list.new.items }
+    ensures kept { AreIntact store.new.slots list.new.items }
     ensures counted { AreCounted store.new list.new.items octets.new }
     ensures slots { length store.new.slots ≡ length store.old.slots }
     ensures edits { Edits (zones_in store.old.slots list.old.items) (Change zone remove add)
@@ -247,8 +247,8 @@ fn change(
 
 /// Makes the hints of a zone anew where they are old, or where that is put off, only if it pays at
 /// once.
-pub fn settle(store: &SetStore, list: &mut [StoredZone], zone: u32, put_off: bool)
-    requires { AreKept store.now.slots list.old }
+pub fn settle(store: &SetSlots, list: &mut [StoredZone], zone: u32, put_off: bool)
+    requires { AreIntact store.now.slots list.old }
     ensures { list.new ≡ list.old }
 {
     if let Some(place) = find_zone(list, zone) {
@@ -257,8 +257,8 @@ pub fn settle(store: &SetStore, list: &mut [StoredZone], zone: u32, put_off: boo
 }
 
 /// Makes the hints of all zones anew that are old.
-pub fn settle_all(store: &SetStore, list: &mut [StoredZone])
-    requires { AreKept store.now.slots list.old }
+pub fn settle_all(store: &SetSlots, list: &mut [StoredZone])
+    requires { AreIntact store.now.slots list.old }
     ensures { list.new ≡ list.old }
 {
     for place in 0..list.len() {

@@ -7,7 +7,7 @@ ghost use Rattle.zone_list.specs.Stored.{Kept};
 ghost use Rattle.zone_list.specs.Kept.{named_of, zones_in};
 ghost use Rattle.zone_list.specs.Steps.{cells_in_all};
 ghost use Rattle.zone_list.specs.Zones.{AreListed, placed_in};
-ghost use Rattle.zone_table.specs.Needs.{AreSpelled, CanTake, Counts, IsRoomFor, KeepsRoom};
+ghost use Rattle.zone_table.specs.Needs.{AreSpelled, CanTake, NeedsOfEdit, IsRoomFor, KeepsRoom};
 ghost use Rattle.zone_table.specs.Needs.{same_rows};
 
 use crate::edits::{Sets, ZoneEdit};
@@ -33,11 +33,11 @@ pub struct Need {
 pub fn need_of(list: &[StoredZone], edit: &ZoneEdit) -> Result<Need, OutOfMemory>
     requires listed { AreListed (named_of list.now) }
     requires spelled { AreSpelled edit.now }
-    ensures { IfOk result (λ need. Counts list.now edit.now need) }
+    ensures { IfOk result (λ need. NeedsOfEdit list.now edit.now need) }
 {
     match edit {
-        ZoneEdit::Open { sets, .. } => need_to_add(0, sets, sets.len()),
-        ZoneEdit::Close(zone) => Ok(Need {
+        ZoneEdit::Begin { sets, .. } => need_to_add(0, sets, sets.len()),
+        ZoneEdit::End(zone) => Ok(Need {
             removable: count_sets(list, *zone),
             addable: 0,
             places: 0,
@@ -119,11 +119,11 @@ pub fn reserve_for(list: &mut Vec<StoredZone>, edit: &ZoneEdit) -> Result<(), Ou
     ensures kept { KeepsRoom list.old list.new }
 {
     match edit {
-        ZoneEdit::Open { .. } => {
+        ZoneEdit::Begin { .. } => {
             list.reserve(1)?;
             Ok(())
         }
-        ZoneEdit::Close(_) => Ok(()),
+        ZoneEdit::End(_) => Ok(()),
         ZoneEdit::Change { zone, add, .. } => reserve_in(list, *zone, add.len()),
         ZoneEdit::Collections(_) => Ok(()),
     }
@@ -147,7 +147,7 @@ pub fn reserve_name(apexes: &mut Apexes, edit: &ZoneEdit) -> Result<(), OutOfMem
     ensures { apexes.new ≡ apexes.old }
 {
     match edit {
-        ZoneEdit::Open { .. } => apexes.reserve(),
+        ZoneEdit::Begin { .. } => apexes.reserve(),
         _ => Ok(()),
     }
 }

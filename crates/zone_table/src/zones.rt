@@ -3,7 +3,7 @@
 ghost use Rattle.std.specs.Prelude.{◌≡◌, ◌≢◌, ◌≤◌, ◌<◌, ◌+◌, ◌-◌, ◌%◌, ◌^◌, length, List, ℕ, []};
 ghost use Rattle.std.specs.Prelude.{IfOk, IsTrue, ◌↔◌, false, take};
 ghost use Rattle.zone_list.specs.Existing.{Exists, IsAncestor, IsClosest};
-ghost use Rattle.zone_list.specs.Placed.{sets_of};
+ghost use Rattle.zone_list.specs.Slotted.{sets_of};
 ghost use Rattle.zone_list.specs.Policies.{PolicyIsAt};
 ghost use Rattle.zone_list.specs.RecordSetRecord.{RecordSet};
 ghost use Rattle.zone_list.specs.Spelling.{IsPart, from_policy};
@@ -13,9 +13,9 @@ ghost use Rattle.zone_list.specs.Zones.{AreZones, IsZoneId, placed_in};
 ghost use Rattle.zone_table.specs.Counted.{octets_in_all, sets_in_all};
 ghost use Rattle.zone_table.specs.Edits.{Edits, IsAllowed, IsReady, StayReady};
 ghost use Rattle.zone_table.specs.Edits.{collections_after};
-ghost use Rattle.zone_table.specs.Looking.{ApexOrNone, HasNameAt, HolderOrNone, HoldsOrNone};
-ghost use Rattle.zone_table.specs.Looking.{IsApex, IsGroup, IsGroupNow, Names, slots_in};
-ghost use Rattle.zone_table.specs.Looking.{IsMember, IsNextSet, IsSetAt, Loads, ServersAreAt};
+ghost use Rattle.zone_table.specs.Looking.{ApexOrNone, HasNameAt, HolderOrNone, IsZoneForOrNone};
+ghost use Rattle.zone_table.specs.Looking.{IsApex, IsGroup, IsGroupNow, RefersTo, slots_in};
+ghost use Rattle.zone_table.specs.Looking.{IsSetOfGroup, IsNextSet, IsSetAt, Loads, ServersAreAt};
 ghost use Rattle.zone_table.specs.Looking.{Targets, Watches, bound_of};
 ghost use Rattle.zone_table.specs.Tables.{HaveSlotsApart, HaveSlotsBelow};
 ghost use Rattle.zone_list.specs.Stops.{bound_of as told};
@@ -23,7 +23,7 @@ ghost use Rattle.zone_list.specs.Stops.{bound_of as told};
 use crate::edits::{Ready, ZoneEdit};
 use crate::looking::{
     apex_of, copies, has_name, hint_of, load, may_have_cuts, order_of, policy, policy_front,
-    slot_at, slot_behind, slot_in, slots_of, sums_in, target, view, view_near, watch,
+    slot_at, slot_behind, slot_in, slots_of, sums_in, target, view_near, watch, zone_sets,
 };
 use crate::making::{make, note_name, settle, settle_all};
 use crate::needs::{need_of, reserve_for, reserve_name};
@@ -33,7 +33,7 @@ use octets::OutOfMemory;
 use std::alloc::Global;
 use std::marker::Model;
 use zone_list::{
-    Apexes, Name, RType, RecordSet, Scratch, SetKey, SetRef, SetStore, Stop, StoredZone, Watch,
+    Apexes, Name, RType, RecordSet, Scratch, SetKey, SetRef, SetSlots, Stop, StoredZone, Watch,
     before_key, behind_key, closest_in, exists_in, find_zone, group_in, longest, make_room,
     next_id,
 };
@@ -41,7 +41,7 @@ use zone_list::{
 /// The zones of a server, by rising number, and the sets of all of them.
 #[derive(Drop)]
 pub struct Zones {
-    store: SetStore,
+    store: SetSlots,
     list: Vec<StoredZone>,
     /// Their names, where these are known.
     apexes: Apexes,
@@ -56,7 +56,7 @@ pub struct Zones {
 
 impl Model for Zones {
     ghost use Rattle.std.specs.Prelude.{◌-◌, length, map, vec_capacity};
-    ghost use Rattle.zone_list.specs.Kept.{AreKept, zones_in};
+    ghost use Rattle.zone_list.specs.Kept.{AreIntact, zones_in};
     ghost use Rattle.zone_table.specs.Apexes.{KnowsNames};
     ghost use Rattle.zone_table.specs.Counted.{AreCounted};
     ghost use Rattle.zone_table.specs.Tables.{Table};
@@ -74,7 +74,7 @@ impl Model for Zones {
       edits = z.edits;
     } };
 
-    ghost invariant = { λ z. AreKept z.store.slots z.list.items
+    ghost invariant = { λ z. AreIntact z.store.slots z.list.items
         × AreCounted z.store z.list.items z.octets
         × KnowsNames z.apexes (zones_in z.store.slots z.list.items) };
 }
@@ -87,7 +87,7 @@ impl Zones {
         ensures edits { result.edits ≡ 0 }
     {
         Zones {
-            store: SetStore::new(alloc),
+            store: SetSlots::new(alloc),
             list: Vec::new(alloc),
             apexes: Apexes::new(alloc),
             collections: Collections::new(alloc),
@@ -231,7 +231,7 @@ impl Zones {
 
     /// The zone that holds a name: the one of the longest name at or above it.
     pub fn zone_for(&self, name: &Name) -> Option<u32>
-        ensures { HoldsOrNone self.now.zones name.now result }
+        ensures { IsZoneForOrNone self.now.zones name.now result }
     {
         if self.apexes.is_known() {
             return self.apexes.longest(name);
@@ -305,7 +305,7 @@ impl Zones {
     pub fn member(&self, group: Group, i: usize) -> SetRef
         requires group { IsGroupNow self.now.zones group }
         requires within { i < group.length }
-        ensures { IsMember self.now.zones group i result }
+        ensures { IsSetOfGroup self.now.zones group i result }
     {
         SetRef {
             zone: group.zone,
@@ -332,8 +332,8 @@ impl Zones {
     /// for: they are neither walked nor loaded. The caller knows that the reference names a set, and
     /// the place at which its policy stands.
     pub fn policy<'a>(&self, set: SetRef, at: usize, buffer: &'a mut [u8]) -> &'a [u8]
-        requires { (named : RecordSet) × Names self.now.zones set named }
-        ensures { (named : RecordSet) → Names self.now.zones set named → PolicyIsAt named at
+        requires { (named : RecordSet) × RefersTo self.now.zones set named }
+        ensures { (named : RecordSet) → RefersTo self.now.zones set named → PolicyIsAt named at
             → IsPart result.now (take (length buffer.old) (from_policy named)) named }
     {
         policy(&self.store, &self.list, set, at, buffer)
@@ -341,8 +341,8 @@ impl Zones {
 
     /// The same of those among the first 32 octets of the set, lent.
     pub fn policy_front(&self, set: SetRef, at: usize) -> &[u8]
-        requires { (named : RecordSet) × Names self.now.zones set named }
-        ensures { (named : RecordSet) → Names self.now.zones set named → PolicyIsAt named at
+        requires { (named : RecordSet) × RefersTo self.now.zones set named }
+        ensures { (named : RecordSet) → RefersTo self.now.zones set named → PolicyIsAt named at
             → IsPart result.now (take (32 - at) (from_policy named)) named }
     {
         policy_front(&self.store, &self.list, set, at)
@@ -367,7 +367,7 @@ impl Zones {
     pub fn exists(&self, zone: u32, name: &Name) -> bool
         ensures { IsTrue result ↔ Exists (sets_of (placed_in self.now.zones zone)) name.now }
     {
-        match view(&self.store, &self.list, zone) {
+        match zone_sets(&self.store, &self.list, zone) {
             Some(sets) => exists_in(&sets, name, hint_of(&self.list, zone, name)),
             None => false,
         }
@@ -380,7 +380,7 @@ impl Zones {
         requires some { placed_in self.now.zones zone ≢ [] }
         ensures { IsClosest (sets_of (placed_in self.now.zones zone)) name.now result }
     {
-        match view(&self.store, &self.list, zone) {
+        match zone_sets(&self.store, &self.list, zone) {
             Some(sets) => closest_in(&sets, name),
             None => unreachable!(),
         }

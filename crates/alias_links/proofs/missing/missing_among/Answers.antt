@@ -3,7 +3,7 @@ use Rattle.std.proofs.lemmas.List.{length-map}
 use Rattle.record_set.specs.declared.sets.SetKey.{SetKey}
 use Rattle.zone_table.proofs.Members.{filled}
 use Rattle.zone_table.specs.Zones.{placed_in}
-use Rattle.zone_table.specs.Placed.{Placed}
+use Rattle.zone_table.specs.Slotted.{Slotted}
 use Rattle.alias_links.specs.After.{changed_in, sets_in}
 use Rattle.alias_links.specs.Leasts.{IsLeast, StaysWithout}
 use Rattle.alias_links.proofs.Firsts.{least_of_first}
@@ -17,7 +17,7 @@ returns-in-Some c =
     let sets = sets_in zones c.args.zone in
     let remove = c.args.remove.now in
     let after = changed_in zones c.args.zone remove c.args.add.now in
-    let size = length-map (placed_in zones c.args.zone) (λ (p : Placed). p.set) in
+    let size = length-map (placed_in zones c.args.zone) (λ (p : Slotted). p.set) in
     let count = c.count-i-end.ensures in
     let lt = c.loop-i-test.true in
     let one = filled sets c.loop-i.i (omega (arith, size, count, lt)) in
@@ -33,7 +33,7 @@ loop-i-preserved c =
     let sets = sets_in zones c.args.zone in
     let remove = c.args.remove.now in
     let after = changed_in zones c.args.zone remove c.args.add.now in
-    let size = length-map (placed_in zones c.args.zone) (λ (p : Placed). p.set) in
+    let size = length-map (placed_in zones c.args.zone) (λ (p : Slotted). p.set) in
     let count = c.count-i-end.ensures in
     let lt = c.loop-i-test.true in
     let one = filled sets c.loop-i.i (omega (arith, size, count, lt)) in
@@ -46,7 +46,7 @@ returns c =
     let sets = sets_in zones c.args.zone in
     let remove = c.args.remove.now in
     let after = changed_in zones c.args.zone remove c.args.add.now in
-    let size = length-map (placed_in zones c.args.zone) (λ (p : Placed). p.set) in
+    let size = length-map (placed_in zones c.args.zone) (λ (p : Slotted). p.set) in
     let count = c.count-i-end.ensures in
     let all = c.loop-i-test.false in
     none_at_all (StaysWithout remove after) sets c.loop-i.i (omega (arith, size, count, all))

@@ -3,7 +3,7 @@ use Rattle.change_batch.specs.ChangeRecord.{Change}
 use Rattle.batch_names.specs.Named.{named_in}
 use Rattle.record_set.specs.declared.sets.RecordSet.{RecordSet}
 use Rattle.batch_names.specs.AllZones.{placed_in}
-use Rattle.config_model.specs.Placed.{sets_of}
+use Rattle.config_model.specs.Slotted.{sets_of}
 use Rattle.config_model.specs.Differences.{IsDifference}
 use Rattle.batch_edits.proofs.Whole.{edited_whole, few_of_zone, refused_whole}
 use Rattle.batch_edits.proofs.editing.edit_of.Goals as goal

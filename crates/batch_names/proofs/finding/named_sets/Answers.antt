@@ -6,7 +6,7 @@ use Rattle.batch_names.specs.Starts.{AreRisingStarts}
 use Rattle.batch_model.specs.RecordSetRecord.{RecordSet}
 use Rattle.zone_table.proofs.Members.{left_at, nothing_left}
 use Rattle.zone_table.specs.Zones.{placed_in}
-use Rattle.zone_table.specs.Placed.{sets_of}
+use Rattle.zone_table.specs.Slotted.{sets_of}
 use Rattle.batch_names.proofs.finding.named_sets.Goals as goal
 
 pub loop-start-init : goal.loop-start-init

@@ -1,6 +1,6 @@
 use Rattle.std.proofs.Common.{drop}
 use Rattle.zone_table.specs.Zones.{placed_in}
-use Rattle.zone_table.specs.Placed.{sets_of}
+use Rattle.zone_table.specs.Slotted.{sets_of}
 use Rattle.batch_names.proofs.Runs.{HasRead}
 use Rattle.batch_names.proofs.finding.named_sets.Given as goal
 

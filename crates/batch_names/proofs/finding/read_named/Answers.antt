@@ -1,12 +1,12 @@
 use Rattle.std.proofs.Common.{◌∙◌, ◌++◌, ◌∷◌, [], ap, sym, arith}
 use Rattle.batch_names.proofs.Runs.{so_ends, so_more}
 use Rattle.zone_table.specs.Zones.{placed_in}
-use Rattle.zone_table.specs.Placed.{sets_of}
+use Rattle.zone_table.specs.Slotted.{sets_of}
 use Rattle.batch_names.proofs.finding.read_named.Goals as goal
 use Rattle.std.proofs.lemmas.Option.{slice_get_within}
 use Rattle.zone_table.proofs.Lists.{some_one}
 use Rattle.batch_model.specs.RecordSetRecord.{RecordSet}
-use Rattle.zone_table.specs.Placed.{Placed}
+use Rattle.zone_table.specs.Slotted.{Slotted}
 use Rattle.std.proofs.lemmas.List.{length-map}
 
 pub loop-place-preserved : goal.loop-place-preserved
@@ -26,7 +26,7 @@ returns c =
     c.loop-place.found.items c.loop-place.invariant
     (λ set there.
     let inside = slice_get_within sets c.loop-place.place set there in
-    let many = length-map (placed_in c.args.zones.now.zones c.args.zone) (λ (p : Placed). p.set) in
+    let many = length-map (placed_in c.args.zones.now.zones c.args.zone) (λ (p : Slotted). p.set) in
     let count = c.count-place-end.ensures in
     let past = c.loop-place-test.false in
     absurd (omega (arith, inside, many, count, past)))

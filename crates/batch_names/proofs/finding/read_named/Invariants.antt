@@ -1,5 +1,5 @@
 use Rattle.zone_table.specs.Zones.{placed_in}
-use Rattle.zone_table.specs.Placed.{sets_of}
+use Rattle.zone_table.specs.Slotted.{sets_of}
 use Rattle.batch_names.proofs.Runs.{ReadSo}
 use Rattle.batch_names.proofs.finding.read_named.Given as goal
 

@@ -2,7 +2,7 @@ use Rattle.std.specs.declared.alloc.Global.{Global}
 use Rattle.std.proofs.Common.{Vec, ℕ, List, ◌≡◌, ◌+◌, ◌++◌, ◌∷◌, [], take, sym, ◌∙◌, ap, subst}
 use Rattle.std.proofs.lemmas.List.{take_more}
 use Rattle.zone_table.specs.Zones.{placed_in}
-use Rattle.zone_table.specs.Placed.{sets_of}
+use Rattle.zone_table.specs.Slotted.{sets_of}
 use Rattle.batch_names.specs.Starts.{AreStarts}
 use Rattle.batch_names.proofs.Starting.{no_more_start, one_more_start}
 use Rattle.batch_names.proofs.starts.each_start.Goals as goal

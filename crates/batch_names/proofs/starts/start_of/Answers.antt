@@ -2,7 +2,7 @@ use Rattle.std.proofs.Common.{refl}
 use Rattle.zone_table.proofs.Holding.{kept_in}
 use Rattle.batch_names.proofs.Starting.{none_has, starts_here}
 use Rattle.zone_table.specs.Zones.{placed_in}
-use Rattle.zone_table.specs.Placed.{sets_of}
+use Rattle.zone_table.specs.Slotted.{sets_of}
 use Rattle.batch_names.proofs.starts.start_of.Goals as goal
 
 pub returns-then-has_name : goal.returns-then-has_name

@@ -3,7 +3,7 @@ use Rattle.std.specs.Prelude.{Ok, Err}
 use Rattle.std.proofs.lemmas.List.{take_more}
 use Rattle.std.proofs.lemmas.Option.{slice_get_read}
 use Rattle.batch_limits.specs.Batches.{Leaves, Prepares}
-use Rattle.batch_limits.specs.Changing.{Gives}
+use Rattle.batch_limits.specs.Changing.{Applies}
 use Rattle.batch_limits.proofs.Staying.{zones_stay}
 use Rattle.batch_limits.proofs.Telling.{leaves_more, refused_told}
 use Rattle.change_batch.proofs.whole.apply_all.Goals as goal
@@ -14,7 +14,7 @@ loop-i-preserved c =
     let apex = c.args.apex.now in
     let changes = c.args.changes.now in
     let x = c.index-changes-i in
-    let gives : Gives c.loop-i.after.items apex x.result (Ok c.apply.new.sets.items) =
+    let gives : Applies c.loop-i.after.items apex x.result (Ok c.apply.new.sets.items) =
     c.in-Ok-apply.ensures.ok in
     let more : take c.loop-i.i changes ++ x.result ∷ [] ≡ take (c.loop-i.i + 1) changes =
     ap (λ v. take c.loop-i.i changes ++ v ∷ []) x.is

@@ -2,7 +2,7 @@ use Rattle.std.proofs.Common.{◌≡◌, ◌∙◌, ap, sym, arith, true, false}
 use Rattle.config_zones.specs.Others.{is_number}
 use Rattle.config_zones.proofs.Rest.{as_many, none_left, not_this, set_at, this_one}
 use Rattle.config_zones.specs.Zones.{placed_in}
-use Rattle.zone_model.specs.Placed.{sets_of}
+use Rattle.zone_model.specs.Slotted.{sets_of}
 use Rattle.check_commands.proofs.Walked.{names, none_names}
 use Rattle.check_commands.proofs.naming.is_named_in.Goals as goal
 

@@ -1,6 +1,6 @@
 use Rattle.std.proofs.Common.{arith, map, subst, ℕ}
 use Rattle.config_zones.specs.Zones.{placed_in}
-use Rattle.zone_model.specs.Placed.{Placed}
+use Rattle.zone_model.specs.Slotted.{Slotted}
 use Rattle.check_commands.specs.Counts.{told_at}
 use Rattle.check_commands.specs.Uses.{TellsCheck, slot_in}
 use Rattle.check_commands.proofs.Followed.{bound, looks_all, looks_more, looks_none, slot_at}
@@ -17,7 +17,7 @@ loop-i-preserved c =
     let placed = placed_in zones c.args.zone in
     let set = c.in-Some.set in
     let is = c.in-Some.ensures in
-    let p : Placed = record { slot = set.slot; set = is.1.0 } in
+    let p : Slotted = record { slot = set.slot; set = is.1.0 } in
     looks_more zones c.args.zone (map slot_in placed) c.args.named.now c.loop-i.i
     c.loop-i.named c.look_at.new.named set.slot (slot_at placed c.loop-i.i p is.1.1) c.loop-i.invariant
     (subst (λ (z : ℕ). TellsCheck zones (record { zone = z; slot = set.slot }) (told_at c.look_at.new.named set.slot))

@@ -2,7 +2,7 @@ use Rattle.std.proofs.Common.{◌≡◌, ◌++◌, ◌∷◌, [], ◌∙◌, sym
 use Rattle.config_zones.proofs.Rest.{as_many, held_so}
 use Rattle.record_set.specs.declared.sets.RecordSet.{RecordSet}
 use Rattle.config_zones.specs.Zones.{placed_in}
-use Rattle.zone_model.specs.Placed.{sets_of}
+use Rattle.zone_model.specs.Slotted.{sets_of}
 use Rattle.collection_commands.specs.Named.{named_in}
 use Rattle.collection_commands.proofs.Named.{all_gathered, one_more}
 use Rattle.collection_commands.proofs.naming.add_all.Goals as goal

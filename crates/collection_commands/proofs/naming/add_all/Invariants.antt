@@ -1,5 +1,5 @@
 use Rattle.config_zones.specs.Zones.{placed_in}
-use Rattle.zone_model.specs.Placed.{sets_of}
+use Rattle.zone_model.specs.Slotted.{sets_of}
 use Rattle.collection_commands.proofs.Named.{IsGathered}
 use Rattle.collection_commands.proofs.naming.add_all.Given as goal
 

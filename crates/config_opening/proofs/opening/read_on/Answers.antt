@@ -8,7 +8,7 @@ use Rattle.config_journal.specs.Kept.{State as Kept, config_in}
 use Rattle.config_opening.specs.Opening.{Replays}
 use Rattle.config_journal.specs.SnapshotFaultRecord.{SnapshotFault}
 use Rattle.config_journal.specs.Opening.{IsNoStore}
-use Rattle.zone_journal.specs.Pairs.{Leaves}
+use Rattle.zone_journal.specs.Pairs.{BothRead}
 use Rattle.config_opening.proofs.opening.read_on.Goals as goal
 
 pub returns-in-Err-Bad-clause-faulty : goal.returns-in-Err-Bad-clause-faulty
@@ -19,7 +19,7 @@ returns-in-Err-Bad-clause-faulty g c = λ x y a_reads b_reads begins.
 
 pub returns-in-Ok-replay-clause-holds : goal.returns-in-Ok-replay-clause-holds
 returns-in-Ok-replay-clause-holds g c = λ x y a_reads b_reads begins.
-    subst (λ (kept : State). Leaves g.D.Disk.reading c.replay.new.a c.replay.new.b (Holds kept))
+    subst (λ (kept : State). BothRead g.D.Disk.reading c.replay.new.a c.replay.new.b (Holds kept))
     (sym (c.new.ensures ∙ ap (λ (k : Kept). record { config = k; journal = c.replay.new.journal })
     c.settle_hints.ensures))
     (c.in-Ok-replay.ensures.holds x y a_reads b_reads

@@ -1,5 +1,5 @@
 use Rattle.std.proofs.Common.{Err, subst}
-use Rattle.config_journal.specs.Gives.{ReadsCommand}
+use Rattle.config_journal.specs.Gives.{GivesCommand}
 use Rattle.config_journal.specs.Reading.{read}
 use Rattle.config_opening.proofs.Replayed.{refused_so}
 use Rattle.config_journal.specs.Kept.{config_in}
@@ -9,7 +9,7 @@ pub returns-in-Err-Bad-clause-refused : goal.returns-in-Err-Bad-clause-refused
 returns-in-Err-Bad-clause-refused c = λ same.
     c.unread_are_refused.ensures (config_in c.args.config.now) c.args.entry.now
     c.in-Err-Bad.field-0-0
-    (subst (λ f. ReadsCommand (Err f) (read c.args.entry.now)) c.in-Err-Bad.field-0-is
+    (subst (λ f. GivesCommand (Err f) (read c.args.entry.now)) c.in-Err-Bad.field-0-is
     c.in-Err-Bad.ensures.exact)
 
 pub returns-in-Err-clause-refused : goal.returns-in-Err-clause-refused

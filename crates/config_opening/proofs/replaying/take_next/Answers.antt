@@ -1,7 +1,7 @@
 use Rattle.std.proofs.Common.{◌∙◌, Bool, List, ℕ, ◌+◌, Ok, ap, length, refl, sym, subst}
 use Rattle.config_opening.proofs.Replayed.{faulty_by, goes_on, holds_there, refused}
 use Rattle.config_journal.specs.Kept.{config_in}
-use Rattle.config_journal.specs.Opening.{IsNoStore, IsRefused, TakesEntry}
+use Rattle.config_journal.specs.Opening.{IsNoStore, IsRefused, AcceptsEntry}
 use Rattle.zone_journal.specs.Opening.{NextGives}
 use Rattle.zone_journal.specs.Pairs.{active_of}
 use Rattle.config_opening.proofs.replaying.take_next.Goals as goal
@@ -35,7 +35,7 @@ returns-in-Ok-true-clause-replays g c = λ x y a_reads b_reads r same.
     goes_on c.args.journal.now (config_in c.args.config.now) x y r c.one_more_makes.ensures
     c.next.new.self (c.args.journal.now.at + (5 + length c.in-Ok-Some.entry.items)) its.1
     c.in-Ok-Some.entry.items (config_in c.take.new.config) its.0
-    (subst (λ (l : List ℕ). TakesEntry (config_in c.args.config.now) l (config_in c.take.new.config))
+    (subst (λ (l : List ℕ). AcceptsEntry (config_in c.args.config.now) l (config_in c.take.new.config))
     c.deref.ensures.value (c.in-Ok-true.ensures.taken (ap (λ (b : Bool). Ok b) c.in-Ok-true.field-0-test)))
 
 pub returns-in-Ok-false-clause-faulty : goal.returns-in-Ok-false-clause-faulty

@@ -12,7 +12,7 @@ returns-then-not-sound c =
     let table = c.args.zones.now in
     let checks = c.args.checks.now.checks in
     let next = c.args.next_zone in
-    let new = c.in-Open in
+    let new = c.in-Begin in
     isnt (λ opens. false≢true (sym c.if-not-sound.true
     ∙ (told_zone table checks next new.zone new.name new.sets c.collections.result.now
     c.as_slice-sets.result.now c.collections.ensures c.as_slice-sets.ensures c.in_ok-sound.sound
@@ -24,7 +24,7 @@ returns-then-not-is_last c =
     let table = c.args.zones.now in
     let checks = c.args.checks.now.checks in
     let next = c.args.next_zone in
-    let new = c.in-Open in
+    let new = c.in-Begin in
     isnt (λ opens. false≢true (sym c.if-not-is_last.true
     ∙ c.is_last.ensures.1 (is_last table checks next new.zone new.name new.sets
     (to_sound table checks next new.zone new.name new.sets c.args.edit.now new.is opens))))
@@ -34,7 +34,7 @@ returns-then-not-is_new_zone c =
     let table = c.args.zones.now in
     let checks = c.args.checks.now.checks in
     let next = c.args.next_zone in
-    let new = c.in-Open in
+    let new = c.in-Begin in
     isnt (λ opens. false≢true (sym c.if-not-is_new_zone.true
     ∙ c.is_new_zone.ensures.1 (is_new_zone table checks next new.zone new.name new.sets
     (to_sound table checks next new.zone new.name new.sets c.args.edit.now new.is opens))))
@@ -43,7 +43,7 @@ pub has_room-requires-clause-few : goal.has_room-requires-clause-few
 has_room-requires-clause-few c =
     let table = c.args.zones.now in
     let checks = c.args.checks.now.checks in
-    let new = c.in-Open in
+    let new = c.in-Begin in
     let sound = (told_zone table checks c.args.next_zone new.zone new.name new.sets
     c.collections.result.now c.as_slice-sets.result.now c.collections.ensures
     c.as_slice-sets.ensures
@@ -56,7 +56,7 @@ pub has_room-requires-clause-spelled : goal.has_room-requires-clause-spelled
 has_room-requires-clause-spelled c =
     let table = c.args.zones.now in
     let checks = c.args.checks.now.checks in
-    let new = c.in-Open in
+    let new = c.in-Begin in
     let sound = (told_zone table checks c.args.next_zone new.zone new.name new.sets
     c.collections.result.now c.as_slice-sets.result.now c.collections.ensures
     c.as_slice-sets.ensures
@@ -68,7 +68,7 @@ returns c =
     let table = c.args.zones.now in
     let checks = c.args.checks.now.checks in
     let next = c.args.next_zone in
-    let new = c.in-Open in
+    let new = c.in-Begin in
     let sound = (told_zone table checks next new.zone new.name new.sets
     c.collections.result.now c.as_slice-sets.result.now c.collections.ensures
     c.as_slice-sets.ensures

@@ -1,6 +1,6 @@
 use Rattle.std.proofs.Common.{◌≡◌, ◌+◌, ◌++◌, arith, ap, sym, ◌∙◌, length, length-append, append_assoc, drop, get_or}
 use Rattle.std.specs.List.{flat_map}
-use Rattle.dns_name.specs.Placed.{placed}
+use Rattle.dns_name.specs.Buffer.{written}
 use Rattle.dns_name.specs.Stored.{labels_of}
 use Rattle.dns_name.specs.Written.{text_of_label}
 use Rattle.dns_name.proofs.Placing.{placed_twice}
@@ -28,7 +28,7 @@ loop-at-preserved c =
           ∙ ap (λ l. i.done ++ (text_of_label l ++ later)) (sym c.part.ensures)
           ∙ sym (append_assoc i.done text later);
       behind = w.end ∙ omega (arith, i.behind, length-append i.done text);
-      so_far = w.written ∙ ap (λ t. placed t c.loop-at.end text) i.so_far
+      so_far = w.written ∙ ap (λ t. written t c.loop-at.end text) i.so_far
           ∙ placed_twice c.args.into.now 0 i.done text c.loop-at.end there (omega (
             arith,
             c.requires.room,

@@ -1,6 +1,6 @@
 use Rattle.std.proofs.Common.{◌≡◌, ℕ, ◌-◌, ◌*◌, ◌≤◌, List, ◌++◌, length, drop}
 use Rattle.std.specs.List.{flat_map}
-use Rattle.dns_name.specs.Placed.{placed}
+use Rattle.dns_name.specs.Buffer.{written}
 use Rattle.dns_name.specs.Stored.{labels_of}
 use Rattle.dns_name.specs.Whole.{IsWire}
 use Rattle.dns_name.specs.Written.{text_of_label}
@@ -13,7 +13,7 @@ pub record IsWritten (buffer into octets : List ℕ) (at end : ℕ) : Type 0 whe
   pub whole : flat_map text_of_label (labels_of octets) ≡ done
       ++ flat_map text_of_label (labels_of (drop at octets))
   pub behind : end ≡ length done
-  pub so_far : into ≡ placed buffer 0 done
+  pub so_far : into ≡ written buffer 0 done
   pub within : end ≤ 4 * at
 
 abbrev pub invariant-loop-at : goal.invariant-loop-at

@@ -1,7 +1,7 @@
 use Rattle.std.proofs.Common.{◌∙◌, ℕ, arith, refl, subst, sym}
 use Rattle.drill_run.proofs.Steps.{none_ran, none_below}
 use Rattle.drill_run.specs.Counting.{uncounted}
-use Rattle.drill_run.specs.Drills.{EventsRun, SetsUp}
+use Rattle.drill_run.specs.Drills.{EventLinesRun, SetsUp}
 use Rattle.drill_run.proofs.events.run_events.Goals as goal
 
 pub loop-k-init : goal.loop-k-init
@@ -28,19 +28,19 @@ loop-k-preserved g c = record {
   b_counts = omega (arith, c.loop-k.invariant.b_counts, c.take_event.ensures.b_counts);
 }
 
-pub returns-in-Torn-clause-half : goal.returns-in-Torn-clause-half
-returns-in-Torn-clause-half g c = λ start at held.
+pub returns-in-Halted-clause-half : goal.returns-in-Halted-clause-half
+returns-in-Halted-clause-half g c = λ start at held.
     let so_far = c.loop-k.invariant.does start at in (
       c.loop-k.k,
       c.loop-k-test.true,
-      c.in-Torn.ensures.half start so_far.0 so_far.1 so_far.2 (c.loop-k.invariant.holds held),
+      c.in-Halted.ensures.half start so_far.0 so_far.1 so_far.2 (c.loop-k.invariant.holds held),
     )
 
 pub returns-clause-does : goal.returns-clause-does
 returns-clause-does g c = λ start at.
     let so_far = c.loop-k.invariant.does start at in (
       so_far.0,
-      subst (λ (n : ℕ). EventsRun n start so_far.0)
+      subst (λ (n : ℕ). EventLinesRun n start so_far.0)
           (omega (arith, c.loop-k-test.false, c.loop-k.auto.k-end)) so_far.1,
       so_far.2,
     )

@@ -1,7 +1,7 @@
 use Rattle.std.proofs.Common.{◌∙◌, ℕ, arith, refl, subst, sym}
 use Rattle.drill_run.proofs.Steps.{none_set_up, none_below}
 use Rattle.drill_run.specs.Counting.{uncounted}
-use Rattle.drill_run.specs.Drills.{EventsRun, SetsUp}
+use Rattle.drill_run.specs.Drills.{EventLinesRun, SetsUp}
 use Rattle.drill_run.proofs.events.set_up.Goals as goal
 
 pub loop-i-init : goal.loop-i-init
@@ -32,10 +32,10 @@ loop-i-preserved g c = record {
   b_counts = omega (arith, c.loop-i.invariant.b_counts, c.take_setup.ensures.b_counts);
 }
 
-pub returns-in-Torn-clause-half : goal.returns-in-Torn-clause-half
-returns-in-Torn-clause-half g c = λ start at held.
+pub returns-in-Halted-clause-half : goal.returns-in-Halted-clause-half
+returns-in-Halted-clause-half g c = λ start at held.
     let so_far = c.loop-i.invariant.does start at in
-    c.in-Torn.ensures.half start so_far.0 so_far.1 so_far.2 (c.loop-i.invariant.holds held)
+    c.in-Halted.ensures.half start so_far.0 so_far.1 so_far.2 (c.loop-i.invariant.holds held)
 
 pub returns-clause-does : goal.returns-clause-does
 returns-clause-does g c = λ start at.

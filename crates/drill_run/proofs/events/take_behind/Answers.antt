@@ -1,7 +1,7 @@
 use Rattle.std.proofs.Common.{◌∙◌, sym}
 use Rattle.std.proofs.lemmas.Bool.{false≢true}
 use Rattle.drill_run.proofs.Steps.{behind_on, half_so, nothing_behind, taken_so, torn_mapped, within}
-use Rattle.drill_run.specs.Counting.{OctetsTear}
+use Rattle.drill_run.specs.Counting.{OctetsHalt}
 use Rattle.drill_run.specs.Drills.{no_tables}
 use Rattle.drill_run.specs.Leaving.{IsHalf}
 use Rattle.r53_gen.specs.Lines.{compaction}
@@ -22,7 +22,7 @@ returns-then-is_compacted-clause-does g c = λ old at.
 pub returns-then-is_compacted-clause-half : goal.returns-then-is_compacted-clause-half
 returns-then-is_compacted-clause-half g c = λ old at held.
     torn_mapped c.take_line.result
-    (IsHalf g.D.Disk.images c.take_line.new.a c.take_line.new.b (OctetsTear no_tables compaction) old)
+    (IsHalf g.D.Disk.images c.take_line.new.a c.take_line.new.b (OctetsHalt no_tables compaction) old)
     _ (λ half. (c.is_compacted.ensures.0 c.if-is_compacted.true, half))
     (half_so c.args.tables.now c.front.result.now compaction c.requires.tables
     (c.front.ensures ∙ c.compaction_line-len.ensures.text) g.D.Disk.images c.take_line.new.a

@@ -17,7 +17,7 @@ returns-in-On-clause-half g c = λ start old before at held.
 pub returns-in-On-clause-holds : goal.returns-in-On-clause-holds
 returns-in-On-clause-holds g c = λ held. c.take_behind.ensures.holds (c.in-On.ensures.holds held)
 
-pub returns-in-Torn-clause-half : goal.returns-in-Torn-clause-half
-returns-in-Torn-clause-half g c = λ start old before at held.
+pub returns-in-Halted-clause-half : goal.returns-in-Halted-clause-half
+returns-in-Halted-clause-half g c = λ start old before at held.
     torn_first c.args.k start old before g.D.Disk.images c.take_line_of.new.a c.take_line_of.new.b
-    (c.in-Torn.ensures.half old at held)
+    (c.in-Halted.ensures.half old at held)

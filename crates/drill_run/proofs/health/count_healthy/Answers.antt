@@ -5,7 +5,7 @@ use Rattle.engine_model.specs.Engine.{is_healthy}
 use Rattle.record_set.specs.Sets.{key_of}
 use Rattle.record_set.specs.declared.sets.RecordSet.{RecordSet}
 use Rattle.zone_table.specs.Zones.{placed_in}
-use Rattle.zone_model.specs.Placed.{sets_of}
+use Rattle.zone_model.specs.Slotted.{sets_of}
 use Rattle.zone_table.specs.Tables.{Table}
 use Rattle.drill_run.proofs.health.count_healthy.Goals as goal
 

@@ -5,7 +5,7 @@ use Rattle.r53_core.specs.Stores.{StandsFor}
 use Rattle.record_set.specs.Sets.{key_of}
 use Rattle.record_set.specs.declared.sets.RecordSet.{RecordSet}
 use Rattle.zone_table.specs.Zones.{placed_in}
-use Rattle.zone_model.specs.Placed.{sets_of}
+use Rattle.zone_model.specs.Slotted.{sets_of}
 use Rattle.drill_run.proofs.health.count_healthy.Given as goal
 
 abbrev pub invariant-loop-i : goal.invariant-loop-i

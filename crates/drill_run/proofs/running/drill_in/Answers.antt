@@ -39,4 +39,4 @@ returns-in-On-clause-cause g c =
 
 pub returns-clause-leaves : goal.returns-clause-leaves
 returns-clause-leaves g c = λ start stands files.
-    c.in-Torn.ensures.half start stands files
+    c.in-Halted.ensures.half start stands files

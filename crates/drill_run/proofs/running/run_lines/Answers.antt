@@ -25,7 +25,7 @@ returns-in-On-clause-half g c = λ start stands held.
 pub returns-in-On-clause-holds : goal.returns-in-On-clause-holds
 returns-in-On-clause-holds g c = λ held. c.run_events.ensures.holds (c.in-On.ensures.holds held)
 
-pub returns-in-Torn-clause-half : goal.returns-in-Torn-clause-half
-returns-in-Torn-clause-half g c = λ start stands held.
+pub returns-in-Halted-clause-half : goal.returns-in-Halted-clause-half
+returns-in-Halted-clause-half g c = λ start stands held.
     torn_in_setup g.D.Disk.images c.set_up.new.a c.set_up.new.b c.args.events start
-    (c.in-Torn.ensures.half start stands held)
+    (c.in-Halted.ensures.half start stands held)

@@ -6,7 +6,7 @@ use Rattle.drill_run.specs.declared.taking.Went.TheVariants as went
 use Rattle.r53_core.specs.Holding.{Holds}
 use Rattle.r53_core.specs.Journaled.{State as Kept}
 use Rattle.r53_core.specs.Stores.{State as Store}
-use Rattle.zone_journal.specs.Pairs.{Leaves}
+use Rattle.zone_journal.specs.Pairs.{BothRead}
 use Rattle.zone_journal.specs.Standing.{StandsOn}
 use Rattle.drill_run.proofs.taking.take_asked.Goals as goal
 
@@ -77,7 +77,7 @@ returns-in-Observe-clause-stands g c =
 
 pub returns-in-Observe-clause-holds : goal.returns-in-Observe-clause-holds
 returns-in-Observe-clause-holds g c = λ held.
-    subst (λ (k : Kept). Leaves g.D.Disk.reading c.args.a.now c.args.b.now (Holds k))
+    subst (λ (k : Kept). BothRead g.D.Disk.reading c.args.a.now c.args.b.now (Holds k))
     (sym c.take_report.ensures.kept) held
 
 pub returns-in-Query-clause-does : goal.returns-in-Query-clause-does
@@ -92,5 +92,5 @@ returns-in-Query-clause-stands g c =
 
 pub returns-in-Query-clause-holds : goal.returns-in-Query-clause-holds
 returns-in-Query-clause-holds g c = λ held.
-    subst (λ (s : Store). Leaves g.D.Disk.reading c.args.a.now c.args.b.now (Holds s.kept))
+    subst (λ (s : Store). BothRead g.D.Disk.reading c.args.a.now c.args.b.now (Holds s.kept))
     (sym c.take_query.ensures.same) held

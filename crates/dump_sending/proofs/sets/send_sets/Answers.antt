@@ -4,7 +4,7 @@ use Rattle.dump_sending.proofs.Lines.{all_lines, next_line}
 use Rattle.dump_sending.specs.Dumps.{sets_text}
 use Rattle.dump_writing.specs.DumpOfReplyModel.{set_line}
 use Rattle.config_zones.specs.Zones.{placed_in}
-use Rattle.zone_model.specs.Placed.{sets_of}
+use Rattle.zone_model.specs.Slotted.{sets_of}
 use Rattle.dump_sending.proofs.sets.send_sets.Goals as goal
 
 pub returns-in-Failed-clause-passes : goal.returns-in-Failed-clause-passes

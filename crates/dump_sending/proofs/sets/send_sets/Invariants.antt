@@ -3,7 +3,7 @@ use Rattle.std.specs.Prelude.{vec_capacity}
 use Rattle.dump_sending.specs.Dumps.{sets_text}
 use Rattle.set_sending.specs.Passing.{IsPassed}
 use Rattle.config_zones.specs.Zones.{placed_in}
-use Rattle.zone_model.specs.Placed.{sets_of}
+use Rattle.zone_model.specs.Slotted.{sets_of}
 use Rattle.dump_sending.proofs.sets.send_sets.Given as goal
 
 abbrev pub invariant-loop-i : goal.invariant-loop-i

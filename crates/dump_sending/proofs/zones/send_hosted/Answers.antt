@@ -3,7 +3,7 @@ use Rattle.dump_sending.specs.Dumps.{sets_text}
 use Rattle.dump_writing.specs.DumpOfReplyModel.{zone_line}
 use Rattle.set_sending.proofs.Passed.{regroup}
 use Rattle.config_zones.specs.Zones.{placed_in}
-use Rattle.zone_model.specs.Placed.{sets_of}
+use Rattle.zone_model.specs.Slotted.{sets_of}
 use Rattle.dump_sending.proofs.zones.send_hosted.Goals as goal
 
 pub returns-in-Failed-clause-passes : goal.returns-in-Failed-clause-passes

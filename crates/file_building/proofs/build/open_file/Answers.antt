@@ -1,6 +1,6 @@
 use Rattle.std.proofs.Common.{◌⊎◌, ◌≡◌, inl, [], ◌∷◌, subst}
 use Rattle.gate_journal.specs.Disk.{written}
-use Rattle.gate_journal.specs.Synced.{Keeps}
+use Rattle.gate_journal.specs.Synced.{WritesSynced}
 use Rattle.gate_journal.proofs.Moments.{joined}
 use Rattle.file_building.specs.Building.{IsShut, gate_opened}
 use Rattle.file_building.proofs.Gates.{all_shut, written_shut, opening, keeps_told}
@@ -8,7 +8,7 @@ use Rattle.file_building.proofs.build.open_file.Goals as goal
 
 pub returns-clause-opened : goal.returns-clause-opened
 returns-clause-opened g c = λ y told whole.
-    subst (λ r. Keeps r (written y c.args.next (0 ∷ [])) 0 (1 ∷ [])
+    subst (λ r. WritesSynced r (written y c.args.next (0 ∷ [])) 0 (1 ∷ [])
     (g.D.Disk.reading c.write_synced-2.new.disk) (g.D.Disk.images c.write_synced-2.new.disk))
     whole (c.write_synced-2.ensures.kept _ (c.in-Whole.ensures.kept y told).0)
 

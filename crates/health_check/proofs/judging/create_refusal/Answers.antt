@@ -1,6 +1,6 @@
 use Rattle.std.proofs.Common.{◌≡◌, [], ◌∷◌, List, ℕ, None, ap, ◌∙◌, sym, subst}
 use Rattle.std.specs.List.{list_any}
-use Rattle.check_model.specs.Commands.{first_missing, first_of, has_repeated, missing, rule, starts_walk}
+use Rattle.check_model.specs.Commands.{first_missing, first_of, has_repeated, missing, refuse_if, starts_walk}
 use Rattle.check_model.specs.declared.refusals.CheckRefusal.TheVariants.{ChildRepeated}
 use Rattle.health_check.specs.Marks.{with_children}
 use Rattle.health_check.proofs.Refusing.{ended, taken, too_deep, too_many}
@@ -11,7 +11,7 @@ returns-then-starts_deep c =
     let list = c.args.list.now in
     let check = c.args.check.now in
     too_deep (record { next = c.args.next; list = list }) c.requires check
-    (subst (λ (l : List ℕ). first_of (rule (has_repeated l) ChildRepeated
+    (subst (λ (l : List ℕ). first_of (refuse_if (has_repeated l) ChildRepeated
     ∷ missing (first_missing list l) ∷ []) ≡ None) c.children_of-children.ensures
     (sym c.named_refusal.ensures ∙ c.in_default.is))
     c.starts_deep.result
@@ -24,7 +24,7 @@ returns-then-list-ge-MAX_CHECKS c =
     let list = c.args.list.now in
     let check = c.args.check.now in
     too_many (record { next = c.args.next; list = list }) c.requires check
-    (subst (λ (l : List ℕ). first_of (rule (has_repeated l) ChildRepeated
+    (subst (λ (l : List ℕ). first_of (refuse_if (has_repeated l) ChildRepeated
     ∷ missing (first_missing list l) ∷ []) ≡ None) c.children_of-children.ensures
     (sym c.named_refusal.ensures ∙ c.in_default.is))
     c.starts_deep.result
@@ -37,7 +37,7 @@ returns-then-next-eq-LAST c =
     let list = c.args.list.now in
     let check = c.args.check.now in
     ended (record { next = c.args.next; list = list }) c.requires check
-    (subst (λ (l : List ℕ). first_of (rule (has_repeated l) ChildRepeated
+    (subst (λ (l : List ℕ). first_of (refuse_if (has_repeated l) ChildRepeated
     ∷ missing (first_missing list l) ∷ []) ≡ None) c.children_of-children.ensures
     (sym c.named_refusal.ensures ∙ c.in_default.is))
     c.starts_deep.result
@@ -50,7 +50,7 @@ returns c =
     let list = c.args.list.now in
     let check = c.args.check.now in
     taken (record { next = c.args.next; list = list }) c.requires check
-    (subst (λ (l : List ℕ). first_of (rule (has_repeated l) ChildRepeated
+    (subst (λ (l : List ℕ). first_of (refuse_if (has_repeated l) ChildRepeated
     ∷ missing (first_missing list l) ∷ []) ≡ None) c.children_of-children.ensures
     (sym c.named_refusal.ensures ∙ c.in_default.is))
     c.starts_deep.result

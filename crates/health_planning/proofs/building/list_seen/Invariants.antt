@@ -2,7 +2,7 @@ use Rattle.std.proofs.Common.{◌≡◌, ◌≤◌, List, length}
 use Rattle.std.specs.Prelude.{vec_capacity, vec_len}
 use Rattle.check_model.specs.Checks.{Checks}
 use Rattle.health_planning.specs.Building.{AreOfEndpoints, AreSeen}
-use Rattle.health_planning.specs.Following.{EachFollows, Knows}
+use Rattle.health_planning.specs.Later.{EachIsLater, Knows}
 use Rattle.health_model.specs.Statuses.{Report}
 use Rattle.health_planning.proofs.building.list_seen.Given as goal
 
@@ -13,6 +13,6 @@ invariant-loop-place l = record {
   len : vec_len l.into ≡ l.place;
   room : vec_capacity l.into ≡ vec_capacity l.fn.into;
   seen : (old : Checks) (reports : List Report) → Knows old reports l.ids l.seen
-      → EachFollows old l.list → AreSeen reports l.list l.into.items;
+      → EachIsLater old l.list → AreSeen reports l.list l.into.items;
   kinds : AreOfEndpoints l.list l.into.items;
 }

@@ -3,7 +3,7 @@ use Rattle.std.proofs.lemmas.Bool.{cases_lt}
 use Rattle.std.proofs.lemmas.Option.{get_or_from_slice_get, slice_get-get_or, slice_get_within}
 use mathlib.Core.Path.{subst}
 use Rattle.policy_select.specs.SetRefRecord.{SetRef}
-use Rattle.policy_select.specs.Looking.{Names}
+use Rattle.policy_select.specs.Looking.{RefersTo}
 use Rattle.health_planning.specs.Building.{HasTarget}
 use Rattle.health_planning.proofs.Given.{none_noted}
 use Rattle.health_planning.proofs.Grouped.{target_on}
@@ -15,13 +15,13 @@ loop-set-init c = record {
   slots = c.requires.slots;
   below = c.requires.below;
   within = c.requires.within;
-  grouped = can_start c.args.zones.now.zones c.args.seats.now.items c.args.plan.now c.requires.below c.requires.apart c.requires.none c.requires.room
+  grouped = can_start c.args.zones.now.zones c.args.seats.now.items c.args.blueprint.now c.requires.below c.requires.apart c.requires.none c.requires.room
       c.requires.links_room c.requires.few;
-  kept = record { gates = refl; links = refl };
+  kept = record { valves = refl; links = refl };
   all = λ k set named name before at names is. absurd (omega arith);
-  sets = record { gates = λ slot. refl; checks = λ slot. refl };
-  shapes = λ n shape at. at;
-  feeders = λ gate early. refl;
+  sets = record { valves = λ slot. refl; checks = λ slot. refl };
+  triggers = λ n trigger at. at;
+  feeders = λ valve early. refl;
   more = omega arith;
   noted = rw c.requires.none_noted (none_noted c.args.seats.now.items c.requires.none);
   members_room = c.requires.members_room;
@@ -36,29 +36,29 @@ loop-set-preserved c =
     let more = o.more in
     record {
       slots = o.size ∙ i.slots;
-      below = λ slot gate is. let b = i.below slot gate (sym (o.sets.gates slot) ∙ is) in omega arith;
+      below = λ slot valve is. let b = i.below slot valve (sym (o.sets.valves slot) ∙ is) in omega arith;
       within = o.within;
-      grouped = o.grouped (length c.args.plan.now.shapes) (length c.args.plan.now.links) i.grouped;
+      grouped = o.grouped (length c.args.blueprint.now.triggers) (length c.args.blueprint.now.links) i.grouped;
       kept =
-          let gates = i.kept.gates in
-          let more_gates = o.kept.gates in
+          let valves = i.kept.valves in
+          let more_valves = o.kept.valves in
           let links = i.kept.links in
           let more_links = o.kept.links in
-          record { gates = omega arith; links = omega arith };
+          record { valves = omega arith; links = omega arith };
       all = λ k set named name before at names is. elim (cases_lt k c.loop-set.set-index) [
         | inl early ↦ target_on zones _ _ set.zone name named.rtype o.goes_on (i.all k set named name early at names is)
         | inr late ↦
             let k_is : k ≡ c.loop-set.set-index = omega arith in
             let e = get_or_from_slice_get c.args.refs.now c.loop-set.set-index set (record { zone = 0; slot = 0 }) (rw k_is at at) in
             subst (λ (s : SetRef). HasTarget zones c.group_one.new.seats.items s.zone name named.rtype) e
-            (o.here named name (subst (λ (s : SetRef). Names zones s named) (sym e) names) is)
+            (o.here named name (subst (λ (s : SetRef). RefersTo zones s named) (sym e) names) is)
       ];
       sets = record {
-        gates = λ slot. o.sets.gates slot ∙ i.sets.gates slot;
+        valves = λ slot. o.sets.valves slot ∙ i.sets.valves slot;
         checks = λ slot. o.sets.checks slot ∙ i.sets.checks slot;
       };
-      shapes = λ n shape at. o.shapes n shape (i.shapes n shape at);
-      feeders = λ gate early. o.feeders gate (omega arith) ∙ i.feeders gate early;
+      triggers = λ n trigger at. o.triggers n trigger (i.triggers n trigger at);
+      feeders = λ valve early. o.feeders valve (omega arith) ∙ i.feeders valve early;
       more = omega arith;
       noted = o.noted;
       members_room =
@@ -81,4 +81,4 @@ group_one-requires-clause-told c named names =
 
 pub group_one-requires-clause-room : goal.group_one-requires-clause-room
 group_one-requires-clause-room c =
-    (length c.args.plan.now.shapes, (length c.args.plan.now.links, c.loop-set.invariant.grouped))
+    (length c.args.blueprint.now.triggers, (length c.args.blueprint.now.links, c.loop-set.invariant.grouped))

@@ -2,21 +2,21 @@ use Rattle.std.proofs.Common.{◌≡◌, ◌<◌, ◌≤◌, ◌^◌, ◌∷◌,
 use Rattle.std.specs.Prelude.{not}
 use mathlib.Core.Path.{subst}
 use Rattle.std.proofs.lemmas.Bool.{false≢true}
-use Rattle.health_gates.specs.declared.plan.Link.{Link}
+use Rattle.health_valves.specs.declared.blueprint.Feeding.{Feeding}
 use Rattle.policy_select.proofs.Members.{one_named}
 use Rattle.policy_select.specs.Groups.{members_of}
 use Rattle.record_set.specs.declared.sets.RecordSet.{RecordSet}
 use Rattle.policy_select.specs.Telling.{evaluates, target_of}
 use Rattle.zone_model.proofs.Among.{among_at}
 use Rattle.policy_select.specs.Looking.{Targets, Watches}
-use Rattle.health_planning.specs.Building.{group_shape, links_to}
-use Rattle.health_planning.specs.Wired.{IsLedTo, check_seat, gates_of, group_seat, plain_among}
+use Rattle.health_planning.specs.Building.{group_trigger, links_to}
+use Rattle.health_planning.specs.Wired.{IsLedTo, check_seat, valves_of, group_seat, plain_among}
 use Rattle.health_planning.specs.declared.seats.Seat.{Seat}
 use Rattle.health_planning.proofs.Few.{few_plain}
 use Rattle.health_planning.proofs.Grouped.{feeders_now, stays, within_now}
-use Rattle.health_planning.proofs.Groups.{alias_alone, leads_to, member_at, members_are, some_gate, told_target}
+use Rattle.health_planning.proofs.Groups.{alias_alone, leads_to, member_at, members_are, some_valve, told_target}
 use Rattle.health_planning.proofs.ListedOnce.{slot_below, still_at}
-use Rattle.health_planning.proofs.Roomy.{bare, can_more, gate_early, links_fit, members_few, members_own}
+use Rattle.health_planning.proofs.Roomy.{bare, can_more, valve_early, links_fit, members_few, members_own}
 use Rattle.health_planning.proofs.grouping.group_one.Goals as goal
 
 pub returns-then-only-ne0-clause-here : goal.returns-then-only-ne0-clause-here
@@ -53,14 +53,14 @@ returns-then-seat-ne0-clause-here c named name names is =
     c.find_group-group.ensures.zone c.find_group-group.ensures.sets in
     let read = c.deref-2.ensures.value in
     let group_is = sym (c.seat_at-seat.ensures.group ∙ ap (λ (l : List Seat). group_seat l c.member-first.result.slot) read) in
-    let gate = some_gate (group_seat c.args.seats.now.items c.member-first.result.slot) (λ e. c.if-seat-ne0.true (sym group_is ∙ e)) in
+    let valve = some_valve (group_seat c.args.seats.now.items c.member-first.result.slot) (λ e. c.if-seat-ne0.true (sym group_is ∙ e)) in
     rw (target.0, target.1) (record {
       members = members_of zones c.find_group-group.result;
       are = are;
       slot = c.member-first.result.slot;
       first = (first.p, first.at, first.slot);
-      gate = gate.0;
-      seat = gate.1;
+      valve = valve.0;
+      seat = valve.1;
     })
 
 -- what isn't not so is so
@@ -90,14 +90,14 @@ returns-clause-grouped c from base can =
     let some = few_plain seats members in
     let few : plain_among seats members ≤ 2 ^ 31 = omega arith in
     let own = members_own zones c.find_group-group.result c.well_formed-2.ensures in
-    let links = c.join_members.ensures.links ∙ ap (λ (l : List Link). l ++ links_to c.len-gate.result (gates_of c.deref-4.result.now members))
-    c.push.ensures.links ∙ ap (λ (l : List Seat). c.args.plan.now.links ++ links_to c.len-gate.result (gates_of l members)) c.deref-4.ensures.value in
-    let shapes = c.join_members.ensures.shapes ∙ c.push.ensures.shapes ∙ ap (λ n. c.args.plan.now.shapes ++ group_shape n ∷ []) plains in
-    let gate_is = c.len-gate.ensures in
+    let links = c.join_members.ensures.links ∙ ap (λ (l : List Feeding). l ++ links_to c.len-valve.result (valves_of c.deref-4.result.now members))
+    c.push.ensures.links ∙ ap (λ (l : List Seat). c.args.blueprint.now.links ++ links_to c.len-valve.result (valves_of l members)) c.deref-4.ensures.value in
+    let triggers = c.join_members.ensures.triggers ∙ c.push.ensures.triggers ∙ ap (λ n. c.args.blueprint.now.triggers ++ group_trigger n ∷ []) plains in
+    let valve_is = c.len-valve.ensures in
     let kept = c.join_members.ensures.kept in
-    let gates_kept = kept.gates in
+    let valves_kept = kept.valves in
     let links_kept = kept.links in
-    let pushed = ap length c.push.ensures.shapes ∙ length-append c.args.plan.now.shapes _ in
+    let pushed = ap length c.push.ensures.triggers ∙ length-append c.args.blueprint.now.triggers _ in
     let same_links = ap length c.push.ensures.links in
     let one = c.push.ensures.room in
     let same_room = c.push.ensures.links_room in
@@ -109,10 +109,10 @@ returns-clause-grouped c from base can =
     let to = leads_to t.0 c.in-Some-target.target on t.2 in
     let led : IsLedTo zones c.args.set.zone c.in-Some-target.target.0 c.in-Some-target.target.1 =
     (record { slot = c.args.set.slot; set = t.0 }, (t.1, to)) in
-    can_more zones c.well_formed-2.ensures c.slots_apart.ensures from base seats c.args.plan.now can c.len-gate.result c.args.set.zone
-    c.in-Some-target.target.0 c.in-Some-target.target.1 members c.requires.below c.requires.within gate_is are first.p in_one within empty own few
+    can_more zones c.well_formed-2.ensures c.slots_apart.ensures from base seats c.args.blueprint.now can c.len-valve.result c.args.set.zone
+    c.in-Some-target.target.0 c.in-Some-target.target.1 members c.requires.below c.requires.within valve_is are first.p in_one within empty own few
     c.seat_members.new.seats.items c.seat_members.ensures.seated led
-    c.join_members.new.plan shapes links (record { gates = omega arith; links = omega arith })
+    c.join_members.new.blueprint triggers links (record { valves = omega arith; links = omega arith })
 
 pub returns-clause-here : goal.returns-clause-here
 returns-clause-here c named name names is =
@@ -143,12 +143,12 @@ returns-clause-here c named name names is =
       are = are;
       slot = first.p.slot;
       first = (first.p, first.at, refl);
-      gate = c.len-gate.result;
-      seat = c.seat_members.ensures.seated.each first.p in_one ∙ add-one c.len-gate.result;
+      valve = c.len-valve.result;
+      seat = c.seat_members.ensures.seated.each first.p in_one ∙ add-one c.len-valve.result;
     })
 
 pub returns-clause-goes_on : goal.returns-clause-goes_on
-returns-clause-goes_on c slot gate is =
+returns-clause-goes_on c slot valve is =
     let zones = c.args.zones.now.zones in
     let first = member_at zones c.find_group-group.result 0 c.member-first.result (omega (arith, c.if-group-eq0.false)) c.member-first.ensures in
     let members = members_of zones c.find_group-group.result in
@@ -169,18 +169,18 @@ returns-clause-goes_on c slot gate is =
     let some = few_plain seats members in
     let few : plain_among seats members ≤ 2 ^ 31 = omega arith in
     let own = members_own zones c.find_group-group.result c.well_formed-2.ensures in
-    let gate_is = c.len-gate.ensures in
-    stays seats c.args.plan.now.shapes c.args.plan.now.links c.len-gate.result members c.requires.below c.requires.within gate_is zones c.args.set.zone
+    let valve_is = c.len-valve.ensures in
+    stays seats c.args.blueprint.now.triggers c.args.blueprint.now.links c.len-valve.result members c.requires.below c.requires.within valve_is zones c.args.set.zone
     c.in-Some-target.target.0 c.in-Some-target.target.1 are
-    (bare zones c.well_formed-2.ensures c.slots_apart.ensures c.requires.room.0 c.requires.room.1.0 seats c.args.plan.now c.requires.room.1.1
-    c.len-gate.result c.args.set.zone c.in-Some-target.target.0 c.in-Some-target.target.1 members c.requires.below c.requires.within gate_is are
-    first.p in_one within empty own few) first.p in_one few c.seat_members.new.seats.items c.seat_members.ensures.seated slot gate is
+    (bare zones c.well_formed-2.ensures c.slots_apart.ensures c.requires.room.0 c.requires.room.1.0 seats c.args.blueprint.now c.requires.room.1.1
+    c.len-valve.result c.args.set.zone c.in-Some-target.target.0 c.in-Some-target.target.1 members c.requires.below c.requires.within valve_is are
+    first.p in_one within empty own few) first.p in_one few c.seat_members.new.seats.items c.seat_members.ensures.seated slot valve is
 
-pub returns-clause-shapes : goal.returns-clause-shapes
-returns-clause-shapes c n shape at = rw (c.join_members.ensures.shapes, c.push.ensures.shapes) (still_at c.args.plan.now.shapes _ shape n at)
+pub returns-clause-triggers : goal.returns-clause-triggers
+returns-clause-triggers c n trigger at = rw (c.join_members.ensures.triggers, c.push.ensures.triggers) (still_at c.args.blueprint.now.triggers _ trigger n at)
 
 pub returns-clause-feeders : goal.returns-clause-feeders
-returns-clause-feeders c gate early =
+returns-clause-feeders c valve early =
     let zones = c.args.zones.now.zones in
     let first = member_at zones c.find_group-group.result 0 c.member-first.result (omega (arith, c.if-group-eq0.false)) c.member-first.ensures in
     let members = members_of zones c.find_group-group.result in
@@ -200,11 +200,11 @@ returns-clause-feeders c gate early =
     let most = c.requires.room.1.1.few in
     let some = few_plain seats members in
     let few : plain_among seats members ≤ 2 ^ 31 = omega arith in
-    let links = c.join_members.ensures.links ∙ ap (λ (l : List Link). l ++ links_to c.len-gate.result (gates_of c.deref-4.result.now members))
-    c.push.ensures.links ∙ ap (λ (l : List Seat). c.args.plan.now.links ++ links_to c.len-gate.result (gates_of l members)) c.deref-4.ensures.value in
-    let shapes = c.join_members.ensures.shapes ∙ c.push.ensures.shapes ∙ ap (λ n. c.args.plan.now.shapes ++ group_shape n ∷ []) plains in
-    let gate_is = c.len-gate.ensures in
-    rw links (feeders_now seats c.args.plan.now.shapes c.args.plan.now.links c.len-gate.result members c.requires.below c.requires.within gate_is gate early)
+    let links = c.join_members.ensures.links ∙ ap (λ (l : List Feeding). l ++ links_to c.len-valve.result (valves_of c.deref-4.result.now members))
+    c.push.ensures.links ∙ ap (λ (l : List Seat). c.args.blueprint.now.links ++ links_to c.len-valve.result (valves_of l members)) c.deref-4.ensures.value in
+    let triggers = c.join_members.ensures.triggers ∙ c.push.ensures.triggers ∙ ap (λ n. c.args.blueprint.now.triggers ++ group_trigger n ∷ []) plains in
+    let valve_is = c.len-valve.ensures in
+    rw links (feeders_now seats c.args.blueprint.now.triggers c.args.blueprint.now.links c.len-valve.result members c.requires.below c.requires.within valve_is valve early)
 
 pub returns-clause-within : goal.returns-clause-within
 returns-clause-within c =
@@ -227,14 +227,14 @@ returns-clause-within c =
     let most = c.requires.room.1.1.few in
     let some = few_plain seats members in
     let few : plain_among seats members ≤ 2 ^ 31 = omega arith in
-    let links = c.join_members.ensures.links ∙ ap (λ (l : List Link). l ++ links_to c.len-gate.result (gates_of c.deref-4.result.now members))
-    c.push.ensures.links ∙ ap (λ (l : List Seat). c.args.plan.now.links ++ links_to c.len-gate.result (gates_of l members)) c.deref-4.ensures.value in
-    let shapes = c.join_members.ensures.shapes ∙ c.push.ensures.shapes ∙ ap (λ n. c.args.plan.now.shapes ++ group_shape n ∷ []) plains in
-    let gate_is = c.len-gate.ensures in
-    rw (shapes, links) (within_now seats c.args.plan.now.shapes c.args.plan.now.links c.len-gate.result members c.requires.below c.requires.within gate_is)
+    let links = c.join_members.ensures.links ∙ ap (λ (l : List Feeding). l ++ links_to c.len-valve.result (valves_of c.deref-4.result.now members))
+    c.push.ensures.links ∙ ap (λ (l : List Seat). c.args.blueprint.now.links ++ links_to c.len-valve.result (valves_of l members)) c.deref-4.ensures.value in
+    let triggers = c.join_members.ensures.triggers ∙ c.push.ensures.triggers ∙ ap (λ n. c.args.blueprint.now.triggers ++ group_trigger n ∷ []) plains in
+    let valve_is = c.len-valve.ensures in
+    rw (triggers, links) (within_now seats c.args.blueprint.now.triggers c.args.blueprint.now.links c.len-valve.result members c.requires.below c.requires.within valve_is)
 
-pub overflow_cast-shape : goal.overflow_cast-shape
-overflow_cast-shape c =
+pub overflow_cast-trigger : goal.overflow_cast-trigger
+overflow_cast-trigger c =
     let zones = c.args.zones.now.zones in
     let first = member_at zones c.find_group-group.result 0 c.member-first.result (omega (arith, c.if-group-eq0.false)) c.member-first.ensures in
     let members = members_of zones c.find_group-group.result in
@@ -256,8 +256,8 @@ overflow_cast-shape c =
     let few : plain_among seats members ≤ 2 ^ 31 = omega arith in
     omega arith
 
-pub overflow_cast-gate : goal.overflow_cast-gate
-overflow_cast-gate c =
+pub overflow_cast-valve : goal.overflow_cast-valve
+overflow_cast-valve c =
     let zones = c.args.zones.now.zones in
     let first = member_at zones c.find_group-group.result 0 c.member-first.result (omega (arith, c.if-group-eq0.false)) c.member-first.ensures in
     let members = members_of zones c.find_group-group.result in
@@ -278,10 +278,10 @@ overflow_cast-gate c =
     let some = few_plain seats members in
     let few : plain_among seats members ≤ 2 ^ 31 = omega arith in
     let own = members_own zones c.find_group-group.result c.well_formed-2.ensures in
-    let early = gate_early zones c.well_formed-2.ensures c.slots_apart.ensures c.requires.room.0 c.requires.room.1.0 seats c.args.plan.now
-    c.requires.room.1.1 (length c.args.plan.now.shapes) c.args.set.zone c.in-Some-target.target.0 c.in-Some-target.target.1 members c.requires.below
+    let early = valve_early zones c.well_formed-2.ensures c.slots_apart.ensures c.requires.room.0 c.requires.room.1.0 seats c.args.blueprint.now
+    c.requires.room.1.1 (length c.args.blueprint.now.triggers) c.args.set.zone c.in-Some-target.target.0 c.in-Some-target.target.1 members c.requires.below
     c.requires.within refl are first.p in_one within empty own few in
-    let gate = c.len-gate.ensures in
+    let valve = c.len-valve.ensures in
     omega arith
 
 pub push-requires : goal.push-requires
@@ -306,10 +306,10 @@ push-requires c =
     let some = few_plain seats members in
     let few : plain_among seats members ≤ 2 ^ 31 = omega arith in
     let own = members_own zones c.find_group-group.result c.well_formed-2.ensures in
-    let early = gate_early zones c.well_formed-2.ensures c.slots_apart.ensures c.requires.room.0 c.requires.room.1.0 seats c.args.plan.now
-    c.requires.room.1.1 (length c.args.plan.now.shapes) c.args.set.zone c.in-Some-target.target.0 c.in-Some-target.target.1 members c.requires.below
+    let early = valve_early zones c.well_formed-2.ensures c.slots_apart.ensures c.requires.room.0 c.requires.room.1.0 seats c.args.blueprint.now
+    c.requires.room.1.1 (length c.args.blueprint.now.triggers) c.args.set.zone c.in-Some-target.target.0 c.in-Some-target.target.1 members c.requires.below
     c.requires.within refl are first.p in_one within empty own few in
-    let room = c.requires.room.1.1.gates_room in
+    let room = c.requires.room.1.1.valves_room in
     omega arith
 
 pub join_members-requires-clause-room : goal.join_members-requires-clause-room
@@ -334,15 +334,15 @@ join_members-requires-clause-room c =
     let some = few_plain seats members in
     let few : plain_among seats members ≤ 2 ^ 31 = omega arith in
     let own = members_own zones c.find_group-group.result c.well_formed-2.ensures in
-    let fit = links_fit zones c.well_formed-2.ensures c.slots_apart.ensures c.requires.room.0 c.requires.room.1.0 seats c.args.plan.now
-    c.requires.room.1.1 (length c.args.plan.now.shapes) c.args.set.zone c.in-Some-target.target.0 c.in-Some-target.target.1 members c.requires.below
+    let fit = links_fit zones c.well_formed-2.ensures c.slots_apart.ensures c.requires.room.0 c.requires.room.1.0 seats c.args.blueprint.now
+    c.requires.room.1.1 (length c.args.blueprint.now.triggers) c.args.set.zone c.in-Some-target.target.0 c.in-Some-target.target.1 members c.requires.below
     c.requires.within refl are first.p in_one within empty own few in
-    let same = ap (λ (l : List Seat). length (gates_of l members)) c.deref-4.ensures.value in
+    let same = ap (λ (l : List Seat). length (valves_of l members)) c.deref-4.ensures.value in
     let room = c.push.ensures.links_room in
     omega arith
 
-pub overflow_add-gate : goal.overflow_add-gate
-overflow_add-gate c =
+pub overflow_add-valve : goal.overflow_add-valve
+overflow_add-valve c =
     let zones = c.args.zones.now.zones in
     let first = member_at zones c.find_group-group.result 0 c.member-first.result (omega (arith, c.if-group-eq0.false)) c.member-first.ensures in
     let members = members_of zones c.find_group-group.result in
@@ -363,8 +363,8 @@ overflow_add-gate c =
     let some = few_plain seats members in
     let few : plain_among seats members ≤ 2 ^ 31 = omega arith in
     let own = members_own zones c.find_group-group.result c.well_formed-2.ensures in
-    let early = gate_early zones c.well_formed-2.ensures c.slots_apart.ensures c.requires.room.0 c.requires.room.1.0 seats c.args.plan.now
-    c.requires.room.1.1 (length c.args.plan.now.shapes) c.args.set.zone c.in-Some-target.target.0 c.in-Some-target.target.1 members c.requires.below
+    let early = valve_early zones c.well_formed-2.ensures c.slots_apart.ensures c.requires.room.0 c.requires.room.1.0 seats c.args.blueprint.now
+    c.requires.room.1.1 (length c.args.blueprint.now.triggers) c.args.set.zone c.in-Some-target.target.0 c.in-Some-target.target.1 members c.requires.below
     c.requires.within refl are first.p in_one within empty own few in
-    let gate = c.len-gate.ensures in
+    let valve = c.len-valve.ensures in
     omega arith

@@ -1,13 +1,13 @@
 use Rattle.std.proofs.Common.{◌≡◌, ◌+◌, ◌++◌, [], List, length, length-append, arith, ap, sym, ◌∙◌, take, append_assoc}
-use Rattle.health_gates.specs.declared.plan.Link.{Link}
+use Rattle.health_valves.specs.declared.blueprint.Feeding.{Feeding}
 use Rattle.policy_select.proofs.Noted.{few_members}
 use Rattle.policy_select.specs.Groups.{members_of}
 use Rattle.std.proofs.lemmas.List.{take_all}
 use Rattle.zone_model.proofs.Lists.{take_more}
 use Rattle.health_planning.specs.Building.{links_to}
-use Rattle.health_planning.specs.Wired.{gates_of, seat_of, with_gate}
-use Rattle.health_planning.proofs.Few.{gates_some, links_long}
-use Rattle.health_planning.proofs.Groups.{gates_more, links_more, member_at}
+use Rattle.health_planning.specs.Wired.{valves_of, seat_of, with_valve}
+use Rattle.health_planning.proofs.Few.{valves_some, links_long}
+use Rattle.health_planning.proofs.Groups.{valves_more, links_more, member_at}
 use Rattle.health_planning.proofs.ListedOnce.{slot_below}
 use Rattle.health_planning.proofs.grouping.join_members.Goals as goal
 
@@ -27,22 +27,22 @@ loop-i-preserved c =
     let m = member_at c.args.zones.now.zones c.args.group c.loop-i.i c.member.result c.loop-i-test.true c.member.ensures in
     let more = take_more members c.loop-i.i m.p m.at in
     let seat = c.seat_at-seat.ensures.set ∙ ap (seat_of seats) (sym m.slot) in
-    let gates = ap (gates_of seats) more ∙ gates_more seats (take c.loop-i.i members) m.p in
-    let all = ap (links_to c.args.gate) gates ∙ links_more c.args.gate (gates_of seats (take c.loop-i.i members)) (with_gate (seat_of seats m.p.slot) []) in
+    let valves = ap (valves_of seats) more ∙ valves_more seats (take c.loop-i.i members) m.p in
+    let all = ap (links_to c.args.valve) valves ∙ links_more c.args.valve (valves_of seats (take c.loop-i.i members)) (with_valve (seat_of seats m.p.slot) []) in
     record {
       within = omega (arith, c.loop-i-test.true);
-      shapes = o.shapes ∙ i.shapes;
+      triggers = o.triggers ∙ i.triggers;
       kept =
-          let gates_kept = i.kept.gates in
-          let more = o.kept.gates in
+          let valves_kept = i.kept.valves in
+          let more = o.kept.valves in
           let links_kept = i.kept.links in
           let more_links = o.kept.links in
-          record { gates = omega arith; links = omega arith };
-      links = o.links ∙ ap (λ (l : List Link). l ++ links_to c.args.gate (with_gate c.seat_at-seat.result.set [])) i.links
-          ∙ append_assoc c.args.plan.now.links (links_to c.args.gate (gates_of seats (take c.loop-i.i members)))
-          (links_to c.args.gate (with_gate c.seat_at-seat.result.set []))
-          ∙ ap (λ n. c.args.plan.now.links ++ (links_to c.args.gate (gates_of seats (take c.loop-i.i members)) ++ links_to c.args.gate (with_gate n []))) seat
-          ∙ ap (λ (l : List Link). c.args.plan.now.links ++ l) (sym all);
+          record { valves = omega arith; links = omega arith };
+      links = o.links ∙ ap (λ (l : List Feeding). l ++ links_to c.args.valve (with_valve c.seat_at-seat.result.set [])) i.links
+          ∙ append_assoc c.args.blueprint.now.links (links_to c.args.valve (valves_of seats (take c.loop-i.i members)))
+          (links_to c.args.valve (with_valve c.seat_at-seat.result.set []))
+          ∙ ap (λ n. c.args.blueprint.now.links ++ (links_to c.args.valve (valves_of seats (take c.loop-i.i members)) ++ links_to c.args.valve (with_valve n []))) seat
+          ∙ ap (λ (l : List Feeding). c.args.blueprint.now.links ++ l) (sym all);
     }
 
 pub returns-clause-links : goal.returns-clause-links
@@ -51,7 +51,7 @@ returns-clause-links c =
     let long = few_members c.args.zones.now.zones c.args.group in
     let end = c.loop-i-test.false in
     let all : take c.loop-i.i members ≡ members = take_all c.loop-i.i members (omega arith) in
-    c.loop-i.invariant.links ∙ ap (λ l. c.args.plan.now.links ++ links_to c.args.gate (gates_of c.args.seats.now l)) all
+    c.loop-i.invariant.links ∙ ap (λ l. c.args.blueprint.now.links ++ links_to c.args.valve (valves_of c.args.seats.now l)) all
 
 pub join_seat-requires : goal.join_seat-requires
 join_seat-requires c =
@@ -61,12 +61,12 @@ join_seat-requires c =
     let m = member_at c.args.zones.now.zones c.args.group c.loop-i.i c.member.result c.loop-i-test.true c.member.ensures in
     let more = take_more members c.loop-i.i m.p m.at in
     let seat = c.seat_at-seat.ensures.set ∙ ap (seat_of seats) (sym m.slot) in
-    let its = ap (λ n. length (with_gate n [])) seat in
-    let gates = ap (λ l. length (gates_of seats l)) more ∙ ap length (gates_more seats (take c.loop-i.i members) m.p)
-    ∙ length-append (gates_of seats (take c.loop-i.i members)) (with_gate (seat_of seats m.p.slot) []) in
-    let links = ap length i.links ∙ length-append c.args.plan.now.links (links_to c.args.gate (gates_of seats (take c.loop-i.i members))) in
-    let long = links_long c.args.gate (gates_of seats (take c.loop-i.i members)) in
-    let some = gates_some seats (c.loop-i.i + 1) members in
+    let its = ap (λ n. length (with_valve n [])) seat in
+    let valves = ap (λ l. length (valves_of seats l)) more ∙ ap length (valves_more seats (take c.loop-i.i members) m.p)
+    ∙ length-append (valves_of seats (take c.loop-i.i members)) (with_valve (seat_of seats m.p.slot) []) in
+    let links = ap length i.links ∙ length-append c.args.blueprint.now.links (links_to c.args.valve (valves_of seats (take c.loop-i.i members))) in
+    let long = links_long c.args.valve (valves_of seats (take c.loop-i.i members)) in
+    let some = valves_some seats (c.loop-i.i + 1) members in
     let kept = i.kept.links in
     let room = c.requires.room in
     omega arith

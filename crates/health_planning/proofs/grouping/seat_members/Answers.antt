@@ -5,7 +5,7 @@ use Rattle.std.proofs.lemmas.Option.{slice_get_within}
 use Rattle.policy_select.proofs.Noted.{few_members}
 use Rattle.policy_select.specs.Groups.{members_of}
 use Rattle.zone_model.proofs.Among.{among_at, place_of}
-use Rattle.zone_model.specs.Placed.{Placed}
+use Rattle.zone_model.specs.Slotted.{Slotted}
 use Rattle.health_planning.specs.Wired.{group_seat}
 use Rattle.health_planning.specs.declared.seats.Seat.{Seat}
 use Rattle.health_planning.proofs.Groups.{member_at}
@@ -17,7 +17,7 @@ some_same e = cc
 
 pub loop-i-init : goal.loop-i-init
 loop-i-init c = record {
-  sets = record { gates = λ slot. refl; checks = λ slot. refl };
+  sets = record { valves = λ slot. refl; checks = λ slot. refl };
   size = refl;
   each = λ k p early at. absurd (omega arith);
   others = λ slot none. refl;
@@ -61,21 +61,21 @@ loop-i-preserved c =
     let m = member_at c.args.zones.now.zones c.args.group c.loop-i.i c.member-set.result c.loop-i-test.true c.member-set.ensures in
     record {
       sets = record {
-        gates = λ slot. o.sets.gates slot ∙ i.sets.gates slot;
+        valves = λ slot. o.sets.valves slot ∙ i.sets.valves slot;
         checks = λ slot. o.sets.checks slot ∙ i.sets.checks slot;
       };
       size = o.size ∙ i.size;
       each = λ k p early at. elim (cases_eq p.slot c.member-set.result.slot) [
         | inl same ↦ ap (group_seat c.seat_one.new.seats.items) same ∙ o.here
         | inr apart ↦ o.others p.slot apart ∙ i.each k p (elim (cases_eq k c.loop-i.i) [
-          | inl last ↦ absurd (apart (ap (λ (q : Placed). q.slot) (some_same (sym at ∙ ap (slice_get members) last ∙ m.at)) ∙ m.slot))
+          | inl last ↦ absurd (apart (ap (λ (q : Slotted). q.slot) (some_same (sym at ∙ ap (slice_get members) last ∙ m.at)) ∙ m.slot))
           | inr other ↦ omega arith
         ]) at
       ];
       others = λ slot none.
           o.others slot (λ e. none (m.p, among_at members c.loop-i.i m.p m.at, m.slot ∙ sym e)) ∙ i.others slot none;
       noted =
-          let some = c.requires.gate in
+          let some = c.requires.valve in
           let here = o.here in
           c.note_one.ensures.noted c.seat_one.new.seats.items (λ none. omega arith)
           (λ other apart. o.others other apart ∙ ap (λ (l : List Seat). group_seat l other) (sym c.deref.ensures.value));

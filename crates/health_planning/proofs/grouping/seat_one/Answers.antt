@@ -11,8 +11,8 @@ returns c =
     let set_is = c.seat_at-seat.ensures.set ∙ ap (λ (l : List Seat). seat_of l slot) c.deref.ensures.value in
     let check_is = c.seat_at-seat.ensures.check ∙ ap (λ (l : List Seat). check_seat l slot) c.deref.ensures.value in
     rw (set_is, check_is) (record {
-      sets = same_sets seats slot c.args.gate c.requires;
-      size = length-set seats slot (its_seat seats slot c.args.gate c.requires);
-      here = seat_now seats slot c.args.gate c.requires;
-      others = group_beside seats slot c.args.gate c.requires;
+      sets = same_sets seats slot c.args.valve c.requires;
+      size = length-set seats slot (its_seat seats slot c.args.valve c.requires);
+      here = seat_now seats slot c.args.valve c.requires;
+      others = group_beside seats slot c.args.valve c.requires;
     })

@@ -1,8 +1,8 @@
 use Rattle.std.proofs.Common.{◌++◌, [], List, ℕ, Option, map, append_assoc, ap, refl, sym, ◌∙◌, append-nil, Some, ◌≡◌}
 use Rattle.std.specs.Option.{option_to_list}
-use Rattle.health_gates.specs.declared.plan.Link.{Link}
+use Rattle.health_valves.specs.declared.blueprint.Feeding.{Feeding}
 use Rattle.health_planning.specs.Building.{links_to}
-use Rattle.health_planning.specs.Wired.{place_of, with_gate}
+use Rattle.health_planning.specs.Wired.{place_of, with_valve}
 use Rattle.health_planning.proofs.Groups.{alone_told, links_more}
 use Rattle.health_planning.proofs.Joined.{no_target}
 use Rattle.health_planning.proofs.joining.join_set.Goals as goal
@@ -24,8 +24,8 @@ returns-then-only-ne0-clause-links c named names =
       (
         ([], (no_target c.args.zones.now.zones c.args.seats.now c.args.set.zone named.rtype named.body alone.0, refl)),
         c.join_check.ensures.links
-            ∙ ap (λ (o : Option ℕ). c.args.plan.now.links ++ links_to c.args.gate (map (place_of c.args.ids.now) (option_to_list o))) (sym its)
-            ∙ ap (λ (l : List ℕ). c.args.plan.now.links ++ links_to c.args.gate l) (sym (append-nil checks)),
+            ∙ ap (λ (o : Option ℕ). c.args.blueprint.now.links ++ links_to c.args.valve (map (place_of c.args.ids.now) (option_to_list o))) (sym its)
+            ∙ ap (λ (l : List ℕ). c.args.blueprint.now.links ++ links_to c.args.valve l) (sym (append-nil checks)),
       ),
     )
 
@@ -36,17 +36,17 @@ join_check-requires-2-clause-there c id is =
 
 pub returns-clause-links : goal.returns-clause-links
 returns-clause-links c named names =
-    let target = with_gate c.target_seat-target.result [] in
+    let target = with_valve c.target_seat-target.result [] in
     let checks = map (place_of c.args.ids.now) (option_to_list named.check) in
     let check = c.check_of.ensures named names in
-    let first = c.join_check-2.ensures.links ∙ ap (λ (o : Option ℕ). c.args.plan.now.links ++ links_to c.args.gate
+    let first = c.join_check-2.ensures.links ∙ ap (λ (o : Option ℕ). c.args.blueprint.now.links ++ links_to c.args.valve
     (map (place_of c.args.ids.now) (option_to_list o))) check in (
       checks ++ target,
       (
         (target, (c.target_seat-target.ensures named names, refl)),
         c.join_seat.ensures.links
-            ∙ ap (λ (l : List Link). l ++ links_to c.args.gate target) first
-            ∙ append_assoc c.args.plan.now.links (links_to c.args.gate checks) (links_to c.args.gate target)
-            ∙ ap (λ (l : List Link). c.args.plan.now.links ++ l) (sym (links_more c.args.gate checks target)),
+            ∙ ap (λ (l : List Feeding). l ++ links_to c.args.valve target) first
+            ∙ append_assoc c.args.blueprint.now.links (links_to c.args.valve checks) (links_to c.args.valve target)
+            ∙ ap (λ (l : List Feeding). c.args.blueprint.now.links ++ l) (sym (links_more c.args.valve checks target)),
       ),
     )

@@ -3,10 +3,10 @@ use Rattle.std.specs.Prelude.{slice_get}
 use Rattle.std.proofs.lemmas.Bool.{cases_lt}
 use Rattle.std.proofs.lemmas.Option.{slice_get-get_or, slice_get_within}
 use mathlib.Core.Path.{subst}
-use Rattle.health_gates.specs.Plan.{feeders_in}
-use Rattle.health_gates.specs.declared.plan.Link.{Link}
+use Rattle.health_valves.specs.Blueprint.{feeders_in}
+use Rattle.health_valves.specs.declared.blueprint.Feeding.{Feeding}
 use Rattle.policy_select.specs.SetRefRecord.{SetRef}
-use Rattle.policy_select.specs.Looking.{Names}
+use Rattle.policy_select.specs.Looking.{RefersTo}
 use Rattle.health_planning.specs.Building.{FeedsSet, links_to}
 use Rattle.health_planning.proofs.Feeding.{fed_beside, fed_here, set_within}
 use Rattle.health_planning.proofs.Grouped.{to_within, within_more}
@@ -35,17 +35,17 @@ loop-k-preserved c =
     let here = slice_get-get_or c.args.refs.now c.loop-k.k (record { zone = 0; slot = 0 }) c.loop-k-test.true in
     let one = c.requires.named c.loop-k.k _ here in
     let joins = c.join_set.ensures.links one.0 one.1 in
-    let gate = length ids + c.loop-k.k in
-    let before = c.loop-k.plan.links in
+    let valve = length ids + c.loop-k.k in
+    let before = c.loop-k.blueprint.links in
     record {
       within_refs = omega (arith, c.loop-k-test.true);
-      shapes = c.join_set.ensures.shapes ∙ i.shapes;
+      triggers = c.join_set.ensures.triggers ∙ i.triggers;
       kept =
-          let gates = i.kept.gates in
-          let more_gates = c.join_set.ensures.kept.gates in
+          let valves = i.kept.valves in
+          let more_valves = c.join_set.ensures.kept.valves in
           let links = i.kept.links in
           let more_links = c.join_set.ensures.kept.links in
-          record { gates = omega arith; links = omega arith };
+          record { valves = omega arith; links = omega arith };
       few =
           let few = i.few in
           let more = c.join_set.ensures.few in
@@ -53,28 +53,28 @@ loop-k-preserved c =
       joined = λ k set named early at names none. elim (cases_lt k c.loop-k.k) [
         | inl past ↦
             subst (FeedsSet zones ids seats set.zone named)
-            (sym (ap (λ (l : List Link). feeders_in l (length ids + k)) joins.1.1 ∙ fed_beside before gate (length ids + k) joins.0 (λ e. omega arith)))
+            (sym (ap (λ (l : List Feeding). feeders_in l (length ids + k)) joins.1.1 ∙ fed_beside before valve (length ids + k) joins.0 (λ e. omega arith)))
             (i.joined k set named past at names none)
         | inr now ↦
             let k_is : k ≡ c.loop-k.k = omega arith in
             let set_is = some_same (sym here ∙ ap (slice_get c.args.refs.now) (sym k_is) ∙ at) in
-            let names_here = subst (λ (s : SetRef). Names zones s named) (sym set_is) names in
+            let names_here = subst (λ (s : SetRef). RefersTo zones s named) (sym set_is) names in
             let its = c.join_set.ensures.links named names_here in
-            let none_yet = i.others gate (inr (omega arith)) ∙ ap (λ (n : ℕ). feeders_in c.args.plan.now.links (length ids + n)) (sym k_is) ∙ none in
-            subst (λ (s : SetRef). FeedsSet zones ids seats s.zone named (feeders_in c.join_set.new.plan.links (length ids + k))) set_is
+            let none_yet = i.others valve (inr (omega arith)) ∙ ap (λ (n : ℕ). feeders_in c.args.blueprint.now.links (length ids + n)) (sym k_is) ∙ none in
+            subst (λ (s : SetRef). FeedsSet zones ids seats s.zone named (feeders_in c.join_set.new.blueprint.links (length ids + k))) set_is
             (subst (FeedsSet zones ids seats _ named)
-            (sym (ap (λ (l : List Link). feeders_in l (length ids + k)) its.1.1
-            ∙ ap (λ (n : ℕ). feeders_in (before ++ links_to gate its.0) (length ids + n)) k_is
-            ∙ fed_here before gate its.0 none_yet)) its.1.0)
+            (sym (ap (λ (l : List Feeding). feeders_in l (length ids + k)) its.1.1
+            ∙ ap (λ (n : ℕ). feeders_in (before ++ links_to valve its.0) (length ids + n)) k_is
+            ∙ fed_here before valve its.0 none_yet)) its.1.0)
       ];
       others = λ g apart.
-          ap (λ (l : List Link). feeders_in l g) joins.1.1
-          ∙ fed_beside before gate g joins.0 (λ e. elim apart [ inl low ↦ omega arith | inr high ↦ omega arith ])
+          ap (λ (l : List Feeding). feeders_in l g) joins.1.1
+          ∙ fed_beside before valve g joins.0 (λ e. elim apart [ inl low ↦ omega arith | inr high ↦ omega arith ])
           ∙ i.others g (elim apart [ inl low ↦ inl low | inr high ↦ inr (omega arith) ]);
       within = λ n fits groups start.
           let early = c.loop-k-test.true in
-          rw joins.1.1 (within_more before (links_to gate joins.0) n (i.within n fits groups start)
-          (to_within gate n joins.0 (omega arith)
+          rw joins.1.1 (within_more before (links_to valve joins.0) n (i.within n fits groups start)
+          (to_within valve n joins.0 (omega arith)
           (set_within zones ids seats n (omega arith) groups _ one.0 joins.0 joins.1.0 (λ id is. c.requires.there _ one.0 id one.1 is))));
     }
 

@@ -31,15 +31,15 @@ loop-i-preserved c =
       ready = (i.ready.0, o.listed i.ready.0 i.ready.1);
       listed = λ first are. o.listed first (i.listed first are);
       goes_on = λ ref listed. o.goes_on ref (i.goes_on ref listed);
-      shapes = λ n shape at. o.shapes n shape (i.shapes n shape at);
+      triggers = λ n trigger at. o.triggers n trigger (i.triggers n trigger at);
       links = o.links ∙ i.links;
       room = o.room;
       kept =
-          let gates = i.kept.gates in
-          let more = o.kept.gates in
+          let valves = i.kept.valves in
+          let more = o.kept.valves in
           let links = i.kept.links in
           let more_links = o.kept.links in
-          record { gates = omega arith; links = omega arith };
+          record { valves = omega arith; links = omega arith };
       all = λ k p before at watched. elim (cases_lt k c.loop-i.i) [
         | inl early ↦ o.goes_on (ref_in c.args.zone p) (i.all k p early at watched)
         | inr late ↦

@@ -16,7 +16,7 @@ returns-then-not-is_watched-clause-here c named names watched =
 
 pub returns-then-index-ne0-clause-here : goal.returns-then-index-ne0-clause-here
 returns-then-index-ne0-clause-here c named names watched =
-    listed_already c.args.zones.now.zones c.requires.listed.0 c.args.refs.now.items c.args.seats.now.items c.args.plan.now.shapes c.args.set named
+    listed_already c.args.zones.now.zones c.requires.listed.0 c.args.refs.now.items c.args.seats.now.items c.args.blueprint.now.triggers c.args.set named
     c.requires.listed.1 c.slots_apart.ensures names
     (λ e. c.if-index-ne0.true (seat_is c.args.seats.now.items c.args.set.slot c.index.result.now c.requires.slot c.index.ensures ∙ e))
 
@@ -25,11 +25,11 @@ returns-clause-listed c first are =
     let w = subst (Watches c.args.zones.now.zones c.args.set) c.in-Some.is c.watch.ensures in
     let empty = sym (seat_is c.args.seats.now.items c.args.set.slot c.index.result.now c.requires.slot c.index.ensures) ∙ c.if-index-ne0.false in
     let watched = sym (c.is_watched.ensures w.0 w.2) ∙ c.if-not-is_watched.false in
-    let shape = c.shape_of.ensures w.0 w.2 in
+    let trigger = c.trigger_of.ensures w.0 w.2 in
     let check = c.only_check.ensures w.0 w.2 in
-    rw (c.push_reserved.ensures.items, c.push.ensures.shapes, shape, check)
-    (listed_more c.args.zones.now.zones first c.args.refs.now.items c.args.seats.now.items c.args.plan.now.shapes c.args.set w.0 c.len-gate.result
-    are w.1 watched c.requires.slot empty c.len-gate.ensures)
+    rw (c.push_reserved.ensures.items, c.push.ensures.triggers, trigger, check)
+    (listed_more c.args.zones.now.zones first c.args.refs.now.items c.args.seats.now.items c.args.blueprint.now.triggers c.args.set w.0 c.len-valve.result
+    are w.1 watched c.requires.slot empty c.len-valve.ensures)
 
 pub returns-clause-goes_on : goal.returns-clause-goes_on
 returns-clause-goes_on c ref at = (at.0, rw c.push_reserved.ensures.items (still_at c.args.refs.now.items c.args.set ref at.0 at.1))
@@ -41,18 +41,18 @@ returns-clause-here c named names watched = (
       (last_at c.args.refs.now.items c.args.set (length c.args.refs.now.items) refl),
 )
 
-pub returns-clause-shapes : goal.returns-clause-shapes
-returns-clause-shapes c n shape at = rw c.push.ensures.shapes (still_at c.args.plan.now.shapes c.shape_of.result shape n at)
+pub returns-clause-triggers : goal.returns-clause-triggers
+returns-clause-triggers c n trigger at = rw c.push.ensures.triggers (still_at c.args.blueprint.now.triggers c.trigger_of.result trigger n at)
 
-pub overflow_cast-gate : goal.overflow_cast-gate
-overflow_cast-gate c =
+pub overflow_cast-valve : goal.overflow_cast-valve
+overflow_cast-valve c =
     let w = subst (Watches c.args.zones.now.zones c.args.set) c.in-Some.is c.watch.ensures in
     let empty = sym (seat_is c.args.seats.now.items c.args.set.slot c.index.result.now c.requires.slot c.index.ensures) ∙ c.if-index-ne0.false in
     let watched = sym (c.is_watched.ensures w.0 w.2) ∙ c.if-not-is_watched.false in
-    let more = one_more c.args.zones.now.zones c.requires.listed.0 c.args.refs.now.items c.args.seats.now.items c.args.plan.now.shapes c.args.set w.0
+    let more = one_more c.args.zones.now.zones c.requires.listed.0 c.args.refs.now.items c.args.seats.now.items c.args.blueprint.now.triggers c.args.set w.0
     c.requires.listed.1 w.1 watched c.requires.slot empty in
     let few = c.requires.room.few in
-    let gate = c.len-gate.ensures in
+    let valve = c.len-valve.ensures in
     omega arith
 
 pub push-requires : goal.push-requires
@@ -60,9 +60,9 @@ push-requires c =
     let w = subst (Watches c.args.zones.now.zones c.args.set) c.in-Some.is c.watch.ensures in
     let empty = sym (seat_is c.args.seats.now.items c.args.set.slot c.index.result.now c.requires.slot c.index.ensures) ∙ c.if-index-ne0.false in
     let watched = sym (c.is_watched.ensures w.0 w.2) ∙ c.if-not-is_watched.false in
-    let more = one_more c.args.zones.now.zones c.requires.listed.0 c.args.refs.now.items c.args.seats.now.items c.args.plan.now.shapes c.args.set w.0
+    let more = one_more c.args.zones.now.zones c.requires.listed.0 c.args.refs.now.items c.args.seats.now.items c.args.blueprint.now.triggers c.args.set w.0
     c.requires.listed.1 w.1 watched c.requires.slot empty in
-    let room = c.requires.room.gates in
+    let room = c.requires.room.valves in
     omega arith
 
 pub push_reserved-requires : goal.push_reserved-requires
@@ -70,25 +70,25 @@ push_reserved-requires c =
     let w = subst (Watches c.args.zones.now.zones c.args.set) c.in-Some.is c.watch.ensures in
     let empty = sym (seat_is c.args.seats.now.items c.args.set.slot c.index.result.now c.requires.slot c.index.ensures) ∙ c.if-index-ne0.false in
     let watched = sym (c.is_watched.ensures w.0 w.2) ∙ c.if-not-is_watched.false in
-    let more = one_more c.args.zones.now.zones c.requires.listed.0 c.args.refs.now.items c.args.seats.now.items c.args.plan.now.shapes c.args.set w.0
+    let more = one_more c.args.zones.now.zones c.requires.listed.0 c.args.refs.now.items c.args.seats.now.items c.args.blueprint.now.triggers c.args.set w.0
     c.requires.listed.1 w.1 watched c.requires.slot empty in
     let room = c.requires.room.refs_room in
     let len = c.args.refs.now.ok.0 in
     omega arith
 
-pub overflow_add-gate : goal.overflow_add-gate
-overflow_add-gate c =
+pub overflow_add-valve : goal.overflow_add-valve
+overflow_add-valve c =
     let w = subst (Watches c.args.zones.now.zones c.args.set) c.in-Some.is c.watch.ensures in
     let empty = sym (seat_is c.args.seats.now.items c.args.set.slot c.index.result.now c.requires.slot c.index.ensures) ∙ c.if-index-ne0.false in
     let watched = sym (c.is_watched.ensures w.0 w.2) ∙ c.if-not-is_watched.false in
-    let more = one_more c.args.zones.now.zones c.requires.listed.0 c.args.refs.now.items c.args.seats.now.items c.args.plan.now.shapes c.args.set w.0
+    let more = one_more c.args.zones.now.zones c.requires.listed.0 c.args.refs.now.items c.args.seats.now.items c.args.blueprint.now.triggers c.args.set w.0
     c.requires.listed.1 w.1 watched c.requires.slot empty in
     let few = c.requires.room.few in
-    let gate = c.len-gate.ensures in
+    let valve = c.len-valve.ensures in
     omega arith
 
 pub returns-clause-room : goal.returns-clause-room
 returns-clause-room c =
-    room_listed c.args.plan.now c.push.new.self c.args.refs.now c.push_reserved.new.self c.args.seats.now.items _ c.args.set c.shape_of.result
-    c.requires.room (length-set c.args.seats.now.items c.args.set.slot _) c.push.ensures.shapes c.push.ensures.room c.push_reserved.ensures.items
+    room_listed c.args.blueprint.now c.push.new.self c.args.refs.now c.push_reserved.new.self c.args.seats.now.items _ c.args.set c.trigger_of.result
+    c.requires.room (length-set c.args.seats.now.items c.args.set.slot _) c.push.ensures.triggers c.push.ensures.room c.push_reserved.ensures.items
     c.push_reserved.ensures.capacity

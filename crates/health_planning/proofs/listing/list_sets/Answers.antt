@@ -14,10 +14,10 @@ loop-next-init c = record {
   ready = c.requires.listed;
   listed = λ first are. are;
   goes_on = λ ref listed. listed;
-  shapes = λ n shape at. at;
+  triggers = λ n trigger at. at;
   links = refl;
   room = c.requires.room;
-  kept = record { gates = refl; links = refl };
+  kept = record { valves = refl; links = refl };
   all = λ id p to here watched.
       let z = its_zone c.args.zones.now.zones id p here in
       let n = (in_all StandsAlone c.args.zones.now.zones z.0 c.well_formed-2.ensures.each z.1.0).numbered in
@@ -41,15 +41,15 @@ loop-next-preserved c =
       ready = (i.ready.0, o.listed i.ready.0 i.ready.1);
       listed = λ first are. o.listed first (i.listed first are);
       goes_on = λ ref listed. o.goes_on ref (i.goes_on ref listed);
-      shapes = λ n shape at. o.shapes n shape (i.shapes n shape at);
+      triggers = λ n trigger at. o.triggers n trigger (i.triggers n trigger at);
       links = o.links ∙ i.links;
       room = o.room;
       kept =
-          let gates = i.kept.gates in
-          let more = o.kept.gates in
+          let valves = i.kept.valves in
+          let more = o.kept.valves in
           let links = i.kept.links in
           let more_links = o.kept.links in
-          record { gates = omega arith; links = omega arith };
+          record { valves = omega arith; links = omega arith };
       all = λ id p to here watched. elim (cases_lt c.loop-next.zone id) [
         | inl past ↦
             let z = its_zone zones id p here in

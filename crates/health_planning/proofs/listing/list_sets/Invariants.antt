@@ -1,30 +1,30 @@
 use Rattle.std.proofs.Common.{◌≡◌, ◌≤◌, ◌-◌, ◌^◌, ℕ, true, length, Some}
 use Rattle.std.specs.Prelude.{slice_get}
-use Rattle.health_gates.specs.Plan.{KeepsRoom}
-use Rattle.health_gates.specs.declared.plan.Shape.{Shape}
-use Rattle.health_planning.specs.Building.{AreListed, IsListed}
+use Rattle.health_valves.specs.Blueprint.{KeepsRoom}
+use Rattle.health_valves.specs.declared.blueprint.Trigger.{Trigger}
+use Rattle.health_planning.specs.Building.{HaveOwnValves, IsListed}
 use Rattle.health_planning.specs.Rooms.{HasListRoom}
 use Rattle.health_planning.specs.Wired.{is_watched}
 use Rattle.policy_select.specs.Changes.{ref_in}
 use Rattle.policy_select.specs.Zones.{placed_in}
 use Rattle.policy_select.specs.SetRefRecord.{SetRef}
-use Rattle.zone_model.specs.Placed.{IsHere, Placed}
+use Rattle.zone_model.specs.Slotted.{IsHere, Slotted}
 use Rattle.health_planning.proofs.listing.list_sets.Given as goal
 
 abbrev pub invariant-loop-next : goal.invariant-loop-next
 invariant-loop-next l = record {
   slots : length l.seats.items ≡ l.zones.slots;
-  ready : (first : ℕ) × AreListed l.zones.zones first l.refs.items l.seats.items l.plan.shapes;
+  ready : (first : ℕ) × HaveOwnValves l.zones.zones first l.refs.items l.seats.items l.blueprint.triggers;
   listed : (first : ℕ)
-      → AreListed l.zones.zones first l.fn.refs.items l.fn.seats.items l.fn.plan.shapes
-      → AreListed l.zones.zones first l.refs.items l.seats.items l.plan.shapes;
+      → HaveOwnValves l.zones.zones first l.fn.refs.items l.fn.seats.items l.fn.blueprint.triggers
+      → HaveOwnValves l.zones.zones first l.refs.items l.seats.items l.blueprint.triggers;
   goes_on : (ref : SetRef) → IsListed l.fn.refs.items ref → IsListed l.refs.items ref;
-  shapes : (n : ℕ) (shape : Shape) → slice_get l.fn.plan.shapes n ≡ Some shape
-      → slice_get l.plan.shapes n ≡ Some shape;
-  links : l.plan.links ≡ l.fn.plan.links;
-  room : HasListRoom l.plan l.refs l.seats.items;
-  kept : KeepsRoom l.fn.plan l.plan;
-  all : (id : ℕ) (p : Placed) → id ≤ l.zone → IsHere (placed_in l.zones.zones id) p
+  triggers : (n : ℕ) (trigger : Trigger) → slice_get l.fn.blueprint.triggers n ≡ Some trigger
+      → slice_get l.blueprint.triggers n ≡ Some trigger;
+  links : l.blueprint.links ≡ l.fn.blueprint.links;
+  room : HasListRoom l.blueprint l.refs l.seats.items;
+  kept : KeepsRoom l.fn.blueprint l.blueprint;
+  all : (id : ℕ) (p : Slotted) → id ≤ l.zone → IsHere (placed_in l.zones.zones id) p
       → is_watched p.set ≡ true → IsListed l.refs.items (ref_in id p);
 }
 

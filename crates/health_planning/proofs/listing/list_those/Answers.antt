@@ -3,7 +3,7 @@ use mathlib.Core.Path.{subst}
 use Rattle.std.proofs.lemmas.Bool.{cases_lt}
 use Rattle.std.proofs.lemmas.Option.{get_or_from_slice_get, slice_get_within}
 use Rattle.policy_select.specs.SetRefRecord.{SetRef}
-use Rattle.policy_select.specs.Looking.{Names}
+use Rattle.policy_select.specs.Looking.{RefersTo}
 use Rattle.health_planning.specs.Building.{IsListed}
 use Rattle.health_planning.proofs.listing.list_those.Goals as goal
 
@@ -18,22 +18,22 @@ loop-set-preserved c =
       ready = (i.ready.0, o.listed i.ready.0 i.ready.1);
       listed = λ first are. o.listed first (i.listed first are);
       goes_on = λ ref listed. o.goes_on ref (i.goes_on ref listed);
-      shapes = λ n shape at. o.shapes n shape (i.shapes n shape at);
+      triggers = λ n trigger at. o.triggers n trigger (i.triggers n trigger at);
       links = o.links ∙ i.links;
       room = o.room;
       kept =
-          let gates = i.kept.gates in
-          let more = o.kept.gates in
+          let valves = i.kept.valves in
+          let more = o.kept.valves in
           let links = i.kept.links in
           let more_links = o.kept.links in
-          record { gates = omega arith; links = omega arith };
+          record { valves = omega arith; links = omega arith };
       all = λ k set named before at names watched. elim (cases_lt k c.loop-set.set-index) [
         | inl early ↦ o.goes_on set (i.all k set named early at names watched)
         | inr late ↦
             let k_is : k ≡ c.loop-set.set-index = omega arith in
             let e = get_or_from_slice_get c.args.those.now c.loop-set.set-index set (record { zone = 0; slot = 0 }) (rw k_is at at) in
             subst (IsListed c.list_known.new.refs.items) e
-            (o.here named (subst (λ (s : SetRef). Names zones s named) (sym e) names) watched)
+            (o.here named (subst (λ (s : SetRef). RefersTo zones s named) (sym e) names) watched)
       ];
     }
 

@@ -1,14 +1,14 @@
 use Rattle.std.proofs.Common.{◌≡◌, ◌++◌, ℕ, List, length, length-append, arith, ap, sym, ◌∙◌}
 use mathlib.Core.Path.{subst}
-use Rattle.health_gates.specs.declared.plan.Link.{Link}
-use Rattle.health_gates.specs.declared.plan.Shape.{Shape}
+use Rattle.health_valves.specs.declared.blueprint.Feeding.{Feeding}
+use Rattle.health_valves.specs.declared.blueprint.Trigger.{Trigger}
 use Rattle.policy_select.specs.SetRefRecord.{SetRef}
-use Rattle.health_planning.specs.Building.{AreAsked, AreListed, IsSmallAt, check_links, check_shapes}
+use Rattle.health_planning.specs.Building.{AreAsked, HaveOwnValves, IsSmallAt, check_links, check_triggers}
 use Rattle.health_planning.specs.Rooms.{children_among}
 use Rattle.health_planning.specs.Wired.{check_seat, only_check}
 use Rattle.health_planning.specs.declared.seats.Seat.{Seat}
 use Rattle.policy_select.proofs.Members.{one_named}
-use Rattle.health_planning.proofs.Built.{checks_there, children_placed, is_built, links_early, listed_below, none_listed, shaped_at, small_at, targets_there}
+use Rattle.health_planning.proofs.Built.{checks_there, children_placed, is_built, links_early, listed_below, none_listed, triggered_at, small_at, targets_there}
 use Rattle.health_planning.proofs.Few.{check_links_long, children_few, few_grouped, few_listed}
 use Rattle.health_planning.proofs.Given.{all_given}
 use Rattle.health_planning.proofs.Grouped.{still_within}
@@ -33,29 +33,29 @@ join_sets-requires-clause-apart c =
 pub list_asked-requires-clause-listed : goal.list_asked-requires-clause-listed
 list_asked-requires-clause-listed c =
     let size = c.add_checks.ensures.size in
-    rw (c.requires.no_refs, c.join_checks.ensures.shapes) (
+    rw (c.requires.no_refs, c.join_checks.ensures.triggers) (
       length c.as_slice-list.result.now,
       none_listed c.args.zones.now.zones c.args.zones.now.slots c.args.seats.now.items c.requires.no_seats (length c.as_slice-list.result.now)
-          c.add_checks.new.plan.shapes size,
+          c.add_checks.new.blueprint.triggers size,
     )
 
 pub group_all-requires-clause-below : goal.group_all-requires-clause-below
 group_all-requires-clause-below c =
     let list = c.args.checks.now.checks.list in
     let size = c.add_checks.ensures.size ∙ ap length c.as_slice-list.ensures.checks in
-    let start : AreListed c.args.zones.now.zones (length list) c.args.refs.now.items c.args.seats.now.items c.join_checks.new.plan.shapes =
-    rw (c.requires.no_refs, c.join_checks.ensures.shapes)
-    (none_listed c.args.zones.now.zones c.args.zones.now.slots c.args.seats.now.items c.requires.no_seats (length list) c.add_checks.new.plan.shapes size) in
-    listed_below c.args.zones.now.zones (length list) c.list_asked.new.refs.items c.list_asked.new.seats.items c.list_asked.new.plan.shapes
+    let start : HaveOwnValves c.args.zones.now.zones (length list) c.args.refs.now.items c.args.seats.now.items c.join_checks.new.blueprint.triggers =
+    rw (c.requires.no_refs, c.join_checks.ensures.triggers)
+    (none_listed c.args.zones.now.zones c.args.zones.now.slots c.args.seats.now.items c.requires.no_seats (length list) c.add_checks.new.blueprint.triggers size) in
+    listed_below c.args.zones.now.zones (length list) c.list_asked.new.refs.items c.list_asked.new.seats.items c.list_asked.new.blueprint.triggers
     (c.list_asked.ensures.listed (length list) start)
 
 pub group_all-requires-clause-none : goal.group_all-requires-clause-none
 group_all-requires-clause-none c =
     let list = c.args.checks.now.checks.list in
     let size = c.add_checks.ensures.size ∙ ap length c.as_slice-list.ensures.checks in
-    let start : AreListed c.args.zones.now.zones (length list) c.args.refs.now.items c.args.seats.now.items c.join_checks.new.plan.shapes =
-    rw (c.requires.no_refs, c.join_checks.ensures.shapes)
-    (none_listed c.args.zones.now.zones c.args.zones.now.slots c.args.seats.now.items c.requires.no_seats (length list) c.add_checks.new.plan.shapes size) in
+    let start : HaveOwnValves c.args.zones.now.zones (length list) c.args.refs.now.items c.args.seats.now.items c.join_checks.new.blueprint.triggers =
+    rw (c.requires.no_refs, c.join_checks.ensures.triggers)
+    (none_listed c.args.zones.now.zones c.args.zones.now.slots c.args.seats.now.items c.requires.no_seats (length list) c.add_checks.new.blueprint.triggers size) in
     (c.list_asked.ensures.listed (length list) start).no_group
 
 pub group_all-requires-clause-within : goal.group_all-requires-clause-within
@@ -63,15 +63,15 @@ group_all-requires-clause-within c =
     let checks = c.args.checks.now.checks in
     let list = checks.list in
     let size = c.add_checks.ensures.size ∙ ap length c.as_slice-list.ensures.checks in
-    let start : AreListed c.args.zones.now.zones (length list) c.args.refs.now.items c.args.seats.now.items c.join_checks.new.plan.shapes =
-    rw (c.requires.no_refs, c.join_checks.ensures.shapes)
-    (none_listed c.args.zones.now.zones c.args.zones.now.slots c.args.seats.now.items c.requires.no_seats (length list) c.add_checks.new.plan.shapes size) in
+    let start : HaveOwnValves c.args.zones.now.zones (length list) c.args.refs.now.items c.args.seats.now.items c.join_checks.new.blueprint.triggers =
+    rw (c.requires.no_refs, c.join_checks.ensures.triggers)
+    (none_listed c.args.zones.now.zones c.args.zones.now.slots c.args.seats.now.items c.requires.no_seats (length list) c.add_checks.new.blueprint.triggers size) in
     let listed = (c.list_asked.ensures.listed (length list) start).size in
-    let links : c.list_asked.new.plan.links ≡ check_links c.args.ids.now 0 c.as_slice-list.result.now =
+    let links : c.list_asked.new.blueprint.links ≡ check_links c.args.ids.now 0 c.as_slice-list.result.now =
     c.list_asked.ensures.links ∙ c.join_checks.ensures.links
-    ∙ ap (λ (l : List Link). l ++ check_links c.args.ids.now 0 c.as_slice-list.result.now) (c.add_checks.ensures.links ∙ c.requires.no_links) in
+    ∙ ap (λ (l : List Feeding). l ++ check_links c.args.ids.now 0 c.as_slice-list.result.now) (c.add_checks.ensures.links ∙ c.requires.no_links) in
     rw (links, c.requires.ids, c.as_slice-list.ensures.checks)
-    (still_within (check_links _ 0 list) (length list) (length c.list_asked.new.plan.shapes) (omega arith)
+    (still_within (check_links _ 0 list) (length list) (length c.list_asked.new.blueprint.triggers) (omega arith)
     (links_early list (children_placed checks c.as_slice-list.ensures.sound)))
 
 pub group_all-requires-clause-targets : goal.group_all-requires-clause-targets
@@ -85,10 +85,10 @@ group_all-requires-clause-told c k set named at names =
     let zones = c.args.zones.now.zones in
     let list = c.args.checks.now.checks.list in
     let size = c.add_checks.ensures.size ∙ ap length c.as_slice-list.ensures.checks in
-    let start : AreListed c.args.zones.now.zones (length list) c.args.refs.now.items c.args.seats.now.items c.join_checks.new.plan.shapes =
-    rw (c.requires.no_refs, c.join_checks.ensures.shapes)
-    (none_listed c.args.zones.now.zones c.args.zones.now.slots c.args.seats.now.items c.requires.no_seats (length list) c.add_checks.new.plan.shapes size) in
-    let g = (c.list_asked.ensures.listed (length list) start).gates k set (rw c.deref-2.ensures.value at at) in
+    let start : HaveOwnValves c.args.zones.now.zones (length list) c.args.refs.now.items c.args.seats.now.items c.join_checks.new.blueprint.triggers =
+    rw (c.requires.no_refs, c.join_checks.ensures.triggers)
+    (none_listed c.args.zones.now.zones c.args.zones.now.slots c.args.seats.now.items c.requires.no_seats (length list) c.add_checks.new.blueprint.triggers size) in
+    let g = (c.list_asked.ensures.listed (length list) start).valves k set (rw c.deref-2.ensures.value at at) in
     g.told ∙ ap only_check (one_named zones set g.named named c.well_formed-2.ensures g.names names)
 
 pub join_sets-requires-clause-told : goal.join_sets-requires-clause-told
@@ -96,10 +96,10 @@ join_sets-requires-clause-told c k set named at names =
     let zones = c.args.zones.now.zones in
     let list = c.args.checks.now.checks.list in
     let size = c.add_checks.ensures.size ∙ ap length c.as_slice-list.ensures.checks in
-    let start : AreListed c.args.zones.now.zones (length list) c.args.refs.now.items c.args.seats.now.items c.join_checks.new.plan.shapes =
-    rw (c.requires.no_refs, c.join_checks.ensures.shapes)
-    (none_listed c.args.zones.now.zones c.args.zones.now.slots c.args.seats.now.items c.requires.no_seats (length list) c.add_checks.new.plan.shapes size) in
-    let g = (c.list_asked.ensures.listed (length list) start).gates k set (rw c.deref-3.ensures.value at at) in
+    let start : HaveOwnValves c.args.zones.now.zones (length list) c.args.refs.now.items c.args.seats.now.items c.join_checks.new.blueprint.triggers =
+    rw (c.requires.no_refs, c.join_checks.ensures.triggers)
+    (none_listed c.args.zones.now.zones c.args.zones.now.slots c.args.seats.now.items c.requires.no_seats (length list) c.add_checks.new.blueprint.triggers size) in
+    let g = (c.list_asked.ensures.listed (length list) start).valves k set (rw c.deref-3.ensures.value at at) in
     ap (λ (l : List Seat). check_seat l set.slot) c.deref-4.ensures.value
     ∙ c.group_all.ensures.sets.checks set.slot
     ∙ g.told ∙ ap only_check (one_named zones set g.named named c.well_formed-2.ensures g.names names)
@@ -108,10 +108,10 @@ pub join_sets-requires-clause-named : goal.join_sets-requires-clause-named
 join_sets-requires-clause-named c k set at =
     let list = c.args.checks.now.checks.list in
     let size = c.add_checks.ensures.size ∙ ap length c.as_slice-list.ensures.checks in
-    let start : AreListed c.args.zones.now.zones (length list) c.args.refs.now.items c.args.seats.now.items c.join_checks.new.plan.shapes =
-    rw (c.requires.no_refs, c.join_checks.ensures.shapes)
-    (none_listed c.args.zones.now.zones c.args.zones.now.slots c.args.seats.now.items c.requires.no_seats (length list) c.add_checks.new.plan.shapes size) in
-    let g = (c.list_asked.ensures.listed (length list) start).gates k set (rw c.deref-3.ensures.value at at) in
+    let start : HaveOwnValves c.args.zones.now.zones (length list) c.args.refs.now.items c.args.seats.now.items c.join_checks.new.blueprint.triggers =
+    rw (c.requires.no_refs, c.join_checks.ensures.triggers)
+    (none_listed c.args.zones.now.zones c.args.zones.now.slots c.args.seats.now.items c.requires.no_seats (length list) c.add_checks.new.blueprint.triggers size) in
+    let g = (c.list_asked.ensures.listed (length list) start).valves k set (rw c.deref-3.ensures.value at at) in
     (g.named, g.names)
 
 pub join_sets-requires-clause-there : goal.join_sets-requires-clause-there
@@ -126,17 +126,17 @@ returns-clause-built c =
     let g = c.group_all.ensures in
     let j = c.join_sets.ensures in
     let size = c.add_checks.ensures.size ∙ ap length c.as_slice-list.ensures.checks in
-    let start : AreListed zones (length list) c.args.refs.now.items c.args.seats.now.items c.join_checks.new.plan.shapes =
-    rw (c.requires.no_refs, c.join_checks.ensures.shapes)
-    (none_listed zones c.args.zones.now.slots c.args.seats.now.items c.requires.no_seats (length list) c.add_checks.new.plan.shapes size) in
-    let links : c.list_asked.new.plan.links ≡ check_links c.args.ids.now 0 c.as_slice-list.result.now =
+    let start : HaveOwnValves zones (length list) c.args.refs.now.items c.args.seats.now.items c.join_checks.new.blueprint.triggers =
+    rw (c.requires.no_refs, c.join_checks.ensures.triggers)
+    (none_listed zones c.args.zones.now.slots c.args.seats.now.items c.requires.no_seats (length list) c.add_checks.new.blueprint.triggers size) in
+    let links : c.list_asked.new.blueprint.links ≡ check_links c.args.ids.now 0 c.as_slice-list.result.now =
     l.links ∙ c.join_checks.ensures.links
-    ∙ ap (λ (x : List Link). x ++ check_links c.args.ids.now 0 c.as_slice-list.result.now) (c.add_checks.ensures.links ∙ c.requires.no_links) in
-    rw j.shapes (is_built zones list c.list_asked.new.refs.items c.list_asked.new.seats.items c.group_all.new.seats.items
-    c.list_asked.new.plan.shapes c.group_all.new.plan.shapes c.list_asked.new.plan.links c.group_all.new.plan.links c.join_sets.new.plan.links
+    ∙ ap (λ (x : List Feeding). x ++ check_links c.args.ids.now 0 c.as_slice-list.result.now) (c.add_checks.ensures.links ∙ c.requires.no_links) in
+    rw j.triggers (is_built zones list c.list_asked.new.refs.items c.list_asked.new.seats.items c.group_all.new.seats.items
+    c.list_asked.new.blueprint.triggers c.group_all.new.blueprint.triggers c.list_asked.new.blueprint.links c.group_all.new.blueprint.links c.join_sets.new.blueprint.links
     (children_placed checks c.as_slice-list.ensures.sound)
     (links ∙ ap (λ (x : List ℕ). check_links x 0 c.as_slice-list.result.now) c.requires.ids ∙ ap (check_links _ 0) c.as_slice-list.ensures.checks)
-    (l.listed (length list) start) g.grouped.grouped (rw c.deref-2.ensures.value at g.all) g.sets g.shapes g.feeders g.more g.within
+    (l.listed (length list) start) g.grouped.grouped (rw c.deref-2.ensures.value at g.all) g.sets g.triggers g.feeders g.more g.within
     (rw (c.requires.ids, c.deref-3.ensures.value, c.deref-4.ensures.value) at j.joined)
     (rw (c.requires.ids, c.deref-3.ensures.value) at j.others)
     (rw (c.requires.ids, c.deref-3.ensures.value, c.deref-4.ensures.value) at j.within))
@@ -144,7 +144,7 @@ returns-clause-built c =
 pub returns-clause-given : goal.returns-clause-given
 returns-clause-given c =
     all_given c.args.zones.now.zones c.args.checks.now.checks.list c.list_asked.new.refs.items c.group_all.new.members.items c.group_all.new.seats.items
-    c.join_sets.new.plan.shapes c.join_sets.new.plan.links (returns-clause-built c) c.group_all.ensures.noted
+    c.join_sets.new.blueprint.triggers c.join_sets.new.blueprint.links (returns-clause-built c) c.group_all.ensures.noted
 
 pub returns-clause-all : goal.returns-clause-all
 returns-clause-all c asked =
@@ -162,18 +162,18 @@ group_all-requires-clause-members_room c =
 pub returns-clause-checks : goal.returns-clause-checks
 returns-clause-checks c reports are place id check at =
     let list = c.as_slice-list.ensures.checks in
-    let shapes = c.join_checks.ensures.shapes ∙ c.add_checks.ensures.shapes reports (rw list are) ∙ ap (check_shapes reports) list in
-    rw c.join_sets.ensures.shapes
-    (c.group_all.ensures.shapes place _ (c.list_asked.ensures.shapes place _
-    (shaped_at reports c.args.checks.now.checks.list c.join_checks.new.plan.shapes shapes place id check at)))
+    let triggers = c.join_checks.ensures.triggers ∙ c.add_checks.ensures.triggers reports (rw list are) ∙ ap (check_triggers reports) list in
+    rw c.join_sets.ensures.triggers
+    (c.group_all.ensures.triggers place _ (c.list_asked.ensures.triggers place _
+    (triggered_at reports c.args.checks.now.checks.list c.join_checks.new.blueprint.triggers triggers place id check at)))
 
 pub returns-clause-small : goal.returns-clause-small
-returns-clause-small c gate early =
+returns-clause-small c valve early =
     let size = c.add_checks.ensures.size ∙ ap length c.as_slice-list.ensures.checks in
-    let same = ap length c.join_checks.ensures.shapes in
-    subst (λ (l : List Shape). IsSmallAt l gate) (sym c.join_sets.ensures.shapes)
-    (small_at c.join_checks.new.plan.shapes c.list_asked.new.plan.shapes c.group_all.new.plan.shapes gate (omega arith)
-    (rw c.join_checks.ensures.shapes c.add_checks.ensures.small) c.list_asked.ensures.shapes c.group_all.ensures.shapes)
+    let same = ap length c.join_checks.ensures.triggers in
+    subst (λ (l : List Trigger). IsSmallAt l valve) (sym c.join_sets.ensures.triggers)
+    (small_at c.join_checks.new.blueprint.triggers c.list_asked.new.blueprint.triggers c.group_all.new.blueprint.triggers valve (omega arith)
+    (rw c.join_checks.ensures.triggers c.add_checks.ensures.small) c.list_asked.ensures.triggers c.group_all.ensures.triggers)
 
 pub add_checks-requires-clause-room : goal.add_checks-requires-clause-room
 add_checks-requires-clause-room c =
@@ -184,9 +184,9 @@ add_checks-requires-clause-room c =
     let as_list = ap length c.as_slice-list.ensures.checks in
     let room = c.requires.room in
     let few_slots = room.few in
-    let gates_room = room.gates in
+    let valves_room = room.valves in
     let links_room = room.links in
-    let no_shapes = ap length c.requires.no_gates in
+    let no_triggers = ap length c.requires.no_valves in
     let no_links = ap length c.requires.no_links in
     omega arith
 
@@ -199,16 +199,16 @@ join_checks-requires-clause-room c =
     let as_list = ap length c.as_slice-list.ensures.checks in
     let room = c.requires.room in
     let few_slots = room.few in
-    let gates_room = room.gates in
+    let valves_room = room.valves in
     let links_room = room.links in
-    let no_shapes = ap length c.requires.no_gates in
+    let no_triggers = ap length c.requires.no_valves in
     let no_links = ap length c.requires.no_links in
     let children = children_few list sound.bounded in
     let same_children = ap children_among c.as_slice-list.ensures.checks in
     let long_seats = c.requires.no_seats.size in
     let no_refs = ap length c.requires.no_refs in
     let added = c.add_checks.ensures.size in
-    let added_gates = c.add_checks.ensures.kept.gates in
+    let added_valves = c.add_checks.ensures.kept.valves in
     let added_links = c.add_checks.ensures.kept.links in
     let added_same = ap length c.add_checks.ensures.links in
     omega arith
@@ -222,26 +222,26 @@ list_asked-requires-clause-room c =
     let as_list = ap length c.as_slice-list.ensures.checks in
     let room = c.requires.room in
     let few_slots = room.few in
-    let gates_room = room.gates in
+    let valves_room = room.valves in
     let links_room = room.links in
-    let no_shapes = ap length c.requires.no_gates in
+    let no_triggers = ap length c.requires.no_valves in
     let no_links = ap length c.requires.no_links in
     let children = children_few list sound.bounded in
     let same_children = ap children_among c.as_slice-list.ensures.checks in
     let long_seats = c.requires.no_seats.size in
     let no_refs = ap length c.requires.no_refs in
     let added = c.add_checks.ensures.size in
-    let added_gates = c.add_checks.ensures.kept.gates in
+    let added_valves = c.add_checks.ensures.kept.valves in
     let added_links = c.add_checks.ensures.kept.links in
     let added_same = ap length c.add_checks.ensures.links in
-    let joined_gates = c.join_checks.ensures.kept.gates in
+    let joined_valves = c.join_checks.ensures.kept.valves in
     let joined_links = c.join_checks.ensures.kept.links in
-    let joined_same = ap length c.join_checks.ensures.shapes in
-    let joined_more = ap length c.join_checks.ensures.links ∙ length-append c.add_checks.new.plan.links
+    let joined_same = ap length c.join_checks.ensures.triggers in
+    let joined_more = ap length c.join_checks.ensures.links ∙ length-append c.add_checks.new.blueprint.links
     (check_links c.args.ids.now 0 c.as_slice-list.result.now) in
     let joined_long = check_links_long c.args.ids.now 0 c.as_slice-list.result.now in
     let refs_room = room.refs_room in
-    record { few = omega arith; refs_room = omega arith; gates = omega arith }
+    record { few = omega arith; refs_room = omega arith; valves = omega arith }
 
 pub group_all-requires-clause-apart : goal.group_all-requires-clause-apart
 group_all-requires-clause-apart c =
@@ -252,36 +252,36 @@ group_all-requires-clause-apart c =
     let as_list = ap length c.as_slice-list.ensures.checks in
     let room = c.requires.room in
     let few_slots = room.few in
-    let gates_room = room.gates in
+    let valves_room = room.valves in
     let links_room = room.links in
-    let no_shapes = ap length c.requires.no_gates in
+    let no_triggers = ap length c.requires.no_valves in
     let no_links = ap length c.requires.no_links in
     let children = children_few list sound.bounded in
     let same_children = ap children_among c.as_slice-list.ensures.checks in
     let long_seats = c.requires.no_seats.size in
     let no_refs = ap length c.requires.no_refs in
     let added = c.add_checks.ensures.size in
-    let added_gates = c.add_checks.ensures.kept.gates in
+    let added_valves = c.add_checks.ensures.kept.valves in
     let added_links = c.add_checks.ensures.kept.links in
     let added_same = ap length c.add_checks.ensures.links in
-    let joined_gates = c.join_checks.ensures.kept.gates in
+    let joined_valves = c.join_checks.ensures.kept.valves in
     let joined_links = c.join_checks.ensures.kept.links in
-    let joined_same = ap length c.join_checks.ensures.shapes in
-    let joined_more = ap length c.join_checks.ensures.links ∙ length-append c.add_checks.new.plan.links
+    let joined_same = ap length c.join_checks.ensures.triggers in
+    let joined_more = ap length c.join_checks.ensures.links ∙ length-append c.add_checks.new.blueprint.links
     (check_links c.args.ids.now 0 c.as_slice-list.result.now) in
     let joined_long = check_links_long c.args.ids.now 0 c.as_slice-list.result.now in
-    let start : AreListed c.args.zones.now.zones (length list) c.args.refs.now.items c.args.seats.now.items c.join_checks.new.plan.shapes =
-    rw (c.requires.no_refs, c.join_checks.ensures.shapes)
-    (none_listed c.args.zones.now.zones c.args.zones.now.slots c.args.seats.now.items c.requires.no_seats (length list) c.add_checks.new.plan.shapes (added ∙ as_list)) in
+    let start : HaveOwnValves c.args.zones.now.zones (length list) c.args.refs.now.items c.args.seats.now.items c.join_checks.new.blueprint.triggers =
+    rw (c.requires.no_refs, c.join_checks.ensures.triggers)
+    (none_listed c.args.zones.now.zones c.args.zones.now.slots c.args.seats.now.items c.requires.no_seats (length list) c.add_checks.new.blueprint.triggers (added ∙ as_list)) in
     let is_listed = c.list_asked.ensures.listed (length list) start in
     let listed_size = is_listed.size in
-    let listed_few = few_listed c.args.zones.now.zones (length list) c.list_asked.new.refs.items c.list_asked.new.seats.items c.list_asked.new.plan.shapes
+    let listed_few = few_listed c.args.zones.now.zones (length list) c.list_asked.new.refs.items c.list_asked.new.seats.items c.list_asked.new.blueprint.triggers
     is_listed in
     let listed_seats = c.list_asked.ensures.size in
-    let listed_gates = c.list_asked.ensures.kept.gates in
+    let listed_valves = c.list_asked.ensures.kept.valves in
     let listed_links = c.list_asked.ensures.kept.links in
     let listed_same = ap length c.list_asked.ensures.links in
-    listed_apart c.args.zones.now.zones (length list) c.list_asked.new.refs.items c.list_asked.new.seats.items c.list_asked.new.plan.shapes is_listed
+    listed_apart c.args.zones.now.zones (length list) c.list_asked.new.refs.items c.list_asked.new.seats.items c.list_asked.new.blueprint.triggers is_listed
 
 pub group_all-requires-clause-few : goal.group_all-requires-clause-few
 group_all-requires-clause-few c =
@@ -292,33 +292,33 @@ group_all-requires-clause-few c =
     let as_list = ap length c.as_slice-list.ensures.checks in
     let room = c.requires.room in
     let few_slots = room.few in
-    let gates_room = room.gates in
+    let valves_room = room.valves in
     let links_room = room.links in
-    let no_shapes = ap length c.requires.no_gates in
+    let no_triggers = ap length c.requires.no_valves in
     let no_links = ap length c.requires.no_links in
     let children = children_few list sound.bounded in
     let same_children = ap children_among c.as_slice-list.ensures.checks in
     let long_seats = c.requires.no_seats.size in
     let no_refs = ap length c.requires.no_refs in
     let added = c.add_checks.ensures.size in
-    let added_gates = c.add_checks.ensures.kept.gates in
+    let added_valves = c.add_checks.ensures.kept.valves in
     let added_links = c.add_checks.ensures.kept.links in
     let added_same = ap length c.add_checks.ensures.links in
-    let joined_gates = c.join_checks.ensures.kept.gates in
+    let joined_valves = c.join_checks.ensures.kept.valves in
     let joined_links = c.join_checks.ensures.kept.links in
-    let joined_same = ap length c.join_checks.ensures.shapes in
-    let joined_more = ap length c.join_checks.ensures.links ∙ length-append c.add_checks.new.plan.links
+    let joined_same = ap length c.join_checks.ensures.triggers in
+    let joined_more = ap length c.join_checks.ensures.links ∙ length-append c.add_checks.new.blueprint.links
     (check_links c.args.ids.now 0 c.as_slice-list.result.now) in
     let joined_long = check_links_long c.args.ids.now 0 c.as_slice-list.result.now in
-    let start : AreListed c.args.zones.now.zones (length list) c.args.refs.now.items c.args.seats.now.items c.join_checks.new.plan.shapes =
-    rw (c.requires.no_refs, c.join_checks.ensures.shapes)
-    (none_listed c.args.zones.now.zones c.args.zones.now.slots c.args.seats.now.items c.requires.no_seats (length list) c.add_checks.new.plan.shapes (added ∙ as_list)) in
+    let start : HaveOwnValves c.args.zones.now.zones (length list) c.args.refs.now.items c.args.seats.now.items c.join_checks.new.blueprint.triggers =
+    rw (c.requires.no_refs, c.join_checks.ensures.triggers)
+    (none_listed c.args.zones.now.zones c.args.zones.now.slots c.args.seats.now.items c.requires.no_seats (length list) c.add_checks.new.blueprint.triggers (added ∙ as_list)) in
     let is_listed = c.list_asked.ensures.listed (length list) start in
     let listed_size = is_listed.size in
-    let listed_few = few_listed c.args.zones.now.zones (length list) c.list_asked.new.refs.items c.list_asked.new.seats.items c.list_asked.new.plan.shapes
+    let listed_few = few_listed c.args.zones.now.zones (length list) c.list_asked.new.refs.items c.list_asked.new.seats.items c.list_asked.new.blueprint.triggers
     is_listed in
     let listed_seats = c.list_asked.ensures.size in
-    let listed_gates = c.list_asked.ensures.kept.gates in
+    let listed_valves = c.list_asked.ensures.kept.valves in
     let listed_links = c.list_asked.ensures.kept.links in
     let listed_same = ap length c.list_asked.ensures.links in
     omega arith
@@ -332,33 +332,33 @@ group_all-requires-clause-room c =
     let as_list = ap length c.as_slice-list.ensures.checks in
     let room = c.requires.room in
     let few_slots = room.few in
-    let gates_room = room.gates in
+    let valves_room = room.valves in
     let links_room = room.links in
-    let no_shapes = ap length c.requires.no_gates in
+    let no_triggers = ap length c.requires.no_valves in
     let no_links = ap length c.requires.no_links in
     let children = children_few list sound.bounded in
     let same_children = ap children_among c.as_slice-list.ensures.checks in
     let long_seats = c.requires.no_seats.size in
     let no_refs = ap length c.requires.no_refs in
     let added = c.add_checks.ensures.size in
-    let added_gates = c.add_checks.ensures.kept.gates in
+    let added_valves = c.add_checks.ensures.kept.valves in
     let added_links = c.add_checks.ensures.kept.links in
     let added_same = ap length c.add_checks.ensures.links in
-    let joined_gates = c.join_checks.ensures.kept.gates in
+    let joined_valves = c.join_checks.ensures.kept.valves in
     let joined_links = c.join_checks.ensures.kept.links in
-    let joined_same = ap length c.join_checks.ensures.shapes in
-    let joined_more = ap length c.join_checks.ensures.links ∙ length-append c.add_checks.new.plan.links
+    let joined_same = ap length c.join_checks.ensures.triggers in
+    let joined_more = ap length c.join_checks.ensures.links ∙ length-append c.add_checks.new.blueprint.links
     (check_links c.args.ids.now 0 c.as_slice-list.result.now) in
     let joined_long = check_links_long c.args.ids.now 0 c.as_slice-list.result.now in
-    let start : AreListed c.args.zones.now.zones (length list) c.args.refs.now.items c.args.seats.now.items c.join_checks.new.plan.shapes =
-    rw (c.requires.no_refs, c.join_checks.ensures.shapes)
-    (none_listed c.args.zones.now.zones c.args.zones.now.slots c.args.seats.now.items c.requires.no_seats (length list) c.add_checks.new.plan.shapes (added ∙ as_list)) in
+    let start : HaveOwnValves c.args.zones.now.zones (length list) c.args.refs.now.items c.args.seats.now.items c.join_checks.new.blueprint.triggers =
+    rw (c.requires.no_refs, c.join_checks.ensures.triggers)
+    (none_listed c.args.zones.now.zones c.args.zones.now.slots c.args.seats.now.items c.requires.no_seats (length list) c.add_checks.new.blueprint.triggers (added ∙ as_list)) in
     let is_listed = c.list_asked.ensures.listed (length list) start in
     let listed_size = is_listed.size in
-    let listed_few = few_listed c.args.zones.now.zones (length list) c.list_asked.new.refs.items c.list_asked.new.seats.items c.list_asked.new.plan.shapes
+    let listed_few = few_listed c.args.zones.now.zones (length list) c.list_asked.new.refs.items c.list_asked.new.seats.items c.list_asked.new.blueprint.triggers
     is_listed in
     let listed_seats = c.list_asked.ensures.size in
-    let listed_gates = c.list_asked.ensures.kept.gates in
+    let listed_valves = c.list_asked.ensures.kept.valves in
     let listed_links = c.list_asked.ensures.kept.links in
     let listed_same = ap length c.list_asked.ensures.links in
     omega arith
@@ -372,33 +372,33 @@ group_all-requires-clause-links_room c =
     let as_list = ap length c.as_slice-list.ensures.checks in
     let room = c.requires.room in
     let few_slots = room.few in
-    let gates_room = room.gates in
+    let valves_room = room.valves in
     let links_room = room.links in
-    let no_shapes = ap length c.requires.no_gates in
+    let no_triggers = ap length c.requires.no_valves in
     let no_links = ap length c.requires.no_links in
     let children = children_few list sound.bounded in
     let same_children = ap children_among c.as_slice-list.ensures.checks in
     let long_seats = c.requires.no_seats.size in
     let no_refs = ap length c.requires.no_refs in
     let added = c.add_checks.ensures.size in
-    let added_gates = c.add_checks.ensures.kept.gates in
+    let added_valves = c.add_checks.ensures.kept.valves in
     let added_links = c.add_checks.ensures.kept.links in
     let added_same = ap length c.add_checks.ensures.links in
-    let joined_gates = c.join_checks.ensures.kept.gates in
+    let joined_valves = c.join_checks.ensures.kept.valves in
     let joined_links = c.join_checks.ensures.kept.links in
-    let joined_same = ap length c.join_checks.ensures.shapes in
-    let joined_more = ap length c.join_checks.ensures.links ∙ length-append c.add_checks.new.plan.links
+    let joined_same = ap length c.join_checks.ensures.triggers in
+    let joined_more = ap length c.join_checks.ensures.links ∙ length-append c.add_checks.new.blueprint.links
     (check_links c.args.ids.now 0 c.as_slice-list.result.now) in
     let joined_long = check_links_long c.args.ids.now 0 c.as_slice-list.result.now in
-    let start : AreListed c.args.zones.now.zones (length list) c.args.refs.now.items c.args.seats.now.items c.join_checks.new.plan.shapes =
-    rw (c.requires.no_refs, c.join_checks.ensures.shapes)
-    (none_listed c.args.zones.now.zones c.args.zones.now.slots c.args.seats.now.items c.requires.no_seats (length list) c.add_checks.new.plan.shapes (added ∙ as_list)) in
+    let start : HaveOwnValves c.args.zones.now.zones (length list) c.args.refs.now.items c.args.seats.now.items c.join_checks.new.blueprint.triggers =
+    rw (c.requires.no_refs, c.join_checks.ensures.triggers)
+    (none_listed c.args.zones.now.zones c.args.zones.now.slots c.args.seats.now.items c.requires.no_seats (length list) c.add_checks.new.blueprint.triggers (added ∙ as_list)) in
     let is_listed = c.list_asked.ensures.listed (length list) start in
     let listed_size = is_listed.size in
-    let listed_few = few_listed c.args.zones.now.zones (length list) c.list_asked.new.refs.items c.list_asked.new.seats.items c.list_asked.new.plan.shapes
+    let listed_few = few_listed c.args.zones.now.zones (length list) c.list_asked.new.refs.items c.list_asked.new.seats.items c.list_asked.new.blueprint.triggers
     is_listed in
     let listed_seats = c.list_asked.ensures.size in
-    let listed_gates = c.list_asked.ensures.kept.gates in
+    let listed_valves = c.list_asked.ensures.kept.valves in
     let listed_links = c.list_asked.ensures.kept.links in
     let listed_same = ap length c.list_asked.ensures.links in
     omega arith
@@ -412,33 +412,33 @@ join_sets-requires-clause-few_sets c =
     let as_list = ap length c.as_slice-list.ensures.checks in
     let room = c.requires.room in
     let few_slots = room.few in
-    let gates_room = room.gates in
+    let valves_room = room.valves in
     let links_room = room.links in
-    let no_shapes = ap length c.requires.no_gates in
+    let no_triggers = ap length c.requires.no_valves in
     let no_links = ap length c.requires.no_links in
     let children = children_few list sound.bounded in
     let same_children = ap children_among c.as_slice-list.ensures.checks in
     let long_seats = c.requires.no_seats.size in
     let no_refs = ap length c.requires.no_refs in
     let added = c.add_checks.ensures.size in
-    let added_gates = c.add_checks.ensures.kept.gates in
+    let added_valves = c.add_checks.ensures.kept.valves in
     let added_links = c.add_checks.ensures.kept.links in
     let added_same = ap length c.add_checks.ensures.links in
-    let joined_gates = c.join_checks.ensures.kept.gates in
+    let joined_valves = c.join_checks.ensures.kept.valves in
     let joined_links = c.join_checks.ensures.kept.links in
-    let joined_same = ap length c.join_checks.ensures.shapes in
-    let joined_more = ap length c.join_checks.ensures.links ∙ length-append c.add_checks.new.plan.links
+    let joined_same = ap length c.join_checks.ensures.triggers in
+    let joined_more = ap length c.join_checks.ensures.links ∙ length-append c.add_checks.new.blueprint.links
     (check_links c.args.ids.now 0 c.as_slice-list.result.now) in
     let joined_long = check_links_long c.args.ids.now 0 c.as_slice-list.result.now in
-    let start : AreListed c.args.zones.now.zones (length list) c.args.refs.now.items c.args.seats.now.items c.join_checks.new.plan.shapes =
-    rw (c.requires.no_refs, c.join_checks.ensures.shapes)
-    (none_listed c.args.zones.now.zones c.args.zones.now.slots c.args.seats.now.items c.requires.no_seats (length list) c.add_checks.new.plan.shapes (added ∙ as_list)) in
+    let start : HaveOwnValves c.args.zones.now.zones (length list) c.args.refs.now.items c.args.seats.now.items c.join_checks.new.blueprint.triggers =
+    rw (c.requires.no_refs, c.join_checks.ensures.triggers)
+    (none_listed c.args.zones.now.zones c.args.zones.now.slots c.args.seats.now.items c.requires.no_seats (length list) c.add_checks.new.blueprint.triggers (added ∙ as_list)) in
     let is_listed = c.list_asked.ensures.listed (length list) start in
     let listed_size = is_listed.size in
-    let listed_few = few_listed c.args.zones.now.zones (length list) c.list_asked.new.refs.items c.list_asked.new.seats.items c.list_asked.new.plan.shapes
+    let listed_few = few_listed c.args.zones.now.zones (length list) c.list_asked.new.refs.items c.list_asked.new.seats.items c.list_asked.new.blueprint.triggers
     is_listed in
     let listed_seats = c.list_asked.ensures.size in
-    let listed_gates = c.list_asked.ensures.kept.gates in
+    let listed_valves = c.list_asked.ensures.kept.valves in
     let listed_links = c.list_asked.ensures.kept.links in
     let listed_same = ap length c.list_asked.ensures.links in
     let refs = ap length c.deref-3.ensures.value in
@@ -454,48 +454,48 @@ join_sets-requires-clause-room c =
     let as_list = ap length c.as_slice-list.ensures.checks in
     let room = c.requires.room in
     let few_slots = room.few in
-    let gates_room = room.gates in
+    let valves_room = room.valves in
     let links_room = room.links in
-    let no_shapes = ap length c.requires.no_gates in
+    let no_triggers = ap length c.requires.no_valves in
     let no_links = ap length c.requires.no_links in
     let children = children_few list sound.bounded in
     let same_children = ap children_among c.as_slice-list.ensures.checks in
     let long_seats = c.requires.no_seats.size in
     let no_refs = ap length c.requires.no_refs in
     let added = c.add_checks.ensures.size in
-    let added_gates = c.add_checks.ensures.kept.gates in
+    let added_valves = c.add_checks.ensures.kept.valves in
     let added_links = c.add_checks.ensures.kept.links in
     let added_same = ap length c.add_checks.ensures.links in
-    let joined_gates = c.join_checks.ensures.kept.gates in
+    let joined_valves = c.join_checks.ensures.kept.valves in
     let joined_links = c.join_checks.ensures.kept.links in
-    let joined_same = ap length c.join_checks.ensures.shapes in
-    let joined_more = ap length c.join_checks.ensures.links ∙ length-append c.add_checks.new.plan.links
+    let joined_same = ap length c.join_checks.ensures.triggers in
+    let joined_more = ap length c.join_checks.ensures.links ∙ length-append c.add_checks.new.blueprint.links
     (check_links c.args.ids.now 0 c.as_slice-list.result.now) in
     let joined_long = check_links_long c.args.ids.now 0 c.as_slice-list.result.now in
-    let start : AreListed c.args.zones.now.zones (length list) c.args.refs.now.items c.args.seats.now.items c.join_checks.new.plan.shapes =
-    rw (c.requires.no_refs, c.join_checks.ensures.shapes)
-    (none_listed c.args.zones.now.zones c.args.zones.now.slots c.args.seats.now.items c.requires.no_seats (length list) c.add_checks.new.plan.shapes (added ∙ as_list)) in
+    let start : HaveOwnValves c.args.zones.now.zones (length list) c.args.refs.now.items c.args.seats.now.items c.join_checks.new.blueprint.triggers =
+    rw (c.requires.no_refs, c.join_checks.ensures.triggers)
+    (none_listed c.args.zones.now.zones c.args.zones.now.slots c.args.seats.now.items c.requires.no_seats (length list) c.add_checks.new.blueprint.triggers (added ∙ as_list)) in
     let is_listed = c.list_asked.ensures.listed (length list) start in
     let listed_size = is_listed.size in
-    let listed_few = few_listed c.args.zones.now.zones (length list) c.list_asked.new.refs.items c.list_asked.new.seats.items c.list_asked.new.plan.shapes
+    let listed_few = few_listed c.args.zones.now.zones (length list) c.list_asked.new.refs.items c.list_asked.new.seats.items c.list_asked.new.blueprint.triggers
     is_listed in
     let listed_seats = c.list_asked.ensures.size in
-    let listed_gates = c.list_asked.ensures.kept.gates in
+    let listed_valves = c.list_asked.ensures.kept.valves in
     let listed_links = c.list_asked.ensures.kept.links in
     let listed_same = ap length c.list_asked.ensures.links in
     let can = c.group_all.ensures.grouped in
-    let grouped_few = few_grouped c.args.zones.now.zones (length c.list_asked.new.plan.shapes) c.group_all.new.seats.items c.group_all.new.plan.shapes
-    c.group_all.new.plan.links can.grouped in
+    let grouped_few = few_grouped c.args.zones.now.zones (length c.list_asked.new.blueprint.triggers) c.group_all.new.seats.items c.group_all.new.blueprint.triggers
+    c.group_all.new.blueprint.links can.grouped in
     let grouped_seats = c.group_all.ensures.size in
-    let grouped_long = joined_few (length c.list_asked.new.plan.shapes) (length c.list_asked.new.plan.links) c.group_all.new.seats.items
-    c.group_all.new.plan.links can.joined in
-    let grouped_gates = c.group_all.ensures.kept.gates in
+    let grouped_long = joined_few (length c.list_asked.new.blueprint.triggers) (length c.list_asked.new.blueprint.links) c.group_all.new.seats.items
+    c.group_all.new.blueprint.links can.joined in
+    let grouped_valves = c.group_all.ensures.kept.valves in
     let grouped_links = c.group_all.ensures.kept.links in
     let refs = ap length c.deref-3.ensures.value in
     omega arith
 
-pub returns-clause-few_gates : goal.returns-clause-few_gates
-returns-clause-few_gates c =
+pub returns-clause-few_valves : goal.returns-clause-few_valves
+returns-clause-few_valves c =
     let checks = c.args.checks.now.checks in
     let list = checks.list in
     let sound = c.as_slice-list.ensures.sound in
@@ -503,44 +503,44 @@ returns-clause-few_gates c =
     let as_list = ap length c.as_slice-list.ensures.checks in
     let room = c.requires.room in
     let few_slots = room.few in
-    let gates_room = room.gates in
+    let valves_room = room.valves in
     let links_room = room.links in
-    let no_shapes = ap length c.requires.no_gates in
+    let no_triggers = ap length c.requires.no_valves in
     let no_links = ap length c.requires.no_links in
     let children = children_few list sound.bounded in
     let same_children = ap children_among c.as_slice-list.ensures.checks in
     let long_seats = c.requires.no_seats.size in
     let no_refs = ap length c.requires.no_refs in
     let added = c.add_checks.ensures.size in
-    let added_gates = c.add_checks.ensures.kept.gates in
+    let added_valves = c.add_checks.ensures.kept.valves in
     let added_links = c.add_checks.ensures.kept.links in
     let added_same = ap length c.add_checks.ensures.links in
-    let joined_gates = c.join_checks.ensures.kept.gates in
+    let joined_valves = c.join_checks.ensures.kept.valves in
     let joined_links = c.join_checks.ensures.kept.links in
-    let joined_same = ap length c.join_checks.ensures.shapes in
-    let joined_more = ap length c.join_checks.ensures.links ∙ length-append c.add_checks.new.plan.links
+    let joined_same = ap length c.join_checks.ensures.triggers in
+    let joined_more = ap length c.join_checks.ensures.links ∙ length-append c.add_checks.new.blueprint.links
     (check_links c.args.ids.now 0 c.as_slice-list.result.now) in
     let joined_long = check_links_long c.args.ids.now 0 c.as_slice-list.result.now in
-    let start : AreListed c.args.zones.now.zones (length list) c.args.refs.now.items c.args.seats.now.items c.join_checks.new.plan.shapes =
-    rw (c.requires.no_refs, c.join_checks.ensures.shapes)
-    (none_listed c.args.zones.now.zones c.args.zones.now.slots c.args.seats.now.items c.requires.no_seats (length list) c.add_checks.new.plan.shapes (added ∙ as_list)) in
+    let start : HaveOwnValves c.args.zones.now.zones (length list) c.args.refs.now.items c.args.seats.now.items c.join_checks.new.blueprint.triggers =
+    rw (c.requires.no_refs, c.join_checks.ensures.triggers)
+    (none_listed c.args.zones.now.zones c.args.zones.now.slots c.args.seats.now.items c.requires.no_seats (length list) c.add_checks.new.blueprint.triggers (added ∙ as_list)) in
     let is_listed = c.list_asked.ensures.listed (length list) start in
     let listed_size = is_listed.size in
-    let listed_few = few_listed c.args.zones.now.zones (length list) c.list_asked.new.refs.items c.list_asked.new.seats.items c.list_asked.new.plan.shapes
+    let listed_few = few_listed c.args.zones.now.zones (length list) c.list_asked.new.refs.items c.list_asked.new.seats.items c.list_asked.new.blueprint.triggers
     is_listed in
     let listed_seats = c.list_asked.ensures.size in
-    let listed_gates = c.list_asked.ensures.kept.gates in
+    let listed_valves = c.list_asked.ensures.kept.valves in
     let listed_links = c.list_asked.ensures.kept.links in
     let listed_same = ap length c.list_asked.ensures.links in
     let can = c.group_all.ensures.grouped in
-    let grouped_few = few_grouped c.args.zones.now.zones (length c.list_asked.new.plan.shapes) c.group_all.new.seats.items c.group_all.new.plan.shapes
-    c.group_all.new.plan.links can.grouped in
+    let grouped_few = few_grouped c.args.zones.now.zones (length c.list_asked.new.blueprint.triggers) c.group_all.new.seats.items c.group_all.new.blueprint.triggers
+    c.group_all.new.blueprint.links can.grouped in
     let grouped_seats = c.group_all.ensures.size in
-    let grouped_long = joined_few (length c.list_asked.new.plan.shapes) (length c.list_asked.new.plan.links) c.group_all.new.seats.items
-    c.group_all.new.plan.links can.joined in
-    let grouped_gates = c.group_all.ensures.kept.gates in
+    let grouped_long = joined_few (length c.list_asked.new.blueprint.triggers) (length c.list_asked.new.blueprint.links) c.group_all.new.seats.items
+    c.group_all.new.blueprint.links can.joined in
+    let grouped_valves = c.group_all.ensures.kept.valves in
     let grouped_links = c.group_all.ensures.kept.links in
-    let same = ap length c.join_sets.ensures.shapes in
+    let same = ap length c.join_sets.ensures.triggers in
     omega arith
 
 pub returns-clause-few_links : goal.returns-clause-few_links
@@ -552,42 +552,42 @@ returns-clause-few_links c =
     let as_list = ap length c.as_slice-list.ensures.checks in
     let room = c.requires.room in
     let few_slots = room.few in
-    let gates_room = room.gates in
+    let valves_room = room.valves in
     let links_room = room.links in
-    let no_shapes = ap length c.requires.no_gates in
+    let no_triggers = ap length c.requires.no_valves in
     let no_links = ap length c.requires.no_links in
     let children = children_few list sound.bounded in
     let same_children = ap children_among c.as_slice-list.ensures.checks in
     let long_seats = c.requires.no_seats.size in
     let no_refs = ap length c.requires.no_refs in
     let added = c.add_checks.ensures.size in
-    let added_gates = c.add_checks.ensures.kept.gates in
+    let added_valves = c.add_checks.ensures.kept.valves in
     let added_links = c.add_checks.ensures.kept.links in
     let added_same = ap length c.add_checks.ensures.links in
-    let joined_gates = c.join_checks.ensures.kept.gates in
+    let joined_valves = c.join_checks.ensures.kept.valves in
     let joined_links = c.join_checks.ensures.kept.links in
-    let joined_same = ap length c.join_checks.ensures.shapes in
-    let joined_more = ap length c.join_checks.ensures.links ∙ length-append c.add_checks.new.plan.links
+    let joined_same = ap length c.join_checks.ensures.triggers in
+    let joined_more = ap length c.join_checks.ensures.links ∙ length-append c.add_checks.new.blueprint.links
     (check_links c.args.ids.now 0 c.as_slice-list.result.now) in
     let joined_long = check_links_long c.args.ids.now 0 c.as_slice-list.result.now in
-    let start : AreListed c.args.zones.now.zones (length list) c.args.refs.now.items c.args.seats.now.items c.join_checks.new.plan.shapes =
-    rw (c.requires.no_refs, c.join_checks.ensures.shapes)
-    (none_listed c.args.zones.now.zones c.args.zones.now.slots c.args.seats.now.items c.requires.no_seats (length list) c.add_checks.new.plan.shapes (added ∙ as_list)) in
+    let start : HaveOwnValves c.args.zones.now.zones (length list) c.args.refs.now.items c.args.seats.now.items c.join_checks.new.blueprint.triggers =
+    rw (c.requires.no_refs, c.join_checks.ensures.triggers)
+    (none_listed c.args.zones.now.zones c.args.zones.now.slots c.args.seats.now.items c.requires.no_seats (length list) c.add_checks.new.blueprint.triggers (added ∙ as_list)) in
     let is_listed = c.list_asked.ensures.listed (length list) start in
     let listed_size = is_listed.size in
-    let listed_few = few_listed c.args.zones.now.zones (length list) c.list_asked.new.refs.items c.list_asked.new.seats.items c.list_asked.new.plan.shapes
+    let listed_few = few_listed c.args.zones.now.zones (length list) c.list_asked.new.refs.items c.list_asked.new.seats.items c.list_asked.new.blueprint.triggers
     is_listed in
     let listed_seats = c.list_asked.ensures.size in
-    let listed_gates = c.list_asked.ensures.kept.gates in
+    let listed_valves = c.list_asked.ensures.kept.valves in
     let listed_links = c.list_asked.ensures.kept.links in
     let listed_same = ap length c.list_asked.ensures.links in
     let can = c.group_all.ensures.grouped in
-    let grouped_few = few_grouped c.args.zones.now.zones (length c.list_asked.new.plan.shapes) c.group_all.new.seats.items c.group_all.new.plan.shapes
-    c.group_all.new.plan.links can.grouped in
+    let grouped_few = few_grouped c.args.zones.now.zones (length c.list_asked.new.blueprint.triggers) c.group_all.new.seats.items c.group_all.new.blueprint.triggers
+    c.group_all.new.blueprint.links can.grouped in
     let grouped_seats = c.group_all.ensures.size in
-    let grouped_long = joined_few (length c.list_asked.new.plan.shapes) (length c.list_asked.new.plan.links) c.group_all.new.seats.items
-    c.group_all.new.plan.links can.joined in
-    let grouped_gates = c.group_all.ensures.kept.gates in
+    let grouped_long = joined_few (length c.list_asked.new.blueprint.triggers) (length c.list_asked.new.blueprint.links) c.group_all.new.seats.items
+    c.group_all.new.blueprint.links can.joined in
+    let grouped_valves = c.group_all.ensures.kept.valves in
     let grouped_links = c.group_all.ensures.kept.links in
     let refs = ap length c.deref-3.ensures.value in
     let last = c.join_sets.ensures.few in

@@ -1,6 +1,6 @@
 use Rattle.std.proofs.Common.{◌≡◌, ◌∙◌, ℕ, List, [], ◌∷◌, ◌++◌, length, ap, sym, subst, arith}
 use Rattle.std.proofs.lemmas.Bool.Decides.{nat_tests}
-use Rattle.ip_table.specs.declared.tree.Node.{Node}
+use Rattle.ip_table.specs.declared.tree.Fork.{Fork}
 use Rattle.ip_table.specs.Bits.{width_of}
 use Rattle.ip_table.specs.Prefixes.{Prefix}
 use Rattle.ip_table.specs.Trees.{prefix_at, leaf, AllStand, IsTree}
@@ -29,10 +29,10 @@ pub place-requires-clause-tree : goal.place-requires-clause-tree
 place-requires-clause-tree c =
     let new = c.deref-2.result.now in
     let is = c.deref-2.ensures.value ∙ c.push_reserved.ensures.items in
-    subst (λ (p : Prefix). IsTree new c.args.nodes.now.items (width_of p.address))
+    subst (λ (p : Prefix). IsTree new c.args.forks.now.items (width_of p.address))
     (sym (last_is c.args.prefixes.now.items new c.args.prefix c.len-row.result
     (omega (arith, c.len-row.ensures, c.args.prefixes.now.ok.0)) is))
-    (tree_on c.args.prefixes.now.items c.args.prefix new is c.args.nodes.now.items
+    (tree_on c.args.prefixes.now.items c.args.prefix new is c.args.forks.now.items
     (width_of c.args.prefix.address) c.requires.tree)
 
 pub place-requires-clause-others : goal.place-requires-clause-others
@@ -41,11 +41,11 @@ place-requires-clause-others c =
     let is = c.deref-2.ensures.value ∙ c.push_reserved.ensures.items in
     let end : length c.args.prefixes.now.items ≡ c.len-row.result =
     omega (arith, c.len-row.ensures, c.args.prefixes.now.ok.0) in
-    subst (λ (p : Prefix). AllStand new c.args.nodes.now.items (width_of p.address)
+    subst (λ (p : Prefix). AllStand new c.args.forks.now.items (width_of p.address)
     c.len-row.result)
     (sym (last_is c.args.prefixes.now.items new c.args.prefix c.len-row.result end is))
-    (subst (λ n. AllStand new c.args.nodes.now.items (width_of c.args.prefix.address) n) end
-    (others_on c.args.prefixes.now.items c.args.prefix new is c.args.nodes.now.items
+    (subst (λ n. AllStand new c.args.forks.now.items (width_of c.args.prefix.address) n) end
+    (others_on c.args.prefixes.now.items c.args.prefix new is c.args.forks.now.items
     (width_of c.args.prefix.address) c.requires.all))
 
 pub returns-then-is_empty-clause-grown : goal.returns-then-is_empty-clause-grown
@@ -54,17 +54,17 @@ returns-then-is_empty-clause-grown c =
     let new = c.push_reserved.new.self.items in
     let is = c.push_reserved.ensures.items in
     let width = width_of c.args.prefix.address in
-    let none : length c.args.nodes.now.items ≡ 0 =
-    grind (arith, nat_tests, c.args.nodes.now.ok.0) in
+    let none : length c.args.forks.now.items ≡ 0 =
+    grind (arith, nat_tests, c.args.forks.now.ok.0) in
     let end : length ps ≡ c.len-row.result =
     omega (arith, c.len-row.ensures, c.args.prefixes.now.ok.0) in
-    alone new c.args.nodes.now.items c.push_reserved-then-is_empty.new.self.items width
+    alone new c.args.forks.now.items c.push_reserved-then-is_empty.new.self.items width
     c.len-row.result none
-    (subst (λ n. AllStand new c.args.nodes.now.items width n) end
-    (others_on ps c.args.prefix new is c.args.nodes.now.items width c.requires.all))
+    (subst (λ n. AllStand new c.args.forks.now.items width n) end
+    (others_on ps c.args.prefix new is c.args.forks.now.items width c.requires.all))
     (omega (arith, end, longer ps c.args.prefix new is))
     (ap (λ (p : Prefix). width_of p.address) (last_is ps new c.args.prefix c.len-row.result end is))
     (c.push_reserved-then-is_empty.ensures.items
-    ∙ ap (λ (n : Node). c.args.nodes.now.items ++ n ∷ [])
+    ∙ ap (λ (n : Fork). c.args.forks.now.items ++ n ∷ [])
     (c.leaf.ensures
     ∙ ap (λ (qs : List Prefix). leaf qs 0 0 c.len-row.result) c.deref.ensures.value))

@@ -4,29 +4,29 @@ use Rattle.ip_table.proofs.FirstBits.{shared_windows, same_windows}
 use Rattle.ip_table.proofs.Walks.{width_low}
 use Rattle.ip_table.proofs.walk.shared_at.Goals as goal
 
-pub returns-then-node-window : goal.returns-then-node-window
-returns-then-node-window c = λ n h.
-    let d = c.args.node.start in
+pub returns-then-fork-window : goal.returns-then-fork-window
+returns-then-fork-window c = λ n h.
+    let d = c.args.fork.start in
     let r = c.shared_before.result in
-    let own = (prefix_at c.args.prefixes.now c.args.node.row).address in
+    let own = (prefix_at c.args.prefixes.now c.args.fork.row).address in
     let theirs = c.window_of-window.ensures c.args.address c.requires.number in
     shared_windows d own c.args.address c.requires.low c.requires.meets
-    (λ e. c.if-node-window.true (c.requires.window ∙ e ∙ sym theirs))
+    (λ e. c.if-fork-window.true (c.requires.window ∙ e ∙ sym theirs))
     r
     (subst (λ w. (m : ℕ) → m ≤ 32
     → (d + m ≤ r ↔ (w / 2 ^ (32 - m) ≡ window d c.args.address / 2 ^ (32 - m))))
     c.requires.window
     (subst (λ w. (m : ℕ) → m ≤ 32
-    → (d + m ≤ r ↔ (c.args.node.window / 2 ^ (32 - m) ≡ w / 2 ^ (32 - m)))) theirs
+    → (d + m ≤ r ↔ (c.args.fork.window / 2 ^ (32 - m) ≡ w / 2 ^ (32 - m)))) theirs
     c.shared_before.ensures))
     n (omega (arith, h, c.requires.prefix.within, width_low own))
 
-pub returns-then-node : goal.returns-then-node
-returns-then-node c = λ n h.
-    let own = (prefix_at c.args.prefixes.now c.args.node.row).address in
+pub returns-then-fork : goal.returns-then-fork
+returns-then-fork c = λ n h.
+    let own = (prefix_at c.args.prefixes.now c.args.fork.row).address in
     let theirs = c.window_of-window.ensures c.args.address c.requires.number in (
-      λ few. same_windows c.args.node.start n own c.args.address c.requires.low c.requires.meets
-          (sym c.requires.window ∙ c.if-node-window.false
-          ∙ theirs) (omega (arith, few, c.if-node.true)),
+      λ few. same_windows c.args.fork.start n own c.args.address c.requires.low c.requires.meets
+          (sym c.requires.window ∙ c.if-fork-window.false
+          ∙ theirs) (omega (arith, few, c.if-fork.true)),
       λ e. omega (arith, h, c.requires.long),
     )

@@ -7,4 +7,4 @@ use Rattle.ip_table.proofs.walk.sum_up.Goals as goal
 pub returns-then-is_empty : goal.returns-then-is_empty
 returns-then-is_empty c =
     subst (λ s. SumsUp c.args.prefixes.now c.args.address s) (sym c.nothing.ensures)
-    (empty _ c.args.nodes.now _ (grind (arith, nat_tests)) c.requires.all)
+    (empty _ c.args.forks.now _ (grind (arith, nat_tests)) c.requires.all)

@@ -1,7 +1,7 @@
 use Rattle.std.proofs.Common.{◌∙◌, ap, refl, subst, sym, Bool, Option, ℕ}
 use Rattle.health_model.specs.Statuses.{status_told}
 use Rattle.line_server.proofs.Asked.{replied}
-use Rattle.line_server.specs.Replying.{Told}
+use Rattle.line_server.specs.Replying.{StatusTold}
 use Rattle.serve_turns.specs.Stores.{StandsFor}
 use Rattle.reply_sending.specs.Outcomes.{text_of}
 use Rattle.reply_sending.specs.OutcomeRecord.{Outcome}
@@ -11,7 +11,7 @@ use Rattle.line_server.proofs.asking.status.Goals as goal
 
 pub returns-clause-leaves : goal.returns-clause-leaves
 returns-clause-leaves g c = λ engine held stands tells.
-    replied (Told c.args.id) engine (λ after. StandsFor after c.args.store.now) held
+    replied (StatusTold c.args.id) engine (λ after. StandsFor after c.args.store.now) held
     (g.K.Sink.held c.send_outcome.new.out) c.send_outcome.result c.sent.result
     (sym c.sent.ensures) engine
     (text_of (status_outcome c.args.id

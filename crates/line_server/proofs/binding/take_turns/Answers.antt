@@ -2,9 +2,9 @@ use Rattle.std.proofs.Common.{◌∙◌, subst, sym, Bool, []}
 use Rattle.serve_turns.specs.LineRecord.TheVariants as line
 use Rattle.line_server.proofs.Network.{as_told, came, not_bound, part, served}
 use Rattle.line_server.specs.Leaving.{CameTo, TurnsInPart}
-use Rattle.line_server.specs.Standing.{IsServed}
+use Rattle.line_server.specs.Standing.{IsTurnsOutcome}
 use Rattle.serve_turns.specs.Stores.{StandsFor}
-use Rattle.serve_turns.specs.declared.serving.Served.TheVariants as answer
+use Rattle.serve_turns.specs.declared.serving.TurnsTaken.TheVariants as answer
 use Rattle.serve_turns.specs.ServingOfSessionModel.{none}
 use Rattle.serve_turns.specs.Steps.{LineSteps}
 use Rattle.whole_writing.specs.declared.output.Output.TheVariants as output
@@ -15,11 +15,11 @@ returns-then-not-bound-clause-leaves g c = λ around old held before tables is s
     came c.send_outcome.result c.sent.result (sym c.sent.ensures)
     (LineSteps around (line.Serve c.args.turns) old)
     (TurnsInPart around c.args.turns old before (g.L.Link.coming c.args.link.now))
-    (IsServed c.args.bound c.args.store.now (g.L.Link.coming c.args.link.now)
+    (IsTurnsOutcome c.args.bound c.args.store.now (g.L.Link.coming c.args.link.now)
     (g.R.Rng.stream c.args.words.now)) held before (g.K.Sink.held c.send_outcome.new.out)
     (g.L.Link.sent c.args.link.now)
     (subst (λ (b : Bool). CameTo c.send_outcome.result (LineSteps around (line.Serve c.args.turns) old)
-    (IsServed b c.args.store.now (g.L.Link.coming c.args.link.now)
+    (IsTurnsOutcome b c.args.store.now (g.L.Link.coming c.args.link.now)
     (g.R.Rng.stream c.args.words.now)) held before (g.K.Sink.held c.send_outcome.new.out)
     (g.L.Link.sent c.args.link.now)) is
     (not_bound around c.args.turns old held before (g.K.Sink.held c.send_outcome.new.out)
@@ -32,12 +32,12 @@ returns-in-Took-clause-leaves g c = λ around old held before tables is stands c
     came c.send_outcome-in-Took.result c.sent-in-Took.result (sym c.sent-in-Took.ensures)
     (LineSteps around (line.Serve c.args.turns) old)
     (TurnsInPart around c.args.turns old before (g.L.Link.coming c.serve.new.link))
-    (IsServed c.args.bound c.serve.new.store (g.L.Link.coming c.serve.new.link)
+    (IsTurnsOutcome c.args.bound c.serve.new.store (g.L.Link.coming c.serve.new.link)
     (g.R.Rng.stream c.serve.new.words)) held before (g.K.Sink.held c.send_outcome-in-Took.new.out)
     (g.L.Link.sent c.serve.new.link)
     (subst (λ (b : Bool). CameTo c.send_outcome-in-Took.result
     (LineSteps around (line.Serve c.args.turns) old)
-    (IsServed b c.serve.new.store (g.L.Link.coming c.serve.new.link)
+    (IsTurnsOutcome b c.serve.new.store (g.L.Link.coming c.serve.new.link)
     (g.R.Rng.stream c.serve.new.words)) held before (g.K.Sink.held c.send_outcome-in-Took.new.out)
     (g.L.Link.sent c.serve.new.link)) is
     (served around c.args.turns old held before (g.K.Sink.held c.send_outcome-in-Took.new.out)

@@ -1,7 +1,7 @@
 use Rattle.std.proofs.Common.{◌≡◌, ℕ, ◌+◌, ◌-◌, ◌<◌, suc, ap, sym, ◌∙◌, subst, arith, List}
 use Rattle.octet_region.specs.declared.cells.Cell.{Cell}
 use Rattle.octet_region.specs.Cells.{cells_for, mark_as, mark_at, link_at}
-use Rattle.octet_region.specs.Shape.{octets_of, IsSound}
+use Rattle.octet_region.specs.Shape.{octets_of, IsIntact}
 use Rattle.octet_region.proofs.Sound.{live_inside, last_there, free_sound, free_there2}
 use Rattle.octet_region.proofs.chains.free_along.Goals as goal
 
@@ -28,10 +28,10 @@ returns-clause-sound c =
     (c.mark_of.result - 1) c.requires.sound
     (marked (mark_at c.args.cells.now c.args.first) c.mark_of.result c.requires.live c.mark_of.ensures)
     c.last_along-last.result c.last_along-last.ensures in
-    subst (λ (w : List Cell). IsSound w c.args.first
+    subst (λ (w : List Cell). IsIntact w c.args.first
     (cells_for (mark_at c.args.cells.now c.args.first - 1) + c.args.spare)) (sym e)
     (subst
-    (λ n. IsSound
+    (λ n. IsIntact
     (mark_as (link_at c.args.cells.now c.last_along-last.result c.args.free) c.args.first 0) c.args.first
     (cells_for (n - 1) + c.args.spare)) c.mark_of.ensures s)
 

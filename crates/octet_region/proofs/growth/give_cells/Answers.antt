@@ -1,7 +1,7 @@
 use Rattle.std.proofs.Common.{◌≡◌, ◌+◌, ap, sym, ◌∙◌, subst, arith, List, length, length-append, ◌∷◌, []}
 use Rattle.octet_region.specs.declared.cells.Cell.{Cell}
 use Rattle.octet_region.specs.Cells.{new_cell}
-use Rattle.octet_region.specs.Shape.{octets_of, IsSound}
+use Rattle.octet_region.specs.Shape.{octets_of, IsIntact}
 use Rattle.octet_region.proofs.Sound.{more_sound, more_same}
 use Rattle.octet_region.proofs.growth.give_cells.Goals as goal
 
@@ -19,10 +19,10 @@ loop-preserved c =
     let one : (c.args.spare + c.loop.counter) + 1 ≡ c.args.spare + (c.loop.counter + 1) = omega arith in
     record {
       sound =
-          subst (λ k. IsSound g.new.cells.items g.result k) one
-          (subst (λ k. IsSound g.new.cells.items k (c.args.spare + c.loop.counter + 1)) (sym g.ensures.number)
+          subst (λ k. IsIntact g.new.cells.items g.result k) one
+          (subst (λ k. IsIntact g.new.cells.items k (c.args.spare + c.loop.counter + 1)) (sym g.ensures.number)
           (subst
-          (λ (w : List Cell). IsSound w (length c.loop.cells.items) (c.args.spare + c.loop.counter + 1))
+          (λ (w : List Cell). IsIntact w (length c.loop.cells.items) (c.args.spare + c.loop.counter + 1))
           (sym e) more));
       room = omega (arith, new_len, capacity, i.room, c.loop-test.true);
       few = omega (arith, new_len, i.few, c.loop-test.true);

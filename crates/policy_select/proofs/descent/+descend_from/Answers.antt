@@ -1,5 +1,5 @@
 use Rattle.std.proofs.Common.{◌≡◌, ℕ, ◌-◌, suc, subst, arith}
-use Rattle.answer_model.specs.Clients.{client_at}
+use Rattle.answer_model.specs.Clients.{client_with}
 use Rattle.answer_model.specs.Descent.{descends}
 use Rattle.policy_select.specs.Groups.{sets_in, sets_in_zone}
 use Rattle.policy_select.specs.Selecting.{Gives, means_of}
@@ -9,7 +9,7 @@ use Rattle.policy_select.proofs.descent.+descend_from.Goals as goal
 pub returns-in-None-clause-gives : goal.returns-in-None-clause-gives
 returns-in-None-clause-gives g t c = λ healthy agrees.
     let zones = c.args.zones.now.zones in
-    let client = client_at c.args.tables.now c.args.zones.now.collections.list c.args.client in
+    let client = client_with c.args.tables.now c.args.zones.now.collections.list c.args.client in
     let here = c.args.group in
     let chosen = c.choose_next-selected in
     let some = c.if-most-eq0.false in
@@ -26,7 +26,7 @@ returns-in-None-clause-gives g t c = λ healthy agrees.
 pub returns-in-Some-clause-gives : goal.returns-in-Some-clause-gives
 returns-in-Some-clause-gives g t c = λ healthy agrees.
     let zones = c.args.zones.now.zones in
-    let client = client_at c.args.tables.now c.args.zones.now.collections.list c.args.client in
+    let client = client_with c.args.tables.now c.args.zones.now.collections.list c.args.client in
     let here = c.args.group in
     let chosen = c.choose_next-selected in
     let rest = c.descend_from in

@@ -1,5 +1,5 @@
 use Rattle.std.proofs.Common.{arith}
-use Rattle.zone_table.specs.Placed.{Placed}
+use Rattle.zone_table.specs.Slotted.{Slotted}
 use Rattle.policy_select.specs.Groups.{flags_in, members_of}
 use Rattle.policy_select.proofs.Noted.{all_noted, few_members, noted_more}
 use Rattle.policy_select.proofs.Policies.{in_slots}
@@ -24,7 +24,7 @@ returns-clause-noted g c =
     let behind = c.loop-i-test.false in
     let before = c.loop-i.auto.i-end in
     all_noted
-    (λ (p : Placed). g.V.HealthView.test c.args.view.now
+    (λ (p : Slotted). g.V.HealthView.test c.args.view.now
     (record { zone = c.args.group.zone; slot = p.slot }))
     (members_of c.args.zones.now.zones c.args.group) c.loop-i.healthy c.loop-i.i c.args.group.length
     (omega (arith, behind, before))

@@ -1,4 +1,4 @@
-use Rattle.answer_model.specs.Clients.{client_at}
+use Rattle.answer_model.specs.Clients.{client_with}
 use Rattle.policy_select.specs.Groups.{flags_in, sets_in}
 use Rattle.policy_select.proofs.Choosing.{of_weighted}
 use Rattle.policy_select.proofs.selection.choose.Goals as goal
@@ -6,7 +6,7 @@ use Rattle.policy_select.proofs.selection.choose.Goals as goal
 pub returns-in-Weighted-clause-selected : goal.returns-in-Weighted-clause-selected
 returns-in-Weighted-clause-selected g c =
     let first = c.requires.first in
-    let client = client_at c.args.tables.now c.args.zones.now.collections.list c.args.client in
+    let client = client_with c.args.tables.now c.args.zones.now.collections.list c.args.client in
     of_weighted c.args.group (sets_in c.args.zones.now.zones c.args.group)
     (flags_in c.args.zones.now.zones (g.V.HealthView.test c.args.view.now) c.args.group) client.rows
     c.args.word first.0 c.args.rule.now c.in-Weighted.weight c.choose_weighted.result

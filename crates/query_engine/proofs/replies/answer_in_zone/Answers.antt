@@ -1,6 +1,6 @@
 use Rattle.std.proofs.Common.{◌∙◌, ap, arith, refl, subst}
 use Rattle.address_text.specs.declared.address.IpAddress.{IpAddress}
-use Rattle.zone_lookup.specs.Clients.{client_address, client_at}
+use Rattle.zone_lookup.specs.Clients.{client_address, client_with}
 use Rattle.zone_lookup.specs.Descent.{no_choices}
 use Rattle.zone_lookup.specs.Reply.{told_scope}
 use Rattle.zone_lookup.specs.Sections.{look_up, sections}
@@ -76,11 +76,11 @@ returns-clause-bytes g c = λ healthy agrees.
     (found.adds.stands (reply_to query) c.begin.ensures.stands (refl, refl))
     ∙ finished query s c.look_up-end.result.aa c.look_up-end.result.rcode
     c.look_up-end.new.reply.edns c.told_scope-scope.result
-    (told_scope (subnet_of query.edns) (client_at tables collections client) s.used)
+    (told_scope (subnet_of query.edns) (client_with tables collections client) s.used)
     c.limit_of.result (limit_of query.edns) found.aa found.rcode
     (found.adds.edns ∙ c.begin.ensures.edns)
     (c.told_scope-scope.ensures
-    ∙ (ap (λ (a : IpAddress). told_scope (subnet_of query.edns) (client_at tables collections a)
+    ∙ (ap (λ (a : IpAddress). told_scope (subnet_of query.edns) (client_with tables collections a)
     c.look_up-end.new.progress.used) c.client_address-client.ensures
-    ∙ ap (λ (u : Used). told_scope (subnet_of query.edns) (client_at tables collections client) u)
+    ∙ ap (λ (u : Used). told_scope (subnet_of query.edns) (client_with tables collections client) u)
     found.uses)) c.limit_of.ensures.limit

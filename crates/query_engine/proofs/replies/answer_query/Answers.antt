@@ -1,6 +1,6 @@
 use Rattle.std.proofs.Common.{◌∙◌, ap, sym}
 use Rattle.dns_wire.specs.Limit.{limit_of}
-use Rattle.dns_wire.specs.Message.{Message, wire}
+use Rattle.dns_wire.specs.Message.{Message, octets_within}
 use Rattle.query_engine.specs.Asking.{asker_of, served_by}
 use Rattle.query_engine.proofs.Finishing.{reply_from_zone}
 use Rattle.query_engine.proofs.replies.answer_query.Goals as goal
@@ -13,6 +13,6 @@ returns-in-Some-clause-bytes g c = λ healthy agrees.
     let asker = asker_of c.args.peer c.args.words.now in
     let found = c.in-Some.ensures in
     c.answer_in_zone.ensures.bytes healthy agrees
-    ∙ ap (λ (m : Message). wire m (limit_of query.edns))
+    ∙ ap (λ (m : Message). octets_within m (limit_of query.edns))
     (reply_from_zone served asker query zones c.in-Some.found.0 c.in-Some.found.1.now
     (sym c.is_refused.ensures ∙ c.if-is_refused.false) found.zone)

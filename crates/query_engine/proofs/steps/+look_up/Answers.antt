@@ -5,7 +5,7 @@ use Rattle.dns_wire.specs.Draft.{Draft}
 use Rattle.dns_wire.specs.declared.reply.Section.TheVariants.{Answer}
 use Rattle.reply_records.specs.Groups.{by_key}
 use Rattle.rdata_layout.specs.declared.types.RType.TheVariants as rtype
-use Rattle.reply_records.specs.Writing.{IsOpen}
+use Rattle.reply_records.specs.Writing.{TakesRecords}
 use Rattle.query_engine.specs.Asking.{EndsAs, asked_of, choices_of}
 use Rattle.query_engine.proofs.Added.{still_open}
 use Rattle.query_engine.proofs.Following.{ends_found, no_more, onward, outside}
@@ -43,7 +43,7 @@ look_up-follow-requires g t c = λ κs lives.
                 omega (arith, more, room),
                 (
                   c.in-Follows.ensures.seen,
-                  subst (λ (d : Draft). IsOpen Answer d) (sym is.1) c.requires.open,
+                  subst (λ (d : Draft). TakesRecords Answer d) (sym is.1) c.requires.open,
                 ),
               ),
             ),

@@ -1,8 +1,8 @@
 use Rattle.std.proofs.Common.{◌∙◌, ap, subst, sym, List, Option, ℕ}
-use Rattle.zone_lookup.specs.Sections.{Step, nxdomain, referral, step_below, step_from}
+use Rattle.zone_lookup.specs.Sections.{NameOutcome, nxdomain, referral, step_below, step_from}
 use Rattle.reply_records.specs.Groups.{sets_in_zone}
 use Rattle.record_set.specs.declared.sets.RecordSet.{RecordSet}
-use Rattle.query_engine.specs.Asking.{Comes, EndsAs, asked_of, choices_of}
+use Rattle.query_engine.specs.Asking.{ComesTo, EndsAs, asked_of, choices_of}
 use Rattle.query_engine.proofs.Stepping.{first_set}
 use Rattle.query_engine.proofs.steps.step_standing.Goals as goal
 
@@ -44,7 +44,7 @@ returns-in-Taken-clause-comes g c = λ healthy agrees.
     let name = c.args.name.now in
     let choices = choices_of c.args.progress.now in
     let lookup = asked_of zones c.args.zones.now.collections.list healthy c.args.tables.now asked in
-    subst (λ (s : Step). Comes s name c.args.reply.now c.step_taken.new.reply
+    subst (λ (s : NameOutcome). ComesTo s name c.args.reply.now c.step_taken.new.reply
     c.step_taken.new.scratch c.step_taken.new.progress c.step_taken.result)
     (sym (ap (λ (o : Option RecordSet). step_below lookup name o choices) c.in-Taken.ensures.0
     ∙ ap (λ (from : Option (List (List ℕ))). step_from lookup name from choices)

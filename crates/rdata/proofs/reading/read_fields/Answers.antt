@@ -1,6 +1,6 @@
 use Rattle.std.proofs.Common.{◌++◌, length, take, arith, rules, ap, ◌∙◌, sym, length-append, length-take, subst}
 use Rattle.field_text.specs.FieldRecord.TheVariants.{Ipv4}
-use Rattle.rdata.specs.Steps.{Passes}
+use Rattle.rdata.specs.Steps.{ReadsUpTo}
 use Rattle.rdata.proofs.Progress.{passes, meets_other, meets_none, drop_all}
 use Rattle.rdata.proofs.reading.read_fields.Goals as goal
 
@@ -42,6 +42,6 @@ loop-kind-preserved c =
 
 pub returns-clause-ok : goal.returns-clause-ok
 returns-clause-ok c =
-    subst (λ ks. Passes c.args.text.now c.args.kinds.now ks c.loop-kind.at c.loop-kind.into.items)
+    subst (λ ks. ReadsUpTo c.args.text.now c.args.kinds.now ks c.loop-kind.at c.loop-kind.into.items)
     (drop_all c.args.kinds.now c.loop-kind.kind-index c.loop-kind-test.false)
     c.loop-kind.invariant.passes

@@ -23,7 +23,7 @@ returns-then-write_first_glue-clause-written t c = λ set held.
     c.write_first_glue.new.reply (c.rdata_at.ensures.at set held)
     (c.write_first_glue.ensures.written set held)
     (behind_cut Additional (glue_of sets (labels_of x)) c.write_first_glue.new.reply
-    (c.write_first_glue.ensures.cut c.if-write_first_glue.true)))
+    (c.write_first_glue.ensures.truncated c.if-write_first_glue.true)))
 
 pub returns-clause-written : goal.returns-clause-written
 returns-clause-written t c = λ set held.

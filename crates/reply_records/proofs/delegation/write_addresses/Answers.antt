@@ -11,7 +11,7 @@ returns-then-write_simple-clause-written c =
     c.write_simple.new.reply c.write_simple.ensures.written
     (behind_cut Additional
     (flat_map simple_part (sets_in c.args.zones.now.zones c.args.found.now.six))
-    c.write_simple.new.reply (c.write_simple.ensures.cut c.if-write_simple.true))
+    c.write_simple.new.reply (c.write_simple.ensures.truncated c.if-write_simple.true))
 
 pub returns-clause-written : goal.returns-clause-written
 returns-clause-written c =

@@ -14,5 +14,5 @@ returns-then-write_held c = λ set first.
       servers = c.write_held.ensures.written set (c.load_member.ensures.loaded ∙ first);
       glue = behind_cut Additional
           (flat_map (glue_of sets) (map labels_of (data_of set.body))) c.write_held.new.reply
-          (c.write_held.ensures.cut c.if-write_held.true);
+          (c.write_held.ensures.truncated c.if-write_held.true);
     }

@@ -36,7 +36,7 @@ returns-then-write_if_simple-clause-written c =
     (flat_more adds Additional simple_part all c.loop-i.i read.some.0 c.args.reply.now
     c.loop-i.reply c.write_if_simple.new.reply (sym read.loaded ∙ read.some.1)
     c.loop-i.invariant.written (c.write_if_simple.ensures.written read.some.0 read.some.1))
-    (c.write_if_simple.ensures.cut c.if-write_if_simple.true)
+    (c.write_if_simple.ensures.truncated c.if-write_if_simple.true)
 
 pub returns-clause-written : goal.returns-clause-written
 returns-clause-written c =

@@ -35,7 +35,7 @@ returns-then-write_or_cut-clause-written c = λ set held.
     (data_of set.body) c.loop-i.i c.rdata_at-rdata.result.now c.args.reply.now c.loop-i.reply
     c.write_or_cut.new.reply (c.rtype_of-rtype.ensures set held)
     (c.rdata_at-rdata.ensures.at set held) (c.loop-i.invariant.written set held)
-    c.write_or_cut.ensures.written) (c.write_or_cut.ensures.cut c.if-write_or_cut.true)
+    c.write_or_cut.ensures.written) (c.write_or_cut.ensures.truncated c.if-write_or_cut.true)
 
 pub returns-clause-written : goal.returns-clause-written
 returns-clause-written c = λ set held.

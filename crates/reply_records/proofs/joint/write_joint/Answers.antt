@@ -58,7 +58,7 @@ returns-then-write_new c =
     c.loop-i.reply c.write_new.new.reply) c.places_before-earlier.ensures
     (c.write_new.ensures.written there.0 there.1) in
     joint_cut adds c.args.owner.now c.args.rtype c.args.ttl c.args.reply.now c.write_new.new.reply
-    (c.write_new.ensures.cut c.if-write_new.true) all places (c.loop-i.i + 1)
+    (c.write_new.ensures.truncated c.if-write_new.true) all places (c.loop-i.i + 1)
     (same Answer _ _ c.args.reply.now c.write_new.new.reply
     (joint_step all places c.loop-i.i (get_or places c.loop-i.i 0) there.0
     c.args.owner.now c.args.rtype c.args.ttl

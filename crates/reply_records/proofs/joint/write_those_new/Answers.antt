@@ -62,4 +62,4 @@ returns-then-write_if_new-clause-written c = λ other there.
     y.1)
     (more adds Answer _ _ c.args.reply.now c.loop-i.reply c.write_if_new.new.reply
     (inv.written other there) (c.write_if_new.ensures.written other y.0 (inv.held ∙ there) y.1)))
-    (c.write_if_new.ensures.cut c.if-write_if_new.true)
+    (c.write_if_new.ensures.truncated c.if-write_if_new.true)

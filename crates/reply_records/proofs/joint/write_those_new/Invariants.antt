@@ -5,12 +5,12 @@ use Rattle.dns_wire.specs.declared.reply.Section.TheVariants.{Answer}
 use Rattle.policy_select.specs.Groups.{sets_in}
 use Rattle.record_set.specs.declared.sets.RecordSet.{RecordSet}
 use Rattle.reply_records.specs.Chosen.{new_data, sets_of_places}
-use Rattle.reply_records.specs.Writing.{IsOpen, Writes}
+use Rattle.reply_records.specs.Writing.{TakesRecords, Writes}
 use Rattle.reply_records.proofs.joint.write_those_new.Given as goal
 
 abbrev pub invariant-loop-i : goal.invariant-loop-i
 invariant-loop-i l = record {
-  still_open : IsOpen Answer l.reply;
+  still_open : TakesRecords Answer l.reply;
   held : l.scratch ≡ slice_get (sets_in l.zones.zones l.group) l.place;
   as_begun : l.scratch ≡ l.fn.scratch;
   written : (set : RecordSet) → slice_get (sets_in l.zones.zones l.group) l.place ≡ Some set

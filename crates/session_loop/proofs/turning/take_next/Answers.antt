@@ -1,23 +1,23 @@
 use Rattle.std.proofs.Common.{◌≡◌, ◌∙◌, ◌+◌, ℕ, List, [], Option, None, Some, ap, inl, inr, refl, subst, sym}
 use Rattle.engine_model.specs.Engine.{Journal}
 use Rattle.line_splitting.specs.Lines.{Line}
-use Rattle.line_splitting.specs.Reading.{Gives, events}
+use Rattle.line_splitting.specs.Reading.{GivesLine, events}
 use Rattle.session_loop.proofs.Files.{are_files}
 use Rattle.session_loop.proofs.Turns.{all_now, at_end, at_limit, cause_of, is_more, is_whole, line_turn, link_whole, long_cause, long_turn, read, never_read, broken_now, went_whole}
 use Rattle.session_loop.specs.Ending.{HasCause}
-use Rattle.session_loop.specs.Turning.{TurnLeaves}
+use Rattle.session_loop.specs.Turning.{RoundLeaves}
 use Rattle.session_loop.specs.declared.ended.Ended.{Ended}
 use Rattle.session_server.specs.Holding.{Holds}
 use Rattle.session_server.specs.Journaled.{State as Kept, config_of}
 use Rattle.session_server.specs.Standing.{Server, StandsFor}
 use Rattle.session_server.specs.Taken.{Taken}
-use Rattle.zone_journal.specs.Pairs.{Leaves}
+use Rattle.zone_journal.specs.Pairs.{BothRead}
 use Rattle.std.specs.Prelude.{IfSome}
 use Rattle.session_loop.proofs.turning.take_next.Goals as goal
 
 pub returns-in-Line-clause-leaves : goal.returns-in-Line-clause-leaves
 returns-in-Line-clause-leaves g c = λ around old left held before same stands files ports has tells was.
-    subst (λ (r : Option Ended). TurnLeaves r g.D.Disk.images c.take_line.new.a c.take_line.new.b around c.args.reader.now c.next.new.self left
+    subst (λ (r : Option Ended). RoundLeaves r g.D.Disk.images c.take_line.new.a c.take_line.new.b around c.args.reader.now c.next.new.self left
     (g.S.Source.left c.next.new.source) old c.take_line.new.self (g.L.Link.coming c.take_line.new.link) (g.R.Rng.stream c.take_line.new.words) held before
     (g.K.Sink.held c.take_line.new.out) (g.L.Link.sent c.take_line.new.link))
     (sym c.ended_of.ensures)
@@ -25,9 +25,9 @@ returns-in-Line-clause-leaves g c = λ around old left held before same stands f
     (g.S.Source.left c.next.new.source) (c.in-Line.ensures.leaves left has) old c.take_line.new.self
     (g.L.Link.coming c.take_line.new.link) (g.R.Rng.stream c.take_line.new.words) held before (g.K.Sink.held c.take_line.new.out)
     (g.L.Link.sent c.take_line.new.link) c.line.result.now
-    (subst (λ (l : List ℕ). Gives c.args.reader.now (Line l) c.next.new.self) (sym c.line.ensures)
+    (subst (λ (l : List ℕ). GivesLine c.args.reader.now (Line l) c.next.new.self) (sym c.line.ensures)
     c.in-Line.ensures.answers)
-    (Leaves g.D.Disk.reading c.args.a.now c.args.b.now (Holds c.args.server.now.store.kept)) files
+    (BothRead g.D.Disk.reading c.args.a.now c.args.b.now (Holds c.args.server.now.store.kept)) files
     c.take_line.result
     (λ now whole here. are_files g.D.Disk.reading g.D.Disk.images c.standing_opens.ensures c.standing_shapes.ensures c.take_line.new.self.store.kept c.take_line.new.a c.take_line.new.b
     (c.take_line.ensures.stands whole) (c.take_line.ensures.holds files whole) now.engine here.store.config
@@ -74,7 +74,7 @@ returns-in-Line-clause-cause g c =
 
 pub returns-in-TooLong-clause-leaves : goal.returns-in-TooLong-clause-leaves
 returns-in-TooLong-clause-leaves g c = λ around old left held before same stands files ports has tells was.
-    subst (λ (r : Option Ended). TurnLeaves r g.D.Disk.images c.args.a.now c.args.b.now around c.args.reader.now c.next.new.self left
+    subst (λ (r : Option Ended). RoundLeaves r g.D.Disk.images c.args.a.now c.args.b.now around c.args.reader.now c.next.new.self left
     (g.S.Source.left c.next.new.source) old c.refuse_line.new.self (g.L.Link.coming c.args.link.now) (g.R.Rng.stream c.args.words.now) held before
     (g.K.Sink.held c.refuse_line.new.out) (g.L.Link.sent c.args.link.now))
     (sym c.ended_of-in-TooLong.ensures)

@@ -5,7 +5,7 @@ use Rattle.session_loop.specs.Stores.{StandsFor as StoreStandsFor, State as Stor
 use Rattle.session_run.proofs.Opened.{beginning, files_faulty, is_beginning, is_tabled, not_opened, opens_config, stands_for, unopened_cause, without_store}
 use Rattle.session_run.specs.Running.{FilesSay, HasCauseOf, IfUntabled, SessionLeaves, UnlessEnded, surroundings}
 use Rattle.session_run.specs.declared.ran.Ran.{Ran}
-use Rattle.zone_journal.specs.Pairs.{Leaves, Unwritten}
+use Rattle.zone_journal.specs.Pairs.{BothRead, Unwritten}
 use Rattle.zone_journal.specs.declared.answers.OpenFault.{OpenFault}
 use Rattle.session_run.proofs.running.open_session.Goals as goal
 
@@ -26,7 +26,7 @@ returns-in-Ok-begin-clause-leaves g c = λ given told.
           (subst (λ (s : Store). StoreStandsFor (opened kept) s)
           (ap (λ (s : Server). s.store) (sym is)) c.in-Ok.ensures.opened)
           (ap (λ (s : Server). s.bound) is) told.arrivals_are told.words_are)
-          (subst (λ (s : Server). Leaves g.D.Disk.reading c.open.new.a c.open.new.b
+          (subst (λ (s : Server). BothRead g.D.Disk.reading c.open.new.a c.open.new.b
           (Holds s.store.kept)) (sym is) holds) told.ports_are told.input_is told.held_is
           told.before_is,
     )

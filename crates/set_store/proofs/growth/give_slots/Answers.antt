@@ -1,5 +1,5 @@
 use Rattle.std.proofs.Common.{◌≡◌, ◌+◌, length, map, ap, sym, ◌∙◌, subst, arith}
-use Rattle.set_store.specs.Index.{IsIndex, kept_in}
+use Rattle.set_store.specs.Index.{IsIntact, kept_in}
 use Rattle.set_store.proofs.More.{given, more_seen}
 use Rattle.set_store.proofs.growth.give_slots.Goals as goal
 
@@ -13,10 +13,10 @@ loop-preserved c =
     let one : (c.args.spare + c.loop.counter) + 1 ≡ c.args.spare + (c.loop.counter + 1) = omega arith in
     record {
       index = λ held is.
-          subst (λ n. IsIndex held g.new.slots.items g.result n) one
-          (subst (λ n. IsIndex held g.new.slots.items n ((c.args.spare + c.loop.counter) + 1))
+          subst (λ n. IsIntact held g.new.slots.items g.result n) one
+          (subst (λ n. IsIntact held g.new.slots.items n ((c.args.spare + c.loop.counter) + 1))
           (sym g.ensures.number)
-          (subst (λ xs. IsIndex held xs (length c.loop.slots.items) ((c.args.spare + c.loop.counter) + 1))
+          (subst (λ xs. IsIntact held xs (length c.loop.slots.items) ((c.args.spare + c.loop.counter) + 1))
           (sym g.ensures.slots)
           (given held c.loop.slots.items c.loop.free (c.args.spare + c.loop.counter) (i.index held is)
           (omega (arith, ok, i.few, c.loop-test.true)))));

@@ -4,11 +4,11 @@ use Rattle.std.specs.Prelude.{nat_lt}
 use Rattle.octets.specs.Numbers.{four_octets}
 use Rattle.octet_reading.specs.Rules.{list_octets}
 use Rattle.check_model.specs.declared.checks.Check.{Check}
-use Rattle.check_octets.specs.Octets.{where_told}
+use Rattle.check_octets.specs.Octets.{where_spelled}
 use Rattle.cidr_blocks.specs.declared.places.Collection.{Collection}
 use Rattle.cidr_commands.specs.Stored.{Stored}
 use Rattle.config_zones.specs.Configured.{config_of}
-use Rattle.snapshot_octets.specs.Octets.{IsHeldCollection, held_check_octets}
+use Rattle.snapshot_octets.specs.Octets.{IsHeldCollection, numbered_check_octets}
 use Rattle.snapshot_octets.specs.Octets.{held_collection_octets}
 use Rattle.snapshot_writing.proofs.Assembled.{assembled, collections_are, is_short}
 use Rattle.snapshot_writing.proofs.writing.write_snapshot.Goals as goal
@@ -40,12 +40,12 @@ returns c =
     ∙ ap (λ (p : List ℕ). c.append-2.new.into.items ++ p)
     (c.four_octets-2.ensures ∙ ap four_octets c.next_number.ensures.number))
     (c.in_ok-append_told_number.ensures
-    ∙ ap (λ (n : ℕ). c.append-3.new.into.items ++ where_told told (four_octets n)) next)
+    ∙ ap (λ (n : ℕ). c.append-3.new.into.items ++ where_spelled told (four_octets n)) next)
     (c.in_ok-append_checks.ensures
     ∙ ap (λ (l : List (ℕ × Check)). c.append_told_number.new.into.items
-    ++ list_octets (held_check_octets 2) l) c.as_slice.ensures.checks)
+    ++ list_octets (numbered_check_octets 2) l) c.as_slice.ensures.checks)
     (c.in_ok-append_told_collections.ensures
     ∙ ap (λ (l : List (ℕ × Collection)). c.append_checks.new.into.items
-    ++ where_told told (list_octets held_collection_octets l)) list)
+    ++ where_spelled told (list_octets held_collection_octets l)) list)
     c.in_ok-append_zones.ensures in
     record { spelled = is; short = is_short c.sound_are_short.ensures config c.requires is }

@@ -3,7 +3,7 @@ use Rattle.config_zones.proofs.Rest.{as_many, held_so}
 use Rattle.record_set.specs.declared.sets.RecordSet.{RecordSet}
 use Rattle.config_zones.specs.Octets.{set_octets}
 use Rattle.config_zones.specs.Zones.{placed_in}
-use Rattle.zone_model.specs.Placed.{sets_of}
+use Rattle.zone_model.specs.Slotted.{sets_of}
 use Rattle.snapshot_writing.proofs.Gathered.{all_appended, one_more}
 use Rattle.snapshot_writing.proofs.zones.append_each_set.Goals as goal
 

@@ -1,5 +1,5 @@
 use Rattle.config_zones.specs.Zones.{placed_in}
-use Rattle.zone_model.specs.Placed.{sets_of}
+use Rattle.zone_model.specs.Slotted.{sets_of}
 use Rattle.snapshot_writing.proofs.Gathered.{AreAppended}
 use Rattle.snapshot_writing.proofs.zones.append_each_set.Given as goal
 

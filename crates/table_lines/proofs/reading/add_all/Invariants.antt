@@ -1,5 +1,5 @@
 use Rattle.std.proofs.Common.{◌≡◌, ◌+◌, ◌-◌, ◌≤◌, ◌<◌, List, ℕ, Some, length, take}
-use Rattle.table_lines.specs.Turns.{IsOpen, Stands}
+use Rattle.table_lines.specs.Turns.{IsUnended, IsReadSoFar}
 use Rattle.table_lines.proofs.reading.add_all.Given as goal
 
 abbrev pub invariant-loop-budget : goal.invariant-loop-budget
@@ -8,10 +8,10 @@ invariant-loop-budget g l = record {
   short : l.len ≤ 4096;
   numbers : l.number + l.len + l.budget ≤ l.most + 1;
   budget_is : l.budget ≤ l.most;
-  is_open : IsOpen (take l.len l.buffer);
+  is_open : IsUnended (take l.len l.buffer);
   counts : g.S.Source.faults l.fn.source ≤ g.S.Source.faults l.source;
   stands : (input : List ℕ) → g.S.Source.left l.fn.source ≡ Some input
-      → Stands l.most l.fn.tables input (g.S.Source.left l.source) (l.most - l.budget) l.tables l.number
+      → IsReadSoFar l.most l.fn.tables input (g.S.Source.left l.source) (l.most - l.budget) l.tables l.number
       (take l.len l.buffer);
 }
 

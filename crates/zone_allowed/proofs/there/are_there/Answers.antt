@@ -1,6 +1,6 @@
 use Rattle.std.proofs.Common.{arith}
 use Rattle.zone_table.specs.Zones.{placed_in}
-use Rattle.zone_table.specs.Placed.{sets_of}
+use Rattle.zone_table.specs.Slotted.{sets_of}
 use Rattle.zone_allowed.proofs.Rises.{there_apart}
 use Rattle.zone_allowed.proofs.there.are_there.Goals as goal
 

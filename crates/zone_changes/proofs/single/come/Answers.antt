@@ -2,8 +2,8 @@ use Rattle.std.proofs.Common.{◌≡◌, ◌≤◌, ℕ, List, length, set, ap, 
 use Rattle.std.specs.Prelude.{slice_get}
 use Rattle.zone_order.specs.Sets.{key_of}
 use Rattle.zone_order.specs.Found.{FindsAt, FindsNone}
-use Rattle.zone_order.specs.Placed.{Placed, sets_of}
-use Rattle.zone_order.specs.Orders.{placed_of, set_in}
+use Rattle.zone_order.specs.Slotted.{Slotted, sets_of}
+use Rattle.zone_order.specs.Orders.{slotted_of, set_in}
 use Rattle.zone_changes.proofs.Coming.{gives_way, one_spelled, set_there}
 use Rattle.zone_order.specs.Cells.{cells_for}
 use Rattle.zone_changes.proofs.Cells.{few_more, put_cells, replaced_cells}
@@ -14,11 +14,11 @@ pub replace_at-requires-clause-there : goal.replace_at-requires-clause-there
 replace_at-requires-clause-there c it spells =
     let same = one_spelled c.one_spelling.ensures c.spell-octets.result.now c.args.set.now it
     c.spell-octets.ensures.spells spells in
-    subst (λ xs. FindsAt (sets_of (placed_of c.args.store.now.slots c.args.zone xs))
+    subst (λ xs. FindsAt (sets_of (slotted_of c.args.store.now.slots c.args.zone xs))
     (key_of it) c.in-Ok.place)
     (sym c.deref.ensures.value)
     (subst (λ k. FindsAt (sets_of
-    (placed_of c.args.store.now.slots c.args.zone c.args.order.now.items)) k c.in-Ok.place)
+    (slotted_of c.args.store.now.slots c.args.zone c.args.order.now.items)) k c.in-Ok.place)
     (c.key-key.ensures ∙ ap key_of same) c.in-Ok.ensures)
 
 pub put_at-requires-clause-absent : goal.put_at-requires-clause-absent
@@ -26,7 +26,7 @@ put_at-requires-clause-absent c it spells =
     let same = one_spelled c.one_spelling.ensures c.spell-octets.result.now c.args.set.now it
     c.spell-octets.ensures.spells spells in
     subst (λ k. FindsNone (sets_of
-    (placed_of c.args.store.now.slots c.args.zone c.args.order.now.items)) k c.in-Err.place)
+    (slotted_of c.args.store.now.slots c.args.zone c.args.order.now.items)) k c.in-Err.place)
     (c.key-key.ensures ∙ ap key_of same) c.in-Err.ensures
 
 pub returns-in-Ok-clause-comes : goal.returns-in-Ok-clause-comes
@@ -36,10 +36,10 @@ returns-in-Ok-clause-comes c =
     c.in-Ok.place c.replace_at.result c.args.set.now _ (ap (λ xs. slice_get xs c.in-Ok.place) (sym slice)
     ∙ c.replace_at.ensures.slot)
     (subst (λ k. FindsAt (sets_of
-    (placed_of c.args.store.now.slots c.args.zone c.args.order.now.items)) k c.in-Ok.place)
+    (slotted_of c.args.store.now.slots c.args.zone c.args.order.now.items)) k c.in-Ok.place)
     c.key-key.ensures c.in-Ok.ensures)
-    (subst (λ xs. placed_of c.replace_at.new.store.slots c.args.zone xs ≡ set
-    (placed_of c.args.store.now.slots c.args.zone xs) c.in-Ok.place
+    (subst (λ xs. slotted_of c.replace_at.new.store.slots c.args.zone xs ≡ set
+    (slotted_of c.args.store.now.slots c.args.zone xs) c.in-Ok.place
     (record { slot = c.replace_at.result; set = c.args.set.now })) slice
     (c.replace_at.ensures.replaced c.args.set.now c.spell-octets.ensures.spells)))
 
@@ -50,21 +50,21 @@ returns-in-Ok-clause-cells c =
     let there = set_there (set_in c.args.store.now.slots c.args.zone) c.args.order.now.items
     c.requires.order.present c.in-Ok.place c.replace_at.result found.kept
     (ap (λ xs. slice_get xs c.in-Ok.place) (sym slice) ∙ c.replace_at.ensures.slot) found.there in
-    replaced_cells (placed_of c.args.store.now.slots c.args.zone c.args.order.now.items)
+    replaced_cells (slotted_of c.args.store.now.slots c.args.zone c.args.order.now.items)
     (record { slot = c.replace_at.result; set = c.args.set.now })
     (record { slot = c.replace_at.result; set = found.kept }) _ c.in-Ok.place there
-    (subst (λ xs. placed_of c.replace_at.new.store.slots c.args.zone xs ≡ set
-    (placed_of c.args.store.now.slots c.args.zone xs) c.in-Ok.place
+    (subst (λ xs. slotted_of c.replace_at.new.store.slots c.args.zone xs ≡ set
+    (slotted_of c.args.store.now.slots c.args.zone xs) c.in-Ok.place
     (record { slot = c.replace_at.result; set = c.args.set.now })) slice
     (c.replace_at.ensures.replaced c.args.set.now c.spell-octets.ensures.spells))
     c.args.store.now.cells c.replace_at.new.store.cells (cells_for (length c.spell-octets.result.now))
     (ap (λ (o : List ℕ). cells_for (length o)) c.spell-octets.ensures.spells.same)
     (c.replace_at.ensures.cells (record { slot = c.replace_at.result; set = found.kept })
-    (ap (λ xs. slice_get (placed_of c.args.store.now.slots c.args.zone xs) c.in-Ok.place) slice ∙ there))
+    (ap (λ xs. slice_get (slotted_of c.args.store.now.slots c.args.zone xs) c.in-Ok.place) slice ∙ there))
 
 pub returns-in-Err-clause-cells : goal.returns-in-Err-clause-cells
 returns-in-Err-clause-cells c =
-    put_cells (placed_of c.args.store.now.slots c.args.zone c.args.order.now.items)
+    put_cells (slotted_of c.args.store.now.slots c.args.zone c.args.order.now.items)
     (record { slot = c.put_at.result; set = c.args.set.now }) _
     (c.put_at.ensures.put c.args.set.now c.spell-octets.ensures.spells)
     c.args.store.now.cells c.put_at.new.store.cells (cells_for (length c.spell-octets.result.now))
@@ -75,7 +75,7 @@ returns-in-Err-clause-cells c =
 
 pub returns-in-Ok-clause-enough : goal.returns-in-Ok-clause-enough
 returns-in-Ok-clause-enough c =
-    few_more (placed_of c.args.store.now.slots c.args.zone c.args.order.now.items)
+    few_more (slotted_of c.args.store.now.slots c.args.zone c.args.order.now.items)
     (record { slot = c.replace_at.result; set = c.args.set.now }) _ (returns-in-Ok-clause-comes c)
     c.args.store.now.cells c.replace_at.new.store.cells (returns-in-Ok-clause-cells c)
 
@@ -86,11 +86,11 @@ returns-in-Ok-clause-sums c =
     let there = set_there (set_in c.args.store.now.slots c.args.zone) c.args.order.now.items
     c.requires.order.present c.in-Ok.place c.replace_at.result found.kept
     (ap (λ xs. slice_get xs c.in-Ok.place) (sym slice) ∙ c.replace_at.ensures.slot) found.there in
-    let given : Placed = record { slot = c.replace_at.result; set = c.args.set.now } in
-    let was : Placed = record { slot = c.replace_at.result; set = found.kept } in
-    replaced_sums (placed_of c.args.store.now.slots c.args.zone c.args.order.now.items) given was _ c.in-Ok.place there
-    (subst (λ xs. placed_of c.replace_at.new.store.slots c.args.zone xs ≡ set
-    (placed_of c.args.store.now.slots c.args.zone xs) c.in-Ok.place given) slice
+    let given : Slotted = record { slot = c.replace_at.result; set = c.args.set.now } in
+    let was : Slotted = record { slot = c.replace_at.result; set = found.kept } in
+    replaced_sums (slotted_of c.args.store.now.slots c.args.zone c.args.order.now.items) given was _ c.in-Ok.place there
+    (subst (λ xs. slotted_of c.replace_at.new.store.slots c.args.zone xs ≡ set
+    (slotted_of c.args.store.now.slots c.args.zone xs) c.in-Ok.place given) slice
     (c.replace_at.ensures.replaced c.args.set.now c.spell-octets.ensures.spells))
     c.args.sums.now c.with_set-counted.result c.without_at.result c.requires.sums
     (c.with_set-counted.ensures given refl (ap length c.spell-octets.ensures.spells.same))
@@ -98,8 +98,8 @@ returns-in-Ok-clause-sums c =
 
 pub returns-in-Err-clause-sums : goal.returns-in-Err-clause-sums
 returns-in-Err-clause-sums c =
-    let given : Placed = record { slot = c.put_at.result; set = c.args.set.now } in
-    put_sums (placed_of c.args.store.now.slots c.args.zone c.args.order.now.items) given _
+    let given : Slotted = record { slot = c.put_at.result; set = c.args.set.now } in
+    put_sums (slotted_of c.args.store.now.slots c.args.zone c.args.order.now.items) given _
     (c.put_at.ensures.put c.args.set.now c.spell-octets.ensures.spells)
     c.args.sums.now c.with_set-counted.result c.requires.sums
     (c.with_set-counted.ensures given refl (ap length c.spell-octets.ensures.spells.same))

@@ -3,7 +3,7 @@ use Rattle.config_zones.specs.NewZones.{is_another}
 use Rattle.config_zones.proofs.Rest.{as_many, held_so, none_left, not_this, this_one}
 use Rattle.record_set.specs.declared.sets.RecordSet.{RecordSet}
 use Rattle.config_zones.specs.Zones.{placed_in}
-use Rattle.zone_model.specs.Placed.{sets_of}
+use Rattle.zone_model.specs.Slotted.{sets_of}
 use Rattle.zone_commands.proofs.closing.has_another.Goals as goal
 
 pub returns-then-is_another : goal.returns-then-is_another

@@ -2,7 +2,7 @@ use Rattle.std.proofs.Common.{◌≡◌, drop}
 use Rattle.std.specs.List.{list_any}
 use Rattle.config_zones.specs.NewZones.{is_another}
 use Rattle.config_zones.specs.Zones.{placed_in}
-use Rattle.zone_model.specs.Placed.{sets_of}
+use Rattle.zone_model.specs.Slotted.{sets_of}
 use Rattle.zone_commands.proofs.closing.has_another.Given as goal
 
 abbrev pub invariant-loop-i : goal.invariant-loop-i

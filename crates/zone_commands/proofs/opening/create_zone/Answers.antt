@@ -6,7 +6,7 @@ use Rattle.config_zones.specs.Configured.{IsEditFor, config_of}
 use Rattle.record_set.specs.declared.sets.RecordSet.{RecordSet}
 use Rattle.config_zones.specs.Octets.{HasSpelling, set_octets}
 use Rattle.config_zones.specs.Counted.{octets_in_all, sets_in_all}
-use Rattle.config_zones.specs.ZoneEditRecord.TheVariants.{Open}
+use Rattle.config_zones.specs.ZoneEditRecord.TheVariants.{Begin}
 use Rattle.zone_commands.proofs.Opened.{opened, own, refused_early, refused_full}
 use Rattle.zone_commands.proofs.opening.create_zone.Goals as goal
 
@@ -43,7 +43,7 @@ returns c = λ checks sound.
     (c.as_slice.ensures.value ∙ c.in-Ok.ensures)) in
     subst (λ (l : List RecordSet). IsEditFor (config_of c.args.zones.now checks c.args.next)
     (CreateZone c.args.name.now c.args.servers.now) c.args.zones.now
-    (Open c.args.next c.args.name.now l))
+    (Begin c.args.next c.args.name.now l))
     (sym (c.from_vec.ensures ∙ c.in-Ok.ensures))
     (opened c.args.zones.now c.args.next c.args.name.now c.args.servers.now checks
     c.in_default.ensures c.one_name_of_a_wire.ensures c.refusals_are_told.ensures bounded.0

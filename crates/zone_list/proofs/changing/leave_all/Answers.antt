@@ -2,11 +2,11 @@ use Rattle.std.proofs.Common.{◌≡◌, ◌+◌, ◌++◌, ◌∷◌, [], ◌�
 use Rattle.std.specs.Prelude.{slice_get}
 use Rattle.std.proofs.lemmas.Option.{slice_get_read}
 use Rattle.zone_changes.specs.SetKeyRecord.{SetKey}
-use Rattle.zone_changes.specs.Placed.{Placed, sets_of}
-use Rattle.zone_changes.specs.Orders.{placed_of}
+use Rattle.zone_changes.specs.Slotted.{Slotted, sets_of}
+use Rattle.zone_changes.specs.Orders.{slotted_of}
 use Rattle.zone_list.specs.declared.refs.SetRef.{SetRef}
 use Rattle.zone_list.specs.Changes.{AreThere}
-use Rattle.zone_list.specs.Steps.{Leavings}
+use Rattle.zone_list.specs.Steps.{Goings}
 use Rattle.zone_list.proofs.Members.{left_at, nothing_left}
 use Rattle.zone_list.proofs.Leaving.{more_leave, there_after}
 use Rattle.zone_list.proofs.Made.{append_none, length_more}
@@ -22,8 +22,8 @@ loop-key-preserved c =
     slice_get_read keys (length keys) i key refl (omega (arith, test)) c.key-item.is in
     let left : drop i keys ≡ key ∷ drop (i + 1) keys = left_at keys i key at in
     let inv = c.loop-key.invariant in
-    let now = placed_of c.loop-key.store.slots c.args.zone c.loop-key.order.items in
-    let next = placed_of c.leave-slot.new.store.slots c.args.zone c.leave-slot.new.order.items in
+    let now = slotted_of c.loop-key.store.slots c.args.zone c.loop-key.order.items in
+    let next = slotted_of c.leave-slot.new.store.slots c.args.zone c.leave-slot.new.order.items in
     let slot = c.leave-slot.result in
     let add = c.args.add.now in
     let added = c.args.added.now in
@@ -41,12 +41,12 @@ loop-key-preserved c =
           inv.order.rising c.leave-slot.ensures.leaves
           (subst (λ ks. AreThere (sets_of now) ks) left inv.there);
       leave = more_leave c.args.zone add added
-          (placed_of c.args.store.now.slots c.args.zone c.args.order.now.items) now next keys
+          (slotted_of c.args.store.now.slots c.args.zone c.args.order.now.items) now next keys
           (drop (i + 1) keys) key slot c.loop-key.removed.items c.push_reserved.new.self.items
-          (subst (λ (ks : List SetKey). (told : List SetRef) (after : List Placed)
-          → Leavings c.args.zone add added now ks told after
-          → Leavings c.args.zone add added
-          (placed_of c.args.store.now.slots c.args.zone c.args.order.now.items) keys (c.loop-key.removed.items
+          (subst (λ (ks : List SetKey). (told : List SetRef) (after : List Slotted)
+          → Goings c.args.zone add added now ks told after
+          → Goings c.args.zone add added
+          (slotted_of c.args.store.now.slots c.args.zone c.args.order.now.items) keys (c.loop-key.removed.items
           ++ told) after) left inv.leave)
           c.leave-slot.ensures.leaves push.items;
       others = λ other at_slot apart. c.leave-slot.ensures.others other at_slot apart
@@ -63,10 +63,10 @@ returns-clause-leaves c =
     let i = c.loop-key.key-index in
     let test = c.loop-key-test.false in
     let none : drop i keys ≡ [] = nothing_left keys i (omega (arith, test)) in
-    let now = placed_of c.loop-key.store.slots c.args.zone c.loop-key.order.items in
-    subst (λ (refs : List SetRef). Leavings c.args.zone c.args.add.now c.args.added.now
-    (placed_of c.args.store.now.slots c.args.zone c.args.order.now.items) keys refs now)
+    let now = slotted_of c.loop-key.store.slots c.args.zone c.loop-key.order.items in
+    subst (λ (refs : List SetRef). Goings c.args.zone c.args.add.now c.args.added.now
+    (slotted_of c.args.store.now.slots c.args.zone c.args.order.now.items) keys refs now)
     (append_none c.loop-key.removed.items)
     (c.loop-key.invariant.leave [] now
-    (subst (λ (ks : List SetKey). Leavings c.args.zone c.args.add.now c.args.added.now now ks [] now)
+    (subst (λ (ks : List SetKey). Goings c.args.zone c.args.add.now c.args.added.now now ks [] now)
     (sym none) (refl, refl)))

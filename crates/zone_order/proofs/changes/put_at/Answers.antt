@@ -1,6 +1,6 @@
 use Rattle.std.proofs.Common.{Some, subst, sym}
-use Rattle.set_store.specs.Placed.{IsPut}
-use Rattle.zone_order.specs.Orders.{IsOrderBy, placed_by, set_in}
+use Rattle.set_store.specs.Slotted.{IsPut}
+use Rattle.zone_order.specs.Orders.{IsOrderBy, slotted_by, set_in}
 use Rattle.zone_order.proofs.Orders.{put_is, put_order}
 use Rattle.zone_order.proofs.Slots.{its_own, nones, updated}
 use Rattle.zone_order.proofs.changes.put_at.Goals as goal
@@ -28,8 +28,8 @@ returns-clause-put c it spells =
     let k = c.put-slot.result in
     let updates = updated before after zone k c.put-slot.ensures.others (Some it)
     (its_own after zone k it (c.put-slot.ensures.here it spells)) in
-    subst (λ xs. IsPut (placed_by (set_in before zone) c.args.order.now.items) (record { slot = k; set = it })
-    (placed_by (set_in after zone) xs)) (sym c.insert_slot.ensures.items)
+    subst (λ xs. IsPut (slotted_by (set_in before zone) c.args.order.now.items) (record { slot = k; set = it })
+    (slotted_by (set_in after zone) xs)) (sym c.insert_slot.ensures.items)
     (put_is c.placed_rise.ensures (set_in before zone)
     (set_in after zone) c.args.order.now.items c.args.place k it
     c.requires.order (nones before zone k c.put-slot.ensures.vacant) updates c.put-slot.type_inv

@@ -1,7 +1,7 @@
 use Rattle.std.proofs.Common.{None, subst, sym}
-use Rattle.set_store.specs.Placed.{IsTakenAt}
+use Rattle.set_store.specs.Slotted.{IsTakenAt}
 use Rattle.set_store.proofs.ListsOfZoneModel.{all_found}
-use Rattle.zone_order.specs.Orders.{HasSet, IsOrderBy, placed_by, set_in}
+use Rattle.zone_order.specs.Orders.{HasSet, IsOrderBy, slotted_by, set_in}
 use Rattle.zone_order.proofs.Orders.{taken_is, taken_order}
 use Rattle.zone_order.proofs.Slots.{anothers, its_kept, kept_there, nones, stay, updated}
 use Rattle.zone_order.proofs.changes.take_at.Goals as goal
@@ -37,8 +37,8 @@ returns-clause-taken c =
     let k = c.remove_slot-slot.result in
     let updates = updated before after zone k c.take.ensures.others None
     (nones after zone k c.take.ensures.gone) in
-    subst (λ xs. IsTakenAt (placed_by (set_in before zone) c.args.order.now.items) c.args.place k
-    (placed_by (set_in after zone) xs)) (sym c.remove_slot-slot.ensures.items)
+    subst (λ xs. IsTakenAt (slotted_by (set_in before zone) c.args.order.now.items) c.args.place k
+    (slotted_by (set_in after zone) xs)) (sym c.remove_slot-slot.ensures.items)
     (taken_is (set_in before zone) (set_in after zone) c.args.order.now.items c.args.place k c.requires.order
     c.remove_slot-slot.ensures.slot updates)
 

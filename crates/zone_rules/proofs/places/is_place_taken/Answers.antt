@@ -2,7 +2,7 @@ use Rattle.std.proofs.Common.{◌≡◌, get_or, refl, arith, Some, subst, inl, 
 use Rattle.std.specs.Prelude.{slice_get}
 use Rattle.std.proofs.lemmas.Option.{slice_get-get_or}
 use Rattle.batch_model.specs.RecordSetRecord.{RecordSet}
-use Rattle.batch_model.specs.Rules.{AreOnePlace}
+use Rattle.batch_model.specs.Rules.{AreRivals}
 use Rattle.zone_rules.proofs.Runs.{at_one, moved, up_to}
 use Rattle.zone_rules.proofs.places.is_place_taken.Goals as goal
 
@@ -59,7 +59,7 @@ loop-k-preserved c j x y from lt at_j at_i place =
           (let first : x ≡ v = at_one sets k x v (moved sets j k x e at_j) at_k in
           let second : y ≡ w = at_one sets c.args.i y w at_i at_end in
           let t = yes
-          (subst (λ (s : RecordSet). AreOnePlace v.routing s.routing) second
-          (subst (λ (s : RecordSet). AreOnePlace s.routing y.routing) first place)) in
+          (subst (λ (s : RecordSet). AreRivals v.routing s.routing) second
+          (subst (λ (s : RecordSet). AreRivals s.routing y.routing) first place)) in
           grind (arith, t, no_place))
     ]

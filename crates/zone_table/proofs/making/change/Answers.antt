@@ -5,10 +5,10 @@ use Rattle.zone_list.specs.RecordSetRecord.{RecordSet}
 use Rattle.zone_list.specs.SetKeyRecord.{SetKey}
 use Rattle.zone_list.specs.Octets.{set_octets}
 use Rattle.zone_list.proofs.Among.{among_at}
-use Rattle.zone_list.specs.Orders.{placed_of}
+use Rattle.zone_list.specs.Orders.{slotted_of}
 use Rattle.zone_list.specs.Changes.{CanChange, Changes}
 use Rattle.zone_list.specs.Found.{IsAt}
-use Rattle.zone_list.specs.Kept.{Listed, named_of, Stands, zone_in, zones_in}
+use Rattle.zone_list.specs.Kept.{Listed, named_of, IsIntact, zone_in, zones_in}
 use Rattle.zone_list.specs.Zones.{IsZoneId}
 use Rattle.zone_table.specs.declared.edits.ZoneEdit.TheVariants.{Change}
 use Rattle.zone_table.proofs.Edited.{changed_edits, its_can, told}
@@ -55,14 +55,14 @@ change-requires-clause-can c =
     subst (λ (l : List Listed). IsAt (named_of l) c.args.zone c.in-Some.place) c.deref.ensures.value
     c.in-Some.ensures in
     let it = it_is list c.args.zone c.in-Some.place found k c.index_mut.ensures.value in
-    let can : CanChange k.apex (placed_of slots k.id k.order) c.args.remove c.args.add =
+    let can : CanChange k.apex (slotted_of slots k.id k.order) c.args.remove c.args.add =
     its_can (zones_in slots list) (zone_in slots k)
     (in_map (zone_in slots) list k (among_at list c.in-Some.place k it.1))
     (with_sets slots list c.requires.kept.listed) c.args.zone c.args.remove c.args.add it.2
     c.requires.allowed in
-    subst (λ (ks : List SetKey). CanChange k.apex (placed_of slots k.id k.order) ks c.as_slice-2.result.now)
+    subst (λ (ks : List SetKey). CanChange k.apex (slotted_of slots k.id k.order) ks c.as_slice-2.result.now)
     (sym c.as_slice.ensures)
-    (subst (λ (ss : List RecordSet). CanChange k.apex (placed_of slots k.id k.order) c.args.remove ss)
+    (subst (λ (ss : List RecordSet). CanChange k.apex (slotted_of slots k.id k.order) c.args.remove ss)
     (sym c.as_slice-2.ensures) can)
 
 pub change-requires-clause-buffer : goal.change-requires-clause-buffer
@@ -86,9 +86,9 @@ change-requires-clause-places c =
 -- what changed, and what the zone holds now
 changes-of : (c : goal.After-drop-remove-inside) → (IsAt (named_of c.args.list.now.items) c.args.zone c.in-Some.place)
     × Changes c.index_mut.result.now.id
-    (placed_of c.args.store.now.slots c.index_mut.result.now.id c.index_mut.result.now.order)
+    (slotted_of c.args.store.now.slots c.index_mut.result.now.id c.index_mut.result.now.order)
     c.args.remove c.args.add c.change.new.removed.items c.change.new.added.items
-    (placed_of c.change.new.store.slots c.change.new.self.id c.change.new.self.order)
+    (slotted_of c.change.new.store.slots c.change.new.self.id c.change.new.self.order)
 changes-of c =
     let slots = c.args.store.now.slots in
     let k = c.index_mut.result.now in
@@ -96,14 +96,14 @@ changes-of c =
     let now = made.store.slots in (
       subst (λ (l : List Listed). IsAt (named_of l) c.args.zone c.in-Some.place) c.deref.ensures.value
           c.in-Some.ensures,
-      subst (λ (ks : List SetKey). Changes k.id (placed_of slots k.id k.order) ks c.args.add
-          made.removed.items made.added.items (placed_of now made.self.id made.self.order)) c.as_slice.ensures
-          (subst (λ (ss : List RecordSet). Changes k.id (placed_of slots k.id k.order) c.as_slice.result.now ss
-          made.removed.items made.added.items (placed_of now made.self.id made.self.order)) c.as_slice-2.ensures
+      subst (λ (ks : List SetKey). Changes k.id (slotted_of slots k.id k.order) ks c.args.add
+          made.removed.items made.added.items (slotted_of now made.self.id made.self.order)) c.as_slice.ensures
+          (subst (λ (ss : List RecordSet). Changes k.id (slotted_of slots k.id k.order) c.as_slice.result.now ss
+          made.removed.items made.added.items (slotted_of now made.self.id made.self.order)) c.as_slice-2.ensures
           c.change.ensures.changes),
     )
 
-stands-now : (c : goal.After-drop-remove-inside) → Stands c.change.new.store.slots c.change.new.self
+stands-now : (c : goal.After-drop-remove-inside) → IsIntact c.change.new.store.slots c.change.new.self
 stands-now c =
     let slots = c.args.store.now.slots in
     let list = c.args.list.now.items in
@@ -113,7 +113,7 @@ stands-now c =
     let known = changes-of c in
     let it = it_is list c.args.zone i known.0 k c.index_mut.ensures.value in
     let there = among_at list i k it.1 in
-    let can : CanChange k.apex (placed_of slots k.id k.order) c.args.remove c.args.add =
+    let can : CanChange k.apex (slotted_of slots k.id k.order) c.args.remove c.args.add =
     its_can (zones_in slots list) (zone_in slots k) (in_map (zone_in slots) list k there)
     (with_sets slots list c.requires.kept.listed) c.args.zone c.args.remove c.args.add it.2
     c.requires.allowed in

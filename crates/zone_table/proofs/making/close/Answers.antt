@@ -2,9 +2,9 @@ use Rattle.std.proofs.Common.{◌≡◌, ◌∙◌, ◌+◌, ◌%◌, ◌^◌, a
 use Rattle.std.specs.List.{remove}
 use Rattle.zone_list.proofs.Among.{among_at}
 use Rattle.zone_list.specs.Found.{IsAt}
-use Rattle.zone_list.specs.Kept.{AreKept, Listed, named_of, zone_in, zones_in}
+use Rattle.zone_list.specs.Kept.{AreIntact, Listed, named_of, zone_in, zones_in}
 use Rattle.zone_list.specs.Zones.{IsZoneId}
-use Rattle.zone_table.specs.declared.edits.ZoneEdit.TheVariants.{Close}
+use Rattle.zone_table.specs.declared.edits.ZoneEdit.TheVariants.{End}
 use Rattle.zone_table.specs.Edits.{Edits}
 use Rattle.zone_table.proofs.Edited.{closed_edits, told}
 use Rattle.zone_table.proofs.Kept.{all_zones, closed_kept, closed_zones}
@@ -67,7 +67,7 @@ returns-clause-kept c =
     subst (λ (l : List Listed). IsAt (named_of l) c.args.zone i) c.deref.ensures.value
     c.in-Some.ensures in
     let it = it_is list c.args.zone i found k c.remove-closed.ensures.value in
-    subst (λ (l : List Listed). AreKept c.close.new.store.slots l) (sym c.remove-closed.ensures.items)
+    subst (λ (l : List Listed). AreIntact c.close.new.store.slots l) (sym c.remove-closed.ensures.items)
     (closed_kept slots c.close.new.store.slots list i k it.1 c.requires.kept c.close.ensures.others
     c.close.ensures.order)
 
@@ -84,10 +84,10 @@ returns-clause-edits c =
     let it = it_is list c.args.zone i found k c.remove-closed.ensures.value in
     let removed = c.close.new.removed.items in
     let none : c.from_vec-2.result ≡ [] = c.from_vec-2.ensures ∙ c.requires.none_added in
-    subst (λ (l : List Listed). Edits (zones_in slots list) (Close c.args.zone) (zones_in now l)
+    subst (λ (l : List Listed). Edits (zones_in slots list) (End c.args.zone) (zones_in now l)
     (record { zone = c.args.zone; removed = c.from_vec.result; added = c.from_vec-2.result }))
     (sym c.remove-closed.ensures.items)
-    (told (zones_in slots list) (Close c.args.zone) (zones_in now (remove list i)) c.args.zone
+    (told (zones_in slots list) (End c.args.zone) (zones_in now (remove list i)) c.args.zone
     removed c.from_vec.result [] c.from_vec-2.result c.from_vec.ensures none
     (closed_edits (zones_in slots list) (zones_in now (remove list i))
     (zones_in slots (take i list)) (zones_in slots (drop (suc i) list)) (zone_in slots k)

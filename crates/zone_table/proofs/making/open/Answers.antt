@@ -2,11 +2,11 @@ use Rattle.std.proofs.Common.{◌≡◌, ◌≤◌, ◌∙◌, ◌+◌, ◌%◌,
 use Rattle.std.specs.List.{AllByRecursion, insert}
 use Rattle.zone_list.specs.RecordSetRecord.{RecordSet}
 use Rattle.zone_list.specs.Octets.{set_octets}
-use Rattle.zone_list.specs.Orders.{IsOrder, OthersStay, placed_of}
+use Rattle.zone_list.specs.Orders.{IsOrder, OthersStay, slotted_of}
 use Rattle.zone_list.specs.Changes.{CanChange, Changes}
 use Rattle.zone_list.specs.Found.{IsSplit}
-use Rattle.zone_list.specs.Kept.{AreKept, Listed, named_of, Stands, zone_in, zones_in}
-use Rattle.zone_table.specs.declared.edits.ZoneEdit.TheVariants.{Open}
+use Rattle.zone_list.specs.Kept.{AreIntact, Listed, named_of, IsIntact, zone_in, zones_in}
+use Rattle.zone_table.specs.declared.edits.ZoneEdit.TheVariants.{Begin}
 use Rattle.zone_table.specs.Edits.{Edits, IsAllowed}
 use Rattle.zone_table.proofs.Edited.{opened_edits, told}
 use Rattle.zone_table.proofs.Kept.{changed_stands, opened_kept, opened_zones, part_zones}
@@ -28,9 +28,9 @@ pub change-requires-clause-can : goal.change-requires-clause-can
 change-requires-clause-can c =
     let k = c.args.opened in
     let slots = c.args.store.now.slots in
-    subst (λ (ss : List RecordSet). CanChange k.apex (placed_of slots k.id k.order) [] ss)
+    subst (λ (ss : List RecordSet). CanChange k.apex (slotted_of slots k.id k.order) [] ss)
     (sym c.as_slice-add.ensures)
-    (subst (λ (order : List ℕ). CanChange k.apex (placed_of slots k.id order) [] c.args.sets)
+    (subst (λ (order : List ℕ). CanChange k.apex (slotted_of slots k.id order) [] c.args.sets)
     (sym c.requires.empty) (can_open k.apex c.args.sets c.requires.allowed.2))
 
 pub change-requires-clause-buffer : goal.change-requires-clause-buffer
@@ -43,11 +43,11 @@ change-requires-clause-buffer c =
 -- what the opened zone is now
 record Opened (c : goal.After-drop-sets-inside) : Type 0 where
   changes : Changes c.args.opened.id [] [] c.args.sets c.change.new.removed.items
-      c.change.new.added.items (placed_of c.change.new.store.slots c.change.new.self.id c.change.new.self.order)
+      c.change.new.added.items (slotted_of c.change.new.store.slots c.change.new.self.id c.change.new.self.order)
   allowed : IsAllowed (zones_in c.args.store.now.slots c.args.list.now.items)
-      (Open c.change.new.self.id c.change.new.self.apex c.args.sets)
+      (Begin c.change.new.self.id c.change.new.self.apex c.args.sets)
   others : OthersStay c.change.new.self.id c.args.store.now.slots c.change.new.store.slots
-  stands : Stands c.change.new.store.slots c.change.new.self
+  stands : IsIntact c.change.new.store.slots c.change.new.self
   place : IsSplit (named_of c.args.list.now.items) c.change.new.self.id c.first_from-place.result
       c.first_from-place.result
 
@@ -62,15 +62,15 @@ opened c =
     let added = c.change.new.added.items in
     let id : k.id ≡ was.id = c.change.ensures.id in
     let apex : k.apex ≡ was.apex = c.change.ensures.apex in
-    let changes : Changes was.id (placed_of slots was.id was.order) [] c.args.sets removed added
-    (placed_of now k.id k.order) =
-    subst (λ (ss : List RecordSet). Changes was.id (placed_of slots was.id was.order) [] ss removed added
-    (placed_of now k.id k.order)) c.as_slice-add.ensures c.change.ensures.changes in
+    let changes : Changes was.id (slotted_of slots was.id was.order) [] c.args.sets removed added
+    (slotted_of now k.id k.order) =
+    subst (λ (ss : List RecordSet). Changes was.id (slotted_of slots was.id was.order) [] ss removed added
+    (slotted_of now k.id k.order)) c.as_slice-add.ensures c.change.ensures.changes in
     record {
-      changes = subst (λ (order : List ℕ). Changes was.id (placed_of slots was.id order) [] c.args.sets
-          removed added (placed_of now k.id k.order)) c.requires.empty changes;
-      allowed = subst (λ (n : ℕ). IsAllowed (zones_in slots list) (Open n k.apex c.args.sets)) (sym id)
-          (subst (λ (a : List (List ℕ)). IsAllowed (zones_in slots list) (Open was.id a c.args.sets))
+      changes = subst (λ (order : List ℕ). Changes was.id (slotted_of slots was.id order) [] c.args.sets
+          removed added (slotted_of now k.id k.order)) c.requires.empty changes;
+      allowed = subst (λ (n : ℕ). IsAllowed (zones_in slots list) (Begin n k.apex c.args.sets)) (sym id)
+          (subst (λ (a : List (List ℕ)). IsAllowed (zones_in slots list) (Begin was.id a c.args.sets))
           (sym apex) c.requires.allowed);
       others = subst (λ (n : ℕ). OthersStay n slots now) (sym id) c.change.ensures.others;
       stands = changed_stands slots now was k apex c.change.ensures.order [] c.args.sets removed added
@@ -90,7 +90,7 @@ returns-clause-kept c =
     let k = c.change.new.self in
     let n = c.first_from-place.result in
     let o = opened c in
-    subst (λ (l : List Listed). AreKept c.change.new.store.slots l) (sym c.insert_zone.ensures)
+    subst (λ (l : List Listed). AreIntact c.change.new.store.slots l) (sym c.insert_zone.ensures)
     (opened_kept slots c.change.new.store.slots list n k c.requires.kept o.others
     (new_id slots list n k c.args.sets c.requires.kept.listed o.place o.allowed) o.stands
     (listed_with slots list n k c.args.sets c.requires.kept.listed o.place o.allowed))
@@ -109,7 +109,7 @@ returns-clause-edits c =
     let new = new_id slots list n k c.args.sets c.requires.kept.listed o.place o.allowed in
     let listed = listed_with slots list n k c.args.sets c.requires.kept.listed o.place o.allowed in
     let id : k.id ≡ was.id = c.change.ensures.id in
-    let edits : Edits (zones_in slots list) (Open k.id k.apex c.args.sets) (zones_in now (insert list n k))
+    let edits : Edits (zones_in slots list) (Begin k.id k.apex c.args.sets) (zones_in now (insert list n k))
     (record { zone = k.id; removed = removed; added = added }) =
     opened_edits (zones_in slots list) (zones_in now (insert list n k)) (zones_in slots (take n list))
     (zones_in slots (drop n list)) (zone_in now k)
@@ -118,21 +118,21 @@ returns-clause-edits c =
     (with_sets now (insert list n k)
     (opened_kept slots now list n k c.requires.kept o.others new o.stands listed).listed)
     c.args.sets removed added
-    (subst (λ (m : ℕ). Changes m [] [] c.args.sets removed added (placed_of now k.id k.order)) (sym id)
+    (subst (λ (m : ℕ). Changes m [] [] c.args.sets removed added (slotted_of now k.id k.order)) (sym id)
     o.changes) in
-    subst (λ (l : List Listed). Edits (zones_in slots list) (Open was.id was.apex c.args.sets)
+    subst (λ (l : List Listed). Edits (zones_in slots list) (Begin was.id was.apex c.args.sets)
     (zones_in now l)
     (record { zone = c.id-zone.result; removed = c.from_vec.result; added = c.from_vec-2.result }))
     (sym c.insert_zone.ensures)
-    (told (zones_in slots list) (Open was.id was.apex c.args.sets) (zones_in now (insert list n k))
+    (told (zones_in slots list) (Begin was.id was.apex c.args.sets) (zones_in now (insert list n k))
     c.id-zone.result removed c.from_vec.result added c.from_vec-2.result c.from_vec.ensures
     c.from_vec-2.ensures
-    (subst (λ (m : ℕ). Edits (zones_in slots list) (Open was.id was.apex c.args.sets)
+    (subst (λ (m : ℕ). Edits (zones_in slots list) (Begin was.id was.apex c.args.sets)
     (zones_in now (insert list n k)) (record { zone = m; removed = removed; added = added }))
     (sym c.id-zone.ensures)
-    (subst (λ (m : ℕ). Edits (zones_in slots list) (Open m was.apex c.args.sets)
+    (subst (λ (m : ℕ). Edits (zones_in slots list) (Begin m was.apex c.args.sets)
     (zones_in now (insert list n k)) (record { zone = m; removed = removed; added = added })) id
-    (subst (λ (a : List (List ℕ)). Edits (zones_in slots list) (Open k.id a c.args.sets)
+    (subst (λ (a : List (List ℕ)). Edits (zones_in slots list) (Begin k.id a c.args.sets)
     (zones_in now (insert list n k)) (record { zone = k.id; removed = removed; added = added }))
     c.change.ensures.apex edits))))
 

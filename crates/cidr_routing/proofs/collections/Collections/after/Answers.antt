@@ -1,5 +1,5 @@
 use Rattle.std.proofs.Common.{◌≡◌, Ok, subst}
-use Rattle.cidr_commands.specs.Commands.{answer}
+use Rattle.cidr_commands.specs.Commands.{outcome}
 use Rattle.cidr_commands.specs.Stored.{Stored}
 use Rattle.cidr_routing.proofs.collections.Collections.after.Goals as goal
 
@@ -9,5 +9,5 @@ stored-requires c =
     let after : Stored = record { next = c.in-Ok.next; list = c.in-Ok.list.items } in
     c.commands_keep_sound.ensures (record { next = next; list = c.self.inside.list.items })
     c.args.command.now c.args.used.now after c.self.invariant.0 c.requires.names
-    (subst (λ list. answer (record { next = next; list = list }) c.args.command.now c.args.used.now
+    (subst (λ list. outcome (record { next = next; list = list }) c.args.command.now c.args.used.now
     ≡ Ok after) c.deref.ensures.value c.in-Ok.ensures.ok)

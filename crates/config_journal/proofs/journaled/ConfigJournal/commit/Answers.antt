@@ -2,7 +2,7 @@ use Rattle.std.proofs.Common.{ℕ, List, [], ◌∷◌, ◌++◌, ◌∙◌, ap,
 use Rattle.config_journal.proofs.Held.{at_each_moment, decided, one_more, taken_of}
 use Rattle.config_journal.specs.States.{Ready, State, config_of}
 use Rattle.r53_state.specs.States.{IsReady as IsPrepared}
-use Rattle.zone_journal.specs.Pairs.{Leaves, OpensPair}
+use Rattle.zone_journal.specs.Pairs.{BothRead, OpensPair}
 use Rattle.zone_journal.specs.Standing.{State as Journal}
 use Rattle.config_journal.proofs.journaled.ConfigJournal.commit.Goals as goal
 
@@ -60,7 +60,7 @@ returns-in-DiskFault-clause-any_moment g c = λ after what decides held.
 
 pub returns-in-Done-clause-written : goal.returns-in-Done-clause-written
 returns-in-Done-clause-written g c = λ generation s es x y a_reads b_reads opens what is.
-    subst (λ (entry : List ℕ). Leaves g.D.Disk.reading c.append.new.a c.append.new.b
+    subst (λ (entry : List ℕ). BothRead g.D.Disk.reading c.append.new.a c.append.new.b
     (λ u v. OpensPair u v generation s (es ++ entry ∷ [])))
     (ap (λ (r : Ready). r.entry) c.ready.view_is)
     (c.in-Done.ensures.leaves generation s es x y a_reads b_reads opens)

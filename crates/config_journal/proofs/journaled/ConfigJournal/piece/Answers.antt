@@ -7,7 +7,7 @@ use Rattle.config_journal.specs.Holding.{Holds}
 use Rattle.config_journal.specs.States.{State, config_of}
 use Rattle.engine_model.specs.declared.answers.Compacted.{Compacted}
 use Rattle.store_model.specs.Opening.{OpensConfig}
-use Rattle.zone_journal.specs.Pairs.{EachPair, Leaves}
+use Rattle.zone_journal.specs.Pairs.{EachPair, BothRead}
 use Rattle.zone_journal.specs.Standing.{StandsOn}
 use Rattle.config_journal.proofs.journaled.ConfigJournal.piece.Goals as goal
 
@@ -34,12 +34,12 @@ returns-clause-holds g c = λ held.
     (subst (λ (s : State). IsSome s.journal.plan) (sym c.self.view_is) c.requires.in_progress) in
     let old : State = record { config = c.self.inside.config; journal = c.self.inside.journal } in
     let new : State = record { config = c.self.inside.config; journal = c.compact_piece.new.self } in
-    subst (λ (o : Compacted). UnlessFaulty o (Leaves g.D.Disk.reading c.compact_piece.new.a
+    subst (λ (o : Compacted). UnlessFaulty o (BothRead g.D.Disk.reading c.compact_piece.new.a
     c.compact_piece.new.b (Holds new))) (sym c.told_as.ensures)
     (holds_so g.D.Disk.reading g.D.Disk.moment g.D.Disk.images_since old new p.its p.is refl
     c.args.a.now c.compact_piece.new.a c.args.b.now c.compact_piece.new.b c.plan_makes.ensures
     c.pieces_open.ensures
-    (subst (λ (s : State). Leaves g.D.Disk.reading c.args.a.now c.args.b.now (Holds s))
+    (subst (λ (s : State). BothRead g.D.Disk.reading c.args.a.now c.args.b.now (Holds s))
     (sym c.self.view_is) held)
     c.compact_piece.result (c.compact_piece.ensures.moves p.its p.is)
     c.compact_piece.ensures.leaves)
@@ -55,6 +55,6 @@ returns-clause-any_moment g c = λ held.
     (may_leave g.D.Disk.reading g.D.Disk.moment g.D.Disk.images_since old p.its p.is c.args.a.now
     c.compact_piece.new.a c.args.b.now c.compact_piece.new.b c.compact_piece.result
     c.plan_makes.ensures
-    (subst (λ (s : State). Leaves g.D.Disk.reading c.args.a.now c.args.b.now (Holds s))
+    (subst (λ (s : State). BothRead g.D.Disk.reading c.args.a.now c.args.b.now (Holds s))
     (sym c.self.view_is) held)
     c.pieces_may_open.ensures c.compact_piece.ensures.any_moment)

@@ -1,5 +1,5 @@
 use Rattle.std.proofs.Common.{◌≡◌, ℕ, ◌-◌, ◌≤◌, List, [], length, drop}
-use Rattle.dns_name.specs.Spelling.{Spells}
+use Rattle.dns_name.specs.Spelling.{SpellsSoFar}
 use Rattle.dns_name.specs.Text.{read_from}
 use Rattle.dns_name.specs.Text.Progress.{Reading}
 use Rattle.dns_name.proofs.name.Name.from_text.Given as goal
@@ -9,7 +9,7 @@ pub record IsRead (text : List ℕ) (at : ℕ) (bytes : List ℕ) (start end : �
   pub within : at ≤ length text
   pub done : List (List ℕ)
   pub label : List ℕ
-  pub spells : Spells bytes start end done label
+  pub spells : SpellsSoFar bytes start end done label
   pub same : read_from (Reading 0 [] []) 0 text ≡ read_from (Reading 0 done label) at (drop at text)
 
 abbrev pub invariant-loop-at : goal.invariant-loop-at

@@ -46,7 +46,7 @@ returns-then-end-self c =
       name = inside.name;
       edns = inside.edns;
       question_end = inside.question_end;
-      is_cut = inside.is_cut;
+      is_truncated = inside.is_truncated;
       answers = inside.answers;
       authorities = inside.authorities;
       additionals = inside.additionals;
@@ -54,7 +54,7 @@ returns-then-end-self c =
     })) bytes
     ∙ ap emptied c.self.view_is
     ∙ sym (too_long c.args.section _ c.args.self.now
-    (ap (λ (d : Draft). d.is_cut) (sym c.self.view_is)
+    (ap (λ (d : Draft). d.is_truncated) (sym c.self.view_is)
     ∙ c.if-self.false)
     (omega (
       arith,

@@ -1,6 +1,6 @@
 use Rattle.std.proofs.Common.{◌≡◌, ◌∙◌, ◌+◌, ◌-◌, ◌≤◌, ◌++◌, length, take, drop, sym, ap, subst, arith, rules, refl}
 use Rattle.byteorder.specs.Endian.{big_bytes}
-use Rattle.gate_journal.specs.Layout.{text, inner}
+use Rattle.gate_journal.specs.Layout.{header_text, inner}
 use Rattle.file_building.specs.Building.{Plan}
 use Rattle.file_building.proofs.PartLemmas.{reaches_less, filled, from_front, recast, room}
 use Rattle.file_building.proofs.plan.Compaction.fill.Goals as goal
@@ -99,7 +99,7 @@ returns-clause-bytes g c = λ whole x told.
     let n = length c.args.piece.now in
     let one =
     recast n n c.args.piece.now 0 (p.next - 1) c.put_part-text_end.new.piece
-    c.put_part-text_end.result (p.next - 1 - 7) c.saturating_sub-in_number.result text text refl
+    c.put_part-text_end.result (p.next - 1 - 7) c.saturating_sub-in_number.result header_text header_text refl
     s1 refl c.put_part-text_end.ensures.bytes in
     let two =
     recast n _ c.put_part-text_end.new.piece c.put_part-text_end.result

@@ -15,8 +15,8 @@ returns-in_default c zones checks reports stands =
 pub place_near-requires : goal.place_near-requires
 place_near-requires c = rw c.deref.ensures.value c.self.invariant.apart
 
-pub count-requires-clause-gate : goal.count-requires-clause-gate
-count-requires-clause-gate c =
+pub count-requires-clause-valve : goal.count-requires-clause-valve
+count-requires-clause-valve c =
     let here = (subst (IsPlace c.deref.result.now c.args.id) c.in-Some.is c.place_near.ensures).0 in
     let within = slice_get_within c.deref.result.now c.in-Some.place c.args.id here in
     let ids = ap length c.deref.ensures.value in
@@ -24,8 +24,8 @@ count-requires-clause-gate c =
     let few = c.self.invariant.within in
     omega arith
 
-pub value-requires-clause-gate : goal.value-requires-clause-gate
-value-requires-clause-gate c =
+pub value-requires-clause-valve : goal.value-requires-clause-valve
+value-requires-clause-valve c =
     let here = (subst (IsPlace c.deref.result.now c.args.id) c.in-Some.is c.place_near.ensures).0 in
     let within = slice_get_within c.deref.result.now c.in-Some.place c.args.id here in
     let ids = ap length c.deref.ensures.value in

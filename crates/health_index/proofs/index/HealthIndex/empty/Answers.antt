@@ -1,20 +1,20 @@
 use Rattle.std.proofs.Common.{List, arith, ap, length, ◌∙◌, sym}
-use Rattle.health_gates.specs.Plan.{net_in, no_plan, own_in}
+use Rattle.health_valves.specs.Blueprint.{net_in, no_blueprint, own_in}
 use Rattle.health_planning.specs.Wired.{group_seat, seat_of}
 use Rattle.health_planning.specs.declared.seats.Seat.{Seat}
 use Rattle.health_index.proofs.index.HealthIndex.empty.Goals as goal
 
 pub invariant_of-result : goal.invariant_of-result
 invariant_of-result c = record {
-  net = net_in no_plan;
-  own = own_in no_plan;
+  net = net_in no_blueprint;
+  own = own_in no_blueprint;
   fits = c.new-4.ensures.fits;
   idle = c.new-4.ensures.idle;
   as_many = ap length c.new-2.ensures.items ∙ sym (ap length c.new.ensures.items);
   apart = λ k n id at also. absurd (grind (arith, at, c.new.ensures.items));
   few = let none = ap length c.new.ensures.items in omega arith;
   within = let none = ap length c.new.ensures.items in omega arith;
-  seated = λ slot gate is. absurd (grind (arith, is, c.new-3.ensures.items));
+  seated = λ slot valve is. absurd (grind (arith, is, c.new-3.ensures.items));
   given = record {
     sets = λ slot some. absurd (some (ap (λ (l : List Seat). seat_of l slot) c.new-3.ensures.items));
     groups = λ slot some. absurd (some (ap (λ (l : List Seat). group_seat l slot) c.new-3.ensures.items));

@@ -1,7 +1,7 @@
 use Rattle.std.proofs.Common.{ap, sym}
 use mathlib.Core.Path.{subst}
-use Rattle.health_gates.specs.Gates.{Fits}
-use Rattle.health_gates.specs.declared.gates.Gates.{Gates}
+use Rattle.health_valves.specs.Valves.{ValvesStandFor}
+use Rattle.health_valves.specs.declared.valves.Valves.{Valves}
 use Rattle.health_index.specs.Index.{Index, IsLaidFor, IsNumberOf}
 use Rattle.health_index.proofs.Evaluating.{still_idle, works_out_of}
 use Rattle.health_index.proofs.index.HealthIndex.eval_node.Goals as goal
@@ -9,7 +9,7 @@ use Rattle.health_index.proofs.index.HealthIndex.eval_node.Goals as goal
 pub returns-clause-fits : goal.returns-clause-fits
 returns-clause-fits g c net own fits =
     c.eval_node.ensures.fits net own
-    (subst (λ (gates : Gates). Fits net own gates) (ap (λ (i : Index). i.gates) (sym c.self.view_is)) fits)
+    (subst (λ (valves : Valves). ValvesStandFor net own valves) (ap (λ (i : Index). i.valves) (sym c.self.view_is)) fits)
 
 pub returns-clause-works_out : goal.returns-clause-works_out
 returns-clause-works_out g c zones checks reports n laid is =

@@ -4,7 +4,7 @@ use Rattle.std.specs.Prelude.{vec_capacity}
 use Rattle.check_model.specs.Checks.{IsBounded}
 use Rattle.check_model.specs.declared.checks.Check.{Check}
 use Rattle.health_planning.specs.Building.{AreAsked, AreSeen}
-use Rattle.health_planning.specs.Following.{EachFollows, Knows}
+use Rattle.health_planning.specs.Later.{EachIsLater, Knows}
 use Rattle.health_planning.specs.SetRefRecord.{SetRef}
 use Rattle.health_index.specs.Index.{Index}
 use Rattle.health_index.specs.Room.{HasRoom}
@@ -69,8 +69,8 @@ clear_seats-requires-clause-room c =
 pub clear_seats-requires-clause-given : goal.clear_seats-requires-clause-given
 clear_seats-requires-clause-given c = rw (c.deref-3.ensures.value, c.deref-4.ensures.value) c.self.invariant.given
 
-pub plan_gates-requires-clause-room : goal.plan_gates-requires-clause-room
-plan_gates-requires-clause-room c =
+pub plan_valves-requires-clause-room : goal.plan_valves-requires-clause-room
+plan_valves-requires-clause-room c =
     let zones = c.args.zones.now.zones in
     let checks = c.args.checks.now.checks in
     let list = c.as_slice-list.ensures.checks in
@@ -79,17 +79,17 @@ plan_gates-requires-clause-room c =
     let swapped = ap (λ v. vec_capacity v) c.swap-3.ensures.x_after in
     let swapped_too = ap (λ v. vec_capacity v) c.swap-3.ensures.y_after in
     let refs = c.clear-3.ensures.capacity in
-    let gates = c.clear-4.ensures.room in
+    let valves = c.clear-4.ensures.room in
     let links = c.clear-4.ensures.links_room in
     let refs_room = room.refs in
     let members_room = room.members in
-    let shapes = room.shapes in
+    let triggers = room.triggers in
     let most = room.links in
     record {
       few = room.few;
       refs_room = omega arith;
       known_room = omega arith;
-      gates = omega arith;
+      valves = omega arith;
       links = omega arith;
     }
 
@@ -100,7 +100,7 @@ lay_out-requires-clause-room c =
     let list = c.as_slice-list.ensures.checks in
     let sound = c.as_slice-list.ensures.sound in
     let room = subst (λ (i : Index). HasRoom i c.args.zones.now.slots) (sym c.self.view_is) c.requires.room in
-    room_for_fewer _ _ _ _ _ room.gates c.plan_gates.ensures.few_gates c.plan_gates.ensures.few_links
+    room_for_fewer _ _ _ _ _ room.valves c.plan_valves.ensures.few_valves c.plan_valves.ensures.few_links
 
 pub invariant_of-self : goal.invariant_of-self
 invariant_of-self c =
@@ -111,9 +111,9 @@ invariant_of-self c =
     let room = subst (λ (i : Index). HasRoom i c.args.zones.now.slots) (sym c.self.view_is) c.requires.room in
     let ids = c.list_ids.ensures.ids ∙ ap ids_of list in
     let many = c.list_seen.ensures.size ∙ ap length list ∙ sym (ids_long checks.list) ∙ sym (ap length ids) in
-    whole zones checks c.plan_gates.new.refs.items c.plan_gates.new.known.items c.plan_gates.new.seats.items c.plan_gates.new.plan c.lay_out.new.self
+    whole zones checks c.plan_valves.new.refs.items c.plan_valves.new.known.items c.plan_valves.new.seats.items c.plan_valves.new.blueprint c.lay_out.new.self
     c.list_ids.new.ids.items c.list_seen.new.into.items _ sound ids many
-    c.plan_gates.ensures.built c.plan_gates.ensures.given c.lay_out.ensures.fits c.lay_out.ensures.idle
+    c.plan_valves.ensures.built c.plan_valves.ensures.given c.lay_out.ensures.fits c.lay_out.ensures.idle
     (rw list at c.list_seen.ensures.kinds)
 
 pub returns-clause-stands : goal.returns-clause-stands
@@ -131,15 +131,15 @@ returns-clause-stands c before old reports is follows asked =
     let knows = subst (λ l. Knows old reports l c.deref-2.result.now) ids_before (subst (Knows old reports c.args.self.now.ids) seen_before its) in
     let each = each_follows old checks sound follows in
     let refs_before = ap (λ (i : Index). i.refs) (sym c.self.view_is) ∙ sym (ap (λ v. v.items) c.swap-3.ensures.y_after) in
-    let all = c.plan_gates.ensures.all (subst (λ (l : List SetRef). AreAsked zones c.args.whole l c.args.came.now) refs_before asked) in
+    let all = c.plan_valves.ensures.all (subst (λ (l : List SetRef). AreAsked zones c.args.whole l c.args.came.now) refs_before asked) in
     let are = subst (λ l. AreSeen reports l c.list_seen.new.into.items) list
-    (c.list_seen.ensures.seen old reports knows (subst (EachFollows old) (sym list) each)) in
-    stands zones checks c.plan_gates.new.refs.items c.plan_gates.new.known.items c.plan_gates.new.seats.items c.plan_gates.new.plan c.lay_out.new.self
+    (c.list_seen.ensures.seen old reports knows (subst (EachIsLater old) (sym list) each)) in
+    stands zones checks c.plan_valves.new.refs.items c.plan_valves.new.known.items c.plan_valves.new.seats.items c.plan_valves.new.blueprint c.lay_out.new.self
     c.list_ids.new.ids.items c.list_seen.new.into.items _ sound ids many
-    c.plan_gates.ensures.built c.plan_gates.ensures.given c.lay_out.ensures.fits c.lay_out.ensures.idle
+    c.plan_valves.ensures.built c.plan_valves.ensures.given c.lay_out.ensures.fits c.lay_out.ensures.idle
     reports c.well_formed-2.ensures c.slots_apart.ensures c.requires.sound
     (still_reports old.next checks.next reports follows.next knows.its_reports) all are
-    (c.plan_gates.ensures.checks reports (subst (AreSeen reports checks.list) (sym c.deref-6.ensures.value) are))
+    (c.plan_valves.ensures.checks reports (subst (AreSeen reports checks.list) (sym c.deref-6.ensures.value) are))
     c.lay_out.ensures.meet
 
 pub returns-clause-first : goal.returns-clause-first
@@ -155,10 +155,10 @@ returns-clause-first c none whole =
     let each = each_follows no_checks checks sound (follows_nothing checks sound) in
     let knows = knows_nothing c.deref.result.now c.deref-2.result.now ids_before in
     let are = subst (λ l. AreSeen [] l c.list_seen.new.into.items) list
-    (c.list_seen.ensures.seen no_checks [] knows (subst (EachFollows no_checks) (sym list) each)) in
-    stands zones checks c.plan_gates.new.refs.items c.plan_gates.new.known.items c.plan_gates.new.seats.items c.plan_gates.new.plan c.lay_out.new.self
+    (c.list_seen.ensures.seen no_checks [] knows (subst (EachIsLater no_checks) (sym list) each)) in
+    stands zones checks c.plan_valves.new.refs.items c.plan_valves.new.known.items c.plan_valves.new.seats.items c.plan_valves.new.blueprint c.lay_out.new.self
     c.list_ids.new.ids.items c.list_seen.new.into.items _ sound ids many
-    c.plan_gates.ensures.built c.plan_gates.ensures.given c.lay_out.ensures.fits c.lay_out.ensures.idle
-    [] c.well_formed-2.ensures c.slots_apart.ensures c.requires.sound tt (c.plan_gates.ensures.all (λ zone p here on. inl whole)) are
-    (c.plan_gates.ensures.checks [] (subst (AreSeen [] checks.list) (sym c.deref-6.ensures.value) are))
+    c.plan_valves.ensures.built c.plan_valves.ensures.given c.lay_out.ensures.fits c.lay_out.ensures.idle
+    [] c.well_formed-2.ensures c.slots_apart.ensures c.requires.sound tt (c.plan_valves.ensures.all (λ zone p here on. inl whole)) are
+    (c.plan_valves.ensures.checks [] (subst (AreSeen [] checks.list) (sym c.deref-6.ensures.value) are))
     c.lay_out.ensures.meet

@@ -3,19 +3,19 @@ use mathlib.Core.Path.{subst}
 use Rattle.health_planning.specs.Building.{AreAsked}
 use Rattle.health_planning.specs.SetRefRecord.{SetRef}
 use Rattle.health_planning.specs.declared.seats.Seat.{Seat}
-use Rattle.health_index.proofs.Staying.{asked_after, leaves_follow, stands_with_gates}
+use Rattle.health_index.proofs.Staying.{asked_after, leaves_follow, stands_with_valves}
 use Rattle.health_index.specs.Index.{Index, StandsFor}
-use Rattle.health_index.specs.Leaving.{LeavesGates}
+use Rattle.health_index.specs.Leaving.{KeepsValves}
 use Rattle.health_index.proofs.index.HealthIndex.on_command.Goals as goal
 
-pub returns-then-leaves_gates-clause-stands : goal.returns-then-leaves_gates-clause-stands
-returns-then-leaves_gates-clause-stands c before old reports stands leaves =
+pub returns-then-leaves_valves-clause-stands : goal.returns-then-leaves_valves-clause-stands
+returns-then-leaves_valves-clause-stands c before old reports stands leaves =
     let zones = c.args.zones.now.zones in
     let checks = c.args.checks.now.checks in
     let seats_is = c.deref.ensures.value ∙ ap (λ (i : Index). i.seats) c.self.view_is in
-    let gate_leaving = subst (λ (seats : List Seat). LeavesGates zones seats c.args.delta.now) seats_is (c.if-leaves_gates.ensures.0 refl) in
+    let valve_leaving = subst (λ (seats : List Seat). KeepsValves zones seats c.args.delta.now) seats_is (c.if-leaves_valves.ensures.0 refl) in
     subst (StandsFor zones checks reports) (sym c.self.view_is)
-    (stands_with_gates before zones reports c.args.self.now c.args.delta.now c.well_formed-2.ensures c.slots_apart.ensures gate_leaving old checks c.requires.sound stands leaves)
+    (stands_with_valves before zones reports c.args.self.now c.args.delta.now c.well_formed-2.ensures c.slots_apart.ensures valve_leaving old checks c.requires.sound stands leaves)
 
 pub returns-clause-stands : goal.returns-clause-stands
 returns-clause-stands c before old reports stands leaves =

@@ -2,7 +2,7 @@ use Rattle.std.proofs.Common.{◌≡◌, length, arith, ap, sym, ◌∙◌}
 use Rattle.std.proofs.lemmas.List.{with_items_is}
 use mathlib.Core.Path.{subst}
 use Rattle.std.proofs.lemmas.Option.{slice_get_within}
-use Rattle.health_gates.specs.Gates.{value_of}
+use Rattle.health_valves.specs.Valves.{value_of}
 use Rattle.health_index.specs.Index.{Index, StandsFor}
 use Rattle.health_planning.specs.Wired.{IsPlace}
 use Rattle.health_planning.specs.Wired.{place_of}
@@ -67,8 +67,8 @@ overflow_cast-place g c =
     let few = c.self.invariant.few in
     omega arith
 
-pub take_count-requires-clause-gate : goal.take_count-requires-clause-gate
-take_count-requires-clause-gate g c =
+pub take_count-requires-clause-valve : goal.take_count-requires-clause-valve
+take_count-requires-clause-valve g c =
     let here = (subst (IsPlace c.deref.result.now c.args.id) c.in-Some.is c.place_near.ensures).0 in
     let within = slice_get_within c.deref.result.now c.in-Some.place c.args.id here in
     let ids = ap length c.deref.ensures.value in
@@ -87,7 +87,7 @@ take_count-requires-clause-alone g c net own fits =
     taken c.args.checker c.args.pass c.as_mut_slice.result.now c.self.inside.seen.items c.take_result.new.seen c.in-Some.place
     _ _ c.as_mut_slice.ensures.value c.in-Some-take_result.is c.take_result.ensures
     in
-    alone_in_all w.net net w.own own c.self.inside.gates c.in-Some.place (omega arith) w.fits fits
+    alone_in_all w.net net w.own own c.self.inside.valves c.in-Some.place (omega arith) w.fits fits
     (w.alone c.in-Some.place took.0 took.2)
 
 pub invariant_of-self-2 : goal.invariant_of-self-2
@@ -145,7 +145,7 @@ returns-clause-changed g c zones checks reports stands endpoint =
     let was = (c.index_tells_health.ensures zones checks reports _ old).statuses c.args.id check.0 check.2 in
     let now = (c.index_tells_health.ensures zones checks _ _ after).statuses c.args.id check.0 check.2 in
     let first : place_of c.self.inside.ids.items c.args.id ≡ place = rw inner here.1 in
-    let old_is = ap (value_of c.self.inside.gates) (sym first) ∙ was in
+    let old_is = ap (value_of c.self.inside.valves) (sym first) ∙ was in
     let new_is = ap (value_of c.take_count.new.self) (sym first) ∙ now in
     let turned = c.take_count.ensures.changed old.net old.own old.fits old.meet in
     (λ t same. turned.0 t (new_is ∙ same ∙ sym old_is), λ differ. turned.1 (λ e. differ (sym new_is ∙ e ∙ old_is)))

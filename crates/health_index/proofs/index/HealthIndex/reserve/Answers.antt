@@ -1,6 +1,6 @@
 use Rattle.std.proofs.Common.{arith, ap, sym}
 use mathlib.Core.Path.{subst}
-use Rattle.health_gates.specs.Gates.{value_in}
+use Rattle.health_valves.specs.Valves.{value_in}
 use Rattle.health_index.specs.Index.{Index, StandsFor}
 use Rattle.health_index.specs.Room.{HasRoom}
 use Rattle.health_index.proofs.Reserved.{still_stands, still_whole}
@@ -16,7 +16,7 @@ invariant_of-self c =
       seats = slots.seats;
       refs = slots.refs;
       members = slots.members;
-      values = λ gate. ap (λ v. value_in v gate) slots.values;
+      values = λ valve. ap (λ v. value_in v valve) slots.values;
     }) slots.stays slots.meet slots.idle c.self.invariant
 
 pub returns-clause-kept : goal.returns-clause-kept
@@ -34,9 +34,9 @@ returns-clause-kept c n room =
       seats = omega (arith, old.seats, slots.seats_kept);
       refs = omega (arith, old.refs, slots.refs_kept);
       members = omega (arith, old.members, slots.members_kept);
-      shapes = omega (arith, old.shapes, slots.plan_kept);
+      triggers = omega (arith, old.triggers, slots.blueprint_kept);
       links = omega (arith, old.links, slots.links_kept);
-      gates = slots.gates_kept _ _ old.gates;
+      valves = slots.valves_kept _ _ old.valves;
     }
 
 pub returns-clause-stands : goal.returns-clause-stands
@@ -49,7 +49,7 @@ returns-clause-stands c zones checks reports is =
       seats = slots.seats;
       refs = slots.refs;
       members = slots.members;
-      values = λ gate. ap (λ v. value_in v gate) slots.values;
+      values = λ valve. ap (λ v. value_in v valve) slots.values;
     }) slots.stays slots.meet slots.idle zones checks reports (subst (StandsFor zones checks reports) (sym c.self.view_is) is)
 
 pub returns-clause-ready : goal.returns-clause-ready
@@ -58,5 +58,5 @@ returns-clause-ready c room =
     let old = subst (HasRoom _) (sym c.slots.ensures) known in
     c.each_ok.ensures.each (c.room_for_checks-now.ensures.ready old.ids old.seen)
     (c.room_for_checks-before.ensures.ready old.ids_before old.seen_before)
-    (c.room_for_slots-slots.ensures.ready old.few old.seats old.refs old.members old.shapes
-    old.links old.gates)
+    (c.room_for_slots-slots.ensures.ready old.few old.seats old.refs old.members old.triggers
+    old.links old.valves)

@@ -1,6 +1,6 @@
 use Rattle.std.proofs.Common.{◌≡◌, ◌∙◌, ◌++◌, ◌∷◌, [], List, length, refl, sym, ap, arith}
 use Rattle.std.proofs.lemmas.List.{length_push}
-use Rattle.ip_table.specs.declared.tree.Node.{Node}
+use Rattle.ip_table.specs.declared.tree.Fork.{Fork}
 use Rattle.ip_table.specs.Bits.{width_of}
 use Rattle.ip_table.specs.Prefixes.{Prefix}
 use Rattle.ip_table.proofs.Inserting.{count, kept, pushed, absent, no_prefix, table_v4, table_v6}
@@ -72,11 +72,11 @@ invariant_of-self-in-V4 g c =
     (ap length (c.push_reserved.ensures.items
     ∙ ap (λ vs. vs ++ c.args.value ∷ []) c.make_room.ensures.values)
     ∙ length_push i.values.items c.args.value)
-    c.add_row.new.nodes.items _ c.add_row.ensures.grown
+    c.add_row.new.forks.items _ c.add_row.ensures.grown
     (omega (
       arith,
       c.self.invariant.few_v4,
-      ap (λ (ns : List Node). length ns) c.make_room.ensures.nodes,
+      ap (λ (ns : List Fork). length ns) c.make_room.ensures.forks,
     )) family
 
 pub returns-else-not-make_room : goal.returns-else-not-make_room
@@ -146,11 +146,11 @@ invariant_of-self-in-V6 g c =
     (ap length (c.push_reserved-in-V6.ensures.items
     ∙ ap (λ vs. vs ++ c.args.value ∷ []) c.make_room-in-V6.ensures.values)
     ∙ length_push i.values.items c.args.value)
-    c.add_row-in-V6.new.nodes.items _ c.add_row-in-V6.ensures.grown
+    c.add_row-in-V6.new.forks.items _ c.add_row-in-V6.ensures.grown
     (omega (
       arith,
       c.self.invariant.few_v6,
-      ap (λ (ns : List Node). length ns) c.make_room-in-V6.ensures.nodes,
+      ap (λ (ns : List Fork). length ns) c.make_room-in-V6.ensures.forks,
     )) family
 
 pub returns-else-not-make_room-2 : goal.returns-else-not-make_room-2

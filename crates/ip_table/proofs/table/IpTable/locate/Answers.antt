@@ -10,7 +10,7 @@ pub index-requires : goal.index-requires
 index-requires g c =
     omega (
       arith,
-      (c.sum_up-seen.ensures.sound.found c.in-Some.row c.in-Some.is).0,
+      (c.sum_up-walked.ensures.sound.found c.in-Some.row c.in-Some.is).0,
       c.deref.ensures.len,
     )
 
@@ -18,11 +18,11 @@ pub returns-in-None-clause-located : goal.returns-in-None-clause-located
 returns-in-None-clause-located g c =
     let ps = c.self.inside.prefixes.items in
     let sums =
-    subst (λ (p : List Prefix). SumsUp p c.args.address c.sum_up-seen.result)
-    c.deref.ensures.value c.sum_up-seen.ensures in
-    subst (λ rows. Locates rows c.args.address None c.sum_up-seen.result.past) c.self.view_is
+    subst (λ (p : List Prefix). SumsUp p c.args.address c.sum_up-walked.result)
+    c.deref.ensures.value c.sum_up-walked.ensures in
+    subst (λ rows. Locates rows c.args.address None c.sum_up-walked.result.past) c.self.view_is
     (located_none ps c.self.inside.values.items c.self.invariant.values c.args.address
-    c.sum_up-seen.result sums c.in-None.is)
+    c.sum_up-walked.result sums c.in-None.is)
 
 pub returns-in-None-clause-rows : goal.returns-in-None-clause-rows
 returns-in-None-clause-rows g c =
@@ -34,15 +34,15 @@ pub returns-in-Some-clause-located : goal.returns-in-Some-clause-located
 returns-in-Some-clause-located g c =
     let ps = c.self.inside.prefixes.items in
     let sums =
-    subst (λ (p : List Prefix). SumsUp p c.args.address c.sum_up-seen.result)
-    c.deref.ensures.value c.sum_up-seen.ensures in
+    subst (λ (p : List Prefix). SumsUp p c.args.address c.sum_up-walked.result)
+    c.deref.ensures.value c.sum_up-walked.ensures in
     subst (λ rows. Locates rows c.args.address (Some c.index.result.now) c.max.result)
     c.self.view_is
     (located_some ps c.self.inside.values.items c.self.invariant.values c.args.address
-    c.sum_up-seen.result sums c.in-Some.row c.index.result.now
+    c.sum_up-walked.result sums c.in-Some.row c.index.result.now
     c.max.result c.in-Some.is
     (sym c.index.ensures) (c.max.ensures
-    ∙ ap (max c.sum_up-seen.result.past) (sums.sound.found c.in-Some.row c.in-Some.is).2))
+    ∙ ap (max c.sum_up-walked.result.past) (sums.sound.found c.in-Some.row c.in-Some.is).2))
 
 pub returns-in-Some-clause-rows : goal.returns-in-Some-clause-rows
 returns-in-Some-clause-rows g c =

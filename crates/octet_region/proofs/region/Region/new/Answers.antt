@@ -1,9 +1,9 @@
 use Rattle.std.proofs.Common.{ap, sym, List, [], length, subst, arith}
 use Rattle.octet_region.specs.declared.cells.Cell.{Cell}
-use Rattle.octet_region.specs.Shape.{held_in, IsSound}
+use Rattle.octet_region.specs.Shape.{held_in, IsIntact}
 use Rattle.octet_region.proofs.region.Region.new.Goals as goal
 
-empty_sound : IsSound [] 0 0
+empty_sound : IsIntact [] 0 0
 empty_sound = record {
   shape = record { owner = λ _. 0; rank = λ _. 0; unused = tt; live = λ c n e. absurd (omega arith) };
   counted = omega arith;
@@ -11,7 +11,7 @@ empty_sound = record {
 }
 
 pub invariant_of-result : goal.invariant_of-result
-invariant_of-result c = subst (λ (w : List Cell). IsSound w 0 0) (sym c.new.ensures.items) empty_sound
+invariant_of-result c = subst (λ (w : List Cell). IsIntact w 0 0) (sym c.new.ensures.items) empty_sound
 
 pub returns : goal.returns
 unfolding held_in

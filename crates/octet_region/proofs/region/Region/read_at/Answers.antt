@@ -1,5 +1,5 @@
 use Rattle.std.proofs.Common.{ap, subst}
-use Rattle.octet_region.specs.Stored.{Stored, Reads}
+use Rattle.octet_region.specs.Stored.{Stored, CopiesFrom}
 use Rattle.octet_region.proofs.Regions.{seen, whole_of}
 use Rattle.octet_region.proofs.region.Region.read_at.Goals as goal
 
@@ -14,5 +14,5 @@ returns c =
     let is =
     seen c.self.inside.cells.items c.args.self.now _ _ c.args.handle c.deref.ensures.value
     c.handle.view_is held in
-    subst (λ o. Reads o c.args.offset c.args.into.now c.copy_part.result c.copy_part.new.into) is
+    subst (λ o. CopiesFrom o c.args.offset c.args.into.now c.copy_part.result c.copy_part.new.into) is
     c.copy_part.ensures

@@ -1,7 +1,7 @@
 use Rattle.std.proofs.Common.{List, [], ◌∷◌, ℕ, refl, ap, ◌∙◌, inl, inr, true, false}
 use Rattle.rdata_layout.specs.declared.types.RType.{RType}
 use Rattle.dns_wire.specs.Draft.{reply_to}
-use Rattle.dns_wire.specs.Message.{Message, wire}
+use Rattle.dns_wire.specs.Message.{Message, octets_within}
 use Rattle.dns_wire.specs.Limit.{limit_of}
 use Rattle.r53_cli.proofs.Endings.{finished}
 use Rattle.r53_cli.proofs.once.Once.reply_to.Goals as goal
@@ -18,7 +18,7 @@ returns-then-is_asked-clause-replied c =
           record { owner = query.name; rtype = rtype; ttl = c.args.self.now.ttl; rdata = octets } ∷ [];
     } in
     let answer : RType → List ℕ → List ℕ = λ rtype octets.
-    wire (record (with_answer rtype octets) { aa = true; rcode = 0 }) (limit_of query.edns) in
+    octets_within (record (with_answer rtype octets) { aa = true; rcode = 0 }) (limit_of query.edns) in
     let written =
     finished (with_answer c.rtype.result c.wire.result.now) true 0 0 _ query.edns _ _ _
     (c.finish.ensures.bytes _ (c.record.ensures.stands _ c.begin.ensures.stands (refl, refl)))

@@ -15,7 +15,7 @@ use Rattle.r53_core.proofs.Staying.{read_on}
 use Rattle.r53_core.specs.Stores.{StandsFor, State}
 use Rattle.config_opening.specs.Kept.{IsAccepted}
 use Rattle.config_opening.specs.Leaving.{OpensEither}
-use Rattle.zone_journal.specs.Pairs.{EachPair, Leaves, OpensPair}
+use Rattle.zone_journal.specs.Pairs.{EachPair, BothRead, OpensPair}
 use Rattle.zone_journal.specs.Standing.{PlanFits, State as Journal}
 use Rattle.r53_core.proofs.store.Store.command.Goals as goal
 
@@ -45,12 +45,12 @@ returns-in-Ok-commit-clause-gives g c = λ engine stands.
     (subst (λ (j : Journal). (p : Plan) → j.plan ≡ Some p → PlanFits j p)
     (sym (c.prepare.ensures.stays.journal ∙ ap (λ (s : State). s.kept.journal) c.self.view_is))
     c.requires.stands.plan)
-    c.commands_follow.ensures c.is_on_collections-collections.result
+    c.checks_are_later.ensures c.is_on_collections-collections.result
     c.is_on_collections-collections.ensures.0 c.follow.ensures.follows
 
 pub returns-in-Ok-commit-clause-holds : goal.returns-in-Ok-commit-clause-holds
 returns-in-Ok-commit-clause-holds g c = λ held whole.
-    subst (λ (k : Kept). Leaves g.D.Disk.reading c.commit.new.a c.commit.new.b (Holds k))
+    subst (λ (k : Kept). BothRead g.D.Disk.reading c.commit.new.a c.commit.new.b (Holds k))
     (sym c.follow.ensures.kept)
     (c.in-Ok-commit.ensures.holds (read_on g.D.Disk.reading c.args.a.now c.args.b.now
     c.self.inside.kept c.args.self.now.kept c.prepare.new.self
@@ -113,7 +113,7 @@ returns-in-Err-commit-clause-faulted g c = λ e.
 
 pub returns-in-Ok-commit-clause-written : goal.returns-in-Ok-commit-clause-written
 returns-in-Ok-commit-clause-written g c = λ generation s es x y a_reads b_reads opens what is.
-    subst (λ (entry : List ℕ). Leaves g.D.Disk.reading c.commit.new.a c.commit.new.b
+    subst (λ (entry : List ℕ). BothRead g.D.Disk.reading c.commit.new.a c.commit.new.b
     (λ u v. OpensPair u v generation s (es ++ entry ∷ [])))
     (c.in-Ok.ensures.ready.entry ∙ ap command_octets c.in-Ok.ensures.command)
     (c.in-Ok-commit.ensures.written generation s es x y a_reads b_reads opens

@@ -2,7 +2,7 @@ use Rattle.std.proofs.Common.{subst, sym}
 use Rattle.config_opening.specs.Holding.{Holds}
 use Rattle.r53_core.proofs.Compacting.{compaction}
 use Rattle.r53_core.specs.Stores.{StandsFor, State}
-use Rattle.zone_journal.specs.Pairs.{Leaves}
+use Rattle.zone_journal.specs.Pairs.{BothRead}
 use Rattle.r53_core.proofs.store.Store.compact.Goals as goal
 
 pub returns-clause-gives : goal.returns-clause-gives
@@ -14,5 +14,5 @@ returns-clause-gives g c = λ engine stands.
 pub returns-clause-holds : goal.returns-clause-holds
 returns-clause-holds g c = λ held.
     c.compact.ensures.holds
-    (subst (λ (s : State). Leaves g.D.Disk.reading c.args.a.now c.args.b.now (Holds s.kept))
+    (subst (λ (s : State). BothRead g.D.Disk.reading c.args.a.now c.args.b.now (Holds s.kept))
     (sym c.self.view_is) held)

@@ -4,13 +4,13 @@ use Rattle.sound_configs.specs.Configs.{Config}
 use Rattle.sound_configs.specs.Engine.{is_healthy}
 use Rattle.record_set.specs.Sets.{key_of}
 use Rattle.r53_core.specs.Stores.{StandsFor, State}
-use Rattle.query_engine.specs.Looking.{Names}
+use Rattle.query_engine.specs.Looking.{RefersTo}
 use Rattle.r53_core.proofs.store.Store.is_healthy.Goals as goal
 
 pub returns : goal.returns
 returns c = λ engine named stands names.
     let its = subst (λ (s : State). StandsFor engine s) (sym c.self.view_is) stands in
-    let there = subst (λ (s : State). Names s.kept.config.table.zones c.args.set named)
+    let there = subst (λ (s : State). RefersTo s.kept.config.table.zones c.args.set named)
     (sym c.self.view_is) names in
     subst (λ (config : Config). c.is_healthy.result
     ≡ is_healthy config engine.reports c.args.set.zone (key_of named)) (sym its.config)

@@ -1,5 +1,5 @@
 use Rattle.std.proofs.Common.{◌≡◌, ◌∙◌, ◌∷◌, ap, inl, inr, length, refl, subst, sym}
-use Rattle.check_model.specs.Checks.{check_at}
+use Rattle.check_model.specs.Checks.{check_with}
 use Rattle.config_opening.specs.States.{config_of}
 use Rattle.sound_configs.specs.Configs.{Config}
 use Rattle.sound_configs.specs.Engine.{watched_in}
@@ -20,7 +20,7 @@ returns-clause-quiet g c = λ engine stands same.
     let now = subst (λ (config : Config). status config.checks.list
     (reported c.args.id c.args.checker c.args.pass ∷ engine.reports) c.args.id
     ≡ status config.checks.list engine.reports c.args.id) its.config same in
-    elim (decided (check_at checks.list c.args.id)) [
+    elim (decided (check_with checks.list c.args.id)) [
       | inl endpoint ↦ quiet_of c.on_report.result
           (status checks.list (reported c.args.id c.args.checker c.args.pass ∷ engine.reports)
           c.args.id)

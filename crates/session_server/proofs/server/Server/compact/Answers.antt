@@ -6,7 +6,7 @@ use Rattle.line_server.specs.Standing.{Server, StandsFor}
 use Rattle.line_server.specs.Stores.{StandsFor as StoreStandsFor}
 use Rattle.session_server.proofs.Arms.{compaction}
 use Rattle.session_server.specs.Taking.{PartOf}
-use Rattle.zone_journal.specs.Pairs.{Leaves}
+use Rattle.zone_journal.specs.Pairs.{BothRead}
 use Rattle.session_server.proofs.server.Server.compact.Goals as goal
 
 pub returns-clause-leaves : goal.returns-clause-leaves
@@ -16,19 +16,19 @@ returns-clause-leaves g c = λ around old held before network random told stands
     (record { store = c.self.inside.store; tables = c.self.inside.tables; bound = c.self.inside.bound })
     network random its c.compact.new.store held before (g.K.Sink.held c.compact.new.out) told unsent
     (PartOf around (line.Compact c.args.pieces) old before network told)
-    (Leaves g.D.Disk.reading c.args.a.now c.args.b.now (Holds c.args.self.now.store.kept))
+    (BothRead g.D.Disk.reading c.args.a.now c.args.b.now (Holds c.args.self.now.store.kept))
     (ImagesOpen g.D.Disk.images c.compact.new.a c.compact.new.b old.engine.config)
     c.args.pieces
     ((old.engine.journal.plan ≡ None) × ((c.compact.new.a ≡ c.args.a.now) × (c.compact.new.b ≡ c.args.b.now)))
     c.compact.result
     (λ is given. c.compact.ensures.torn is old.engine its.store
-    (subst (λ (s : Server). Leaves g.D.Disk.reading c.args.a.now c.args.b.now (Holds s.store.kept))
+    (subst (λ (s : Server). BothRead g.D.Disk.reading c.args.a.now c.args.b.now (Holds s.store.kept))
     (sym c.self.view_is) given))
     (c.compact.ensures.leaves old.engine held its.store tells)
 
 pub returns-clause-holds : goal.returns-clause-holds
 returns-clause-holds g c = λ held. c.compact.ensures.holds
-    (subst (λ (s : Server). Leaves g.D.Disk.reading c.args.a.now c.args.b.now (Holds s.store.kept))
+    (subst (λ (s : Server). BothRead g.D.Disk.reading c.args.a.now c.args.b.now (Holds s.store.kept))
     (sym c.self.view_is) held)
 
 pub returns-clause-disk_asked : goal.returns-clause-disk_asked

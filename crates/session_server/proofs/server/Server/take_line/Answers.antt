@@ -7,7 +7,7 @@ use Rattle.line_faults.specs.declared.fault.LineFault.{LineFault}
 use Rattle.list_sending.specs.Asking.{Asks}
 use Rattle.session_server.proofs.Lines.{none_torn, none_unsent, not_memory, of_asked, of_fault, same_fault}
 use Rattle.session_server.specs.Taking.{PartOfOctets}
-use Rattle.zone_journal.specs.Pairs.{Leaves}
+use Rattle.zone_journal.specs.Pairs.{BothRead}
 use Rattle.session_server.proofs.server.Server.take_line.Goals as goal
 
 pub returns-in-Ok-clause-leaves : goal.returns-in-Ok-clause-leaves
@@ -16,7 +16,7 @@ returns-in-Ok-clause-leaves g c = λ around old held before same stands ports te
     (subst (λ (r : Result Line LineFault). Asks c.args.octets.now r) c.in-Ok.is
     (c.ask.ensures.asks (λ e. not_memory c.in-Ok.asked (sym c.in-Ok.is ∙ e))))
     c.take_asked.result (g.L.Link.coming c.take_asked.new.link)
-    (Leaves g.D.Disk.reading c.args.a.now c.args.b.now (Holds c.args.self.now.store.kept))
+    (BothRead g.D.Disk.reading c.args.a.now c.args.b.now (Holds c.args.self.now.store.kept))
     (ImagesOpen g.D.Disk.images c.take_asked.new.a c.take_asked.new.b old.engine.config)
     old (λ new. StandsFor new c.take_asked.new.self (g.L.Link.coming c.take_asked.new.link) (g.R.Rng.stream c.take_asked.new.words)) held before (g.K.Sink.held c.take_asked.new.out) (g.L.Link.sent c.take_asked.new.link)
     (c.take_asked.ensures.leaves around old held before same stands ports tells was)
@@ -29,7 +29,7 @@ returns-in-Err-clause-leaves g c = λ around old held before same stands ports t
     c.tell_fault.result
     (PartOfOctets around c.args.octets.now old before (g.L.Link.coming c.args.link.now)
     (g.L.Link.sent c.args.link.now))
-    (Leaves g.D.Disk.reading c.args.a.now c.args.b.now (Holds c.args.self.now.store.kept))
+    (BothRead g.D.Disk.reading c.args.a.now c.args.b.now (Holds c.args.self.now.store.kept))
     (ImagesOpen g.D.Disk.images c.args.a.now c.args.b.now old.engine.config) old
     c.tell_fault.new.self (g.L.Link.coming c.args.link.now) (g.R.Rng.stream c.args.words.now)
     (subst (λ (s : Server). StandsFor old s (g.L.Link.coming c.args.link.now)

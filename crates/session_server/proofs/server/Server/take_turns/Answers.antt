@@ -3,7 +3,7 @@ use Rattle.std.specs.Prelude.{⊤}
 use Rattle.line_bounds.specs.LineRecord.TheVariants as line
 use Rattle.line_server.specs.Standing.{Server, StandsFor}
 use Rattle.line_server.specs.Leaving.{TurnsInPart}
-use Rattle.line_server.specs.Standing.{IsServed}
+use Rattle.line_server.specs.Standing.{IsTurnsOutcome}
 use Rattle.list_sending.specs.Steps.{LineSteps, State, Step}
 use Rattle.session_server.proofs.Lines.{of_network}
 use Rattle.session_server.specs.Taking.{PartOf}
@@ -16,7 +16,7 @@ returns-clause-leaves g c = λ around old held before same stands tells was.
     of_network (LineSteps around (line.Serve c.args.turns) old)
     (PartOf around (line.Serve c.args.turns) old before (g.L.Link.coming c.take_turns.new.link)
     (g.L.Link.sent c.take_turns.new.link)) ⊤ (λ after. ⊥) old
-    (IsServed c.self.inside.bound c.take_turns.new.store (g.L.Link.coming c.take_turns.new.link)
+    (IsTurnsOutcome c.self.inside.bound c.take_turns.new.store (g.L.Link.coming c.take_turns.new.link)
     (g.R.Rng.stream c.take_turns.new.words))
     (λ new. StandsFor new (record {
       store = c.take_turns.new.store;

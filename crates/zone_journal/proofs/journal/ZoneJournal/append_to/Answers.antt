@@ -2,7 +2,7 @@ use Rattle.std.proofs.Common.{◌≡◌, sym, ap, subst, length, rules}
 use Rattle.file_building.proofs.Moments.{started}
 use Rattle.file_building.specs.Layout.{OpensTo}
 use Rattle.file_building.specs.Append.{UnlessFault, HasCause as FileCause, MovesOn as FileMoves}
-use Rattle.zone_journal.specs.Standing.{State, Stands}
+use Rattle.zone_journal.specs.Standing.{State, StandsWith}
 use Rattle.zone_journal.specs.Appending.{Fits}
 use Rattle.zone_journal.proofs.Appends.{unless}
 use Rattle.zone_journal.proofs.journal.ZoneJournal.append_to.Goals as goal
@@ -31,7 +31,7 @@ returns-clause-stands g c =
     c.append.ensures.cause in
     subst (λ v.
     UnlessFault c.append.result
-    (Stands D.reading D.images v c.append.new.disk c.args.other.now)) (sym moved)
+    (StandsWith D.reading D.images v c.append.new.disk c.args.other.now)) (sym moved)
     (unless D.reading D.images old c.args.active.now c.append.new.disk c.args.other.now c.requires
     c.args.entry.now fits c.append.ensures.untold c.append.result c.append.new.self moves cause
     c.append.ensures.stands c.append.ensures.leaves)

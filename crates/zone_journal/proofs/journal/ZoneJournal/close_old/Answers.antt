@@ -1,7 +1,7 @@
 use Rattle.std.proofs.Common.{◌≡◌, Some, inl, sym, subst, rules}
 use Rattle.file_building.proofs.Moments.{weaker}
 use Rattle.file_building.proofs.AppendLemmas.{read_now}
-use Rattle.zone_journal.specs.Standing.{State, Stands}
+use Rattle.zone_journal.specs.Standing.{State, StandsWith}
 use Rattle.zone_journal.specs.Compacting.{with_plan, YieldsOrOpens}
 use Rattle.zone_journal.proofs.Stores.{closed_shut}
 use Rattle.zone_journal.proofs.Pieces.{closed_stands, shut_yields, whole_or_shut_yields}
@@ -62,7 +62,7 @@ returns-clause-stands g c =
     let moved : c.moved-plan.result ≡ record c.args.plan { next = 1 } = search rules in
     let is : new ≡ with_plan v (record c.args.plan { next = 1 }) =
     λ i. record (c.self.view_is i) { plan = Some (moved i) } in
-    subst (λ s. Stands D.reading D.images s c.args.active.now c.close_file.new.disk) (sym is)
+    subst (λ s. StandsWith D.reading D.images s c.args.active.now c.close_file.new.disk) (sym is)
     (closed_stands D.reading D.images v c.args.plan c.args.active.now c.args.other.now
     c.close_file.new.disk c.requires.stands c.requires.first c.close_file.ensures.untold
     (λ y told. c.in-Whole.ensures.closed y told))

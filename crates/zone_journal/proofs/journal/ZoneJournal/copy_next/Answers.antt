@@ -2,7 +2,7 @@ use Rattle.std.proofs.Common.{◌≡◌, ◌∙◌, ◌+◌, ◌-◌, ◌≤◌,
 use Rattle.file_building.specs.Layout.{inner}
 use Rattle.file_building.proofs.Moments.{weaker}
 use Rattle.file_building.proofs.AppendLemmas.{read_now, reaches}
-use Rattle.zone_journal.specs.Standing.{State, Stands, left_of}
+use Rattle.zone_journal.specs.Standing.{State, StandsWith, left_of}
 use Rattle.zone_journal.specs.Compacting.{with_plan, YieldsOrOpens}
 use Rattle.file_building.proofs.Gates.{written_shut}
 use Rattle.zone_journal.proofs.Pieces.{more_stands, shut_yields, at_within}
@@ -86,7 +86,7 @@ returns-clause-stands g c =
       ap length c.as_mut_slice-buffer.ensures.value,
     )) in
     let long : length piece ≡ n = c.copy.auto.piece ∙ short in
-    subst (λ s. Stands D.reading D.images s c.copy.new.active c.copy.new.other) (sym is)
+    subst (λ s. StandsWith D.reading D.images s c.copy.new.active c.copy.new.other) (sym is)
     (more_stands D.reading D.images D.moment D.images_since v p c.args.active.now c.copy.new.active
     c.args.other.now c.copy.new.other c.requires.stands n piece c.requires.begun room long
     c.copy.ensures.rests c.copy.ensures.untold

@@ -5,7 +5,7 @@ use Rattle.file_building.specs.Layout.{OpensTo}
 use Rattle.file_building.specs.Append.{EndsAt, StandsOn as EndsOn}
 use Rattle.file_building.proofs.AppendLemmas.{read_now}
 use Rattle.zone_journal.specs.Pairs.{opposite}
-use Rattle.zone_journal.specs.Standing.{State, Stands, planned_length}
+use Rattle.zone_journal.specs.Standing.{State, StandsWith, planned_length}
 use Rattle.file_building.specs.Building.{gate_opened}
 use Rattle.zone_journal.specs.Compacting.{YieldsOrOpens}
 use Rattle.zone_journal.proofs.Pieces.{opens_since, ends, durable, new_stands, shut_yields}
@@ -148,7 +148,7 @@ returns-clause-stands g c =
           at_is i;
       plan = None;
     } in
-    subst (λ s. Stands D.reading D.images s c.open_file.new.other c.args.active.now) (sym is)
+    subst (λ s. StandsWith D.reading D.images s c.open_file.new.other c.args.active.now) (sym is)
     (new_stands D.reading D.images v p c.args.active.now c.args.other.now c.requires.stands
     c.requires.last c.open_file.new.other c.open_file.ensures.untold
     (λ y t. g.met.D.Disk.alike c.open_file.new.other c.args.active.now y t)

@@ -2,7 +2,7 @@ use Rattle.std.proofs.Common.{◌≡◌, ◌∙◌, ⊎_elim, sym, ap, subst}
 use Rattle.file_building.specs.Append.{EndsAt}
 use Rattle.file_building.specs.Read.{IsRead, ReadsOn as ReadsFile, NextGives as NextOfFile, UnlessSome}
 use Rattle.file_building.proofs.Reading.{stands_reads}
-use Rattle.zone_journal.specs.Standing.{State, Reads, Stands}
+use Rattle.zone_journal.specs.Standing.{State, ReadsWith, StandsWith}
 use Rattle.zone_journal.specs.Opening.{NextGives, OnNone, UnlessSome as UnlessSomeOfPair, IsNoMore, on_side}
 use Rattle.zone_journal.proofs.Openings.{next_gives, reads_still, at_none, unless_some, no_more}
 use Rattle.zone_journal.proofs.journal.ZoneJournal.read_on.Goals as goal
@@ -52,7 +52,7 @@ returns-clause-reads_on g c = λ reads.
     } in
     let moved : new ≡ record c.args.self.now { at = c.next-read.new.self } =
     ap (λ (v : State). record v { at = c.next-read.new.self }) c.self.view_is in
-    subst (λ v. Reads D.reading D.images v c.next-read.new.disk c.args.other.now) (sym moved)
+    subst (λ v. ReadsWith D.reading D.images v c.next-read.new.disk c.args.other.now) (sym moved)
     (reads_still D.reading D.images D.moment D.images_since c.args.self.now c.args.active.now
     c.next-read.new.disk c.args.other.now
     c.next-read.ensures.rests reads c.next-read.new.self c.next-read.ensures.reads_on)
@@ -73,10 +73,10 @@ returns-clause-at_end g c =
     let stays =
     subst (λ n. UnlessSome c.next-read.result (c.next-read.new.self ≡ n))
     (ap (λ (v : State). v.at) c.self.view_is) c.next-read.ensures.stays in
-    subst (λ q. OnNone q (Stands D.reading D.images new c.next-read.new.disk c.args.other.now))
+    subst (λ q. OnNone q (StandsWith D.reading D.images new c.next-read.new.disk c.args.other.now))
     (sym c.on_side.ensures)
     (subst (λ v. OnNone (on_side c.self.inside.side c.next-read.result)
-    (Stands D.reading D.images v c.next-read.new.disk c.args.other.now)) (sym moved)
+    (StandsWith D.reading D.images v c.next-read.new.disk c.args.other.now)) (sym moved)
     (at_none D.reading D.images D.moment D.images_since c.args.self.now c.args.active.now
     c.next-read.new.disk c.args.other.now
     c.next-read.ensures.rests c.next-read.result c.self.inside.side c.next-read.new.self
@@ -99,10 +99,10 @@ returns-clause-stands g c = λ stands.
     subst (λ n. UnlessSome c.next-read.result (c.next-read.new.self ≡ n))
     (ap (λ (v : State). v.at) c.self.view_is) c.next-read.ensures.stays in
     subst (λ q.
-    UnlessSomeOfPair q (Stands D.reading D.images new c.next-read.new.disk c.args.other.now))
+    UnlessSomeOfPair q (StandsWith D.reading D.images new c.next-read.new.disk c.args.other.now))
     (sym c.on_side.ensures)
     (subst (λ v. UnlessSomeOfPair (on_side c.self.inside.side c.next-read.result)
-    (Stands D.reading D.images v c.next-read.new.disk c.args.other.now)) (sym moved)
+    (StandsWith D.reading D.images v c.next-read.new.disk c.args.other.now)) (sym moved)
     (unless_some D.reading D.images D.moment D.images_since c.args.self.now c.args.active.now
     c.next-read.new.disk c.args.other.now
     c.next-read.ensures.rests c.next-read.result c.self.inside.side c.next-read.new.self stays

@@ -1,7 +1,7 @@
 use Rattle.std.proofs.Common.{◌≡◌, ◌∙◌, [], List, ap, sym, subst}
 use Rattle.zone_list.specs.RecordSetRecord.{RecordSet}
 use Rattle.zone_list.specs.Existing.{Exists}
-use Rattle.zone_list.specs.Placed.{sets_of}
+use Rattle.zone_list.specs.Slotted.{sets_of}
 use Rattle.zone_list.specs.Kept.{Listed, zones_in}
 use Rattle.zone_list.specs.Zones.{placed_in}
 use Rattle.zone_table.specs.Looking.{IsApex}

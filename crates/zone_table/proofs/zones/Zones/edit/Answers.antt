@@ -1,6 +1,6 @@
 use Rattle.std.proofs.Common.{◌∙◌, List, ap, length, subst, sym}
 use Rattle.std.proofs.lemmas.List.{with_items_is}
-use Rattle.zone_list.specs.Kept.{AreKept, Listed, zones_in}
+use Rattle.zone_list.specs.Kept.{AreIntact, Listed, zones_in}
 use Rattle.zone_table.specs.Apexes.{KnowsNames, Notes}
 use Rattle.zone_table.specs.Counted.{AreCounted}
 use Rattle.zone_table.specs.Edits.{Edits, IsReady, Prepared}
@@ -26,7 +26,7 @@ invariant_of-self c =
     let notes : Notes s.apexes c.args.ready.made c.note_name.new.apexes =
     subst (λ (r : Prepared). Notes s.apexes r.made c.note_name.new.apexes) c.ready.view_is
     c.note_name.ensures in (
-      subst (λ (l : List Listed). AreKept slots l) (sym same) c.make-delta.ensures.kept,
+      subst (λ (l : List Listed). AreIntact slots l) (sym same) c.make-delta.ensures.kept,
       subst (λ (l : List Listed). AreCounted c.make-delta.new.store l c.make-delta.new.octets) (sym same)
           c.make-delta.ensures.counted,
       subst (λ (l : List Listed). KnowsNames c.note_name.new.apexes (zones_in slots l)) (sym same)

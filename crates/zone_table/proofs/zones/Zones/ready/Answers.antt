@@ -1,7 +1,7 @@
 use Rattle.std.proofs.Common.{◌≡◌, ◌∙◌, List, ap, refl, sym, subst}
 use Rattle.zone_list.specs.Kept.{Listed, zones_in}
 use Rattle.zone_table.specs.Edits.{IsAllowed, StayReady}
-use Rattle.zone_table.specs.Needs.{Counts}
+use Rattle.zone_table.specs.Needs.{NeedsOfEdit}
 use Rattle.zone_table.specs.Tables.{Table}
 use Rattle.zone_table.proofs.Apexes.{still_known}
 use Rattle.zone_table.proofs.Rooms.{counts_still, is_ready, ok_so, rows_are_kept, rows_zones, same_room}
@@ -105,9 +105,9 @@ returns-clause-ready c =
     ∙ ap (λ (t : Table). t.zones) c.self.view_is) in
     let allowed : IsAllowed (zones_in store.slots list.items) edit =
     subst (λ zs. IsAllowed zs edit) (sym same) c.requires in
-    let counts : Counts list.items edit need =
+    let counts : NeedsOfEdit list.items edit need =
     counts_still s.list.items list.items c.reserve_for.ensures.rows edit need
-    (subst (λ (l : List Listed). Counts l edit need) c.deref.ensures.value c.in_ok-need.ensures) in
+    (subst (λ (l : List Listed). NeedsOfEdit l edit need) c.deref.ensures.value c.in_ok-need.ensures) in
     ok_so c.new.result c.new.ensures
     (λ ready prepared. is_ready store list s.collections s.edits need ready c.in_ok-make_room.ensures.room.0
     c.in_ok-make_room.ensures.room.1 edit prepared counts c.in_ok-reserve_for.ensures.room allowed)

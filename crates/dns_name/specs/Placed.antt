@@ -1,6 +1,0 @@
--- Bytes that are written to a place.
-use Rattle.std.specs.Prelude.{ℕ, ◌+◌, List, ◌++◌, length, take, drop}
-
--- what a buffer is once a piece stands at a place
-abbrev pub placed : List ℕ → ℕ → List ℕ → List ℕ
-placed buffer at piece = take at buffer ++ piece ++ drop (at + length piece) buffer

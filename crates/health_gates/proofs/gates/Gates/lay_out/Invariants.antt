@@ -1,4 +1,0 @@
-use Rattle.health_gates.proofs.gates.Gates.lay_out.Given as goal
-
-abbrev pub ghosts-settle_uncounted : goal.ghosts-settle_uncounted
-ghosts-settle_uncounted a = record { name = a.blank.name; parts = a.blank.parts }

@@ -1,6 +1,0 @@
-use Rattle.std.specs.List.{Contains}
-use Rattle.health_gates.proofs.Walks.{ranked_ends}
-use Rattle.health_gates.proofs.laws.ranks_end_paths.Goals as goal
-
-pub returns : goal.returns
-returns c = λ fed rank bound is. ranked_ends (λ x. Contains (fed x)) rank bound is

@@ -1,8 +1,0 @@
-//! Laws over the definitions. Each stands as the contract of a function that does nothing.
-
-ghost use Rattle.health_gates.specs.Walk.{RanksEndPaths};
-
-/// Ranks bound the length of paths.
-pub fn ranks_end_paths()
-    ensures { RanksEndPaths }
-{}

@@ -1,9 +1,0 @@
-use Rattle.std.proofs.Common.{◌≡◌, ◌<◌, ℕ, Some}
-use Rattle.std.specs.Prelude.{slice_get}
-use Rattle.health_planning.specs.SetRefRecord.{SetRef}
-use Rattle.health_index.specs.Leaving.{CameLeavesGates}
-use Rattle.health_index.proofs.gate_leaving.all_came_leave_gates.Given as goal
-
-abbrev pub invariant-loop-set : goal.invariant-loop-set
-invariant-loop-set l = (k : ℕ) (ref : SetRef) → k < l.set-index
-    → slice_get l.added k ≡ Some ref → CameLeavesGates l.zones.zones l.seats l.removed ref

@@ -1,0 +1,165 @@
+//! Commands by which surely no valve changes: sets give way to others that the same check alone decides, or
+//! nothing, or sets that nothing decides go and come where no valve is.
+
+ghost use Rattle.std.specs.Prelude.{◌≡◌, ◌↔◌, ℕ, IsTrue, List};
+ghost use Rattle.health_index.specs.Leaving.{AllCameKeepValves, AllWentKeepValves};
+ghost use Rattle.health_index.specs.Leaving.{CameKeepsValves, HasNoValve, IsAsSeated, IsOneOf};
+ghost use Rattle.health_index.specs.Leaving.{KeepsValves, WentKeepsValves};
+ghost use Rattle.health_planning.specs.Building.{IsSeatAt};
+ghost use Rattle.health_planning.specs.Wired.{group_seat};
+ghost use Rattle.health_planning.specs.declared.seats.Seat.{Seat};
+ghost use Rattle.health_planning.specs.Groups.{members_of};
+ghost use Rattle.record_set.specs.declared.sets.RecordSet.{RecordSet};
+ghost use Rattle.health_planning.specs.Telling.{watch_of};
+ghost use Rattle.zone_model.specs.Slotted.{IsHere, Slotted};
+ghost use Rattle.health_planning.specs.Looking.{IsGroupNow, RefersTo};
+
+use crate::finding::find_seat;
+use health_planning::{
+    Delta, Group, Scratch, Seat, SetRef, Watch, Zones, find_group, is_watched, only_check,
+};
+
+/// Whether one of some references is this one.
+fn is_one_of(refs: &[SetRef], set: SetRef) -> bool
+    ensures { IsTrue result ↔ IsOneOf refs.now set }
+{
+    for other in refs {
+        if other.zone == set.zone && other.slot == set.slot {
+            return true;
+        }
+    }
+    false
+}
+
+/// Whether another set came in the place of one that went, or neither that nor its group had a valve.
+fn went_leaves_valves(seats: &[Seat], set: SetRef, added: &[SetRef]) -> bool
+    ensures { IsTrue result ↔ WentKeepsValves seats.now added.now set }
+{
+    let seat = find_seat(seats, set.slot);
+    if seat.set == 0 && seat.group == 0 {
+        return true;
+    }
+    is_one_of(added, set)
+}
+
+/// Whether no valve changes by the sets that went.
+fn all_went_leave_valves(seats: &[Seat], removed: &[SetRef], added: &[SetRef]) -> bool
+    ensures { IsTrue result ↔ AllWentKeepValves seats.now added.now removed.now }
+{
+    for set in removed {
+        if !went_leaves_valves(seats, *set, added) {
+            return false;
+        }
+    }
+    true
+}
+
+/// Whether no set of a group tells a valve of it.
+fn tells_none(zones: &Zones, seats: &[Seat], group: Group) -> bool
+    requires { IsGroupNow zones.now.zones group }
+    ensures { IsTrue result ↔ ((p : Slotted) → IsHere (members_of zones.now.zones group) p
+        → group_seat seats.now p.slot ≡ 0) }
+{
+    for i in 0..group.length {
+        if find_seat(seats, zones.member(group, i).slot).group != 0 {
+            return false;
+        }
+    }
+    true
+}
+
+/// Whether the group of the set that a reference names has no valve. That set is read into the
+/// scratch.
+fn has_no_valve(zones: &Zones, seats: &[Seat], set: SetRef, scratch: &mut Scratch) -> bool
+    requires { (named : RecordSet) × RefersTo zones.now.zones set named }
+    ensures { (named : RecordSet) → RefersTo zones.now.zones set named → IsTrue result
+        ↔ HasNoValve zones.now.zones seats.now set.zone named.name named.rtype }
+{
+    zones.well_formed();
+    if !zones.load(set, scratch) {
+        unreachable!();
+    }
+    let group = find_group(zones, set.zone, &scratch.name(), scratch.rtype());
+    tells_none(zones, seats, group)
+}
+
+/// Whether what decides a set is what a seat tells: nothing, or the same check alone.
+fn is_as_told(seat: Seat, watch: Watch) -> bool
+    ensures { (seats : List Seat) (slot : ℕ) (named : RecordSet) → IsSeatAt seats slot seat
+        → watch ≡ watch_of named → IsTrue result ↔ IsAsSeated seats slot named }
+{
+    if seat.set == 0 {
+        return !is_watched(watch);
+    }
+    let check = only_check(watch);
+    check != 0 && seat.check == check
+}
+
+/// Whether what decides the set that a reference names is what the seat in its slot tells.
+fn is_as_seated(zones: &Zones, seats: &[Seat], set: SetRef) -> bool
+    ensures { IsTrue result ↔ ((named : RecordSet) × RefersTo zones.now.zones set named
+        × IsAsSeated seats.now set.slot named) }
+{
+    zones.well_formed();
+    match zones.watch(set) {
+        Some(watch) => is_as_told(find_seat(seats, set.slot), watch),
+        None => false,
+    }
+}
+
+/// Whether a set came in the place of another, or into a slot and a group without a valve, and what
+/// decides it is what the seat tells.
+fn came_leaves_valves(
+    zones: &Zones,
+    seats: &[Seat],
+    set: SetRef,
+    removed: &[SetRef],
+    scratch: &mut Scratch,
+) -> bool
+    ensures { IsTrue result ↔ CameKeepsValves zones.now.zones seats.now removed.now set }
+{
+    zones.well_formed();
+    if !is_as_seated(zones, seats, set) {
+        return false;
+    }
+    if is_one_of(removed, set) {
+        return true;
+    }
+    if find_seat(seats, set.slot).set != 0 {
+        return false;
+    }
+    has_no_valve(zones, seats, set, scratch)
+}
+
+/// Whether no valve changes by the sets that came.
+fn all_came_leave_valves(
+    zones: &Zones,
+    seats: &[Seat],
+    removed: &[SetRef],
+    added: &[SetRef],
+    scratch: &mut Scratch,
+) -> bool
+    ensures { IsTrue result ↔ AllCameKeepValves zones.now.zones seats.now removed.now added.now }
+{
+    for set in added {
+        if !came_leaves_valves(zones, seats, *set, removed, scratch) {
+            return false;
+        }
+    }
+    true
+}
+
+/// Whether no valve changes by the sets that went from a zone, and by those that came.
+pub fn leaves_valves(zones: &Zones, seats: &[Seat], delta: &Delta, scratch: &mut Scratch) -> bool
+    ensures { IsTrue result ↔ KeepsValves zones.now.zones seats.now delta.now }
+{
+    if delta.zone == 0 {
+        return false;
+    }
+    let removed = delta.removed.as_slice();
+    let added = delta.added.as_slice();
+    if !all_went_leave_valves(seats, removed, added) {
+        return false;
+    }
+    all_came_leave_valves(zones, seats, removed, added, scratch)
+}

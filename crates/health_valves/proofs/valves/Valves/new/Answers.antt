@@ -1,0 +1,31 @@
+use Rattle.std.proofs.Common.{◌≡◌, List, [], length, refl, ap, arith, Some}
+use Rattle.std.specs.Prelude.{slice_get}
+use Rattle.health_valves.proofs.Members.{in_none}
+use Rattle.health_valves.proofs.Walks.{ranked_ends}
+use Rattle.health_valves.specs.Valves.{Feeds, IsLaid}
+use Rattle.health_valves.specs.Blueprint.{net_in, no_blueprint}
+use Rattle.health_valves.specs.declared.valves.ValveFeeds.{ValveFeeds}
+use Rattle.health_valves.proofs.valves.Valves.new.Goals as goal
+
+laid_nothing : IsLaid (net_in no_blueprint) [] []
+laid_nothing = record {
+  size = refl;
+  each_row = λ n row at. let no : ⊥ = cc in absurd no;
+  reversed = λ x y within. absurd (omega arith);
+  within = λ x y fed. absurd (in_none y fed);
+  ends = ranked_ends (Feeds (net_in no_blueprint)) (λ x. 0) 64
+      (record { rises = λ x y fed. absurd (in_none x fed); below = λ x. omega arith });
+}
+
+pub returns-clause-fits : goal.returns-clause-fits
+returns-clause-fits c = record {
+  laid = rw (c.new.ensures.items, c.new-2.ensures.items) laid_nothing;
+  values = ap length c.new-3.ensures.items;
+  counted = record {
+    size = ap length c.new-4.ensures.items;
+    small = λ n within. absurd (omega arith);
+    each = λ n within. absurd (omega arith);
+  };
+  marks = ap length c.new-6.ensures.items;
+  room = omega arith;
+}

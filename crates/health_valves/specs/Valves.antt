@@ -1,0 +1,107 @@
+-- Valves over valves: when each is open, and what feeds it.
+use Rattle.std.specs.Prelude.{◌≡◌, ◌≤◌, ◌<◌, ◌+◌, ◌-◌, ◌^◌, ◌==◌, ℕ, Bool, true, false, List, [], ◌∷◌, Option, Some, None, length, take, drop, slice_get, slice_index, slice_index_or, nat_le, if◌then◌else◌, Contains}
+use Rattle.std.specs.Vec.{vec_capacity}
+use Rattle.calculated_health.specs.Status.{swapped_if}
+use Rattle.health_valves.specs.Walk.{PathsEnd}
+use Rattle.health_valves.specs.declared.valves.Valves.{Valves}
+use Rattle.health_valves.specs.declared.valves.ValveFeeds.{ValveFeeds}
+
+-- how often a number stands in a list
+abbrev pub times : ℕ → List ℕ → ℕ
+times x [] = 0
+times x (y ∷ ys) = if y == x then times x ys + 1 else times x ys
+
+-- how many of these are open
+abbrev pub count : (ℕ → Bool) → List ℕ → ℕ
+count v [] = 0
+count v (x ∷ xs) = if v x then count v xs + 1 else count v xs
+
+-- a valve is open where at least so many of its feeders are; swapped_if where it is inverted
+pub record Condition : Type 0 where
+  pub need : ℕ
+  pub inverted : Bool
+  pub feeders : List ℕ
+
+-- so many valves, and the condition of each
+pub record Net : Type 0 where
+  pub size : ℕ
+  pub condition : ℕ → Condition
+
+-- the value of a valve, from those of its feeders and from what is counted outside
+abbrev pub equation : Net → (ℕ → ℕ) → (ℕ → Bool) → ℕ → Bool
+equation net own v n = swapped_if (net.condition n).inverted (nat_le (net.condition n).need (own n + count v (net.condition n).feeders))
+
+abbrev pub MeetsEquation : Net → (ℕ → ℕ) → (ℕ → Bool) → ℕ → Type 0
+MeetsEquation net own v n = v n ≡ equation net own v n
+
+abbrev pub Feeds : Net → ℕ → ℕ → Type 0
+Feeds net x y = Contains (net.condition y).feeders x
+
+abbrev pub value_in : List Bool → ℕ → Bool
+value_in values n = slice_index_or values n false
+
+abbrev pub value_of : Valves → ℕ → Bool
+value_of valves n = value_in valves.values.items n
+
+abbrev pub piece : List ℕ → Option ValveFeeds → List ℕ
+piece edges None = []
+piece edges (Some row) = take (row.end - row.first) (drop row.first edges)
+
+-- a valve that opens adds one to each count above it, and one that shuts takes one
+abbrev pub CountsFit : Bool → List ℕ → List ℕ → Type 0
+CountsFit true counts fed = (y : ℕ) → times y fed ≤ slice_index counts y
+CountsFit false counts fed = (y : ℕ) → slice_index counts y + times y fed < 2 ^ 32
+
+-- the counts before and after a valve with this list was worked out
+abbrev pub Flipped : Bool → Bool → List ℕ → List ℕ → List ℕ → Type 0
+Flipped was now before after fed = (y : ℕ)
+    → slice_index after y + (if was then times y fed else 0)
+    ≡ slice_index before y + (if now then times y fed else 0)
+
+-- the valves that a valve feeds
+abbrev pub fed : List ValveFeeds → List ℕ → ℕ → List ℕ
+fed rows edges n = piece edges (slice_get rows n)
+
+-- what the edges say of feeding
+abbrev pub FedBy : List ValveFeeds → List ℕ → ℕ → ℕ → Type 0
+FedBy rows edges x = Contains (fed rows edges x)
+
+pub record IsRow (condition : Condition) (edges : List ℕ) (row : ValveFeeds) : Type 0 where
+  pub need : row.need ≡ condition.need
+  pub inverted : row.inverted ≡ condition.inverted
+  pub first : row.first ≤ row.end
+  pub end : row.end ≤ length edges
+
+-- rows and edges are those of the net
+pub record IsLaid (net : Net) (rows : List ValveFeeds) (edges : List ℕ) : Type 0 where
+  pub size : length rows ≡ net.size
+  pub each_row : (n : ℕ) (row : ValveFeeds) → slice_get rows n ≡ Some row → IsRow (net.condition n) edges row
+  pub reversed : (x y : ℕ) → y < net.size
+      → times y (fed rows edges x) ≡ times x (net.condition y).feeders
+  pub within : (x y : ℕ) → Contains (fed rows edges x) y → y < net.size
+  pub ends : PathsEnd (Feeds net) 64
+
+-- each count is that of the open feeders, with what is counted outside
+pub record IsCounted (net : Net) (own : ℕ → ℕ) (v : ℕ → Bool) (counts : List ℕ) : Type 0 where
+  pub size : length counts ≡ net.size
+  pub small : (n : ℕ) → n < net.size → own n + length (net.condition n).feeders < 2 ^ 32
+  pub each : (n : ℕ) → n < net.size → slice_index counts n ≡ own n + count v (net.condition n).feeders
+
+-- the valves stand for a net and for counts from outside
+pub record ValvesStandFor (net : Net) (own : ℕ → ℕ) (valves : Valves) : Type 0 where
+  pub laid : IsLaid net valves.rows.items valves.edges.items
+  pub values : length valves.values.items ≡ net.size
+  pub counted : IsCounted net own (value_of valves) valves.counts.items
+  pub marks : length valves.marks.items ≡ net.size
+  pub room : net.size ≤ vec_capacity valves.cone
+
+-- they stand for some net
+abbrev pub IsReady : Valves → Type 0
+IsReady valves = (net : Net) × (own : ℕ → ℕ) × ValvesStandFor net own valves
+
+abbrev pub size_of : Valves → ℕ
+size_of valves = length valves.rows.items
+
+-- one valve has another count from outside
+abbrev pub with_own : ℕ → ℕ → (ℕ → ℕ) → ℕ → ℕ
+with_own valve n own m = if m == valve then n else own m

@@ -1,0 +1,363 @@
+//! Valves over valves: each open where enough of its feeders are, kept so as counts from outside
+//! turn.
+
+ghost use Rattle.std.specs.Prelude.{◌≡◌, ◌≢◌, ◌≤◌, ◌<◌, ◌+◌, ◌^◌, ◌↔◌, ◌∷◌, [], All, IsTrue};
+ghost use Rattle.std.specs.Prelude.{List, false, if◌then◌else◌, length, slice_index, true, ℕ};
+ghost use Rattle.std.specs.Prelude.{IsOk, OnOk};
+ghost use Rattle.std.specs.List.Sorted.{IsNonDecreasingBy, IsPermutation};
+ghost use Rattle.health_valves.specs.Laying.{HasRoomFor};
+ghost use Rattle.health_valves.specs.Blueprint.{IsDrawn, Drawn, net_in, no_blueprint, own_in};
+ghost use Rattle.health_valves.specs.Walk.{PathsEnd};
+ghost use Rattle.health_valves.specs.declared.blueprint.Feeding.{Feeding};
+ghost use Rattle.health_valves.specs.Valves.{Feeds, ValvesStandFor, IsReady, MeetsEquation, Net, count};
+ghost use Rattle.health_valves.specs.Valves.{equation};
+ghost use Rattle.health_valves.specs.Valves.{size_of, value_in, value_of, with_own};
+ghost use Rattle.health_valves.specs.Pass.{CostsCone, HasCone, HasMarked, IsIdle, IsInOrder, MeetAll};
+ghost use Rattle.health_valves.specs.Pass.{MeetBehind, MeetOutside, FlipsOnly, waiting};
+
+use crate::blueprint::Blueprint;
+use crate::cone::{list_all, list_cone};
+use crate::laying::{lay_counts, lay_edges, lay_none, lay_rows};
+use crate::room::make_room;
+use crate::steps::Steps;
+use crate::writes::{fed_by, is_open, work_out};
+use octets::OutOfMemory;
+use std::alloc::Global;
+use std::marker::Brand;
+use std::sync::ledger::{Blank, Ledger};
+
+/// What stays of a valve: how many feeders open it, and where the valves that it feeds are listed.
+#[derive(Clone, Copy, Debug, PartialEq, Eq)]
+pub struct ValveFeeds {
+    pub(crate) need: u32,
+    pub(crate) inverted: bool,
+    pub(crate) first: u32,
+    pub(crate) end: u32,
+}
+
+/// Valves over valves.
+#[derive(Debug, Drop)]
+pub struct Valves {
+    rows: Vec<ValveFeeds>,
+    /// Which valves each valve feeds.
+    edges: Vec<u32>,
+    values: Vec<bool>,
+    /// How many feeders of each valve are open, and what is counted from outside.
+    counts: Vec<u32>,
+    /// The valves that wait to be worked out; taken from the end. Empty between calls.
+    cone: Vec<u32>,
+    /// Which valves wait.
+    marks: Vec<bool>,
+}
+
+impl Valves {
+    /// No valves.
+    pub fn new(alloc: Global) -> Valves
+        ensures idle { IsIdle result }
+        ensures fits { ValvesStandFor (net_in no_blueprint) (own_in no_blueprint) result }
+    {
+        Valves {
+            rows: Vec::new(alloc),
+            edges: Vec::new(alloc),
+            values: Vec::new(alloc),
+            counts: Vec::new(alloc),
+            cone: Vec::new(alloc),
+            marks: Vec::new(alloc),
+        }
+    }
+
+    /// Makes room for a blueprint of so many valves and links in all. The valves stay as they are.
+    pub fn reserve(&mut self, valves: usize, links: usize) -> Result<(), OutOfMemory>
+        ensures room { OnOk result (HasRoomFor self.new valves links) }
+        ensures ready { HasRoomFor self.old valves links → IsOk result }
+        ensures kept { (n m : ℕ) → HasRoomFor self.old n m → HasRoomFor self.new n m }
+        ensures stays { (net : Net) (own : ℕ → ℕ) → ValvesStandFor net own self.old → ValvesStandFor net own self.new }
+        ensures meet { (net : Net) (own : ℕ → ℕ) → MeetAll net own self.old
+            → MeetAll net own self.new }
+        ensures idle { IsIdle self.old → IsIdle self.new }
+        ensures values { self.new.values.items ≡ self.old.values.items }
+    {
+        let Ok(()) = make_room(&mut self.rows, valves) else {
+            return Err(OutOfMemory);
+        };
+        let Ok(()) = make_room(&mut self.edges, links) else {
+            return Err(OutOfMemory);
+        };
+        let Ok(()) = make_room(&mut self.values, valves) else {
+            return Err(OutOfMemory);
+        };
+        let Ok(()) = make_room(&mut self.counts, valves) else {
+            return Err(OutOfMemory);
+        };
+        let Ok(()) = make_room(&mut self.cone, valves) else {
+            return Err(OutOfMemory);
+        };
+        let Ok(()) = make_room(&mut self.marks, valves) else {
+            return Err(OutOfMemory);
+        };
+        Ok(())
+    }
+
+    /// Lays a blueprint out in place of what was there, and works all its valves out. It takes no memory.
+    pub fn lay_out(&mut self, blueprint: &mut Blueprint)
+        requires planned { IsDrawn blueprint.old }
+        requires ends { PathsEnd (Feeds (net_in blueprint.old)) 64 }
+        requires room { HasRoomFor self.old (length blueprint.old.triggers) (length blueprint.old.links) }
+        ensures fits { ValvesStandFor (net_in blueprint.old) (own_in blueprint.old) self.new }
+        ensures meet { MeetAll (net_in blueprint.old) (own_in blueprint.old) self.new }
+        ensures idle { IsIdle self.new }
+        ensures kept { (n m : ℕ) → HasRoomFor self.old n m → HasRoomFor self.new n m }
+        ensures triggers { blueprint.new.triggers ≡ blueprint.old.triggers }
+        ensures links { length blueprint.new.links ≡ length blueprint.old.links }
+        ensures blueprint_room { blueprint.new.room ≡ blueprint.old.room }
+        ensures blueprint_links_room { blueprint.new.links_room ≡ blueprint.old.links_room }
+    {
+        blueprint.sort();
+        self.set_up(blueprint);
+        self.settle_uncounted::<Brand>(Blank::new(1));
+    }
+
+    /// Sets up the valves of a blueprint whose links stand by their feeders, none of them open.
+    fn set_up(&mut self, blueprint: &Blueprint)
+        requires planned { IsDrawn blueprint.now }
+        requires sorted { IsNonDecreasingBy (λ (l : Feeding). l.feeder) blueprint.now.links }
+        requires room { HasRoomFor self.old (length blueprint.now.triggers) (length blueprint.now.links) }
+
+        // They are those of each blueprint with these links in some order.
+        ensures fits { (given : Drawn) → given.triggers ≡ blueprint.now.triggers
+            → IsPermutation given.links blueprint.now.links → PathsEnd (Feeds (net_in given)) 64
+            → ValvesStandFor (net_in given) (own_in given) self.new }
+
+        ensures idle { IsIdle self.new }
+        ensures size { size_of self.new ≡ length blueprint.now.triggers }
+        ensures kept { (n m : ℕ) → HasRoomFor self.old n m → HasRoomFor self.new n m }
+    {
+        self.rows.clear();
+        lay_rows(&mut self.rows, blueprint.triggers(), blueprint.links());
+        self.edges.clear();
+        lay_edges(&mut self.edges, blueprint.links());
+        self.counts.clear();
+        lay_counts(&mut self.counts, blueprint.triggers());
+        self.values.clear();
+        lay_none(&mut self.values, blueprint.len());
+        self.marks.clear();
+        lay_none(&mut self.marks, blueprint.len());
+        self.cone.clear();
+    }
+
+    /// Works all valves out, with a count of its own that nobody sees.
+    fn settle_uncounted<L: Ledger>(&mut self, blank: Blank)
+        requires name { blank.name ≡ L.name }
+        requires parts { blank.parts ≡ L.parts }
+        requires some { 0 < blank.parts }
+        requires ready { IsReady self.old }
+        requires idle { IsIdle self.old }
+        requires few { size_of self.old ≤ 2 ^ 32 }
+        ensures fits { (net : Net) (own : ℕ → ℕ) → ValvesStandFor net own self.old → ValvesStandFor net own self.new }
+        ensures idle { IsIdle self.new }
+        ensures meet { (net : Net) (own : ℕ → ℕ) → ValvesStandFor net own self.old
+            → MeetAll net own self.new }
+        ensures room { (n m : ℕ) → HasRoomFor self.old n m → HasRoomFor self.new n m }
+    {
+        let mut steps = Steps::<L>::new(blank);
+        self.settle_all(&mut steps);
+    }
+
+    /// Works one valve out anew. The answer is whether its value changed.
+    pub fn eval_node<L: Ledger>(&mut self, node: u32, steps: &mut Steps<L>) -> bool
+        requires ready { IsReady self.old }
+        requires node { node < size_of self.old }
+
+        // It meets its equation then, and no other value changes.
+        ensures fits { (net : Net) (own : ℕ → ℕ) → ValvesStandFor net own self.old → ValvesStandFor net own self.new }
+        ensures meets { (net : Net) (own : ℕ → ℕ) → ValvesStandFor net own self.old
+            → MeetsEquation net own (value_of self.new) node }
+        ensures others { (n : ℕ) → n ≢ node → value_of self.new n ≡ value_of self.old n }
+
+        // A valve that it doesn't feed goes on meeting its own.
+        ensures spares { (net : Net) (own : ℕ → ℕ) (n : ℕ) → ValvesStandFor net own self.old → n ≢ node
+            → (Feeds net node n → ⊥)
+            → MeetsEquation net own (value_of self.old) n
+            → MeetsEquation net own (value_of self.new) n }
+
+        ensures changed { IsTrue result ↔ (value_of self.new node ≢ value_of self.old node) }
+        ensures tick { steps.new ≡ steps.old + 1 }
+        ensures rest { FlipsOnly self.old self.new }
+        ensures room { (n m : ℕ) → HasRoomFor self.old n m → HasRoomFor self.new n m }
+    {
+        steps.tick();
+        let at = node as usize;
+        let row = self.rows[at];
+        let fed = fed_by(&self.edges, row);
+        let values = self.values.as_mut_slice();
+        let counts = self.counts.as_mut_slice();
+        work_out(values, counts, at, row.need, row.inverted, fed)
+    }
+
+    /// Works one waiting valve out, and lets it wait no longer. The answer is whether one waited.
+    fn pass_one<L: Ledger>(&mut self, steps: &mut Steps<L>) -> bool
+        requires ready { IsReady self.old }
+        requires within { All (λ y. y < size_of self.old) (waiting self.old) }
+        requires first { IsInOrder self.old }
+        requires marked { HasMarked self.old }
+        ensures fits { (net : Net) (own : ℕ → ℕ) → ValvesStandFor net own self.old → ValvesStandFor net own self.new }
+        ensures mends { (net : Net) (own : ℕ → ℕ) → ValvesStandFor net own self.old
+            → MeetBehind net own self.old → MeetBehind net own self.new }
+        ensures within { All (λ y. y < size_of self.new) (waiting self.new) }
+        ensures first { IsInOrder self.new }
+        ensures marked { HasMarked self.new }
+        ensures cost { steps.new + length self.new.cone.items
+            ≡ steps.old + length self.old.cone.items }
+        ensures fewer { result ≡ true → length self.new.cone.items < length self.old.cone.items }
+        ensures end { result ≡ false → self.new.cone.items ≡ [] }
+        ensures room { (n m : ℕ) → HasRoomFor self.old n m → HasRoomFor self.new n m }
+    {
+        let Some(valve) = self.cone.pop() else {
+            return false;
+        };
+        self.marks[valve as usize] = false;
+        self.eval_node(valve, steps);
+        true
+    }
+
+    /// Works out the valves that wait, each once.
+    fn pass<L: Ledger>(&mut self, steps: &mut Steps<L>)
+        requires ready { IsReady self.old }
+        requires within { All (λ y. y < size_of self.old) (waiting self.old) }
+        requires first { IsInOrder self.old }
+        requires marked { HasMarked self.old }
+        ensures fits { (net : Net) (own : ℕ → ℕ) → ValvesStandFor net own self.old → ValvesStandFor net own self.new }
+        ensures mends { (net : Net) (own : ℕ → ℕ) → ValvesStandFor net own self.old
+            → MeetBehind net own self.old → MeetAll net own self.new }
+        ensures idle { IsIdle self.new }
+        ensures cost { steps.new ≡ steps.old + length self.old.cone.items }
+        ensures room { (n m : ℕ) → HasRoomFor self.old n m → HasRoomFor self.new n m }
+    {
+        while self.pass_one(steps) {}
+    }
+
+    /// Works out the cone of some valves, each valve of it once and before all that it feeds. It
+    /// takes no memory.
+    pub fn settle<L: Ledger>(&mut self, starts: &[u32], steps: &mut Steps<L>)
+        requires ready { IsReady self.old }
+        requires idle { IsIdle self.old }
+        requires starts { All (λ y. y < size_of self.old) starts.now }
+        ensures fits { (net : Net) (own : ℕ → ℕ) → ValvesStandFor net own self.old → ValvesStandFor net own self.new }
+        ensures idle { IsIdle self.new }
+
+        // Where all valves outside the cone met their equations, all valves do then.
+        ensures mends { (net : Net) (own : ℕ → ℕ) → ValvesStandFor net own self.old
+            → MeetOutside net own starts.now self.old → MeetAll net own self.new }
+        ensures cost { (net : Net) (own : ℕ → ℕ) (nodes : List ℕ) → ValvesStandFor net own self.old
+            → HasCone net starts.now nodes
+            → steps.new ≤ steps.old + length nodes }
+        ensures cone { (net : Net) (own : ℕ → ℕ) → ValvesStandFor net own self.old
+            → CostsCone net starts.now steps.old steps.new }
+    {
+        list_cone(
+            &self.rows,
+            &self.edges,
+            &mut self.cone,
+            &mut self.marks,
+            starts,
+        );
+        self.pass(steps);
+    }
+
+    /// Works out all valves, as after all of them were set up. It takes no memory.
+    pub fn settle_all<L: Ledger>(&mut self, steps: &mut Steps<L>)
+        requires ready { IsReady self.old }
+        requires idle { IsIdle self.old }
+        requires few { size_of self.old ≤ 2 ^ 32 }
+        ensures fits { (net : Net) (own : ℕ → ℕ) → ValvesStandFor net own self.old → ValvesStandFor net own self.new }
+        ensures idle { IsIdle self.new }
+        ensures meet { (net : Net) (own : ℕ → ℕ) → ValvesStandFor net own self.old
+            → MeetAll net own self.new }
+        ensures cost { steps.new ≤ steps.old + size_of self.old }
+        ensures room { (n m : ℕ) → HasRoomFor self.old n m → HasRoomFor self.new n m }
+    {
+        list_all(&self.rows, &self.edges, &mut self.cone, &mut self.marks);
+        self.pass(steps);
+    }
+
+    /// The value of a valve.
+    pub fn value(&self, valve: usize) -> bool
+        requires ready { IsReady self.now }
+        requires valve { valve < size_of self.now }
+        ensures { result ≡ value_of self.now valve }
+    {
+        value_at(&self.values, valve)
+    }
+
+    /// What is counted at a valve: from outside, and of those that feed it the open ones.
+    pub fn count(&self, valve: usize) -> u32
+        requires valve { valve < size_of self.now }
+        requires ready { IsReady self.now }
+        ensures { (net : Net) (own : ℕ → ℕ) → ValvesStandFor net own self.now
+            → result ≡ own valve + count (value_of self.now) (net.condition valve).feeders }
+    {
+        self.counts[valve]
+    }
+
+    /// How many valves there are.
+    pub fn len(&self) -> usize
+        ensures { result ≡ size_of self.now }
+    {
+        self.rows.len()
+    }
+
+    /// Takes what is counted from outside at a valve that nothing feeds. The answer is whether its
+    /// value changed.
+    pub fn take_count<L: Ledger>(&mut self, valve: u32, count: u32, steps: &mut Steps<L>) -> bool
+        requires ready { IsReady self.old }
+        requires idle { IsIdle self.old }
+        requires valve { valve < size_of self.old }
+        requires alone { (net : Net) (own : ℕ → ℕ) → ValvesStandFor net own self.old
+            → (net.condition valve).feeders ≡ [] }
+        ensures fits { (net : Net) (own : ℕ → ℕ) → ValvesStandFor net own self.old
+            → ValvesStandFor net (with_own valve count own) self.new }
+        ensures idle { IsIdle self.new }
+        ensures meet { (net : Net) (own : ℕ → ℕ) → ValvesStandFor net own self.old → MeetAll net own self.old
+            → MeetAll net (with_own valve count own) self.new }
+        ensures changed { (net : Net) (own : ℕ → ℕ) → ValvesStandFor net own self.old
+            → MeetAll net own self.old
+            → IsTrue result ↔ (value_of self.new valve ≢ value_of self.old valve) }
+        ensures quiet { result ≡ false → steps.new ≡ steps.old }
+        ensures cost { (net : Net) (own : ℕ → ℕ) (nodes : List ℕ) → ValvesStandFor net own self.old
+            → HasCone net (valve ∷ []) nodes
+            → steps.new ≤ steps.old + (if result then length nodes else 0) }
+        ensures cone { result ≡ true → (net : Net) (own : ℕ → ℕ) → ValvesStandFor net own self.old
+            → CostsCone net (valve ∷ []) steps.old steps.new }
+    {
+        self.put_count(valve, count);
+        let row = self.rows[valve as usize];
+        let now = is_open(row.need, row.inverted, count);
+        let was = value_at(&self.values, valve as usize);
+        if now == was {
+            return false;
+        }
+        self.settle(&[valve], steps);
+        true
+    }
+
+    /// Writes what is counted from outside.
+    fn put_count(&mut self, valve: u32, count: u32)
+        requires ready { IsReady self.old }
+        requires valve { valve < size_of self.old }
+        requires alone { (net : Net) (own : ℕ → ℕ) → ValvesStandFor net own self.old
+            → (net.condition valve).feeders ≡ [] }
+        ensures fits { (net : Net) (own : ℕ → ℕ) → ValvesStandFor net own self.old
+            → ValvesStandFor net (with_own valve count own) self.new }
+        ensures rest { self.new ≡ record self.old { counts = self.new.counts } }
+    {
+        self.counts[valve as usize] = count;
+    }
+}
+
+/// Whether a valve is open.
+fn value_at(values: &[bool], valve: usize) -> bool
+    requires { valve < length values.now }
+    ensures { result ≡ value_in values.now valve }
+{
+    values[valve]
+}

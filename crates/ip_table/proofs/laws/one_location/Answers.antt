@@ -1,5 +1,0 @@
-use Rattle.ip_table.proofs.Scopes.{one}
-use Rattle.ip_table.proofs.laws.one_location.Goals as goal
-
-pub returns : goal.returns
-returns g c = one

@@ -1,0 +1,13 @@
+use Rattle.std.proofs.Common.{subst, sym}
+use Rattle.set_store.specs.Stored.{IsKept, Slots}
+use Rattle.set_store.proofs.Reading.{found}
+use Rattle.set_store.proofs.store.SetSlots.name_hash.Goals as goal
+
+pub name_hash_at-requires : goal.name_hash_at-requires
+name_hash_at-requires c =
+    let kept = c.requires in
+    let f = found c.self.inside.region.held c.self.inside.slots.items c.self.inside.free c.self.inside.spare
+    c.self.invariant
+    c.written_reads_back.ensures c.args.slot kept.0 (subst (λ
+    (s : Slots). IsKept s.slots c.args.slot kept.0) (sym c.self.view_is) kept.1) in
+    (f.octets, f.there)
