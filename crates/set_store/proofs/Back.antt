@@ -1,6 +1,6 @@
 -- Cells that come back.
 use Rattle.std.proofs.Common.{◌≡◌, ℕ, ◌+◌, List, Option, None, Some, Bool, length, ap, ◌∙◌, ◌-◌, ◌≤◌, arith}
-use Rattle.set_store.specs.declared.slots.Slot.{Slot}
+use Rattle.set_store.specs.Packed.{Slot}
 use Rattle.set_scratch.specs.Cells.{cells_for}
 use Rattle.set_scratch.specs.Stored.{Frees, Stored}
 

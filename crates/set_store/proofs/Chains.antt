@@ -1,7 +1,7 @@
 -- Chains of free slots.
 use Rattle.std.proofs.Common.{◌≡◌, ℕ, zero, suc, ◌-◌, ◌<◌, ◌≤◌, ◌∙◌, List, subst, arith, Some}
 use Rattle.std.specs.Prelude.{slice_get}
-use Rattle.set_store.specs.declared.slots.Slot.{Slot}
+use Rattle.set_store.specs.Packed.{Slot}
 use Rattle.set_store.specs.Index.{IsChain, no_cell}
 
 -- a chain whose slots stay, each with its rank

@@ -3,7 +3,7 @@ use Rattle.std.proofs.Common.{◌≡◌, ℕ, zero, suc, ◌+◌, List, [], ◌�
 use Rattle.std.specs.Prelude.{slice_get}
 use Rattle.std.proofs.lemmas.Bool.{eq-eqb}
 use Rattle.std.proofs.lemmas.Bool.Decides.{eqb_tells}
-use Rattle.set_store.specs.declared.slots.Slot.{Slot}
+use Rattle.set_store.specs.Packed.{Slot}
 use Rattle.set_store.specs.Index.{IsLive, no_cell, used, used_by}
 
 pub used_free : (slot : Slot) → slot.cell ≡ no_cell → used_by slot ≡ 0

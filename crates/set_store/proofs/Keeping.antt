@@ -11,9 +11,10 @@ use Rattle.set_search.specs.RecordSetRecord.{RecordSet}
 use Rattle.set_scratch.specs.Octets.{set_octets}
 use Rattle.set_scratch.specs.LawsOfSetReading.{WrittenReadsBack}
 use Rattle.set_scratch.specs.Reading.{read}
-use Rattle.set_store.specs.declared.slots.Slot.{Slot}
+use Rattle.set_store.specs.Packed.{Slot}
 use Rattle.set_store.specs.Index.{IsIntact, IsLive, kept_in, no_cell, octets_in, set_of, set_read}
 use Rattle.set_store.specs.Stored.{IsSpelling, IsInUse, Kept, Spells}
+use Rattle.set_store.specs.Tags.{IsTagged}
 use Rattle.set_store.proofs.Lists.{get_other, get_same, same_or_not, set_agree}
 
 -- a set is the one of its octets
@@ -82,7 +83,8 @@ module _ (held now : Held) (slots : List Slot) (free spare : ℕ) (index : IsInt
     (stays : (j : ℕ) (slot : Slot) → j ≢ i → slice_get slots j ≡ Some slot → IsLive slot
     → finmap.get now slot.cell ≡ finmap.get held slot.cell)
     (own : (j : ℕ) (slot : Slot) → j ≢ i → slice_get slots j ≡ Some slot → IsLive slot → slot.cell ≢ x.cell)
-    (good : IsLive x → (octets : List ℕ) × (finmap.get now x.cell ≡ Some octets) × IsSpelling octets) where
+    (good : IsLive x → (octets : List ℕ) × (finmap.get now x.cell ≡ Some octets) × IsSpelling octets
+    × IsTagged x.tag octets) where
   old_at : (j : ℕ) (slot : Slot) → j ≢ i → slice_get (set slots i x) j ≡ Some slot
       → slice_get slots j ≡ Some slot
   old_at j slot apart at = sym (get_other slots i j x apart) ∙ at
@@ -92,16 +94,16 @@ module _ (held now : Held) (slots : List Slot) (free spare : ℕ) (index : IsInt
       (ap (λ k. slice_get (set slots i x) k) (sym e) ∙ at)
 
   pub live_now : (j : ℕ) (slot : Slot) → slice_get (set slots i x) j ≡ Some slot → IsLive slot
-      → (o : List ℕ) × (finmap.get now slot.cell ≡ Some o) × IsSpelling o
+      → (o : List ℕ) × (finmap.get now slot.cell ≡ Some o) × IsSpelling o × IsTagged slot.tag o
   live_now j slot at live = elim (same_or_not j i) [
     | inl e ↦
         (subst (λ (s : Slot). IsLive s → (o : List ℕ) × (finmap.get now s.cell ≡ Some o)
-        × IsSpelling o) (new_at j slot e at) good
+        × IsSpelling o × IsTagged s.tag o) (new_at j slot e at) good
         live)
     | inr ne ↦
         (let was = old_at j slot ne at in
         let o = index.live j slot was live in
-        (o.0, stays j slot ne was live ∙ o.1, o.2))
+        (o.0, stays j slot ne was live ∙ o.1, o.2, o.3))
   ]
 
   pub apart_now : (j k : ℕ) (slot other : Slot) → slice_get (set slots i x) j ≡ Some slot

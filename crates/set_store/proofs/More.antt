@@ -4,7 +4,7 @@ use Rattle.std.specs.Prelude.{slice_get}
 use Rattle.std.proofs.lemmas.List.{map-append}
 use Rattle.std.proofs.lemmas.Option.{slice_get_within}
 use Rattle.set_scratch.specs.Stored.{Held}
-use Rattle.set_store.specs.declared.slots.Slot.{Slot}
+use Rattle.set_store.specs.Packed.{Slot}
 use Rattle.set_store.specs.Index.{IsChain, IsIntact, IsLive, kept_in, new_slot}
 use Rattle.set_store.specs.Stored.{Kept, nothing}
 use Rattle.set_store.proofs.Chains.{moved}

@@ -7,9 +7,10 @@ use Rattle.std.proofs.lemmas.Option.{slice_get_within}
 use Rattle.set_scratch.specs.Stored.{Held}
 use Rattle.set_search.specs.RecordSetRecord.{RecordSet}
 use Rattle.set_scratch.specs.LawsOfSetReading.{WrittenReadsBack}
-use Rattle.set_store.specs.declared.slots.Slot.{Slot}
+use Rattle.set_store.specs.Packed.{Slot}
 use Rattle.set_store.specs.Index.{IsChain, IsIntact, IsLive, kept_in, no_cell}
 use Rattle.set_store.specs.Stored.{IsSpelling, IsVacant, Spells}
+use Rattle.set_store.specs.Tags.{IsTagged}
 use Rattle.set_store.proofs.Chains.{first, moved}
 use Rattle.set_store.proofs.Counts.{count_set, used_free, used_live}
 use Rattle.set_store.proofs.Keeping.{apart_now, few_now, kept_at, kept_free, kept_live, live_now, none_or_some, seen, set_told}
@@ -30,9 +31,10 @@ module _ (held now : Held) (h : ℕ) (octets : List ℕ) (fresh : finmap.get hel
       → finmap.get now slot.cell ≡ finmap.get held slot.cell
   stays i slot at live = others slot.cell (other_cell i slot at live)
 
-  module _ (some : 0 < spare) (few : h ≢ no_cell) (zone : ℕ) where
+  module _ (some : 0 < spare) (few : h ≢ no_cell) (zone tag : ℕ)
+      (tagged : IsTagged tag octets) where
     abbrev new : Slot
-    new = record { cell = h; zone = zone }
+    new = record { cell = h; tag = tag; zone = zone }
 
     pub front : (slot : Slot) × (slice_get slots free ≡ Some slot) × (slot.cell ≡ no_cell)
         × (index.rank free ≡ spare - 1)
@@ -47,10 +49,10 @@ module _ (held now : Held) (h : ℕ) (octets : List ℕ) (fresh : finmap.get hel
     filled spelling next is_next = record {
       live = live_now held now slots free spare index free inside new
           (λ j slot ne at live. stays j slot at live)
-          (λ j slot ne at live. other_cell j slot at live) (λ live. (octets, here, spelling));
+          (λ j slot ne at live. other_cell j slot at live) (λ live. (octets, here, spelling, tagged));
       apart = apart_now held now slots free spare index free inside new
           (λ j slot ne at live. stays j slot at live)
-          (λ j slot ne at live. other_cell j slot at live) (λ live. (octets, here, spelling));
+          (λ j slot ne at live. other_cell j slot at live) (λ live. (octets, here, spelling, tagged));
       rank = index.rank;
       chain = subst (λ at. IsChain (set slots free new) index.rank (spare - 1) at) (sym is_next)
           (moved slots (set slots free new) index.rank index.rank (spare - 1)
@@ -68,7 +70,7 @@ module _ (held now : Held) (h : ℕ) (octets : List ℕ) (fresh : finmap.get hel
           omega (arith, c, u, v, index.counted, some, length-set slots free new));
       few = few_now held now slots free spare index free inside new
           (λ j slot ne at live. stays j slot at live)
-          (λ j slot ne at live. other_cell j slot at live) (λ live. (octets, here, spelling));
+          (λ j slot ne at live. other_cell j slot at live) (λ live. (octets, here, spelling, tagged));
     }
 
     pub vacant : IsVacant (map (kept_in held) slots) free
@@ -79,7 +81,7 @@ module _ (held now : Held) (h : ℕ) (octets : List ℕ) (fresh : finmap.get hel
         ≡ set (map (kept_in held) slots) free (Some (record { zone = zone; set = it }))
     put_seen back it spells =
         seen held now slots free spare index free inside new (λ j slot ne at live. stays j slot at live)
-        (λ j slot ne at live. other_cell j slot at live) (λ live. (octets, here, (it, spells)))
+        (λ j slot ne at live. other_cell j slot at live) (λ live. (octets, here, (it, spells), tagged))
         (Some (record { zone = zone; set = it }))
         (kept_live now new octets few here ∙ ap (λ s. Some (record { zone = zone; set = s }))
         (set_told back octets it spells))

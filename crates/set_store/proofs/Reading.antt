@@ -9,7 +9,7 @@ use Rattle.set_search.specs.RecordSetRecord.{RecordSet}
 use Rattle.set_scratch.specs.Heads.{key_octets}
 use Rattle.set_scratch.specs.Laws.{KeysAreInFront}
 use Rattle.set_scratch.specs.LawsOfSetReading.{WrittenReadsBack}
-use Rattle.set_store.specs.declared.slots.Slot.{Slot}
+use Rattle.set_store.specs.Packed.{Slot}
 use Rattle.set_store.specs.Index.{HoldsAt, IsIntact, kept_in, set_of}
 use Rattle.set_store.specs.Stored.{IsKept, Kept, Spells}
 use Rattle.set_store.proofs.Keeping.{both, is_live, kept_at, kept_live, none_or_some, set_told}
@@ -37,7 +37,7 @@ module _ (held : Held) (slots : List Slot) (free spare : ℕ) (index : IsIntact 
       (record { zone = slot.zone; set = set_of o.0 }) kept told there) in
       record {
         octets = o.0;
-        there = (slot, at, live, o.1);
+        there = (slot, at, live, o.1, o.3);
         spelled = subst (Spells o.0) (sym (set_told back o.0 o.2.0 o.2.1) ∙ same) o.2.1;
       }
 

@@ -7,9 +7,10 @@ use Rattle.std.proofs.lemmas.Option.{slice_get_within}
 use Rattle.set_scratch.specs.Stored.{Held}
 use Rattle.set_search.specs.RecordSetRecord.{RecordSet}
 use Rattle.set_scratch.specs.LawsOfSetReading.{WrittenReadsBack}
-use Rattle.set_store.specs.declared.slots.Slot.{Slot}
+use Rattle.set_store.specs.Packed.{Slot}
 use Rattle.set_store.specs.Index.{IsIntact, IsLive, kept_in, no_cell, set_of}
 use Rattle.set_store.specs.Stored.{IsSpelling, Spells}
+use Rattle.set_store.specs.Tags.{IsTagged}
 use Rattle.set_store.proofs.Chains.{moved}
 use Rattle.set_store.proofs.Counts.{count_set, used_live}
 use Rattle.set_store.proofs.Keeping.{apart_now, few_now, kept_live, live_now, another, free_apart, seen, set_told}
@@ -22,9 +23,9 @@ module _ (held mid now : Held) (h : ℕ) (octets : List ℕ) (fresh : finmap.get
     (slots : List Slot) (free spare : ℕ) (index : IsIntact held slots free spare) (i : ℕ) (slot : Slot)
     (at : slice_get slots i ≡ Some slot) (live : IsLive slot)
     (kept : (other : ℕ) → other ≢ slot.cell → finmap.get now other ≡ finmap.get mid other)
-    (few : h ≢ no_cell) where
+    (few : h ≢ no_cell) (tag : ℕ) (tagged : IsTagged tag octets) where
   abbrev new : Slot
-  new = record { cell = h; zone = slot.zone }
+  new = record { cell = h; tag = tag; zone = slot.zone }
 
   there : finmap.get now h ≡ Some octets
   there =
@@ -46,8 +47,8 @@ module _ (held mid now : Held) (h : ℕ) (octets : List ℕ) (fresh : finmap.get
 
   pub replaced : IsSpelling octets → IsIntact now (set slots i new) free spare
   replaced spelling = record {
-    live = live_now held now slots free spare index i within new stays own (λ l. (octets, there, spelling));
-    apart = apart_now held now slots free spare index i within new stays own (λ l. (octets, there, spelling));
+    live = live_now held now slots free spare index i within new stays own (λ l. (octets, there, spelling, tagged));
+    apart = apart_now held now slots free spare index i within new stays own (λ l. (octets, there, spelling, tagged));
     rank = index.rank;
     chain = moved slots (set slots i new) index.rank index.rank spare
         (λ k other at_k dead below. (
@@ -60,14 +61,14 @@ module _ (held mid now : Held) (h : ℕ) (octets : List ℕ) (fresh : finmap.get
         let u = used_live slot live in
         let v = used_live new few in
         omega (arith, c, u, v, index.counted, length-set slots i new));
-    few = few_now held now slots free spare index i within new stays own (λ l. (octets, there, spelling));
+    few = few_now held now slots free spare index i within new stays own (λ l. (octets, there, spelling, tagged));
   }
 
   pub replaced_seen : WrittenReadsBack → (it : RecordSet) → Spells octets it → (zone : ℕ) → slot.zone ≡ zone
       → map (kept_in now) (set slots i new)
       ≡ set (map (kept_in held) slots) i (Some (record { zone = zone; set = it }))
   replaced_seen back it spells zone same =
-      seen held now slots free spare index i within new stays own (λ l. (octets, there, (it, spells)))
+      seen held now slots free spare index i within new stays own (λ l. (octets, there, (it, spells), tagged))
       (Some (record { zone = zone; set = it }))
       (kept_live now new octets few there
       ∙ ap (λ z. Some (record { zone = z; set = set_of octets })) same

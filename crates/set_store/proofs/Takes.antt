@@ -7,7 +7,7 @@ use Rattle.std.proofs.lemmas.Bool.Decides.{eqb_tells}
 use Rattle.std.proofs.lemmas.List.{length-set}
 use Rattle.std.proofs.lemmas.Option.{slice_get_within}
 use Rattle.set_scratch.specs.Stored.{Held}
-use Rattle.set_store.specs.declared.slots.Slot.{Slot}
+use Rattle.set_store.specs.Packed.{Slot}
 use Rattle.set_store.specs.Index.{IsChain, IsIntact, IsLive, kept_in, no_cell}
 use Rattle.set_store.proofs.Chains.{moved}
 use Rattle.set_store.proofs.Counts.{count_set, used_free, used_live}
@@ -32,7 +32,7 @@ module _ (held now : Held) (slots : List Slot) (free spare : ℕ) (index : IsInt
     (at : slice_get slots i ≡ Some slot) (live : IsLive slot)
     (others : (other : ℕ) → other ≢ slot.cell → finmap.get now other ≡ finmap.get held other) where
   abbrev new : Slot
-  new = record { cell = no_cell; zone = free }
+  new = record { cell = no_cell; tag = 31; zone = free }
 
   pub within : i < length slots
   within = slice_get_within slots i slot at

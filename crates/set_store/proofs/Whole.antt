@@ -11,7 +11,7 @@ use Rattle.set_scratch.specs.ReadFaultRecord.{ReadFault}
 use Rattle.set_scratch.specs.ReadFaultRecord.TheVariants as fault
 use Rattle.set_scratch.specs.Gives.{GivesSet}
 use Rattle.set_scratch.specs.Sets.{BeginsWithSet}
-use Rattle.set_store.specs.declared.slots.Slot.{Slot}
+use Rattle.set_store.specs.Packed.{Slot}
 use Rattle.set_store.specs.Index.{HoldsAt}
 use Rattle.set_store.specs.Stored.{Spells}
 

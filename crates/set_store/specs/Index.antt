@@ -9,12 +9,13 @@ use Rattle.set_search.specs.RoutingRecord.TheVariants as routing
 use Rattle.set_search.specs.RecordSetRecord.{RecordSet}
 use Rattle.set_search.specs.BodyRecord.TheVariants as body
 use Rattle.set_scratch.specs.Reading.{read}
-use Rattle.set_store.specs.declared.slots.Slot.{Slot}
+use Rattle.set_store.specs.Packed.{Slot}
 use Rattle.set_store.specs.Stored.{Kept, IsSpelling}
+use Rattle.set_store.specs.Tags.{IsTagged}
 
 -- the cell of a slot that is free
 abbrev pub no_cell : ℕ
-no_cell = 4294967295
+no_cell = 134217727
 
 -- what stands for the set of octets that are none's
 abbrev pub no_set : RecordSet
@@ -49,7 +50,7 @@ kept_in held slot =
 
 -- a slot that is free, in front of another one
 abbrev pub new_slot : ℕ → Slot
-new_slot next = record { cell = no_cell; zone = next }
+new_slot next = record { cell = no_cell; tag = 31; zone = next }
 
 abbrev pub IsLive : Slot → Type 0
 IsLive slot = slot.cell ≢ no_cell
@@ -70,11 +71,12 @@ abbrev pub used : List Slot → ℕ
 used [] = 0
 used (slot ∷ slots) = used_by slot + used slots
 
--- Each slot in use has a handle of its own, whose octets are those of a set; and so many free slots
--- are in a chain.
+-- Each slot in use has a handle of its own, whose octets are those of a set, and the tag of that
+-- set's name; and so many free slots are in a chain.
 pub record IsIntact (held : Held) (slots : List Slot) (free spare : ℕ) : Type 0 where
   pub live : (i : ℕ) (slot : Slot) → slice_get slots i ≡ Some slot → IsLive slot
       → (octets : List ℕ) × (finmap.get held slot.cell ≡ Some octets) × IsSpelling octets
+      × IsTagged slot.tag octets
   pub apart : (i j : ℕ) (slot other : Slot) → slice_get slots i ≡ Some slot
       → slice_get slots j ≡ Some other
       → IsLive slot → slot.cell ≡ other.cell → i ≡ j
@@ -83,8 +85,8 @@ pub record IsIntact (held : Held) (slots : List Slot) (free spare : ℕ) : Type 
   pub counted : used slots + spare ≡ length slots
   pub few : length slots < 2 ^ 32
 
--- the octets of the slot's set
+-- the octets of the slot's set, whose name has the slot's tag
 abbrev pub HoldsAt : Held → List Slot → (i : ℕ) → (octets : List ℕ) → Type 0
 HoldsAt held slots i octets =
     (slot : Slot) × (slice_get slots i ≡ Some slot) × IsLive slot
-    × (finmap.get held slot.cell ≡ Some octets)
+    × (finmap.get held slot.cell ≡ Some octets) × IsTagged slot.tag octets

@@ -1,8 +1,10 @@
 pub mod Heads
 pub mod Index
+pub mod Packed
 pub mod Policies
 pub mod Servers
 pub mod Stored
+pub mod Tags
 pub use Rattle.set_scratch.specs.Cells
 pub use Rattle.set_scratch.specs.Octets
 pub use Rattle.set_scratch.specs.Sets

@@ -6,7 +6,7 @@ ghost use Rattle.set_scratch.specs.Stored.{Held};
 ghost use Rattle.set_store.specs.Index.{IsIntact, kept_in, new_slot};
 ghost use Rattle.set_store.specs.Stored.{nothing};
 
-use crate::slots::{NO_CELL, Slot};
+use crate::slots::Slot;
 
 /// Takes memory for so many more slots, where there is none: for these alone, or for a sixteenth of
 /// those that are there, whichever is more. `false` where there is none to be had.
@@ -51,9 +51,6 @@ fn give_slot(slots: &mut Vec<Slot>, free: u32) -> u32
     ensures number { result ≡ length slots.old.items }
 {
     let number = slots.len() as u32;
-    slots.push_reserved(Slot {
-        cell: NO_CELL,
-        zone: free,
-    });
+    slots.push_reserved(Slot::vacant(free));
     number
 }

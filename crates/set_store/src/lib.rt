@@ -11,6 +11,7 @@ mod reads;
 mod siblings;
 mod slots;
 mod store;
+mod tags;
 mod typed;
 
 pub use hashes::hash_of;

@@ -10,7 +10,7 @@ ghost use Rattle.set_scratch.specs.Telling.{is_alias, target_of, watch_of};
 ghost use Rattle.set_search.specs.Bounds.{is_before};
 ghost use Rattle.set_search.specs.Found.{IsOf, TypeOrNone};
 ghost use Rattle.set_search.specs.Stops.{bound_of};
-ghost use Rattle.set_store.specs.declared.slots.Slot.{Slot};
+ghost use Rattle.set_store.specs.Packed.{Slot};
 ghost use Rattle.set_store.specs.Index.{HoldsAt};
 ghost use Rattle.set_store.specs.Policies.{PolicyIsAt};
 ghost use Rattle.set_store.specs.Servers.{server_labels};
@@ -19,7 +19,7 @@ ghost use Rattle.set_store.specs.Stored.{IsKept, IsSpelling, IsInUse, Kept, Spel
 use crate::hashes::hash_of;
 use crate::heads::{head_is_before, head_is_below, head_server_labels};
 use crate::siblings::is_before_beside;
-use crate::slots::{NO_CELL, Slot};
+use crate::slots::{NO_CELL, Slot, cell_at};
 use crate::store::SetSlots;
 use crate::typed::{is_of_at, type_under};
 use octets::{OutOfMemory, behind, front, zeros};
@@ -44,10 +44,10 @@ impl SetSlots {
         match self.slots.get(slot as usize) {
             None => None,
             Some(found) => {
-                if found.cell == NO_CELL {
+                if found.cell() == NO_CELL {
                     return None;
                 }
-                Some(found.zone)
+                Some(found.zone())
             }
         }
     }
@@ -483,12 +483,4 @@ fn long_target(region: &Region, slots: &Vec<Slot>, slot: u32) -> Option<(Name, R
         → result ≡ target_of set }
 {
     target_in(whole_at(region, slots, slot, room_in(&mut [0; 65536])))
-}
-
-/// The cell of a slot.
-fn cell_at(slots: &Vec<Slot>, at: u32) -> u32
-    requires { at < length slots.now.items }
-    ensures { (slot : Slot) → slice_get slots.now.items at ≡ Some slot → result ≡ slot.cell }
-{
-    slots[at as usize].cell
 }

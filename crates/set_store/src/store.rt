@@ -5,12 +5,13 @@ ghost use Rattle.std.specs.Prelude.{None, slice_get, slice_set, IsOk, MatchResul
 ghost use Rattle.set_scratch.specs.Cells.{cells_for};
 ghost use Rattle.set_search.specs.RecordSetRecord.{RecordSet};
 ghost use Rattle.set_scratch.specs.Octets.{set_octets};
-ghost use Rattle.set_store.specs.declared.slots.Slot.{Slot};
+ghost use Rattle.set_store.specs.Packed.{Slot};
 ghost use Rattle.set_store.specs.Stored.{IsKept, IsSpelling, IsInUse, IsVacant, Kept, Spells};
 ghost use Rattle.set_store.specs.Stored.{nothing};
 
 use crate::growth::{give_slots, make_room};
-use crate::slots::{NO_CELL, Slot};
+use crate::slots::Slot;
+use crate::tags::tag_in;
 use octets::OutOfMemory;
 use set_scratch::{Handle, Region, written_reads_back};
 use std::alloc::Global;
@@ -33,7 +34,7 @@ pub struct SetSlots {
 impl Model for SetSlots {
     ghost use Rattle.std.specs.Prelude.{map};
     ghost use Rattle.set_store.specs.Index.{IsIntact, kept_in};
-    ghost use Rattle.set_store.specs.declared.slots.Slot.{Slot};
+    ghost use Rattle.set_store.specs.Packed.{Slot};
     ghost use Rattle.set_store.specs.Stored.{Slots};
 
     ghost Value = { Slots };
@@ -100,7 +101,8 @@ impl SetSlots {
         self.region.cells();
         let slot = self.free;
         let handle = self.region.put(octets);
-        self.free = fill(&mut self.slots, slot, handle.number(), zone);
+        let new = Slot::taken(handle.number(), tag_in(octets), zone);
+        self.free = fill(&mut self.slots, slot, new);
         self.spare -= 1;
         slot
     }
@@ -169,15 +171,9 @@ impl SetSlots {
         self.region.cells();
         let handle = self.region.put(octets);
         let old = slot_at(&self.slots, slot);
-        self.region.free(Handle::of(old.cell));
-        set_slot(
-            &mut self.slots,
-            slot,
-            Slot {
-                cell: handle.number(),
-                zone: old.zone,
-            },
-        );
+        self.region.free(Handle::of(old.cell()));
+        let new = Slot::taken(handle.number(), tag_in(octets), old.zone());
+        set_slot(&mut self.slots, slot, new);
     }
 
     /// Takes away the set of a slot.
@@ -197,27 +193,21 @@ impl SetSlots {
     {
         written_reads_back();
         let gone = slot_at(&self.slots, slot);
-        self.region.free(Handle::of(gone.cell));
-        let free = Slot {
-            cell: NO_CELL,
-            zone: self.free,
-        };
-        set_slot(&mut self.slots, slot, free);
+        self.region.free(Handle::of(gone.cell()));
+        set_slot(&mut self.slots, slot, Slot::vacant(self.free));
         self.free = slot;
         self.spare += 1;
     }
 }
 
 /// Fills a free slot, and answers the next free one.
-fn fill(slots: &mut Vec<Slot>, at: u32, cell: u32, zone: u32) -> u32
+fn fill(slots: &mut Vec<Slot>, at: u32, new: Slot) -> u32
     requires { at < length slots.old.items }
-    ensures slots { slots.new.items ≡ slice_set slots.old.items at
-        (record { cell = cell; zone = zone }) }
+    ensures slots { slots.new.items ≡ slice_set slots.old.items at new }
     ensures next { (slot : Slot) → slice_get slots.old.items at ≡ Some slot → result ≡ slot.zone }
 {
-    let slot = &mut slots[at as usize];
-    let next = slot.zone;
-    *slot = Slot { cell, zone };
+    let next = slots[at as usize].zone();
+    slots[at as usize] = new;
     next
 }
 

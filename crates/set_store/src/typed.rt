@@ -10,7 +10,8 @@ ghost use Rattle.set_store.specs.Stored.{IsSpelling, Spells};
 
 use crate::heads::is_same;
 use crate::reads::{front_at, stands_at, two_at};
-use crate::slots::Slot;
+use crate::slots::{Slot, tag_at};
+use crate::tags::name_tag;
 use octets::{front, number_at};
 use set_scratch::Region;
 use set_search::{Name, RType};
@@ -47,6 +48,9 @@ pub(crate) fn type_under(region: &Region, slots: &Vec<Slot>, slot: u32, name: &N
         → TypeOrNone name.now set result }
 {
     let octets = name.octets();
+    if tag_at(slots, slot) != name_tag(octets) {
+        return None;
+    }
     let first = front_at(region, slots, slot);
     if octets.len() + 2 <= first.len() {
         return type_in_front(first, octets);

@@ -1,4 +1,6 @@
-use Rattle.std.proofs.Common.{arith}
+use Rattle.std.proofs.Common.{◌≡◌, ℕ, List, ap, ◌∙◌, sym, arith}
+use Rattle.set_search.specs.Labels.{wire}
+use Rattle.set_store.specs.Tags.{tag_of}
 use Rattle.set_scratch.proofs.Fronts as keys
 use Rattle.set_store.proofs.Alike.{its_number, long, same_name}
 use Rattle.set_store.proofs.Behind.{in_front}
@@ -15,6 +17,16 @@ two_at-own-requires c =
       long keys.keys_are_in_front it.2.0 it.0 it.2.1 c.args.name.now c.octets-octets.result.now
           c.octets-octets.ensures.name c.octets-octets.ensures.spelled stands,
     )
+
+pub returns-then-tag_at-name_tag : goal.returns-then-tag_at-name_tag
+returns-then-tag_at-name_tag c octets set holds spells = λ same.
+    (let apart = c.if-tag_at-name_tag.true in
+    let own = c.tag_at.ensures holds.0 holds.1 in
+    let told : holds.0.tag ≡ c.name_tag.result =
+    holds.4 set spells
+    ∙ (ap (λ (n : List (List ℕ)). tag_of (wire n)) same
+    ∙ (ap tag_of (sym c.octets-octets.ensures.spelled) ∙ sym c.name_tag.ensures.tag)) in
+    absurd (omega (arith, apart, own, told)))
 
 pub returns-then-octets-first : goal.returns-then-octets-first
 returns-then-octets-first c octets set holds spells =

@@ -15,7 +15,7 @@ fill-self-inside-requires c =
     (s : Slots). s.free) c.self.view_is) c.requires.slot)
     (is_cell c.put-handle.result c.self.inside.region.cells c.cells.result c.cells.ensures.cells
     c.cells.ensures.most c.put-handle.ensures.below)
-    c.args.zone
+    c.args.zone c.tag_in.result c.tag_in.ensures.tag
 
 pub invariant_of-self : goal.invariant_of-self
 invariant_of-self c =
@@ -28,7 +28,7 @@ invariant_of-self c =
     (s : Slots). s.free) c.self.view_is) c.requires.slot)
     (is_cell c.put-handle.result c.self.inside.region.cells c.cells.result c.cells.ensures.cells
     c.cells.ensures.most c.put-handle.ensures.below)
-    c.args.zone in
+    c.args.zone c.tag_in.result c.tag_in.ensures.tag in
     let is = filled c.self.inside.region.held c.put-handle.new.self.held c.put-handle.result c.args.octets.now
     c.put-handle.ensures.fresh c.put-handle.ensures.here c.put-handle.ensures.others c.self.inside.slots.items
     c.self.inside.free c.self.inside.spare c.self.invariant
@@ -36,10 +36,11 @@ invariant_of-self c =
     (s : Slots). s.free) c.self.view_is) c.requires.slot)
     (is_cell c.put-handle.result c.self.inside.region.cells c.cells.result c.cells.ensures.cells
     c.cells.ensures.most c.put-handle.ensures.below)
-    c.args.zone
+    c.args.zone c.tag_in.result c.tag_in.ensures.tag
     c.requires.spelling c.fill-self-inside.result (c.fill-self-inside.ensures.next at_front.0 at_front.1) in
     subst (λ xs. IsIntact c.put-handle.new.self.held xs c.fill-self-inside.result (c.self.inside.spare - 1))
-    (ap (λ k. set slots c.self.inside.free (record { cell = k; zone = c.args.zone })) (sym c.number.ensures)
+    (ap (set slots c.self.inside.free) (sym (c.taken-new.ensures ∙ ap (λ k.
+    record { cell = k; tag = c.tag_in.result; zone = c.args.zone }) c.number.ensures))
     ∙ sym c.fill-self-inside.ensures.slots) is
 
 pub returns-clause-vacant : goal.returns-clause-vacant
@@ -52,14 +53,15 @@ returns-clause-vacant c =
     (s : Slots). s.free) c.self.view_is) c.requires.slot)
     (is_cell c.put-handle.result c.self.inside.region.cells c.cells.result c.cells.ensures.cells
     c.cells.ensures.most c.put-handle.ensures.below)
-    c.args.zone)
+    c.args.zone c.tag_in.result c.tag_in.ensures.tag)
 
 pub returns-clause-slots : goal.returns-clause-slots
 returns-clause-slots c it spells =
     let slots = c.self.inside.slots.items in
     let put = Some (record { zone = c.args.zone; set = it }) in
     ap (map (kept_in c.put-handle.new.self.held)) (c.fill-self-inside.ensures.slots
-    ∙ ap (λ k. set slots c.self.inside.free (record { cell = k; zone = c.args.zone })) c.number.ensures)
+    ∙ ap (set slots c.self.inside.free) (c.taken-new.ensures ∙ ap (λ k.
+    record { cell = k; tag = c.tag_in.result; zone = c.args.zone }) c.number.ensures))
     ∙ put_seen c.self.inside.region.held c.put-handle.new.self.held c.put-handle.result c.args.octets.now
     c.put-handle.ensures.fresh c.put-handle.ensures.here c.put-handle.ensures.others c.self.inside.slots.items
     c.self.inside.free c.self.inside.spare c.self.invariant
@@ -67,7 +69,7 @@ returns-clause-slots c it spells =
     (s : Slots). s.free) c.self.view_is) c.requires.slot)
     (is_cell c.put-handle.result c.self.inside.region.cells c.cells.result c.cells.ensures.cells
     c.cells.ensures.most c.put-handle.ensures.below)
-    c.args.zone
+    c.args.zone c.tag_in.result c.tag_in.ensures.tag
     c.written_reads_back.ensures it spells
     ∙ ap (λ (s : Slots). set s.slots c.self.inside.free put) c.self.view_is
 

@@ -19,17 +19,19 @@ invariant_of-self c =
     c.slot_at-old.ensures (subst (λ (s : Slots). IsInUse s.slots c.args.slot)
     (sym c.self.view_is) c.requires.taken) in
     subst (λ xs. IsIntact c.free.new.self.held xs c.self.inside.free c.self.inside.spare)
-    (ap (λ k. set c.self.inside.slots.items c.args.slot
-    (record { cell = k; zone = c.slot_at-old.result.zone }))
-    (sym c.number.ensures) ∙ sym c.set_slot.ensures)
+    (ap (set c.self.inside.slots.items c.args.slot) (sym (c.taken-new.ensures
+    ∙ (ap (λ k. record { cell = k; tag = c.tag_in.result; zone = c.zone.result }) c.number.ensures
+    ∙ ap (λ z. record { cell = c.put-handle.result; tag = c.tag_in.result; zone = z }) c.zone.ensures)))
+    ∙ sym c.set_slot.ensures)
     (replaced c.self.inside.region.held c.put-handle.new.self.held c.free.new.self.held c.put-handle.result
     c.args.octets.now
     c.put-handle.ensures.fresh c.put-handle.ensures.here c.put-handle.ensures.others c.self.inside.slots.items
     c.self.inside.free c.self.inside.spare c.self.invariant c.args.slot c.slot_at-old.result
     c.slot_at-old.ensures live
-    (λ other ne. c.free.ensures.others other (λ e. ne (e ∙ c.of.ensures)))
+    (λ other ne. c.free.ensures.others other (λ e. ne (e ∙ (c.of.ensures ∙ c.cell.ensures))))
     (is_cell c.put-handle.result c.self.inside.region.cells c.cells.result c.cells.ensures.cells
-    c.cells.ensures.most c.put-handle.ensures.below) c.requires.spelling)
+    c.cells.ensures.most c.put-handle.ensures.below) c.tag_in.result c.tag_in.ensures.tag
+    c.requires.spelling)
 
 pub returns-clause-slots : goal.returns-clause-slots
 returns-clause-slots c it kept spells is =
@@ -38,16 +40,17 @@ returns-clause-slots c it kept spells is =
     (sym c.self.view_is) c.requires.taken) in
     let put = Some (record { zone = kept.zone; set = it }) in
     ap (map (kept_in c.free.new.self.held)) (c.set_slot.ensures
-    ∙ ap (λ k. set c.self.inside.slots.items c.args.slot
-    (record { cell = k; zone = c.slot_at-old.result.zone })) c.number.ensures)
+    ∙ ap (set c.self.inside.slots.items c.args.slot) (c.taken-new.ensures
+    ∙ (ap (λ k. record { cell = k; tag = c.tag_in.result; zone = c.zone.result }) c.number.ensures
+    ∙ ap (λ z. record { cell = c.put-handle.result; tag = c.tag_in.result; zone = z }) c.zone.ensures)))
     ∙ replaced_seen c.self.inside.region.held c.put-handle.new.self.held c.free.new.self.held
     c.put-handle.result c.args.octets.now
     c.put-handle.ensures.fresh c.put-handle.ensures.here c.put-handle.ensures.others c.self.inside.slots.items
     c.self.inside.free c.self.inside.spare c.self.invariant c.args.slot c.slot_at-old.result
     c.slot_at-old.ensures live
-    (λ other ne. c.free.ensures.others other (λ e. ne (e ∙ c.of.ensures)))
+    (λ other ne. c.free.ensures.others other (λ e. ne (e ∙ (c.of.ensures ∙ c.cell.ensures))))
     (is_cell c.put-handle.result c.self.inside.region.cells c.cells.result c.cells.ensures.cells
-    c.cells.ensures.most c.put-handle.ensures.below)
+    c.cells.ensures.most c.put-handle.ensures.below) c.tag_in.result c.tag_in.ensures.tag
     c.written_reads_back.ensures it spells kept.zone
     (zone_kept c.self.inside.region.held c.self.inside.slots.items c.args.slot c.slot_at-old.result
     c.slot_at-old.ensures kept
@@ -83,7 +86,7 @@ returns-clause-cells c kept is =
     c.self.inside.slots.items c.self.inside.free c.self.inside.spare c.self.invariant c.args.slot
     c.slot_at-old.result c.slot_at-old.ensures live in
     let back : c.free.new.self.spare ≡ c.put-handle.new.self.spare + cells_for (length f.octets) =
-    come_back _ f.octets (ap (finmap.get c.put-handle.new.self.held) c.of.ensures ∙ stays ∙ was)
+    come_back _ f.octets (ap (finmap.get c.put-handle.new.self.held) (c.of.ensures ∙ c.cell.ensures) ∙ stays ∙ was)
     c.put-handle.new.self c.free.new.self _ _ c.free.ensures.freed in
     cells_back c.self.inside.region.spare c.put-handle.new.self.spare c.free.new.self.spare
     (cells_for (length c.args.octets.now)) (cells_for (length f.octets))
