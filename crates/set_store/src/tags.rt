@@ -8,7 +8,7 @@ use set_scratch::name_and_rest;
 
 /// What the octets of a name tell: their first 24, or 16 or 8 where there are no more, are taken as
 /// numbers of four octets, whose sum is divided by 31. Names that differ in one octet, as those
-/// beside one another in a zone mostly do, tell different numbers.
+/// beside one another in a zone mostly do, tell different numbers but where 31 divides by how much.
 pub(crate) fn name_tag(octets: &[u8]) -> u32
     ensures tag { result ≡ tag_of octets.now }
     ensures few { result < 32 }
