@@ -1,3 +1,4 @@
+pub mod Lent
 pub use Rattle.batch_limits.specs.Batches
 pub use Rattle.batch_limits.specs.Changing
 pub use Rattle.batch_limits.specs.Limits

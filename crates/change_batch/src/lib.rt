@@ -5,6 +5,7 @@
 #![tactic(auto)]
 
 mod applying;
+mod lent;
 mod preparing;
 mod whole;
 

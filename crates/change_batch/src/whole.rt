@@ -3,15 +3,18 @@
 ghost use Rattle.std.specs.Prelude.{◌≡◌, IfOk, IfErr, Err};
 ghost use Rattle.batch_limits.specs.Batches.{IsWithinLimits, Leaves, Prepares};
 ghost use Rattle.set_search.specs.Zones.{IsZone};
+ghost use Rattle.change_batch.specs.Lent.{told};
 
 use crate::applying::apply;
+use crate::lent::{copy_all, lend_all};
 use batch_limits::{BatchRefusal, Change};
 use dns_name::Name;
 use octets::OutOfMemory;
 use set_search::RecordSet;
 use std::alloc::Global;
 
-/// The sets after the changes, or the refusal of the first change that is refused.
+/// The sets after the changes, or the refusal of the first change that is refused. Each set is
+/// copied once, after the last change.
 pub fn apply_all(
     alloc: Global,
     sets: &[RecordSet],
@@ -24,27 +27,39 @@ pub fn apply_all(
     ensures zone { IfOk result (λ after. IsZone after.items apex.now) }
     ensures refused { IfErr result (λ why. Prepares sets.now apex.now changes.now (Err why)) }
 {
-    let mut after = match copy_all(alloc, sets, changes.len()) {
-        Ok(copies) => copies,
+    let after = match lend_after(alloc, sets, apex, changes) {
+        Ok(after) => after,
+        Err(why) => return Err(why),
+    };
+    match copy_all(alloc, after.as_slice()) {
+        Ok(copies) => Ok(copies),
+        Err(OutOfMemory) => Err(BatchRefusal::OutOfMemory),
+    }
+}
+
+/// The sets after the changes, lent from those before and from the changes.
+fn lend_after<'a>(
+    alloc: Global,
+    sets: &'a [RecordSet],
+    apex: &Name,
+    changes: &'a [Change],
+) -> Result<Vec<&'a RecordSet>, BatchRefusal>
+    requires zone { IsZone sets.now apex.now }
+    requires limits { IsWithinLimits changes.now apex.now }
+    ensures leaves { IfOk result (λ after. Leaves sets.now apex.now changes.now (told after.items)) }
+    ensures zone { IfOk result (λ after. IsZone (told after.items) apex.now) }
+    ensures refused { IfErr result (λ why. Prepares sets.now apex.now changes.now (Err why)) }
+{
+    let mut after = match lend_all(alloc, sets, changes.len()) {
+        Ok(lent) => lent,
         Err(OutOfMemory) => return Err(BatchRefusal::OutOfMemory),
     };
     let mut hint = None;
     for (i, change) in changes.iter().enumerate() {
-        match apply(alloc, &mut after, apex, change, &mut hint) {
+        match apply(&mut after, apex, change, &mut hint) {
             Ok(()) => {}
             Err(why) => return Err(why.at(i)),
         }
     }
     Ok(after)
-}
-
-/// Copies of the sets, and room for so many more.
-fn copy_all(alloc: Global, sets: &[RecordSet], more: usize) -> Result<Vec<RecordSet>, OutOfMemory>
-    ensures { IfOk result (λ copies. copies.items ≡ sets.now) }
-{
-    let mut copies = Vec::with_capacity(alloc, sets.len().saturating_add(more))?;
-    for set in sets {
-        copies.push(set.copy(alloc)?)?;
-    }
-    Ok(copies)
 }

@@ -1,0 +1,6 @@
+use Rattle.std.proofs.Common.{◌≡◌, take}
+use Rattle.change_batch.specs.Lent.{told}
+use Rattle.change_batch.proofs.lent.copy_all.Given as goal
+
+abbrev pub invariant-loop-place : goal.invariant-loop-place
+invariant-loop-place l = l.copies.items ≡ take l.place (told l.sets)
