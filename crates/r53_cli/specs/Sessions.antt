@@ -19,7 +19,7 @@ use Rattle.session_run.specs.Serving.{Datagram}
 use Rattle.session_run.specs.Ended.{Ended}
 use Rattle.session_run.specs.Ended.TheVariants as ended
 use Rattle.session_run.specs.Ending.{FilesOpen}
-use Rattle.session_run.specs.Running.{FilesSay, Given, HasCauseOf, IfUntabled, IsTold, RunLeaves}
+use Rattle.session_run.specs.Running.{FilesSay, Given, HasCauseOf, IfUntabled, IsTold, RunLeaves, SessionKeeps}
 use Rattle.session_run.specs.Running.{TablesSay, UnlessEnded}
 use Rattle.session_run.specs.declared.ran.Ran.{Ran}
 use Rattle.session_run.specs.declared.ran.Ran.TheVariants as ran
@@ -101,7 +101,8 @@ of_ran ran.OutOfMemory = status.OutOfMemory
 of_ran (ran.Ended how) = of_ended how
 
 -- A session was run. Where it ended before its lines it asked the tables and the disks alone, and where
--- the tables ended it them alone, and the files are as they were; each fault has its cause.
+-- the tables ended it them alone, and the files are as they were; each fault has its cause. What the files
+-- open to is told where all tells what it has, and of the two disks alone where these do.
 pub record Runs {D : Type 0} (reading : D → Option (List ℕ)) (images : D → List ℕ → Type 0)
     (moment : D → ℕ) (images_since : D → ℕ → List ℕ → Type 0) (result : Status)
     (a_old a_new b_old b_new : D) (before after : Devices) (were are : Counts) : Type 0 where
@@ -117,6 +118,8 @@ pub record Runs {D : Type 0} (reading : D → Option (List ℕ)) (images : D →
   pub tables_say : (rows : List ℕ) → before.rows ≡ Some rows → TablesSay answer rows
   pub files_say : (x y : List ℕ) → reading a_old ≡ Some x → reading b_old ≡ Some y
       → FilesSay answer x y
+  pub files_keep : (x y : List ℕ) → reading a_old ≡ Some x → reading b_old ≡ Some y
+      → SessionKeeps answer images a_new b_new x y
   pub a_unwritten : UnlessEnded answer ((x : List ℕ) → reading a_old ≡ Some x
       → Unwritten reading images moment images_since a_old a_new)
   pub b_unwritten : UnlessEnded answer ((y : List ℕ) → reading b_old ≡ Some y

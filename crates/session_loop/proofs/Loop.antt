@@ -3,12 +3,15 @@ use Rattle.std.proofs.Common.{◌≡◌, ◌≤◌, ℕ, List, [], ◌++◌, Opt
 use Rattle.line_splitting.specs.Reading.{Reader, events}
 use Rattle.r53_io.specs.Network.{Incoming}
 use Rattle.rand_core.specs.Stream.{Stream}
+use Rattle.engine_model.specs.Engine.{Engine}
+use Rattle.session_loop.specs.Ending.{AppliesSome}
 use Rattle.session_loop.specs.Turning.{GoesOn}
 use Rattle.session_server.specs.Serving.{Datagram}
 use Rattle.session_server.specs.Sessions.{begun}
 use Rattle.session_server.specs.Steps.{State, Surroundings}
 use Rattle.session_server.specs.Holding.{Holds}
 use Rattle.session_server.specs.Standing.{Server, StandsFor}
+use Rattle.session_server.specs.Stores.{StandsFor as StoreStandsFor}
 use Rattle.zone_journal.specs.Pairs.{BothRead}
 use Rattle.zone_journal.specs.Standing.{StandsOn}
 
@@ -50,6 +53,8 @@ pub record Going {S D L R K : Type 0} (left_in : S → Option (List ℕ)) (in_fa
   pub stands : StandsOn reading images server.store.kept.journal a b
   pub holds : BothRead reading a_old b_old (Holds server_old.store.kept)
       → BothRead reading a b (Holds server.store.kept)
+  pub makes : (engine : Engine) → StoreStandsFor engine server_old.store
+      → (after : Engine) × AppliesSome engine.config after.config × StoreStandsFor after server.store
   pub tables : server.tables ≡ server_old.tables
   pub same_ports : ports link ≡ ports link_old
   pub in_counts : in_faults input_old ≤ in_faults input

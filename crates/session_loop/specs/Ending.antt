@@ -17,9 +17,12 @@ use Rattle.session_server.specs.Replies.{too_long_text}
 use Rattle.session_server.specs.Serving.{Datagram}
 use Rattle.session_server.specs.Sessions.{ComesTo, LineComes, Session, told_alone}
 use Rattle.session_server.specs.Steps.{OctetsStep, State, Step, Surroundings}
+use Rattle.session_server.specs.Keeping.{OpensOneMore}
 use Rattle.session_server.specs.Leaving.{ImagesOpen}
 use Rattle.session_server.specs.Taking.{OctetsAskDisk, PartOfOctets}
 use Rattle.session_server.specs.Opening.{OpensConfig}
+use Rattle.store_model.specs.Applying.{AppliesAll}
+use Rattle.store_model.specs.CommandRecord.{Command}
 use Rattle.store_model.specs.Opening.{IsShape}
 use Rattle.whole_writing.specs.Output.{OutputOf}
 use Rattle.whole_writing.specs.declared.output.Output.TheVariants as output
@@ -174,6 +177,28 @@ Ends ended.DiskFault images a b around input start held before left network rand
     IsHalted images a b around input.lines start held before network random out sent
 Ends ended.LinkFault images a b around input start held before left network random out sent =
     IsUnsent images a b around input.lines start held before network out sent
+
+-- ---- the files alone
+
+-- Commands were accepted, one after another.
+abbrev pub AppliesSome : (before after : Config) → Type 0
+AppliesSome before after = (commands : List Command) × AppliesAll before commands after
+
+-- Accepted commands lead from a configuration to the one to which each pair of images opens.
+abbrev pub FilesOpenBehind : {D : Type 0} → (images : D → List ℕ → Type 0) → (a b : D) → Config → Type 0
+FilesOpenBehind images a b config =
+    (now : Config) × AppliesSome config now × FilesOpen images a b now
+
+-- What the files open to by how the lines ended, whatever else tells what it has: what accepted commands
+-- made of the configuration; where a disk failed, that or the same with one accepted command more.
+abbrev pub FilesKept : {D : Type 0} → Ended → (images : D → List ℕ → Type 0) → (a b : D) → Config → Type 0
+FilesKept ended.Done images a b config = FilesOpenBehind images a b config
+FilesKept ended.ReadFault images a b config = FilesOpenBehind images a b config
+FilesKept ended.InputTooLong images a b config = FilesOpenBehind images a b config
+FilesKept ended.WriteFault images a b config = FilesOpenBehind images a b config
+FilesKept ended.DiskFault images a b config =
+    (before : Config) × AppliesSome config before × OpensOneMore images a b before
+FilesKept ended.LinkFault images a b config = FilesOpenBehind images a b config
 
 -- ---- faults
 

@@ -1,12 +1,14 @@
 //! The loop over an input.
 
 ghost use Rattle.std.specs.Prelude.{◌≡◌, ◌≤◌, ℕ, List, Some};
-ghost use Rattle.session_loop.specs.Ending.{Ends, HasCause};
+ghost use Rattle.engine_model.specs.Engine.{Engine};
+ghost use Rattle.session_loop.specs.Ending.{Ends, FilesKept, HasCause};
 ghost use Rattle.session_loop.specs.Turning.{input_of};
 ghost use Rattle.session_server.specs.Serving.{Datagram};
 ghost use Rattle.session_server.specs.Steps.{State, Surroundings};
 ghost use Rattle.session_server.specs.Holding.{Holds};
 ghost use Rattle.session_server.specs.Standing.{StandsFor};
+ghost use Rattle.session_server.specs.Stores.{StandsFor as StoreStandsFor};
 ghost use Rattle.zone_journal.specs.Pairs.{BothRead};
 ghost use Rattle.zone_journal.specs.Standing.{StandsOn};
 
@@ -44,6 +46,11 @@ pub fn take_lines<S: Source, D: Disk, L: Link, R: Rng, K: Sink>(
         → Ends result D.images a.new b.new around (input_of reader.old left) start held before
         (S.left input.new) (L.coming link.new) (R.stream words.new) (K.held out.new)
         (L.sent link.new) }
+
+    // What the files open to, whatever the input, the output and the network tell.
+    ensures files { (engine : Engine) → StoreStandsFor engine server.old.store
+        → BothRead D.reading a.old b.old (Holds server.old.store.kept)
+        → FilesKept result D.images a.new b.new engine.config }
 
     // A fault comes only where the count of what failed rose.
     ensures in_counts { S.faults input.old ≤ S.faults input.new }

@@ -2,12 +2,15 @@
 
 ghost use Rattle.std.specs.Prelude.{◌≡◌, ◌≤◌, ◌<◌, ℕ, List, IfSome, None, Some, false};
 ghost use Rattle.line_splitting.specs.Reading.{steps};
-ghost use Rattle.session_loop.specs.Ending.{HasCause};
+ghost use Rattle.engine_model.specs.Engine.{Engine};
+ghost use Rattle.session_loop.specs.Ending.{FilesKept, HasCause};
 ghost use Rattle.session_loop.specs.Turning.{RoundLeaves, ended_of};
 ghost use Rattle.session_server.specs.Serving.{Datagram};
 ghost use Rattle.session_server.specs.Steps.{State, Surroundings};
 ghost use Rattle.session_server.specs.Holding.{Holds};
+ghost use Rattle.session_server.specs.Keeping.{MakesOneMore};
 ghost use Rattle.session_server.specs.Standing.{StandsFor};
+ghost use Rattle.session_server.specs.Stores.{StandsFor as StoreStandsFor};
 ghost use Rattle.zone_journal.specs.Pairs.{BothRead};
 ghost use Rattle.zone_journal.specs.Standing.{StandsOn};
 
@@ -46,6 +49,10 @@ pub(crate) fn take_next<S: Source, D: Disk, L: Link, R: Rng, K: Sink>(
         → StandsOn D.reading D.images server.new.store.kept.journal a.new b.new }
     ensures holds { BothRead D.reading a.old b.old (Holds server.old.store.kept) → result ≡ None
         → BothRead D.reading a.new b.new (Holds server.new.store.kept) }
+    ensures made { result ≡ None → MakesOneMore server.old.store server.new.store }
+    ensures files { (engine : Engine) → StoreStandsFor engine server.old.store
+        → BothRead D.reading a.old b.old (Holds server.old.store.kept)
+        → IfSome result (λ ended. FilesKept ended D.images a.new b.new engine.config) }
     ensures nearer { result ≡ None → steps reader.new < steps reader.old }
     ensures going { result ≡ Some Ended.ReadFault → reader.old.ended ≡ false }
     ensures tables { server.new.tables ≡ server.old.tables }

@@ -19,7 +19,7 @@ use Rattle.geo_latency.specs.declared.tables.Tables.{Tables}
 use Rattle.session_model.specs.Serving.{Datagram}
 use Rattle.octets.specs.Counts.{Rose}
 use Rattle.session_run.specs.Running.{Given, HasCauseOf, IsBeginning, RunLeaves, SessionLeaves, Still}
-use Rattle.session_run.specs.Running.{FilesSay, IfUntabled, TablesSay, UnlessEnded, unopened, unread, whole_input}
+use Rattle.session_run.specs.Running.{FilesSay, IfUntabled, SessionKeeps, TablesSay, UnlessEnded, unopened, unread, whole_input}
 use Rattle.session_run.specs.declared.ran.Ran.{Ran}
 use Rattle.session_run.specs.declared.ran.Ran.TheVariants as ran
 use Rattle.table_lines.specs.Input.{Gives, tables_of}
@@ -271,3 +271,17 @@ pub files_faulty : (f : OpenFault) (x y : List ℕ) → place_told f (IsNoStore 
 files_faulty (fault.NotAStore side place) x y told = told
 files_faulty fault.DiskFault x y told = tt
 files_faulty fault.OutOfMemory x y told = tt
+
+-- ---- the files, where there are no lines
+
+module _ {D : Type 0} (images : D → List ℕ → Type 0) (a b : D) (x y : List ℕ) where
+  pub unopened_keeps : (why : OpenFault) → SessionKeeps (unopened why) images a b x y
+  unopened_keeps (fault.NotAStore side place) = tt
+  unopened_keeps fault.DiskFault = tt
+  unopened_keeps fault.OutOfMemory = tt
+
+  pub unread_keeps : (why : TablesFault) → SessionKeeps (unread why) images a b x y
+  unread_keeps (tables.Bad number) = tt
+  unread_keeps tables.ReadFault = tt
+  unread_keeps tables.TooLong = tt
+  unread_keeps tables.OutOfMemory = tt

@@ -7,7 +7,7 @@ use Rattle.line_splitting.specs.Lines.{is_too_long}
 use Rattle.octets.specs.Counts.{Rose}
 use Rattle.r53_io.specs.Network.{Incoming}
 use Rattle.rand_core.specs.Stream.{Stream}
-use Rattle.session_loop.specs.Ending.{Ends, HasCause, Input}
+use Rattle.session_loop.specs.Ending.{Ends, FilesKept, HasCause, Input}
 use Rattle.session_model.specs.Serving.{Datagram}
 use Rattle.session_model.specs.Steps.{State, Surroundings}
 use Rattle.session_run.specs.declared.ran.Ran.{Ran}
@@ -153,6 +153,19 @@ FilesSay (ran.NotAStore side place) x y = IsNoStore x y side place
 FilesSay ran.OpeningFault x y = ⊤
 FilesSay ran.OutOfMemory x y = ⊤
 FilesSay (ran.Ended how) x y = (config : Config) × OpensConfig x y config
+
+-- What the files open to where lines ended, whatever else tells what it has: what accepted commands made
+-- of the configuration to which the two files opened.
+abbrev pub SessionKeeps : {D : Type 0} → Ran → (images : D → List ℕ → Type 0) → (a b : D)
+    → (x y : List ℕ) → Type 0
+SessionKeeps (ran.BadTables number) images a b x y = ⊤
+SessionKeeps ran.TablesFault images a b x y = ⊤
+SessionKeeps ran.TablesTooLong images a b x y = ⊤
+SessionKeeps (ran.NotAStore side place) images a b x y = ⊤
+SessionKeeps ran.OpeningFault images a b x y = ⊤
+SessionKeeps ran.OutOfMemory images a b x y = ⊤
+SessionKeeps (ran.Ended how) images a b x y =
+    (config : Config) × OpensConfig x y config × FilesKept how images a b config
 
 -- P, where a session ended before its lines
 abbrev pub UnlessEnded : Ran → Type 0 → Type 0

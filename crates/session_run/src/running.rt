@@ -2,13 +2,15 @@
 
 ghost use Rattle.std.specs.Prelude.{◌≡◌, ◌≤◌, ℕ, List, IfOk, Some, false};
 ghost use Rattle.line_splitting.specs.Reading.{fresh};
-ghost use Rattle.session_loop.specs.Ending.{Ends, HasCause};
+ghost use Rattle.engine_model.specs.Engine.{Engine};
+ghost use Rattle.session_loop.specs.Ending.{Ends, FilesKept, HasCause};
 ghost use Rattle.session_loop.specs.Holding.{Holds};
 ghost use Rattle.session_loop.specs.Standing.{StandsFor};
+ghost use Rattle.session_loop.specs.Stores.{StandsFor as StoreStandsFor};
 ghost use Rattle.session_model.specs.Serving.{Datagram};
 ghost use Rattle.session_model.specs.Steps.{State, Surroundings};
 ghost use Rattle.session_run.specs.Running.{Given, HasCauseOf, IsTold, RunLeaves, SessionLeaves};
-ghost use Rattle.session_run.specs.Running.{FilesSay, IfUntabled, TablesSay, UnlessEnded};
+ghost use Rattle.session_run.specs.Running.{FilesSay, IfUntabled, SessionKeeps, TablesSay, UnlessEnded};
 ghost use Rattle.session_run.specs.Running.{unopened, unread, whole_input};
 ghost use Rattle.zone_journal.specs.Pairs.{BothRead, Unwritten};
 ghost use Rattle.zone_journal.specs.Standing.{StandsOn};
@@ -51,6 +53,10 @@ pub fn run_session<S: Source, T: Source, D: Disk, L: Link, R: Rng, K: Sink>(
     ensures tables_say { (rows : List ℕ) → T.left tables.old ≡ Some rows → TablesSay result rows }
     ensures files_say { (x y : List ℕ) → D.reading a.old ≡ Some x → D.reading b.old ≡ Some y
         → FilesSay result x y }
+
+    // What the files open to at the end, where the disks tell what they read, whatever else tells.
+    ensures files_keep { (x y : List ℕ) → D.reading a.old ≡ Some x → D.reading b.old ≡ Some y
+        → SessionKeeps result D.images a.new b.new x y }
 
     // Where it ended before its lines it asked the tables and the disks alone, and where the tables
     // ended it them alone. The files are as they were then.
@@ -110,6 +116,8 @@ fn open_session<S: Source, D: Disk, L: Link, R: Rng, K: Sink>(
         (L.coming link.new) (R.stream words.new) (K.held out.new) (L.sent link.new) }
     ensures files_say { (x y : List ℕ) → D.reading a.old ≡ Some x → D.reading b.old ≡ Some y
         → FilesSay result x y }
+    ensures files_keep { (x y : List ℕ) → D.reading a.old ≡ Some x → D.reading b.old ≡ Some y
+        → SessionKeeps result D.images a.new b.new x y }
     ensures unasked { UnlessEnded result ((input.new ≡ input.old) × (out.new ≡ out.old)
         × (link.new ≡ link.old) × (words.new ≡ words.old)) }
     ensures tabled { IfUntabled result ⊥ }
@@ -188,6 +196,9 @@ fn go_on<S: Source, D: Disk, L: Link, R: Rng, K: Sink>(
         → Ends result D.images a.new b.new around (whole_input left) start held before
         (S.left input.new) (L.coming link.new) (R.stream words.new) (K.held out.new)
         (L.sent link.new) }
+    ensures files { (engine : Engine) → StoreStandsFor engine begun.server.store
+        → BothRead D.reading a.old b.old (Holds begun.server.store.kept)
+        → FilesKept result D.images a.new b.new engine.config }
     ensures in_counts { S.faults input.old ≤ S.faults input.new }
     ensures a_counts { D.faults a.old ≤ D.faults a.new }
     ensures b_counts { D.faults b.old ≤ D.faults b.new }

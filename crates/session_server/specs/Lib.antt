@@ -1,4 +1,5 @@
 pub mod Buffers
+pub mod Keeping
 pub mod Laws
 pub mod Taking
 -- definitions of a server and of what lines leave, for crates that stand on this one alone

@@ -20,6 +20,7 @@ ghost use Rattle.list_sending.specs.Engine.{Engine};
 ghost use Rattle.list_sending.specs.Replies.{too_long_text};
 ghost use Rattle.list_sending.specs.Serving.{Datagram};
 ghost use Rattle.list_sending.specs.Steps.{LineSteps, OctetsStep, State, Surroundings};
+ghost use Rattle.session_server.specs.Keeping.{MakesOneMore, OpensOneMore};
 ghost use Rattle.session_server.specs.Taking.{AsksDisk, AsksLink, IsWithin, LineLeaves};
 ghost use Rattle.session_server.specs.Taking.{OctetsAskDisk, OctetsAskLink, PartOf, PartOfOctets};
 ghost use Rattle.zone_journal.specs.Pairs.{BothRead};
@@ -112,6 +113,15 @@ impl Server {
         ensures holds { BothRead D.reading a.old b.old (Holds self.old.store.kept)
             → UnlessHalted result (BothRead D.reading a.new b.new (Holds self.new.store.kept)) }
         ensures kept { result ≡ Taken.LinkFault → self.new.store.kept ≡ self.old.store.kept }
+
+        // Whatever the output and the network tell: of the configuration one command was accepted or none, and
+        // where a disk failed each pair of images opens to the one before it or to the one after.
+        ensures made { MakesOneMore self.old.store self.new.store }
+        ensures torn { result ≡ Taken.DiskFault → (engine : Engine)
+            → StoreStandsFor engine self.old.store
+            → BothRead D.reading a.old b.old (Holds self.old.store.kept)
+            → OpensOneMore D.images a.new b.new engine.config }
+
         // Where a disk failed the network has the same to come, and the random words are those before.
         ensures undrawn { result ≡ Taken.DiskFault → (L.coming link.new ≡ L.coming link.old)
             × (R.stream words.new ≡ R.stream words.old) }
@@ -187,6 +197,11 @@ impl Server {
         ensures holds { BothRead D.reading a.old b.old (Holds self.old.store.kept)
             → UnlessHalted result (BothRead D.reading a.new b.new (Holds self.new.store.kept)) }
         ensures kept { result ≡ Taken.LinkFault → self.new.store.kept ≡ self.old.store.kept }
+        ensures made { MakesOneMore self.old.store self.new.store }
+        ensures torn { result ≡ Taken.DiskFault → (engine : Engine)
+            → StoreStandsFor engine self.old.store
+            → BothRead D.reading a.old b.old (Holds self.old.store.kept)
+            → OpensOneMore D.images a.new b.new engine.config }
         ensures undrawn { result ≡ Taken.DiskFault → (L.coming link.new ≡ L.coming link.old)
             × (R.stream words.new ≡ R.stream words.old) }
         ensures tables { self.new.tables ≡ self.old.tables }
@@ -240,6 +255,11 @@ impl Server {
             (StandsOn D.reading D.images self.new.store.kept.journal a.new b.new) }
         ensures holds { BothRead D.reading a.old b.old (Holds self.old.store.kept)
             → UnlessHalted result (BothRead D.reading a.new b.new (Holds self.new.store.kept)) }
+        ensures made { MakesOneMore self.old.store self.new.store }
+        ensures torn { result ≡ Taken.DiskFault → (engine : Engine)
+            → StoreStandsFor engine self.old.store
+            → BothRead D.reading a.old b.old (Holds self.old.store.kept)
+            → OpensOneMore D.images a.new b.new engine.config }
         ensures tables { self.new.tables ≡ self.old.tables }
         ensures a_counts { D.faults a.old ≤ D.faults a.new }
         ensures b_counts { D.faults b.old ≤ D.faults b.new }
@@ -285,6 +305,11 @@ impl Server {
             (StandsOn D.reading D.images self.new.store.kept.journal a.new b.new) }
         ensures holds { BothRead D.reading a.old b.old (Holds self.old.store.kept)
             → UnlessHalted result (BothRead D.reading a.new b.new (Holds self.new.store.kept)) }
+        ensures made { MakesOneMore self.old.store self.new.store }
+        ensures torn { result ≡ Taken.DiskFault → (engine : Engine)
+            → StoreStandsFor engine self.old.store
+            → BothRead D.reading a.old b.old (Holds self.old.store.kept)
+            → OpensOneMore D.images a.new b.new engine.config }
         ensures tables { self.new.tables ≡ self.old.tables }
         ensures a_counts { D.faults a.old ≤ D.faults a.new }
         ensures b_counts { D.faults b.old ≤ D.faults b.new }
@@ -316,6 +341,7 @@ impl Server {
             → LineLeaves result (LineSteps around (line.List list.now) old) ⊥ ⊤ (λ after. ⊥)
             old (λ new. StandsFor new self.new network random) held before (K.held out.new) told }
         ensures kept { self.new.store.kept ≡ self.old.store.kept }
+        ensures made { MakesOneMore self.old.store self.new.store }
         ensures tables { self.new.tables ≡ self.old.tables }
         ensures out_counts { K.faults out.old ≤ K.faults out.new }
         ensures cause { HasCause result 0 0 0 0 0 0 (K.faults out.old) (K.faults out.new) }
@@ -340,6 +366,7 @@ impl Server {
             → LineLeaves result (LineSteps around (line.Status id) old) ⊥ ⊤ (λ after. ⊥)
             old (λ new. StandsFor new self.new network random) held before (K.held out.new) told }
         ensures kept { self.new.store.kept ≡ self.old.store.kept }
+        ensures made { MakesOneMore self.old.store self.new.store }
         ensures tables { self.new.tables ≡ self.old.tables }
         ensures out_counts { K.faults out.old ≤ K.faults out.new }
         ensures cause { HasCause result 0 0 0 0 0 0 (K.faults out.old) (K.faults out.new) }
@@ -357,6 +384,7 @@ impl Server {
             → LineLeaves result (LineSteps around (line.Observe seen) old) ⊥ ⊤ (λ after. ⊥)
             old (λ new. StandsFor new self.new network random) held before (K.held out.new) told }
         ensures kept { self.new.store.kept ≡ self.old.store.kept }
+        ensures made { MakesOneMore self.old.store self.new.store }
         ensures tables { self.new.tables ≡ self.old.tables }
         ensures out_counts { K.faults out.old ≤ K.faults out.new }
         ensures cause { HasCause result 0 0 0 0 0 0 (K.faults out.old) (K.faults out.new) }
@@ -374,6 +402,7 @@ impl Server {
             → LineLeaves result (LineSteps around (line.Query asked.now) old) ⊥ ⊤ (λ after. ⊥)
             old (λ new. StandsFor new self.new network random) held before (K.held out.new) told }
         ensures kept { self.new.store.kept ≡ self.old.store.kept }
+        ensures made { MakesOneMore self.old.store self.new.store }
         ensures tables { self.new.tables ≡ self.old.tables }
         ensures out_counts { K.faults out.old ≤ K.faults out.new }
         ensures cause { HasCause result 0 0 0 0 0 0 (K.faults out.old) (K.faults out.new) }
@@ -399,6 +428,7 @@ impl Server {
             ⊤ (λ after. ⊥) old (λ new. StandsFor new self.new (L.coming link.new) random) held
             before (K.held out.new) (L.sent link.new) }
         ensures kept { self.new.store.kept ≡ self.old.store.kept }
+        ensures made { MakesOneMore self.old.store self.new.store }
         ensures tables { self.new.tables ≡ self.old.tables }
         ensures ports { L.ports link.new ≡ L.ports link.old }
         ensures link_counts { L.faults link.old ≤ L.faults link.new }
@@ -428,6 +458,7 @@ impl Server {
             ⊤ (λ after. ⊥) old (λ new. StandsFor new self.new (L.coming link.new) (R.stream words.new))
             held before (K.held out.new) (L.sent link.new) }
         ensures kept { self.new.store.kept ≡ self.old.store.kept }
+        ensures made { MakesOneMore self.old.store self.new.store }
         ensures tables { self.new.tables ≡ self.old.tables }
         ensures ports { L.ports link.new ≡ L.ports link.old }
         ensures link_counts { L.faults link.old ≤ L.faults link.new }

@@ -17,6 +17,7 @@ returns g c = record {
     leaves = c.run_session.ensures.leaves;
     tables_say = c.run_session.ensures.tables_say;
     files_say = c.run_session.ensures.files_say;
+    files_keep = c.run_session.ensures.files_keep;
     a_unwritten = c.run_session.ensures.a_unwritten;
     b_unwritten = c.run_session.ensures.b_unwritten;
     cause = c.run_session.ensures.cause;

@@ -1,4 +1,5 @@
-use Rattle.std.proofs.Common.{◌∙◌, ◌++◌, Some, ap, arith, refl, sym}
+use Rattle.std.proofs.Common.{◌∙◌, ◌++◌, [], Some, ap, arith, refl, sym}
+use Rattle.session_loop.proofs.Files.{files_join, one_more}
 use Rattle.session_loop.proofs.Joining.{ends_join, goes_join}
 use Rattle.session_loop.proofs.Loop.{at_first}
 use Rattle.session_loop.proofs.looping.take_lines.Goals as goal
@@ -7,6 +8,7 @@ pub loop-ended-init : goal.loop-ended-init
 loop-ended-init g c = record {
   stands = c.requires.stands;
   holds = λ held. held;
+  makes = λ engine stands. (engine, ([], refl), stands);
   tables = refl;
   same_ports = refl;
   in_counts = omega arith;
@@ -24,6 +26,10 @@ pub loop-ended-preserved : goal.loop-ended-preserved
 loop-ended-preserved g c = record {
   stands = c.in-None.ensures.stands refl;
   holds = λ held. c.in-None.ensures.holds (c.loop-ended.invariant.holds held) refl;
+  makes = λ engine stands.
+      let so_far = c.loop-ended.invariant.makes engine stands in
+      let its = c.in-None.ensures.made refl so_far.0 so_far.2 in
+      (its.0, one_more engine.config so_far.0.config its.0.config so_far.1 its.1, its.2);
   tables = c.take_next.ensures.tables ∙ c.loop-ended.invariant.tables;
   same_ports = c.take_next.ensures.ports ∙ c.loop-ended.invariant.same_ports;
   in_counts = omega (arith, c.loop-ended.invariant.in_counts, c.take_next.ensures.in_counts);
@@ -60,3 +66,10 @@ returns-in-Some-clause-leaves g c = λ around start left held before same stands
     (before ++ so_far.session.sent) (same ∙ sym c.loop-ended.invariant.tables) so_far.stands
     (c.loop-ended.invariant.holds files) (c.loop-ended.invariant.same_ports ∙ ports) so_far.has
     so_far.told.replies so_far.told.datagrams)
+
+pub returns-in-Some-clause-files : goal.returns-in-Some-clause-files
+returns-in-Some-clause-files g c = λ engine stands held.
+    let so_far = c.loop-ended.invariant.makes engine stands in
+    files_join g.D.Disk.images c.take_next.new.a c.take_next.new.b c.in-Some.ended engine.config
+    so_far.0.config so_far.1
+    (c.in-Some.ensures.files so_far.0 so_far.2 (c.loop-ended.invariant.holds held))

@@ -2,14 +2,15 @@ use Rattle.std.proofs.Common.{◌≡◌, ◌∙◌, ◌+◌, ℕ, List, [], Opti
 use Rattle.engine_model.specs.Engine.{Journal}
 use Rattle.line_splitting.specs.Lines.{Line}
 use Rattle.line_splitting.specs.Reading.{GivesLine, events}
-use Rattle.session_loop.proofs.Files.{are_files}
+use Rattle.session_loop.proofs.Files.{are_files, behind_none, files_open, line_files, stays}
 use Rattle.session_loop.proofs.Turns.{all_now, at_end, at_limit, cause_of, is_more, is_whole, line_turn, link_whole, long_cause, long_turn, read, never_read, broken_now, went_whole}
-use Rattle.session_loop.specs.Ending.{HasCause}
+use Rattle.session_loop.specs.Ending.{FilesKept, HasCause}
 use Rattle.session_loop.specs.Turning.{RoundLeaves}
 use Rattle.session_loop.specs.declared.ended.Ended.{Ended}
 use Rattle.session_server.specs.Holding.{Holds}
 use Rattle.session_server.specs.Journaled.{State as Kept, config_of}
 use Rattle.session_server.specs.Standing.{Server, StandsFor}
+use Rattle.session_server.specs.Stores.{StandsFor as StoreStandsFor}
 use Rattle.session_server.specs.Taken.{Taken}
 use Rattle.zone_journal.specs.Pairs.{BothRead}
 use Rattle.std.specs.Prelude.{IfSome}
@@ -164,3 +165,64 @@ returns-in-InputTooLong-clause-leaves g c = λ around old left held before same 
       (ap (λ (j : Journal). j.generation) stands.store.journal)
       (ap (λ (j : Journal). j.length) stands.store.journal)),
 )
+
+pub returns-in-Line-clause-made : goal.returns-in-Line-clause-made
+returns-in-Line-clause-made g c = λ is. c.take_line.ensures.made
+
+pub returns-in-Line-clause-files : goal.returns-in-Line-clause-files
+returns-in-Line-clause-files g c = λ engine stands held.
+    subst (λ (r : Option Ended). IfSome r (λ how. FilesKept how g.D.Disk.images c.take_line.new.a
+    c.take_line.new.b engine.config)) (sym c.ended_of.ensures)
+    (line_files g.D.Disk.images c.take_line.new.a c.take_line.new.b engine.config
+    c.take_line.result (λ is. c.take_line.ensures.torn is engine stands held)
+    (λ whole.
+        let its = c.take_line.ensures.made engine stands in (
+          its.0.config,
+          its.1,
+          files_open g.D.Disk.reading g.D.Disk.images c.standing_opens.ensures
+              c.take_line.new.self.store.kept c.take_line.new.a c.take_line.new.b
+              (c.take_line.ensures.stands whole) (c.take_line.ensures.holds held whole) its.0.config
+              its.2.config,
+        )))
+
+pub returns-in-TooLong-clause-made : goal.returns-in-TooLong-clause-made
+returns-in-TooLong-clause-made g c = λ is engine stands. (
+  engine,
+  inl refl,
+  subst (λ (s : Server). StoreStandsFor engine s.store) (sym c.refuse_line.ensures.same) stands,
+)
+
+pub returns-in-TooLong-clause-files : goal.returns-in-TooLong-clause-files
+returns-in-TooLong-clause-files g c = λ engine stands held.
+    let opens = (files_open g.D.Disk.reading g.D.Disk.images c.standing_opens.ensures
+    c.args.server.now.store.kept c.args.a.now c.args.b.now c.requires.stands held engine.config
+    stands.config) in
+    subst (λ (r : Option Ended). IfSome r (λ how. FilesKept how g.D.Disk.images c.args.a.now
+    c.args.b.now engine.config)) (sym c.ended_of-in-TooLong.ensures)
+    (line_files g.D.Disk.images c.args.a.now c.args.b.now engine.config c.refuse_line.result
+    (λ is. stays g.D.Disk.images c.args.a.now c.args.b.now engine.config opens)
+    (λ whole. (engine.config, inl refl, opens)))
+
+pub returns-in-Read-clause-made : goal.returns-in-Read-clause-made
+returns-in-Read-clause-made g c = λ is engine stands. (engine, inl refl, stands)
+
+pub returns-in-Failed-clause-files : goal.returns-in-Failed-clause-files
+returns-in-Failed-clause-files g c = λ engine stands held.
+    behind_none g.D.Disk.images c.args.a.now c.args.b.now engine.config
+    (files_open g.D.Disk.reading g.D.Disk.images c.standing_opens.ensures
+    c.args.server.now.store.kept c.args.a.now c.args.b.now c.requires.stands held engine.config
+    stands.config)
+
+pub returns-in-Ended-clause-files : goal.returns-in-Ended-clause-files
+returns-in-Ended-clause-files g c = λ engine stands held.
+    behind_none g.D.Disk.images c.args.a.now c.args.b.now engine.config
+    (files_open g.D.Disk.reading g.D.Disk.images c.standing_opens.ensures
+    c.args.server.now.store.kept c.args.a.now c.args.b.now c.requires.stands held engine.config
+    stands.config)
+
+pub returns-in-InputTooLong-clause-files : goal.returns-in-InputTooLong-clause-files
+returns-in-InputTooLong-clause-files g c = λ engine stands held.
+    behind_none g.D.Disk.images c.args.a.now c.args.b.now engine.config
+    (files_open g.D.Disk.reading g.D.Disk.images c.standing_opens.ensures
+    c.args.server.now.store.kept c.args.a.now c.args.b.now c.requires.stands held engine.config
+    stands.config)

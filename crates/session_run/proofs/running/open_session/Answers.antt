@@ -2,8 +2,8 @@ use Rattle.std.proofs.Common.{◌≡◌, ◌∙◌, ℕ, List, Err, Some, ap, re
 use Rattle.session_loop.specs.Holding.{Holds}
 use Rattle.session_loop.specs.Standing.{Server}
 use Rattle.session_loop.specs.Stores.{StandsFor as StoreStandsFor, State as Store, opened}
-use Rattle.session_run.proofs.Opened.{beginning, files_faulty, is_beginning, is_tabled, not_opened, opens_config, stands_for, unopened_cause, without_store}
-use Rattle.session_run.specs.Running.{FilesSay, HasCauseOf, IfUntabled, SessionLeaves, UnlessEnded, surroundings}
+use Rattle.session_run.proofs.Opened.{beginning, files_faulty, is_beginning, is_tabled, not_opened, opens_config, stands_for, unopened_cause, unopened_keeps, without_store}
+use Rattle.session_run.specs.Running.{FilesSay, HasCauseOf, IfUntabled, SessionKeeps, SessionLeaves, UnlessEnded, surroundings}
 use Rattle.session_run.specs.declared.ran.Ran.{Ran}
 use Rattle.zone_journal.specs.Pairs.{BothRead, Unwritten}
 use Rattle.zone_journal.specs.declared.answers.OpenFault.{OpenFault}
@@ -100,3 +100,25 @@ pub returns-in-Err-clause-files_say : goal.returns-in-Err-clause-files_say
 returns-in-Err-clause-files_say g c = λ x y x_is y_is.
     subst (λ (r : Ran). FilesSay r x y) (sym c.unopened.ensures)
     (files_faulty c.in-Err.fault x y (c.in-Err.ensures.faulty x y x_is y_is))
+
+pub returns-in-Ok-begin-clause-files_keep : goal.returns-in-Ok-begin-clause-files_keep
+returns-in-Ok-begin-clause-files_keep g c = λ x y x_is y_is.
+    let kept = c.in-Ok.store.kept in
+    let is = c.in-Ok-begin.ensures.server in
+    let holds = c.in-Ok.ensures.holds x y x_is y_is in (
+      _,
+      opens_config g.D.Disk.reading kept c.open.new.a c.open.new.b x y holds
+          ((c.in-Ok.ensures.a_unwritten x x_is).reads ∙ x_is)
+          ((c.in-Ok.ensures.b_unwritten y y_is).reads ∙ y_is),
+      c.go_on.ensures.files (opened kept)
+          (subst (λ (s : Store). StoreStandsFor (opened kept) s)
+          (ap (λ (s : Server). s.store) (sym is)) c.in-Ok.ensures.opened)
+          (subst (λ (s : Server). BothRead g.D.Disk.reading c.open.new.a c.open.new.b
+          (Holds s.store.kept)) (sym is) holds),
+    )
+
+pub returns-in-Err-clause-files_keep : goal.returns-in-Err-clause-files_keep
+returns-in-Err-clause-files_keep g c = λ x y x_is y_is.
+    subst (λ (r : Ran). SessionKeeps r g.D.Disk.images c.open.new.a c.open.new.b x y)
+    (sym c.unopened.ensures)
+    (unopened_keeps g.D.Disk.images c.open.new.a c.open.new.b x y c.in-Err.fault)

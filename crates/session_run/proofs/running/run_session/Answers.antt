@@ -1,9 +1,9 @@
 use Rattle.std.proofs.Common.{◌≡◌, ℕ, List, Err, Some, ap, arith, refl, subst, sym}
-use Rattle.session_run.specs.Running.{FilesSay, HasCauseOf, IfUntabled, RunLeaves, TablesSay, UnlessEnded}
+use Rattle.session_run.specs.Running.{FilesSay, HasCauseOf, IfUntabled, RunLeaves, SessionKeeps, TablesSay, UnlessEnded}
 use Rattle.session_run.specs.declared.ran.Ran.{Ran}
 use Rattle.zone_journal.specs.Pairs.{Unwritten}
 use Rattle.table_lines.specs.declared.reading.TablesFault.{TablesFault}
-use Rattle.session_run.proofs.Opened.{files_untold, is_untabled, not_read, tabled_any, tables_faulty, tables_good, unread_cause, with_tables, without_tables}
+use Rattle.session_run.proofs.Opened.{files_untold, is_untabled, not_read, tabled_any, tables_faulty, tables_good, unread_cause, unread_keeps, with_tables, without_tables}
 use Rattle.session_run.proofs.running.run_session.Goals as goal
 
 pub returns-in-Ok-clause-leaves : goal.returns-in-Ok-clause-leaves
@@ -115,3 +115,9 @@ returns-in-Err-clause-tables_say g c = λ rows tells.
 pub returns-in-Err-clause-files_say : goal.returns-in-Err-clause-files_say
 returns-in-Err-clause-files_say g c = λ x y x_is y_is.
     subst (λ (r : Ran). FilesSay r x y) (sym c.unread.ensures) (files_untold c.in-Err.fault x y)
+
+pub returns-in-Err-clause-files_keep : goal.returns-in-Err-clause-files_keep
+returns-in-Err-clause-files_keep g c = λ x y x_is y_is.
+    subst (λ (r : Ran). SessionKeeps r g.D.Disk.images c.args.a.now c.args.b.now x y)
+    (sym c.unread.ensures)
+    (unread_keeps g.D.Disk.images c.args.a.now c.args.b.now x y c.in-Err.fault)

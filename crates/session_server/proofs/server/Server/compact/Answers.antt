@@ -7,6 +7,7 @@ use Rattle.line_server.specs.Stores.{StandsFor as StoreStandsFor}
 use Rattle.session_server.proofs.Arms.{compaction}
 use Rattle.session_server.specs.Taking.{PartOf}
 use Rattle.zone_journal.specs.Pairs.{BothRead}
+use Rattle.session_server.proofs.Keeping.{compacts, compacts_or_none}
 use Rattle.session_server.proofs.server.Server.compact.Goals as goal
 
 pub returns-clause-leaves : goal.returns-clause-leaves
@@ -34,3 +35,17 @@ returns-clause-holds g c = λ held. c.compact.ensures.holds
 pub returns-clause-disk_asked : goal.returns-clause-disk_asked
 returns-clause-disk_asked g c = λ is engine stands. c.compact.ensures.asked is engine
     (subst (λ (s : Server). StoreStandsFor engine s.store) (sym c.self.view_is) stands)
+
+pub returns-clause-made : goal.returns-clause-made
+returns-clause-made g c = λ engine stands.
+    let its = c.compact.ensures.made engine
+    (subst (λ (s : Server). StoreStandsFor engine s.store) (sym c.self.view_is) stands) in
+    (its.0, compacts_or_none c.args.pieces engine its.0 its.1, its.2)
+
+pub returns-clause-torn : goal.returns-clause-torn
+returns-clause-torn g c = λ is engine stands held.
+    let its = c.compact.ensures.torn is engine
+    (subst (λ (s : Server). StoreStandsFor engine s.store) (sym c.self.view_is) stands)
+    (subst (λ (s : Server). BothRead g.D.Disk.reading c.args.a.now c.args.b.now (Holds s.store.kept))
+    (sym c.self.view_is) held) in
+    (its.0.config, compacts c.args.pieces engine its.0 its.1 its.2, its.3)

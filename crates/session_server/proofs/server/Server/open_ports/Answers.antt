@@ -1,4 +1,4 @@
-use Rattle.std.proofs.Common.{◌≡◌, ◌∙◌, refl, subst, sym, ap, Some, Bool, false}
+use Rattle.std.proofs.Common.{◌≡◌, ◌∙◌, refl, subst, sym, ap, Some, Bool, false, inl}
 use Rattle.std.specs.Prelude.{⊤}
 use Rattle.line_bounds.specs.LineRecord.TheVariants as line
 use Rattle.line_server.specs.Standing.{Server, StandsFor}
@@ -7,6 +7,7 @@ use Rattle.list_sending.specs.Steps.{LineSteps, State, Step}
 use Rattle.session_server.proofs.Lines.{of_network}
 use Rattle.session_server.proofs.Arms.{bound_now}
 use Rattle.session_server.specs.Taking.{PartOf}
+use Rattle.line_server.specs.Stores.{StandsFor as StoreStandsFor}
 use Rattle.session_server.proofs.server.Server.open_ports.Goals as goal
 
 pub returns-clause-leaves : goal.returns-clause-leaves
@@ -35,3 +36,10 @@ returns-clause-leaves g c = λ around old held before random stands ports tells 
 pub returns-clause-link_asked : goal.returns-clause-link_asked
 returns-clause-link_asked g c = λ is.
     subst (λ (s : Server). s.bound ≡ false) c.self.view_is (c.bind_ports.ensures.asked is)
+
+pub returns-clause-made : goal.returns-clause-made
+returns-clause-made g c = λ engine stands. (
+  engine,
+  inl refl,
+  subst (λ (s : Server). StoreStandsFor engine s.store) (sym c.self.view_is) stands,
+)

@@ -177,3 +177,36 @@ pub returns-in-Serve-clause-link_asked : goal.returns-in-Serve-clause-link_asked
 returns-in-Serve-clause-link_asked g c = λ is.
     subst (λ (l : Line). AsksLink l c.args.self.now.bound) (sym c.in-Serve.is)
     (c.take_turns.ensures.link_asked is)
+
+pub returns-in-List-clause-torn : goal.returns-in-List-clause-torn
+returns-in-List-clause-torn g c = λ is engine stands held.
+    absurd (none_torn c.tell_list.result 0 0 (g.K.Sink.faults c.args.out.now)
+    (g.K.Sink.faults c.tell_list.new.out) c.tell_list.ensures.cause is)
+
+pub returns-in-Status-clause-torn : goal.returns-in-Status-clause-torn
+returns-in-Status-clause-torn g c = λ is engine stands held.
+    absurd (none_torn c.tell_status.result 0 0 (g.K.Sink.faults c.args.out.now)
+    (g.K.Sink.faults c.tell_status.new.out) c.tell_status.ensures.cause is)
+
+pub returns-in-Observe-clause-torn : goal.returns-in-Observe-clause-torn
+returns-in-Observe-clause-torn g c = λ is engine stands held.
+    absurd (none_torn c.take_report.result 0 0 (g.K.Sink.faults c.args.out.now)
+    (g.K.Sink.faults c.take_report.new.out) c.take_report.ensures.cause is)
+
+pub returns-in-Query-clause-torn : goal.returns-in-Query-clause-torn
+returns-in-Query-clause-torn g c = λ is engine stands held.
+    absurd (none_torn c.tell_answer.result 0 0 (g.K.Sink.faults c.args.out.now)
+    (g.K.Sink.faults c.tell_answer.new.out) c.tell_answer.ensures.cause is)
+
+pub returns-in-Bind-clause-torn : goal.returns-in-Bind-clause-torn
+returns-in-Bind-clause-torn g c = λ is engine stands held.
+    absurd (none_torn c.open_ports.result (g.L.Link.faults c.args.link.now)
+    (g.L.Link.faults c.open_ports.new.link) (g.K.Sink.faults c.args.out.now)
+    (g.K.Sink.faults c.open_ports.new.out) c.open_ports.ensures.cause is)
+
+pub returns-in-Serve-clause-torn : goal.returns-in-Serve-clause-torn
+returns-in-Serve-clause-torn g c = λ is engine stands held.
+    absurd (none_torn c.take_turns.result (g.L.Link.faults c.args.link.now)
+    (g.L.Link.faults c.take_turns.new.link) (g.K.Sink.faults c.args.out.now)
+    (g.K.Sink.faults c.take_turns.new.out) c.take_turns.ensures.cause is)
+

@@ -1,4 +1,4 @@
-use Rattle.std.proofs.Common.{◌∙◌, subst, sym, Result}
+use Rattle.std.proofs.Common.{◌∙◌, subst, sym, Result, inl, refl}
 use Rattle.line_bounds.specs.LineRecord.{Line}
 use Rattle.line_server.specs.Holding.{Holds}
 use Rattle.line_server.specs.Leaving.{ImagesOpen}
@@ -8,6 +8,7 @@ use Rattle.list_sending.specs.Asking.{Asks}
 use Rattle.session_server.proofs.Lines.{none_torn, none_unsent, not_memory, of_asked, of_fault, same_fault}
 use Rattle.session_server.specs.Taking.{PartOfOctets}
 use Rattle.zone_journal.specs.Pairs.{BothRead}
+use Rattle.line_server.specs.Stores.{StandsFor as StoreStandsFor}
 use Rattle.session_server.proofs.server.Server.take_line.Goals as goal
 
 pub returns-in-Ok-clause-leaves : goal.returns-in-Ok-clause-leaves
@@ -61,4 +62,16 @@ returns-in-Err-clause-disk_asked g c = λ is engine stands.
 pub returns-in-Err-clause-link_asked : goal.returns-in-Err-clause-link_asked
 returns-in-Err-clause-link_asked g c = λ is.
     absurd (none_unsent c.tell_fault.result 0 0 0 0 (g.K.Sink.faults c.args.out.now)
+    (g.K.Sink.faults c.tell_fault.new.out) c.tell_fault.ensures.cause is)
+
+pub returns-in-Err-clause-made : goal.returns-in-Err-clause-made
+returns-in-Err-clause-made g c = λ engine stands. (
+  engine,
+  inl refl,
+  subst (λ (s : Server). StoreStandsFor engine s.store) (sym c.tell_fault.ensures.same) stands,
+)
+
+pub returns-in-Err-clause-torn : goal.returns-in-Err-clause-torn
+returns-in-Err-clause-torn g c = λ is engine stands held.
+    absurd (none_torn c.tell_fault.result 0 0 (g.K.Sink.faults c.args.out.now)
     (g.K.Sink.faults c.tell_fault.new.out) c.tell_fault.ensures.cause is)

@@ -1,4 +1,4 @@
-use Rattle.std.proofs.Common.{◌≡◌, ◌∙◌, refl, subst, sym, ap, Some, Bool, true}
+use Rattle.std.proofs.Common.{◌≡◌, ◌∙◌, refl, subst, sym, ap, Some, Bool, true, inl, ◌++◌}
 use Rattle.std.specs.Prelude.{⊤}
 use Rattle.line_bounds.specs.LineRecord.TheVariants as line
 use Rattle.line_server.specs.Standing.{Server, StandsFor}
@@ -7,6 +7,7 @@ use Rattle.line_server.specs.Standing.{IsTurnsOutcome}
 use Rattle.list_sending.specs.Steps.{LineSteps, State, Step}
 use Rattle.session_server.proofs.Lines.{of_network}
 use Rattle.session_server.specs.Taking.{PartOf}
+use Rattle.line_server.specs.Stores.{StandsFor as StoreStandsFor}
 use Rattle.session_server.proofs.server.Server.take_turns.Goals as goal
 
 pub returns-clause-leaves : goal.returns-clause-leaves
@@ -38,3 +39,9 @@ returns-clause-leaves g c = λ around old held before same stands tells was.
 pub returns-clause-link_asked : goal.returns-clause-link_asked
 returns-clause-link_asked g c = λ is.
     subst (λ (s : Server). s.bound ≡ true) c.self.view_is (c.take_turns.ensures.asked is)
+
+pub returns-clause-made : goal.returns-clause-made
+returns-clause-made g c = λ engine stands.
+    let its = c.take_turns.ensures.reports engine
+    (subst (λ (s : Server). StoreStandsFor engine s.store) (sym c.self.view_is) stands) in
+    (record engine { reports = its.0 ++ engine.reports }, inl refl, its.1)

@@ -1,7 +1,8 @@
-use Rattle.std.proofs.Common.{◌∙◌, ap, subst, sym}
+use Rattle.std.proofs.Common.{◌∙◌, ap, subst, sym, inl, refl}
 use Rattle.std.specs.Prelude.{⊤}
 use Rattle.line_server.specs.Standing.{Server, StandsFor}
 use Rattle.session_server.proofs.Arms.{query}
+use Rattle.line_server.specs.Stores.{State as Store, StandsFor as StoreStandsFor}
 use Rattle.session_server.proofs.server.Server.tell_answer.Goals as goal
 
 pub returns-clause-leaves : goal.returns-clause-leaves
@@ -13,3 +14,11 @@ returns-clause-leaves g c = λ around old held before network random told same s
     (λ after. ⊥) c.args.asked.now c.query.result
     (same ∙ ap (λ (s : Server). s.tables) (sym c.self.view_is))
     (c.query.ensures.leaves old.engine held its.store tells)
+
+pub returns-clause-made : goal.returns-clause-made
+returns-clause-made g c = λ engine stands. (
+  engine,
+  inl refl,
+  subst (λ (s : Store). StoreStandsFor engine s) (sym c.query.ensures.same)
+      (subst (λ (s : Server). StoreStandsFor engine s.store) (sym c.self.view_is) stands),
+)

@@ -1,10 +1,11 @@
-use Rattle.std.proofs.Common.{◌∙◌, ap, subst, sym}
+use Rattle.std.proofs.Common.{◌∙◌, ap, subst, sym, inl, refl}
 use Rattle.std.specs.Prelude.{⊤}
 use Rattle.line_server.specs.Standing.{Server, StandsFor}
 use Rattle.session_server.proofs.Arms.{list}
 use Rattle.line_bounds.specs.Configs.{Config}
 use Rattle.list_sending.specs.Laws.{hosted_in}
 use Rattle.list_sending.specs.Tables.{Table}
+use Rattle.line_server.specs.Stores.{StandsFor as StoreStandsFor}
 use Rattle.session_server.proofs.server.Server.tell_list.Goals as goal
 
 pub returns-clause-leaves : goal.returns-clause-leaves
@@ -18,3 +19,10 @@ returns-clause-leaves g c = λ around old held before network random told same s
     ∙ sym (ap (λ (k : Config). k.zones) its.store.config))
     its.store c.send_list.result c.sent.result (sym c.sent.ensures)
     (c.send_list.ensures.writes held tells)
+
+pub returns-clause-made : goal.returns-clause-made
+returns-clause-made g c = λ engine stands. (
+  engine,
+  inl refl,
+  subst (λ (s : Server). StoreStandsFor engine s.store) (sym c.self.view_is) stands,
+)
