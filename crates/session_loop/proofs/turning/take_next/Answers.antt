@@ -176,14 +176,14 @@ returns-in-Line-clause-files g c = λ engine stands held.
     (line_files g.D.Disk.images c.take_line.new.a c.take_line.new.b engine.config
     c.take_line.result (λ is. c.take_line.ensures.torn is engine stands held)
     (λ whole.
-        let its = c.take_line.ensures.made engine stands in (
-          its.0.config,
-          its.1,
-          files_open g.D.Disk.reading g.D.Disk.images c.standing_opens.ensures
-              c.take_line.new.self.store.kept c.take_line.new.a c.take_line.new.b
-              (c.take_line.ensures.stands whole) (c.take_line.ensures.holds held whole) its.0.config
-              its.2.config,
-        )))
+    let its = c.take_line.ensures.made engine stands in (
+      its.0.config,
+      its.1,
+      files_open g.D.Disk.reading g.D.Disk.images c.standing_opens.ensures
+          c.take_line.new.self.store.kept c.take_line.new.a c.take_line.new.b
+          (c.take_line.ensures.stands whole) (c.take_line.ensures.holds held whole) its.0.config
+          its.2.config,
+    )))
 
 pub returns-in-TooLong-clause-made : goal.returns-in-TooLong-clause-made
 returns-in-TooLong-clause-made g c = λ is engine stands. (

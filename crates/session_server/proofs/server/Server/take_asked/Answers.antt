@@ -209,4 +209,3 @@ returns-in-Serve-clause-torn g c = λ is engine stands held.
     absurd (none_torn c.take_turns.result (g.L.Link.faults c.args.link.now)
     (g.L.Link.faults c.take_turns.new.link) (g.K.Sink.faults c.args.out.now)
     (g.K.Sink.faults c.take_turns.new.out) c.take_turns.ensures.cause is)
-
