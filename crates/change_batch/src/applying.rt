@@ -8,14 +8,15 @@ ghost use Rattle.batch_limits.specs.ActionRecord.TheVariants.{Create, Delete, Up
 ghost use Rattle.batch_limits.specs.Changing.{Applies, IsProtected, IsThereAsGiven};
 ghost use Rattle.set_search.specs.Zones.{IsRising};
 ghost use Rattle.set_search.specs.Found.{Finds, FindsAt};
-ghost use Rattle.change_batch.specs.Lent.{told};
+ghost use Rattle.zone_rules.specs.Lent.{told};
 
-use crate::lent::{Lent, insert_at, replace_at, set_at, take_away};
+use crate::lent::{Lent, insert_at, replace_at, take_away};
 use batch_limits::{Action, Change, ChangeRefusal};
 use dns_name::Name;
 use octets::OutOfMemory;
 use rdata_layout::RType;
 use set_search::{RecordSet, find_near, same};
+use zone_rules::set_at;
 
 /// Applies a change. Where it is refused, the sets may be thrown away.
 ///

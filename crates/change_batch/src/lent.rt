@@ -1,9 +1,9 @@
 //! Sets that are lent, in zone order: those that are there and those that changes give. None is
 //! copied or moved where a change comes among them.
 
-ghost use Rattle.std.specs.Prelude.{◌≡◌, ◌<◌, ◌≤◌, length, set, slice_get, Some, OnOk, IfOk, IsTrue, ◌↔◌};
+ghost use Rattle.std.specs.Prelude.{◌≡◌, ◌<◌, ◌≤◌, length, set, OnOk, IfOk, IsTrue, ◌↔◌};
 ghost use Rattle.std.specs.List.{insert, remove};
-ghost use Rattle.change_batch.specs.Lent.{told};
+ghost use Rattle.zone_rules.specs.Lent.{told};
 ghost use Rattle.set_search.specs.Found.{IsOf};
 
 use dns_name::Name;
@@ -11,6 +11,7 @@ use octets::OutOfMemory;
 use rdata_layout::RType;
 use set_search::{RecordSet, SetList, Stop, set_is_before, type_under};
 use std::alloc::Global;
+use zone_rules::set_at;
 
 /// Sets that are searched where they stand.
 #[derive(Clone, Copy)]
@@ -42,14 +43,6 @@ impl<'b, 'a> SetList for Lent<'b, 'a> {
     }
 }
 
-/// The set at a place.
-pub fn set_at<'a>(sets: &[&'a RecordSet], place: usize) -> &'a RecordSet
-    requires { place < length (told sets.now) }
-    ensures { slice_get (told sets.now) place ≡ Some result.now }
-{
-    sets[place]
-}
-
 /// Whether a set has the name and the type.
 fn has_both(set: &RecordSet, name: &Name, rtype: RType) -> bool
     ensures { IsTrue result ↔ IsOf name.now rtype set.now }
@@ -58,21 +51,6 @@ fn has_both(set: &RecordSet, name: &Name, rtype: RType) -> bool
         return false;
     }
     set.name.is_same(name)
-}
-
-/// All sets lent, and room for so many more.
-pub fn lend_all<'a>(
-    alloc: Global,
-    sets: &'a [RecordSet],
-    more: usize,
-) -> Result<Vec<&'a RecordSet>, OutOfMemory>
-    ensures { IfOk result (λ lent. told lent.items ≡ sets.now) }
-{
-    let mut lent = Vec::with_capacity(alloc, sets.len().saturating_add(more))?;
-    for set in sets {
-        lent.push(set)?;
-    }
-    Ok(lent)
 }
 
 /// Copies of the sets.

@@ -10,4 +10,5 @@ mod preparing;
 mod whole;
 
 pub use batch_limits::{Action, Batch, BatchRefusal, Change, Changes};
-pub use preparing::prepare;
+pub use preparing::{prepare, prepare_lent};
+pub use zone_rules::{lend_all, set_at};

@@ -4,10 +4,14 @@ ghost use Rattle.std.specs.Prelude.{◌≡◌, IfOk, IfErr};
 ghost use Rattle.batch_limits.specs.Batches.{Prepares};
 ghost use Rattle.set_search.specs.Zones.{IsZone};
 ghost use Rattle.batch_limits.specs.Telling.{with_items};
+ghost use Rattle.change_batch.specs.Lent.{with_told};
+ghost use Rattle.zone_rules.specs.Lent.{told};
 
-use crate::whole::apply_all;
+use crate::lent::copy_all;
+use crate::whole::lend_after;
 use batch_limits::{Batch, BatchRefusal, check_limits};
 use dns_name::Name;
+use octets::OutOfMemory;
 use set_search::RecordSet;
 use std::alloc::Global;
 use zone_rules::first_break;
@@ -27,11 +31,32 @@ pub fn prepare(
     // The sets after it are those of a zone again.
     ensures zone { IfOk result (λ after. IsZone after.items apex.now) }
 {
+    let after = match prepare_lent(alloc, sets, apex, batch) {
+        Ok(after) => after,
+        Err(why) => return Err(why),
+    };
+    match copy_all(alloc, after.as_slice()) {
+        Ok(copies) => Ok(copies),
+        Err(OutOfMemory) => Err(BatchRefusal::OutOfMemory),
+    }
+}
+
+/// The same of sets that are lent: from those before the batch, and from its changes. None is copied.
+pub fn prepare_lent<'a>(
+    alloc: Global,
+    sets: &'a [RecordSet],
+    apex: &Name,
+    batch: &'a Batch,
+) -> Result<Vec<&'a RecordSet>, BatchRefusal>
+    requires { IsZone sets.now apex.now }
+    ensures answer { Prepares sets.now apex.now batch.now.changes (with_told result) }
+    ensures zone { IfOk result (λ after. IsZone (told after.items) apex.now) }
+{
     let changes = batch.changes.as_slice();
     if let Some(why) = check_limits(changes, apex) {
         return Err(why);
     }
-    let after = match apply_all(alloc, sets, apex, changes) {
+    let after = match lend_after(alloc, sets, apex, changes) {
         Ok(after) => after,
         Err(why) => return Err(why),
     };

@@ -3,42 +3,19 @@
 ghost use Rattle.std.specs.Prelude.{◌≡◌, IfOk, IfErr, Err};
 ghost use Rattle.batch_limits.specs.Batches.{IsWithinLimits, Leaves, Prepares};
 ghost use Rattle.set_search.specs.Zones.{IsZone};
-ghost use Rattle.change_batch.specs.Lent.{told};
+ghost use Rattle.zone_rules.specs.Lent.{told};
 
 use crate::applying::apply;
-use crate::lent::{copy_all, lend_all};
 use batch_limits::{BatchRefusal, Change};
 use dns_name::Name;
 use octets::OutOfMemory;
 use set_search::RecordSet;
 use std::alloc::Global;
+use zone_rules::lend_all;
 
-/// The sets after the changes, or the refusal of the first change that is refused. Each set is
-/// copied once, after the last change.
-pub fn apply_all(
-    alloc: Global,
-    sets: &[RecordSet],
-    apex: &Name,
-    changes: &[Change],
-) -> Result<Vec<RecordSet>, BatchRefusal>
-    requires zone { IsZone sets.now apex.now }
-    requires limits { IsWithinLimits changes.now apex.now }
-    ensures leaves { IfOk result (λ after. Leaves sets.now apex.now changes.now after.items) }
-    ensures zone { IfOk result (λ after. IsZone after.items apex.now) }
-    ensures refused { IfErr result (λ why. Prepares sets.now apex.now changes.now (Err why)) }
-{
-    let after = match lend_after(alloc, sets, apex, changes) {
-        Ok(after) => after,
-        Err(why) => return Err(why),
-    };
-    match copy_all(alloc, after.as_slice()) {
-        Ok(copies) => Ok(copies),
-        Err(OutOfMemory) => Err(BatchRefusal::OutOfMemory),
-    }
-}
-
-/// The sets after the changes, lent from those before and from the changes.
-fn lend_after<'a>(
+/// The sets after the changes, lent from those before and from the changes, or the refusal of the
+/// first change that is refused.
+pub fn lend_after<'a>(
     alloc: Global,
     sets: &'a [RecordSet],
     apex: &Name,

@@ -1,5 +1,6 @@
 pub mod Breaks
 pub mod Groups
+pub mod Lent
 pub mod Marks
 pub use Rattle.batch_model.specs.Rules
 pub use Rattle.batch_model.specs.Zones

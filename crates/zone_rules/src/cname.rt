@@ -6,40 +6,42 @@ ghost use Rattle.batch_model.specs.Rules.{CnameAlone};
 ghost use Rattle.batch_model.specs.Zones.{IsRising};
 ghost use Rattle.zone_rules.specs.Breaks.{IsFirstName};
 ghost use Rattle.zone_rules.specs.Groups.{IsConflicted, IsOther};
+ghost use Rattle.zone_rules.specs.Lent.{told};
 
+use crate::lent::set_at;
 use batch_model::RecordSet;
 use dns_name::Name;
 use rdata_layout::RType;
 
 /// The name of the first set whose name has a CNAME set beside a set of another type, or a CNAME
 /// set at the apex.
-pub fn first_conflict(sets: &[RecordSet], apex: &Name) -> Option<Name>
-    requires { IsRising sets.now }
-    ensures { IsFirstName CnameAlone sets.now apex.now result }
+pub fn first_conflict(sets: &[&RecordSet], apex: &Name) -> Option<Name>
+    requires { IsRising (told sets.now) }
+    ensures { IsFirstName CnameAlone (told sets.now) apex.now result }
 {
     for i in 0..sets.len() {
         if is_conflicted(sets, apex, i) {
-            return Some(sets[i].name);
+            return Some(set_at(sets, i).name);
         }
     }
     None
 }
 
 /// Whether the set at the place is a CNAME at the apex, or next to a set of its name and of another type.
-fn is_conflicted(sets: &[RecordSet], apex: &Name, i: usize) -> bool
-    requires { i < length sets.now }
-    ensures { IsTrue result ↔ IsConflicted sets.now apex.now i }
+fn is_conflicted(sets: &[&RecordSet], apex: &Name, i: usize) -> bool
+    requires { i < length (told sets.now) }
+    ensures { IsTrue result ↔ IsConflicted (told sets.now) apex.now i }
 {
-    if !is_cname(sets[i].rtype) {
+    if !is_cname(set_at(sets, i).rtype) {
         return false;
     }
-    if sets[i].name.is_same(apex) {
+    if set_at(sets, i).name.is_same(apex) {
         return true;
     }
-    if i > 0 && is_other(&sets[i - 1], &sets[i]) {
+    if i > 0 && is_other(set_at(sets, i - 1), set_at(sets, i)) {
         return true;
     }
-    i + 1 < sets.len() && is_other(&sets[i + 1], &sets[i])
+    i + 1 < sets.len() && is_other(set_at(sets, i + 1), set_at(sets, i))
 }
 
 /// Whether it has the name of the set, and another type than CNAME.

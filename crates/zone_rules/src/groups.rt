@@ -4,7 +4,9 @@ ghost use Rattle.std.specs.Prelude.{◌≡◌, ◌<◌, ◌⊎◌, length, IsTru
 ghost use Rattle.batch_model.specs.Zones.{AreOneGroup};
 ghost use Rattle.batch_model.specs.Zones.{IsRising};
 ghost use Rattle.zone_rules.specs.Groups.{IsStart, IsStartBefore};
+ghost use Rattle.zone_rules.specs.Lent.{told};
 
+use crate::lent::set_at;
 use batch_model::RecordSet;
 use rdata_layout::RType;
 
@@ -23,14 +25,14 @@ fn is_same_type(x: RType, y: RType) -> bool
 }
 
 /// Where the group of the set at place `i` begins, from where that of the set before it does.
-pub fn start_of(sets: &[RecordSet], start: usize, i: usize) -> usize
-    requires rising { IsRising sets.now }
-    requires within { i < length sets.now }
-    requires before { IsStartBefore sets.now start i }
-    ensures start { IsStart sets.now result i }
+pub fn start_of(sets: &[&RecordSet], start: usize, i: usize) -> usize
+    requires rising { IsRising (told sets.now) }
+    requires within { i < length (told sets.now) }
+    requires before { IsStartBefore (told sets.now) start i }
+    ensures start { IsStart (told sets.now) result i }
     ensures which { (result ≡ start) ⊎ (result ≡ i) }
 {
-    if i > 0 && is_one_group(&sets[i - 1], &sets[i]) {
+    if i > 0 && is_one_group(set_at(sets, i - 1), set_at(sets, i)) {
         return start;
     }
     i

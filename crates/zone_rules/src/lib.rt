@@ -7,6 +7,7 @@ mod breaks;
 mod cname;
 mod findings;
 mod groups;
+mod lent;
 mod marks;
 mod places;
 mod policies;
@@ -14,5 +15,6 @@ mod sizes;
 
 pub use breaks::first_break;
 pub use groups::is_one_group;
+pub use lent::{lend_all, set_at};
 pub use places::is_one_place;
 pub use policies::is_one_policy;

@@ -8,7 +8,9 @@ ghost use Rattle.std.specs.Prelude.{◌≡◌, ℕ, ◌+◌, ◌<◌, Option, le
 ghost use Rattle.routing.specs.declared.policies.Routing.{Routing};
 ghost use Rattle.batch_model.specs.Rules.{AreRivals};
 ghost use Rattle.zone_rules.specs.Marks.{next_hash, text_hash, place_hash, hash_of, IsMarked, AreMarked};
+ghost use Rattle.zone_rules.specs.Lent.{told};
 
+use crate::lent::set_at;
 use batch_model::{Place, RecordSet, Routing};
 
 /// The marks that were made, each at its number.
@@ -25,15 +27,15 @@ pub fn is_marked(marks: &Marks, policy: &Routing) -> bool
 }
 
 /// Makes the mark of the set at place `i`. Where its group begins, the marks of the group before go.
-pub fn mark_next(marks: &mut Marks, sets: &[RecordSet], start: usize, i: usize)
-    requires within { i < length sets.now }
-    requires before { AreMarked sets.now marks.old start i }
-    ensures { AreMarked sets.now marks.new start (i + 1) }
+pub fn mark_next(marks: &mut Marks, sets: &[&RecordSet], start: usize, i: usize)
+    requires within { i < length (told sets.now) }
+    requires before { AreMarked (told sets.now) marks.old start i }
+    ensures { AreMarked (told sets.now) marks.new start (i + 1) }
 {
     if start == i {
         *marks = [false; 256];
     }
-    mark(marks, &sets[i].routing);
+    mark(marks, &set_at(sets, i).routing);
 }
 
 /// Makes the mark of the policy.

@@ -4,21 +4,23 @@ ghost use Rattle.std.specs.Prelude.{◌≡◌, ◌<◌, [], length, IsTrue, ◌�
 ghost use Rattle.batch_model.specs.Rules.{OnePolicy, BreaksAt, policy_of};
 ghost use Rattle.batch_model.specs.Zones.{IsRising};
 ghost use Rattle.zone_rules.specs.Groups.{IsStart};
+ghost use Rattle.zone_rules.specs.Lent.{told};
 
+use crate::lent::set_at;
 use batch_model::{RecordSet, Routing};
 
 /// Whether the set at place `i` has another policy than the set before it in its group, which
 /// begins at `start`.
-pub fn is_mixed(sets: &[RecordSet], start: usize, i: usize) -> bool
-    requires rising { IsRising sets.now }
-    requires within { i < length sets.now }
-    requires start { IsStart sets.now start i }
-    ensures { IsTrue result ↔ BreaksAt OnePolicy sets.now [] i }
+pub fn is_mixed(sets: &[&RecordSet], start: usize, i: usize) -> bool
+    requires rising { IsRising (told sets.now) }
+    requires within { i < length (told sets.now) }
+    requires start { IsStart (told sets.now) start i }
+    ensures { IsTrue result ↔ BreaksAt OnePolicy (told sets.now) [] i }
 {
     if start == i {
         return false;
     }
-    !is_one_policy(&sets[i - 1].routing, &sets[i].routing)
+    !is_one_policy(&set_at(sets, i - 1).routing, &set_at(sets, i).routing)
 }
 
 /// Whether the two have one policy.

@@ -1,6 +1,7 @@
 //! The sets of a zone together: the rules for groups and names, and where aliases lead.
 
 ghost use Rattle.std.specs.Prelude.{◌↔◌, IfOk, IsTrue};
+ghost use Rattle.zone_rules.specs.Lent.{told};
 ghost use Rattle.zone_rules.specs.Rules.{MeetsAll, rules};
 ghost use Rattle.config_model.specs.Told.{NoSet};
 ghost use Rattle.config_model.specs.Walks.{HasNoTarget, IsTooDeep};
@@ -12,14 +13,14 @@ use dns_name::Name;
 use octets::OutOfMemory;
 use record_set::RecordSet;
 use std::alloc::Global;
-use zone_rules::first_break;
+use zone_rules::{first_break, lend_all};
 
 /// Whether the sets meet the rules of a zone together, and aliases lead to sets and not too far.
 pub fn are_together(alloc: Global, apex: &Name, sets: &[RecordSet]) -> Result<bool, OutOfMemory>
     requires { IsRising sets.now }
     ensures { IfOk result (λ are. IsTrue are ↔ AreTogether apex.now sets.now) }
 {
-    if !meet_rules(sets, apex) {
+    if !meet_rules(alloc, sets, apex)? {
         return Ok(false);
     }
     if !are_led(sets) {
@@ -29,9 +30,18 @@ pub fn are_together(alloc: Global, apex: &Name, sets: &[RecordSet]) -> Result<bo
 }
 
 /// Whether they meet the rules for groups and names.
-fn meet_rules(sets: &[RecordSet], apex: &Name) -> bool
+fn meet_rules(alloc: Global, sets: &[RecordSet], apex: &Name) -> Result<bool, OutOfMemory>
     requires { IsRising sets.now }
-    ensures { IsTrue result ↔ MeetsAll rules sets.now apex.now }
+    ensures { IfOk result (λ meet. IsTrue meet ↔ MeetsAll rules sets.now apex.now) }
+{
+    let lent = lend_all(alloc, sets, 0)?;
+    Ok(meet_all(lent.as_slice(), apex))
+}
+
+/// The same of sets that are lent.
+fn meet_all(sets: &[&RecordSet], apex: &Name) -> bool
+    requires { IsRising (told sets.now) }
+    ensures { IsTrue result ↔ MeetsAll rules (told sets.now) apex.now }
 {
     match first_break(sets, apex) {
         Some(_) => false,

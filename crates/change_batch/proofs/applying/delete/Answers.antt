@@ -3,7 +3,7 @@ use Rattle.set_search.specs.Sets.{key_of}
 use Rattle.batch_limits.specs.Changing.{Makes, IsThereAsGiven}
 use Rattle.set_search.specs.Found.{FindsAt}
 use Rattle.change_batch.proofs.Told.{removed}
-use Rattle.change_batch.specs.Lent.{told}
+use Rattle.zone_rules.specs.Lent.{told}
 use Rattle.change_batch.proofs.applying.delete.Goals as goal
 
 pub returns-clause-ok : goal.returns-clause-ok

@@ -2,7 +2,7 @@ use Rattle.std.proofs.Common.{◌≡◌, ◌∙◌, sym, subst}
 use Rattle.set_search.specs.RecordSetRecord.{RecordSet}
 use Rattle.set_search.specs.Sameness.{Same}
 use Rattle.change_batch.proofs.Told.{as_given}
-use Rattle.change_batch.specs.Lent.{told}
+use Rattle.zone_rules.specs.Lent.{told}
 use Rattle.change_batch.proofs.applying.is_as_given.Goals as goal
 
 pub returns : goal.returns

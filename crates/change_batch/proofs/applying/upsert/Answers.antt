@@ -3,7 +3,7 @@ use Rattle.set_search.specs.Sets.{key_of}
 use Rattle.batch_limits.specs.Changing.{Makes}
 use Rattle.set_search.specs.Found.{FindsAt}
 use Rattle.change_batch.proofs.Told.{put_in_place}
-use Rattle.change_batch.specs.Lent.{told}
+use Rattle.zone_rules.specs.Lent.{told}
 use Rattle.change_batch.proofs.applying.upsert.Goals as goal
 
 pub returns-in-Ok-clause-ok : goal.returns-in-Ok-clause-ok

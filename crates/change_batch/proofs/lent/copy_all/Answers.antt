@@ -3,7 +3,7 @@ use Rattle.std.proofs.lemmas.List.{length-map, take_more}
 use Rattle.std.proofs.lemmas.Option.{get_or_from_slice_get}
 use Rattle.std.specs.Borrow.{Bor}
 use Rattle.set_search.specs.RecordSetRecord.{RecordSet}
-use Rattle.change_batch.specs.Lent.{told}
+use Rattle.zone_rules.specs.Lent.{told}
 use Rattle.change_batch.proofs.lent.copy_all.Goals as goal
 
 pub loop-place-preserved : goal.loop-place-preserved

@@ -1,5 +1,5 @@
 use Rattle.std.proofs.Common.{◌≡◌, take}
-use Rattle.change_batch.specs.Lent.{told}
+use Rattle.zone_rules.specs.Lent.{told}
 use Rattle.change_batch.proofs.lent.copy_all.Given as goal
 
 abbrev pub invariant-loop-place : goal.invariant-loop-place

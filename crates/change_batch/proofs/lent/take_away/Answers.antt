@@ -2,7 +2,7 @@ use Rattle.std.proofs.Common.{ap, ◌∙◌}
 use Rattle.std.specs.Borrow.{Bor}
 use Rattle.set_search.specs.RecordSetRecord.{RecordSet}
 use Rattle.set_search.proofs.ListsOfZoneModel.{map_remove}
-use Rattle.change_batch.specs.Lent.{told}
+use Rattle.zone_rules.specs.Lent.{told}
 use Rattle.change_batch.proofs.lent.take_away.Goals as goal
 
 pub returns : goal.returns

@@ -1,14 +1,16 @@
-use Rattle.std.proofs.Common.{subst}
-use Rattle.batch_limits.specs.Batches.{IsWithinLimits, Leaves}
-use Rattle.batch_limits.specs.Rules.{MeetsAll, rules}
+use Rattle.std.proofs.Common.{sym, subst, ◌∙◌, ap}
+use Rattle.batch_limits.specs.Batches.{Prepares}
+use Rattle.set_search.specs.Zones.{IsZone}
+use Rattle.std.specs.Prelude.{Ok}
+use Rattle.zone_rules.specs.Lent.{told}
 use Rattle.change_batch.proofs.preparing.prepare.Goals as goal
 
-pub returns-clause-answer : goal.returns-clause-answer
-returns-clause-answer c = (
-  subst (λ changes. IsWithinLimits changes c.args.apex.now) c.as_slice-changes.ensures
-      c.in_default.ensures,
-  subst (λ changes. Leaves c.args.sets.now c.args.apex.now changes c.in-Ok.after.items)
-      c.as_slice-changes.ensures c.in-Ok.ensures.leaves,
-  subst (λ sets. MeetsAll rules sets c.args.apex.now) c.as_slice.ensures.value
-      c.in_default-first_break.ensures,
-)
+pub returns-in-Ok-copy_all-clause-answer : goal.returns-in-Ok-copy_all-clause-answer
+returns-in-Ok-copy_all-clause-answer c =
+    subst (λ sets. Prepares c.args.sets.now c.args.apex.now c.args.batch.now.changes (Ok sets))
+    (sym (c.in-Ok-copy_all.ensures ∙ ap told c.as_slice.ensures.value)) c.in-Ok.ensures.answer
+
+pub returns-in-Ok-copy_all-clause-zone : goal.returns-in-Ok-copy_all-clause-zone
+returns-in-Ok-copy_all-clause-zone c =
+    subst (λ sets. IsZone sets c.args.apex.now)
+    (sym (c.in-Ok-copy_all.ensures ∙ ap told c.as_slice.ensures.value)) c.in-Ok.ensures.zone

@@ -6,7 +6,7 @@ use Rattle.batch_limits.specs.Batches.{Leaves, Prepares}
 use Rattle.batch_limits.specs.Changing.{Applies}
 use Rattle.batch_limits.proofs.Staying.{zones_stay}
 use Rattle.batch_limits.proofs.Telling.{leaves_more, refused_told}
-use Rattle.change_batch.specs.Lent.{told}
+use Rattle.zone_rules.specs.Lent.{told}
 use Rattle.change_batch.proofs.whole.lend_after.Goals as goal
 
 pub loop-i-preserved : goal.loop-i-preserved

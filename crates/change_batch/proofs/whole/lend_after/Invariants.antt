@@ -1,7 +1,7 @@
 use Rattle.std.proofs.Common.{take}
 use Rattle.batch_limits.specs.Batches.{Leaves}
 use Rattle.set_search.specs.Zones.{IsZone}
-use Rattle.change_batch.specs.Lent.{told}
+use Rattle.zone_rules.specs.Lent.{told}
 use Rattle.change_batch.proofs.whole.lend_after.Given as goal
 
 abbrev pub invariant-loop-i : goal.invariant-loop-i

@@ -1,8 +1,8 @@
 use Rattle.std.proofs.Common.{◌≡◌, ◌-◌, ◌+◌, refl, arith, subst, inl, inr}
-use Rattle.std.proofs.lemmas.Option.{slice_get_read}
 use Rattle.batch_model.specs.Zones.{AreOneGroup}
 use Rattle.zone_rules.proofs.FullGroups.{filled}
 use Rattle.zone_rules.proofs.Runs.{goes_on, begins, at_one, moved}
+use Rattle.zone_rules.specs.Lent.{told}
 use Rattle.zone_rules.proofs.groups.start_of.Goals as goal
 use Rattle.zone_rules.proofs.groups.start_of.Goals.{else-i-gt0-via-then-i-gt0+else-is_one_group, else-i-gt0-via-else-i-gt0}
 
@@ -10,14 +10,12 @@ pub returns-then-is_one_group : goal.returns-then-is_one_group
 returns-then-is_one_group c =
     let within = c.requires.within in
     let positive = c.if-i-gt0.true in
-    let x = c.index-sets-i in
-    let y = c.index-sets-i-then-i-gt0 in
+    let x = c.set_at in
+    let y = c.set_at-then-i-gt0 in
     let next : (c.args.i - 1) + 1 ≡ c.args.i = omega (arith, positive) in
     record {
-      start = goes_on c.args.sets.now c.args.start (c.args.i - 1) c.args.i x.result y.result next
-          (slice_get_read c.args.sets.now _ (c.args.i - 1) x.result refl (omega (arith, within))
-          x.is)
-          (slice_get_read c.args.sets.now _ c.args.i y.result refl within y.is)
+      start = goes_on (told c.args.sets.now) c.args.start (c.args.i - 1) c.args.i x.result.now y.result.now next
+          x.ensures y.ensures
           (c.is_one_group.ensures.0 c.if-is_one_group.true)
           (c.requires.before (c.args.i - 1) next);
       which = inl refl;
@@ -25,33 +23,31 @@ returns-then-is_one_group c =
 
 pub returns : goal.returns
 returns c = record {
-  start = begins c.args.sets.now c.args.i c.requires.rising
+  start = begins (told c.args.sets.now) c.args.i c.requires.rising
       (λ j v w next at_j at_i g.
       let within = c.requires.within in
       elim c.else-i-gt0.branch [
         | else-i-gt0-via-then-i-gt0+else-is_one_group t ↦
-            (let x = t.index-sets-i in
-            let y = t.index-sets-i-then-i-gt0 in
+            (let x = t.set_at in
+            let y = t.set_at-then-i-gt0 in
             let positive = t.if-i-gt0.true in
             let same : c.args.i - 1 ≡ j = omega (arith, next) in
-            let first : v ≡ x.result =
-            at_one c.args.sets.now j v x.result at_j
-            (moved c.args.sets.now (c.args.i - 1) j x.result same
-            (slice_get_read c.args.sets.now _ (c.args.i - 1) x.result refl
-            (omega (arith, within)) x.is)) in
-            let second : w ≡ y.result =
-            at_one c.args.sets.now c.args.i w y.result at_i
-            (slice_get_read c.args.sets.now _ c.args.i y.result refl within y.is) in
+            let first : v ≡ x.result.now =
+            at_one (told c.args.sets.now) j v x.result.now at_j
+            (moved (told c.args.sets.now) (c.args.i - 1) j x.result.now same
+            x.ensures) in
+            let second : w ≡ y.result.now =
+            at_one (told c.args.sets.now) c.args.i w y.result.now at_i y.ensures in
             let yes =
             t.is_one_group.ensures.1
-            (subst (λ s. AreOneGroup x.result s) second (subst (λ s. AreOneGroup s w) first g))
+            (subst (λ s. AreOneGroup x.result.now s) second (subst (λ s. AreOneGroup s w) first g))
             in
             let no_group = t.if-is_one_group.false in
             absurd (grind (arith, yes, no_group)))
         | else-i-gt0-via-else-i-gt0 t ↦
             (let zero = t.if-i-gt0.false in absurd (omega (arith, zero, next)))
       ])
-      (λ j next. filled c.args.sets.now j (let within = c.requires.within in
+      (λ j next. filled (told c.args.sets.now) j (let within = c.requires.within in
       omega (arith, within, next)));
   which = inr refl;
 }

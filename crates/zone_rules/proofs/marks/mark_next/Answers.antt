@@ -1,13 +1,13 @@
-use Rattle.std.proofs.Common.{get_or, subst, sym}
-use Rattle.std.proofs.lemmas.Option.{slice_get-get_or}
+use Rattle.std.proofs.Common.{subst, sym}
 use Rattle.zone_rules.specs.Marks.{AreMarked}
 use Rattle.zone_rules.proofs.Marking.{none_to_mark, marked_next}
+use Rattle.zone_rules.specs.Lent.{told}
 use Rattle.zone_rules.proofs.marks.mark_next.Goals as goal
 use Rattle.zone_rules.proofs.marks.mark_next.Goals.{then-start-i, else-start-i}
 
 pub returns : goal.returns
 returns c =
-    let sets = c.args.sets.now in
+    let sets = told c.args.sets.now in
     let start = c.args.start in
     let i = c.args.i in
     let before : AreMarked sets c.if-start-i.marks start i = elim c.if-start-i.branch [
@@ -16,6 +16,5 @@ returns c =
           subst (λ marks. AreMarked sets marks start i) (sym w.marks-is) c.requires.before
     ] in
     marked_next sets c.if-start-i.marks c.mark.new.marks start i
-    (get_or sets i c.index-sets-i.result)
-    (slice_get-get_or sets i c.index-sets-i.result c.requires.within)
+    c.set_at.result.now c.set_at.ensures
     c.mark.ensures.kept c.mark.ensures.marked before

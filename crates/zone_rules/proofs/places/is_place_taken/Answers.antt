@@ -1,23 +1,21 @@
-use Rattle.std.proofs.Common.{◌≡◌, get_or, refl, arith, Some, subst, inl, inr}
+use Rattle.std.proofs.Common.{◌≡◌, refl, arith, Some, subst, inl, inr}
 use Rattle.std.specs.Prelude.{slice_get}
-use Rattle.std.proofs.lemmas.Option.{slice_get-get_or}
 use Rattle.batch_model.specs.RecordSetRecord.{RecordSet}
 use Rattle.batch_model.specs.Rules.{AreRivals}
 use Rattle.zone_rules.proofs.Runs.{at_one, moved, up_to}
+use Rattle.zone_rules.specs.Lent.{told}
 use Rattle.zone_rules.proofs.places.is_place_taken.Goals as goal
 
 pub returns-then-is_one_place : goal.returns-then-is_one_place
 returns-then-is_one_place c =
     let within = c.requires.within in
-    let sets = c.args.sets.now in
+    let sets = told c.args.sets.now in
     let k = c.loop-k.k in
     let below = c.loop-k-test.true in
-    let x = get_or sets k c.index-sets-k.result in
-    let y = get_or sets c.args.i c.index-sets-i.result in
-    let at_k : slice_get sets k ≡ Some x =
-    slice_get-get_or sets k c.index-sets-k.result (omega (arith, within, below)) in
-    let at_i : slice_get sets c.args.i ≡ Some y =
-    slice_get-get_or sets c.args.i c.index-sets-i.result within in
+    let x = c.set_at-in-loop-k.result.now in
+    let y = c.set_at.result.now in
+    let at_k : slice_get sets k ≡ Some x = c.set_at-in-loop-k.ensures in
+    let at_i : slice_get sets c.args.i ≡ Some y = c.set_at.ensures in
     let from = c.loop-k.auto.k in
     let to = c.loop-k.auto.k-end in
     let start = c.requires.start.within in
@@ -43,14 +41,12 @@ pub loop-k-preserved : goal.loop-k-preserved
 loop-k-preserved c j x y from lt at_j at_i place =
     let below = c.loop-k-test.true in
     let within = c.requires.within in
-    let sets = c.args.sets.now in
+    let sets = told c.args.sets.now in
     let k = c.loop-k.k in
-    let v = get_or sets k c.index-sets-k.result in
-    let w = get_or sets c.args.i c.index-sets-i.result in
-    let at_k : slice_get sets k ≡ Some v =
-    slice_get-get_or sets k c.index-sets-k.result (omega (arith, within, below)) in
-    let at_end : slice_get sets c.args.i ≡ Some w =
-    slice_get-get_or sets c.args.i c.index-sets-i.result within in
+    let v = c.set_at-in-loop-k.result.now in
+    let w = c.set_at.result.now in
+    let at_k : slice_get sets k ≡ Some v = c.set_at-in-loop-k.ensures in
+    let at_end : slice_get sets c.args.i ≡ Some w = c.set_at.ensures in
     let no_place = c.if-is_one_place.false in
     let yes = c.is_one_place.ensures.1 in
     elim (up_to j k (omega (arith, lt))) [

@@ -1,8 +1,8 @@
-use Rattle.std.proofs.Common.{◌-◌, Bool, true, false, not, get_or, refl, arith, subst}
+use Rattle.std.proofs.Common.{◌-◌, Bool, true, false, not, refl, arith, subst}
 use Rattle.std.specs.Prelude.{◌↔◌, IsTrue}
-use Rattle.std.proofs.lemmas.Option.{slice_get-get_or}
 use Rattle.zone_rules.specs.Groups.{IsStart}
 use Rattle.zone_rules.proofs.Runs.{mixed_within, first_alone}
+use Rattle.zone_rules.specs.Lent.{told}
 use Rattle.zone_rules.proofs.policies.is_mixed.Goals as goal
 
 -- what holds where a test fails
@@ -13,22 +13,20 @@ negated P Q false t q = ((λ e. q.0 (λ p. let yes = t.1 p in grind (arith, yes)
 
 pub returns-then-start-i : goal.returns-then-start-i
 returns-then-start-i c =
-    let s = subst (λ n. IsStart c.args.sets.now n c.args.i) c.if-start-i.true c.requires.start in (
+    let s = subst (λ n. IsStart (told c.args.sets.now) n c.args.i) c.if-start-i.true c.requires.start in (
       (λ t. absurd (grind (arith, t))),
-      λ breaks. absurd (first_alone c.args.sets.now c.args.i s breaks),
+      λ breaks. absurd (first_alone (told c.args.sets.now) c.args.i s breaks),
     )
 
 pub returns : goal.returns
 returns c =
-    let sets = c.args.sets.now in
+    let sets = told c.args.sets.now in
     let i = c.args.i in
-    let within = c.requires.within in
     let le = c.requires.start.within in
     let apart = c.if-start-i.false in
-    let x = get_or sets (i - 1) c.index-sets-i.result in
-    let y = get_or sets i c.index-sets-i-2.result in
+    let x = c.set_at.result.now in
+    let y = c.set_at-2.result.now in
     negated _ _ c.is_one_policy.result c.is_one_policy.ensures
     (mixed_within sets c.args.start (i - 1) i x y c.requires.rising c.requires.start
     (omega (arith, le, apart)) (omega (arith, le, apart))
-    (slice_get-get_or sets (i - 1) c.index-sets-i.result (omega (arith, within)))
-    (slice_get-get_or sets i c.index-sets-i-2.result within))
+    c.set_at.ensures c.set_at-2.ensures)

@@ -1,7 +1,11 @@
-use Rattle.zone_soundness.proofs.Answered.{isnt}
-use Rattle.zone_soundness.proofs.Firsts.{not_met}
+use Rattle.std.proofs.Common.{ap, ◌∙◌, subst, List}
+use Rattle.std.specs.Prelude.{◌↔◌, IsTrue}
+use Rattle.zone_rules.specs.Lent.{told}
+use Rattle.zone_rules.specs.Rules.{MeetsAll, rules}
+use Rattle.record_set.specs.declared.sets.RecordSet.{RecordSet}
 use Rattle.zone_soundness.proofs.together.meet_rules.Goals as goal
 
-pub returns-in-Some : goal.returns-in-Some
-returns-in-Some c =
-    isnt (not_met c.args.sets.now c.args.apex.now c.in-Some.field-0 c.in-Some.ensures)
+pub returns : goal.returns
+returns c =
+    subst (λ (sets : List RecordSet). IsTrue c.meet_all.result ↔ MeetsAll rules sets c.args.apex.now)
+    (ap told c.as_slice.ensures.value ∙ c.in_ok-lent.ensures) c.meet_all.ensures
