@@ -7,7 +7,7 @@ use Rattle.zone_table.proofs.Among.{place_of}
 use Rattle.zone_table.specs.Sets.{IsAmong}
 
 -- a number below the next one is below this one, or it
-last_or : (j i : ℕ) → j < i + 1 → (j < i) ⊎ (j ≡ i)
+pub last_or : (j i : ℕ) → j < i + 1 → (j < i) ⊎ (j ≡ i)
 last_or zero zero lt = inr refl
 last_or zero (suc i) lt = inl (omega arith)
 last_or (suc j) zero lt = absurd (omega (arith, lt))

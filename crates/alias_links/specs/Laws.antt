@@ -1,5 +1,5 @@
 -- When the aliases of a zone need no look.
-use Rattle.std.specs.Prelude.{◌≡◌, List, []}
+use Rattle.std.specs.Prelude.{◌≡◌, ◌<◌, ℕ, List, [], Some, slice_get}
 use Rattle.std.specs.List.{AllByRecursion}
 use Rattle.alias_links.specs.After.{changed}
 use Rattle.record_set.specs.Reasons.{IsAlias}
@@ -19,6 +19,12 @@ HasAlias sets = (set : RecordSet) × IsAmong sets set × IsAlias set.body
 abbrev pub EmptiesGroup : (remove : List SetKey) → (after : List RecordSet) → Type 0
 EmptiesGroup remove after =
     (key : SetKey) × IsKeyOf remove key × (group after key.name key.rtype ≡ [])
+
+-- the key at a place has the name and the type of the key before it
+abbrev pub GoesOn : List SetKey → (i : ℕ) → Type 0
+GoesOn keys i =
+    (j : ℕ) × (before : SetKey) × (key : SetKey) × (j < i) × (slice_get keys j ≡ Some before)
+    × (slice_get keys i ≡ Some key) × (before.name ≡ key.name) × (before.rtype ≡ key.rtype)
 
 -- What a change says of these sets: those that are added have keys of their own, and none of them
 -- is there but to be removed.

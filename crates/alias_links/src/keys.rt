@@ -1,6 +1,7 @@
 //! Keys and sets looked at one by one.
 
-ghost use Rattle.std.specs.Prelude.{◌≡◌, ◌↔◌, IsTrue, Some};
+ghost use Rattle.std.specs.Prelude.{◌≡◌, ◌≤◌, ◌<◌, ◌↔◌, ℕ, length, slice_get, true, IsTrue};
+ghost use Rattle.std.specs.Prelude.{Some, IfSome, IfNone};
 ghost use Rattle.record_set.specs.Sets.{ident_of, key_of};
 ghost use Rattle.record_set.specs.declared.sets.RecordSet.{RecordSet};
 ghost use Rattle.zone_table.specs.Holding.{IsHolding};
@@ -102,16 +103,45 @@ pub fn is_alias(set: &RecordSet) -> bool
 }
 
 /// Whether one of the sets has the name and the type.
-pub fn adds_to(sets: &[RecordSet], name: &Name, rtype: RType) -> bool
+///
+/// The search begins at a place near which such a set may stand, and leaves the place behind the
+/// one that it found: names that come in the order of the sets are found at once.
+pub fn adds_to(sets: &[RecordSet], name: &Name, rtype: RType, near: &mut usize) -> bool
     ensures { IsTrue result ↔ ((set : RecordSet) × IsAmong sets.now set
         × IsTrue (is_of_group name.now rtype set)) }
 {
-    for i in 0..sets.len() {
-        if is_of_group(&sets[i], name, rtype) {
-            return true;
-        }
+    let start = (*near).min(sets.len());
+    if let Some(place) = first_of_group(sets, name, rtype, start, sets.len()) {
+        *near = place.wrapping_add(1);
+        return true;
+    }
+    if let Some(place) = first_of_group(sets, name, rtype, 0, start) {
+        *near = place.wrapping_add(1);
+        return true;
     }
     false
+}
+
+/// The first place from one on, and before another, of a set with the name and the type.
+fn first_of_group(
+    sets: &[RecordSet],
+    name: &Name,
+    rtype: RType,
+    from: usize,
+    to: usize,
+) -> Option<usize>
+    requires { to ≤ length sets.now }
+    ensures some { IfSome result (λ place. (set : RecordSet) × IsAmong sets.now set
+        × IsTrue (is_of_group name.now rtype set)) }
+    ensures none { IfNone result ((j : ℕ) (set : RecordSet) → from ≤ j → j < to
+        → slice_get sets.now j ≡ Some set → is_of_group name.now rtype set ≡ true → ⊥) }
+{
+    for place in from..to {
+        if is_of_group(&sets[place], name, rtype) {
+            return Some(place);
+        }
+    }
+    None
 }
 
 /// Whether a set has the name and the type.

@@ -93,7 +93,9 @@ fn missing_at(
     let Some(target) = target_at(zones, zone, i) else {
         return None;
     };
-    if is_filled(zones, zone, &target.0, target.1, remove, add, scratch) {
+    if is_filled(
+        zones, zone, &target.0, target.1, remove, add, &mut 0, scratch,
+    ) {
         return None;
     }
     hold_at(zones, zone, i, scratch);
@@ -141,7 +143,7 @@ fn missing_one(
     let Body::Alias { target, .. } = &set.body else {
         return None;
     };
-    if is_filled(zones, zone, target, set.rtype, remove, add, scratch) {
+    if is_filled(zones, zone, target, set.rtype, remove, add, &mut 0, scratch) {
         return None;
     }
     Some(set.key())

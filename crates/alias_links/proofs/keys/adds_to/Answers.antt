@@ -1,37 +1,32 @@
-use Rattle.std.proofs.Common.{◌≡◌, ◌∙◌, refl, sym, true}
+use Rattle.std.proofs.Common.{◌<◌, ◌≤◌, ℕ, zero, suc, refl, arith, inl, inr}
+use Rattle.std.specs.Prelude.{◌⊎◌}
 use Rattle.std.proofs.lemmas.Bool.{false≢true}
-use Rattle.std.proofs.lemmas.Option.{slice_get_read}
-use Rattle.record_set.specs.declared.sets.RecordSet.{RecordSet}
-use Rattle.zone_table.proofs.Among.{among_at}
-use Rattle.zone_table.specs.Sets.{is_of_group}
-use Rattle.alias_links.proofs.Looping.{none_at_all, one_more}
+use Rattle.std.proofs.lemmas.Option.{slice_get_within}
+use Rattle.zone_table.proofs.Among.{place_of}
 use Rattle.alias_links.proofs.keys.adds_to.Goals as goal
 
-pub returns-then-is_of_group : goal.returns-then-is_of_group
-returns-then-is_of_group c =
-    let sets = c.args.sets.now in
-    let set = c.index-sets-i in
-    let at = slice_get_read sets _ c.loop-i.i set.result refl c.loop-i-test.true set.is in (
-      λ e. (
-        set.result,
-        among_at sets c.loop-i.i set.result at,
-        sym c.is_of_group.ensures ∙ c.if-is_of_group.true,
-      ),
-      λ has. refl,
-    )
+below_or_not : (a b : ℕ) → (a < b) ⊎ (b ≤ a)
+below_or_not a zero = inr (omega arith)
+below_or_not zero (suc b) = inl (omega arith)
+below_or_not (suc a) (suc b) =
+    elim (below_or_not a b) [ inl lt ↦ inl (omega (arith, lt)) | inr le ↦ inr (omega (arith, le)) ]
 
-pub loop-i-preserved : goal.loop-i-preserved
-loop-i-preserved c =
-    let sets = c.args.sets.now in
-    let set = c.index-sets-i in
-    one_more (λ (s : RecordSet). is_of_group c.args.name.now c.args.rtype s ≡ true) sets c.loop-i.i
-    set.result (slice_get_read sets _ c.loop-i.i set.result refl c.loop-i-test.true set.is)
-    (λ e. false≢true (sym c.if-is_of_group.false ∙ (c.is_of_group.ensures ∙ e)))
-    c.loop-i.invariant
+pub returns-in-Some : goal.returns-in-Some
+returns-in-Some c = (λ e. c.in-Some.ensures.some, λ has. refl)
+
+pub returns-in-Some-first_of_group : goal.returns-in-Some-first_of_group
+returns-in-Some-first_of_group c = (λ e. c.in-Some-first_of_group.ensures.some, λ has. refl)
 
 pub returns : goal.returns
-returns c = (
-  λ e. absurd (false≢true e),
-  λ has. absurd (none_at_all (λ (s : RecordSet). is_of_group c.args.name.now c.args.rtype s ≡ true)
-      c.args.sets.now c.loop-i.i c.loop-i-test.false c.loop-i.invariant has.0 has.1 has.2),
-)
+returns c =
+    let sets = c.args.sets.now in (
+      λ e. absurd (false≢true e),
+      λ has.
+          let at = place_of sets has.0 has.1 in
+          let within = slice_get_within sets at.0 has.0 at.1 in
+          elim (below_or_not at.0 c.min-start.result) [
+            | inl lt ↦
+                absurd (c.in_default-first_of_group.ensures.none at.0 has.0 (omega arith) lt at.1 has.2)
+            | inr le ↦ absurd (c.in_default.ensures.none at.0 has.0 le within at.1 has.2)
+          ],
+    )
