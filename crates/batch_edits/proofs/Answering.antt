@@ -1,19 +1,17 @@
 -- A batch makes one edit, or has one refusal.
-use Rattle.std.proofs.Common.{◌≡◌, ◌≢◌, ℕ, List, [], ◌∷◌, ap, ◌∙◌, refl, sym, subst, map, inl, inr}
+use Rattle.std.proofs.Common.{◌≡◌, ◌≢◌, List, [], ◌∷◌, ap, ◌∙◌, sym, subst, map, inl, inr}
 use Rattle.std.proofs.Common.{arith}
 use Rattle.std.specs.Prelude.{Result, Ok, Err}
 use Rattle.record_set.specs.declared.sets.RecordSet.{RecordSet}
 use Rattle.record_set.specs.declared.sets.SetKey.{SetKey}
 use Rattle.record_set.specs.Sets.{key_of}
-use Rattle.batch_names.specs.AllZones.{Zone, placed_in}
+use Rattle.batch_names.specs.AllZones.{placed_in}
 use Rattle.config_model.specs.Slotted.{sets_of}
-use Rattle.change_batch.specs.ChangeRecord.{Change}
 use Rattle.change_batch.specs.BatchRefusalRecord.{BatchRefusal}
 use Rattle.change_batch.specs.BatchRefusalRecord.TheVariants as batch
-use Rattle.change_batch.specs.Batches.{Prepares}
 use Rattle.change_batch.proofs.Answering.{one_answer}
 use Rattle.config_model.specs.Differences.{AreMissing, IsDifference}
-use Rattle.batch_edits.specs.Edits.{EditsOrNot, after_edit}
+use Rattle.batch_edits.specs.Edits.{after_edit}
 use Rattle.batch_edits.specs.Laws.{OneBatchEdit}
 use Rattle.batch_edits.specs.declared.editing.Edit.{Edit}
 

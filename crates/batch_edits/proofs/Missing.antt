@@ -15,7 +15,7 @@ use Rattle.config_model.specs.Zones.{IsAmong, IsRising}
 use Rattle.config_model.proofs.Among.{among_at, place_of}
 use Rattle.config_model.proofs.Ordered.{keys_total}
 use Rattle.config_model.proofs.Places.{rising_at}
-use Rattle.batch_edits.specs.Places.{IsNextPlace}
+use Rattle.batch_edits.specs.Places.{AddsKey, AddsSet, IsNextPlace}
 use Rattle.config_model.specs.Differences.{AreMissing}
 use Rattle.std.proofs.lemmas.Option.{slice_get_within}
 use Rattle.std.proofs.lemmas.List.{take_all}
@@ -216,14 +216,34 @@ module _ (sets others : List RecordSet) (rising : IsRising sets) (rising_too : I
           let same : k ≡ place = omega (arith, le, ge) in
           absent (subst (λ n. slice_get others n ≡ Some set) same at_k)
 
-  passed_too : (k : ℕ) (other later : RecordSet) → k < place → slice_get others k ≡ Some other
-      → IsAmong (drop (i + 1) sets) later → key_cmp (key_of other) (key_of later) ≡ Less
-  passed_too k other later lt at_k there =
+  ahead : (later : RecordSet) → IsAmong (drop (i + 1) sets) later
+      → key_cmp (key_of set) (key_of later) ≡ Less
+  ahead later there =
       let front : IsRising (drop i sets) = rising_drop sets i rising in
       let all : IsRising (set ∷ drop (i + 1) sets) =
       subst IsRising (left_at sets i set at) front in
+      in_all (λ s. key_cmp (key_of set) (key_of s) ≡ Less) (drop (i + 1) sets) later all.0 there
+
+  passed_too : (k : ℕ) (other later : RecordSet) → k < place → slice_get others k ≡ Some other
+      → IsAmong (drop (i + 1) sets) later → key_cmp (key_of other) (key_of later) ≡ Less
+  passed_too k other later lt at_k there =
       keys_total.trans (key_of other) (key_of set) (key_of later) (below_it k other lt at_k)
-      (in_all (λ s. key_cmp (key_of set) (key_of s) ≡ Less) (drop (i + 1) sets) later all.0 there)
+      (ahead later there)
+
+  -- the set stands at the place: all behind it are behind the place too
+  pub found_past : slice_get others place ≡ Some set → FoundSo sets others (i + 1) (place + 1) found
+  found_past there = record {
+    missing = subst (λ s. AreMissing s others found) (sym (take_more sets i set at))
+        (missing_same others (take i sets) found set so_far.missing (is_among there));
+    passed = λ k other later lt at_k among. elim (below_or_not k place) [
+      | inl low ↦ passed_too k other later low at_k among
+      | inr le ↦
+          (let same : k ≡ place = omega (arith, lt, le) in
+          let at_place = subst (λ n. slice_get others n ≡ Some other) same at_k in
+          let one : set ≡ other = at_one others place set other there at_place in
+          subst (λ s. key_cmp (key_of s) (key_of later) ≡ Less) one (ahead later among))
+    ];
+  }
 
   pub found_same : IsAmong others set → FoundSo sets others (i + 1) place found
   found_same there = record {
@@ -312,3 +332,41 @@ rising_filtered f (set ∷ sets) rising = by (rising_filtered f sets rising.1) (
       rest,
     )
     by rest false = rest
+
+-- ---- one step
+
+-- the set at a place is no set below it
+pub next_itself : (others : List RecordSet) (set : RecordSet) (from : ℕ)
+    → slice_get others from ≡ Some set → IsNextPlace others from set from
+next_itself others set from there =
+    next_here others set from from set (omega arith) there
+    (not_below (key_of set) (key_of set) refl) (λ k other low high. absurd (omega (arith, low, high)))
+
+module _ (sets others : List RecordSet) (rising : IsRising sets) (rising_too : IsRising others)
+    (i from next : ℕ) (set : RecordSet) (at : slice_get sets i ≡ Some set) where
+  pub step_sets : (found more : List RecordSet) → FoundSo sets others i from found
+      → AddsSet others from set next found more → FoundSo sets others (i + 1) next more
+  step_sets found more so_far (inl (is, same)) =
+      subst (λ f. FoundSo sets others (i + 1) next f) (sym same)
+      (subst (λ n. FoundSo sets others (i + 1) n found) (sym is.behind)
+      (found_past sets others rising rising_too i from is.place found set so_far at is.first is.there))
+  step_sets found more so_far (inr (is, new)) =
+      subst (λ f. FoundSo sets others (i + 1) next f) (sym new)
+      (found_new sets others rising rising_too i from next found set so_far at is.first
+      (is_not sets others rising rising_too i from next found set so_far at is.first is.absent))
+
+  -- the same, told by keys
+  pub step_keys : (keys more : List SetKey)
+      → ((gone : List RecordSet) × FoundSo sets others i from gone × (keys ≡ map key_of gone))
+      → AddsKey others from set next keys more
+      → (gone : List RecordSet) × FoundSo sets others (i + 1) next gone × (more ≡ map key_of gone)
+  step_keys keys more so_far (inl (is, same)) = (
+    so_far.0,
+    step_sets so_far.0 so_far.0 so_far.1 (inl (is, refl)),
+    same ∙ so_far.2,
+  )
+  step_keys keys more so_far (inr (is, new)) = (
+    so_far.0 ++ set ∷ [],
+    step_sets so_far.0 (so_far.0 ++ set ∷ []) so_far.1 (inr (is, refl)),
+    new ∙ ap (λ ks. ks ++ key_of set ∷ []) so_far.2 ∙ sym (keys_more so_far.0 set),
+  )

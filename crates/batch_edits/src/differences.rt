@@ -1,95 +1,145 @@
-//! Sets that are in one list and not in another, both in zone order.
+//! Sets that are in one list and not in another, both lent and in zone order.
 
-ghost use Rattle.std.specs.Prelude.{◌≡◌, ◌≤◌, slice_get, length, IfOk, IsTrue, ◌↔◌, Some};
+ghost use Rattle.std.specs.Prelude.{◌≡◌, ◌≤◌, slice_get, length, false, IfOk, IsTrue, ◌↔◌, Some};
+ghost use Rattle.change_batch.specs.Told.{told};
 ghost use Rattle.config_model.specs.Zones.{IsRising};
-ghost use Rattle.batch_edits.specs.Places.{IsNextPlace};
+ghost use Rattle.batch_edits.specs.Places.{AddsKey, AddsSet, IsAbsentFrom, IsNextPlace, IsThereFrom};
 ghost use Rattle.config_model.specs.Differences.{AreMissing, AreMissingKeys};
 
 use crate::order::comes_before;
 use crate::sameness::is_equal;
+use change_batch::set_at;
 use octets::OutOfMemory;
 use record_set::{RecordSet, SetKey};
 use std::alloc::Global;
 
-/// The keys of the sets that are not among the others.
+/// The keys of the sets that are not among the others, of which there are mostly no more than so
+/// many.
 pub fn missing_keys(
     alloc: Global,
-    sets: &[RecordSet],
-    others: &[RecordSet],
+    sets: &[&RecordSet],
+    others: &[&RecordSet],
+    most: usize,
 ) -> Result<Vec<SetKey>, OutOfMemory>
-    requires sets { IsRising sets.now }
-    requires others { IsRising others.now }
-    ensures { IfOk result (λ keys. AreMissingKeys sets.now others.now keys.items) }
+    requires sets { IsRising (told sets.now) }
+    requires others { IsRising (told others.now) }
+    ensures { IfOk result (λ keys. AreMissingKeys (told sets.now) (told others.now) keys.items) }
 {
-    let mut keys = Vec::new(alloc);
+    let mut keys = Vec::with_capacity(alloc, most.min(sets.len()))?;
     let mut place = 0;
-    for set in sets {
-        place = next_place(others, place, set);
-        if !is_at(others, place, set) {
-            keys.push(set.key())?;
-        }
+    for i in 0..count(sets) {
+        place = add_key(others, place, set_at(sets, i), &mut keys)?;
     }
     Ok(keys)
 }
 
-/// The sets that are not among the others. Where there are no others these are all, and none is
-/// copied.
-pub fn only_new(
+/// Copies of the sets that are not among the others, of which there are mostly no more than so many.
+pub fn missing_sets(
     alloc: Global,
-    sets: Vec<RecordSet>,
-    others: &[RecordSet],
+    sets: &[&RecordSet],
+    others: &[&RecordSet],
+    most: usize,
 ) -> Result<Vec<RecordSet>, OutOfMemory>
-    requires sets { IsRising sets.items }
-    requires others { IsRising others.now }
-    ensures { IfOk result (λ found. AreMissing sets.items others.now found.items) }
+    requires sets { IsRising (told sets.now) }
+    requires others { IsRising (told others.now) }
+    ensures { IfOk result (λ found. AreMissing (told sets.now) (told others.now) found.items) }
 {
-    if others.is_empty() {
-        return Ok(sets);
-    }
-    missing_sets(alloc, sets.as_slice(), others)
-}
-
-/// Copies of the sets that are not among the others.
-fn missing_sets(
-    alloc: Global,
-    sets: &[RecordSet],
-    others: &[RecordSet],
-) -> Result<Vec<RecordSet>, OutOfMemory>
-    requires sets { IsRising sets.now }
-    requires others { IsRising others.now }
-    ensures { IfOk result (λ found. AreMissing sets.now others.now found.items) }
-{
-    let mut found = Vec::new(alloc);
+    let mut found = Vec::with_capacity(alloc, most.min(sets.len()))?;
     let mut place = 0;
-    for set in sets {
-        place = next_place(others, place, set);
-        if !is_at(others, place, set) {
-            found.push(set.copy(alloc)?)?;
-        }
+    for i in 0..count(sets) {
+        place = add_set(alloc, others, place, set_at(sets, i), &mut found)?;
     }
     Ok(found)
 }
 
-/// The first place from one on at which a set doesn't come before this one.
-fn next_place(others: &[RecordSet], from: usize, set: &RecordSet) -> usize
-    requires { from ≤ length others.now }
-    ensures next { IsNextPlace others.now from set.now result }
-    ensures within { result ≤ length others.now }
+/// Adds the key of a set, where that is not among the others from a place on, and says where to
+/// look for the next set.
+fn add_key(
+    others: &[&RecordSet],
+    from: usize,
+    set: &RecordSet,
+    keys: &mut Vec<SetKey>,
+) -> Result<usize, OutOfMemory>
+    requires { from ≤ length (told others.now) }
+    ensures within { IfOk result (λ next. next ≤ length (told others.now)) }
+    ensures adds { IfOk result (λ next.
+        AddsKey (told others.now) from set.now next keys.old.items keys.new.items) }
 {
-    for place in from..others.len() {
-        if !comes_before(&others[place], set) {
+    let (next, is_there) = found_from(others, from, set);
+    if is_there {
+        return Ok(next);
+    }
+    keys.push(set.key())?;
+    Ok(next)
+}
+
+/// The same of a copy of the set.
+fn add_set(
+    alloc: Global,
+    others: &[&RecordSet],
+    from: usize,
+    set: &RecordSet,
+    found: &mut Vec<RecordSet>,
+) -> Result<usize, OutOfMemory>
+    requires { from ≤ length (told others.now) }
+    ensures within { IfOk result (λ next. next ≤ length (told others.now)) }
+    ensures adds { IfOk result (λ next.
+        AddsSet (told others.now) from set.now next found.old.items found.new.items) }
+{
+    let (next, is_there) = found_from(others, from, set);
+    if is_there {
+        return Ok(next);
+    }
+    found.push(set.copy(alloc)?)?;
+    Ok(next)
+}
+
+/// Whether this very set is among the others from a place on, and the place behind it, or else the
+/// one at which it would stand. Most sets stand at the place itself, where no order is looked at.
+fn found_from(others: &[&RecordSet], from: usize, set: &RecordSet) -> (usize, bool)
+    requires { from ≤ length (told others.now) }
+    ensures within { result.0 ≤ length (told others.now) }
+    ensures there { IsTrue result.1 → IsThereFrom (told others.now) from set.now result.0 }
+    ensures absent { result.1 ≡ false → IsAbsentFrom (told others.now) from set.now result.0 }
+{
+    if is_at(others, from, set) {
+        return (from + 1, true);
+    }
+    let place = next_place(others, from, set);
+    if is_at(others, place, set) {
+        return (place + 1, true);
+    }
+    (place, false)
+}
+
+/// The first place from one on at which a set doesn't come before this one.
+fn next_place(others: &[&RecordSet], from: usize, set: &RecordSet) -> usize
+    requires { from ≤ length (told others.now) }
+    ensures next { IsNextPlace (told others.now) from set.now result }
+    ensures within { result ≤ length (told others.now) }
+{
+    let end = count(others);
+    for place in from..end {
+        if !comes_before(set_at(others, place), set) {
             return place;
         }
     }
-    others.len()
+    end
 }
 
 /// Whether this very set stands at the place.
-fn is_at(others: &[RecordSet], place: usize, set: &RecordSet) -> bool
-    ensures { IsTrue result ↔ (slice_get others.now place ≡ Some set.now) }
+fn is_at(others: &[&RecordSet], place: usize, set: &RecordSet) -> bool
+    ensures { IsTrue result ↔ (slice_get (told others.now) place ≡ Some set.now) }
 {
-    if place >= others.len() {
+    if place >= count(others) {
         return false;
     }
-    is_equal(&others[place], set)
+    is_equal(set_at(others, place), set)
+}
+
+/// How many sets there are.
+fn count(sets: &[&RecordSet]) -> usize
+    ensures { result ≡ length (told sets.now) }
+{
+    sets.len()
 }

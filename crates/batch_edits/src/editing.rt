@@ -4,14 +4,15 @@ ghost use Rattle.std.specs.Prelude.{ℕ, List, IfOk};
 ghost use Rattle.std.specs.List.{AllByRecursion};
 ghost use Rattle.config_model.specs.Laws.{HasBoundedSet};
 ghost use Rattle.batch_names.specs.AllZones.{IsZoneId};
+ghost use Rattle.change_batch.specs.Told.{told};
 ghost use Rattle.config_model.specs.Zones.{IsRising};
 ghost use Rattle.batch_names.specs.Looking.{IsApex};
 ghost use Rattle.config_model.specs.Differences.{IsDifference};
 ghost use Rattle.batch_edits.specs.Edits.{EditsOrNot, MeetsRules};
 
-use crate::differences::{missing_keys, only_new};
+use crate::differences::{missing_keys, missing_sets};
 use batch_names::{Scratch, SetKeys, Sets, Zones, named_sets, names_decide, one_apex, sets_of_one};
-use change_batch::{Batch, BatchRefusal, prepare};
+use change_batch::{Batch, BatchRefusal, lend_all, prepare_lent};
 use octets::OutOfMemory;
 use record_set::RecordSet;
 use std::alloc::Global;
@@ -54,28 +55,46 @@ pub fn edit_of(
         Ok(sets) => sets,
         Err(OutOfMemory) => return Err(BatchRefusal::OutOfMemory),
     };
-    let after = match prepare(alloc, before.as_slice(), &apex, batch) {
+    let after = match prepare_lent(alloc, before.as_slice(), &apex, batch) {
         Ok(sets) => sets,
         Err(why) => return Err(why),
     };
-    match difference(alloc, before.as_slice(), after) {
+    match difference(alloc, before.as_slice(), after.as_slice(), changes.len()) {
         Ok(edit) => Ok(edit),
         Err(OutOfMemory) => Err(BatchRefusal::OutOfMemory),
     }
 }
 
-/// What goes and what comes between some sets and others.
+/// What goes and what comes between some sets and others that are lent, each mostly no more than so
+/// many.
 fn difference(
     alloc: Global,
     before: &[RecordSet],
-    after: Vec<RecordSet>,
+    after: &[&RecordSet],
+    most: usize,
 ) -> Result<Edit, OutOfMemory>
     requires before { IsRising before.now }
-    requires after { IsRising after.items }
-    ensures { IfOk result (λ edit. IsDifference before.now after.items edit.remove edit.add) }
+    requires after { IsRising (told after.now) }
+    ensures { IfOk result (λ edit. IsDifference before.now (told after.now) edit.remove edit.add) }
 {
-    let remove = missing_keys(alloc, before, after.as_slice())?;
-    let add = only_new(alloc, after, before)?;
+    let lent = lend_all(alloc, before, 0)?;
+    lent_difference(alloc, lent.as_slice(), after, most)
+}
+
+/// The same where both are lent.
+fn lent_difference(
+    alloc: Global,
+    before: &[&RecordSet],
+    after: &[&RecordSet],
+    most: usize,
+) -> Result<Edit, OutOfMemory>
+    requires before { IsRising (told before.now) }
+    requires after { IsRising (told after.now) }
+    ensures { IfOk result (λ edit.
+        IsDifference (told before.now) (told after.now) edit.remove edit.add) }
+{
+    let remove = missing_keys(alloc, before, after, most)?;
+    let add = missing_sets(alloc, after, before, most)?;
     Ok(Edit {
         remove: SetKeys::from_vec(remove),
         add: Sets::from_vec(add),

@@ -1,12 +1,13 @@
 use Rattle.std.proofs.Common.{◌≡◌, ◌≤◌, List, length, map}
+use Rattle.change_batch.specs.Told.{told}
 use Rattle.record_set.specs.declared.sets.RecordSet.{RecordSet}
 use Rattle.record_set.specs.Sets.{key_of}
 use Rattle.batch_edits.proofs.Missing.{FoundSo}
 use Rattle.batch_edits.proofs.differences.missing_keys.Given as goal
 
-abbrev pub invariant-loop-set : goal.invariant-loop-set
-invariant-loop-set l = record {
-  within : l.place ≤ length l.others;
-  found : (gone : List RecordSet) × FoundSo l.sets l.others l.set-index l.place gone
+abbrev pub invariant-loop-i : goal.invariant-loop-i
+invariant-loop-i l = record {
+  within : l.place ≤ length (told l.others);
+  found : (gone : List RecordSet) × FoundSo (told l.sets) (told l.others) l.i l.place gone
       × (l.keys.items ≡ map key_of gone);
 }
