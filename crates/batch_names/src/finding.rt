@@ -74,7 +74,38 @@ fn read_named(
         if !hold_named(zones, zone, place, name, scratch) {
             return Ok(());
         }
+        make_room(zones, zone, place, name, found)?;
         found.push(read_held(alloc, scratch)?)?;
     }
     Ok(())
+}
+
+/// Takes memory for all sets that have the name from a place on, where there is room for none, so
+/// that those which are there move once.
+fn make_room(
+    zones: &Zones,
+    zone: u32,
+    place: usize,
+    name: &Name,
+    found: &mut Vec<RecordSet>,
+) -> Result<(), OutOfMemory>
+    ensures { OnOk result (found.new.items ≡ found.old.items) }
+{
+    if found.len() < found.capacity() {
+        return Ok(());
+    }
+    found.reserve(named_from(zones, zone, place, name))?;
+    Ok(())
+}
+
+/// How many sets have the name from a place on.
+fn named_from(zones: &Zones, zone: u32, start: usize, name: &Name) -> usize {
+    let mut many = 0usize;
+    for place in start..zones.count(zone) {
+        if !zones.has_name(zone, place, name) {
+            return many;
+        }
+        many = many.wrapping_add(1);
+    }
+    many
 }

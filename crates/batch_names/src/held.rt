@@ -29,7 +29,8 @@ pub fn hold_at(zones: &Zones, zone: u32, place: usize, scratch: &mut Scratch) ->
     true
 }
 
-/// Whether a zone has a set of a name at a place, which is held then.
+/// Whether a zone has a set of a name at a place, which is held then. A set of another name is left
+/// where it stands.
 pub fn hold_named(
     zones: &Zones,
     zone: u32,
@@ -40,10 +41,13 @@ pub fn hold_named(
     ensures { HoldsNamed (sets_of (placed_in zones.now.zones zone)) place name.now result
         scratch.new }
 {
+    if !zones.has_name(zone, place, name) {
+        return false;
+    }
     if !hold_at(zones, zone, place, scratch) {
         return false;
     }
-    scratch.name().is_same(name)
+    true
 }
 
 /// A copy of the set that is held.

@@ -1,4 +1,4 @@
-use Rattle.std.proofs.Common.{◌∙◌, ◌++◌, ◌∷◌, [], ap, sym, arith}
+use Rattle.std.proofs.Common.{◌∙◌, ◌++◌, ◌∷◌, [], List, ap, sym, arith}
 use Rattle.batch_names.proofs.Runs.{so_ends, so_more}
 use Rattle.zone_table.specs.Zones.{placed_in}
 use Rattle.zone_table.specs.Slotted.{sets_of}
@@ -16,6 +16,7 @@ loop-place-preserved c =
     so_more sets c.args.name.now c.args.start c.args.found.now.items c.loop-place.place
     c.loop-place.found.items c.push.new.self.items here.0 c.loop-place.invariant here.1 here.4
     (c.in_ok-push.ensures.items
+    ∙ ap (λ (found : List RecordSet). found ++ c.in_ok-read_held.field-0 ∷ []) c.in_ok-make_room.ensures
     ∙ ap (λ (s : RecordSet). c.loop-place.found.items ++ s ∷ [])
     (some_one c.in_ok-read_held.field-0 here.0 (sym c.in_ok-read_held.ensures ∙ here.2)))
 
