@@ -8,6 +8,7 @@ pub mod Moving
 pub mod Numbering
 pub mod Reporting
 pub mod Reserved
+pub mod Reshaped
 pub mod Standing
 pub mod Staying
 pub mod Taken

@@ -1,3 +1,4 @@
+pub mod Following
 pub mod Index
 pub mod Laws
 pub mod Leaving

@@ -9,6 +9,7 @@ ghost use Rattle.health_valves.specs.Pass.{IsIdle};
 ghost use Rattle.health_index.specs.Index.{HasNode, IsEndpointOf, IsLaidFor, IsNumberOf, StandsFor};
 ghost use Rattle.health_index.specs.Index.{healthy_in};
 ghost use Rattle.health_index.specs.Index.{reported};
+ghost use Rattle.health_index.specs.Following.{AreSameEndpoints};
 ghost use Rattle.health_index.specs.Leaving.{KeepsValves, AreLeft};
 ghost use Rattle.health_index.specs.Room.{HasRoom, Keeps};
 ghost use Rattle.health_index.specs.Values.{WorksOut};
@@ -20,6 +21,7 @@ ghost use Rattle.health_model.specs.Statuses.{Report, status, status_told};
 ghost use Rattle.health_planning.specs.Zones.{Zone};
 
 use crate::finding::valve_of;
+use crate::following::{keeps_endpoints, reshape_checks};
 use crate::laws::index_tells_health;
 use crate::reserving::{each_ok, room_for_checks, room_for_slots};
 use crate::taking::take_result;
@@ -182,7 +184,9 @@ impl HealthIndex {
     /// Where sets gave way to others that the same check alone decides, or nothing, and else sets
     /// that nothing decides went and came, but in no group to which an evaluated alias leads, it
     /// costs a look at these and at their groups, and a comparison of those that came with those that
-    /// went. Otherwise all valves are laid out anew: it costs what the configuration has of checks and
+    /// went. Where it tells of no zone, and all checks are of endpoints and have the numbers of those before,
+    /// as after UpdateHealthCheck, it costs a look at the checks, and what stands above those whose status
+    /// changes. Otherwise all valves are laid out anew: it costs what the configuration has of checks and
     /// of sets that something decides, with their target groups, and had of them before. Of the other
     /// sets it asks only those that came, and their seats stay as they are.
     pub fn on_command(&mut self, zones: &Zones, checks: &CheckTable, delta: &Delta)
@@ -196,13 +200,35 @@ impl HealthIndex {
         // Where the sets that went and came are of this kind, the index stays as it is.
         ensures same { KeepsValves zones.now.zones self.old.seats delta.now
             → self.new ≡ self.old }
+
+        // Where the checks of endpoints stay, nothing changes but their valves, and those above.
+        ensures in_place { delta.now.zone ≡ 0
+            → AreSameEndpoints self.old.ids checks.now.checks.list
+            → self.new ≡ record self.old { valves = self.new.valves } }
     {
         zones.well_formed();
         zones.slots_apart();
         if leaves_valves(zones, &self.seats, delta, &mut self.scratch) {
             return;
         }
+        if keeps_endpoints(&self.ids, checks, delta) {
+            self.follow_checks(checks);
+            return;
+        }
         self.lay(zones, checks, false, delta.added.as_slice());
+    }
+
+    /// Gives the valves of checks their conditions, where the checks are of endpoints and have their
+    /// numbers. It takes no memory.
+    fn follow_checks(&mut self, checks: &CheckTable)
+        requires same { AreSameEndpoints self.old.ids checks.now.checks.list }
+        ensures stands { (zones : List Zone) (old : Checks) (reports : List Report)
+            → StandsFor zones old reports self.old → AreLater old checks.now.checks
+            → IsSound (watched_of zones checks.now.checks)
+            → StandsFor zones checks.now.checks reports self.new }
+        ensures rest { self.new ≡ record self.old { valves = self.new.valves } }
+    {
+        reshape_checks(&mut self.valves, checks.as_slice());
     }
 
     /// Lays everything out anew, with what the checkers saw. All sets are asked whether something

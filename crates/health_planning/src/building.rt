@@ -41,7 +41,7 @@ pub fn list_ids(ids: &mut Vec<u32>, list: &[(u32, Check)])
 }
 
 /// How many open the valve of a check.
-fn need_of(check: &Check) -> u32
+pub fn need_of(check: &Check) -> u32
     ensures { result ≡ check_need check.now }
 {
     match check {
@@ -70,7 +70,7 @@ fn own_of(check: &Check, seen: Option<Checkers>) -> u32
 }
 
 /// Whether a check is inverted.
-fn inverted_of(check: &Check) -> bool
+pub fn inverted_of(check: &Check) -> bool
     ensures { result ≡ is_inverted check.now }
 {
     match check {

@@ -1,6 +1,7 @@
 pub mod Counts
 pub mod Marks
 pub mod Members
+pub mod Needs
 pub mod Planning
 pub mod Runs
 pub mod Times

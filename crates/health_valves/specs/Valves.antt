@@ -105,3 +105,10 @@ size_of valves = length valves.rows.items
 -- one valve has another count from outside
 abbrev pub with_own : ℕ → ℕ → (ℕ → ℕ) → ℕ → ℕ
 with_own valve n own m = if m == valve then n else own m
+
+-- One valve needs another number of those that feed it, and is inverted or not.
+abbrev pub with_need : (valve need : ℕ) → Bool → Net → Net
+with_need valve need inverted net = record {
+  size = net.size;
+  condition = λ n. if n == valve then record { need = need; inverted = inverted; feeders = (net.condition n).feeders } else net.condition n;
+}

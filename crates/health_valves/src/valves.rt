@@ -11,7 +11,7 @@ ghost use Rattle.health_valves.specs.Walk.{PathsEnd};
 ghost use Rattle.health_valves.specs.declared.blueprint.Feeding.{Feeding};
 ghost use Rattle.health_valves.specs.Valves.{Feeds, ValvesStandFor, IsReady, MeetsEquation, Net, count};
 ghost use Rattle.health_valves.specs.Valves.{equation};
-ghost use Rattle.health_valves.specs.Valves.{size_of, value_in, value_of, with_own};
+ghost use Rattle.health_valves.specs.Valves.{size_of, value_in, value_of, with_need, with_own};
 ghost use Rattle.health_valves.specs.Pass.{CostsCone, HasCone, HasMarked, IsIdle, IsInOrder, MeetAll};
 ghost use Rattle.health_valves.specs.Pass.{MeetBehind, MeetOutside, FlipsOnly, waiting};
 
@@ -351,6 +351,63 @@ impl Valves {
         ensures rest { self.new ≡ record self.old { counts = self.new.counts } }
     {
         self.counts[valve as usize] = count;
+    }
+
+    /// Another condition at a valve: so many of those that feed it have to be open, and it is inverted or
+    /// not. What stands above it is worked out where its value changes. It takes no memory.
+    pub fn reshape(&mut self, valve: u32, need: u32, inverted: bool)
+        requires ready { IsReady self.old }
+        requires idle { IsIdle self.old }
+        requires valve { valve < size_of self.old }
+        ensures fits { (net : Net) (own : ℕ → ℕ) → ValvesStandFor net own self.old
+            → ValvesStandFor (with_need valve need inverted net) own self.new }
+        ensures idle { IsIdle self.new }
+        ensures meet { (net : Net) (own : ℕ → ℕ) → ValvesStandFor net own self.old
+            → MeetAll net own self.old
+            → MeetAll (with_need valve need inverted net) own self.new }
+    {
+        self.put_need(valve, need, inverted);
+        let now = is_open(need, inverted, self.count(valve as usize));
+        let was = value_at(&self.values, valve as usize);
+        if now == was {
+            return;
+        }
+        self.settle_above::<Brand>(valve, Blank::new(1));
+    }
+
+    /// Writes the condition of a valve.
+    fn put_need(&mut self, valve: u32, need: u32, inverted: bool)
+        requires ready { IsReady self.old }
+        requires valve { valve < size_of self.old }
+        ensures fits { (net : Net) (own : ℕ → ℕ) → ValvesStandFor net own self.old
+            → ValvesStandFor (with_need valve need inverted net) own self.new }
+        ensures rest { self.new ≡ record self.old { rows = self.new.rows } }
+        ensures size { size_of self.new ≡ size_of self.old }
+    {
+        let row = self.rows[valve as usize];
+        self.rows[valve as usize] = ValveFeeds {
+            need,
+            inverted,
+            first: row.first,
+            end: row.end,
+        };
+    }
+
+    /// Works out the cone of a valve, with a count of its own that nobody sees.
+    fn settle_above<L: Ledger>(&mut self, valve: u32, blank: Blank)
+        requires name { blank.name ≡ L.name }
+        requires parts { blank.parts ≡ L.parts }
+        requires some { 0 < blank.parts }
+        requires ready { IsReady self.old }
+        requires idle { IsIdle self.old }
+        requires valve { valve < size_of self.old }
+        ensures fits { (net : Net) (own : ℕ → ℕ) → ValvesStandFor net own self.old → ValvesStandFor net own self.new }
+        ensures idle { IsIdle self.new }
+        ensures mends { (net : Net) (own : ℕ → ℕ) → ValvesStandFor net own self.old
+            → MeetOutside net own (valve ∷ []) self.old → MeetAll net own self.new }
+    {
+        let mut steps = Steps::<L>::new(blank);
+        self.settle(&[valve], &mut steps);
     }
 }
 

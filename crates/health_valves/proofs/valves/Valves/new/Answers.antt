@@ -1,10 +1,8 @@
-use Rattle.std.proofs.Common.{◌≡◌, List, [], length, refl, ap, arith, Some}
-use Rattle.std.specs.Prelude.{slice_get}
+use Rattle.std.proofs.Common.{[], length, refl, ap, arith}
 use Rattle.health_valves.proofs.Members.{in_none}
 use Rattle.health_valves.proofs.Walks.{ranked_ends}
 use Rattle.health_valves.specs.Valves.{Feeds, IsLaid}
 use Rattle.health_valves.specs.Blueprint.{net_in, no_blueprint}
-use Rattle.health_valves.specs.declared.valves.ValveFeeds.{ValveFeeds}
 use Rattle.health_valves.proofs.valves.Valves.new.Goals as goal
 
 laid_nothing : IsLaid (net_in no_blueprint) [] []

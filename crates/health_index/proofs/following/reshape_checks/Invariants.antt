@@ -1,0 +1,13 @@
+use Rattle.std.proofs.Common.{◌≤◌, ℕ, length}
+use Rattle.health_index.specs.Following.{Reshapes}
+use Rattle.health_valves.specs.Pass.{IsIdle}
+use Rattle.health_valves.specs.Valves.{Net, ValvesStandFor}
+use Rattle.health_index.proofs.following.reshape_checks.Given as goal
+
+abbrev pub invariant-loop-place : goal.invariant-loop-place
+invariant-loop-place l = record {
+  within : l.place ≤ length l.list;
+  reshaped : (net : Net) (own : ℕ → ℕ) → ValvesStandFor net own l.fn.valves
+      → Reshapes l.list l.place net own l.fn.valves l.valves;
+  idle : IsIdle l.valves;
+}

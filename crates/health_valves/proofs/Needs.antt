@@ -1,0 +1,125 @@
+-- A valve needs another number of those that feed it.
+use Rattle.std.proofs.Common.{◌≡◌, ◌≢◌, ◌+◌, ℕ, zero, suc, Bool, List, [], ◌∷◌, set, length-set, arith, refl, ap, sym, ◌∙◌, inl, inr, Some}
+use Rattle.std.specs.Prelude.{nat_le, slice_get}
+use Rattle.std.specs.List.{Contains}
+use Rattle.std.proofs.lemmas.Bool.{cases_eq, eq-eqb, ne_eqb}
+use mathlib.Core.Path.{subst}
+use Rattle.calculated_health.specs.Status.{swapped_if}
+use Rattle.health_valves.specs.Valves.{count}
+use Rattle.health_valves.specs.Valves.{Net, Condition, IsLaid, IsRow, IsCounted, Feeds, MeetsEquation, equation, fed, piece, with_need}
+use Rattle.health_valves.specs.Walk.{Leads, PathsEnd}
+use Rattle.health_valves.specs.declared.valves.ValveFeeds.{ValveFeeds}
+
+some_same : {X : Type 0} {x y : X} → Some x ≡ Some y → x ≡ y
+some_same e = cc
+
+set_at : {X : Type 0} (xs : List X) (k : ℕ) (x y : X) → slice_get (set xs k x) k ≡ Some y → y ≡ x
+set_at [] k x y e = let no : ⊥ = cc in absurd no
+set_at (z ∷ xs) zero x y e = sym (some_same e)
+set_at (z ∷ xs) (suc k) x y e = set_at xs k x y e
+
+set_beside : {X : Type 0} (xs : List X) (k n : ℕ) (x : X) → n ≢ k
+    → slice_get (set xs k x) n ≡ slice_get xs n
+set_beside [] k n x apart = refl
+set_beside (z ∷ xs) zero zero x apart = absurd (apart refl)
+set_beside (z ∷ xs) zero (suc n) x apart = refl
+set_beside (z ∷ xs) (suc k) zero x apart = refl
+set_beside (z ∷ xs) (suc k) (suc n) x apart = set_beside xs k n x (λ e. apart (ap suc e))
+
+-- another row whose run is the same
+fed_same : (edges : List ℕ) (rows : List ValveFeeds) (k : ℕ) (row now : ValveFeeds) → slice_get rows k ≡ Some row
+    → now.first ≡ row.first → now.end ≡ row.end → (n : ℕ) → fed (set rows k now) edges n ≡ fed rows edges n
+fed_same edges [] k row now at first end n = refl
+fed_same edges (r ∷ rows) zero row now at first end zero =
+    let is : r ≡ row = some_same at in
+    same now r (first ∙ ap (λ (w : ValveFeeds). w.first) (sym is)) (end ∙ ap (λ (w : ValveFeeds). w.end) (sym is))
+  where
+    same : (a b : ValveFeeds) → a.first ≡ b.first → a.end ≡ b.end → piece edges (Some a) ≡ piece edges (Some b)
+    same a b e f = rw (e, f) refl
+fed_same edges (r ∷ rows) zero row now at first end (suc n) = refl
+fed_same edges (r ∷ rows) (suc k) row now at first end zero = refl
+fed_same edges (r ∷ rows) (suc k) row now at first end (suc n) = fed_same edges rows k row now at first end n
+
+module _ (valve need : ℕ) (inverted : Bool) (net : Net) where
+  abbrev now : Net
+  now = with_need valve need inverted net
+
+  pub there : (n : ℕ) → n ≢ valve → now.condition n ≡ net.condition n
+  there n apart = rw (ne_eqb n valve apart) refl
+
+  pub here : now.condition valve ≡ record { need = need; inverted = inverted; feeders = (net.condition valve).feeders }
+  here = rw (eq-eqb valve valve refl) refl
+
+  pub feeders_same : (n : ℕ) → (now.condition n).feeders ≡ (net.condition n).feeders
+  feeders_same n = elim (cases_eq n valve) [
+    | inl e ↦ rw (eq-eqb n valve e) refl
+    | inr apart ↦ ap (λ (c : Condition). c.feeders) (there n apart)
+  ]
+
+  feeds_same : (x y : ℕ) → Feeds now x y → Feeds net x y
+  feeds_same x y = subst (λ l. Contains l x) (feeders_same y)
+
+  leads_same : (k x y : ℕ) → Leads (Feeds now) k x y → Leads (Feeds net) k x y
+  leads_same zero x y l = l
+  leads_same (suc k) x y l = (l.0, feeds_same x l.0 l.1, leads_same k l.0 y l.2)
+
+  ends_same : (n : ℕ) → PathsEnd (Feeds net) n → PathsEnd (Feeds now) n
+  unfolding PathsEnd
+  ends_same n h = λ x y l. h x y (leads_same n x y l)
+
+  row_now : (edges : List ℕ) (n : ℕ) (old row : ValveFeeds) → n ≡ valve → IsRow (net.condition valve) edges old
+      → row.need ≡ need → row.inverted ≡ inverted → row.first ≡ old.first → row.end ≡ old.end
+      → IsRow (now.condition n) edges row
+  row_now edges n old row e is its_need its_inverted first end =
+      let at : now.condition n ≡ record { need = need; inverted = inverted; feeders = (net.condition valve).feeders } = ap now.condition e ∙ here in
+      let ordered = is.first in
+      let within = is.end in
+      record {
+        need = its_need ∙ sym (ap (λ (c : Condition). c.need) at);
+        inverted = its_inverted ∙ sym (ap (λ (c : Condition). c.inverted) at);
+        first = omega arith;
+        end = omega arith;
+      }
+
+  -- rows of which one has another condition
+  pub laid_now : (rows : List ValveFeeds) (edges : List ℕ) (old row : ValveFeeds) → IsLaid net rows edges
+      → slice_get rows valve ≡ Some old → row.need ≡ need → row.inverted ≡ inverted
+      → row.first ≡ old.first → row.end ≡ old.end → IsLaid now (set rows valve row) edges
+  laid_now rows edges old row laid at its_need its_inverted first end =
+      let same = fed_same edges rows valve old row at first end in
+      record {
+        size = length-set rows valve row ∙ laid.size;
+        each_row = λ n found is. elim (cases_eq n valve) [
+          | inl e ↦
+              let found_is : found ≡ row = set_at rows valve row found (subst (λ m. slice_get (set rows valve row) m ≡ Some found) e is) in
+              row_now edges n old found e (laid.each_row valve old at) (ap (λ (r : ValveFeeds). r.need) found_is ∙ its_need)
+              (ap (λ (r : ValveFeeds). r.inverted) found_is ∙ its_inverted)
+              (ap (λ (r : ValveFeeds). r.first) found_is ∙ first) (ap (λ (r : ValveFeeds). r.end) found_is ∙ end)
+          | inr apart ↦
+              subst (λ (c : Condition). IsRow c edges found) (sym (there n apart))
+              (laid.each_row n found (sym (set_beside rows valve n row apart) ∙ is))
+        ];
+        reversed = λ x y b. rw (same x, feeders_same y) (laid.reversed x y b);
+        within = λ x y i. laid.within x y (subst (λ l. Contains l y) (same x) i);
+        ends = ends_same 64 laid.ends;
+      }
+
+  pub counted_now : (own : ℕ → ℕ) (v : ℕ → Bool) (counts : List ℕ) → IsCounted net own v counts
+      → IsCounted now own v counts
+  counted_now own v counts is = record {
+    size = is.size;
+    small = λ n b. rw (feeders_same n) (is.small n b);
+    each = λ n b. rw (feeders_same n) (is.each n b);
+  }
+
+  -- the value that the code works out is the equation's
+  pub now_is : (own : ℕ → ℕ) (v : ℕ → Bool) (n : ℕ) (b : Bool) → b ≡ swapped_if inverted (nat_le need n)
+      → n ≡ own valve + count v (now.condition valve).feeders → b ≡ equation now own v valve
+  now_is own v n b is counted =
+      is ∙ ap (λ m. swapped_if inverted (nat_le need m)) counted
+      ∙ sym (ap (λ (c : Condition). swapped_if c.inverted (nat_le c.need (own valve + count v (now.condition valve).feeders))) here)
+
+  pub meets_there : (own : ℕ → ℕ) (v : ℕ → Bool) (n : ℕ) → n ≢ valve → MeetsEquation net own v n
+      → MeetsEquation now own v n
+  meets_there own v n apart meets =
+      meets ∙ ap (λ (c : Condition). swapped_if c.inverted (nat_le c.need (own n + count v c.feeders))) (sym (there n apart))
