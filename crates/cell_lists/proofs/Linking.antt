@@ -302,7 +302,7 @@ module _ (heads : List Head) (next before : List ℕ) (o x : ℕ) (intact : IsIn
 -- ---- what comes behind the last
 
 -- what stands past the end of a list may as well stand at its end
-at_more : {X : Type 0} (xs : List X) (d : X) (k : ℕ) → get_or (xs ++ d ∷ []) k d ≡ get_or xs k d
+pub at_more : {X : Type 0} (xs : List X) (d : X) (k : ℕ) → get_or (xs ++ d ∷ []) k d ≡ get_or xs k d
 at_more [] d zero = refl
 at_more [] d (suc k) = refl
 at_more (x ∷ xs) d zero = refl

@@ -1,0 +1,4 @@
+pub mod Filters
+pub mod ComeAndGo
+pub mod Stages
+pub mod Seen
