@@ -198,6 +198,22 @@ impl CellLists {
         link_at(&self.next, cell)
     }
 
+    /// How many owners more want no memory.
+    pub fn owners_room(&self) -> usize
+        ensures { result ≡ self.now.owners_room }
+    {
+        self.heads.capacity() - self.heads.len()
+    }
+
+    /// How many cells more want no memory.
+    pub fn cells_room(&self) -> usize
+        ensures room { result ≡ self.now.cells_room }
+        ensures most { result < 2 ^ 32 }
+    {
+        let room = self.next.capacity().min(self.before.capacity());
+        room.min(MAX_CELLS) - self.next.len()
+    }
+
     /// How many owners there are.
     pub fn owners(&self) -> usize
         ensures { result ≡ length self.now.lists }

@@ -6,7 +6,7 @@ ghost use Rattle.cell_lists.specs.Lists.{first_of};
 ghost use Rattle.valve_feeds.specs.Feeds.{AreReversed, TakesInto, TakesOut, fed_by, feeders_of};
 ghost use Rattle.valve_feeds.specs.Feeds.{with_feed};
 
-use crate::joining::{Ends, FREE, free_cell, list_from, part, push_list};
+use crate::joining::{Ends, free_cell, free_count, list_from, part, push_list};
 use crate::walk::{FedWalk, FeedersWalk};
 use cell_lists::CellLists;
 use octets::OutOfMemory;
@@ -69,11 +69,7 @@ impl FeedLists {
         if valves > MAX_VALVES - self.into.owners() {
             return Err(OutOfMemory);
         }
-        let free = if self.out.owners() == 0 {
-            0
-        } else {
-            self.out.count(FREE) as usize
-        };
+        let free = free_count(&self.out);
         let cells = feeds.saturating_sub(free);
         let first = if valves > 0 && self.out.owners() == 0 {
             1
@@ -181,6 +177,34 @@ impl FeedLists {
             ends: &self.ends,
             cells: self.into.cells(fed as usize),
         }
+    }
+
+    /// How many feeds more want no memory.
+    pub fn room(&self) -> usize
+        ensures { result ≡ self.now.room }
+    {
+        let cells = self.out.cells_room().min(self.into.cells_room());
+        let more = cells.min(self.ends.capacity() - self.ends.len());
+        free_count(&self.out) + more
+    }
+
+    /// How many valves more want no memory.
+    pub fn valves_room(&self) -> usize
+        ensures { result ≡ self.now.valves_room }
+    {
+        let first = if self.out.owners() == 0 { 1 } else { 0 };
+        let lists = self.out.owners_room().saturating_sub(first);
+        let valves = self.into.owners_room().min(lists);
+        valves.min(MAX_VALVES - self.into.owners())
+    }
+
+    /// How many feeds there are.
+    pub fn feeds(&self) -> usize
+        ensures { result + self.now.room ≡ self.now.most }
+    {
+        // Its lists are apart.
+        self.out.len();
+        self.ends.len() - free_count(&self.out)
     }
 
     /// How many feeds a valve has.

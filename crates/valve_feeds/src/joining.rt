@@ -1,6 +1,6 @@
 //! Feeds as cells: each in the list of its feeder and in that of the valve that it feeds.
 
-ghost use Rattle.std.specs.Prelude.{◌≡◌, ◌≤◌, ◌<◌, ◌+◌, ◌-◌, ◌++◌, ◌∷◌, [], ℕ, suc, length};
+ghost use Rattle.std.specs.Prelude.{◌≡◌, ◌≤◌, ◌<◌, ◌+◌, ◌-◌, ◌++◌, ◌∷◌, [], ◌^◌, ℕ, suc, length};
 ghost use Rattle.std.specs.List.{Contains};
 ghost use Rattle.cell_lists.specs.Lists.{IsFree, list_of, with_list, without};
 ghost use Rattle.valve_feeds.specs.Joined.{IsJoined, HasCell, ends_at, more_in, of_valves};
@@ -22,6 +22,17 @@ pub fn list_from(valve: u32) -> usize
     ensures { result ≡ suc valve }
 {
     valve as usize + 1
+}
+
+/// How many cells are no feeds.
+pub fn free_count(out: &CellLists) -> usize
+    ensures count { result ≡ length (list_of out.now 0) }
+    ensures most { result < 2 ^ 32 }
+{
+    if out.owners() == 0 {
+        return 0;
+    }
+    out.count(FREE) as usize
 }
 
 /// Takes a cell that is no feed, in no list then: one that was, or a new one.
