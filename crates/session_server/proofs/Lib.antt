@@ -1,3 +1,4 @@
 mod Arms
-pub mod Asked
+mod Keeping
 mod Lines
+pub mod Asked
