@@ -63,7 +63,7 @@ are_files reading images opens shapes kept a b stands leaves engine is side gene
 all_join : (a b c : Config) (first second : List Command) → AppliesAll a first b
     → AppliesAll b second c → AppliesAll a (first ++ second) c
 all_join a b c [] second is more = subst (λ (x : Config). AppliesAll x second c) is more
-all_join a b c (given ∷ first) second (middle, (what, (decides, rest))) more =
+all_join a b c (given ∷ first) second (middle, what, decides, rest) more =
     (middle, what, decides, all_join middle b c first second rest more)
 
 pub some_join : (a b c : Config) → AppliesSome a b → AppliesSome b c → AppliesSome a c
@@ -71,7 +71,7 @@ some_join a b c (first, its) (second, more) = (first ++ second, all_join a b c f
 
 pub applied : (a b : Config) → IsOneMore a b → AppliesSome a b
 applied a b (inl same) = ([], same)
-applied a b (inr (given, (what, decides))) = (given ∷ [], b, what, decides, refl)
+applied a b (inr (given, what, decides)) = (given ∷ [], (b, what, decides, refl))
 
 pub one_more : (a b c : Config) → AppliesSome a b → IsOneMore b c → AppliesSome a c
 one_more a b c some more = some_join a b c some (applied b c more)
@@ -106,7 +106,7 @@ module _ {D : Type 0} (images : D → List ℕ → Type 0) (a b : D) where
 
   behind_more : (start now : Config) → AppliesSome start now → FilesOpenBehind images a b now
       → FilesOpenBehind images a b start
-  behind_more start now some (after, (more, opens)) =
+  behind_more start now some (after, more, opens) =
       (after, some_join start now after some more, opens)
 
   -- behind some commands
@@ -116,6 +116,6 @@ module _ {D : Type 0} (images : D → List ℕ → Type 0) (a b : D) where
   files_join ended.ReadFault start now some files = behind_more start now some files
   files_join ended.InputTooLong start now some files = behind_more start now some files
   files_join ended.WriteFault start now some files = behind_more start now some files
-  files_join ended.DiskFault start now some (before, (more, torn)) =
+  files_join ended.DiskFault start now some (before, more, torn) =
       (before, some_join start now before some more, torn)
   files_join ended.LinkFault start now some files = behind_more start now some files

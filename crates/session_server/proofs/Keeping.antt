@@ -5,8 +5,6 @@ use Rattle.line_bounds.specs.Configs.{Config}
 use Rattle.line_server.specs.Leaving.{StepOrNone}
 use Rattle.line_server.specs.Replying.{Commanded, Compacts, Observed}
 use Rattle.list_sending.specs.Applying.{Decides}
-use Rattle.list_sending.specs.CompactedRecord.{Compacted}
-use Rattle.list_sending.specs.Compacting.{CompactionSteps}
 use Rattle.list_sending.specs.Engine.{CommandSteps, Engine, ReportSteps}
 use Rattle.list_sending.specs.MadeRecord.{Made}
 use Rattle.list_sending.specs.RefusalRecord.{Refusal}
@@ -23,9 +21,9 @@ config_of engine = engine.config
 stepped : (given : Command) (came : Result Made Refusal) (old after : Engine)
     → CommandSteps old given came after → IsOneMore old.config after.config
 stepped given came old after (inl (why, other, decides, is, same)) = inl (ap config_of same)
-stepped given came old after (inr (now, (what, (decides, inl (full, fits, is, same))))) =
+stepped given came old after (inr (now, (what, decides, inl (full, fits, is, same)))) =
     inl (ap config_of same)
-stepped given came old after (inr (now, (what, (decides, inr (fits, is, same))))) =
+stepped given came old after (inr (now, (what, decides, inr (fits, is, same)))) =
     inr (
       given,
       what,
