@@ -3,22 +3,27 @@ use Rattle.std.specs.Prelude.{◌≡◌, ◌<◌, ◌==◌, ◌-◌, ◌^◌, �
 use Rattle.cell_lists.specs.Lists.{list_at, AreApart}
 use Rattle.cell_lists.specs.declared.links.Head.{Head}
 
--- what stands behind a cell that comes to the front: the one that was first, or where there is none itself
+-- what stands behind a cell that comes to the front: the one that was first, or where there is none
+-- itself
 abbrev pub behind_first : Head → ℕ → ℕ
 behind_first head cell = if head.count == 0 then cell else head.first
 
--- what stands behind the cell in front of one that goes: what stood behind that, or itself where it is the last
+-- what stands behind the cell in front of one that goes: what stood behind that, or itself where it
+-- is the last
 abbrev pub behind_gone : (behind cell front : ℕ) → ℕ
 behind_gone behind cell front = if behind == cell then front else behind
 
 -- the links when a cell goes, and where its list begins then
 abbrev pub next_without : Head → (next before : List ℕ) → ℕ → List ℕ
-next_without head next before cell = if head.first == cell then next else slice_set next (slice_index before cell)
+next_without head next before cell =
+    if head.first == cell then next
+    else slice_set next (slice_index before cell)
     (behind_gone (slice_index next cell) cell (slice_index before cell))
 
 abbrev pub before_without : Head → (next before : List ℕ) → ℕ → List ℕ
 before_without head next before cell =
-    if head.first == cell then before else slice_set before (slice_index next cell) (slice_index before cell)
+    if head.first == cell then before
+    else slice_set before (slice_index next cell) (slice_index before cell)
 
 abbrev pub head_without : Head → (next : List ℕ) → ℕ → Head
 head_without head next cell = record {
@@ -52,7 +57,8 @@ abbrev pub head_at : List Head → ℕ → Head
 head_at heads owner = slice_index_or heads owner no_head
 
 -- heads and links stand for these lists
-pub record AreLinked (next before : ℕ → ℕ) (heads : List Head) (lists : List (List ℕ)) : Type 0 where
+pub record AreLinked (next before : ℕ → ℕ) (heads : List Head) (lists : List (List ℕ))
+    : Type 0 where
   pub long : length lists ≡ length heads
   pub each : (owner : ℕ) → IsHeadOf next before (head_at heads owner) (list_at lists owner)
 

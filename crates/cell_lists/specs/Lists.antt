@@ -2,8 +2,8 @@
 use Rattle.std.specs.Prelude.{◌≡◌, ◌<◌, ◌==◌, ℕ, List, [], ◌∷◌, Option, None, Some, slice_index_or, slice_set, if◌then◌else◌}
 use Rattle.std.specs.List.{Contains}
 
--- the cells of each owner, how many cells there are, in lists or not, and how many more owners and cells
--- want no memory
+-- the cells of each owner, how many cells there are, in lists or not, and how many more owners and
+-- cells want no memory
 pub record Lists : Type 0 where
   pub lists : List (List ℕ)
   pub cells : ℕ

@@ -140,7 +140,8 @@ impl CellLists {
     /// Takes a cell out of its list, wherever it stands there. It is in none then.
     pub fn take(&mut self, owner: usize, cell: u32)
         requires { Contains (list_of self.old owner) cell }
-        ensures taken { self.new ≡ with_list owner (without cell (list_of self.old owner)) self.old }
+        ensures taken { self.new
+            ≡ with_list owner (without cell (list_of self.old owner)) self.old }
         ensures free { IsFree self.new.lists cell }
 
         // The same by owners.

@@ -3,8 +3,8 @@ use Rattle.std.specs.Prelude.{◌≡◌, ◌≤◌, ◌==◌, ◌+◌, ◌-◌, 
 use Rattle.std.specs.List.{Contains}
 use Rattle.cell_lists.specs.Lists.{first_of, list_at, without}
 
--- the valves that each valve feeds, and those that feed each, once for each feed and the one that came last in front; how many
--- feeds more want no memory, how many in all, and how many valves more
+-- the valves that each valve feeds, and those that feed each, once for each feed and the one that
+-- came last in front; how many feeds more want no memory, how many in all, and how many valves more
 pub record BothWays : Type 0 where
   pub fed : List (List ℕ)
   pub feeders : List (List ℕ)
@@ -49,7 +49,8 @@ abbrev pub times : ℕ → List ℕ → ℕ
 times x [] = 0
 times x (y ∷ ys) = if y == x then times x ys + 1 else times x ys
 
--- A valve is fed by another as often as that feeds it, and there are no more feeds than there is room for.
+-- A valve is fed by another as often as that feeds it, and there are no more feeds than there is
+-- room for.
 pub record AreReversed (feeds : BothWays) : Type 0 where
   pub size : length feeds.feeders ≡ length feeds.fed
   pub times : (x y : ℕ) → times y (fed_by feeds x) ≡ times x (feeders_of feeds y)

@@ -33,18 +33,21 @@ abbrev pub of_valves : List (List ℕ) → List (List ℕ)
 of_valves [] = []
 of_valves (free ∷ lists) = lists
 
--- Each cell in the list of a feeder is in that of what it feeds, and the other way round; between two valves in one order.
+-- Each cell in the list of a feeder is in that of what it feeds, and the other way round; between two
+-- valves in one order.
 pub record IsJoined (ends : List Ends) (out into : Lists) : Type 0 where
   pub out_cells : out.cells ≡ length ends
   pub into_cells : into.cells ≡ length ends
   pub owners : length (of_valves out.lists) ≡ length into.lists
   pub few : length into.lists < 2 ^ 32
-  pub both : (x y : ℕ) → those_to ends y (list_at (of_valves out.lists) x) ≡ those_from ends x (list_at into.lists y)
+  pub both : (x y : ℕ) → those_to ends y (list_at (of_valves out.lists) x)
+      ≡ those_from ends x (list_at into.lists y)
   pub free : (cell : ℕ) → Contains (list_at out.lists 0) cell → IsFree into.lists cell
 
 -- how many cells more want no memory
 abbrev pub more_in : {Z : Type 0} → Vec Ends Z → Lists → Lists → ℕ
-more_in ends out into = min (min out.cells_room into.cells_room) (vec_capacity ends - length ends.items)
+more_in ends out into =
+    min (min out.cells_room into.cells_room) (vec_capacity ends - length ends.items)
 
 -- the feeds, as both of their valves see them
 abbrev pub both_ways : {Z : Type 0} → Vec Ends Z → Lists → Lists → BothWays
@@ -53,11 +56,13 @@ both_ways ends out into = record {
   feeders = map (feeders_in ends.items) into.lists;
   room = length (list_at out.lists 0) + more_in ends out into;
   most = length ends.items + more_in ends out into;
-  valves_room = min (min into.owners_room (out.owners_room - (1 - length out.lists))) (2 ^ 32 - 1 - length into.lists);
+  valves_room = min (min into.owners_room (out.owners_room - (1 - length out.lists)))
+      (2 ^ 32 - 1 - length into.lists);
 }
 
 -- A cell that is in no list, when one was taken from the free ones or made.
-pub record HasCell {Z W : Type 0} (ends : Vec Ends Z) (ends' : Vec Ends W) (out out' into into' : Lists) (cell : ℕ) : Type 0 where
+pub record HasCell {Z W : Type 0} (ends : Vec Ends Z) (ends' : Vec Ends W)
+    (out out' into into' : Lists) (cell : ℕ) : Type 0 where
   pub joined : IsJoined ends'.items out' into'
   pub within : cell < length ends'.items
   pub out_free : IsFree out'.lists cell
@@ -66,8 +71,10 @@ pub record HasCell {Z W : Type 0} (ends : Vec Ends Z) (ends' : Vec Ends W) (out 
   pub same_valves : of_valves out'.lists ≡ of_valves out.lists
   pub same_into : into'.lists ≡ into.lists
   pub long : length out'.lists ≡ length out.lists
-  pub room : length (list_at out'.lists 0) + more_in ends' out' into' + 1 ≡ length (list_at out.lists 0) + more_in ends out into
-  pub most : length ends'.items + more_in ends' out' into' ≡ length ends.items + more_in ends out into
+  pub room : length (list_at out'.lists 0) + more_in ends' out' into' + 1
+      ≡ length (list_at out.lists 0) + more_in ends out into
+  pub most : length ends'.items + more_in ends' out' into'
+      ≡ length ends.items + more_in ends out into
   pub out_room : out'.owners_room ≡ out.owners_room
   pub into_room : into'.owners_room ≡ into.owners_room
 

@@ -79,8 +79,10 @@ pub fn part(ends: &[Ends], out: &mut CellLists, into: &mut CellLists, cell: u32)
     requires into { Contains (list_of into.old (ends_at ends.now cell).fed) cell }
     ensures ends { result ≡ ends_at ends.now cell }
     ensures out { out.new ≡ with_list 0 (cell ∷ list_of out.old 0)
-        (with_list (suc result.feeder) (without cell (list_of out.old (suc result.feeder))) out.old) }
-    ensures into { into.new ≡ with_list result.fed (without cell (list_of into.old result.fed)) into.old }
+        (with_list (suc result.feeder) (without cell (list_of out.old (suc result.feeder)))
+        out.old) }
+    ensures into { into.new
+        ≡ with_list result.fed (without cell (list_of into.old result.fed)) into.old }
     ensures free { IsFree into.new.lists cell }
 {
     let ends = ends[cell as usize];
