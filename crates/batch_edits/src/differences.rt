@@ -1,7 +1,7 @@
 //! Sets that are in one list and not in another, both lent and in zone order.
 
 ghost use Rattle.std.specs.Prelude.{◌≡◌, ◌≤◌, slice_get, length, false, IfOk, IsTrue, ◌↔◌, Some};
-ghost use Rattle.change_batch.specs.Told.{told};
+ghost use Rattle.change_batch.specs.LentSets.{sets_lent};
 ghost use Rattle.config_model.specs.Zones.{IsRising};
 ghost use Rattle.batch_edits.specs.Places.{AddsKey, AddsSet, IsAbsentFrom, IsNextPlace, IsThereFrom};
 ghost use Rattle.config_model.specs.Differences.{AreMissing, AreMissingKeys};
@@ -21,9 +21,10 @@ pub fn missing_keys(
     others: &[&RecordSet],
     most: usize,
 ) -> Result<Vec<SetKey>, OutOfMemory>
-    requires sets { IsRising (told sets.now) }
-    requires others { IsRising (told others.now) }
-    ensures { IfOk result (λ keys. AreMissingKeys (told sets.now) (told others.now) keys.items) }
+    requires sets { IsRising (sets_lent sets.now) }
+    requires others { IsRising (sets_lent others.now) }
+    ensures { IfOk result (λ keys.
+        AreMissingKeys (sets_lent sets.now) (sets_lent others.now) keys.items) }
 {
     let mut keys = Vec::with_capacity(alloc, most.min(sets.len()))?;
     let mut place = 0;
@@ -33,16 +34,18 @@ pub fn missing_keys(
     Ok(keys)
 }
 
-/// Copies of the sets that are not among the others, of which there are mostly no more than so many.
+/// Copies of the sets that are not among the others, of which there are mostly no more than so
+/// many.
 pub fn missing_sets(
     alloc: Global,
     sets: &[&RecordSet],
     others: &[&RecordSet],
     most: usize,
 ) -> Result<Vec<RecordSet>, OutOfMemory>
-    requires sets { IsRising (told sets.now) }
-    requires others { IsRising (told others.now) }
-    ensures { IfOk result (λ found. AreMissing (told sets.now) (told others.now) found.items) }
+    requires sets { IsRising (sets_lent sets.now) }
+    requires others { IsRising (sets_lent others.now) }
+    ensures { IfOk result (λ found.
+        AreMissing (sets_lent sets.now) (sets_lent others.now) found.items) }
 {
     let mut found = Vec::with_capacity(alloc, most.min(sets.len()))?;
     let mut place = 0;
@@ -60,10 +63,10 @@ fn add_key(
     set: &RecordSet,
     keys: &mut Vec<SetKey>,
 ) -> Result<usize, OutOfMemory>
-    requires { from ≤ length (told others.now) }
-    ensures within { IfOk result (λ next. next ≤ length (told others.now)) }
+    requires { from ≤ length (sets_lent others.now) }
+    ensures within { IfOk result (λ next. next ≤ length (sets_lent others.now)) }
     ensures adds { IfOk result (λ next.
-        AddsKey (told others.now) from set.now next keys.old.items keys.new.items) }
+        AddsKey (sets_lent others.now) from set.now next keys.old.items keys.new.items) }
 {
     let (next, is_there) = found_from(others, from, set);
     if is_there {
@@ -81,10 +84,10 @@ fn add_set(
     set: &RecordSet,
     found: &mut Vec<RecordSet>,
 ) -> Result<usize, OutOfMemory>
-    requires { from ≤ length (told others.now) }
-    ensures within { IfOk result (λ next. next ≤ length (told others.now)) }
+    requires { from ≤ length (sets_lent others.now) }
+    ensures within { IfOk result (λ next. next ≤ length (sets_lent others.now)) }
     ensures adds { IfOk result (λ next.
-        AddsSet (told others.now) from set.now next found.old.items found.new.items) }
+        AddsSet (sets_lent others.now) from set.now next found.old.items found.new.items) }
 {
     let (next, is_there) = found_from(others, from, set);
     if is_there {
@@ -97,10 +100,10 @@ fn add_set(
 /// Whether this very set is among the others from a place on, and the place behind it, or else the
 /// one at which it would stand. Most sets stand at the place itself, where no order is looked at.
 fn found_from(others: &[&RecordSet], from: usize, set: &RecordSet) -> (usize, bool)
-    requires { from ≤ length (told others.now) }
-    ensures within { result.0 ≤ length (told others.now) }
-    ensures there { IsTrue result.1 → IsThereFrom (told others.now) from set.now result.0 }
-    ensures absent { result.1 ≡ false → IsAbsentFrom (told others.now) from set.now result.0 }
+    requires { from ≤ length (sets_lent others.now) }
+    ensures within { result.0 ≤ length (sets_lent others.now) }
+    ensures there { IsTrue result.1 → IsThereFrom (sets_lent others.now) from set.now result.0 }
+    ensures absent { result.1 ≡ false → IsAbsentFrom (sets_lent others.now) from set.now result.0 }
 {
     if is_at(others, from, set) {
         return (from + 1, true);
@@ -114,9 +117,9 @@ fn found_from(others: &[&RecordSet], from: usize, set: &RecordSet) -> (usize, bo
 
 /// The first place from one on at which a set doesn't come before this one.
 fn next_place(others: &[&RecordSet], from: usize, set: &RecordSet) -> usize
-    requires { from ≤ length (told others.now) }
-    ensures next { IsNextPlace (told others.now) from set.now result }
-    ensures within { result ≤ length (told others.now) }
+    requires { from ≤ length (sets_lent others.now) }
+    ensures next { IsNextPlace (sets_lent others.now) from set.now result }
+    ensures within { result ≤ length (sets_lent others.now) }
 {
     let end = count(others);
     for place in from..end {
@@ -129,7 +132,7 @@ fn next_place(others: &[&RecordSet], from: usize, set: &RecordSet) -> usize
 
 /// Whether this very set stands at the place.
 fn is_at(others: &[&RecordSet], place: usize, set: &RecordSet) -> bool
-    ensures { IsTrue result ↔ (slice_get (told others.now) place ≡ Some set.now) }
+    ensures { IsTrue result ↔ (slice_get (sets_lent others.now) place ≡ Some set.now) }
 {
     if place >= count(others) {
         return false;
@@ -139,7 +142,7 @@ fn is_at(others: &[&RecordSet], place: usize, set: &RecordSet) -> bool
 
 /// How many sets there are.
 fn count(sets: &[&RecordSet]) -> usize
-    ensures { result ≡ length (told sets.now) }
+    ensures { result ≡ length (sets_lent sets.now) }
 {
     sets.len()
 }

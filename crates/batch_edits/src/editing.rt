@@ -4,7 +4,7 @@ ghost use Rattle.std.specs.Prelude.{ℕ, List, IfOk};
 ghost use Rattle.std.specs.List.{AllByRecursion};
 ghost use Rattle.config_model.specs.Laws.{HasBoundedSet};
 ghost use Rattle.batch_names.specs.AllZones.{IsZoneId};
-ghost use Rattle.change_batch.specs.Told.{told};
+ghost use Rattle.change_batch.specs.LentSets.{sets_lent};
 ghost use Rattle.config_model.specs.Zones.{IsRising};
 ghost use Rattle.batch_names.specs.Looking.{IsApex};
 ghost use Rattle.config_model.specs.Differences.{IsDifference};
@@ -74,8 +74,9 @@ fn difference(
     most: usize,
 ) -> Result<Edit, OutOfMemory>
     requires before { IsRising before.now }
-    requires after { IsRising (told after.now) }
-    ensures { IfOk result (λ edit. IsDifference before.now (told after.now) edit.remove edit.add) }
+    requires after { IsRising (sets_lent after.now) }
+    ensures { IfOk result (λ edit.
+        IsDifference before.now (sets_lent after.now) edit.remove edit.add) }
 {
     let lent = lend_all(alloc, before, 0)?;
     lent_difference(alloc, lent.as_slice(), after, most)
@@ -88,10 +89,10 @@ fn lent_difference(
     after: &[&RecordSet],
     most: usize,
 ) -> Result<Edit, OutOfMemory>
-    requires before { IsRising (told before.now) }
-    requires after { IsRising (told after.now) }
+    requires before { IsRising (sets_lent before.now) }
+    requires after { IsRising (sets_lent after.now) }
     ensures { IfOk result (λ edit.
-        IsDifference (told before.now) (told after.now) edit.remove edit.add) }
+        IsDifference (sets_lent before.now) (sets_lent after.now) edit.remove edit.add) }
 {
     let remove = missing_keys(alloc, before, after, most)?;
     let add = missing_sets(alloc, after, before, most)?;

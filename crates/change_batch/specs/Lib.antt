@@ -10,4 +10,4 @@ pub use Rattle.batch_limits.specs.ActionRecord
 pub use Rattle.batch_limits.specs.ChangeRecord
 pub use Rattle.batch_limits.specs.BatchRefusalRecord
 pub use Rattle.batch_limits.specs.BatchRecord
-pub use Rattle.zone_rules.specs.Lent as Told
+pub use Rattle.zone_rules.specs.Lent as LentSets

@@ -8,7 +8,7 @@ ghost use Rattle.batch_limits.specs.ActionRecord.TheVariants.{Create, Delete, Up
 ghost use Rattle.batch_limits.specs.Changing.{Applies, IsProtected, IsThereAsGiven};
 ghost use Rattle.set_search.specs.Zones.{IsRising};
 ghost use Rattle.set_search.specs.Found.{Finds, FindsAt};
-ghost use Rattle.zone_rules.specs.Lent.{told};
+ghost use Rattle.zone_rules.specs.Lent.{sets_lent};
 
 use crate::lent::{Lent, insert_at, replace_at, take_away};
 use batch_limits::{Action, Change, ChangeRefusal};
@@ -27,9 +27,11 @@ pub fn apply<'a>(
     change: &'a Change,
     hint: &mut Option<usize>,
 ) -> Result<(), ChangeRefusal>
-    requires { IsRising (told sets.old.items) }
-    ensures ok { OnOk result (Applies (told sets.old.items) apex.now change.now (Ok (told sets.new.items))) }
-    ensures err { IfErr result (λ why. Applies (told sets.old.items) apex.now change.now (Err why)) }
+    requires { IsRising (sets_lent sets.old.items) }
+    ensures ok { OnOk result (
+        Applies (sets_lent sets.old.items) apex.now change.now (Ok (sets_lent sets.new.items))) }
+    ensures err { IfErr result (λ why.
+        Applies (sets_lent sets.old.items) apex.now change.now (Err why)) }
 {
     if !change.set.name.ends_with(apex) {
         return Err(ChangeRefusal::NotInZone);
@@ -48,11 +50,13 @@ fn create<'a>(
     change: &'a Change,
     hint: &mut Option<usize>,
 ) -> Result<(), ChangeRefusal>
-    requires rising { IsRising (told sets.old.items) }
+    requires rising { IsRising (sets_lent sets.old.items) }
     requires inside { EndsWith change.now.set.name apex.now }
     requires action { change.now.action ≡ Create }
-    ensures ok { OnOk result (Applies (told sets.old.items) apex.now change.now (Ok (told sets.new.items))) }
-    ensures err { IfErr result (λ why. Applies (told sets.old.items) apex.now change.now (Err why)) }
+    ensures ok { OnOk result (
+        Applies (sets_lent sets.old.items) apex.now change.now (Ok (sets_lent sets.new.items))) }
+    ensures err { IfErr result (λ why.
+        Applies (sets_lent sets.old.items) apex.now change.now (Err why)) }
 {
     let place = match find_set(sets, &change.set, hint) {
         Ok(_) => return Err(ChangeRefusal::AlreadyExists),
@@ -71,11 +75,13 @@ fn delete<'a>(
     change: &'a Change,
     hint: &mut Option<usize>,
 ) -> Result<(), ChangeRefusal>
-    requires rising { IsRising (told sets.old.items) }
+    requires rising { IsRising (sets_lent sets.old.items) }
     requires inside { EndsWith change.now.set.name apex.now }
     requires action { change.now.action ≡ Delete }
-    ensures ok { OnOk result (Applies (told sets.old.items) apex.now change.now (Ok (told sets.new.items))) }
-    ensures err { IfErr result (λ why. Applies (told sets.old.items) apex.now change.now (Err why)) }
+    ensures ok { OnOk result (
+        Applies (sets_lent sets.old.items) apex.now change.now (Ok (sets_lent sets.new.items))) }
+    ensures err { IfErr result (λ why.
+        Applies (sets_lent sets.old.items) apex.now change.now (Err why)) }
 {
     let place = match find_set(sets, &change.set, hint) {
         Ok(place) => place,
@@ -98,11 +104,13 @@ fn upsert<'a>(
     change: &'a Change,
     hint: &mut Option<usize>,
 ) -> Result<(), ChangeRefusal>
-    requires rising { IsRising (told sets.old.items) }
+    requires rising { IsRising (sets_lent sets.old.items) }
     requires inside { EndsWith change.now.set.name apex.now }
     requires action { change.now.action ≡ Upsert }
-    ensures ok { OnOk result (Applies (told sets.old.items) apex.now change.now (Ok (told sets.new.items))) }
-    ensures err { IfErr result (λ why. Applies (told sets.old.items) apex.now change.now (Err why)) }
+    ensures ok { OnOk result (
+        Applies (sets_lent sets.old.items) apex.now change.now (Ok (sets_lent sets.new.items))) }
+    ensures err { IfErr result (λ why.
+        Applies (sets_lent sets.old.items) apex.now change.now (Err why)) }
 {
     match find_set(sets, &change.set, hint) {
         Ok(place) => {
@@ -123,8 +131,8 @@ fn find_set(
     given: &RecordSet,
     hint: &mut Option<usize>,
 ) -> Result<usize, usize>
-    requires { IsRising (told sets.now.items) }
-    ensures { Finds (told sets.now.items) (key_of given.now) result }
+    requires { IsRising (sets_lent sets.now.items) }
+    ensures { Finds (sets_lent sets.now.items) (key_of given.now) result }
 {
     let found = find_near(
         &Lent {
@@ -146,8 +154,8 @@ fn behind(found: &Result<usize, usize>) -> usize {
 
 /// Whether the set with the key of this one, which stands at the place, is equal to it.
 fn is_as_given(sets: &[&RecordSet], place: usize, given: &RecordSet) -> bool
-    requires { FindsAt (told sets.now) (key_of given.now) place }
-    ensures { IsTrue result ↔ IsThereAsGiven (told sets.now) given.now }
+    requires { FindsAt (sets_lent sets.now) (key_of given.now) place }
+    ensures { IsTrue result ↔ IsThereAsGiven (sets_lent sets.now) given.now }
 {
     same(set_at(sets, place), given)
 }

@@ -3,7 +3,7 @@
 
 ghost use Rattle.std.specs.Prelude.{◌≡◌, ◌<◌, ◌≤◌, length, set, OnOk, IfOk, IsTrue, ◌↔◌};
 ghost use Rattle.std.specs.List.{insert, remove};
-ghost use Rattle.zone_rules.specs.Lent.{told};
+ghost use Rattle.zone_rules.specs.Lent.{sets_lent};
 ghost use Rattle.set_search.specs.Found.{IsOf};
 
 use dns_name::Name;
@@ -20,7 +20,7 @@ pub struct Lent<'b, 'a> {
 }
 
 impl<'b, 'a> SetList for Lent<'b, 'a> {
-    ghost sets = { λ list. told list.sets.now };
+    ghost sets = { λ list. sets_lent list.sets.now };
 
     fn count(&self) -> usize {
         self.sets.len()
@@ -55,7 +55,7 @@ fn has_both(set: &RecordSet, name: &Name, rtype: RType) -> bool
 
 /// Copies of the sets.
 pub fn copy_all(alloc: Global, sets: &[&RecordSet]) -> Result<Vec<RecordSet>, OutOfMemory>
-    ensures { IfOk result (λ copies. copies.items ≡ told sets.now) }
+    ensures { IfOk result (λ copies. copies.items ≡ sets_lent sets.now) }
 {
     let mut copies = Vec::with_capacity(alloc, sets.len())?;
     for place in 0..sets.len() {
@@ -70,8 +70,9 @@ pub fn insert_at<'a>(
     place: usize,
     given: &'a RecordSet,
 ) -> Result<(), OutOfMemory>
-    requires { place ≤ length (told sets.old.items) }
-    ensures { OnOk result (told sets.new.items ≡ insert (told sets.old.items) place given.now) }
+    requires { place ≤ length (sets_lent sets.old.items) }
+    ensures { OnOk result (
+        sets_lent sets.new.items ≡ insert (sets_lent sets.old.items) place given.now) }
 {
     sets.insert(place, given)?;
     Ok(())
@@ -79,16 +80,16 @@ pub fn insert_at<'a>(
 
 /// Puts a set in the place of another.
 pub fn replace_at<'a>(sets: &mut Vec<&'a RecordSet>, place: usize, given: &'a RecordSet)
-    requires { place < length (told sets.old.items) }
-    ensures { told sets.new.items ≡ set (told sets.old.items) place given.now }
+    requires { place < length (sets_lent sets.old.items) }
+    ensures { sets_lent sets.new.items ≡ set (sets_lent sets.old.items) place given.now }
 {
     sets[place] = given;
 }
 
 /// Takes away the set at the place.
 pub fn take_away<'a>(sets: &mut Vec<&'a RecordSet>, place: usize)
-    requires { place < length (told sets.old.items) }
-    ensures { told sets.new.items ≡ remove (told sets.old.items) place }
+    requires { place < length (sets_lent sets.old.items) }
+    ensures { sets_lent sets.new.items ≡ remove (sets_lent sets.old.items) place }
 {
     sets.remove(place);
 }

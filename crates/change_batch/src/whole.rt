@@ -3,7 +3,7 @@
 ghost use Rattle.std.specs.Prelude.{◌≡◌, IfOk, IfErr, Err};
 ghost use Rattle.batch_limits.specs.Batches.{IsWithinLimits, Leaves, Prepares};
 ghost use Rattle.set_search.specs.Zones.{IsZone};
-ghost use Rattle.zone_rules.specs.Lent.{told};
+ghost use Rattle.zone_rules.specs.Lent.{sets_lent};
 
 use crate::applying::apply;
 use batch_limits::{BatchRefusal, Change};
@@ -23,8 +23,9 @@ pub fn lend_after<'a>(
 ) -> Result<Vec<&'a RecordSet>, BatchRefusal>
     requires zone { IsZone sets.now apex.now }
     requires limits { IsWithinLimits changes.now apex.now }
-    ensures leaves { IfOk result (λ after. Leaves sets.now apex.now changes.now (told after.items)) }
-    ensures zone { IfOk result (λ after. IsZone (told after.items) apex.now) }
+    ensures leaves { IfOk result (λ after.
+        Leaves sets.now apex.now changes.now (sets_lent after.items)) }
+    ensures zone { IfOk result (λ after. IsZone (sets_lent after.items) apex.now) }
     ensures refused { IfErr result (λ why. Prepares sets.now apex.now changes.now (Err why)) }
 {
     let mut after = match lend_all(alloc, sets, changes.len()) {

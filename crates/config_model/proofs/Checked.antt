@@ -72,7 +72,7 @@ none_mapped : (o : Option CheckRefusal) → option_map of_check o ≡ None → o
 none_mapped None e = refl
 none_mapped (Some why) e = absurd (grind (arith, e))
 
-module _ (told : RefusalsAreTold) (config : Config) (sound : Sound config) where
+module _ (sets_lent : RefusalsAreTold) (config : Config) (sound : Sound config) where
   module _ (command : CheckCommand) (bounds : IsBoundedCommand command)
       (keeps : checks.KeepsSound) (rest : checks.KeepsRest)
       (none : refusal_of config.checks command ≡ None)
@@ -135,7 +135,7 @@ module _ (told : RefusalsAreTold) (config : Config) (sound : Sound config) where
         → IsSoundZone config.checks.list config.collections.list zone
         → IsSoundZone now.list config.collections.list zone
     zone_beside zone there own =
-        let o = (told.none config.checks.list config.collections.list zone.sets).0 own.last in
+        let o = (sets_lent.none config.checks.list config.collections.list zone.sets).0 own.last in
         record {
           name = own.name;
           sets = own.sets;
@@ -145,7 +145,7 @@ module _ (told : RefusalsAreTold) (config : Config) (sound : Sound config) where
           allowed = own.allowed;
           spelled = own.spelled;
           rules = own.rules;
-          last = (told.none now.list config.collections.list zone.sets).1 (record {
+          last = (sets_lent.none now.list config.collections.list zone.sets).1 (record {
             checks_there = λ set c among named.
                 check_stays c (not_deleted set zone there among c named)
                 (o.checks_there set c among named);
@@ -205,7 +205,7 @@ module _ (told : RefusalsAreTold) (config : Config) (sound : Sound config) where
         → IsSoundZone config.checks.list config.collections.list zone
         → IsSoundZone config.checks.list stored.list zone
     zone_placed zone there own =
-        let o = (told.none config.checks.list config.collections.list zone.sets).0 own.last in
+        let o = (sets_lent.none config.checks.list config.collections.list zone.sets).0 own.last in
         record {
           name = own.name;
           sets = own.sets;
@@ -215,7 +215,7 @@ module _ (told : RefusalsAreTold) (config : Config) (sound : Sound config) where
           allowed = own.allowed;
           spelled = own.spelled;
           rules = own.rules;
-          last = (told.none config.checks.list stored.list zone.sets).1 (record {
+          last = (sets_lent.none config.checks.list stored.list zone.sets).1 (record {
             checks_there = o.checks_there;
             places_there = λ set ident id location among named.
                 place_stays set zone there among ident id location named

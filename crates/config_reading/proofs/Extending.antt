@@ -165,16 +165,16 @@ module _ (table : Table) (checks : Checks) (next : ℕ) (id : ℕ) (name : List 
 
   -- the table once the zone is opened in it
   pub opened : EditsAreTold → (now : Table) → AreZones table.zones → AreZones now.zones
-      → Sound (with_zone before new) → (told : Delta)
-      → Edits table.zones (Begin id name sets) now.zones told
+      → Sound (with_zone before new) → (sets_lent : Delta)
+      → Edits table.zones (Begin id name sets) now.zones sets_lent
       → now.collections ≡ table.collections → config_of now checks next ≡ with_zone before new
-  opened law now are are_now sound told edits same =
+  opened law now are are_now sound sets_lent edits same =
       ap (λ (zones : List HostedZone). record {
         zones = zones;
         next_zone = next;
         checks = checks;
         collections = now.collections;
-      }) (law.opened table.zones now.zones id name sets told are are_now
+      }) (law.opened table.zones now.zones id name sets sets_lent are are_now
       (λ zone among. (after sound zone among).0) (zone_sound sound).sets.rising edits)
       ∙ ap (λ (stored : Stored). record {
         zones = hosted_in table.zones ++ new ∷ [];
@@ -190,13 +190,13 @@ module _ (table : Table) (checks : Checks) (next : ℕ) (id : ℕ) (name : List 
       → ((n : ℕ) → IsTrue is
       ↔ IsSoundZone checks.list stored.list (record { id = n; apex = name; sets = slice }))
       → IsTrue is ↔ SoundZone new
-  told_zone stored slice one same is told =
+  told_zone stored slice one same is sets_lent =
       subst (λ (s : List RecordSet). IsTrue is
       ↔ IsSoundZone checks.list table.collections.list (record { id = id; apex = name; sets = s }))
       same
       (subst (λ (st : Stored). IsTrue is
       ↔ IsSoundZone checks.list st.list (record { id = id; apex = name; sets = slice })) one
-      (told id))
+      (sets_lent id))
 
   abbrev IsRoomFor : List RecordSet → Type 0
   IsRoomFor slice =
@@ -207,8 +207,8 @@ module _ (table : Table) (checks : Checks) (next : ℕ) (id : ℕ) (name : List 
 
   pub told_room : (slice : List RecordSet) → slice ≡ sets → (has : Bool)
       → IsTrue has ↔ IsRoomFor slice → IsTrue has ↔ IsRoomFor sets
-  told_room slice same has told =
-      subst (λ (s : List RecordSet). IsTrue has ↔ IsRoomFor s) same told
+  told_room slice same has sets_lent =
+      subst (λ (s : List RecordSet). IsTrue has ↔ IsRoomFor s) same sets_lent
 
   module _ (edit : ZoneEdit) (is : edit ≡ Begin id name sets) where
     pub to_sound : OpensSoundly before edit → Sound (with_zone before new)

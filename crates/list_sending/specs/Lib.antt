@@ -9,7 +9,5 @@ pub use Rattle.config_zones.specs.Edited as Laws
 pub use Rattle.config_zones.specs.Tables
 pub use Rattle.reply_sending.specs.Applying
 pub use Rattle.reply_sending.specs.MadeRecord
-pub use Rattle.session_model.specs.Compacting
-pub use Rattle.session_model.specs.CompactedRecord
 pub use Rattle.session_model.specs.ReportedRecord
 pub use Rattle.reply_sending.specs.RefusalRecord

@@ -4,5 +4,5 @@ use Rattle.std.specs.Borrow.{Bor}
 use Rattle.batch_model.specs.RecordSetRecord.{RecordSet}
 
 -- the sets that are lent, in their order
-abbrev pub told : List (Bor RecordSet) → List RecordSet
-told sets = map (λ set. set.now) sets
+abbrev pub sets_lent : List (Bor RecordSet) → List RecordSet
+sets_lent sets = map (λ set. set.now) sets

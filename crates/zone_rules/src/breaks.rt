@@ -2,7 +2,7 @@
 
 ghost use Rattle.batch_model.specs.Zones.{IsRising};
 ghost use Rattle.zone_rules.specs.Breaks.{TellsBreak};
-ghost use Rattle.zone_rules.specs.Lent.{told};
+ghost use Rattle.zone_rules.specs.Lent.{sets_lent};
 
 use crate::cname::first_conflict;
 use crate::findings::look_at_groups;
@@ -13,8 +13,8 @@ use dns_name::Name;
 /// Why the sets can't be those of the zone with this apex: the first rule that is broken, and the
 /// first set that breaks it.
 pub fn first_break(sets: &[&RecordSet], apex: &Name) -> Option<BatchRefusal>
-    requires { IsRising (told sets.now) }
-    ensures { TellsBreak (told sets.now) apex.now result }
+    requires { IsRising (sets_lent sets.now) }
+    ensures { TellsBreak (sets_lent sets.now) apex.now result }
 {
     let findings = look_at_groups(sets);
     if let Some(i) = findings.mixed {

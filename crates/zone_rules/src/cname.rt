@@ -6,7 +6,7 @@ ghost use Rattle.batch_model.specs.Rules.{CnameAlone};
 ghost use Rattle.batch_model.specs.Zones.{IsRising};
 ghost use Rattle.zone_rules.specs.Breaks.{IsFirstName};
 ghost use Rattle.zone_rules.specs.Groups.{IsConflicted, IsOther};
-ghost use Rattle.zone_rules.specs.Lent.{told};
+ghost use Rattle.zone_rules.specs.Lent.{sets_lent};
 
 use crate::lent::set_at;
 use batch_model::RecordSet;
@@ -16,8 +16,8 @@ use rdata_layout::RType;
 /// The name of the first set whose name has a CNAME set beside a set of another type, or a CNAME
 /// set at the apex.
 pub fn first_conflict(sets: &[&RecordSet], apex: &Name) -> Option<Name>
-    requires { IsRising (told sets.now) }
-    ensures { IsFirstName CnameAlone (told sets.now) apex.now result }
+    requires { IsRising (sets_lent sets.now) }
+    ensures { IsFirstName CnameAlone (sets_lent sets.now) apex.now result }
 {
     for i in 0..sets.len() {
         if is_conflicted(sets, apex, i) {
@@ -27,10 +27,11 @@ pub fn first_conflict(sets: &[&RecordSet], apex: &Name) -> Option<Name>
     None
 }
 
-/// Whether the set at the place is a CNAME at the apex, or next to a set of its name and of another type.
+/// Whether the set at the place is a CNAME at the apex, or next to a set of its name and of another
+/// type.
 fn is_conflicted(sets: &[&RecordSet], apex: &Name, i: usize) -> bool
-    requires { i < length (told sets.now) }
-    ensures { IsTrue result ↔ IsConflicted (told sets.now) apex.now i }
+    requires { i < length (sets_lent sets.now) }
+    ensures { IsTrue result ↔ IsConflicted (sets_lent sets.now) apex.now i }
 {
     if !is_cname(set_at(sets, i).rtype) {
         return false;

@@ -4,7 +4,7 @@ ghost use Rattle.std.specs.Prelude.{◌≡◌, []};
 ghost use Rattle.batch_model.specs.Rules.{OnePolicy, OwnPlace, GroupSize};
 ghost use Rattle.batch_model.specs.Zones.{IsRising};
 ghost use Rattle.zone_rules.specs.Breaks.{IsFirstPlace};
-ghost use Rattle.zone_rules.specs.Lent.{told};
+ghost use Rattle.zone_rules.specs.Lent.{sets_lent};
 
 use crate::groups::start_of;
 use crate::marks::mark_next;
@@ -26,10 +26,10 @@ pub struct Findings {
 
 /// Goes through the sets once, with all three rules.
 pub fn look_at_groups(sets: &[&RecordSet]) -> Findings
-    requires { IsRising (told sets.now) }
-    ensures mixed { IsFirstPlace OnePolicy (told sets.now) [] result.mixed }
-    ensures same_place { IsFirstPlace OwnPlace (told sets.now) [] result.same_place }
-    ensures full { IsFirstPlace GroupSize (told sets.now) [] result.full }
+    requires { IsRising (sets_lent sets.now) }
+    ensures mixed { IsFirstPlace OnePolicy (sets_lent sets.now) [] result.mixed }
+    ensures same_place { IsFirstPlace OwnPlace (sets_lent sets.now) [] result.same_place }
+    ensures full { IsFirstPlace GroupSize (sets_lent sets.now) [] result.full }
 {
     let mut mixed = None;
     let mut same_place = None;

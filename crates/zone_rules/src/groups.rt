@@ -4,7 +4,7 @@ ghost use Rattle.std.specs.Prelude.{◌≡◌, ◌<◌, ◌⊎◌, length, IsTru
 ghost use Rattle.batch_model.specs.Zones.{AreOneGroup};
 ghost use Rattle.batch_model.specs.Zones.{IsRising};
 ghost use Rattle.zone_rules.specs.Groups.{IsStart, IsStartBefore};
-ghost use Rattle.zone_rules.specs.Lent.{told};
+ghost use Rattle.zone_rules.specs.Lent.{sets_lent};
 
 use crate::lent::set_at;
 use batch_model::RecordSet;
@@ -26,10 +26,10 @@ fn is_same_type(x: RType, y: RType) -> bool
 
 /// Where the group of the set at place `i` begins, from where that of the set before it does.
 pub fn start_of(sets: &[&RecordSet], start: usize, i: usize) -> usize
-    requires rising { IsRising (told sets.now) }
-    requires within { i < length (told sets.now) }
-    requires before { IsStartBefore (told sets.now) start i }
-    ensures start { IsStart (told sets.now) result i }
+    requires rising { IsRising (sets_lent sets.now) }
+    requires within { i < length (sets_lent sets.now) }
+    requires before { IsStartBefore (sets_lent sets.now) start i }
+    ensures start { IsStart (sets_lent sets.now) result i }
     ensures which { (result ≡ start) ⊎ (result ≡ i) }
 {
     if i > 0 && is_one_group(set_at(sets, i - 1), set_at(sets, i)) {

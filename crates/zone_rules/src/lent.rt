@@ -2,7 +2,7 @@
 //! none is copied.
 
 ghost use Rattle.std.specs.Prelude.{◌≡◌, ◌<◌, length, slice_get, Some, IfOk};
-ghost use Rattle.zone_rules.specs.Lent.{told};
+ghost use Rattle.zone_rules.specs.Lent.{sets_lent};
 
 use batch_model::RecordSet;
 use octets::OutOfMemory;
@@ -10,8 +10,8 @@ use std::alloc::Global;
 
 /// The set at a place.
 pub fn set_at<'a>(sets: &[&'a RecordSet], place: usize) -> &'a RecordSet
-    requires { place < length (told sets.now) }
-    ensures { slice_get (told sets.now) place ≡ Some result.now }
+    requires { place < length (sets_lent sets.now) }
+    ensures { slice_get (sets_lent sets.now) place ≡ Some result.now }
 {
     sets[place]
 }
@@ -22,7 +22,7 @@ pub fn lend_all<'a>(
     sets: &'a [RecordSet],
     more: usize,
 ) -> Result<Vec<&'a RecordSet>, OutOfMemory>
-    ensures { IfOk result (λ lent. told lent.items ≡ sets.now) }
+    ensures { IfOk result (λ lent. sets_lent lent.items ≡ sets.now) }
 {
     let mut lent = Vec::with_capacity(alloc, sets.len().saturating_add(more))?;
     for set in sets {

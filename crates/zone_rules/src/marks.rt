@@ -8,7 +8,7 @@ ghost use Rattle.std.specs.Prelude.{◌≡◌, ℕ, ◌+◌, ◌<◌, Option, le
 ghost use Rattle.routing.specs.declared.policies.Routing.{Routing};
 ghost use Rattle.batch_model.specs.Rules.{AreRivals};
 ghost use Rattle.zone_rules.specs.Marks.{next_hash, text_hash, place_hash, hash_of, IsMarked, AreMarked};
-ghost use Rattle.zone_rules.specs.Lent.{told};
+ghost use Rattle.zone_rules.specs.Lent.{sets_lent};
 
 use crate::lent::set_at;
 use batch_model::{Place, RecordSet, Routing};
@@ -26,11 +26,12 @@ pub fn is_marked(marks: &Marks, policy: &Routing) -> bool
     }
 }
 
-/// Makes the mark of the set at place `i`. Where its group begins, the marks of the group before go.
+/// Makes the mark of the set at place `i`. Where its group begins, the marks of the group before
+/// go.
 pub fn mark_next(marks: &mut Marks, sets: &[&RecordSet], start: usize, i: usize)
-    requires within { i < length (told sets.now) }
-    requires before { AreMarked (told sets.now) marks.old start i }
-    ensures { AreMarked (told sets.now) marks.new start (i + 1) }
+    requires within { i < length (sets_lent sets.now) }
+    requires before { AreMarked (sets_lent sets.now) marks.old start i }
+    ensures { AreMarked (sets_lent sets.now) marks.new start (i + 1) }
 {
     if start == i {
         *marks = [false; 256];
@@ -40,7 +41,8 @@ pub fn mark_next(marks: &mut Marks, sets: &[&RecordSet], start: usize, i: usize)
 
 /// Makes the mark of the policy.
 fn mark(marks: &mut Marks, policy: &Routing)
-    ensures marked { (other : Routing) → AreRivals policy.now other → IsMarked marks.new (hash_of other) }
+    ensures marked { (other : Routing) → AreRivals policy.now other
+        → IsMarked marks.new (hash_of other) }
     ensures kept { (other : Option ℕ) → IsMarked marks.old other → IsMarked marks.new other }
 {
     if let Some(mark) = hash_of(policy) {

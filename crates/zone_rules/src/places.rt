@@ -4,7 +4,7 @@ ghost use Rattle.std.specs.Prelude.{◌≡◌, ◌<◌, ◌≤◌, [], length, I
 ghost use Rattle.batch_model.specs.Rules.{OwnPlace, BreaksAt, AreRivals};
 ghost use Rattle.zone_rules.specs.Groups.{IsStart};
 ghost use Rattle.zone_rules.specs.Marks.{AreMarked};
-ghost use Rattle.zone_rules.specs.Lent.{told};
+ghost use Rattle.zone_rules.specs.Lent.{sets_lent};
 
 use crate::lent::set_at;
 use crate::marks::{Marks, is_marked};
@@ -13,10 +13,10 @@ use batch_model::{RecordSet, Role, Routing};
 /// Whether the set at place `i` has the place, failover role, region or location of an earlier set
 /// of its group, which begins at `start`.
 pub fn has_same_place(sets: &[&RecordSet], marks: &Marks, start: usize, i: usize) -> bool
-    requires within { i < length (told sets.now) }
-    requires start { IsStart (told sets.now) start i }
-    requires marks { AreMarked (told sets.now) marks.now start i }
-    ensures { IsTrue result ↔ BreaksAt OwnPlace (told sets.now) [] i }
+    requires within { i < length (sets_lent sets.now) }
+    requires start { IsStart (sets_lent sets.now) start i }
+    requires marks { AreMarked (sets_lent sets.now) marks.now start i }
+    ensures { IsTrue result ↔ BreaksAt OwnPlace (sets_lent sets.now) [] i }
 {
     if !is_marked(marks, &set_at(sets, i).routing) {
         return false;
@@ -26,9 +26,9 @@ pub fn has_same_place(sets: &[&RecordSet], marks: &Marks, start: usize, i: usize
 
 /// The same by comparing it with each set of its group before it.
 fn is_place_taken(sets: &[&RecordSet], start: usize, i: usize) -> bool
-    requires within { i < length (told sets.now) }
-    requires start { IsStart (told sets.now) start i }
-    ensures { IsTrue result ↔ BreaksAt OwnPlace (told sets.now) [] i }
+    requires within { i < length (sets_lent sets.now) }
+    requires start { IsStart (sets_lent sets.now) start i }
+    ensures { IsTrue result ↔ BreaksAt OwnPlace (sets_lent sets.now) [] i }
 {
     let own = &set_at(sets, i).routing;
     for k in start..i {

@@ -4,7 +4,7 @@ ghost use Rattle.std.specs.Prelude.{◌≡◌, ◌<◌, [], length, IsTrue, ◌�
 ghost use Rattle.batch_model.specs.Rules.{OnePolicy, BreaksAt, policy_of};
 ghost use Rattle.batch_model.specs.Zones.{IsRising};
 ghost use Rattle.zone_rules.specs.Groups.{IsStart};
-ghost use Rattle.zone_rules.specs.Lent.{told};
+ghost use Rattle.zone_rules.specs.Lent.{sets_lent};
 
 use crate::lent::set_at;
 use batch_model::{RecordSet, Routing};
@@ -12,10 +12,10 @@ use batch_model::{RecordSet, Routing};
 /// Whether the set at place `i` has another policy than the set before it in its group, which
 /// begins at `start`.
 pub fn is_mixed(sets: &[&RecordSet], start: usize, i: usize) -> bool
-    requires rising { IsRising (told sets.now) }
-    requires within { i < length (told sets.now) }
-    requires start { IsStart (told sets.now) start i }
-    ensures { IsTrue result ↔ BreaksAt OnePolicy (told sets.now) [] i }
+    requires rising { IsRising (sets_lent sets.now) }
+    requires within { i < length (sets_lent sets.now) }
+    requires start { IsStart (sets_lent sets.now) start i }
+    ensures { IsTrue result ↔ BreaksAt OnePolicy (sets_lent sets.now) [] i }
 {
     if start == i {
         return false;

@@ -1,7 +1,7 @@
 //! The sets of a zone together: the rules for groups and names, and where aliases lead.
 
 ghost use Rattle.std.specs.Prelude.{◌↔◌, IfOk, IsTrue};
-ghost use Rattle.zone_rules.specs.Lent.{told};
+ghost use Rattle.zone_rules.specs.Lent.{sets_lent};
 ghost use Rattle.zone_rules.specs.Rules.{MeetsAll, rules};
 ghost use Rattle.config_model.specs.Told.{NoSet};
 ghost use Rattle.config_model.specs.Walks.{HasNoTarget, IsTooDeep};
@@ -40,8 +40,8 @@ fn meet_rules(alloc: Global, sets: &[RecordSet], apex: &Name) -> Result<bool, Ou
 
 /// The same of sets that are lent.
 fn meet_all(sets: &[&RecordSet], apex: &Name) -> bool
-    requires { IsRising (told sets.now) }
-    ensures { IsTrue result ↔ MeetsAll rules (told sets.now) apex.now }
+    requires { IsRising (sets_lent sets.now) }
+    ensures { IsTrue result ↔ MeetsAll rules (sets_lent sets.now) apex.now }
 {
     match first_break(sets, apex) {
         Some(_) => false,

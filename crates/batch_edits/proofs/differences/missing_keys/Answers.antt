@@ -1,11 +1,11 @@
-use Rattle.change_batch.specs.Told.{told}
+use Rattle.change_batch.specs.LentSets.{sets_lent}
 use Rattle.batch_edits.proofs.Missing.{step_keys}
 use Rattle.batch_edits.proofs.differences.missing_keys.Goals as goal
 
 pub loop-i-preserved : goal.loop-i-preserved
 loop-i-preserved c =
-    let sets = told c.args.sets.now in
-    let others = told c.args.others.now in
+    let sets = sets_lent c.args.sets.now in
+    let others = sets_lent c.args.others.now in
     record {
       within = c.in_ok-place.ensures.within;
       found = step_keys sets others c.requires.sets c.requires.others c.loop-i.i c.loop-i.place

@@ -6,7 +6,7 @@ use Rattle.record_set.specs.declared.sets.RecordSet.{RecordSet}
 use Rattle.batch_names.specs.AllZones.{placed_in}
 use Rattle.config_model.specs.Slotted.{sets_of}
 use Rattle.config_model.specs.Differences.{IsDifference}
-use Rattle.change_batch.specs.Told.{told}
+use Rattle.change_batch.specs.LentSets.{sets_lent}
 use Rattle.batch_edits.proofs.Whole.{edited_whole, few_of_zone, refused_whole}
 use Rattle.batch_edits.proofs.editing.edit_of.Goals as goal
 
@@ -52,11 +52,11 @@ returns-in-Ok-difference c =
     edited_whole c.names_decide.ensures c.one_apex.ensures c.sets_of_one.ensures
     c.args.zones.now.zones c.args.batch.now.zone c.in-Some.apex c.args.batch.now.changes
     c.as_slice.result.now c.well_formed-2.ensures c.in-Some.ensures few c.requires.rules
-    c.requires.bounded (told c.in-Ok-prepare_lent.sets.items) c.in-Ok-difference.edit
+    c.requires.bounded (sets_lent c.in-Ok-prepare_lent.sets.items) c.in-Ok-difference.edit
     c.in-Ok-prepare_lent.ensures.answer c.in-Ok-prepare_lent.ensures.zone
-    (subst (λ (a : List (Bor RecordSet)). IsDifference c.as_slice.result.now (told a)
+    (subst (λ (a : List (Bor RecordSet)). IsDifference c.as_slice.result.now (sets_lent a)
     c.in-Ok-difference.edit.remove c.in-Ok-difference.edit.add) c.as_slice-3.ensures.value
-    (subst (λ (s : List RecordSet). IsDifference s (told c.as_slice-3.result.now)
+    (subst (λ (s : List RecordSet). IsDifference s (sets_lent c.as_slice-3.result.now)
     c.in-Ok-difference.edit.remove c.in-Ok-difference.edit.add)
     (c.as_slice-2.ensures.value ∙ sym c.as_slice.ensures.value)
     c.in-Ok-difference.ensures))

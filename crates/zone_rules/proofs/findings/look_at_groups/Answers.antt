@@ -4,7 +4,7 @@ use Rattle.zone_rules.proofs.Firsts.{first_here, none_here, first_stays, first_o
 use Rattle.zone_rules.proofs.Lending.{as_many, inside, past}
 use Rattle.zone_rules.proofs.Marking.{marked_on}
 use Rattle.zone_rules.proofs.Runs.{start_next}
-use Rattle.zone_rules.specs.Lent.{told}
+use Rattle.zone_rules.specs.Lent.{sets_lent}
 use Rattle.zone_rules.proofs.findings.look_at_groups.Goals as goal
 use Rattle.zone_rules.proofs.findings.look_at_groups.Goals.{then-is_none+then-is_mixed, else-is_none, else-is_none-via-then-is_none+else-is_mixed, else-is_none-via-else-is_none}
 use Rattle.zone_rules.proofs.findings.look_at_groups.Goals.{then-is_none-2+then-has_same_place, else-is_none-2, else-is_none-2-via-then-is_none-2+else-has_same_place, else-is_none-2-via-else-is_none-2}
@@ -12,7 +12,7 @@ use Rattle.zone_rules.proofs.findings.look_at_groups.Goals.{then-is_none-3+then-
 
 pub loop-i-preserved : goal.loop-i-preserved
 loop-i-preserved c =
-    let sets = told c.args.sets.now in
+    let sets = sets_lent c.args.sets.now in
     let i = c.loop-i.i in
     let start = c.start_of-start.result in
     let before = c.loop-i.invariant in
@@ -78,27 +78,27 @@ loop-i-preserved c =
 
 pub has_same_place-requires-clause-marks : goal.has_same_place-requires-clause-marks
 has_same_place-requires-clause-marks c =
-    marked_on (told c.args.sets.now) c.loop-i.marks c.loop-i.start c.start_of-start.result c.loop-i.i
+    marked_on (sets_lent c.args.sets.now) c.loop-i.marks c.loop-i.start c.start_of-start.result c.loop-i.i
     c.start_of-start.ensures.which c.loop-i.invariant.marks
 
 pub mark_next-requires-clause-before : goal.mark_next-requires-clause-before
 mark_next-requires-clause-before c =
-    marked_on (told c.args.sets.now) c.loop-i.marks c.loop-i.start c.start_of-start.result c.loop-i.i
+    marked_on (sets_lent c.args.sets.now) c.loop-i.marks c.loop-i.start c.start_of-start.result c.loop-i.i
     c.start_of-start.ensures.which c.loop-i.invariant.marks
 
 pub returns-clause-mixed : goal.returns-clause-mixed
 returns-clause-mixed c =
-    first_of_all OnePolicy (told c.args.sets.now) c.loop-i.i _ (let auto = c.loop-i.auto.i-end in
+    first_of_all OnePolicy (sets_lent c.args.sets.now) c.loop-i.i _ (let auto = c.loop-i.auto.i-end in
     let same = as_many c.args.sets.now in
     omega (arith, auto, same)) (past c.args.sets.now c.loop-i.i c.loop-i-test.false) c.loop-i.invariant.mixed
 
 pub returns-clause-same_place : goal.returns-clause-same_place
 returns-clause-same_place c =
-    first_of_all OwnPlace (told c.args.sets.now) c.loop-i.i _ (let auto = c.loop-i.auto.i-end in
+    first_of_all OwnPlace (sets_lent c.args.sets.now) c.loop-i.i _ (let auto = c.loop-i.auto.i-end in
     let same = as_many c.args.sets.now in
     omega (arith, auto, same)) (past c.args.sets.now c.loop-i.i c.loop-i-test.false) c.loop-i.invariant.same_place
 
 pub returns-clause-full : goal.returns-clause-full
 returns-clause-full c =
-    full_of_all (told c.args.sets.now) c.loop-i.i c.loop-i.full c.requires (past c.args.sets.now c.loop-i.i c.loop-i-test.false)
+    full_of_all (sets_lent c.args.sets.now) c.loop-i.i c.loop-i.full c.requires (past c.args.sets.now c.loop-i.i c.loop-i-test.false)
     c.loop-i.invariant.full

@@ -1,11 +1,11 @@
 use Rattle.std.proofs.Common.{arith}
 use Rattle.zone_rules.proofs.Marking.{unmarked}
-use Rattle.zone_rules.specs.Lent.{told}
+use Rattle.zone_rules.specs.Lent.{sets_lent}
 use Rattle.zone_rules.proofs.places.has_same_place.Goals as goal
 
 pub returns-then-not-is_marked : goal.returns-then-not-is_marked
 returns-then-not-is_marked c =
-    let sets = told c.args.sets.now in
+    let sets = sets_lent c.args.sets.now in
     let i = c.args.i in
     let no_mark = c.if-not-is_marked.true in (
       (λ t. absurd (grind (arith, t))),

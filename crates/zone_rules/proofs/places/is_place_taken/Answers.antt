@@ -3,13 +3,13 @@ use Rattle.std.specs.Prelude.{slice_get}
 use Rattle.batch_model.specs.RecordSetRecord.{RecordSet}
 use Rattle.batch_model.specs.Rules.{AreRivals}
 use Rattle.zone_rules.proofs.Runs.{at_one, moved, up_to}
-use Rattle.zone_rules.specs.Lent.{told}
+use Rattle.zone_rules.specs.Lent.{sets_lent}
 use Rattle.zone_rules.proofs.places.is_place_taken.Goals as goal
 
 pub returns-then-is_one_place : goal.returns-then-is_one_place
 returns-then-is_one_place c =
     let within = c.requires.within in
-    let sets = told c.args.sets.now in
+    let sets = sets_lent c.args.sets.now in
     let k = c.loop-k.k in
     let below = c.loop-k-test.true in
     let x = c.set_at-in-loop-k.result.now in
@@ -41,7 +41,7 @@ pub loop-k-preserved : goal.loop-k-preserved
 loop-k-preserved c j x y from lt at_j at_i place =
     let below = c.loop-k-test.true in
     let within = c.requires.within in
-    let sets = told c.args.sets.now in
+    let sets = sets_lent c.args.sets.now in
     let k = c.loop-k.k in
     let v = c.set_at-in-loop-k.result.now in
     let w = c.set_at.result.now in

@@ -2,7 +2,7 @@ use Rattle.std.proofs.Common.{◌-◌, Bool, true, false, not, refl, arith, subs
 use Rattle.std.specs.Prelude.{◌↔◌, IsTrue}
 use Rattle.zone_rules.specs.Groups.{IsStart}
 use Rattle.zone_rules.proofs.Runs.{mixed_within, first_alone}
-use Rattle.zone_rules.specs.Lent.{told}
+use Rattle.zone_rules.specs.Lent.{sets_lent}
 use Rattle.zone_rules.proofs.policies.is_mixed.Goals as goal
 
 -- what holds where a test fails
@@ -13,14 +13,14 @@ negated P Q false t q = ((λ e. q.0 (λ p. let yes = t.1 p in grind (arith, yes)
 
 pub returns-then-start-i : goal.returns-then-start-i
 returns-then-start-i c =
-    let s = subst (λ n. IsStart (told c.args.sets.now) n c.args.i) c.if-start-i.true c.requires.start in (
+    let s = subst (λ n. IsStart (sets_lent c.args.sets.now) n c.args.i) c.if-start-i.true c.requires.start in (
       (λ t. absurd (grind (arith, t))),
-      λ breaks. absurd (first_alone (told c.args.sets.now) c.args.i s breaks),
+      λ breaks. absurd (first_alone (sets_lent c.args.sets.now) c.args.i s breaks),
     )
 
 pub returns : goal.returns
 returns c =
-    let sets = told c.args.sets.now in
+    let sets = sets_lent c.args.sets.now in
     let i = c.args.i in
     let le = c.requires.start.within in
     let apart = c.if-start-i.false in
