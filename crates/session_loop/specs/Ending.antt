@@ -180,17 +180,18 @@ Ends ended.LinkFault images a b around input start held before left network rand
 
 -- ---- the files alone
 
--- Commands were accepted, one after another.
+-- Commands that break no rule were made, one after another.
 abbrev pub AppliesSome : (before after : Config) → Type 0
 AppliesSome before after = (commands : List Command) × AppliesAll before commands after
 
--- Accepted commands lead from a configuration to the one to which each pair of images opens.
+-- Commands that break no rule lead from a configuration to the one to which each pair of images opens.
 abbrev pub FilesOpenBehind : {D : Type 0} → (images : D → List ℕ → Type 0) → (a b : D) → Config → Type 0
 FilesOpenBehind images a b config =
     (now : Config) × AppliesSome config now × FilesOpen images a b now
 
--- What the files open to by how the lines ended, whatever else tells what it has: what accepted commands
--- made of the configuration; where a disk failed, that or the same with one accepted command more.
+-- What the files open to by how the lines ended, whatever else tells what it has: what commands that
+-- break no rule made of the configuration; where a disk failed, that or the same with one such command
+-- more. Which commands, and that they fit the journal, is told where all tells what it has.
 abbrev pub FilesKept : {D : Type 0} → Ended → (images : D → List ℕ → Type 0) → (a b : D) → Config → Type 0
 FilesKept ended.Done images a b config = FilesOpenBehind images a b config
 FilesKept ended.ReadFault images a b config = FilesOpenBehind images a b config

@@ -154,8 +154,8 @@ FilesSay ran.OpeningFault x y = ⊤
 FilesSay ran.OutOfMemory x y = ⊤
 FilesSay (ran.Ended how) x y = (config : Config) × OpensConfig x y config
 
--- What the files open to where lines ended, whatever else tells what it has: what accepted commands made
--- of the configuration to which the two files opened.
+-- What the files open to where lines ended, whatever else tells what it has: what commands that break no
+-- rule made of the configuration to which the two files opened.
 abbrev pub SessionKeeps : {D : Type 0} → Ran → (images : D → List ℕ → Type 0) → (a b : D)
     → (x y : List ℕ) → Type 0
 SessionKeeps (ran.BadTables number) images a b x y = ⊤

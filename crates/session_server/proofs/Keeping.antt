@@ -1,4 +1,4 @@
--- At most one command is accepted by a line.
+-- At most one command changes the configuration by a line.
 use Rattle.std.proofs.Common.{◌≡◌, ◌⊎◌, inl, inr, ℕ, Bool, List, Result, Ok, ap, subst, sym}
 use Rattle.line_bounds.specs.CommandRecord.{Command}
 use Rattle.line_bounds.specs.Configs.{Config}

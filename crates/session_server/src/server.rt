@@ -114,8 +114,9 @@ impl Server {
             → UnlessHalted result (BothRead D.reading a.new b.new (Holds self.new.store.kept)) }
         ensures kept { result ≡ Taken.LinkFault → self.new.store.kept ≡ self.old.store.kept }
 
-        // Whatever the output and the network tell: of the configuration one command was accepted or none, and
-        // where a disk failed each pair of images opens to the one before it or to the one after.
+        // Whatever the output and the network tell: one command that breaks no rule changed the
+        // configuration, or none, and where a disk failed each pair of images opens to the one before it
+        // or to the one after.
         ensures made { MakesOneMore self.old.store self.new.store }
         ensures torn { result ≡ Taken.DiskFault → (engine : Engine)
             → StoreStandsFor engine self.old.store
