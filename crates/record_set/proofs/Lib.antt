@@ -3,3 +3,4 @@ pub mod Times
 pub use Rattle.rdata.proofs.Beside
 pub use Rattle.rdata.proofs.Depth
 pub use Rattle.rdata.proofs.Labels
+pub mod Vectors
