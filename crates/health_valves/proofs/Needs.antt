@@ -1,5 +1,5 @@
 -- A valve needs another number of those that feed it.
-use Rattle.std.proofs.Common.{◌≡◌, ◌≢◌, ◌+◌, ℕ, zero, suc, Bool, List, [], ◌∷◌, set, length-set, arith, refl, ap, sym, ◌∙◌, inl, inr, Some}
+use Rattle.std.proofs.Common.{◌≡◌, ◌≢◌, ◌<◌, ◌+◌, ℕ, zero, suc, Bool, List, [], ◌∷◌, length, set, length-set, arith, refl, ap, sym, ◌∙◌, inl, inr, Some}
 use Rattle.std.specs.Prelude.{nat_le, slice_get}
 use Rattle.std.specs.List.{Contains}
 use Rattle.std.proofs.lemmas.Bool.{cases_eq, eq-eqb, ne_eqb}
@@ -18,13 +18,18 @@ set_at [] k x y e = let no : ⊥ = cc in absurd no
 set_at (z ∷ xs) zero x y e = sym (some_same e)
 set_at (z ∷ xs) (suc k) x y e = set_at xs k x y e
 
-set_beside : {X : Type 0} (xs : List X) (k n : ℕ) (x : X) → n ≢ k
+pub set_beside : {X : Type 0} (xs : List X) (k n : ℕ) (x : X) → n ≢ k
     → slice_get (set xs k x) n ≡ slice_get xs n
 set_beside [] k n x apart = refl
 set_beside (z ∷ xs) zero zero x apart = absurd (apart refl)
 set_beside (z ∷ xs) zero (suc n) x apart = refl
 set_beside (z ∷ xs) (suc k) zero x apart = refl
 set_beside (z ∷ xs) (suc k) (suc n) x apart = set_beside xs k n x (λ e. apart (ap suc e))
+
+pub set_here : {X : Type 0} (xs : List X) (k : ℕ) (x : X) → k < length xs → slice_get (set xs k x) k ≡ Some x
+set_here [] k x within = absurd (omega arith)
+set_here (z ∷ xs) zero x within = refl
+set_here (z ∷ xs) (suc k) x within = set_here xs k x (omega arith)
 
 -- another row whose run is the same
 fed_same : (edges : List ℕ) (rows : List ValveFeeds) (k : ℕ) (row now : ValveFeeds) → slice_get rows k ≡ Some row

@@ -2,5 +2,6 @@ pub mod Valves
 pub mod Laying
 pub mod Listed
 pub mod Pass
+pub mod Behind
 pub mod Blueprint
 pub mod Walk

@@ -2,16 +2,17 @@
 //! turn.
 
 ghost use Rattle.std.specs.Prelude.{◌≡◌, ◌≢◌, ◌≤◌, ◌<◌, ◌+◌, ◌^◌, ◌↔◌, ◌∷◌, [], All, IsTrue};
-ghost use Rattle.std.specs.Prelude.{List, false, if◌then◌else◌, length, slice_index, true, ℕ};
+ghost use Rattle.std.specs.Prelude.{List, false, if◌then◌else◌, length, slice_get, slice_index, true, ℕ};
 ghost use Rattle.std.specs.Prelude.{IsOk, OnOk};
 ghost use Rattle.std.specs.List.Sorted.{IsNonDecreasingBy, IsPermutation};
 ghost use Rattle.health_valves.specs.Laying.{HasRoomFor};
 ghost use Rattle.health_valves.specs.Blueprint.{IsDrawn, Drawn, net_in, no_blueprint, own_in};
+ghost use Rattle.health_valves.specs.Behind.{PutsBehind};
 ghost use Rattle.health_valves.specs.Walk.{PathsEnd};
 ghost use Rattle.health_valves.specs.declared.blueprint.Feeding.{Feeding};
 ghost use Rattle.health_valves.specs.Valves.{Feeds, ValvesStandFor, IsReady, MeetsEquation, Net, count};
 ghost use Rattle.health_valves.specs.Valves.{equation};
-ghost use Rattle.health_valves.specs.Valves.{size_of, value_in, value_of, with_need, with_own};
+ghost use Rattle.health_valves.specs.Valves.{beside, exchanged, size_of, value_in, value_of, with_need, with_own};
 ghost use Rattle.health_valves.specs.Pass.{CostsCone, HasCone, HasMarked, IsIdle, IsInOrder, MeetAll};
 ghost use Rattle.health_valves.specs.Pass.{MeetBehind, MeetOutside, FlipsOnly, waiting};
 
@@ -393,6 +394,83 @@ impl Valves {
         };
     }
 
+    /// Takes what is counted from outside at a valve that nothing feeds, and works out what stands above it
+    /// where its value changes.
+    pub fn set_count(&mut self, valve: u32, count: u32)
+        requires ready { IsReady self.old }
+        requires idle { IsIdle self.old }
+        requires valve { valve < size_of self.old }
+        requires alone { (net : Net) (own : ℕ → ℕ) → ValvesStandFor net own self.old
+            → (net.condition valve).feeders ≡ [] }
+        ensures fits { (net : Net) (own : ℕ → ℕ) → ValvesStandFor net own self.old
+            → ValvesStandFor net (with_own valve count own) self.new }
+        ensures idle { IsIdle self.new }
+        ensures meet { (net : Net) (own : ℕ → ℕ) → ValvesStandFor net own self.old → MeetAll net own self.old
+            → MeetAll net (with_own valve count own) self.new }
+    {
+        self.set_uncounted::<Brand>(valve, count, Blank::new(1));
+    }
+
+    /// The same, with a count of evaluations of its own that nobody sees.
+    fn set_uncounted<L: Ledger>(&mut self, valve: u32, count: u32, blank: Blank)
+        requires name { blank.name ≡ L.name }
+        requires parts { blank.parts ≡ L.parts }
+        requires some { 0 < blank.parts }
+        requires ready { IsReady self.old }
+        requires idle { IsIdle self.old }
+        requires valve { valve < size_of self.old }
+        requires alone { (net : Net) (own : ℕ → ℕ) → ValvesStandFor net own self.old
+            → (net.condition valve).feeders ≡ [] }
+        ensures fits { (net : Net) (own : ℕ → ℕ) → ValvesStandFor net own self.old
+            → ValvesStandFor net (with_own valve count own) self.new }
+        ensures idle { IsIdle self.new }
+        ensures meet { (net : Net) (own : ℕ → ℕ) → ValvesStandFor net own self.old → MeetAll net own self.old
+            → MeetAll net (with_own valve count own) self.new }
+    {
+        let mut steps = Steps::<L>::new(blank);
+        self.take_count(valve, count, &mut steps);
+    }
+
+    /// One of the first valves, which nothing feeds, gets the last number among these, and those behind it
+    /// move up. It takes no memory.
+    pub fn put_behind(&mut self, from: u32, many: u32)
+        requires ready { IsReady self.old }
+        requires idle { IsIdle self.old }
+        requires early { from < many }
+        requires many { many ≤ size_of self.old }
+        requires alone { (valve : ℕ) → valve < many → (net : Net) (own : ℕ → ℕ)
+            → ValvesStandFor net own self.old → (net.condition valve).feeders ≡ [] }
+        ensures puts { (net : Net) (own : ℕ → ℕ) → ValvesStandFor net own self.old
+            → PutsBehind from many net own self.old self.new }
+        ensures idle { IsIdle self.new }
+    {
+        for valve in from..many - 1 {
+            self.exchange(valve);
+        }
+    }
+
+    /// Two valves side by side, which nothing feeds, each get the number of the other. It takes no memory.
+    pub fn exchange(&mut self, valve: u32)
+        requires ready { IsReady self.old }
+        requires idle { IsIdle self.old }
+        requires valve { valve + 1 < size_of self.old }
+        requires alone { (net : Net) (own : ℕ → ℕ) → ValvesStandFor net own self.old
+            → (net.condition valve).feeders ≡ [] }
+        requires next_alone { (net : Net) (own : ℕ → ℕ) → ValvesStandFor net own self.old
+            → (net.condition (valve + 1)).feeders ≡ [] }
+        ensures fits { (net : Net) (own : ℕ → ℕ) → ValvesStandFor net own self.old
+            → ValvesStandFor (exchanged valve net) (λ n. own (beside valve n)) self.new }
+        ensures idle { IsIdle self.new }
+        ensures meet { (net : Net) (own : ℕ → ℕ) → ValvesStandFor net own self.old
+            → MeetAll net own self.old
+            → MeetAll (exchanged valve net) (λ n. own (beside valve n)) self.new }
+    {
+        let first = valve as usize;
+        exchange_at(&mut self.rows, first);
+        exchange_at(&mut self.values, first);
+        exchange_at(&mut self.counts, first);
+    }
+
     /// Works out the cone of a valve, with a count of its own that nobody sees.
     fn settle_above<L: Ledger>(&mut self, valve: u32, blank: Blank)
         requires name { blank.name ≡ L.name }
@@ -409,6 +487,14 @@ impl Valves {
         let mut steps = Steps::<L>::new(blank);
         self.settle(&[valve], &mut steps);
     }
+}
+
+/// Two elements side by side change places.
+fn exchange_at<T: Copy>(list: &mut [T], first: usize)
+    requires { first + 1 < length list.old }
+    ensures { (n : ℕ) → slice_get list.new n ≡ slice_get list.old (beside first n) }
+{
+    list.swap(first, first + 1);
 }
 
 /// Whether a valve is open.
