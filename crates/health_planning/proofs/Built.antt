@@ -1,5 +1,5 @@
 -- A blueprint, step by step.
-use Rattle.std.proofs.Common.{◌≡◌, ◌<◌, ◌≤◌, ◌+◌, ◌-◌, ◌^◌, ◌⊎◌, ℕ, suc, true, List, [], length, arith, refl, ap, sym, ◌∙◌, inl, inr, Some, None, Option}
+use Rattle.std.proofs.Common.{◌≡◌, ◌<◌, ◌≤◌, ◌+◌, ◌-◌, ◌^◌, ◌⊎◌, ◌++◌, ◌∷◌, ℕ, zero, suc, true, List, [], length, arith, refl, ap, sym, ◌∙◌, inl, inr, Some, None, Option}
 use Rattle.std.specs.Prelude.{slice_get}
 use Rattle.std.proofs.lemmas.Bool.{cases_lt}
 use Rattle.std.proofs.lemmas.List.Elements.{All-from_recursion}
@@ -24,7 +24,7 @@ use Rattle.zone_model.specs.Slotted.{sets_of}
 use Rattle.zone_model.specs.Walks.{HasNoTarget}
 use Rattle.zone_model.specs.Zones.{IsAmong}
 use Rattle.policy_select.specs.Looking.{RefersTo}
-use Rattle.health_planning.specs.Building.{AreBelow, AreFree, AreGrouped, HaveOwnValves, AreTriggered, AreThere, AreWithin, FeedsSet, HasTarget, IsBuilt, IsSmallAt, SameSets, check_links, check_trigger, check_triggers, group_trigger, set_trigger}
+use Rattle.health_planning.specs.Building.{AreBelow, AreFree, AreGrouped, HaveOwnValves, AreTriggered, AreThere, AreWithin, FeedsSet, HasTarget, IsBuilt, IsSmallAt, SameSets, check_links, check_trigger, check_triggers, group_trigger, set_trigger, spare_trigger}
 use Rattle.health_planning.specs.Wired.{group_seat, ids_of, place_of, plain_among, watched_of}
 use Rattle.health_planning.specs.declared.seats.Seat.{Seat}
 use Rattle.health_planning.proofs.Feeding.{check_within, children_fed}
@@ -33,6 +33,17 @@ use Rattle.health_planning.proofs.Places.{id_there, of_all}
 use Rattle.health_planning.proofs.Places.{found}
 use Rattle.health_planning.proofs.Watching.{zone_sets}
 use Rattle.health_planning.proofs.Wiring.{ids_long}
+
+-- one element more behind others
+pub still_there : {X : Type 0} (xs : List X) (x found : X) (n : ℕ) → slice_get xs n ≡ Some found
+    → slice_get (xs ++ x ∷ []) n ≡ Some found
+still_there [] x found n e = let no : ⊥ = cc in absurd no
+still_there (y ∷ xs) x found zero e = e
+still_there (y ∷ xs) x found (suc n) e = still_there xs x found n e
+
+pub last_there : {X : Type 0} (xs : List X) (x : X) → slice_get (xs ++ x ∷ []) (length xs) ≡ Some x
+last_there [] x = refl
+last_there (y ∷ xs) x = last_there xs x
 
 -- ---- what sound configurations give
 
@@ -114,7 +125,10 @@ module _ (zones : List Zone) (list : List (ℕ × Check)) (refs : List SetRef)
     (there : (place id : ℕ) (check : Check) → slice_get list place ≡ Some (id, check)
     → AreThere (ids_of list) (children_of check))
     (are_links : links ≡ check_links (ids_of list) 0 list)
-    (listed : HaveOwnValves zones (length list) refs seats triggers)
+    (few : length list ≤ 200)
+    (spared : (place : ℕ) → length list ≤ place → place < 200
+    → slice_get triggers place ≡ Some spare_trigger)
+    (listed : HaveOwnValves zones 200 refs seats triggers)
     (grouped : AreGrouped zones (length triggers) seats_now triggers_now before)
     (targets : (k : ℕ) (set : SetRef) (named : RecordSet) (name : List (List ℕ))
     → slice_get refs k ≡ Some set → RefersTo zones set named → named.body ≡ Alias name true
@@ -126,26 +140,35 @@ module _ (zones : List Zone) (list : List (ℕ × Check)) (refs : List SetRef)
     (more : length triggers ≤ length triggers_now)
     (within : AreWithin before (length triggers_now))
     (joined : (k : ℕ) (set : SetRef) (named : RecordSet) → slice_get refs k ≡ Some set
-    → RefersTo zones set named → feeders_in before (length (ids_of list) + k) ≡ []
+    → RefersTo zones set named → feeders_in before (200 + k) ≡ []
     → FeedsSet zones (ids_of list) seats_now set.zone named
-    (feeders_in now (length (ids_of list) + k)))
+    (feeders_in now (200 + k)))
     (others : (valve : ℕ)
-    → (valve < length (ids_of list)) ⊎ (length (ids_of list) + length refs ≤ valve)
+    → (valve < 200) ⊎ (200 + length refs ≤ valve)
     → feeders_in now valve ≡ feeders_in before valve)
-    (still : (n : ℕ) → length (ids_of list) + length refs ≤ n
+    (still : (n : ℕ) → 200 + length refs ≤ n
     → ((slot valve : ℕ) → group_seat seats_now slot ≡ suc valve → valve < n)
     → AreWithin before n → AreWithin now n) where
   long : length (ids_of list) ≡ length list
   long = ids_long list
 
   -- nothing feeds a set before it is joined
-  none_yet : (k : ℕ) → k < length refs → feeders_in before (length (ids_of list) + k) ≡ []
+  none_yet : (k : ℕ) → k < length refs → feeders_in before (200 + k) ≡ []
   none_yet k early =
       let l = long in
       let size = listed.size in
-      feeders (length (ids_of list) + k) (omega arith)
-      ∙ none_feeds links (length list) (length (ids_of list) + k)
+      feeders (200 + k) (omega arith)
+      ∙ none_feeds links (length list) (200 + k)
       (rw are_links (check_within (ids_of list) 0 (length list) list (omega arith) (omega arith) there)) (omega arith)
+
+  -- nor a spare valve
+  spare_unfed : (place : ℕ) → length list ≤ place → place < 200 → feeders_in now place ≡ []
+  spare_unfed place past early =
+      let l = long in
+      let size = listed.size in
+      others place (inl early) ∙ feeders place (omega arith)
+      ∙ none_feeds links (length list) place
+      (rw are_links (check_within (ids_of list) 0 (length list) list (omega arith) (omega arith) there)) past
 
   pub is_built : IsBuilt zones list refs seats_now triggers_now now
   is_built = record {
@@ -158,6 +181,8 @@ module _ (zones : List Zone) (list : List (ℕ × Check)) (refs : List SetRef)
         ∙ ap (λ (x : List Feeding). feeders_in x place) are_links
         ∙ ap (feeders_in (check_links (ids_of list) 0 list)) same_place
         ∙ children_fed (ids_of list) 0 place id list check at;
+    spares = λ place past early. kept place spare_trigger (spared place past early);
+    unfed = spare_unfed;
     sets = λ k ref at.
         let g = listed.valves k ref at in
         record {
@@ -166,13 +191,12 @@ module _ (zones : List Zone) (list : List (ℕ × Check)) (refs : List SetRef)
           watched = g.watched;
           seat = same.valves ref.slot ∙ g.seat;
           told = same.checks ref.slot ∙ g.told;
-          trigger = kept (length list + k) (set_trigger g.named) g.trigger;
+          trigger = kept (200 + k) (set_trigger g.named) g.trigger;
         };
     only = λ slot valve is. listed.only slot valve (sym (same.valves slot) ∙ is);
     fed = λ k ref named at names.
         let b = slice_get_within refs k ref at in
-        subst (λ (n : ℕ). FeedsSet zones (ids_of list) seats_now ref.zone named (feeders_in now (n + k))) long
-        (joined k ref named at names (none_yet k b));
+        joined k ref named at names (none_yet k b);
     targets = targets;
     groups = subst (λ (n : ℕ). AreGrouped zones n seats_now triggers_now now) listed.size regrouped;
     within = let l = long in let size = listed.size in
@@ -236,24 +260,29 @@ module _ (zones : List Zone) (list : List (ℕ × Check)) (refs : List SetRef) (
           let is = ap own_of s.1.0 in
           let b = s.1.1 in
           omega arith
-      | inr past ↦ elim (cases_lt valve (length list + length refs)) [
-        | inl early ↦ set_own valve past early
-        | inr late ↦
-            let slot = built.groups.all valve late there in
-            let g = built.groups.valves slot.0 valve slot.1 in
-            let is = ap own_of g.1.trigger in
-            let b = g.1.few in
+      | inr past ↦ elim (cases_lt valve 200) [
+        | inl spare ↦
+            let is = ap own_of (built.spares valve past spare) in
             omega arith
+        | inr behind ↦ elim (cases_lt valve (200 + length refs)) [
+          | inl early ↦ set_own valve behind early
+          | inr late ↦
+              let slot = built.groups.all valve late there in
+              let g = built.groups.valves slot.0 valve slot.1 in
+              let is = ap own_of g.1.trigger in
+              let b = g.1.few in
+              omega arith
+        ]
       ]
     ]
     | inr past ↦ none_own (slice_get blueprint.triggers valve) refl past
   ]
     where
-      split : (valve : ℕ) → length list ≤ valve → valve < length list + length refs
-          → (k : ℕ) × ((valve ≡ length list + k) × (k < length refs))
-      split valve past early = (valve - length list, (omega arith, omega arith))
+      split : (valve : ℕ) → 200 ≤ valve → valve < 200 + length refs
+          → (k : ℕ) × ((valve ≡ 200 + k) × (k < length refs))
+      split valve past early = (valve - 200, (omega arith, omega arith))
 
-      set_own : (valve : ℕ) → length list ≤ valve → valve < length list + length refs
+      set_own : (valve : ℕ) → 200 ≤ valve → valve < 200 + length refs
           → own_in blueprint valve ≤ 2 ^ 31
       set_own valve past early =
           let k = split valve past early in

@@ -1,6 +1,6 @@
 -- Feeds between valves are feeds between the nodes whose valves they are: so no path is long, and no
 -- cone has more valves than nodes.
-use Rattle.std.proofs.Common.{◌≡◌, ◌<◌, ◌≤◌, ℕ, zero, suc, Bool, true, false, List, [], ◌∷◌, ◌++◌, length, map, arith, refl, ap, sym, ◌∙◌, inl, inr, Some, None, Option}
+use Rattle.std.proofs.Common.{◌⊎◌, ◌≡◌, ◌<◌, ◌≤◌, ℕ, zero, suc, Bool, true, false, List, [], ◌∷◌, ◌++◌, length, map, arith, refl, ap, sym, ◌∙◌, inl, inr, Some, None, Option}
 use Rattle.std.specs.Prelude.{Contains, slice_get}
 use Rattle.std.specs.Option.{option_to_list}
 use Rattle.std.proofs.lemmas.List.{length-append}
@@ -29,7 +29,7 @@ use Rattle.policy_select.proofs.MembersOfZoneList.{one_of_key, put_or_in, set_in
 use Rattle.policy_select.specs.Zones.{AreZones, Zone, placed_in}
 use Rattle.zone_model.specs.Slotted.{IsHere, Slotted}
 use Rattle.zone_model.specs.Zones.{IsAmong, group}
-use Rattle.health_planning.specs.Wired.{AreMembers, IsValveFor, IsGroupValve, IsSeated, IsSetValve, IsTarget, valves_of, group_seat, ids_of, is_watched, place_of, seat_of, watched_of, with_valve}
+use Rattle.health_planning.specs.Wired.{AreMembers, IsValveFor, IsGroupValve, IsSeated, IsSetValve, IsSpare, IsTarget, valves_of, group_seat, ids_of, is_watched, place_of, seat_of, spare_condition, watched_of, with_valve}
 use Rattle.health_planning.specs.declared.seats.Seat.{Seat}
 use Rattle.health_planning.proofs.Places.{id_at, of_all, one_place}
 use Rattle.health_planning.proofs.Places.{found}
@@ -202,7 +202,7 @@ module _ (zones : List Zone) (checks : Checks) (seats : List Seat) (net : Net) (
     ]
 
     target_named : (zone : ℕ) (rtype : RType) (its : Body) (target : List ℕ) (x : ℕ)
-        → IsTarget zones (length its_ids) seats net own zone rtype its target → Contains target x
+        → IsTarget zones seats net own zone rtype its target → Contains target x
         → (node : Node) × (IsValve x node × Contains (its_target zone rtype its) node)
     target_named zone rtype (body.Values ttl values) target x is m =
         absurd (nothing_in x (subst (λ (l : List ℕ). Contains l x) is m))
@@ -213,7 +213,7 @@ module _ (zones : List Zone) (checks : Checks) (seats : List Seat) (net : Net) (
           | inl same ↦ (
             GroupNode zone name rtype,
             (
-              (members, (are, subst (λ (g : ℕ). IsGroupValve (length its_ids) seats net own members g) same w)),
+              (members, (are, subst (λ (g : ℕ). IsGroupValve seats net own members g) same w)),
               rw on (at_first (GroupNode zone name rtype) []),
             ),
           )
@@ -246,7 +246,7 @@ module _ (zones : List Zone) (checks : Checks) (seats : List Seat) (net : Net) (
 
     feeds_group : (zone : ℕ) (name : List (List ℕ)) (rtype : RType) (valve x : ℕ)
         (members : List Slotted) → AreMembers zones zone name rtype members
-        → IsGroupValve (length its_ids) seats net own members valve → Feeds net x valve
+        → IsGroupValve seats net own members valve → Feeds net x valve
         → IsFeeder x (GroupNode zone name rtype)
     feeds_group zone name rtype valve x members are w m =
         let member = member_valve seats members x (subst (λ (l : List ℕ). Contains l x) (ap (λ r. r.feeders) w.condition) m) in
@@ -282,7 +282,17 @@ module _ (zones : List Zone) (checks : Checks) (seats : List Seat) (net : Net) (
     last_fed zero x y (z, fed, same) = (x, subst (Feeds net x) (sym same) fed)
     last_fed (suc k) x y (z, fed, more) = last_fed k z y more
 
-    module _ (nodes : (valve : ℕ) → valve < net.size → (node : Node) × IsValve valve node) where
+    module _ (nodes : (valve : ℕ) → valve < net.size
+        → IsSpare (length checks.list) valve ⊎ ((node : Node) × IsValve valve node))
+        (spares : (valve : ℕ) → IsSpare (length checks.list) valve → net.condition valve ≡ spare_condition) where
+      -- a valve that something feeds isn't spare
+      fed_node : (w y : ℕ) → Feeds net w y → y < net.size → (node : Node) × IsValve y node
+      fed_node w y fed within = elim (nodes y within) [
+        | inl spare ↦
+            absurd (nothing_in w (subst (λ (l : List ℕ). Contains l w) (ap (λ r. r.feeders) (spares y spare)) fed))
+        | inr node ↦ node
+      ]
+
       -- where all that is fed is there, no path is long
       pub valves_end : PathsEnd → ((x y : ℕ) → Feeds net x y → y < net.size)
           → ValvesEnd (Feeds net) 64
@@ -292,7 +302,7 @@ module _ (zones : List Zone) (checks : Checks) (seats : List Seat) (net : Net) (
           too_long : (k x y : ℕ) → 38 ≤ k → Leads (Feeds net) (suc k) x y → ⊥
           too_long k x y long leads =
               let w = last_fed k x y leads in
-              let m = nodes y (there w.0 y w.1) in
+              let m = fed_node w.0 y w.1 (there w.0 y w.1) in
               let p = path (suc k) x y m.0 m.1 leads in
               let few = law watched sound p.0 m.0 p.1.1.0 (suc k) p.1.1 in
               omega arith
@@ -319,7 +329,7 @@ module _ (zones : List Zone) (checks : Checks) (seats : List Seat) (net : Net) (
           omega arith
 
       of_check : (place id : ℕ) (check : Check) (n : Node)
-          → slice_get checks.list place ≡ Some (id, check) → place < length its_ids
+          → slice_get checks.list place ≡ Some (id, check) → place < 200
           → IsValve place n → n ≡ CheckNode id
       of_check place id check (CheckNode other) at early (its, is) =
           ap CheckNode (ap (λ (h : ℕ × Check). h.0) (some_same (sym is ∙ at)))
@@ -336,16 +346,16 @@ module _ (zones : List Zone) (checks : Checks) (seats : List Seat) (net : Net) (
 
       -- a list of the cone of a check has at least as many nodes as valves are above the check's
       pub cone_long : (place id : ℕ) (check : Check) (walk : List ℕ) (cone : List Node)
-          → slice_get checks.list place ≡ Some (id, check) → place < length its_ids
+          → slice_get checks.list place ≡ Some (id, check) → place < 200
           → AreOfCone net (place ∷ []) walk
           → ((n : Node) → InCone watched (CheckNode id) n → Contains cone n)
           → length walk ≤ length cone
       cone_long place id check walk cone at early are has =
           no_more IsValve one_valve walk cone are.once (λ y m.
-          let node = nodes y (are.within y m) in
           let above = are.above y m in
           let k = above.2.0 in
           let leads = subst (λ (x : ℕ). Leads (Feeds net) k x y) (from_start above.0 above.1) above.2.1 in
+          let node = reached k y leads (are.within y m) in
           let way = path k place y node.0 node.1 leads in
           let start = of_check place id check way.0 at early way.1.0 in (
             node.0,
@@ -361,3 +371,7 @@ module _ (zones : List Zone) (checks : Checks) (seats : List Seat) (net : Net) (
             | inl same ↦ sym same
             | inr rest ↦ absurd (nothing_in x rest)
           ]
+
+          reached : (k y : ℕ) → Leads (Feeds net) k place y → y < net.size → (node : Node) × IsValve y node
+          reached zero y same within = (CheckNode id, (check, ap (slice_get checks.list) same ∙ at))
+          reached (suc k) y leads within = let w = last_fed k place y leads in fed_node w.0 y w.1 within

@@ -20,7 +20,7 @@ use Rattle.health_planning.specs.Wired.{watched_of}
 use Rattle.health_planning.specs.declared.seats.Seat.{Seat}
 use Rattle.health_planning.proofs.Ending.{valves_end}
 use Rattle.health_planning.proofs.Grouped.{none_feeds}
-use Rattle.health_planning.proofs.Wiring.{nodes, set_valve}
+use Rattle.health_planning.proofs.Wiring.{nodes, set_valve, spare}
 
 -- what feeds a valve of the net that is planned
 pub fed_by_condition : (o : Option Trigger) (feeders : List ℕ) → (condition_of o feeders).feeders ≡ feeders
@@ -37,6 +37,7 @@ blueprint_ends law zones checks refs seats blueprint are_zones apart are_checks 
     (λ place id check at. fed_by_condition (slice_get blueprint.triggers place) (feeders_in blueprint.links place) ∙ built.children place id check at)
     (λ zone p valve here seat. record { is = set_valve zones checks.list refs seats blueprint are_zones apart built zone p valve here seat })
     (nodes zones checks.list refs seats blueprint are_zones apart built)
+    (spare zones checks.list refs seats blueprint are_zones apart built)
     law there
   where
     there : (x y : ℕ) → Feeds (net_in blueprint) x y → y < length blueprint.triggers

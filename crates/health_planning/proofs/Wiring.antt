@@ -1,5 +1,5 @@
 -- The valves that are built are those of the configuration.
-use Rattle.std.proofs.Common.{◌≡◌, ◌<◌, ◌≤◌, ◌+◌, ◌-◌, ℕ, zero, suc, Bool, true, false, List, [], ◌∷◌, ◌++◌, length, map, arith, refl, ap, sym, ◌∙◌, inl, inr, Some, None, Option}
+use Rattle.std.proofs.Common.{◌⊎◌, ◌≡◌, ◌<◌, ◌≤◌, ◌+◌, ◌-◌, ℕ, zero, suc, Bool, true, false, List, [], ◌∷◌, ◌++◌, length, map, arith, refl, ap, sym, ◌∙◌, inl, inr, Some, None, Option}
 use Rattle.std.specs.Prelude.{◌==◌, cond, is_some, slice_get}
 use Rattle.std.specs.List.{AllByRecursion, filter}
 use Rattle.std.specs.Option.{option_to_list}
@@ -32,8 +32,8 @@ use Rattle.zone_model.specs.Slotted.{IsHere, Slotted, sets_of}
 use Rattle.zone_model.specs.Zones.{IsAmong, IsRising, group, is_of_group}
 use Rattle.policy_select.specs.Looking.{RefersTo}
 use Rattle.policy_select.specs.Tables.{HaveSlotsApart}
-use Rattle.health_planning.specs.Building.{AllListed, AreTriggered, HasTarget, HasTargetValve, IsBuilt, IsListed, check_trigger, group_trigger, number, set_trigger}
-use Rattle.health_planning.specs.Wired.{AreMembers, HasSlot, IsFirstIn, IsValveFor, IsGroupValve, IsSeated, IsSetValve, IsTarget, AreValvesOf, TellGroup, check_seat, valves_of, group_seat, ids_of, is_watched, only_check, place_of, plain_among, seat_of, with_valve}
+use Rattle.health_planning.specs.Building.{AllListed, AreTriggered, HasTarget, HasTargetValve, IsBuilt, IsListed, check_trigger, group_trigger, number, set_trigger, spare_trigger}
+use Rattle.health_planning.specs.Wired.{AreMembers, HasSlot, IsFirstIn, IsValveFor, IsGroupValve, IsSeated, IsSetValve, IsSpare, IsTarget, AreValvesOf, TellGroup, check_seat, valves_of, group_seat, ids_of, is_watched, only_check, place_of, plain_among, seat_of, spare_condition, with_valve}
 use Rattle.health_planning.specs.declared.seats.Seat.{Seat}
 use Rattle.health_planning.proofs.ListedOnce.{one_ref}
 
@@ -186,12 +186,11 @@ module _ (zones : List Zone) (list : List (ℕ × Check)) (refs : List SetRef) (
     (built : IsBuilt zones list refs seats blueprint.triggers blueprint.links) where
   -- a group with a valve
   group_there : (members : List Slotted) (slot valve : ℕ) → IsFirstIn members slot
-      → group_seat seats slot ≡ suc valve → TellGroup seats members valve → length list + length refs ≤ valve
+      → group_seat seats slot ≡ suc valve → TellGroup seats members valve → 200 + length refs ≤ valve
       → slice_get blueprint.triggers valve ≡ Some (group_trigger (plain_among seats members))
       → feeders_in blueprint.links valve ≡ valves_of seats members
-      → IsGroupValve (length (ids_of list)) seats (net_in blueprint) (own_in blueprint) members valve
+      → IsGroupValve seats (net_in blueprint) (own_in blueprint) members valve
   group_there members slot valve first seat each behind trigger fed =
-      let long = ids_long list in
       record {
         seat = (slot, (first, seat));
         each = each;
@@ -206,7 +205,7 @@ module _ (zones : List Zone) (list : List (ℕ × Check)) (refs : List SetRef) (
   record HasTargetIn (zone : ℕ) (name : List (List ℕ)) (rtype : RType) (slot : ℕ) : Type 0 where
     valve : ℕ
     seat : group_seat seats slot ≡ suc valve
-    behind : length list + length refs ≤ valve
+    behind : 200 + length refs ≤ valve
     members : List Slotted
     each : TellGroup seats members valve
     first : IsFirstIn members slot
@@ -240,7 +239,7 @@ module _ (zones : List Zone) (list : List (ℕ × Check)) (refs : List SetRef) (
 
   -- what a target gives a set
   record HasTargetThere (zone : ℕ) (rtype : RType) (its : Body) (target : List ℕ) : Type 0 where
-    are : IsTarget zones (length (ids_of list)) seats (net_in blueprint) (own_in blueprint) zone rtype its target
+    are : IsTarget zones seats (net_in blueprint) (own_in blueprint) zone rtype its target
     as_many : number (evaluates its) ≡ length target
 
   target_there : (zone : ℕ) (rtype : RType) (its : Body) (target : List ℕ)
@@ -286,14 +285,13 @@ module _ (zones : List Zone) (list : List (ℕ × Check)) (refs : List SetRef) (
   valve_of : (zone : ℕ) (p : Slotted) → IsHere (placed_in zones zone) p
       → IsListed refs (ref_in zone p) → HasValve zone p
   valve_of zone p here k =
-      let valve = length list + k.0 in
+      let valve = 200 + k.0 in
       let g = built.sets k.0 (ref_in zone p) k.1 in
       let named = one_named zones (ref_in zone p) g.named p.set are_zones g.names here in
       let trigger = g.trigger ∙ ap (λ (s : RecordSet). Some (set_trigger s)) named in
       let feeds = built.fed k.0 (ref_in zone p) p.set k.1 here in
       let t = target_there zone p.set.rtype p.set.body feeds.0 feeds.1.0
       (λ name is. built.targets k.0 (ref_in zone p) p.set name k.1 here is) in
-      let long = ids_long list in
       record {
         valve = valve;
         seat = g.seat;
@@ -345,39 +343,48 @@ module _ (zones : List Zone) (list : List (ℕ × Check)) (refs : List SetRef) (
       by (suc valve) e off =
           absurd (false≢true (sym off ∙ (watched_there zone p here valve e).1))
 
-  -- each valve is that of a node
-  pub nodes : (valve : ℕ) → valve < length blueprint.triggers
-      → (node : Node) × IsValveFor zones list seats (net_in blueprint) (own_in blueprint) valve node
+  -- each valve is that of a node, or spare
+  pub nodes : (valve : ℕ) → valve < length blueprint.triggers → IsSpare (length list) valve
+      ⊎ ((node : Node) × IsValveFor zones list seats (net_in blueprint) (own_in blueprint) valve node)
   nodes valve within = elim (cases_lt valve (length list)) [
     | inl early ↦
         let held = filled list valve early in
-        (CheckNode held.0.0, (held.0.1, held.1))
-    | inr past ↦ elim (cases_lt valve (length list + length refs)) [
-      | inl early ↦ set_node valve past early
-      | inr late ↦
-          let slot = built.groups.all valve late within in
-          let g = built.groups.valves slot.0 valve slot.1 in
-          let f = first_of g.1.members g.1.here.0 g.1.here.1 in (
-            GroupNode g.1.zone g.1.name g.1.rtype,
-            (
-              g.1.members,
+        inr (CheckNode held.0.0, (held.0.1, held.1))
+    | inr past ↦ elim (cases_lt valve 200) [
+      | inl spare ↦ inl (past, spare)
+      | inr behind ↦ elim (cases_lt valve (200 + length refs)) [
+        | inl early ↦ inr (set_node valve behind early)
+        | inr late ↦
+            let slot = built.groups.all valve late within in
+            let g = built.groups.valves slot.0 valve slot.1 in
+            let f = first_of g.1.members g.1.here.0 g.1.here.1 in
+            inr (
+              GroupNode g.1.zone g.1.name g.1.rtype,
               (
-                g.1.are,
-                group_there g.1.members f.p.slot valve (f.p, f.at, refl) (g.1.each f.p f.here) g.1.each g.0 g.1.trigger g.1.fed,
+                g.1.members,
+                (
+                  g.1.are,
+                  group_there g.1.members f.p.slot valve (f.p, f.at, refl) (g.1.each f.p f.here) g.1.each g.0 g.1.trigger g.1.fed,
+                ),
               ),
-            ),
-          )
+            )
+      ]
     ]
   ]
     where
-      set_node : (valve : ℕ) → length list ≤ valve → valve < length list + length refs
+      set_node : (valve : ℕ) → 200 ≤ valve → valve < 200 + length refs
           → (node : Node) × IsValveFor zones list seats (net_in blueprint) (own_in blueprint) valve node
       set_node valve past early =
-          let k = valve - length list in
-          let is : length list + k ≡ valve = omega arith in
+          let k = valve - 200 in
+          let is : 200 + k ≡ valve = omega arith in
           let ref = filled refs k (omega arith) in
           let g = built.sets k ref.0 ref.1 in
           (SetNode ref.0.zone g.named, (ref.0.slot, (g.names, g.seat ∙ ap suc is)))
+
+  pub spare : (valve : ℕ) → IsSpare (length list) valve → (net_in blueprint).condition valve ≡ spare_condition
+  spare valve is =
+      ap (λ (o : Option Trigger). condition_of o (feeders_in blueprint.links valve)) (built.spares valve is.0 is.1)
+      ∙ ap (condition_of (Some spare_trigger)) (built.unfed valve is.0 is.1)
 
   pub wired : AllListed zones refs → (reports : List Report) → AreTriggered reports list blueprint.triggers
       → AreValvesOf zones list seats (net_in blueprint) (own_in blueprint) reports
@@ -392,6 +399,8 @@ module _ (zones : List Zone) (list : List (ℕ × Check)) (refs : List SetRef) (
         };
     its_sets = seated all;
     its_nodes = nodes;
+    spares = spare;
+    many = let size = built.size in omega arith;
     its_groups = λ slot valve is.
         let g = built.groups.valves slot valve is in
         slice_get_within blueprint.triggers valve (group_trigger (plain_among seats g.1.members)) g.1.trigger;

@@ -47,6 +47,17 @@ abbrev pub check_triggers : List Report → List (ℕ × Check) → List Trigger
 check_triggers reports list =
     map (λ (held : ℕ × Check). check_trigger reports held.0 held.1) list
 
+-- a valve for a check that may come
+abbrev pub spare_trigger : Trigger
+spare_trigger = record { need = 0; inverted = false; own = 0 }
+
+-- There are 200 valves, the most that checks can have: the first ones as they were, and spare ones.
+pub record AreSpared (before after : List Trigger) : Type 0 where
+  pub kept : (n : ℕ) (trigger : Trigger) → slice_get before n ≡ Some trigger
+      → slice_get after n ≡ Some trigger
+  pub size : length after ≡ 200
+  pub spares : (n : ℕ) → length before ≤ n → n < 200 → slice_get after n ≡ Some spare_trigger
+
 -- the valves of checks stand at their places
 abbrev pub AreTriggered : List Report → List (ℕ × Check) → List Trigger → Type 0
 AreTriggered reports list triggers = (place id : ℕ) (check : Check)
@@ -256,23 +267,26 @@ JoinsSet zones ids seats zone set valve before after = (feeders : List ℕ)
 
 -- ---- a blueprint that is done
 
--- The valves of all checks, then of the sets that something decides, then of target groups, each
--- with what feeds it.
+-- The valves of all checks and spare ones, 200 in all, then of the sets that something decides, then of
+-- target groups, each with what feeds it.
 pub record IsBuilt (zones : List Zone) (list : List (ℕ × Check)) (refs : List SetRef)
     (seats : List Seat) (triggers : List Trigger) (links : List Feeding) : Type 0 where
   pub children : (place id : ℕ) (check : Check) → slice_get list place ≡ Some (id, check)
       → feeders_in links place ≡ map (place_of (ids_of list)) (children_of check)
+  pub spares : (place : ℕ) → length list ≤ place → place < 200
+      → slice_get triggers place ≡ Some spare_trigger
+  pub unfed : (place : ℕ) → length list ≤ place → place < 200 → feeders_in links place ≡ []
   pub sets : (k : ℕ) (ref : SetRef) → slice_get refs k ≡ Some ref
-      → HasSetValve zones seats triggers ref (length list + k)
+      → HasSetValve zones seats triggers ref (200 + k)
   pub only : (slot valve : ℕ) → seat_of seats slot ≡ suc valve
-      → (k : ℕ) × ((ref : SetRef) × (valve ≡ length list + k) × (slice_get refs k ≡ Some ref)
+      → (k : ℕ) × ((ref : SetRef) × (valve ≡ 200 + k) × (slice_get refs k ≡ Some ref)
       × (ref.slot ≡ slot))
   pub fed : (k : ℕ) (ref : SetRef) (named : RecordSet) → slice_get refs k ≡ Some ref
       → RefersTo zones ref named
-      → FeedsSet zones (ids_of list) seats ref.zone named (feeders_in links (length list + k))
+      → FeedsSet zones (ids_of list) seats ref.zone named (feeders_in links (200 + k))
   pub targets : (k : ℕ) (ref : SetRef) (named : RecordSet) (name : List (List ℕ))
       → slice_get refs k ≡ Some ref → RefersTo zones ref named → named.body ≡ body.Alias name true
       → HasTarget zones seats ref.zone name named.rtype
-  pub groups : AreGrouped zones (length list + length refs) seats triggers links
+  pub groups : AreGrouped zones (200 + length refs) seats triggers links
   pub within : AreWithin links (length triggers)
-  pub size : length list + length refs ≤ length triggers
+  pub size : 200 + length refs ≤ length triggers

