@@ -254,6 +254,7 @@ impl Valves {
             → steps.new ≤ steps.old + length nodes }
         ensures cone { (net : Net) (own : ℕ → ℕ) → ValvesStandFor net own self.old
             → CostsCone net starts.now steps.old steps.new }
+        ensures room { (n m : ℕ) → HasRoomFor self.old n m → HasRoomFor self.new n m }
     {
         list_cone(
             &self.rows,
@@ -329,6 +330,7 @@ impl Valves {
             → steps.new ≤ steps.old + (if result then length nodes else 0) }
         ensures cone { result ≡ true → (net : Net) (own : ℕ → ℕ) → ValvesStandFor net own self.old
             → CostsCone net (valve ∷ []) steps.old steps.new }
+        ensures room { (n m : ℕ) → HasRoomFor self.old n m → HasRoomFor self.new n m }
     {
         self.put_count(valve, count);
         let row = self.rows[valve as usize];
@@ -350,6 +352,7 @@ impl Valves {
         ensures fits { (net : Net) (own : ℕ → ℕ) → ValvesStandFor net own self.old
             → ValvesStandFor net (with_own valve count own) self.new }
         ensures rest { self.new ≡ record self.old { counts = self.new.counts } }
+        ensures room { (n m : ℕ) → HasRoomFor self.old n m → HasRoomFor self.new n m }
     {
         self.counts[valve as usize] = count;
     }
@@ -366,6 +369,7 @@ impl Valves {
         ensures meet { (net : Net) (own : ℕ → ℕ) → ValvesStandFor net own self.old
             → MeetAll net own self.old
             → MeetAll (with_need valve need inverted net) own self.new }
+        ensures room { (n m : ℕ) → HasRoomFor self.old n m → HasRoomFor self.new n m }
     {
         self.put_need(valve, need, inverted);
         let now = is_open(need, inverted, self.count(valve as usize));
@@ -384,6 +388,7 @@ impl Valves {
             → ValvesStandFor (with_need valve need inverted net) own self.new }
         ensures rest { self.new ≡ record self.old { rows = self.new.rows } }
         ensures size { size_of self.new ≡ size_of self.old }
+        ensures room { (n m : ℕ) → HasRoomFor self.old n m → HasRoomFor self.new n m }
     {
         let row = self.rows[valve as usize];
         self.rows[valve as usize] = ValveFeeds {
@@ -407,6 +412,7 @@ impl Valves {
         ensures idle { IsIdle self.new }
         ensures meet { (net : Net) (own : ℕ → ℕ) → ValvesStandFor net own self.old → MeetAll net own self.old
             → MeetAll net (with_own valve count own) self.new }
+        ensures room { (n m : ℕ) → HasRoomFor self.old n m → HasRoomFor self.new n m }
     {
         self.set_uncounted::<Brand>(valve, count, Blank::new(1));
     }
@@ -426,23 +432,25 @@ impl Valves {
         ensures idle { IsIdle self.new }
         ensures meet { (net : Net) (own : ℕ → ℕ) → ValvesStandFor net own self.old → MeetAll net own self.old
             → MeetAll net (with_own valve count own) self.new }
+        ensures room { (n m : ℕ) → HasRoomFor self.old n m → HasRoomFor self.new n m }
     {
         let mut steps = Steps::<L>::new(blank);
         self.take_count(valve, count, &mut steps);
     }
 
-    /// One of the first valves, which nothing feeds, gets the last number among these, and those behind it
-    /// move up. It takes no memory.
+    /// One of the first valves gets the last number among these, and those behind it move up. Nothing feeds
+    /// that one or those. It takes no memory.
     pub fn put_behind(&mut self, from: u32, many: u32)
         requires ready { IsReady self.old }
         requires idle { IsIdle self.old }
         requires early { from < many }
         requires many { many ≤ size_of self.old }
-        requires alone { (valve : ℕ) → valve < many → (net : Net) (own : ℕ → ℕ)
+        requires alone { (valve : ℕ) → from ≤ valve → valve < many → (net : Net) (own : ℕ → ℕ)
             → ValvesStandFor net own self.old → (net.condition valve).feeders ≡ [] }
         ensures puts { (net : Net) (own : ℕ → ℕ) → ValvesStandFor net own self.old
             → PutsBehind from many net own self.old self.new }
         ensures idle { IsIdle self.new }
+        ensures room { (n m : ℕ) → HasRoomFor self.old n m → HasRoomFor self.new n m }
     {
         for valve in from..many - 1 {
             self.exchange(valve);
@@ -450,7 +458,7 @@ impl Valves {
     }
 
     /// Two valves side by side, which nothing feeds, each get the number of the other. It takes no memory.
-    pub fn exchange(&mut self, valve: u32)
+    fn exchange(&mut self, valve: u32)
         requires ready { IsReady self.old }
         requires idle { IsIdle self.old }
         requires valve { valve + 1 < size_of self.old }
@@ -464,6 +472,7 @@ impl Valves {
         ensures meet { (net : Net) (own : ℕ → ℕ) → ValvesStandFor net own self.old
             → MeetAll net own self.old
             → MeetAll (exchanged valve net) (λ n. own (beside valve n)) self.new }
+        ensures room { (n m : ℕ) → HasRoomFor self.old n m → HasRoomFor self.new n m }
     {
         let first = valve as usize;
         exchange_at(&mut self.rows, first);
@@ -483,6 +492,7 @@ impl Valves {
         ensures idle { IsIdle self.new }
         ensures mends { (net : Net) (own : ℕ → ℕ) → ValvesStandFor net own self.old
             → MeetOutside net own (valve ∷ []) self.old → MeetAll net own self.new }
+        ensures room { (n m : ℕ) → HasRoomFor self.old n m → HasRoomFor self.new n m }
     {
         let mut steps = Steps::<L>::new(blank);
         self.settle(&[valve], &mut steps);

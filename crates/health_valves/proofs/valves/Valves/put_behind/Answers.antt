@@ -11,6 +11,7 @@ loop-valve-init c = record {
   early = let early = c.requires.early in omega arith;
   puts = λ net own fits. record { now = net; own_now = own; is = put_none c.args.from net own; fits = fits; meet = λ met. met };
   idle = c.requires.idle;
+  room = λ n m h. h;
 }
 
 pub exchange-requires-clause-ready : goal.exchange-requires-clause-ready
@@ -41,7 +42,7 @@ exchange-requires-clause-alone c net own fits =
     let from = c.requires.early in
     alone_in_all r.now net r.own_now own c.loop-valve.self c.loop-valve.valve (omega arith) r.fits fits
     (next_alone c.args.from c.loop-valve.valve c.loop-valve.invariant.reached f.0 r.now f.1 r.own_now r.is
-    (c.requires.alone c.args.from from f.0 f.1 f.2))
+    (c.requires.alone c.args.from (omega arith) from f.0 f.1 f.2))
 
 pub exchange-requires-clause-next_alone : goal.exchange-requires-clause-next_alone
 exchange-requires-clause-next_alone c net own fits =
@@ -53,7 +54,8 @@ exchange-requires-clause-next_alone c net own fits =
     let early = c.loop-valve-test.true in
     alone_in_all r.now net r.own_now own c.loop-valve.self (c.loop-valve.valve + 1) (omega arith) r.fits fits
     (behind_alone c.args.from c.loop-valve.valve c.loop-valve.invariant.reached f.0 r.now f.1 r.own_now r.is
-    (c.requires.alone (c.loop-valve.valve + 1) (omega arith) f.0 f.1 f.2))
+    (c.requires.alone (c.loop-valve.valve + 1) (let reached = c.loop-valve.invariant.reached in omega arith) (omega arith)
+    f.0 f.1 f.2))
 
 pub loop-valve-preserved : goal.loop-valve-preserved
 loop-valve-preserved c =
@@ -74,4 +76,5 @@ loop-valve-preserved c =
             meet = λ met. c.exchange.ensures.meet r.now r.own_now r.fits (r.meet met);
           };
       idle = c.exchange.ensures.idle;
+      room = λ n m h. c.exchange.ensures.room n m (i.room n m h);
     }

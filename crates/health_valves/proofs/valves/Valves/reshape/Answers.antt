@@ -38,3 +38,6 @@ returns-clause-meet c net own f meet =
     c.settle_above.ensures.mends _ own (c.put_need.ensures.fits net own f)
     (λ n b out. meets_there valve c.args.need c.args.inverted net own (value_of s) n (λ e. out (valve, in_head valve [], (0, e)))
     (subst (λ l. MeetsEquation net own (value_in l.items) n) (sym vs) (meet n b)))
+
+pub returns-clause-room : goal.returns-clause-room
+returns-clause-room c n m h = c.settle_above.ensures.room n m (c.put_need.ensures.room n m h)

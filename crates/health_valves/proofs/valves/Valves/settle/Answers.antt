@@ -59,3 +59,19 @@ returns-clause-cone g c net own f =
         omega arith,
       ),
     )
+
+pub returns-clause-room : goal.returns-clause-room
+returns-clause-room g c n m h =
+    let l = c.list_cone.ensures in
+    let cone = h.cone in
+    let cone_same = l.room in
+    let marks = h.marks in
+    let marks_same = l.marks_room in
+    c.pass.ensures.room n m (record {
+      rows = h.rows;
+      edges = h.edges;
+      values = h.values;
+      counts = h.counts;
+      cone = omega arith;
+      marks = omega arith;
+    })

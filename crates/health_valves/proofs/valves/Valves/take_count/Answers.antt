@@ -58,3 +58,6 @@ returns-clause-cost g c net own nodes f has = c.settle.ensures.cost net (with_ow
 pub returns-clause-cone : goal.returns-clause-cone
 returns-clause-cone g c is net own f =
     c.settle.ensures.cone net (with_own c.args.valve c.args.count own) (c.put_count.ensures.fits net own f)
+
+pub returns-clause-room : goal.returns-clause-room
+returns-clause-room g c n m h = c.settle.ensures.room n m (c.put_count.ensures.room n m h)
