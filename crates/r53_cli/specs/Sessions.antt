@@ -18,7 +18,7 @@ use Rattle.rand_core.specs.Stream.{Stream}
 use Rattle.session_run.specs.Serving.{Datagram}
 use Rattle.session_run.specs.Ended.{Ended}
 use Rattle.session_run.specs.Ended.TheVariants as ended
-use Rattle.session_run.specs.Ending.{FilesOpen}
+use Rattle.session_run.specs.Files.{FilesOpen}
 use Rattle.session_run.specs.Running.{FilesSay, Given, HasCauseOf, IfUntabled, IsTold, RunLeaves, SessionKeeps}
 use Rattle.session_run.specs.Running.{TablesSay, UnlessEnded}
 use Rattle.session_run.specs.declared.ran.Ran.{Ran}

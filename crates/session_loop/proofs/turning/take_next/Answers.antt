@@ -2,11 +2,12 @@ use Rattle.std.proofs.Common.{◌≡◌, ◌∙◌, ◌+◌, ℕ, List, [], Opti
 use Rattle.engine_model.specs.Engine.{Journal}
 use Rattle.line_splitting.specs.Lines.{Line}
 use Rattle.line_splitting.specs.Reading.{GivesLine, events}
-use Rattle.session_loop.proofs.Files.{are_files, behind_none, files_open, line_files, stays}
+use Rattle.session_loop.proofs.Files.{behind_none, line_files, stays}
 use Rattle.session_loop.proofs.Turns.{all_now, at_end, at_limit, cause_of, is_more, is_whole, line_turn, link_whole, long_cause, long_turn, read, never_read, broken_now, went_whole}
 use Rattle.session_loop.specs.Ending.{FilesKept, HasCause}
 use Rattle.session_loop.specs.Turning.{RoundLeaves}
 use Rattle.session_loop.specs.declared.ended.Ended.{Ended}
+use Rattle.session_server.proofs.Files.{are_files, files_open}
 use Rattle.session_server.specs.Holding.{Holds}
 use Rattle.session_server.specs.Journaled.{State as Kept, config_of}
 use Rattle.session_server.specs.Standing.{Server, StandsFor}
