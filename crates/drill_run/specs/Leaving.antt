@@ -96,7 +96,7 @@ abbrev pub TellsOutput : (before out : Option (List ℕ)) → Output → (text :
 TellsOutput before out written text =
     (held : List ℕ) → before ≡ Some held → OutputOf held out written text
 
--- The lines of a drill over n events ran to their end, whose files those on the disks are, and its
+-- The lines of a drill over n events ran to their end, the files are those of where it ended, and its
 -- summary was written as the output says.
 abbrev pub Ended : {D : Type 0} → Output → (images : D → List ℕ → Type 0) → (a b : D) → (n : ℕ)
     → (start : Engine) → (before out : Option (List ℕ)) → Type 0

@@ -7,7 +7,7 @@ use Rattle.session_loop.specs.Ending.{AppliesSome, FilesKept, FilesOpenBehind}
 use Rattle.session_loop.specs.Turning.{ended_of}
 use Rattle.session_loop.specs.declared.ended.Ended.{Ended}
 use Rattle.session_loop.specs.declared.ended.Ended.TheVariants as ended
-use Rattle.session_server.specs.Files.{FilesOpen}
+use Rattle.session_server.specs.Files.{AreOpenAlike, FilesOpen}
 use Rattle.session_server.specs.Keeping.{IsOneMore, OpensOneMore}
 use Rattle.session_server.specs.Taken.{Taken}
 use Rattle.session_server.specs.Taken.TheVariants as taken
@@ -39,11 +39,11 @@ module _ {D : Type 0} (images : D → List ℕ → Type 0) (a b : D) where
   pub stays : (config : Config) → FilesOpen images a b config → OpensOneMore images a b config
   stays config opens = (config, inl refl, λ u v left right. inl (opens u v left right))
 
-  pub behind_none : (config : Config) → FilesOpen images a b config
+  pub behind_none : (config : Config) → AreOpenAlike images a b config
       → FilesOpenBehind images a b config
   behind_none config opens = (config, ([], refl), opens)
 
-  behind_one : (before now : Config) → IsOneMore before now → FilesOpen images a b now
+  behind_one : (before now : Config) → IsOneMore before now → AreOpenAlike images a b now
       → FilesOpenBehind images a b before
   behind_one before now more opens = (now, applied before now more, opens)
 
@@ -51,7 +51,7 @@ module _ {D : Type 0} (images : D → List ℕ → Type 0) (a b : D) where
   pub line_files : (before : Config) (answer : Taken)
       → (answer ≡ taken.DiskFault → OpensOneMore images a b before)
       → (answer ≢ taken.DiskFault
-      → (now : Config) × IsOneMore before now × FilesOpen images a b now)
+      → (now : Config) × IsOneMore before now × AreOpenAlike images a b now)
       → IfSome (ended_of answer) (λ how. FilesKept how images a b before)
   line_files before taken.Replied torn opens = tt
   line_files before taken.WriteFault torn opens =

@@ -17,7 +17,7 @@ use Rattle.session_server.specs.Replies.{too_long_text}
 use Rattle.session_server.specs.Serving.{Datagram}
 use Rattle.session_server.specs.Sessions.{ComesTo, LineComes, Session, told_alone}
 use Rattle.session_server.specs.Steps.{OctetsStep, State, Step, Surroundings}
-use Rattle.session_server.specs.Files.{AreFilesOf, FilesOpen}
+use Rattle.session_server.specs.Files.{AreFilesOf, AreOpenAlike}
 use Rattle.session_server.specs.Keeping.{OpensOneMore}
 use Rattle.session_server.specs.Leaving.{ImagesOpen}
 use Rattle.session_server.specs.Taking.{OctetsAskDisk, PartOfOctets}
@@ -169,10 +169,11 @@ Ends ended.LinkFault images a b around input start held before left network rand
 abbrev pub AppliesSome : (before after : Config) → Type 0
 AppliesSome before after = (commands : List Command) × AppliesAll before commands after
 
--- Commands that break no rule lead from a configuration to the one to which each pair of images opens.
+-- Commands that break no rule lead from a configuration to the one to which each pair of images opens,
+-- and all are of one shape.
 abbrev pub FilesOpenBehind : {D : Type 0} → (images : D → List ℕ → Type 0) → (a b : D) → Config → Type 0
 FilesOpenBehind images a b config =
-    (now : Config) × AppliesSome config now × FilesOpen images a b now
+    (now : Config) × AppliesSome config now × AreOpenAlike images a b now
 
 -- What the files open to by how the lines ended, whatever else tells what it has: what commands that
 -- break no rule made of the configuration; where a disk failed, that or the same with one such command

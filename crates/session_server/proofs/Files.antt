@@ -6,7 +6,7 @@ use Rattle.line_server.specs.Journaled.{State as Kept, config_of}
 use Rattle.line_server.specs.Laws.{StandingOpens, StandingShapes}
 use Rattle.line_server.specs.Opening.{IsShape}
 use Rattle.list_sending.specs.Engine.{Engine}
-use Rattle.session_server.specs.Files.{AreFilesOf, FilesOpen}
+use Rattle.session_server.specs.Files.{AreFilesOf, AreOpenAlike, FilesOpen}
 use Rattle.zone_journal.specs.Pairs.{BothRead}
 use Rattle.zone_journal.specs.Standing.{StandsOn}
 use Rattle.zone_journal.specs.declared.answers.Side.{Side}
@@ -47,3 +47,18 @@ are_files reading images opens shapes kept a b stands leaves engine is side gene
           leaves.has.entries stands leaves.a_reads leaves.b_reads leaves.has.opens.opens u v left
           right)));
     }
+
+-- where only the configuration is told
+pub open_alike : {D : Type 0} (reading : D → Option (List ℕ)) (images : D → List ℕ → Type 0)
+    → StandingOpens reading images → StandingShapes reading images → (kept : Kept) (a b : D)
+    → StandsOn reading images kept.journal a b → BothRead reading a b (Holds kept)
+    → (config : Config) → config ≡ config_of kept → AreOpenAlike images a b config
+open_alike reading images opens shapes kept a b stands leaves config is = record {
+  opens = files_open reading images opens kept a b stands leaves config is;
+  side = kept.journal.side;
+  generation = kept.journal.generation;
+  size = kept.journal.at + 1;
+  shape = λ u v left right. shapes kept.journal a b leaves.x leaves.y kept.journal.generation
+      leaves.has.snapshot leaves.has.entries stands leaves.a_reads leaves.b_reads
+      leaves.has.opens.opens u v left right;
+}

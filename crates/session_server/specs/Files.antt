@@ -3,6 +3,7 @@ use Rattle.std.specs.Prelude.{ℕ, List}
 use Rattle.line_bounds.specs.Configs.{Config}
 use Rattle.line_server.specs.Opening.{IsShape, OpensConfig}
 use Rattle.list_sending.specs.Engine.{Engine}
+use Rattle.zone_journal.specs.declared.answers.Side.{Side}
 
 -- Each pair of images opens to a configuration.
 abbrev pub FilesOpen : {D : Type 0} → (images : D → List ℕ → Type 0) → (a b : D) → Config → Type 0
@@ -17,3 +18,12 @@ pub record AreFilesOf {D : Type 0} (images : D → List ℕ → Type 0) (a b : D
   pub opens : FilesOpen images a b engine.config
   pub shape : (x y : List ℕ) → images a x → images b y
       → IsShape x y engine.journal.side engine.journal.generation engine.journal.length
+
+-- Each pair of images opens to this configuration, and all are of one shape.
+pub record AreOpenAlike {D : Type 0} (images : D → List ℕ → Type 0) (a b : D) (config : Config)
+    : Type 0 where
+  pub opens : FilesOpen images a b config
+  pub side : Side
+  pub generation : ℕ
+  pub size : ℕ
+  pub shape : (x y : List ℕ) → images a x → images b y → IsShape x y side generation size
