@@ -4,7 +4,7 @@ use Rattle.std.specs.Prelude.{⊤}
 use Rattle.config_model.specs.Configs.{Config, empty}
 use Rattle.drill_run.specs.Counting.{Progress, HasProgress}
 use Rattle.drill_run.specs.Drills.{healthy_in, summary, summary_of}
-use Rattle.drill_run.specs.Leaving.{DrillLeaves, Ended, FilesOpen, HasCause, IfUnwritten, IsStart, LinesLeave, MadeLeaves, OverLeaves, drilled_of, unopened}
+use Rattle.drill_run.specs.Leaving.{DrillLeaves, Ended, HasCause, IfUnwritten, IsStart, LinesLeave, MadeLeaves, OverLeaves, drilled_of, unopened}
 use Rattle.drill_run.specs.declared.answers.Drilled.{Drilled}
 use Rattle.drill_run.specs.declared.answers.Drilled.TheVariants as drilled
 use Rattle.drill_run.specs.declared.counting.Tally.{Tally}
@@ -14,7 +14,8 @@ use Rattle.octets.specs.Counts.{Rose}
 use Rattle.r53_core.specs.Holding.{Holds}
 use Rattle.r53_core.specs.Journaled.{State as Kept, config_of}
 use Rattle.r53_core.specs.Stores.{State as Store, opened}
-use Rattle.store_model.specs.Laws.{NoStoreOrConfig, PairOpensToOneConfig, StandingOpens, StandingPlace}
+use Rattle.session_server.specs.Files.{FilesOpen}
+use Rattle.store_model.specs.Laws.{NoStoreOrConfig, PairOpensToOneConfig, StandingPlace}
 use Rattle.store_model.specs.Opening.{IsNoStore, OpensAs, OpensConfig}
 use Rattle.whole_writing.specs.Output.{OutputOf}
 use Rattle.whole_writing.specs.declared.output.Output.{Output}
@@ -63,20 +64,6 @@ summed images a b n start before out output.Whole ended = ended
 summed images a b n start before out output.Failed ended = ended
 
 -- ---- the files
-
--- where a store stands, each pair of images opens to its configuration
-pub files_open : {D : Type 0} (reading : D → Option (List ℕ)) (images : D → List ℕ → Type 0)
-    → StandingOpens reading images → (kept : Kept) (a b : D)
-    → StandsOn reading images kept.journal a b → BothRead reading a b (Holds kept)
-    → FilesOpen images a b (config_of kept)
-files_open reading images law kept a b stands leaves = λ x y of_a of_b. record {
-  generation = kept.journal.generation;
-  snapshot = leaves.has.snapshot;
-  entries = leaves.has.entries;
-  opens = law kept.journal a b leaves.x leaves.y kept.journal.generation leaves.has.snapshot
-      leaves.has.entries (config_of kept) stands leaves.a_reads leaves.b_reads leaves.has.opens x y
-      of_a of_b;
-}
 
 some_same : {X : Type 0} {x y : X} → Some x ≡ Some y → x ≡ y
 some_same e = cc

@@ -11,8 +11,9 @@ use Rattle.engine_model.specs.Engine.{Engine}
 use Rattle.gate_journal.specs.Layout.{IsOpen}
 use Rattle.octets.specs.Counts.{Rose}
 use Rattle.r53_gen.specs.Lines.{compaction, event_line, setup, setup_count}
+use Rattle.session_server.specs.Files.{AreFilesOf, FilesOpen}
 use Rattle.store_model.specs.Leaving.{OpensEither}
-use Rattle.store_model.specs.Opening.{IsShape, OpensConfig}
+use Rattle.store_model.specs.Opening.{IsShape}
 use Rattle.whole_writing.specs.Output.{OutputOf}
 use Rattle.whole_writing.specs.declared.output.Output.{Output}
 use Rattle.whole_writing.specs.declared.output.Output.TheVariants as output
@@ -23,11 +24,6 @@ use Rattle.zone_journal.specs.declared.answers.OpenFault.{OpenFault}
 use Rattle.zone_journal.specs.declared.answers.OpenFault.TheVariants as fault
 
 -- ---- files
-
--- Each pair of images opens to a configuration.
-abbrev pub FilesOpen : {D : Type 0} → (images : D → List ℕ → Type 0) → (a b : D) → Config → Type 0
-FilesOpen images a b config =
-    (x y : List ℕ) → images a x → images b y → OpensConfig x y config
 
 -- Each pair of images opens to one of two.
 abbrev pub FilesOpenEither : {D : Type 0} → (images : D → List ℕ → Type 0) → (a b : D)
@@ -100,12 +96,12 @@ abbrev pub TellsOutput : (before out : Option (List ℕ)) → Output → (text :
 TellsOutput before out written text =
     (held : List ℕ) → before ≡ Some held → OutputOf held out written text
 
--- The lines of a drill over n events ran to their end, to which the files open, and its summary was
--- written as the output says.
+-- The lines of a drill over n events ran to their end, the files are those of where it ended, and its
+-- summary was written as the output says.
 abbrev pub Ended : {D : Type 0} → Output → (images : D → List ℕ → Type 0) → (a b : D) → (n : ℕ)
     → (start : Engine) → (before out : Option (List ℕ)) → Type 0
 Ended written images a b n start before out =
-    (end : Progress) × LinesRun n start end × FilesOpen images a b end.engine.config
+    (end : Progress) × LinesRun n start end × AreFilesOf images a b end.engine
     × TellsOutput before out written (summary n end)
 
 -- how a drill ended whose summary came to this

@@ -4,13 +4,14 @@ ghost use Rattle.std.specs.Prelude.{◌≡◌, ◌≤◌, ◌⊎◌, ℕ, List, 
 ghost use Rattle.config_model.specs.Configs.{empty};
 ghost use Rattle.drill_run.specs.Counting.{Progress, HasProgress, no_counts};
 ghost use Rattle.drill_run.specs.Drills.{LinesRun, no_tables, summary};
-ghost use Rattle.drill_run.specs.Leaving.{DrillLeaves, FilesOpen, HasCause, IfOn, IfHalted};
+ghost use Rattle.drill_run.specs.Leaving.{DrillLeaves, HasCause, IfOn, IfHalted};
 ghost use Rattle.drill_run.specs.Leaving.{IfUnwritten, IsHalted, LinesLeave, OverLeaves};
 ghost use Rattle.drill_run.specs.Leaving.{TellsOutput, drilled_of, unopened};
 ghost use Rattle.engine_model.specs.Engine.{Engine};
 ghost use Rattle.octets.specs.Counts.{Rose};
 ghost use Rattle.r53_core.specs.Holding.{Holds};
 ghost use Rattle.r53_core.specs.Stores.{StandsFor};
+ghost use Rattle.session_server.specs.Files.{FilesOpen};
 ghost use Rattle.whole_writing.specs.declared.output.Output.{Output};
 ghost use Rattle.zone_journal.specs.Pairs.{BothRead};
 ghost use Rattle.zone_journal.specs.Standing.{StandsOn};
@@ -30,6 +31,7 @@ use r53_io::Sink;
 use std::alloc::Global;
 use store_model::{
     init_opens, no_store_or_config, pair_opens_to_one_config, standing_opens, standing_place,
+    standing_shapes,
 };
 use whole_writing::{Output, write_whole};
 use zone_journal::{Init, OpenFault, init};
@@ -163,6 +165,7 @@ fn drill_in<D: Disk, K: Sink>(
         (D.faults b.new) (K.faults out.old) (K.faults out.new) }
 {
     standing_opens::<D>();
+    standing_shapes::<D>();
     let Room {
         tables,
         mut reply,

@@ -18,7 +18,7 @@ use Rattle.rand_core.specs.Stream.{Stream}
 use Rattle.session_run.specs.Serving.{Datagram}
 use Rattle.session_run.specs.Ended.{Ended}
 use Rattle.session_run.specs.Ended.TheVariants as ended
-use Rattle.session_run.specs.Ending.{FilesOpen}
+use Rattle.session_run.specs.Files.{FilesOpen}
 use Rattle.session_run.specs.Running.{FilesSay, Given, HasCauseOf, IfUntabled, IsTold, RunLeaves, SessionKeeps}
 use Rattle.session_run.specs.Running.{TablesSay, UnlessEnded}
 use Rattle.session_run.specs.declared.ran.Ran.{Ran}
@@ -102,7 +102,8 @@ of_ran (ran.Ended how) = of_ended how
 
 -- A session was run. Where it ended before its lines it asked the tables and the disks alone, and where
 -- the tables ended it them alone, and the files are as they were; each fault has its cause. What the files
--- open to is told where all tells what it has, and of the two disks alone where these do.
+-- open to is told where all tells what it has; where the two disks alone do, that commands which break no
+-- rule made it.
 pub record Runs {D : Type 0} (reading : D → Option (List ℕ)) (images : D → List ℕ → Type 0)
     (moment : D → ℕ) (images_since : D → ℕ → List ℕ → Type 0) (result : Status)
     (a_old a_new b_old b_new : D) (before after : Devices) (were are : Counts) : Type 0 where

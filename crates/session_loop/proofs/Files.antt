@@ -1,62 +1,18 @@
--- What the files of a server are.
-use Rattle.std.proofs.Common.{◌≡◌, ◌≢◌, ◌+◌, ◌++◌, inl, inr, ℕ, List, [], ◌∷◌, Option, refl, subst, sym}
+-- What the files open to by how lines ended.
+use Rattle.std.proofs.Common.{◌≡◌, ◌≢◌, ◌++◌, inl, inr, ℕ, List, [], ◌∷◌, Option, refl, subst}
 use Rattle.std.specs.Prelude.{IfSome}
 use Rattle.engine_model.specs.Engine.{Engine}
 use Rattle.session_server.specs.Configs.{Config}
-use Rattle.session_loop.specs.Ending.{AppliesSome, AreFilesOf, FilesKept, FilesOpen, FilesOpenBehind}
+use Rattle.session_loop.specs.Ending.{AppliesSome, FilesKept, FilesOpenBehind}
 use Rattle.session_loop.specs.Turning.{ended_of}
 use Rattle.session_loop.specs.declared.ended.Ended.{Ended}
 use Rattle.session_loop.specs.declared.ended.Ended.TheVariants as ended
-use Rattle.session_server.specs.Holding.{Holds}
-use Rattle.session_server.specs.Journaled.{State as Kept, config_of}
+use Rattle.session_server.specs.Files.{AreOpenAlike, FilesOpen}
 use Rattle.session_server.specs.Keeping.{IsOneMore, OpensOneMore}
-use Rattle.session_server.specs.LawsOfStoreModel.{StandingOpens}
 use Rattle.session_server.specs.Taken.{Taken}
 use Rattle.session_server.specs.Taken.TheVariants as taken
 use Rattle.store_model.specs.Applying.{AppliesAll}
 use Rattle.store_model.specs.CommandRecord.{Command}
-use Rattle.store_model.specs.Laws.{StandingShapes}
-use Rattle.store_model.specs.Opening.{IsShape}
-use Rattle.zone_journal.specs.Pairs.{BothRead}
-use Rattle.zone_journal.specs.Standing.{StandsOn}
-use Rattle.zone_journal.specs.declared.answers.Side.{Side}
-
--- where a journal stands on files that hold a configuration
-pub files_open : {D : Type 0} (reading : D → Option (List ℕ)) (images : D → List ℕ → Type 0)
-    → StandingOpens reading images → (kept : Kept) (a b : D)
-    → StandsOn reading images kept.journal a b → BothRead reading a b (Holds kept)
-    → (config : Config) → config ≡ config_of kept → FilesOpen images a b config
-files_open reading images law kept a b stands leaves config is =
-    subst (λ (c : Config). FilesOpen images a b c) (sym is)
-    (λ u v left right. record {
-      generation = kept.journal.generation;
-      snapshot = leaves.has.snapshot;
-      entries = leaves.has.entries;
-      opens = law kept.journal a b leaves.x leaves.y kept.journal.generation leaves.has.snapshot
-          leaves.has.entries (config_of kept) stands leaves.a_reads leaves.b_reads leaves.has.opens u
-          v left right;
-    })
-
--- and what its journal is told to be
-pub are_files : {D : Type 0} (reading : D → Option (List ℕ)) (images : D → List ℕ → Type 0)
-    → StandingOpens reading images → StandingShapes reading images → (kept : Kept) (a b : D)
-    → StandsOn reading images kept.journal a b → BothRead reading a b (Holds kept)
-    → (engine : Engine) → engine.config ≡ config_of kept
-    → engine.journal.side ≡ kept.journal.side → engine.journal.generation ≡ kept.journal.generation
-    → engine.journal.length ≡ kept.journal.at + 1 → AreFilesOf images a b engine
-are_files reading images opens shapes kept a b stands leaves engine is side generation long =
-    record {
-      opens = files_open reading images opens kept a b stands leaves engine.config is;
-      shape = λ u v left right.
-          subst (λ (s : Side). IsShape u v s engine.journal.generation engine.journal.length)
-          (sym side)
-          (subst (λ (g : ℕ). IsShape u v kept.journal.side g engine.journal.length)
-          (sym generation)
-          (subst (λ (n : ℕ). IsShape u v kept.journal.side kept.journal.generation n) (sym long)
-          (shapes kept.journal a b leaves.x leaves.y kept.journal.generation leaves.has.snapshot
-          leaves.has.entries stands leaves.a_reads leaves.b_reads leaves.has.opens.opens u v left
-          right)));
-    }
 
 -- ---- commands, one after another
 
@@ -83,11 +39,11 @@ module _ {D : Type 0} (images : D → List ℕ → Type 0) (a b : D) where
   pub stays : (config : Config) → FilesOpen images a b config → OpensOneMore images a b config
   stays config opens = (config, inl refl, λ u v left right. inl (opens u v left right))
 
-  pub behind_none : (config : Config) → FilesOpen images a b config
+  pub behind_none : (config : Config) → AreOpenAlike images a b config
       → FilesOpenBehind images a b config
   behind_none config opens = (config, ([], refl), opens)
 
-  behind_one : (before now : Config) → IsOneMore before now → FilesOpen images a b now
+  behind_one : (before now : Config) → IsOneMore before now → AreOpenAlike images a b now
       → FilesOpenBehind images a b before
   behind_one before now more opens = (now, applied before now more, opens)
 
@@ -95,7 +51,7 @@ module _ {D : Type 0} (images : D → List ℕ → Type 0) (a b : D) where
   pub line_files : (before : Config) (answer : Taken)
       → (answer ≡ taken.DiskFault → OpensOneMore images a b before)
       → (answer ≢ taken.DiskFault
-      → (now : Config) × IsOneMore before now × FilesOpen images a b now)
+      → (now : Config) × IsOneMore before now × AreOpenAlike images a b now)
       → IfSome (ended_of answer) (λ how. FilesKept how images a b before)
   line_files before taken.Replied torn opens = tt
   line_files before taken.WriteFault torn opens =

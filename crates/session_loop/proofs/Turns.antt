@@ -4,13 +4,14 @@ use Rattle.std.proofs.Math.Dec.{leb-zero}
 use Rattle.std.proofs.Math.Seq.{drop-nil}
 use Rattle.std.proofs.lemmas.List.{drop-drop, take-append-drop}
 use Rattle.std.specs.Prelude.{◌&&◌, ◌+◌, ◌-◌, ◌≤◌, ◌↔◌, IfSome, IsTrue, drop, if◌then◌else◌, nat_le, not, length, take}
+use Rattle.session_server.specs.Files.{AreFilesOf}
 use Rattle.session_server.specs.Configs.{Config}
 use Rattle.line_splitting.specs.Lines.{Event, Line, TooLong, ended_pieces}
 use Rattle.line_splitting.specs.Reading.{GivesLine, IsOver, Reader, ReadsMore, Took, TookNothing, begun as begun_with, events, is_over_limit, waiting_whole, whole}
 use Rattle.r53_io.specs.Network.{Incoming}
 use Rattle.rand_core.specs.Stream.{Stream}
 use Rattle.octets.specs.Counts.{Rose}
-use Rattle.session_loop.specs.Ending.{AllTold, AreFilesOf, EventComesTo, First, HasCause, IsAll, IsLeft, IsBroken, AreReplied}
+use Rattle.session_loop.specs.Ending.{AllTold, EventComesTo, First, HasCause, IsAll, IsLeft, IsBroken, AreReplied}
 use Rattle.session_loop.specs.Turning.{GoesOn, RoundLeaves, beyond, ended_of, input_of}
 use Rattle.session_loop.specs.declared.ended.Ended.{Ended}
 use Rattle.session_loop.specs.declared.ended.Ended.TheVariants as ended

@@ -17,13 +17,12 @@ use Rattle.session_server.specs.Replies.{too_long_text}
 use Rattle.session_server.specs.Serving.{Datagram}
 use Rattle.session_server.specs.Sessions.{ComesTo, LineComes, Session, told_alone}
 use Rattle.session_server.specs.Steps.{OctetsStep, State, Step, Surroundings}
+use Rattle.session_server.specs.Files.{AreFilesOf, AreOpenAlike}
 use Rattle.session_server.specs.Keeping.{OpensOneMore}
 use Rattle.session_server.specs.Leaving.{ImagesOpen}
 use Rattle.session_server.specs.Taking.{OctetsAskDisk, PartOfOctets}
-use Rattle.session_server.specs.Opening.{OpensConfig}
 use Rattle.store_model.specs.Applying.{AppliesAll}
 use Rattle.store_model.specs.CommandRecord.{Command}
-use Rattle.store_model.specs.Opening.{IsShape}
 use Rattle.whole_writing.specs.Output.{OutputOf}
 use Rattle.whole_writing.specs.declared.output.Output.TheVariants as output
 
@@ -49,20 +48,6 @@ pub record AllTold (session : Session) (held : List ℕ) (before : List Datagram
     (out : Option (List ℕ)) (sent : Option (List Datagram)) : Type 0 where
   pub replies : out ≡ Some (held ++ session.output)
   pub datagrams : sent ≡ Some (before ++ session.sent)
-
--- Each pair of images opens to a configuration.
-abbrev pub FilesOpen : {D : Type 0} → (images : D → List ℕ → Type 0) → (a b : D) → Config → Type 0
-FilesOpen images a b config =
-    (x y : List ℕ) → images a x → images b y → OpensConfig x y config
-
--- Each pair of images opens to the configuration of a server, and is of the shape of its journal: of
--- the side that decides, its generation and its length, none of which a compaction that isn't done has
--- changed.
-pub record AreFilesOf {D : Type 0} (images : D → List ℕ → Type 0) (a b : D) (engine : Engine)
-    : Type 0 where
-  pub opens : FilesOpen images a b engine.config
-  pub shape : (x y : List ℕ) → images a x → images b y
-      → IsShape x y engine.journal.side engine.journal.generation engine.journal.length
 
 -- what comes of a line that may be too long
 abbrev pub EventComesTo : Surroundings → Event → (old : State) → Step → Type 0
@@ -184,10 +169,11 @@ Ends ended.LinkFault images a b around input start held before left network rand
 abbrev pub AppliesSome : (before after : Config) → Type 0
 AppliesSome before after = (commands : List Command) × AppliesAll before commands after
 
--- Commands that break no rule lead from a configuration to the one to which each pair of images opens.
+-- Commands that break no rule lead from a configuration to the one to which each pair of images opens,
+-- and all are of one shape.
 abbrev pub FilesOpenBehind : {D : Type 0} → (images : D → List ℕ → Type 0) → (a b : D) → Config → Type 0
 FilesOpenBehind images a b config =
-    (now : Config) × AppliesSome config now × FilesOpen images a b now
+    (now : Config) × AppliesSome config now × AreOpenAlike images a b now
 
 -- What the files open to by how the lines ended, whatever else tells what it has: what commands that
 -- break no rule made of the configuration; where a disk failed, that or the same with one such command

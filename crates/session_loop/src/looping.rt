@@ -47,7 +47,8 @@ pub fn take_lines<S: Source, D: Disk, L: Link, R: Rng, K: Sink>(
         (S.left input.new) (L.coming link.new) (R.stream words.new) (K.held out.new)
         (L.sent link.new) }
 
-    // What the files open to, whatever the input, the output and the network tell.
+    // That what the files open to was made by commands which break no rule, whatever the input, the output
+    // and the network tell.
     ensures files { (engine : Engine) → StoreStandsFor engine server.old.store
         → BothRead D.reading a.old b.old (Holds server.old.store.kept)
         → FilesKept result D.images a.new b.new engine.config }

@@ -1,4 +1,5 @@
 mod Arms
+pub mod Files
 mod Keeping
 mod Lines
 pub mod Asked

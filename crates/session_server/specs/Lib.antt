@@ -1,4 +1,5 @@
 pub mod Buffers
+pub mod Files
 pub mod Keeping
 pub mod Laws
 pub mod Taking

@@ -49,8 +49,8 @@ abbrev pub times : ℕ → List ℕ → ℕ
 times x [] = 0
 times x (y ∷ ys) = if y == x then times x ys + 1 else times x ys
 
--- A valve is fed by another as often as that feeds it, and there are no more feeds than there is
--- room for.
+-- A valve is fed by another as often as that feeds it, and no valve has more feeds on a side than
+-- `most` less `room`.
 pub record AreReversed (feeds : BothWays) : Type 0 where
   pub size : length feeds.feeders ≡ length feeds.fed
   pub times : (x y : ℕ) → times y (fed_by feeds x) ≡ times x (feeders_of feeds y)

@@ -1,8 +1,9 @@
-use Rattle.std.proofs.Common.{◌≡◌, subst, sym}
-use Rattle.config_model.specs.Configs.{Config}
-use Rattle.drill_run.proofs.Making.{files_open, same_cause, summed, written_unasked}
-use Rattle.drill_run.specs.Leaving.{FilesOpen, IfUnwritten, LinesLeave}
+use Rattle.std.proofs.Common.{◌≡◌, ap, subst, sym}
+use Rattle.drill_run.proofs.Making.{same_cause, summed, written_unasked}
+use Rattle.drill_run.specs.Leaving.{IfUnwritten, LinesLeave}
 use Rattle.drill_run.specs.declared.answers.Drilled.{Drilled}
+use Rattle.engine_model.specs.Engine.{Journal}
+use Rattle.session_server.proofs.Files.{are_files}
 use Rattle.drill_run.proofs.running.drill_in.Goals as goal
 
 pub returns-in-On-clause-leaves : goal.returns-in-On-clause-leaves
@@ -15,11 +16,12 @@ returns-in-On-clause-leaves g c = λ start stands files.
     (g.K.Sink.held c.args.out.now) (g.K.Sink.held c.sum_up.new.out) written.0 (
       end.0,
       end.1,
-      subst (λ (config : Config). FilesOpen g.D.Disk.images c.run_lines.new.a c.run_lines.new.b config)
-          (sym end.2.stands.config)
-          (files_open g.D.Disk.reading g.D.Disk.images c.standing_opens.ensures
+      are_files g.D.Disk.reading g.D.Disk.images c.standing_opens.ensures c.standing_shapes.ensures
           c.run_lines.new.store.kept c.run_lines.new.a c.run_lines.new.b c.in-On.ensures.stands
-          (c.in-On.ensures.holds files)),
+          (c.in-On.ensures.holds files) end.0.engine end.2.stands.config
+          (ap (λ (j : Journal). j.side) end.2.stands.journal)
+          (ap (λ (j : Journal). j.generation) end.2.stands.journal)
+          (ap (λ (j : Journal). j.length) end.2.stands.journal),
       written.2,
     ))
 

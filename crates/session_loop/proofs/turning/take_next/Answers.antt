@@ -2,11 +2,12 @@ use Rattle.std.proofs.Common.{◌≡◌, ◌∙◌, ◌+◌, ℕ, List, [], Opti
 use Rattle.engine_model.specs.Engine.{Journal}
 use Rattle.line_splitting.specs.Lines.{Line}
 use Rattle.line_splitting.specs.Reading.{GivesLine, events}
-use Rattle.session_loop.proofs.Files.{are_files, behind_none, files_open, line_files, stays}
+use Rattle.session_loop.proofs.Files.{behind_none, line_files, stays}
 use Rattle.session_loop.proofs.Turns.{all_now, at_end, at_limit, cause_of, is_more, is_whole, line_turn, link_whole, long_cause, long_turn, read, never_read, broken_now, went_whole}
 use Rattle.session_loop.specs.Ending.{FilesKept, HasCause}
 use Rattle.session_loop.specs.Turning.{RoundLeaves}
 use Rattle.session_loop.specs.declared.ended.Ended.{Ended}
+use Rattle.session_server.proofs.Files.{are_files, open_alike}
 use Rattle.session_server.specs.Holding.{Holds}
 use Rattle.session_server.specs.Journaled.{State as Kept, config_of}
 use Rattle.session_server.specs.Standing.{Server, StandsFor}
@@ -179,8 +180,8 @@ returns-in-Line-clause-files g c = λ engine stands held.
     let its = c.take_line.ensures.made engine stands in (
       its.0.config,
       its.1,
-      files_open g.D.Disk.reading g.D.Disk.images c.standing_opens.ensures
-          c.take_line.new.self.store.kept c.take_line.new.a c.take_line.new.b
+      open_alike g.D.Disk.reading g.D.Disk.images c.standing_opens.ensures
+          c.standing_shapes.ensures c.take_line.new.self.store.kept c.take_line.new.a c.take_line.new.b
           (c.take_line.ensures.stands whole) (c.take_line.ensures.holds held whole) its.0.config
           its.2.config,
     )))
@@ -194,13 +195,13 @@ returns-in-TooLong-clause-made g c = λ is engine stands. (
 
 pub returns-in-TooLong-clause-files : goal.returns-in-TooLong-clause-files
 returns-in-TooLong-clause-files g c = λ engine stands held.
-    let opens = (files_open g.D.Disk.reading g.D.Disk.images c.standing_opens.ensures
-    c.args.server.now.store.kept c.args.a.now c.args.b.now c.requires.stands held engine.config
+    let opens = (open_alike g.D.Disk.reading g.D.Disk.images c.standing_opens.ensures
+    c.standing_shapes.ensures c.args.server.now.store.kept c.args.a.now c.args.b.now c.requires.stands held engine.config
     stands.config) in
     subst (λ (r : Option Ended). IfSome r (λ how. FilesKept how g.D.Disk.images c.args.a.now
     c.args.b.now engine.config)) (sym c.ended_of-in-TooLong.ensures)
     (line_files g.D.Disk.images c.args.a.now c.args.b.now engine.config c.refuse_line.result
-    (λ is. stays g.D.Disk.images c.args.a.now c.args.b.now engine.config opens)
+    (λ is. stays g.D.Disk.images c.args.a.now c.args.b.now engine.config opens.opens)
     (λ whole. (engine.config, inl refl, opens)))
 
 pub returns-in-Read-clause-made : goal.returns-in-Read-clause-made
@@ -209,20 +210,20 @@ returns-in-Read-clause-made g c = λ is engine stands. (engine, inl refl, stands
 pub returns-in-Failed-clause-files : goal.returns-in-Failed-clause-files
 returns-in-Failed-clause-files g c = λ engine stands held.
     behind_none g.D.Disk.images c.args.a.now c.args.b.now engine.config
-    (files_open g.D.Disk.reading g.D.Disk.images c.standing_opens.ensures
-    c.args.server.now.store.kept c.args.a.now c.args.b.now c.requires.stands held engine.config
+    (open_alike g.D.Disk.reading g.D.Disk.images c.standing_opens.ensures
+    c.standing_shapes.ensures c.args.server.now.store.kept c.args.a.now c.args.b.now c.requires.stands held engine.config
     stands.config)
 
 pub returns-in-Ended-clause-files : goal.returns-in-Ended-clause-files
 returns-in-Ended-clause-files g c = λ engine stands held.
     behind_none g.D.Disk.images c.args.a.now c.args.b.now engine.config
-    (files_open g.D.Disk.reading g.D.Disk.images c.standing_opens.ensures
-    c.args.server.now.store.kept c.args.a.now c.args.b.now c.requires.stands held engine.config
+    (open_alike g.D.Disk.reading g.D.Disk.images c.standing_opens.ensures
+    c.standing_shapes.ensures c.args.server.now.store.kept c.args.a.now c.args.b.now c.requires.stands held engine.config
     stands.config)
 
 pub returns-in-InputTooLong-clause-files : goal.returns-in-InputTooLong-clause-files
 returns-in-InputTooLong-clause-files g c = λ engine stands held.
     behind_none g.D.Disk.images c.args.a.now c.args.b.now engine.config
-    (files_open g.D.Disk.reading g.D.Disk.images c.standing_opens.ensures
-    c.args.server.now.store.kept c.args.a.now c.args.b.now c.requires.stands held engine.config
+    (open_alike g.D.Disk.reading g.D.Disk.images c.standing_opens.ensures
+    c.standing_shapes.ensures c.args.server.now.store.kept c.args.a.now c.args.b.now c.requires.stands held engine.config
     stands.config)
