@@ -1,5 +1,5 @@
 -- What a report costs.
-use Rattle.std.proofs.Common.{◌≡◌, ◌≤◌, ◌+◌, ℕ, Bool, true, false, List, [], ◌∷◌, length, arith, refl, ap, Some}
+use Rattle.std.proofs.Common.{◌≡◌, ◌≤◌, ◌<◌, ◌+◌, ℕ, Bool, true, false, List, [], ◌∷◌, length, arith, refl, ap, Some}
 use Rattle.std.specs.Prelude.{Contains, if◌then◌else◌, slice_get}
 use Rattle.std.proofs.lemmas.Option.{slice_get_within}
 use Rattle.check_model.specs.Checks.{Checks}
@@ -25,10 +25,12 @@ few_steps zones checks reports index stands id place here first cone has false b
     let same = quiet refl in omega arith
 few_steps zones checks reports index stands id place here first cone has true before after quiet costs =
     let check = at_place zones checks reports index stands id place here first in
-    let early = slice_get_within (ids_of checks.list) place id (rw stands.ids at here) in
+    let few = stands.are_checks.few in
+    let within = slice_get_within checks.list place (id, check.0) check.1 in
+    let early : place < 200 = omega arith in
     let walk = costs refl in
     let most = cone_long zones checks index.seats stands.net stands.own stands.are_zones stands.are_checks stands.sound
-    (λ p i c is. ap (λ r. r.feeders) (stands.wired.its_checks p i c is).condition) (condition_seated zones (ids_of checks.list) index.seats stands.net stands.own stands.wired.its_sets) stands.wired.its_nodes
+    (λ p i c is. ap (λ r. r.feeders) (stands.wired.its_checks p i c is).condition) (condition_seated zones (ids_of checks.list) index.seats stands.net stands.own stands.wired.its_sets) stands.wired.its_nodes stands.wired.spares
     place id check.0 walk.0 cone check.1 early walk.1.0 has in
     let is = walk.1.1 in
     omega arith

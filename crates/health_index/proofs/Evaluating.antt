@@ -1,5 +1,5 @@
 -- What working out one node leaves.
-use Rattle.std.proofs.Common.{◌≡◌, ◌≢◌, ◌∙◌, ℕ, Bool, ap, sym, inl, inr}
+use Rattle.std.proofs.Common.{◌≡◌, ◌≢◌, ◌∙◌, ℕ, Bool, true, length, ap, sym, inl, inr}
 use Rattle.std.specs.Prelude.{◌↔◌, Contains, IsTrue, List}
 use mathlib.Core.Path.{subst}
 use Rattle.check_model.specs.Checks.{Checks}
@@ -10,7 +10,7 @@ use Rattle.health_model.specs.Nodes.{Node, feeders}
 use Rattle.health_model.specs.Statuses.{Report}
 use Rattle.health_planning.specs.Groups.{ViewsAgree}
 use Rattle.health_planning.specs.Zones.{Zone}
-use Rattle.health_planning.specs.Wired.{ids_of, watched_of}
+use Rattle.health_planning.specs.Wired.{IsSpare, ids_of, watched_of}
 use Rattle.health_planning.proofs.Ending.{feeder, condition_seated}
 use Rattle.health_index.specs.Index.{Index, IsLaidFor, IsNumberOf, healthy_in}
 use Rattle.health_index.specs.Values.{WorksOut}
@@ -24,7 +24,8 @@ still_idle before after turns idle =
 
 module _ (views : ViewsAgree) (zones : List Zone) (checks : Checks) (reports : List Report)
     (index : Index) (laid : IsLaidFor zones checks reports index) (valves : Valves)
-    (fits : ValvesStandFor laid.net laid.own valves) (idle : IsIdle valves) where
+    (fits : ValvesStandFor laid.net laid.own valves) (idle : IsIdle valves)
+    (spare : (valve : ℕ) → IsSpare (length checks.list) valve → value_of valves valve ≡ true) where
   abbrev after : Index
   after = record index { valves = valves }
 
@@ -44,6 +45,7 @@ module _ (views : ViewsAgree) (zones : List Zone) (checks : Checks) (reports : L
     wired = laid.wired;
     told = laid.told;
     fits = fits;
+    spare = spare;
     idle = idle;
   }
 

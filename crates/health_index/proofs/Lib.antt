@@ -1,11 +1,14 @@
+pub mod Agreed
 pub mod Bare
 pub mod Commanding
 pub mod Costing
 pub mod Evaluating
+pub mod Fewer
 pub mod Keyed
 pub mod Knowing
 pub mod Moving
 pub mod Numbering
+pub mod Renumbered
 pub mod Reporting
 pub mod Reserved
 pub mod Reshaped
@@ -14,3 +17,4 @@ pub mod Staying
 pub mod Taken
 pub mod Telling
 pub mod Truth
+pub mod Ways

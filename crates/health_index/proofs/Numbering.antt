@@ -1,6 +1,6 @@
 -- Numbers of nodes.
 use Rattle.std.proofs.Common.{◌≡◌, ◌<◌, ◌≤◌, ℕ, suc, Bool, true, false, List, length, arith, refl, ap, sym, ◌∙◌, inl, inr, Option, None, Some}
-use Rattle.std.specs.Prelude.{◌||◌, is_some, slice_get}
+use Rattle.std.specs.Prelude.{◌||◌, ◌⊎◌, is_some, slice_get}
 use Rattle.std.proofs.lemmas.Bool.{false≢true}
 use Rattle.std.proofs.lemmas.Option.{slice_get_within}
 use mathlib.Core.Path.{subst}
@@ -20,11 +20,11 @@ use Rattle.record_set.specs.declared.sets.Body.{Body}
 use Rattle.record_set.specs.declared.sets.Body.TheVariants as body
 use Rattle.record_set.specs.declared.sets.RecordSet.{RecordSet}
 use Rattle.zone_model.specs.Slotted.{IsHere, Slotted}
-use Rattle.health_index.specs.Index.{HasNumber, Index, IsLaidFor, IsNumberOf}
+use Rattle.health_index.specs.Index.{HasNode, HasNumber, Index, IsLaidFor, IsNumberOf}
 use Rattle.health_index.specs.Laws.{NodesAreNumbered}
-use Rattle.health_planning.specs.Wired.{IsValveFor, IsLedTo, IsTarget, group_seat, ids_of, is_watched, place_of, seat_of}
+use Rattle.health_planning.specs.Wired.{IsValveFor, IsLedTo, IsSpare, IsTarget, group_seat, ids_of, is_watched, place_of, seat_of}
 use Rattle.health_planning.proofs.Places.{found, held_there, id_there, one_place}
-use Rattle.health_planning.proofs.Wiring.{first_here, first_same, rising_in, same_names}
+use Rattle.health_planning.proofs.Wiring.{first_here, first_same, ids_long, rising_in, same_names}
 
 some_same : {X : Type 0} {x y : X} → Some x ≡ Some y → x ≡ y
 some_same e = cc
@@ -107,12 +107,13 @@ module _ (zones : List Zone) (checks : Checks) (reports : List Report) (index : 
           absurd (omega arith)
 
   check_early : (number id : ℕ) → IsNumberOf zones index number (CheckNode id)
-      → number < length (ids_of checks.list)
+      → number < length checks.list
   check_early number id at =
-      slice_get_within (ids_of checks.list) number id (subst (λ (l : List ℕ). slice_get l number ≡ Some id) laid.ids at)
+      let held = held_there checks.list number id (subst (λ (l : List ℕ). slice_get l number ≡ Some id) laid.ids at) in
+      slice_get_within checks.list number (id, held.0) held.1
 
   set_late : (number zone : ℕ) (set : RecordSet) → IsNumberOf zones index number (SetNode zone set)
-      → length (ids_of checks.list) ≤ number
+      → 200 ≤ number
   set_late number zone set (slot, (here, seat)) =
       let g = (laid.wired.its_sets zone (record { slot = slot; set = set }) here).valved (decided number zone set (slot, (here, seat))) in
       let its = g.1 in
@@ -121,7 +122,7 @@ module _ (zones : List Zone) (checks : Checks) (reports : List Report) (index : 
 
   group_late : (number zone : ℕ) (name : List (List ℕ)) (rtype : RType)
       → IsNumberOf zones index number (GroupNode zone name rtype)
-      → length (ids_of checks.list) ≤ number
+      → 200 ≤ number
   group_late number zone name rtype (members, (are, seat)) =
       (laid.told.groups seat.0 number seat.1.1).behind
 
@@ -132,14 +133,17 @@ module _ (zones : List Zone) (checks : Checks) (reports : List Report) (index : 
   one_node number (CheckNode id) (SetNode zone set) first second =
       let early = check_early number id first in
       let late = set_late number zone set second in
+      let few = laid.are_checks.few in
       absurd (omega arith)
   one_node number (CheckNode id) (GroupNode zone name rtype) first second =
       let early = check_early number id first in
       let late = group_late number zone name rtype second in
+      let few = laid.are_checks.few in
       absurd (omega arith)
   one_node number (SetNode zone set) (CheckNode id) first second =
       let early = check_early number id second in
       let late = set_late number zone set first in
+      let few = laid.are_checks.few in
       absurd (omega arith)
   one_node number (SetNode zone set) (SetNode other set_two) (s, (here, seat)) (t, (there_too, seat_two)) =
       let slots = laid.told.sets s t number seat seat_two in
@@ -153,6 +157,7 @@ module _ (zones : List Zone) (checks : Checks) (reports : List Report) (index : 
   one_node number (GroupNode zone name rtype) (CheckNode id) first second =
       let early = check_early number id second in
       let late = group_late number zone name rtype first in
+      let few = laid.are_checks.few in
       absurd (omega arith)
   one_node number (GroupNode zone name rtype) (SetNode other set) (members, (are, its)) (s, (here, seat)) =
       absurd (laid.told.kinds s its.0 number seat its.1.1)
@@ -168,13 +173,28 @@ module _ (zones : List Zone) (checks : Checks) (reports : List Report) (index : 
       (b.2 ∙ sym q.2) in
       group_nodes zone other name name_two rtype rtype_two (one.0 ∙ sym two.0) (one.1.0 ∙ sym two.1.0) (one.1.1 ∙ sym two.1.1)
 
+  -- it is that of a check, or behind those of 200 checks
+  pub early_or_late : (number : ℕ) (node : Node) → IsNumberOf zones index number node
+      → (number < length checks.list) ⊎ (200 ≤ number)
+  early_or_late number (CheckNode id) is = inl (check_early number id is)
+  early_or_late number (SetNode zone set) is = inr (set_late number zone set is)
+  early_or_late number (GroupNode zone name rtype) is = inr (group_late number zone name rtype is)
+
+  not_spare : (number : ℕ) → (number < length checks.list) ⊎ (200 ≤ number)
+      → IsSpare (length checks.list) number → ⊥
+  not_spare number (inl early) spare = let past = spare.0 in omega arith
+  not_spare number (inr late) spare = let before = spare.1 in omega arith
+
   -- the valve of the number of a node is that of the node
   pub valve_for : (number : ℕ) (node : Node) → IsNumberOf zones index number node
       → IsValveFor zones checks.list index.seats laid.net laid.own number node
   valve_for number node is =
-      let n = laid.wired.its_nodes number (there number node is) in
-      subst (IsValveFor zones checks.list index.seats laid.net laid.own number)
-      (one_node number n.0 node (of_valve number n.0 n.1) is) n.1
+      elim (laid.wired.its_nodes number (there number node is)) [
+        | inl spare ↦ absurd (not_spare number (early_or_late number node is) spare)
+        | inr n ↦
+            subst (IsValveFor zones checks.list index.seats laid.net laid.own number)
+            (one_node number n.0 node (of_valve number n.0 n.1) is) n.1
+      ]
 
   -- ---- which nodes have numbers
 
@@ -195,11 +215,11 @@ module _ (zones : List Zone) (checks : Checks) (reports : List Report) (index : 
   target_number zone p name here is =
       let on : is_watched p.set ≡ true = ap (λ (b : Body). is_some p.set.check || evaluates b) is ∙ or_true p.set.check in
       let g = (laid.wired.its_sets zone p here).valved on in
-      by g.2.target (subst (λ (b : Body). IsTarget zones (length (ids_of checks.list)) index.seats laid.net laid.own zone p.set.rtype b g.2.target)
+      by g.2.target (subst (λ (b : Body). IsTarget zones index.seats laid.net laid.own zone p.set.rtype b g.2.target)
       is g.2.its_target)
     where
       by : (target : List ℕ)
-          → IsTarget zones (length (ids_of checks.list)) index.seats laid.net laid.own zone p.set.rtype (body.Alias name true) target
+          → IsTarget zones index.seats laid.net laid.own zone p.set.rtype (body.Alias name true) target
           → HasNumber zones index (GroupNode zone name p.set.rtype)
       by target (inl (off, without)) = absurd (false≢true (sym off))
       by target (inr (evaluated, (valve, target_is, (members, are, w)))) = (valve, (members, (are, w.seat)))
@@ -220,16 +240,40 @@ module _ (zones : List Zone) (checks : Checks) (reports : List Report) (index : 
   size_same : length index.valves.rows.items ≡ laid.net.size
   size_same = laid.fits.laid.size
 
+  as_many : length index.ids ≡ length checks.list
+  as_many = ap length laid.ids ∙ ids_long checks.list
+
+  its_place : (number : ℕ) → HasNode index number
+      → (number < laid.net.size) × ((number < length checks.list) ⊎ (200 ≤ number))
+  its_place number (inl early) =
+      let many = as_many in
+      let few = laid.are_checks.few in
+      let most = laid.wired.many in
+      (omega arith, inl (omega arith))
+  its_place number (inr (late, within)) = let size = size_same in (omega arith, inr late)
+
+  pub of_each : (number : ℕ) → HasNode index number → (node : Node) × IsNumberOf zones index number node
+  of_each number has =
+      let place = its_place number has in
+      elim (laid.wired.its_nodes number place.0) [
+        | inl spare ↦ absurd (not_spare number place.1 spare)
+        | inr n ↦ (n.0, of_valve number n.0 n.1)
+      ]
+
+  pub of_only : (number : ℕ) (node : Node) → IsNumberOf zones index number node → HasNode index number
+  of_only number node is =
+      let size = size_same in
+      let many = as_many in
+      let within = there number node is in
+      elim (early_or_late number node is) [
+        | inl early ↦ inl (omega arith)
+        | inr late ↦ inr (late, omega arith)
+      ]
+
 pub nodes_are_numbered : NodesAreNumbered
 nodes_are_numbered zones checks reports index laid = record {
-  each = λ number has.
-      let size = size_same zones checks reports index laid in
-      let n = laid.wired.its_nodes number (omega arith) in
-      (n.0, of_valve zones checks reports index laid number n.0 n.1);
-  only = λ number node is.
-      let size = size_same zones checks reports index laid in
-      let b = there zones checks reports index laid number node is in
-      omega arith;
+  each = of_each zones checks reports index laid;
+  only = of_only zones checks reports index laid;
   one = one_number zones checks reports index laid;
   apart = one_node zones checks reports index laid;
   its_checks = check_number zones checks reports index laid;

@@ -56,30 +56,30 @@ own_same before after id (Calculated threshold inverted disabled children) same 
 
 -- ---- valves of sets are not counted from outside
 
-module _ (checks : ℕ) (own : ℕ → ℕ) (place given : ℕ) (early : place < checks) where
-  untouched : (valve : ℕ) → checks ≤ valve → with_own place given own valve ≡ own valve
+module _ (own : ℕ → ℕ) (place given : ℕ) (early : place < 200) where
+  untouched : (valve : ℕ) → 200 ≤ valve → with_own place given own valve ≡ own valve
   untouched valve behind = rw (ne_eqb valve place (λ e. let b = early in omega arith)) refl
 
 module _ (zones : List Zone) (list : List (ℕ × Check)) (index : Index) (net : Net) (own : ℕ → ℕ)
-    (place given : ℕ) (early : place < length (ids_of list)) where
+    (place given : ℕ) (early : place < 200) where
   abbrev now : ℕ → ℕ
   now = with_own place given own
 
   group_still : (members : List Slotted) (valve : ℕ)
-      → IsGroupValve (length (ids_of list)) index.seats net own members valve
-      → IsGroupValve (length (ids_of list)) index.seats net now members valve
+      → IsGroupValve index.seats net own members valve
+      → IsGroupValve index.seats net now members valve
   group_still members valve w = record {
     seat = w.seat;
     each = w.each;
     behind = w.behind;
     within = w.within;
     condition = w.condition;
-    its_own = untouched (length (ids_of list)) own place given early valve w.behind ∙ w.its_own;
+    its_own = untouched own place given early valve w.behind ∙ w.its_own;
   }
 
   target_still : (zone : ℕ) (rtype : RType) (its : Body) (target : List ℕ)
-      → IsTarget zones (length (ids_of list)) index.seats net own zone rtype its target
-      → IsTarget zones (length (ids_of list)) index.seats net now zone rtype its target
+      → IsTarget zones index.seats net own zone rtype its target
+      → IsTarget zones index.seats net now zone rtype its target
   target_still zone rtype (body.Values ttl values) target is = is
   target_still zone rtype (body.Alias name evaluate) target (inl off) = inl off
   target_still zone rtype (body.Alias name evaluate) target (inr (on, (valve, is, (members, are, w)))) =
@@ -108,7 +108,7 @@ module _ (zones : List Zone) (list : List (ℕ × Check)) (index : Index) (net :
         target = g.2.target;
         its_target = target_still zone p.set.rtype p.set.body g.2.target g.2.its_target;
         condition = g.2.condition;
-        its_own = untouched (length (ids_of list)) own place given early g.0 g.2.behind ∙ g.2.its_own;
+        its_own = untouched own place given early g.0 g.2.behind ∙ g.2.its_own;
       },
     );
   }
@@ -171,8 +171,11 @@ module _ (fifty : FiftyAlone) (more : OneMoreReport) (zones : List Zone) (checks
       × (given ≡ check_own there.0 (passing (report ∷ reports) id))
   here_now = its_check there.0 there.2 (stands.seen place id there.0 (Some its) there.1 seen_here)
 
-  early : place < length (ids_of checks.list)
-  early = slice_get_within (ids_of checks.list) place id (rw stands.ids at here)
+  early : place < 200
+  early =
+      let within = slice_get_within checks.list place (id, there.0) there.1 in
+      let few = stands.are_checks.few in
+      omega arith
 
   -- another place has another number
   other_id : (p other : ℕ) (check : Check) → p ≢ place
@@ -242,8 +245,12 @@ module _ (fifty : FiftyAlone) (more : OneMoreReport) (zones : List Zone) (checks
       its_checks = valve_now;
       its_sets = λ zone p in_zone. seated_still zones checks.list index stands.net stands.own place given early zone p (stands.wired.its_sets zone p in_zone);
       its_nodes = λ valve within.
-          let n = stands.wired.its_nodes valve within in
-          (n.0, node_still zones checks.list index stands.net stands.own place given early valve n.0 n.1);
+          elim (stands.wired.its_nodes valve within) [
+            | inl spare ↦ inl spare
+            | inr n ↦ inr (n.0, node_still zones checks.list index stands.net stands.own place given early valve n.0 n.1)
+          ];
+      spares = stands.wired.spares;
+      many = stands.wired.many;
       its_groups = stands.wired.its_groups;
     };
     told = stands.told;
@@ -326,4 +333,5 @@ whole_after index w place given its now valves space here fits idle = record {
     | inl same ↦ rw same (w.alone place its here)
     | inr apart ↦ w.alone p found (sym (set_beside index.seen place p (Some now) apart) ∙ is)
   ];
+  spare = w.spare;
 }

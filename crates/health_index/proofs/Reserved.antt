@@ -9,7 +9,7 @@ use Rattle.health_planning.specs.Zones.{Zone}
 use Rattle.health_index.specs.Index.{Index, IsIntact, StandsFor, TellApart}
 use Rattle.health_index.specs.Room.{Keeps}
 use Rattle.health_planning.specs.Building.{AllListed}
-use Rattle.health_planning.specs.Wired.{AreValvesOf, ids_of}
+use Rattle.health_planning.specs.Wired.{AreValvesOf}
 use Rattle.health_planning.specs.declared.seats.Seat.{Seat}
 
 module _ (before after : Index) (keeps : Keeps before after)
@@ -34,7 +34,7 @@ module _ (before after : Index) (keeps : Keeps before after)
     net = is.net;
     own = is.own;
     wired = subst (λ (seats : List Seat). AreValvesOf zones checks.list seats is.net is.own reports) (sym keeps.seats) is.wired;
-    told = subst (TellApart zones (length (ids_of checks.list))) (sym keeps.seats) is.told;
+    told = subst (TellApart zones) (sym keeps.seats) is.told;
     fits = stays is.net is.own is.fits;
     meet = meet is.net is.own is.meet;
     idle = idle is.idle;
@@ -53,4 +53,5 @@ module _ (before after : Index) (keeps : Keeps before after)
     seated = rw keeps.seats is.seated;
     given = rw (keeps.refs, keeps.members, keeps.seats) is.given;
     alone = rw keeps.seen is.alone;
+    spare = rw keeps.ids is.spare;
   }

@@ -51,11 +51,11 @@ module _ (zones : List Zone) (checks : Checks) (refs members : List SetRef) (sea
         as_many = many;
         apart = rw ids_is (ids_apart checks.list are_checks.rising);
         few = omega arith;
-        within = omega arith;
+        within = let few = are_checks.few in omega arith;
         seated = λ slot valve is.
             let o = built.only slot valve is in
             let g = built.sets o.0 o.1.0 o.1.2 in
-            let b = slice_get_within blueprint.triggers (length checks.list + o.0) (set_trigger g.named) g.trigger in
+            let b = slice_get_within blueprint.triggers (200 + o.0) (set_trigger g.named) g.trigger in
             let at = o.1.1 in
             omega arith;
         given = given;
@@ -64,10 +64,14 @@ module _ (zones : List Zone) (checks : Checks) (refs members : List SetRef) (sea
             fed_by_condition (slice_get blueprint.triggers place) (feeders_in blueprint.links place)
             ∙ built.children place k.0 k.1.0 k.1.1.0
             ∙ ap (map (place_of (ids_of checks.list))) k.1.1.1;
+        spare = λ valve is.
+            let past = is.0 in
+            fed_by_condition (slice_get blueprint.triggers valve) (feeders_in blueprint.links valve)
+            ∙ built.unfed valve (omega arith) is.1;
       }
 
   -- valves stand one after another: those of checks, of sets, of groups
-  told : TellApart zones (length (ids_of checks.list)) seats
+  told : TellApart zones seats
   told = record {
     sets = λ slot other valve is is_too.
         let a = built.only slot valve is in
@@ -87,7 +91,6 @@ module _ (zones : List Zone) (checks : Checks) (refs members : List SetRef) (sea
     groups = λ slot valve is.
         let g = built.groups.valves slot valve is in
         let past = g.0 in
-        let long = ids_long checks.list in
         record {
           zone = g.1.zone;
           name = g.1.name;

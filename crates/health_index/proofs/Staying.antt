@@ -1,5 +1,5 @@
 -- Where no valve changes by the sets that went and came, all valves stand as they stood.
-use Rattle.std.proofs.Common.{◌≡◌, ◌≢◌, ◌++◌, ℕ, suc, Bool, true, false, cond, List, [], ◌∷◌, length, map, arith, refl, ap, sym, ◌∙◌, inl, inr, Less, Option, None, Some}
+use Rattle.std.proofs.Common.{◌≡◌, ◌≢◌, ◌++◌, ℕ, suc, Bool, true, false, cond, List, [], ◌∷◌, map, arith, refl, ap, sym, ◌∙◌, inl, inr, Less, Option, None, Some}
 use Rattle.std.specs.List.{filter}
 use Rattle.std.specs.Option.{option_to_list}
 use Rattle.std.specs.Prelude.{◌||◌, is_some}
@@ -108,17 +108,16 @@ same_check a b same some =
           watched = ap (λ (c : Option ℕ). is_some c || evaluates b.body) n_is;
         }
 
-module _ (zones : List Zone) (count : ℕ) (seats : List Seat) (net : Net) (own : ℕ → ℕ) (zone : ℕ)
-    (rtype : RType) where
+module _ (zones : List Zone) (seats : List Seat) (net : Net) (own : ℕ → ℕ) (zone : ℕ) (rtype : RType) where
   no_target_of : (its_body : Body) (target : List ℕ) → evaluates its_body ≡ false
-      → IsTarget zones count seats net own zone rtype its_body target → target ≡ []
+      → IsTarget zones seats net own zone rtype its_body target → target ≡ []
   no_target_of (body.Values ttl values) target off is = is
   no_target_of (body.Alias name evaluate) target off (inl (e, is)) = is
   no_target_of (body.Alias name evaluate) target off (inr (on, more)) =
       absurd (false≢true (sym off ∙ on))
 
   to_no_target : (its_body : Body) (target : List ℕ) → evaluates its_body ≡ false
-      → target ≡ [] → IsTarget zones count seats net own zone rtype its_body target
+      → target ≡ [] → IsTarget zones seats net own zone rtype its_body target
   to_no_target (body.Values ttl values) target off is = is
   to_no_target (body.Alias name evaluate) target off is = inl (off, is)
 
@@ -247,9 +246,9 @@ module _ (before after : List Zone) (are_before : AreZones before) (are_after : 
         let p = from q m in
         ap (λ (k : SetKey × ℕ). group_seat seats k.1) (sym p.2) ∙ tell p.0 p.1
 
-    valve_now : (count : ℕ) (net : Net) (own : ℕ → ℕ) → IsGroupValve count seats net own members valve
-        → IsGroupValve count seats net own members_now valve
-    valve_now count net own w = record {
+    valve_now : (net : Net) (own : ℕ → ℕ) → IsGroupValve seats net own members valve
+        → IsGroupValve seats net own members_now valve
+    valve_now net own w = record {
       seat = (w.seat.0, (first_by_slots members members_now w.seat.0 same w.seat.1.0, w.seat.1.1));
       each = tell_now;
       behind = w.behind;
@@ -283,9 +282,9 @@ module _ (before after : List Zone) (are_before : AreZones before) (are_after : 
     ]
 
     -- the seats that tell the valve of a group are those of its sets still
-    one_group_now : (count slot valve : ℕ) → group_seat seats slot ≡ suc valve
-        → IsOfOneGroup before count seats valve → IsOfOneGroup after count seats valve
-    one_group_now count slot valve is g =
+    one_group_now : (slot valve : ℕ) → group_seat seats slot ≡ suc valve
+        → IsOfOneGroup before seats valve → IsOfOneGroup after seats valve
+    one_group_now slot valve is g =
         let f = g.only slot is in
         record {
           zone = g.zone;
@@ -302,39 +301,39 @@ module _ (before after : List Zone) (are_before : AreZones before) (are_after : 
               (q.0, q.1, ap (λ (k : SetKey × ℕ). k.1) q.2 ∙ p.2);
         }
 
-    pub told_now : (count : ℕ) → TellApart before count seats → TellApart after count seats
-    told_now count told = record {
+    pub told_now : TellApart before seats → TellApart after seats
+    told_now told = record {
       sets = told.sets;
       kinds = told.kinds;
-      groups = λ slot valve is. one_group_now count slot valve is (told.groups slot valve is);
+      groups = λ slot valve is. one_group_now slot valve is (told.groups slot valve is);
     }
 
   module _ (checks : List (ℕ × Check)) (net : Net) (own : ℕ → ℕ) where
     -- a group with a valve has it still
-    record HasStill (count zone : ℕ) (name : List (List ℕ)) (rtype : RType) (valve : ℕ)
+    record HasStill (zone : ℕ) (name : List (List ℕ)) (rtype : RType) (valve : ℕ)
         : Type 0 where
       members : List Slotted
       are : AreMembers after zone name rtype members
-      is : IsGroupValve count seats net own members valve
+      is : IsGroupValve seats net own members valve
 
-    group_now : (count zone : ℕ) (name : List (List ℕ)) (rtype : RType) (members : List Slotted)
+    group_now : (zone : ℕ) (name : List (List ℕ)) (rtype : RType) (members : List Slotted)
         (valve : ℕ) → AreMembers before zone name rtype members
-        → IsGroupValve count seats net own members valve → HasStill count zone name rtype valve
-    group_now count zone name rtype members valve are w =
+        → IsGroupValve seats net own members valve → HasStill zone name rtype valve
+    group_now zone name rtype members valve are w =
         let f = first_here members w.seat.0 w.seat.1.0 in
         record {
           members = members_now zone name rtype members valve are w.each f.0 f.1;
           are = are_now zone name rtype members valve are w.each f.0 f.1;
-          is = valve_now zone name rtype members valve are w.each f.0 f.1 count net own w;
+          is = valve_now zone name rtype members valve are w.each f.0 f.1 net own w;
         }
 
-    target_now : (count zone : ℕ) (rtype : RType) (its_body : Body) (target : List ℕ)
-        → IsTarget before count seats net own zone rtype its_body target
-        → IsTarget after count seats net own zone rtype its_body target
-    target_now count zone rtype (body.Values ttl values) target is = is
-    target_now count zone rtype (body.Alias name evaluate) target (inl off) = inl off
-    target_now count zone rtype (body.Alias name evaluate) target (inr (on, (valve, is, (members, are, w)))) =
-        let g = group_now count zone name rtype members valve are w in
+    target_now : (zone : ℕ) (rtype : RType) (its_body : Body) (target : List ℕ)
+        → IsTarget before seats net own zone rtype its_body target
+        → IsTarget after seats net own zone rtype its_body target
+    target_now zone rtype (body.Values ttl values) target is = is
+    target_now zone rtype (body.Alias name evaluate) target (inl off) = inl off
+    target_now zone rtype (body.Alias name evaluate) target (inr (on, (valve, is, (members, are, w)))) =
+        let g = group_now zone name rtype members valve are w in
         inr (on, (valve, is, (g.members, g.are, g.is)))
 
     seated_now : (zone : ℕ) (p : Slotted) → IsSeated before (ids_of checks) seats net own zone p
@@ -349,7 +348,7 @@ module _ (before after : List Zone) (are_before : AreZones before) (are_after : 
           behind = g.2.behind;
           within = g.2.within;
           target = g.2.target;
-          its_target = target_now _ zone p.set.rtype p.set.body g.2.target g.2.its_target;
+          its_target = target_now zone p.set.rtype p.set.body g.2.target g.2.its_target;
           condition = g.2.condition;
           its_own = g.2.its_own;
         },
@@ -379,7 +378,7 @@ module _ (before after : List Zone) (are_before : AreZones before) (are_after : 
             let g = s.valved on in
             let one = ap (check_seat seats) slots ∙ told in
             let alike = same_check p.set q.set (sym (s.told on) ∙ one) only in
-            let target = no_target_of before (length (ids_of checks)) seats net own zone p.set.rtype p.set.body g.2.target alike.off g.2.its_target in
+            let target = no_target_of before seats net own zone p.set.rtype p.set.body g.2.target alike.off g.2.its_target in
             record {
               plain = λ off. absurd (false≢true (sym off ∙ alike.watched));
               told = λ e. told;
@@ -390,7 +389,7 @@ module _ (before after : List Zone) (are_before : AreZones before) (are_after : 
                   behind = g.2.behind;
                   within = g.2.within;
                   target = g.2.target;
-                  its_target = to_no_target after (length (ids_of checks)) seats net own zone q.set.rtype q.set.body g.2.target alike.off_too target;
+                  its_target = to_no_target after seats net own zone q.set.rtype q.set.body g.2.target alike.off_too target;
                   condition = g.2.condition ∙ ap (λ (c : Option ℕ). set_condition (map (place_of (ids_of checks)) (option_to_list c) ++ g.2.target)) alike.check;
                   its_own = g.2.its_own;
                 },
@@ -454,7 +453,7 @@ module _ (before after : List Zone) (are_before : AreZones before) (are_after : 
         let slots = ap (λ (k : SetKey × ℕ). seat_of seats k.1) q.2 in
         (SetNode zone q.0.set, (q.0.slot, (q.1, slots ∙ seat)))
     node_now valve (GroupNode zone name rtype) (members, (are, w)) =
-        let g = group_now _ zone name rtype members valve are w in
+        let g = group_now zone name rtype members valve are w in
         (GroupNode zone name rtype, (g.members, (g.are, g.is)))
 
 -- ---- commands
@@ -527,13 +526,16 @@ module _ (before after : List Zone) (reports : List Report) (index : Index) (del
       its_sets = seated_all before after stands.are_zones are_after delta.removed delta.added moves index.seats valve_leaving.went valve_leaving.came checks.list
           stands.net stands.own stands.wired.its_sets;
       its_nodes = λ valve within.
-          let n = stands.wired.its_nodes valve within in
-          node_now before after stands.are_zones are_after delta.removed delta.added moves index.seats valve_leaving.went valve_leaving.came checks.list stands.net
-          stands.own valve n.0 n.1;
+          elim (stands.wired.its_nodes valve within) [
+            | inl spare ↦ inl spare
+            | inr n ↦ inr (node_now before after stands.are_zones are_after delta.removed delta.added moves index.seats valve_leaving.went valve_leaving.came checks.list stands.net stands.own valve n.0 n.1)
+          ];
+      spares = stands.wired.spares;
+      many = stands.wired.many;
       its_groups = stands.wired.its_groups;
     };
     told = told_now before after stands.are_zones are_after delta.removed delta.added moves index.seats valve_leaving.went valve_leaving.came
-        (alias_seated before checks reports index stands) (length (ids_of checks.list)) stands.told;
+        (alias_seated before checks reports index stands) stands.told;
     fits = stands.fits;
     meet = stands.meet;
     idle = stands.idle;

@@ -9,7 +9,7 @@ use Rattle.calculated_health.specs.Status.{swapped_if}
 use Rattle.check_model.specs.Checks.{Checks, children_of}
 use Rattle.check_model.specs.declared.checks.Check.{Check}
 use Rattle.check_model.specs.declared.checks.Check.TheVariants.{Endpoint, Calculated}
-use Rattle.health_valves.specs.Valves.{MeetsEquation, Condition, count, equation, value_of}
+use Rattle.health_valves.specs.Valves.{MeetsEquation, Condition, Net, count, equation, value_of}
 use Rattle.health_valves.specs.Pass.{MeetAll}
 use Rattle.health_model.proofs.Members.{of_filter}
 use Rattle.health_model.specs.Healthy.{Watched, by_check, by_target, group_value, set_value, sets_of as sets_at}
@@ -37,8 +37,15 @@ use Rattle.health_planning.proofs.Watching.{zone_sets as sets_seen}
 use Rattle.health_planning.proofs.Wiring.{first_here, first_of, member_there}
 use Rattle.health_index.proofs.Keyed.{grouped_sets}
 use Rattle.health_index.proofs.Numbering.{valve_for, of_valve, there}
-use Rattle.health_planning.specs.Wired.{AreMembers, IsFirstIn, IsValveFor, IsGroupValve, IsGroupSeat, IsTarget, check_need, check_own, check_condition, valves_of, group_seat, ids_of, is_inverted, is_watched, open_in, place_of, plain_among, seat_of, watched_of, with_valve, plain}
+use Rattle.health_planning.specs.Wired.{AreMembers, IsFirstIn, IsValveFor, IsGroupValve, IsGroupSeat, IsTarget, check_need, check_own, check_condition, valves_of, group_seat, ids_of, is_inverted, is_watched, open_in, place_of, plain_among, seat_of, spare_condition, watched_of, with_valve, plain}
 use Rattle.health_planning.specs.declared.seats.Seat.{Seat}
+
+-- a valve at which nothing has to be counted is open
+spare_open : (net : Net) (own : ℕ → ℕ) (v : ℕ → Bool) (valve : ℕ) → net.condition valve ≡ spare_condition
+    → equation net own v valve ≡ true
+spare_open net own v valve is =
+    ap (λ (c : Condition). swapped_if c.inverted (nat_le c.need (own valve + count v c.feeders))) is
+    ∙ le-leb 0 (own valve + 0) (omega arith)
 
 -- ---- lists
 
@@ -267,7 +274,7 @@ module _ (zones : List Zone) (checks : Checks) (reports : List Report) (index : 
 
   group_valued : (zone : ℕ) (name : List (List ℕ)) (rtype : RType) (members : List Slotted) (valve : ℕ)
       → AreMembers zones zone name rtype members
-      → IsGroupValve (length its_ids) index.seats laid.net laid.own members valve
+      → IsGroupValve index.seats laid.net laid.own members valve
       → of_group zone name rtype ≡ valve_open valve
   group_valued zone name rtype members valve are w =
       let listed = members_in zones zone name rtype in
@@ -302,7 +309,7 @@ module _ (zones : List Zone) (checks : Checks) (reports : List Report) (index : 
 
   group_equals : (zone : ℕ) (name : List (List ℕ)) (rtype : RType) (members : List Slotted) (valve : ℕ)
       → AreMembers zones zone name rtype members
-      → IsGroupValve (length its_ids) index.seats laid.net laid.own members valve
+      → IsGroupValve index.seats laid.net laid.own members valve
       → local watched reports v (GroupNode zone name rtype)
       ≡ equation laid.net laid.own valve_open valve
   group_equals zone name rtype members valve are w = sym (
@@ -315,7 +322,7 @@ module _ (zones : List Zone) (checks : Checks) (reports : List Report) (index : 
       ∙ ap (λ (sets : List RecordSet). list_any (value_of_set zones index zone) (filter (is_of_group name rtype) sets)) (sym (zone_sets zones checks zone)))
 
   target_equals : (zone : ℕ) (set : RecordSet) (rtype : RType) (its : Body) (target : List ℕ)
-      → IsTarget zones (length its_ids) index.seats laid.net laid.own zone rtype its target
+      → IsTarget zones index.seats laid.net laid.own zone rtype its target
       → nat_le (length (map (place_of its_ids) (option_to_list set.check) ++ target))
       (0 + count valve_open (map (place_of its_ids) (option_to_list set.check) ++ target))
       ≡ by_check of_check set.check && by_target (of_group zone) rtype its
@@ -418,8 +425,12 @@ module _ (zones : List Zone) (checks : Checks) (reports : List Report) (index : 
   pub valves_meet : ((n : Node) → IsNode watched n → Meets watched reports v n)
       → MeetAll laid.net laid.own index.valves
   valves_meet all valve within =
-      let n = laid.wired.its_nodes valve within in
-      of_meet valve n.0 n.1 (all n.0 (node_there valve n.0 n.1))
+      elim (laid.wired.its_nodes valve within) [
+        | inl spare ↦
+            laid.spare valve spare
+            ∙ sym (spare_open laid.net laid.own (value_of index.valves) valve (laid.wired.spares valve spare))
+        | inr n ↦ of_meet valve n.0 n.1 (all n.0 (node_there valve n.0 n.1))
+      ]
 
   pub values : AreValues zones checks index
   values = record {
@@ -471,6 +482,11 @@ laid_of zones checks reports index stands = record {
   wired = stands.wired;
   told = stands.told;
   fits = stands.fits;
+  spare = λ valve is.
+      let many = stands.wired.many in
+      let early = is.1 in
+      stands.meet valve (omega arith)
+      ∙ spare_open stands.net stands.own (value_of index.valves) valve (stands.wired.spares valve is);
   idle = stands.idle;
 }
 

@@ -1,21 +1,104 @@
--- Commands that leave the checks of endpoints with their numbers: which they are, and what they change.
-use Rattle.std.specs.Prelude.{◌≡◌, ◌≤◌, ◌<◌, ℕ, List, Some, length, slice_get}
+-- Commands after which all checks are of endpoints: how the checks follow of those before, and what changes
+-- of the valves.
+use Rattle.std.specs.Prelude.{◌≡◌, ◌≤◌, ◌<◌, ◌+◌, ◌++◌, ℕ, List, [], ◌∷◌, Option, None, Some, length, slice_get, ⊤}
+use Rattle.std.specs.List.{remove}
+use Rattle.check_model.specs.Checks.{Checks}
 use Rattle.check_model.specs.declared.checks.Check.{Check}
-use Rattle.health_index.specs.Index.{IsEndpoint}
-use Rattle.health_planning.specs.Wired.{check_need, is_inverted}
-use Rattle.health_valves.specs.Pass.{MeetAll}
-use Rattle.health_valves.specs.Valves.{Net, ValvesStandFor}
+use Rattle.check_model.specs.declared.checks.Check.TheVariants.{Endpoint, Calculated}
+use Rattle.checker_state.specs.Standing.{Seen, nothing}
+use Rattle.checker_state.specs.Standing.{StandsFor as HasSeen}
+use Rattle.health_index.specs.Index.{Index, IsEndpoint, TellApart}
+use Rattle.health_index.specs.declared.following.Way.{Way}
+use Rattle.health_index.specs.declared.following.Way.TheVariants as way
+use Rattle.health_model.specs.Nodes.{Node}
+use Rattle.health_model.specs.Statuses.{AreReports, Report, passing}
+use Rattle.health_planning.specs.Building.{AllListed, AreSeen}
+use Rattle.health_planning.specs.Tables.{HaveSlotsApart}
+use Rattle.health_planning.specs.Wired.{IsSeated, IsSpare, IsValveFor, check_need, check_own, group_seat, ids_of, is_inverted, spare_condition}
+use Rattle.health_planning.specs.Zones.{AreZones, Zone, placed_in}
+use Rattle.zone_model.specs.Slotted.{IsHere, Slotted}
+use Rattle.health_valves.specs.Pass.{IsIdle, MeetAll}
+use Rattle.health_valves.specs.Valves.{Net, ValvesStandFor, size_of}
 use Rattle.health_valves.specs.declared.valves.Valves.{Valves}
 
--- the check is of an endpoint, and its number stands at a place
-abbrev pub IsSameEndpoint : (ids : List ℕ) → (place : ℕ) → ℕ × Check → Type 0
-IsSameEndpoint ids place held = (slice_get ids place ≡ Some held.0) × IsEndpoint (Some held.1)
+-- ---- how checks follow
 
--- all checks are of endpoints, and their numbers are these, one by one
-pub record AreSameEndpoints (ids : List ℕ) (list : List (ℕ × Check)) : Type 0 where
-  pub as_many : length ids ≡ length list
-  pub each : (place : ℕ) (held : ℕ × Check) → slice_get list place ≡ Some held
-      → IsSameEndpoint ids place held
+-- all checks are of endpoints
+abbrev pub AreEndpoints : List (ℕ × Check) → Type 0
+AreEndpoints list = (place : ℕ) (held : ℕ × Check) → slice_get list place ≡ Some held
+    → IsEndpoint (Some held.1)
+
+-- as far as some place the checks have these numbers, one by one
+abbrev pub HaveIds : (ids : List ℕ) → (many : ℕ) → List (ℕ × Check) → Type 0
+HaveIds ids many list = (place : ℕ) (held : ℕ × Check) → place < many
+    → slice_get list place ≡ Some held → slice_get ids place ≡ Some held.0
+
+-- and from there on those one place further
+abbrev pub HaveIdsBehind : (ids : List ℕ) → (gone : ℕ) → List (ℕ × Check) → Type 0
+HaveIdsBehind ids gone list = (place : ℕ) (held : ℕ × Check) → gone ≤ place
+    → slice_get list place ≡ Some held → slice_get ids (place + 1) ≡ Some held.0
+
+-- The checks have these numbers.
+abbrev pub AreSame : List ℕ → List (ℕ × Check) → Type 0
+AreSame ids list = (length list ≡ length ids) × HaveIds ids (length ids) list
+
+-- One more came, behind all.
+abbrev pub AreMore : List ℕ → List (ℕ × Check) → Type 0
+AreMore ids list = (length list ≡ length ids + 1) × HaveIds ids (length ids) list
+
+-- The one at a place went.
+abbrev pub AreFewer : List ℕ → (gone : ℕ) → List (ℕ × Check) → Type 0
+AreFewer ids gone list = (gone < length ids) × ((length ids ≡ length list + 1)
+    × (HaveIds ids gone list × HaveIdsBehind ids gone list))
+
+-- How the checks follow of those that had these numbers.
+abbrev pub IsWay : List ℕ → List (ℕ × Check) → Way → Type 0
+IsWay ids list way.Same = AreSame ids list
+IsWay ids list way.More = AreMore ids list
+IsWay ids list (way.Fewer gone) = AreFewer ids gone list
+IsWay ids list way.Other = (AreSame ids list → ⊥) × ((AreMore ids list → ⊥)
+    × ((gone : ℕ) → AreFewer ids gone list → ⊥))
+
+-- ---- what checkers saw
+
+-- checkers of each check saw something, so all are of endpoints
+abbrev pub HaveCheckers : List (Option Seen) → Type 0
+HaveCheckers seen = (place : ℕ) → slice_get seen place ≡ Some None → ⊥
+
+-- what the checkers of an endpoint's check saw before any result
+abbrev pub IsFresh : Check → Seen → Type 0
+IsFresh (Endpoint threshold inverted disabled) its = HasSeen threshold nothing its
+IsFresh (Calculated threshold inverted disabled children) its = ⊥
+
+-- ---- what changes of the index
+
+-- An index whose checks can follow by this way in place: where one comes there are the valves of 200
+-- checks, and where one goes all were of endpoints too. Each that stands for checks of endpoints is one.
+abbrev pub IsOpenTo : Way → Index → Type 0
+IsOpenTo way.Same index = ⊤
+IsOpenTo way.More index = 200 ≤ size_of index.valves
+IsOpenTo (way.Fewer gone) index = (200 ≤ size_of index.valves) × HaveCheckers index.seen
+IsOpenTo way.Other index = ⊥
+
+-- Numbers come and go with the checks, and so does what checkers saw: nothing yet of one that came.
+-- Nothing else changes but valves.
+abbrev pub Follows : Way → List (ℕ × Check) → (before after : Index) → Type 0
+Follows way.Same list before after = after ≡ record before { valves = after.valves }
+Follows way.More list before after = (id : ℕ) × ((check : Check) × ((its : Seen)
+    × ((slice_get list (length before.ids) ≡ Some (id, check)) × (IsFresh check its
+    × (after ≡ record before {
+      ids = before.ids ++ id ∷ [];
+      seen = before.seen ++ Some its ∷ [];
+      valves = after.valves;
+    })))))
+Follows (way.Fewer gone) list before after = after ≡ record before {
+  ids = remove before.ids gone;
+  seen = remove before.seen gone;
+  valves = after.valves;
+}
+Follows way.Other list before after = ⊥
+
+-- ---- what changes of the valves
 
 -- The valves of so many checks have their conditions. What feeds each valve stays, and so do the
 -- conditions of valves that are of no check.
@@ -35,3 +118,32 @@ pub record Reshapes (list : List (ℕ × Check)) (many : ℕ) (net : Net) (own :
   pub reshaped : AreReshaped list many net now
   pub fits : ValvesStandFor now own after
   pub meet : MeetAll net own before → MeetAll now own after
+
+-- The index has the numbers of checks of endpoints, and all that is to stand for them but what opens their
+-- valves.
+pub record IsFollowed (zones : List Zone) (checks : Checks) (reports : List Report) (index : Index)
+    : Type 0 where
+  pub are_zones : AreZones zones
+  pub slots : HaveSlotsApart zones
+  pub are_reports : AreReports checks.next reports
+  pub ids : index.ids ≡ ids_of checks.list
+  pub seen : AreSeen reports checks.list index.seen
+  pub as_many : length index.seen ≡ length index.ids
+  pub listed : AllListed zones index.refs
+  pub net : Net
+  pub own : ℕ → ℕ
+  pub sets : (zone : ℕ) (p : Slotted) → IsHere (placed_in zones zone) p
+      → IsSeated zones (ids_of checks.list) index.seats net own zone p
+  pub nodes : (valve : ℕ) → 200 ≤ valve → valve < net.size
+      → (node : Node) × IsValveFor zones checks.list index.seats net own valve node
+  pub groups : (slot valve : ℕ) → group_seat index.seats slot ≡ valve + 1 → valve < net.size
+  pub spares : (valve : ℕ) → IsSpare (length checks.list) valve
+      → net.condition valve ≡ spare_condition
+  pub many : 200 ≤ net.size
+  pub alone : (place : ℕ) → place < length checks.list → (net.condition place).feeders ≡ []
+  pub owns : (place id : ℕ) (check : Check) → slice_get checks.list place ≡ Some (id, check)
+      → own place ≡ check_own check (passing reports id)
+  pub told : TellApart zones index.seats
+  pub fits : ValvesStandFor net own index.valves
+  pub meet : MeetAll net own index.valves
+  pub idle : IsIdle index.valves

@@ -1,5 +1,5 @@
 -- When an index stands for a configuration and reports.
-use Rattle.std.specs.Prelude.{◌≡◌, ◌≤◌, ◌<◌, ℕ, suc, Bool, true, List, [], length, Option, None, Some, slice_get, ⊤}
+use Rattle.std.specs.Prelude.{◌≡◌, ◌≤◌, ◌<◌, ◌⊎◌, ℕ, suc, Bool, true, List, [], length, Option, None, Some, slice_get, ⊤}
 use Rattle.check_model.specs.Checks.{Checks, check_with}
 use Rattle.check_model.specs.Checks.{IsSound as AreSoundChecks}
 use Rattle.check_model.specs.declared.checks.Check.{Check}
@@ -21,7 +21,7 @@ use Rattle.health_planning.specs.Tables.{HaveSlotsApart}
 use Rattle.zone_model.specs.Slotted.{IsHere, Slotted}
 use Rattle.health_planning.specs.Looking.{RefersTo}
 use Rattle.health_planning.specs.Building.{AllListed, AreGiven, IsSeen}
-use Rattle.health_planning.specs.Wired.{AreMembers, HasSlot, IsGroupSeat, IsLedTo, AreValvesOf, StandApart, TellGroup, group_seat, ids_of, is_watched, open_in, place_of, seat_of, watched_of}
+use Rattle.health_planning.specs.Wired.{AreMembers, HasSlot, IsGroupSeat, IsLedTo, IsSpare, AreValvesOf, StandApart, TellGroup, group_seat, ids_of, is_watched, open_in, place_of, seat_of, watched_of}
 use Rattle.health_planning.specs.declared.seats.Seat.{Seat}
 
 -- For how many there is room: numbers of checks and what their checkers saw, now and before a
@@ -50,30 +50,29 @@ pub record Index : Type 0 where
   pub space : Space
 
 -- The seats that tell a valve for their groups are those of the sets of one group, to which an evaluated
--- alias leads. The valves of checks stand before it.
-pub record IsOfOneGroup (zones : List Zone) (checks : ℕ) (seats : List Seat) (valve : ℕ)
-    : Type 0 where
+-- alias leads. The valves of checks stand before it, those of 200 checks.
+pub record IsOfOneGroup (zones : List Zone) (seats : List Seat) (valve : ℕ) : Type 0 where
   pub zone : ℕ
   pub name : List (List ℕ)
   pub rtype : RType
   pub members : List Slotted
   pub are : AreMembers zones zone name rtype members
   pub led : IsLedTo zones zone name rtype
-  pub behind : checks ≤ valve
+  pub behind : 200 ≤ valve
   pub each : TellGroup seats members valve
   pub only : (slot : ℕ) → group_seat seats slot ≡ suc valve → HasSlot members slot
 
 -- Seats tell no valve for two sets, for a set and a group, or for two groups.
-pub record TellApart (zones : List Zone) (checks : ℕ) (seats : List Seat) : Type 0 where
+pub record TellApart (zones : List Zone) (seats : List Seat) : Type 0 where
   pub sets : (slot other valve : ℕ) → seat_of seats slot ≡ suc valve
       → seat_of seats other ≡ suc valve → slot ≡ other
   pub kinds : (slot other valve : ℕ) → seat_of seats slot ≡ suc valve
       → group_seat seats other ≡ suc valve → ⊥
   pub groups : (slot valve : ℕ) → group_seat seats slot ≡ suc valve
-      → IsOfOneGroup zones checks seats valve
+      → IsOfOneGroup zones seats valve
 
 -- The index is laid out for a sound configuration and reports: its valves are wired for them, and what
--- is counted is of them. Values may have to be worked out still.
+-- is counted is of them. Values may have to be worked out still; but a valve that no check has is open.
 pub record IsLaidFor (zones : List Zone) (checks : Checks) (reports : List Report) (index : Index)
     : Type 0 where
   pub are_zones : AreZones zones
@@ -90,8 +89,9 @@ pub record IsLaidFor (zones : List Zone) (checks : Checks) (reports : List Repor
   pub net : Net
   pub own : ℕ → ℕ
   pub wired : AreValvesOf zones checks.list index.seats net own reports
-  pub told : TellApart zones (length (ids_of checks.list)) index.seats
+  pub told : TellApart zones index.seats
   pub fits : ValvesStandFor net own index.valves
+  pub spare : (valve : ℕ) → IsSpare (length checks.list) valve → value_of index.valves valve ≡ true
   pub idle : IsIdle index.valves
 
 -- The index stands for a sound configuration and reports: it is laid out for them, and all is worked
@@ -112,7 +112,7 @@ pub record StandsFor (zones : List Zone) (checks : Checks) (reports : List Repor
   pub net : Net
   pub own : ℕ → ℕ
   pub wired : AreValvesOf zones checks.list index.seats net own reports
-  pub told : TellApart zones (length (ids_of checks.list)) index.seats
+  pub told : TellApart zones index.seats
   pub fits : ValvesStandFor net own index.valves
   pub meet : MeetAll net own index.valves
   pub idle : IsIdle index.valves
@@ -137,9 +137,11 @@ IsNumberOf zones index number (GroupNode zone name rtype) =
 abbrev pub HasNumber : List Zone → Index → Node → Type 0
 HasNumber zones index node = (number : ℕ) × IsNumberOf zones index number node
 
--- The index has a node of the number.
+-- The index has a node of the number: that of a check, and behind those of 200 checks that of a set or a
+-- group.
 abbrev pub HasNode : Index → (number : ℕ) → Type 0
-HasNode index number = number < size_of index.valves
+HasNode index number = (number < length index.ids)
+    ⊎ ((200 ≤ number) × (number < size_of index.valves))
 
 -- Each number that the index has is that of one node alone, and a node has one number at most. Each
 -- check has one, each set that something decides and no other set, and each group to which an
@@ -184,8 +186,8 @@ pub record Tells (zones : List Zone) (checks : Checks) (reports : List Report) (
 
 -- ---- what holds of every index
 
--- Valves that stand for some net; those whose checkers are counted have no feeders. No number of a
--- check stands at two places. Seats tell valves only in the slots of the sets that are kept for it.
+-- Valves that stand for some net; those whose checkers are counted have no feeders, nor have spare ones.
+-- No number of a check stands at two places. Seats tell valves only in the slots of the sets that are kept for it.
 pub record IsIntact (index : Index) : Type 0 where
   pub net : Net
   pub own : ℕ → ℕ
@@ -199,6 +201,7 @@ pub record IsIntact (index : Index) : Type 0 where
   pub given : AreGiven index.refs index.members index.seats
   pub alone : (place : ℕ) (its : Seen) → slice_get index.seen place ≡ Some (Some its)
       → (net.condition place).feeders ≡ []
+  pub spare : (valve : ℕ) → IsSpare (length index.ids) valve → (net.condition valve).feeders ≡ []
 
 -- ---- reports
 

@@ -1,15 +1,32 @@
-//! Commands that leave the checks of endpoints with their numbers: valves get other conditions, and none is
-//! laid anew.
+//! Commands after which all checks are of endpoints: one comes behind all, one goes, or they get other
+//! conditions. Their valves change in place, and none is laid anew.
 
-ghost use Rattle.std.specs.Prelude.{◌≡◌, ◌≤◌, ◌↔◌, ℕ, IsTrue, Some, length, slice_get};
+ghost use Rattle.std.specs.Prelude.{◌≡◌, ◌≢◌, ◌≤◌, ◌<◌, ◌↔◌, ℕ, IsTrue, Some, length, slice_get};
+ghost use Rattle.check_model.specs.Checks.{IsBounded};
+ghost use Rattle.check_model.specs.declared.checks.Check.{Check};
 ghost use Rattle.health_valves.specs.Pass.{IsIdle};
 ghost use Rattle.health_valves.specs.Valves.{IsReady, Net, ValvesStandFor, size_of};
-ghost use Rattle.health_index.specs.Following.{AreSameEndpoints, IsSameEndpoint, Reshapes};
+ghost use Rattle.health_index.specs.Following.{AreEndpoints, HaveIds, HaveIdsBehind, IsWay, Reshapes};
+ghost use Rattle.health_index.specs.Following.{HaveCheckers, IsFresh};
 ghost use Rattle.health_index.specs.Index.{IsEndpoint};
 
-use health_check::{Check, CheckTable};
-use health_planning::{Delta, inverted_of, need_of};
+use checker_state::Checkers;
+use health_check::Check;
+use health_planning::{inverted_of, need_of};
 use health_valves::Valves;
+
+/// How checks follow of those that had some numbers.
+#[derive(Clone, Copy)]
+pub enum Way {
+    /// They have these numbers.
+    Same,
+    /// One more came, behind all.
+    More,
+    /// The one at a place went.
+    Fewer(usize),
+    /// None of these.
+    Other,
+}
 
 /// Whether a check is of an endpoint.
 fn is_endpoint(check: &Check) -> bool
@@ -19,6 +36,18 @@ fn is_endpoint(check: &Check) -> bool
         Check::Endpoint { .. } => true,
         Check::Calculated { .. } => false,
     }
+}
+
+/// Whether all checks are of endpoints.
+pub fn are_endpoints(list: &[(u32, Check)]) -> bool
+    ensures { IsTrue result ↔ AreEndpoints list.now }
+{
+    for held in list {
+        if !is_endpoint(&held.1) {
+            return false;
+        }
+    }
+    true
 }
 
 /// Whether a number stands at a place.
@@ -31,40 +60,80 @@ fn has_at(ids: &[u32], place: usize, id: u32) -> bool
     ids[place] == id
 }
 
-/// Whether a check is of an endpoint, and its number stands at a place.
-fn is_same_endpoint(ids: &[u32], place: usize, held: &(u32, Check)) -> bool
-    ensures { IsTrue result ↔ IsSameEndpoint ids.now place held.now }
+/// As far as which place the checks have these numbers, one by one.
+fn agreeing(ids: &[u32], list: &[(u32, Check)]) -> usize
+    ensures ids { result ≤ length ids.now }
+    ensures list { result ≤ length list.now }
+    ensures same { HaveIds ids.now result list.now }
+    ensures end { (held : ℕ × Check) → slice_get list.now result ≡ Some held
+        → slice_get ids.now result ≢ Some held.0 }
 {
-    if !has_at(ids, place, held.0) {
-        return false;
+    for place in 0..list.len() {
+        if !has_at(ids, place, list[place].0) {
+            return place;
+        }
     }
-    is_endpoint(&held.1)
+    list.len()
 }
 
-/// Whether all checks are of endpoints, with these numbers one by one.
-fn are_same_endpoints(ids: &[u32], list: &[(u32, Check)]) -> bool
-    ensures { IsTrue result ↔ AreSameEndpoints ids.now list.now }
+/// Whether from a place on the checks have these numbers, each one place further.
+fn agree_behind(ids: &[u32], list: &[(u32, Check)], gone: usize) -> bool
+    requires { gone < length ids.now }
+    ensures { IsTrue result ↔ HaveIdsBehind ids.now gone list.now }
 {
-    if ids.len() != list.len() {
-        return false;
-    }
-    for (place, held) in list.iter().enumerate() {
-        if !is_same_endpoint(ids, place, held) {
+    for place in gone..list.len() {
+        if !has_at(ids, place + 1, list[place].0) {
             return false;
         }
     }
     true
 }
 
-/// Whether a command tells of no zone, and all checks are of endpoints then, with these numbers.
-pub fn keeps_endpoints(ids: &[u32], checks: &CheckTable, delta: &Delta) -> bool
-    ensures { IsTrue result
-        ↔ ((delta.now.zone ≡ 0) × AreSameEndpoints ids.now checks.now.checks.list) }
+/// How checks follow of those that had these numbers.
+pub fn way_of(ids: &[u32], list: &[(u32, Check)]) -> Way
+    ensures { IsWay ids.now list.now result }
 {
-    if delta.zone != 0 {
-        return false;
+    let same = agreeing(ids, list);
+    if same == ids.len() {
+        if list.len() == same {
+            return Way::Same;
+        }
+        if list.len() == same + 1 {
+            return Way::More;
+        }
+        return Way::Other;
     }
-    are_same_endpoints(ids, checks.as_slice())
+    if list.len() + 1 != ids.len() {
+        return Way::Other;
+    }
+    if agree_behind(ids, list, same) {
+        return Way::Fewer(same);
+    }
+    Way::Other
+}
+
+/// Whether something was seen of each check by checkers, which those of endpoints have.
+pub fn have_checkers(seen: &[Option<Checkers>]) -> bool
+    ensures { IsTrue result ↔ HaveCheckers seen.now }
+{
+    for its in seen {
+        if its.is_none() {
+            return false;
+        }
+    }
+    true
+}
+
+/// The checkers of an endpoint's check, before any result.
+pub fn fresh_checkers(check: &Check) -> Checkers
+    requires endpoint { IsEndpoint (Some check.now) }
+    requires bounded { IsBounded check.now }
+    ensures { IsFresh check.now result }
+{
+    match check {
+        Check::Endpoint { threshold, .. } => Checkers::new(*threshold),
+        Check::Calculated { .. } => unreachable!(),
+    }
 }
 
 /// Gives the valves of checks their conditions, and works out what stands above those whose values

@@ -1,15 +1,19 @@
 //! The index: what is asked of it, and how it takes a report.
 
 ghost use Rattle.std.specs.Prelude.{◌≡◌, ◌≢◌, ◌≤◌, ◌<◌, ◌+◌, ◌∷◌, ◌↔◌, [], ℕ, IsTrue, List, false, true};
-ghost use Rattle.std.specs.Prelude.{Contains, IfOk, IsOk, OnOk, Some, if◌then◌else◌, length, slice_get};
+ghost use Rattle.std.specs.Prelude.{Contains, IfOk, IsOk, OnOk, if◌then◌else◌, length};
 ghost use Rattle.check_model.specs.Checks.{Checks};
+ghost use Rattle.check_model.specs.Checks.{IsSound as AreSoundChecks};
 ghost use Rattle.health_planning.specs.Later.{AreLater};
-ghost use Rattle.health_valves.specs.Valves.{Feeds, ValvesStandFor, MeetsEquation, Net, value_of};
+ghost use Rattle.health_valves.specs.Valves.{Feeds, ValvesStandFor, MeetsEquation, Net, size_of, value_of};
 ghost use Rattle.health_valves.specs.Pass.{IsIdle};
 ghost use Rattle.health_index.specs.Index.{HasNode, IsEndpointOf, IsLaidFor, IsNumberOf, StandsFor};
 ghost use Rattle.health_index.specs.Index.{healthy_in};
 ghost use Rattle.health_index.specs.Index.{reported};
-ghost use Rattle.health_index.specs.Following.{AreSameEndpoints};
+ghost use Rattle.health_index.specs.Following.{AreEndpoints, AreFewer, AreMore, Follows, HaveCheckers};
+ghost use Rattle.health_index.specs.Following.{IsFollowed, IsOpenTo, IsWay};
+ghost use Rattle.health_index.specs.declared.following.Way.{Way};
+ghost use Rattle.health_index.specs.declared.following.Way.TheVariants as way;
 ghost use Rattle.health_index.specs.Leaving.{KeepsValves, AreLeft};
 ghost use Rattle.health_index.specs.Room.{HasRoom, Keeps};
 ghost use Rattle.health_index.specs.Values.{WorksOut};
@@ -21,7 +25,7 @@ ghost use Rattle.health_model.specs.Statuses.{Report, status, status_told};
 ghost use Rattle.health_planning.specs.Zones.{Zone};
 
 use crate::finding::valve_of;
-use crate::following::{keeps_endpoints, reshape_checks};
+use crate::following::{Way, are_endpoints, fresh_checkers, have_checkers, reshape_checks, way_of};
 use crate::laws::index_tells_health;
 use crate::reserving::{each_ok, room_for_checks, room_for_slots};
 use crate::taking::take_result;
@@ -30,8 +34,8 @@ use checker_state::{CHECKERS, Checkers, fifty_alone};
 use health_check::CheckTable;
 use health_model::{one_health, one_more_report};
 use health_planning::{
-    Delta, HealthView, Scratch, Seat, SetRef, Zones, clear_seats, list_ids, list_seen, place_near,
-    plan_valves, views_agree,
+    Delta, HealthView, MOST_CHECKS, Scratch, Seat, SetRef, Zones, clear_seats, list_ids, list_seen,
+    place_near, plan_valves, views_agree,
 };
 use health_valves::{Blueprint, Steps, Valves};
 use octets::OutOfMemory;
@@ -185,8 +189,9 @@ impl HealthIndex {
     /// that nothing decides went and came, but in no group to which an evaluated alias leads, it
     /// costs a look at these and at their groups, and a comparison of those that came with those that
     /// went. Where it tells of no zone, and all checks are of endpoints and have the numbers of those before,
-    /// as after UpdateHealthCheck, it costs a look at the checks, and what stands above those whose status
-    /// changes. Otherwise all valves are laid out anew: it costs what the configuration has of checks and
+    /// as after UpdateHealthCheck, or one came behind them or one of them went, as after CreateHealthCheck and
+    /// DeleteHealthCheck, it costs a look at the checks, and what stands above those whose status changes.
+    /// Otherwise all valves are laid out anew: it costs what the configuration has of checks and
     /// of sets that something decides, with their target groups, and had of them before. Of the other
     /// sets it asks only those that came, and their seats stay as they are.
     pub fn on_command(&mut self, zones: &Zones, checks: &CheckTable, delta: &Delta)
@@ -201,29 +206,143 @@ impl HealthIndex {
         ensures same { KeepsValves zones.now.zones self.old.seats delta.now
             → self.new ≡ self.old }
 
-        // Where the checks of endpoints stay, nothing changes but their valves, and those above.
-        ensures in_place { delta.now.zone ≡ 0
-            → AreSameEndpoints self.old.ids checks.now.checks.list
-            → self.new ≡ record self.old { valves = self.new.valves } }
+        // Where the checks of endpoints stay, or one came or went, nothing changes but their valves, those
+        // above, and what the index has of that one.
+        ensures in_place { (way : Way) → delta.now.zone ≡ 0 → AreEndpoints checks.now.checks.list
+            → IsWay self.old.ids checks.now.checks.list way → IsOpenTo way self.old
+            → Follows way checks.now.checks.list self.old self.new }
     {
         zones.well_formed();
         zones.slots_apart();
         if leaves_valves(zones, &self.seats, delta, &mut self.scratch) {
             return;
         }
-        if keeps_endpoints(&self.ids, checks, delta) {
-            self.follow_checks(checks);
+        if self.follow(checks, delta) {
             return;
         }
         self.lay(zones, checks, false, delta.added.as_slice());
     }
 
-    /// Gives the valves of checks their conditions, where the checks are of endpoints and have their
-    /// numbers. It takes no memory.
-    fn follow_checks(&mut self, checks: &CheckTable)
-        requires same { AreSameEndpoints self.old.ids checks.now.checks.list }
+    /// Takes a command that tells of no zone, after which all checks are of endpoints, with the numbers of
+    /// those before, or one came behind them or one of them went. The answer is whether it is one; else the
+    /// index stays as it is. It takes no memory.
+    fn follow(&mut self, checks: &CheckTable, delta: &Delta) -> bool
+        requires ids_room { 200 ≤ self.old.space.ids }
+        requires seen_room { 200 ≤ self.old.space.seen }
+        ensures zone { result ≡ true → delta.now.zone ≡ 0 }
         ensures stands { (zones : List Zone) (old : Checks) (reports : List Report)
             → StandsFor zones old reports self.old → AreLater old checks.now.checks
+            → IsSound (watched_of zones checks.now.checks) → result ≡ true
+            → StandsFor zones checks.now.checks reports self.new }
+        ensures stays { result ≡ false → self.new ≡ self.old }
+        ensures in_place { (way : Way) → delta.now.zone ≡ 0 → AreEndpoints checks.now.checks.list
+            → IsWay self.old.ids checks.now.checks.list way → IsOpenTo way self.old
+            → (result ≡ true) × Follows way checks.now.checks.list self.old self.new }
+    {
+        if delta.zone != 0 {
+            return false;
+        }
+        if !are_endpoints(checks.as_slice()) {
+            return false;
+        }
+        if !self.take_ids(checks) {
+            return false;
+        }
+        self.follow_checks(checks);
+        true
+    }
+
+    /// Takes the numbers of checks that follow of those before in one of these ways. The answer is whether
+    /// they do; else the index stays as it is. Their valves have other conditions as yet.
+    fn take_ids(&mut self, checks: &CheckTable) -> bool
+        requires endpoints { AreEndpoints checks.now.checks.list }
+        requires ids_room { 200 ≤ self.old.space.ids }
+        requires seen_room { 200 ≤ self.old.space.seen }
+        ensures followed { (zones : List Zone) (old : Checks) (reports : List Report)
+            → StandsFor zones old reports self.old → AreLater old checks.now.checks
+            → IsSound (watched_of zones checks.now.checks) → result ≡ true
+            → IsFollowed zones checks.now.checks reports self.new }
+        ensures as_many { result ≡ true → length self.new.ids ≡ length checks.now.checks.list }
+        ensures stays { result ≡ false → self.new ≡ self.old }
+        ensures in_place { (way : Way) → IsWay self.old.ids checks.now.checks.list way
+            → IsOpenTo way self.old
+            → (result ≡ true) × Follows way checks.now.checks.list self.old self.new }
+    {
+        let list = checks.as_slice();
+        match way_of(&self.ids, list) {
+            Way::Same => true,
+            Way::More => self.add_check(checks),
+            Way::Fewer(gone) => self.drop_check(checks, gone),
+            Way::Other => false,
+        }
+    }
+
+    /// Takes a check that came behind those before: it gets the spare valve at its place. The answer is
+    /// whether there is one; else the index stays as it is.
+    fn add_check(&mut self, checks: &CheckTable) -> bool
+        requires sound { AreSoundChecks checks.now.checks }
+        requires endpoints { AreEndpoints checks.now.checks.list }
+        requires more { AreMore self.old.ids checks.now.checks.list }
+        requires ids_room { 200 ≤ self.old.space.ids }
+        requires seen_room { 200 ≤ self.old.space.seen }
+        ensures followed { (zones : List Zone) (old : Checks) (reports : List Report)
+            → StandsFor zones old reports self.old → AreLater old checks.now.checks
+            → result ≡ true → IsFollowed zones checks.now.checks reports self.new }
+        ensures stays { result ≡ false → self.new ≡ self.old }
+        ensures ready { 200 ≤ size_of self.old.valves → result ≡ true }
+        ensures follows { result ≡ true
+            → Follows way.More checks.now.checks.list self.old self.new }
+    {
+        let place = self.ids.len();
+        if self.valves.len() < MOST_CHECKS {
+            return false;
+        }
+        let list = checks.as_slice();
+        let held = &list[place];
+        let checkers = fresh_checkers(&held.1);
+        self.valves
+            .set_count(place as u32, u32::from(checkers.passing()));
+        self.ids.push_reserved(held.0);
+        self.seen.push_reserved(Some(checkers));
+        true
+    }
+
+    /// Gives up the check at a place, which went: its valve comes behind those of the others, and is spare.
+    /// The answer is whether nothing feeds any of these; else the index stays as it is.
+    fn drop_check(&mut self, checks: &CheckTable, gone: usize) -> bool
+        requires sound { AreSoundChecks checks.now.checks }
+        requires endpoints { AreEndpoints checks.now.checks.list }
+        requires fewer { AreFewer self.old.ids gone checks.now.checks.list }
+        ensures followed { (zones : List Zone) (old : Checks) (reports : List Report)
+            → StandsFor zones old reports self.old → AreLater old checks.now.checks
+            → IsSound (watched_of zones checks.now.checks) → result ≡ true
+            → IsFollowed zones checks.now.checks reports self.new }
+        ensures stays { result ≡ false → self.new ≡ self.old }
+        ensures ready { 200 ≤ size_of self.old.valves → HaveCheckers self.old.seen → result ≡ true }
+        ensures follows { result ≡ true
+            → Follows (way.Fewer gone) checks.now.checks.list self.old self.new }
+    {
+        let many = self.ids.len();
+        if self.valves.len() < MOST_CHECKS {
+            return false;
+        }
+        if !have_checkers(&self.seen) {
+            return false;
+        }
+        self.valves.put_behind(gone as u32, many as u32);
+        self.valves.reshape((many - 1) as u32, 0, false);
+        self.ids.remove(gone);
+        self.seen.remove(gone);
+        true
+    }
+
+    /// Gives the valves of checks of endpoints their conditions, where their numbers were taken. It takes no
+    /// memory.
+    fn follow_checks(&mut self, checks: &CheckTable)
+        requires endpoints { AreEndpoints checks.now.checks.list }
+        requires as_many { length self.old.ids ≡ length checks.now.checks.list }
+        ensures stands { (zones : List Zone) (reports : List Report)
+            → IsFollowed zones checks.now.checks reports self.old
             → IsSound (watched_of zones checks.now.checks)
             → StandsFor zones checks.now.checks reports self.new }
         ensures rest { self.new ≡ record self.old { valves = self.new.valves } }
@@ -318,7 +437,14 @@ impl HealthIndex {
     pub fn has_node(&self, node: u32) -> bool
         ensures { IsTrue result ↔ HasNode self.now node }
     {
-        (node as usize) < self.valves.len()
+        let number = node as usize;
+        if number < self.ids.len() {
+            return true;
+        }
+        if number < MOST_CHECKS {
+            return false;
+        }
+        number < self.valves.len()
     }
 
     /// Works a node out anew, which is one step. The answer is whether its value changed.

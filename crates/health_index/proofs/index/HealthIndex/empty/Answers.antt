@@ -1,4 +1,4 @@
-use Rattle.std.proofs.Common.{List, arith, ap, length, ◌∙◌, sym}
+use Rattle.std.proofs.Common.{List, arith, refl, ap, length, ◌∙◌, sym}
 use Rattle.health_valves.specs.Blueprint.{net_in, no_blueprint, own_in}
 use Rattle.health_planning.specs.Wired.{group_seat, seat_of}
 use Rattle.health_planning.specs.declared.seats.Seat.{Seat}
@@ -20,4 +20,5 @@ invariant_of-result c = record {
     groups = λ slot some. absurd (some (ap (λ (l : List Seat). group_seat l slot) c.new-3.ensures.items));
   };
   alone = λ place its is. absurd (grind (arith, is, c.new-2.ensures.items));
+  spare = λ valve is. refl;
 }

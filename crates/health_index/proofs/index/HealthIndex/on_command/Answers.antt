@@ -1,4 +1,4 @@
-use Rattle.std.proofs.Common.{ℕ, List, ap, false, refl, sym, ◌∙◌}
+use Rattle.std.proofs.Common.{List, ap, false, refl, sym, ◌∙◌}
 use Rattle.std.proofs.lemmas.Bool.{false≢true}
 use mathlib.Core.Path.{subst}
 use Rattle.health_planning.specs.Building.{AreAsked}
@@ -6,8 +6,9 @@ use Rattle.health_planning.specs.SetRefRecord.{SetRef}
 use Rattle.health_planning.specs.declared.seats.Seat.{Seat}
 use Rattle.health_index.proofs.Staying.{asked_after, leaves_follow, stands_with_valves}
 use Rattle.health_index.specs.Index.{Index, StandsFor}
-use Rattle.health_index.specs.Following.{AreSameEndpoints}
+use Rattle.health_index.specs.Following.{Follows, IsOpenTo, IsWay}
 use Rattle.health_index.proofs.Reshaped.{zones_stay}
+use Rattle.health_index.specs.Room.{HasRoom}
 use Rattle.health_planning.specs.Zones.{Zone}
 use Rattle.health_index.specs.Leaving.{KeepsValves}
 use Rattle.health_index.proofs.index.HealthIndex.on_command.Goals as goal
@@ -21,34 +22,52 @@ returns-then-leaves_valves-clause-stands c before old reports stands leaves =
     subst (StandsFor zones checks reports) (sym c.self.view_is)
     (stands_with_valves before zones reports c.args.self.now c.args.delta.now c.well_formed-2.ensures c.slots_apart.ensures valve_leaving old checks c.requires.sound stands leaves)
 
-pub follow_checks-requires : goal.follow_checks-requires
-follow_checks-requires c = record {
-  same = subst (λ (l : List ℕ). AreSameEndpoints l c.args.checks.now.checks.list) c.deref-2.ensures.value (c.if-keeps_endpoints.ensures.0 refl).1;
-}
+-- valves stay only where a zone is told
+pub returns-then-leaves_valves-clause-in_place : goal.returns-then-leaves_valves-clause-in_place
+returns-then-leaves_valves-clause-in_place c told none endpoints is open_to =
+    absurd ((c.if-leaves_valves.ensures.0 refl).zone none)
 
-pub returns-then-keeps_endpoints-clause-stands : goal.returns-then-keeps_endpoints-clause-stands
-returns-then-keeps_endpoints-clause-stands c before old reports stands leaves =
+pub follow-requires-clause-ids_room : goal.follow-requires-clause-ids_room
+follow-requires-clause-ids_room c =
+    (subst (λ (i : Index). HasRoom i c.args.zones.now.slots) (sym c.self.view_is) c.requires.room).ids
+
+pub follow-requires-clause-seen_room : goal.follow-requires-clause-seen_room
+follow-requires-clause-seen_room c =
+    (subst (λ (i : Index). HasRoom i c.args.zones.now.slots) (sym c.self.view_is) c.requires.room).seen
+
+pub returns-then-follow-clause-stands : goal.returns-then-follow-clause-stands
+returns-then-follow-clause-stands c before old reports stands leaves =
     let zones = c.args.zones.now.zones in
     let checks = c.args.checks.now.checks in
-    let kept = c.if-keeps_endpoints.ensures.0 refl in
-    let same = zones_stay before old zones checks c.args.delta.now stands.are_zones leaves kept.0 in
-    c.follow_checks.ensures.stands zones old reports
+    let same = zones_stay before old zones checks c.args.delta.now stands.are_zones leaves (c.if-follow.ensures.zone refl) in
+    c.if-follow.ensures.stands zones old reports
     (subst (StandsFor zones old reports) (sym c.self.view_is) (subst (λ (z : List Zone). StandsFor z old reports c.args.self.now) (sym same) stands))
-    (leaves_follow before old zones checks c.args.delta.now leaves) c.requires.sound
+    (leaves_follow before old zones checks c.args.delta.now leaves) c.requires.sound refl
+
+pub returns-then-follow-clause-in_place : goal.returns-then-follow-clause-in_place
+returns-then-follow-clause-in_place c told none endpoints is open_to =
+    subst (λ (i : Index). Follows told c.args.checks.now.checks.list i c.follow.new.self) c.self.view_is
+    (c.if-follow.ensures.in_place told none endpoints
+    (subst (λ (i : Index). IsWay i.ids c.args.checks.now.checks.list told) (sym c.self.view_is) is)
+    (subst (IsOpenTo told) (sym c.self.view_is) open_to)).1
+
+pub lay-requires-clause-room : goal.lay-requires-clause-room
+lay-requires-clause-room c =
+    subst (λ (i : Index). HasRoom i c.args.zones.now.slots) (sym (c.if-follow.ensures.stays refl ∙ c.self.view_is)) c.requires.room
 
 pub returns-clause-in_place : goal.returns-clause-in_place
-returns-clause-in_place c none same =
-    let ids = ap (λ (i : Index). i.ids) (sym c.self.view_is) ∙ sym c.deref-2.ensures.value in
-    let kept = c.if-keeps_endpoints.ensures.1 (none, subst (λ (l : List ℕ). AreSameEndpoints l c.args.checks.now.checks.list) ids same) in
-    absurd (false≢true kept)
+returns-clause-in_place c told none endpoints is open_to =
+    absurd (false≢true (c.if-follow.ensures.in_place told none endpoints
+    (subst (λ (i : Index). IsWay i.ids c.args.checks.now.checks.list told) (sym c.self.view_is) is)
+    (subst (IsOpenTo told) (sym c.self.view_is) open_to)).0)
 
 pub returns-clause-stands : goal.returns-clause-stands
 returns-clause-stands c before old reports stands leaves =
     let zones = c.args.zones.now.zones in
     let checks = c.args.checks.now.checks in
+    let same = c.if-follow.ensures.stays refl ∙ c.self.view_is in
     let asked = asked_after before old zones checks reports c.args.self.now c.args.delta.now c.well_formed-2.ensures stands leaves in
-    let refs = ap (λ (i : Index). i.refs) (sym c.self.view_is) in
-    c.lay.ensures.stands before old reports (subst (StandsFor before old reports) (sym c.self.view_is) stands)
+    c.lay.ensures.stands before old reports (subst (StandsFor before old reports) (sym same) stands)
     (leaves_follow before old zones checks c.args.delta.now leaves)
-    (subst (λ (l : List SetRef). AreAsked zones false c.self.inside.refs.items l) (sym c.as_slice.ensures)
-    (subst (λ (l : List SetRef). AreAsked zones false l c.args.delta.now.added) refs asked))
+    (subst (λ (l : List SetRef). AreAsked zones false c.follow.new.self.refs l) (sym c.as_slice.ensures)
+    (subst (λ (i : Index). AreAsked zones false i.refs c.args.delta.now.added) (sym same) asked))
