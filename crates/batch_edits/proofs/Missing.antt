@@ -101,7 +101,7 @@ all_missing others (set ∷ sets) none =
     inr (none set (inl refl), (sets, refl, all_missing others sets (λ s there. none s (inr there))))
 
 -- what is missing of two lists, one after the other
-missing_of_both : (others sets more found also : List RecordSet) → AreMissing sets others found
+pub missing_of_both : (others sets more found also : List RecordSet) → AreMissing sets others found
     → AreMissing more others also → AreMissing (sets ++ more) others (found ++ also)
 missing_of_both others [] more found also are too =
     subst (λ f. AreMissing more others (f ++ also)) (sym are) too

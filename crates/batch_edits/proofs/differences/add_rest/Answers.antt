@@ -1,4 +1,4 @@
-use Rattle.std.proofs.Common.{◌++◌, ◌∷◌, [], ◌≤◌, List, drop, length, ap, ◌∙◌, arith}
+use Rattle.std.proofs.Common.{◌++◌, ◌∷◌, [], ◌≤◌, drop, length, ap, ◌∙◌, arith}
 use Rattle.record_set.specs.declared.sets.RecordSet.{RecordSet}
 use Rattle.change_batch.specs.LentSets.{sets_lent}
 use Rattle.batch_edits.proofs.Missing.{rest_more, rest_none}
