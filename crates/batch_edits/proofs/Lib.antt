@@ -1,3 +1,6 @@
 mod Answering
+mod Faces
+mod InPlace
 mod Missing
+mod Replaced
 mod Whole

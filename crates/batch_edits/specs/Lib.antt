@@ -1,4 +1,5 @@
 pub mod Places
+pub mod Replacing
 pub mod Edits
 pub mod Laws
 pub use Rattle.change_batch.specs.Batches

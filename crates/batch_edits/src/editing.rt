@@ -11,6 +11,7 @@ ghost use Rattle.config_model.specs.Differences.{IsDifference};
 ghost use Rattle.batch_edits.specs.Edits.{EditsOrNot, MeetsRules};
 
 use crate::differences::{missing_keys, missing_sets};
+use crate::replacing::replacing_edit;
 use batch_names::{Scratch, SetKeys, Sets, Zones, named_sets, names_decide, one_apex, sets_of_one};
 use change_batch::{Batch, BatchRefusal, lend_all, prepare_lent};
 use octets::OutOfMemory;
@@ -28,7 +29,8 @@ pub struct Edit {
 /// The edit that a batch makes of its zone, or the first refusal of the batch. What the scratch
 /// holds afterwards is left open.
 ///
-/// It reads the sets of the names that the batch names, and no others.
+/// It reads the sets of the names that the batch names, and no others. Where the batch is one UPSERT
+/// of a set that is there with the same policy, it reads that set alone.
 pub fn edit_of(
     alloc: Global,
     zones: &Zones,
@@ -40,6 +42,26 @@ pub fn edit_of(
     requires bounded { AllByRecursion HasBoundedSet batch.now.changes }
 
     // The zone's sets after the edit are those after the batch, or the refusal is the batch's.
+    ensures { (apex : List (List ℕ)) → IsApex zones.now.zones batch.now.zone apex
+        → EditsOrNot zones.now.zones batch.now.zone apex batch.now.changes result }
+{
+    match replacing_edit(alloc, zones, batch, scratch) {
+        Ok(Some(edit)) => Ok(edit),
+        Ok(None) => edit_by_names(alloc, zones, batch, scratch),
+        Err(why) => Err(why),
+    }
+}
+
+/// The same from the sets of the names that the batch names.
+fn edit_by_names(
+    alloc: Global,
+    zones: &Zones,
+    batch: &Batch,
+    scratch: &mut Scratch,
+) -> Result<Edit, BatchRefusal>
+    requires there { IsZoneId zones.now.zones batch.now.zone }
+    requires rules { MeetsRules zones.now.zones batch.now.zone }
+    requires bounded { AllByRecursion HasBoundedSet batch.now.changes }
     ensures { (apex : List (List ℕ)) → IsApex zones.now.zones batch.now.zone apex
         → EditsOrNot zones.now.zones batch.now.zone apex batch.now.changes result }
 {

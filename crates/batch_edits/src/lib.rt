@@ -9,6 +9,7 @@ mod differences;
 mod editing;
 mod laws;
 mod order;
+mod replacing;
 mod sameness;
 
 pub use change_batch::{Batch, BatchRefusal};

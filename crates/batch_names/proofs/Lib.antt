@@ -1,6 +1,7 @@
 pub mod Applied
 pub mod Deciding
 pub mod Filtered
+mod Keys
 pub mod Rising
 pub mod Ruled
 pub mod Runs

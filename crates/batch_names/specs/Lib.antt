@@ -1,3 +1,4 @@
+pub mod Keyed
 pub mod Laws
 pub mod Named
 pub mod Starts

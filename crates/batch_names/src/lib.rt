@@ -7,9 +7,11 @@
 
 mod finding;
 mod held;
+mod keyed;
 mod laws;
 mod starts;
 
 pub use finding::named_sets;
+pub use keyed::keyed_set;
 pub use laws::names_decide;
 pub use zone_table::{Scratch, SetKeys, Sets, Zones, one_apex, sets_of_one};

@@ -8,7 +8,7 @@ use Rattle.config_model.specs.Slotted.{sets_of}
 use Rattle.config_model.specs.Differences.{IsDifference}
 use Rattle.change_batch.specs.LentSets.{sets_lent}
 use Rattle.batch_edits.proofs.Whole.{edited_whole, few_of_zone, refused_whole}
-use Rattle.batch_edits.proofs.editing.edit_of.Goals as goal
+use Rattle.batch_edits.proofs.editing.edit_by_names.Goals as goal
 
 pub prepare_lent-requires : goal.prepare_lent-requires
 prepare_lent-requires c =
