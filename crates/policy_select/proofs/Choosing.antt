@@ -1,8 +1,8 @@
 -- What a choice from a group comes to.
-use Rattle.std.proofs.Common.{◌≡◌, ◌<◌, ◌≤◌, ℕ, Bool, List, [], ◌∷◌, ◌++◌, Option, Some}
-use Rattle.std.proofs.Common.{length, take, replicate}
+use Rattle.std.proofs.Common.{◌≡◌, ◌<◌, ◌≤◌, ℕ, Bool, List, [], ◌∷◌, ◌++◌, Option, None, Some}
+use Rattle.std.proofs.Common.{length, take, replicate, get_or, zero, suc}
 use Rattle.std.proofs.Common.{refl, sym, ap, ◌∙◌, subst, arith}
-use Rattle.std.specs.Prelude.{slice_get, ◌-◌}
+use Rattle.std.specs.Prelude.{IfSome, slice_get, ◌-◌}
 use Rattle.std.specs.List.{All, cons_option}
 use Rattle.std.proofs.lemmas.List.{length-map}
 use Rattle.std.proofs.Math.Seq.{take-append_seam}
@@ -12,6 +12,9 @@ use Rattle.answer_model.specs.declared.used.Used.{Used}
 use Rattle.answer_model.specs.Choice.{ClientRows, chosen, chosen_by, each}
 use Rattle.answer_model.specs.LawsOfChoiceModel.{ChosenAreOfGroup}
 use Rattle.answer_model.specs.Policies.{weight_of}
+use Rattle.zone_table.specs.Holding.{IsHolding}
+use Rattle.zone_table.specs.Octets.{IsSpelledRouting}
+use Rattle.zone_table.specs.Reasons.{IsAlias}
 use Rattle.zone_table.specs.RecordSetRecord.{RecordSet}
 use Rattle.routing.specs.declared.policies.Routing.{Routing}
 use Rattle.routing.specs.declared.policies.Routing.TheVariants as routing
@@ -26,7 +29,8 @@ use Rattle.policy_select.specs.Groups.{flags_in, members_of, sets_in}
 use Rattle.policy_select.specs.Rules.{IsOf}
 use Rattle.policy_select.specs.declared.rules.Rule.{Rule}
 use Rattle.policy_select.specs.declared.rules.Rule.TheVariants as rules
-use Rattle.policy_select.specs.Selecting.{AreOfGroup, HoldsFirst, HoldsFront, IsInZone, selected_of}
+use Rattle.policy_select.specs.Selecting.{AreOfGroup, HoldsFirst, HoldsFront, IsInZone, LeadsTo}
+use Rattle.policy_select.specs.Selecting.{selected_of}
 use Rattle.policy_select.proofs.Noted.{few_sets}
 
 -- the policy of the first set is that of the group
@@ -60,6 +64,13 @@ of_weighted g sets flags rows word set rule weight place result first of one pla
     ∙ sym (ap (selected_of g)
     (by_policy sets flags rows word set set.routing (routing.Weighted told.0 weight) first refl
     told.1))
+
+-- the policy of a set that is held
+pub spelled_held : (held : Option RecordSet) (policy : Routing) → IsHolding held
+    → IfSome held (λ set. IsSpelledRouting set.routing) → IfSome held (λ set. policy ≡ set.routing)
+    → IsSpelledRouting policy
+spelled_held None policy holds spelled is = absurd holds
+spelled_held (Some set) policy holds spelled is = subst IsSpelledRouting (sym is) spelled
 
 -- ---- places of the group
 
@@ -141,6 +152,35 @@ simple_uses client (x ∷ others) set used first simple =
     let same : x ≡ set = cc in
     sym (ap (λ (s : RecordSet). uses client s.routing used) same
     ∙ ap (λ (r : Routing). uses client r used) simple)
+
+-- there is one
+pub some_sets : (sets : List RecordSet) (set : RecordSet) → slice_get sets 0 ≡ Some set
+    → 0 < length sets
+some_sets [] set first = absurd (grind (arith, first))
+some_sets (x ∷ others) set first = omega arith
+
+-- it leads nowhere where it is no alias
+pub simple_last : (zones : List Zone) (g : Group) (result : Selected) (set : RecordSet)
+    → result ≡ selected_of g (0 ∷ []) → slice_get (sets_in zones g) 0 ≡ Some set
+    → (IsAlias set.body → ⊥) → LeadsTo zones g.zone result None
+simple_last zones g result set is first none =
+    subst (λ (s : Selected). LeadsTo zones g.zone s None) (sym is) (λ (other : RecordSet) at alias.
+    let there : slice_get (cons_option (slice_get (sets_in zones g) 0) []) 0 ≡ Some set =
+    ap (λ (o : Option RecordSet). slice_get (cons_option o []) 0) first in
+    let same : other ≡ set = let both = sym at ∙ there in cc in
+    none (subst (λ (s : RecordSet). IsAlias s.body) same alias))
+
+first_below : (n k d : ℕ) → 0 < n → k < 1 → get_or (0 ∷ []) k d < n
+first_below n zero d some within = some
+first_below n (suc k) d some within = absurd (omega (arith, within))
+
+-- it is a set of the group
+pub simple_places : (zones : List Zone) (g : Group) (result : Selected)
+    → result ≡ selected_of g (0 ∷ []) → IsGroupNow zones g → 0 < g.length
+    → AreOfGroup zones result
+simple_places zones g result is now some =
+    subst (AreOfGroup zones) (sym is)
+    (are_of_group zones g (0 ∷ []) now (λ k d within. first_below g.length k d some within))
 
 -- and it is held
 pub simple_held : (zones : List Zone) (g : Group) (result : Selected) (held : Option RecordSet)

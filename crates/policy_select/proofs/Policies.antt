@@ -3,8 +3,8 @@ use Rattle.std.proofs.Common.{◌≡◌, ℕ, ◌+◌, ◌-◌, ◌≤◌, ◌<�
 use Rattle.std.proofs.Common.{refl, sym, ap, ◌∙◌, subst, arith, length-append, length-take, [], ◌∷◌, Bool, Option, None, Some}
 use Rattle.std.specs.Prelude.{slice_get, IfSome, option_map}
 use Rattle.std.proofs.lemmas.Bool.Decides.{Decides-and, Decides-eqb}
-use Rattle.std.proofs.lemmas.List.{length-map, take-append-drop, take-take}
-use Rattle.std.proofs.Math.Seq.{take-append_seam}
+use Rattle.std.proofs.lemmas.List.{drop-take, length-map, take-append-drop, take-take}
+use Rattle.std.proofs.Math.Seq.{drop-append_seam, take-append_seam}
 use Rattle.std.proofs.lemmas.Option.{slice_get-map}
 use Rattle.dns_name.specs.Labels.{wire}
 use Rattle.dns_name.specs.OrderLaws.{same_labels-Decides}
@@ -168,6 +168,17 @@ whole_front piece front rest n is enough =
     ∙ ap (λ (o : List ℕ). o ++ drop k piece)
     (ap (take k) is ∙ take-take k n (front ++ rest) (omega (arith, size, cut, enough))
     ∙ take-append_seam front rest)
+
+-- behind what stands in front of the rest
+pub behind_front : (front others piece : List ℕ) (n : ℕ) → piece ≡ take n (front ++ others)
+    → length front ≤ length piece → drop (length front) piece ≡ take (n - length front) others
+behind_front front others piece n is enough =
+    let size = ap (λ (o : List ℕ). length o) is in
+    let cut = length-take n (front ++ others) in
+    let k = length front in
+    let whole : n ≡ k + (n - k) = omega (arith, size, cut, enough) in
+    ap (drop k) is ∙ ap (λ (i : ℕ). drop k (take i (front ++ others))) whole
+    ∙ drop-take k (n - k) (front ++ others) ∙ ap (take (n - k)) (drop-append_seam front others)
 
 -- ---- a piece that is as long as any policy
 

@@ -1,4 +1,4 @@
--- A policy without its identifier.
+-- A policy without its identifier, and without what is long.
 use Rattle.std.specs.Prelude.{◌≡◌, ℕ, List, Option, Some, slice_get}
 use Rattle.routing.specs.declared.policies.Routing.{Routing}
 use Rattle.routing.specs.declared.policies.Routing.TheVariants as routing
@@ -13,10 +13,10 @@ IsOf (rule.Weighted weight) policy = (ident : List ℕ) × (policy ≡ routing.W
 IsOf (rule.Failover role) policy = (ident : List ℕ) × (policy ≡ routing.Failover ident role)
 IsOf (rule.Geolocation place) policy =
     (ident : List ℕ) × (policy ≡ routing.Geolocation ident place)
-IsOf (rule.Latency region) policy = (ident : List ℕ) × (policy ≡ routing.Latency ident region)
+IsOf rule.Latency policy = (ident region : List ℕ) × (policy ≡ routing.Latency ident region)
 IsOf rule.Multivalue policy = (ident : List ℕ) × (policy ≡ routing.Multivalue ident)
-IsOf (rule.Cidr collection location) policy =
-    (ident : List ℕ) × (policy ≡ routing.Cidr ident collection location)
+IsOf rule.Cidr policy =
+    (ident location : List ℕ) × (collection : ℕ) × (policy ≡ routing.Cidr ident collection location)
 
 -- what the first set of a group says by its policy
 abbrev pub FirstSays : {X : Type 0} → (of : Routing → Option X) → (x : X) → List RecordSet → Type 0

@@ -133,6 +133,11 @@ fn descend_from<V: HealthView>(
     if group.length == 0 {
         return Selected::Nothing;
     }
+    load_member(zones, group, 0, scratch);
+    if answers_alone(scratch) {
+        *choices += 1;
+        return choose_simple(zones, group, scratch);
+    }
     let selected = choose_next(
         zones, group, view, tables, client, words, choices, used, seen, scratch,
     );
@@ -154,7 +159,8 @@ fn descend_from<V: HealthView>(
     }
 }
 
-/// Makes one choice more. The scratch holds the first selected set then.
+/// Makes one choice more from a group whose first set is held. The scratch holds the first selected
+/// set then.
 #[inline(always)]
 fn choose_next<V: HealthView>(
     zones: &Zones,
@@ -172,6 +178,9 @@ fn choose_next<V: HealthView>(
     requires some { 0 < group.length }
     requires few { FewInGroups (sets_in_zone zones.now.zones group.zone) }
     requires room { choices.old < 255 }
+    requires first { (set : RecordSet)
+        × (slice_get (sets_in zones.now.zones group) 0 ≡ Some set)
+        × (scratch.old ≡ Some set) × HasSpelling set }
     requires seen { IsSeen tables.now client seen.old }
     ensures selected { result
         ≡ choice_of zones.now.zones (V.test view.now)
@@ -191,45 +200,36 @@ fn choose_next<V: HealthView>(
     chosen_are_of_group();
     let word = words[usize::from(*choices % 8)];
     *choices += 1;
-    if first_is_simple(zones, group, scratch) {
-        return choose_simple(zones, group, scratch);
-    }
     choose_held(
         zones, group, view, tables, client, word, used, seen, scratch,
     )
 }
 
-/// Loads the first set of a group, and tells whether its policy is the simple one.
-fn first_is_simple(zones: &Zones, group: Group, scratch: &mut Scratch) -> bool
-    requires group { IsGroupNow zones.now.zones group }
-    requires some { 0 < group.length }
-    ensures { (set : RecordSet) × (slice_get (sets_in zones.now.zones group) 0 ≡ Some set)
-        × (scratch.new ≡ Some set) × HasSpelling set
-        × (IsTrue result → set.routing ≡ policy.Simple) }
-{
-    load_member(zones, group, 0, scratch);
-    is_simple(scratch)
-}
-
-/// Whether the policy of the set that is held is the simple one. It isn't copied.
-fn is_simple(scratch: &Scratch) -> bool
+/// Whether the set that is held is simple and has values, so that it answers for its group, and
+/// nothing is chosen behind it. Its policy isn't copied.
+fn answers_alone(scratch: &Scratch) -> bool
     requires { IsHolding scratch.now }
-    ensures { IfSome scratch.now (λ set. IsTrue result → set.routing ≡ policy.Simple) }
+    ensures { IfSome scratch.now (λ set. IsTrue result
+        → (set.routing ≡ policy.Simple) × (IsAlias set.body → ⊥)) }
 {
-    is_simple_in(scratch.policy())
+    is_simple_in(scratch.policy()) && has_values(scratch)
 }
 
-/// Chooses the first set of a group, which is held and is simple.
+/// Chooses the first set of a group, which is held, is simple and is no alias.
 fn choose_simple(zones: &Zones, group: Group, scratch: &Scratch) -> Selected
     requires group { IsGroupNow zones.now.zones group }
     requires some { 0 < group.length }
     requires first { (set : RecordSet)
         × (slice_get (sets_in zones.now.zones group) 0 ≡ Some set)
-        × (set.routing ≡ policy.Simple) × (scratch.now ≡ Some set) }
+        × (set.routing ≡ policy.Simple) × (scratch.now ≡ Some set)
+        × (IsAlias set.body → ⊥) }
     ensures selected { (test : SetRef → Bool) (client : Client) (word : ℕ)
         → result ≡ choice_of zones.now.zones test client group word }
     ensures used { (client : Client) (used : Used)
         → used ≡ group_uses client (sets_in zones.now.zones group) used }
+    ensures some { 0 < length (sets_in zones.now.zones group) }
+    ensures last { LeadsTo zones.now.zones group.zone result None }
+    ensures places { AreOfGroup zones.now.zones result }
     ensures held { HoldsFirst zones.now.zones result scratch.now }
 {
     one(group, 0)

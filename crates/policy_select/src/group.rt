@@ -10,7 +10,6 @@ ghost use Rattle.policy_select.specs.Members.{AreMembers, BeginsWithPolicy, IsFr
 ghost use Rattle.policy_select.specs.Groups.{flags_in, sets_in, sets_in_zone};
 ghost use Rattle.zone_table.specs.Sets.{group};
 
-use crate::parts::is_whole;
 use crate::view::HealthView;
 use dns_name::Name;
 use rdata_layout::RType;
@@ -97,35 +96,8 @@ pub(crate) fn policy_front<'a>(
     zones.policy_front(member_at(group, slots, i), at)
 }
 
-/// Octets that begin with the policy of the set at a place of a group: its own ones, lent, where it
-/// stands among the first of them, or else copied to a buffer.
-#[inline(always)]
-pub(crate) fn policy_octets<'a>(
-    zones: &'a Zones,
-    group: Group,
-    slots: &[u32],
-    at: usize,
-    i: usize,
-    buffer: &'a mut [u8],
-) -> &'a [u8]
-    requires group { IsGroupNow zones.now.zones group }
-    requires slots { AreMembers zones.now.zones group slots.now at }
-    requires within { i < group.length }
-    requires room { 263 ≤ length buffer.old }
-    ensures { (set : RecordSet) × (slice_get (sets_in zones.now.zones group) i ≡ Some set)
-        × BeginsWithPolicy result.now set }
-{
-    let front = policy_front(zones, group, slots, at, i);
-    if is_whole(front) {
-        return front;
-    }
-    policy_copied(zones, group, slots, at, i, buffer)
-}
-
-/// The same, copied wherever it stands.
-// Apart, so that most sets pass by what they don't need.
-#[inline(never)]
-fn policy_copied<'a>(
+/// Octets that begin with the policy of the set at a place of a group, copied to a buffer.
+pub(crate) fn policy_copied<'a>(
     zones: &Zones,
     group: Group,
     slots: &[u32],

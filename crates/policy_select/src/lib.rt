@@ -13,6 +13,7 @@ mod near;
 mod parts;
 mod places;
 mod rules;
+mod said;
 mod selection;
 mod view;
 

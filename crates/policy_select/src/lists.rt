@@ -11,9 +11,10 @@ ghost use Rattle.policy_select.specs.Nearby.{AreNoted};
 ghost use Rattle.policy_select.specs.Groups.{flags_in, sets_in};
 ghost use Rattle.policy_select.specs.Rules.{FirstSays};
 
-use crate::group::{MOST, is_member_healthy, policy_front, policy_octets, routing_at};
+use crate::group::{MOST, is_member_healthy, policy_copied, policy_front, routing_at};
 use crate::near::country_of;
-use crate::parts::{is_elsewhere_in, location_or, place_in, region_in, role_in, weight_in};
+use crate::parts::{is_elsewhere_in, location_or, region_in};
+use crate::said::{place_of_member, role_of_member, weight_of_member};
 use crate::view::HealthView;
 use answer_model::Location;
 use routing::{Place, Region, Role};
@@ -57,13 +58,9 @@ pub(crate) fn note_weights(
         ≡ each weight_of first (sets_in zones.now.zones group) }
     ensures size { length weights.new ≡ length weights.old }
 {
-    let mut buffer = [0; MOST];
     weights[0] = first;
     for i in 1..group.length {
-        weights[i] = weight_in(
-            policy_octets(zones, group, slots, at, i, &mut buffer),
-            first,
-        );
+        weights[i] = weight_of_member(zones, group, slots, at, i, first);
     }
 }
 
@@ -85,13 +82,9 @@ pub(crate) fn note_roles(
         ≡ each role_of first (sets_in zones.now.zones group) }
     ensures size { length roles.new ≡ length roles.old }
 {
-    let mut buffer = [0; MOST];
     roles[0] = first;
     for i in 1..group.length {
-        roles[i] = role_in(
-            policy_octets(zones, group, slots, at, i, &mut buffer),
-            first,
-        );
+        roles[i] = role_of_member(zones, group, slots, at, i, first);
     }
 }
 
@@ -125,16 +118,12 @@ pub(crate) fn note_near<V: HealthView>(
     ensures sets { length sets.new ≡ length sets.old }
 {
     let country = country_of(client);
-    let mut buffer = [0; MOST];
     let mut count = 0;
     for i in 0..group.length {
         if is_elsewhere_in(policy_front(zones, group, slots, at, i), country) {
             continue;
         }
-        places[count] = place_in(
-            policy_octets(zones, group, slots, at, i, &mut buffer),
-            first,
-        );
+        places[count] = place_of_member(zones, group, slots, at, i, first);
         healthy[count] = is_member_healthy(zones, group, slots, view, i);
         sets[count] = i;
         count += 1;
@@ -164,7 +153,7 @@ pub(crate) fn note_regions(
     regions[0] = *first;
     for i in 1..group.length {
         regions[i] = region_in(
-            policy_octets(zones, group, slots, at, i, &mut buffer),
+            policy_copied(zones, group, slots, at, i, &mut buffer),
             first,
         );
     }

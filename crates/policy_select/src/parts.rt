@@ -2,7 +2,7 @@
 //! octets of the set: neither the identifier nor the rest of the policy is copied. A set of another
 //! policy counts as the first one does.
 
-ghost use Rattle.std.specs.Prelude.{◌≡◌, ◌≤◌, ◌∷◌, ◌++◌, ℕ, IsTrue, List, length, take};
+ghost use Rattle.std.specs.Prelude.{◌≡◌, ◌≤◌, ◌∷◌, ◌++◌, ℕ, IfSome, IsTrue, List, length, take};
 ghost use Rattle.std.specs.Option.{unwrap_or};
 ghost use Rattle.answer_model.specs.Policies.{location_of, place_of, region_of, role_of, weight_of};
 ghost use Rattle.routing.specs.Texts.{IsLocation, IsRegion, IsSubdivision};
@@ -19,6 +19,7 @@ ghost use Rattle.zone_table.specs.SetsOfSetReading.{IsPlace, IsRouting};
 
 use crate::near::code_number;
 use answer_model::locations_are_names;
+use octets::behind;
 use routing::{Continent, Place, Region, Role, Routing};
 use zone_table::{Ident, behind_text, fields_are_read, region_at, sub_at};
 
@@ -30,18 +31,116 @@ pub(crate) fn is_simple_in(octets: &[u8]) -> bool
     matches!(octets, [0, ..])
 }
 
-/// Whether a policy that begins here ends here too. It is told of policies of which little stands
-/// behind the identifier, and of no others.
-pub(crate) fn is_whole(octets: &[u8]) -> bool
+/// The weight in a policy whose first octets these are, where it stands among them.
+#[inline(always)]
+pub(crate) fn weight_front(octets: &[u8], first: u8) -> Option<u8>
     ensures { (routing : Routing) (rest : List ℕ) (n : ℕ) → IsRouting routing
-        → octets.now ≡ take n (routing_octets routing ++ rest) → IsTrue result
-        → length (routing_octets routing) ≤ length octets.now }
+        → octets.now ≡ take n (routing_octets routing ++ rest)
+        → IfSome result (λ weight. weight ≡ unwrap_or (weight_of routing) first) }
 {
     match octets {
-        [1, size, ..] => octets.len() >= usize::from(*size) + 3,
-        [2, size, ..] => octets.len() >= usize::from(*size) + 3,
-        [3, size, ..] => octets.len() >= usize::from(*size) + 9,
-        _ => false,
+        [] => None,
+        [1, size, others @ ..] => octet_behind(others, *size),
+        [1] => None,
+        _ => Some(first),
+    }
+}
+
+/// The octet that stands so far behind the front.
+#[inline(always)]
+fn octet_behind(octets: &[u8], at: u8) -> Option<u8>
+    ensures { (ident rest : List ℕ) (octet n : ℕ) → at ≡ length ident
+        → octets.now ≡ take n (ident ++ octet ∷ rest) → IfSome result (λ o. o ≡ octet) }
+{
+    match octets.get(usize::from(at)) {
+        Some(octet) => Some(*octet),
+        None => None,
+    }
+}
+
+/// The role in a policy whose first octets these are, where it stands among them.
+#[inline(always)]
+pub(crate) fn role_front(octets: &[u8], first: Role) -> Option<Role>
+    ensures { (routing : Routing) (rest : List ℕ) (n : ℕ) → IsRouting routing
+        → octets.now ≡ take n (routing_octets routing ++ rest)
+        → IfSome result (λ role. role ≡ unwrap_or (role_of routing) first) }
+{
+    match octets {
+        [] => None,
+        [2, size, others @ ..] => role_behind(others, *size),
+        [2] => None,
+        _ => Some(first),
+    }
+}
+
+/// The role whose number stands so far behind the front.
+#[inline(always)]
+fn role_behind(octets: &[u8], at: u8) -> Option<Role>
+    ensures { (ident rest : List ℕ) (role : Role) (n : ℕ) → at ≡ length ident
+        → octets.now ≡ take n (ident ++ role_number role ∷ rest)
+        → IfSome result (λ r. r ≡ role) }
+{
+    match octet_behind(octets, at) {
+        Some(1) => Some(Role::Primary),
+        Some(_) => Some(Role::Secondary),
+        None => None,
+    }
+}
+
+/// The place in a policy whose first octets these are, where it stands among them.
+#[inline(always)]
+pub(crate) fn place_front(octets: &[u8], first: &Place) -> Option<Place>
+    ensures { (routing : Routing) (rest : List ℕ) (n : ℕ) → IsRouting routing
+        → octets.now ≡ take n (routing_octets routing ++ rest)
+        → IfSome result (λ place. place ≡ unwrap_or (place_of routing) first.now) }
+{
+    match octets {
+        [] => None,
+        [3, size, others @ ..] => place_behind(others, *size),
+        [3] => None,
+        _ => Some(*first),
+    }
+}
+
+/// The place that stands so far behind the front, where all of it is there.
+#[inline(always)]
+fn place_behind(octets: &[u8], at: u8) -> Option<Place>
+    ensures { (ident rest : List ℕ) (place : Place) (n : ℕ) → IsPlace place → at ≡ length ident
+        → octets.now ≡ take n (ident ++ (place_octets place ++ rest))
+        → IfSome result (λ p. p ≡ place) }
+{
+    let at = usize::from(at);
+    if at > octets.len() {
+        return None;
+    }
+    place_whole(behind(octets, at))
+}
+
+/// The place at the front, where all of it is there.
+#[inline(always)]
+fn place_whole(octets: &[u8]) -> Option<Place>
+    ensures { (rest : List ℕ) (place : Place) (n : ℕ) → IsPlace place
+        → octets.now ≡ take n (place_octets place ++ rest) → IfSome result (λ p. p ≡ place) }
+{
+    let size = place_size(octets);
+    if octets.len() < size {
+        return None;
+    }
+    Some(place_at(octets))
+}
+
+/// The most octets of a place that begins as these do.
+#[inline(always)]
+fn place_size(octets: &[u8]) -> usize
+    ensures { (rest : List ℕ) (place : Place) (n : ℕ) → IsPlace place
+        → octets.now ≡ take n (place_octets place ++ rest)
+        → length (place_octets place) ≤ result }
+{
+    match octets {
+        [1, ..] => 2,
+        [2, ..] => 3,
+        [4, ..] => 1,
+        _ => 7,
     }
 }
 

@@ -18,7 +18,7 @@ use crate::group::{load_member, policy_place};
 use crate::leaves::{
     choose_block, choose_failover, choose_place, choose_region, choose_several, choose_weighted,
 };
-use crate::rules::{Rule, rule_held};
+use crate::rules::{Rule, block_held, region_held, rule_held};
 use crate::view::HealthView;
 use address_text::IpAddress;
 use answer_model::{Tables, Used};
@@ -118,17 +118,19 @@ pub(crate) fn choose<V: HealthView>(
             seen.places = Some(scope);
             one_or_none(group, set)
         }
-        Rule::Latency(region) => {
+        Rule::Latency => {
             used.latencies = true;
-            let (set, scope) = choose_region(zones, group, view, region, tables, client, at);
+            let region = region_held(scratch);
+            let (set, scope) = choose_region(zones, group, view, &region, tables, client, at);
             seen.latencies = Some(scope);
             one(group, set)
         }
         Rule::Multivalue => several(group, choose_several(zones, group, view, word)),
-        Rule::Cidr(id, location) => {
-            let (block, scope) = block_of(zones.collections(), *id, client);
+        Rule::Cidr => {
+            let (id, location) = block_held(scratch);
+            let (block, scope) = block_of(zones.collections(), id, client);
             used.blocks = used.blocks.max(scope);
-            let set = choose_block(zones, group, view, location, block, scratch);
+            let set = choose_block(zones, group, view, &location, block, scratch);
             load_member(zones, group, 0, scratch);
             one_or_none(group, set)
         }

@@ -18,7 +18,7 @@ pub loop-i-preserved : goal.loop-i-preserved
 loop-i-preserved c =
     let first = c.args.first.now in
     let sets = sets_in c.args.zones.now.zones c.args.group in
-    let it = c.policy_octets.ensures in
+    let it = c.policy_copied.ensures in
     let said = said_at region_of first sets c.loop-i.i it.0 it.0.routing c.region_in.result it.1 refl
     (c.region_in.ensures it.0.routing it.2.rest it.2.is it.2.same) in
     let within = c.loop-i-test.true in

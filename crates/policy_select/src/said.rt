@@ -1,0 +1,137 @@
+//! What one set of a group says by the policy of the first one, read where it stands.
+//!
+//! The policy is copied only where what it says isn't among the first octets of the set.
+
+ghost use Rattle.std.specs.Prelude.{◌≡◌, ◌<◌, slice_get, Some};
+ghost use Rattle.std.specs.Option.{unwrap_or};
+ghost use Rattle.answer_model.specs.Policies.{place_of, role_of, weight_of};
+ghost use Rattle.zone_table.specs.Looking.{IsGroupNow};
+ghost use Rattle.zone_table.specs.RecordSetRecord.{RecordSet};
+ghost use Rattle.policy_select.specs.Groups.{sets_in};
+ghost use Rattle.policy_select.specs.Members.{AreMembers};
+
+use crate::group::{MOST, policy_copied, policy_front};
+use crate::parts::{place_front, place_in, role_front, role_in, weight_front, weight_in};
+use routing::{Place, Role};
+use zone_table::{Group, Zones};
+
+/// The weight of the set at a place of a group, and that of the first one where the set has none.
+#[inline(always)]
+pub(crate) fn weight_of_member(
+    zones: &Zones,
+    group: Group,
+    slots: &[u32],
+    at: usize,
+    i: usize,
+    first: u8,
+) -> u8
+    requires group { IsGroupNow zones.now.zones group }
+    requires slots { AreMembers zones.now.zones group slots.now at }
+    requires within { i < group.length }
+    ensures { (set : RecordSet) × (slice_get (sets_in zones.now.zones group) i ≡ Some set)
+        × (result ≡ unwrap_or (weight_of set.routing) first) }
+{
+    match weight_front(policy_front(zones, group, slots, at, i), first) {
+        Some(weight) => weight,
+        None => weight_copied(zones, group, slots, at, i, first),
+    }
+}
+
+/// The same, from a copy of the policy.
+// Apart, so that most sets pass by what they don't need.
+#[inline(never)]
+fn weight_copied(zones: &Zones, group: Group, slots: &[u32], at: usize, i: usize, first: u8) -> u8
+    requires group { IsGroupNow zones.now.zones group }
+    requires slots { AreMembers zones.now.zones group slots.now at }
+    requires within { i < group.length }
+    ensures { (set : RecordSet) × (slice_get (sets_in zones.now.zones group) i ≡ Some set)
+        × (result ≡ unwrap_or (weight_of set.routing) first) }
+{
+    weight_in(
+        policy_copied(zones, group, slots, at, i, &mut [0; MOST]),
+        first,
+    )
+}
+
+/// The role of the set at a place of a group, and that of the first one where the set has none.
+#[inline(always)]
+pub(crate) fn role_of_member(
+    zones: &Zones,
+    group: Group,
+    slots: &[u32],
+    at: usize,
+    i: usize,
+    first: Role,
+) -> Role
+    requires group { IsGroupNow zones.now.zones group }
+    requires slots { AreMembers zones.now.zones group slots.now at }
+    requires within { i < group.length }
+    ensures { (set : RecordSet) × (slice_get (sets_in zones.now.zones group) i ≡ Some set)
+        × (result ≡ unwrap_or (role_of set.routing) first) }
+{
+    match role_front(policy_front(zones, group, slots, at, i), first) {
+        Some(role) => role,
+        None => role_copied(zones, group, slots, at, i, first),
+    }
+}
+
+/// The same, from a copy of the policy.
+// Apart, so that most sets pass by what they don't need.
+#[inline(never)]
+fn role_copied(zones: &Zones, group: Group, slots: &[u32], at: usize, i: usize, first: Role) -> Role
+    requires group { IsGroupNow zones.now.zones group }
+    requires slots { AreMembers zones.now.zones group slots.now at }
+    requires within { i < group.length }
+    ensures { (set : RecordSet) × (slice_get (sets_in zones.now.zones group) i ≡ Some set)
+        × (result ≡ unwrap_or (role_of set.routing) first) }
+{
+    role_in(
+        policy_copied(zones, group, slots, at, i, &mut [0; MOST]),
+        first,
+    )
+}
+
+/// The place of the set at a place of a group, and that of the first one where the set has none.
+#[inline(always)]
+pub(crate) fn place_of_member(
+    zones: &Zones,
+    group: Group,
+    slots: &[u32],
+    at: usize,
+    i: usize,
+    first: &Place,
+) -> Place
+    requires group { IsGroupNow zones.now.zones group }
+    requires slots { AreMembers zones.now.zones group slots.now at }
+    requires within { i < group.length }
+    ensures { (set : RecordSet) × (slice_get (sets_in zones.now.zones group) i ≡ Some set)
+        × (result ≡ unwrap_or (place_of set.routing) first.now) }
+{
+    match place_front(policy_front(zones, group, slots, at, i), first) {
+        Some(place) => place,
+        None => place_copied(zones, group, slots, at, i, first),
+    }
+}
+
+/// The same, from a copy of the policy.
+// Apart, so that most sets pass by what they don't need.
+#[inline(never)]
+fn place_copied(
+    zones: &Zones,
+    group: Group,
+    slots: &[u32],
+    at: usize,
+    i: usize,
+    first: &Place,
+) -> Place
+    requires group { IsGroupNow zones.now.zones group }
+    requires slots { AreMembers zones.now.zones group slots.now at }
+    requires within { i < group.length }
+    ensures { (set : RecordSet) × (slice_get (sets_in zones.now.zones group) i ≡ Some set)
+        × (result ≡ unwrap_or (place_of set.routing) first.now) }
+{
+    place_in(
+        policy_copied(zones, group, slots, at, i, &mut [0; MOST]),
+        first,
+    )
+}
