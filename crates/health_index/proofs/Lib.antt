@@ -8,6 +8,7 @@ pub mod Keyed
 pub mod Knowing
 pub mod Moving
 pub mod Numbering
+pub mod Ready
 pub mod Renumbered
 pub mod Reporting
 pub mod Reserved

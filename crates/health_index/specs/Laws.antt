@@ -1,5 +1,5 @@
 -- What it is to stand for a configuration and reports.
-use Rattle.std.specs.Prelude.{◌↔◌, List}
+use Rattle.std.specs.Prelude.{◌≡◌, ◌↔◌, List}
 use Rattle.check_model.specs.Checks.{Checks}
 use Rattle.check_model.specs.Commands.{checks_after}
 use Rattle.check_model.specs.declared.checks.CheckCommand.{CheckCommand}
@@ -8,6 +8,9 @@ use Rattle.health_model.specs.Statuses.{Report}
 use Rattle.health_planning.specs.Zones.{Zone}
 use Rattle.health_planning.specs.Later.{AreLater}
 use Rattle.health_planning.specs.Wired.{watched_of}
+use Rattle.health_index.specs.Following.{AreEndpoints, IsOpenTo}
+use Rattle.health_index.specs.declared.following.Way.{Way}
+use Rattle.health_index.specs.declared.following.Way.TheVariants as way
 use Rattle.health_index.specs.Index.{AreNumbered, Index, IsLaidFor, StandsFor, Tells}
 use Rattle.health_index.specs.Values.{AreValues, MeetsIn}
 
@@ -39,3 +42,9 @@ StandsWhereAllMeet = (zones : List Zone) (checks : Checks) (reports : List Repor
 abbrev pub ChecksAreLater : Type 0
 ChecksAreLater =
     (checks : Checks) (command : CheckCommand) → AreLater checks (checks_after checks command)
+
+-- The checks of an index that stands for checks of endpoints can follow by each way in place.
+abbrev pub EndpointsCanFollow : Type 0
+EndpointsCanFollow = (zones : List Zone) (checks : Checks) (reports : List Report) (index : Index)
+    → StandsFor zones checks reports index → AreEndpoints checks.list
+    → (its : Way) → (its ≡ way.Other → ⊥) → IsOpenTo its index

@@ -1,7 +1,7 @@
 //! Laws over the definitions. Each stands as the contract of a function that does nothing.
 
 ghost use Rattle.health_index.specs.Laws.{ChecksAreLater, IndexTells, NodesAreNumbered};
-ghost use Rattle.health_index.specs.Laws.{NodesHaveValues, StandsWhereAllMeet};
+ghost use Rattle.health_index.specs.Laws.{EndpointsCanFollow, NodesHaveValues, StandsWhereAllMeet};
 
 use health_model::one_health;
 use health_planning::views_agree;
@@ -33,3 +33,8 @@ pub fn nodes_have_values()
 {
     views_agree();
 }
+
+/// An index that stands for checks of endpoints follows in place by each way in which checks can.
+pub fn endpoints_can_follow()
+    ensures { EndpointsCanFollow }
+{}

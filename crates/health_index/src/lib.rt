@@ -17,6 +17,10 @@ mod reserving;
 mod taking;
 mod valve_leaving;
 
+pub use following::Way;
 pub use health_valves::Steps;
 pub use index::HealthIndex;
-pub use laws::{checks_are_later, index_tells_health, nodes_are_numbered, nodes_have_values};
+pub use laws::{
+    checks_are_later, endpoints_can_follow, index_tells_health, nodes_are_numbered,
+    nodes_have_values,
+};
