@@ -1,9 +1,10 @@
 -- A set of a group, and one beside it that isn't of it.
-use Rattle.std.proofs.Common.{◌≡◌, ℕ, ◌+◌, ◌-◌, ◌<◌, ◌≤◌, List, length, ap, ◌∙◌, sym, refl, true, false, Some, Less, Equal, Greater, subst, arith}
+use Rattle.std.proofs.Common.{◌≡◌, ℕ, ◌+◌, ◌-◌, ◌<◌, ◌≤◌, List, length, ap, ◌∙◌, sym, refl, true, false, Some, ◌⊎◌, inl, inr, Less, Equal, Greater, subst, arith}
 use Rattle.std.specs.Prelude.{slice_get, not, ◌≢◌, ◌==◌}
 use Rattle.std.specs.Bool.{Decides}
 use Rattle.std.specs.declared.cmp.Ordering.{Ordering}
 use Rattle.std.specs.Ordering.{is_gt, is_lt, is_eq}
+use Rattle.std.proofs.lemmas.Bool.{cases_lt}
 use Rattle.std.proofs.lemmas.Bool.Decides.{Decides-eqb, Decides-and}
 use Rattle.std.proofs.lemmas.Option.{slice_get_within}
 use Rattle.zone_model.specs.OrderOfDnsName.{same_labels}
@@ -16,8 +17,8 @@ use Rattle.zone_model.proofs.Ordered.{one_number}
 use Rattle.set_search.specs.declared.bounds.Bound.{Bound}
 use Rattle.set_search.specs.declared.bounds.Bound.TheVariants as bound
 use Rattle.set_search.specs.Bounds.{is_before, group_cmp}
-use Rattle.set_search.specs.Found.{EndsBetween, IsBracket, IsCount, IsSetOfGroupAt, IsOf}
-use Rattle.set_search.proofs.Lookups.{all_before, low_up, high_down}
+use Rattle.set_search.specs.Found.{EndsBetween, IsBracket, IsCount, IsPastName, IsSetOfGroupAt, IsOf}
+use Rattle.set_search.proofs.Lookups.{all_before, filled, low_up, high_down}
 use Rattle.set_search.proofs.Together.{before_start, below_not_above, first_key, of_group}
 
 -- the test of a group
@@ -138,6 +139,27 @@ module _ (name : List (List ℕ)) (rtype : RType) where
               (high_down sets (bound.PastGroup name rtype) rising 0 (length sets) high y
               (whole sets (bound.PastGroup name rtype)) (omega arith) w at (back high y above at none));
         }
+
+    -- a place behind all of the name
+    pub ends_past : (high : ℕ) → IsPastName sets place high
+        → EndsBetween sets name rtype place high
+    ends_past high past = by (cases_lt high (length sets))
+      where
+        by : (high < length sets) ⊎ (length sets ≤ high) → EndsBetween sets name rtype place high
+        by (inl inside) =
+            let y = filled sets high inside in
+            ends_before high y.0 past.above y.1
+            (λ is. past.apart inside member.0 y.0 member.1 y.1 (member.2.0 ∙ sym is.0))
+        by (inr outside) =
+            let e : length sets ≡ high = (let w = past.within in omega (arith, outside, w)) in
+            subst (λ n. EndsBetween sets name rtype place n) e ends_somewhere
+
+    -- nothing stands behind a member
+    pub ends_last : length sets ≤ place + 1 → IsCount sets (bound.PastGroup name rtype) (place + 1)
+    ends_last last =
+        let e : length sets ≡ place + 1 = (let w = within in omega (arith, last, w)) in
+        subst (λ n. IsBracket sets (bound.PastGroup name rtype) (place + 1) n) e
+        ends_somewhere.bracket
 
   -- a later member
   pub ends_later : (sets : List RecordSet) → IsRising sets → (last high later : ℕ)

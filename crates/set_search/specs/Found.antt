@@ -49,6 +49,18 @@ abbrev pub IsSetOfGroupAt : List RecordSet → (name : List (List ℕ)) → RTyp
 IsSetOfGroupAt sets name rtype place =
     (set : RecordSet) × (slice_get sets place ≡ Some set) × IsOf name rtype set
 
+-- the sets at two places have different names
+abbrev pub DifferInName : List RecordSet → (place other : ℕ) → Type 0
+DifferInName sets place other =
+    (set another : RecordSet) → slice_get sets place ≡ Some set → slice_get sets other ≡ Some another
+    → set.name ≢ another.name
+
+-- The set at place `high`, where one stands there, has another name than the one at an earlier place.
+pub record IsPastName (sets : List RecordSet) (place high : ℕ) : Type 0 where
+  pub above : place < high
+  pub within : high ≤ length sets
+  pub apart : high < length sets → DifferInName sets place high
+
 -- The set at place `last` has the name and the type, and the last one with both stands before `high`.
 pub record EndsBetween (sets : List RecordSet) (name : List (List ℕ)) (rtype : RType)
     (last high : ℕ) : Type 0 where

@@ -1,9 +1,10 @@
 //! The sets of one name and type: all that stands between two bounds.
 
-ghost use Rattle.std.specs.Prelude.{◌≡◌, ◌<◌, ℕ, length, None};
+ghost use Rattle.std.specs.Prelude.{◌≡◌, ◌≤◌, ◌<◌, ℕ, length, None, slice_get, Some, IsTrue, ◌↔◌};
+ghost use Rattle.zone_model.specs.RecordSetRecord.{RecordSet};
 ghost use Rattle.zone_model.specs.Types.{number_of};
 ghost use Rattle.zone_model.specs.Zones.{IsRising};
-ghost use Rattle.set_search.specs.Found.{EndsBetween, IsBracket, IsCount, IsGroupAt, IsSetOfGroupAt, IsTypedAt};
+ghost use Rattle.set_search.specs.Found.{EndsBetween, IsBracket, IsCount, IsGroupAt, IsOf, IsPastName, IsSetOfGroupAt, IsTypedAt};
 ghost use Rattle.set_search.specs.declared.bounds.Bound.TheVariants.{From, PastGroup};
 
 use crate::bounds::Stop;
@@ -155,10 +156,23 @@ fn start_of<S: SetList>(sets: &S, name: &Name, rtype: RType, place: usize) -> us
     if place == 0 {
         return 0;
     }
-    if !sets.is_of(place - 1, name, rtype) {
+    if !is_with(sets, name, rtype, place, place - 1) {
         return place;
     }
     count_before(sets, &Stop::From(name, rtype, None), Some(place))
+}
+
+/// Whether the set at a place is of a group, of which one stands at another.
+fn is_with<S: SetList>(sets: &S, name: &Name, rtype: RType, member: usize, place: usize) -> bool
+    requires member { IsSetOfGroupAt (S.sets sets.now) name.now rtype member }
+    requires place { place < length (S.sets sets.now) }
+    ensures { (set : RecordSet) → slice_get (S.sets sets.now) place ≡ Some set
+        → IsTrue result ↔ IsOf name.now rtype set }
+{
+    if sets.are_told_apart(member, place) {
+        return false;
+    }
+    sets.is_of(place, name, rtype)
 }
 
 /// The place behind the last set of a group, of which one stands at a place.
@@ -169,19 +183,102 @@ fn end_of<S: SetList>(sets: &S, name: &Name, rtype: RType, place: usize) -> usiz
     requires member { IsSetOfGroupAt (S.sets sets.now) name.now rtype place }
     ensures { IsCount (S.sets sets.now) (PastGroup name.now rtype) result }
 {
-    let (last, high) = end_round(sets, name, rtype, place);
+    let size = sets.count();
+    let next = place + 1;
+    if next >= size {
+        return next;
+    }
+    if !is_with(sets, name, rtype, place, next) {
+        return next;
+    }
+    end_behind(sets, name, rtype, next)
+}
+
+/// The same where more sets of the group are likely: mostly it ends where its name does, which one
+/// look at the set in front of that place shows.
+fn end_behind<S: SetList>(sets: &S, name: &Name, rtype: RType, place: usize) -> usize
+    requires rising { IsRising (S.sets sets.now) }
+    requires member { IsSetOfGroupAt (S.sets sets.now) name.now rtype place }
+    ensures { IsCount (S.sets sets.now) (PastGroup name.now rtype) result }
+{
+    let high = past_name(sets, place);
+    if high - place < 2 {
+        return high;
+    }
+    if sets.is_of(high - 1, name, rtype) {
+        return high;
+    }
+    let (last, high) = end_round(sets, name, rtype, place, high - 1);
     end_between(sets, name, rtype, last, high)
+}
+
+/// A place behind all sets of the name that the set at a place has: mostly the first one, where the
+/// set is told apart from it, or where no more sets are.
+fn past_name<S: SetList>(sets: &S, place: usize) -> usize
+    requires { place < length (S.sets sets.now) }
+    ensures { IsPastName (S.sets sets.now) place result }
+{
+    let (near, high) = past_round(sets, place);
+    past_between(sets, place, near, high)
+}
+
+/// The place of a set that isn't told apart from the one at a place, and a place behind all sets of
+/// that one's name, found in doubling steps.
+fn past_round<S: SetList>(sets: &S, place: usize) -> (usize, usize)
+    requires { place < length (S.sets sets.now) }
+    ensures from { place ≤ result.0 }
+    ensures below { result.0 < result.1 }
+    ensures past { IsPastName (S.sets sets.now) place result.1 }
+{
+    let mut near = place;
+    let high = sets.count();
+    while near + 1 < high {
+        let step = near - place + 1;
+        if step >= high - near {
+            return (near, high);
+        }
+        if sets.are_told_apart(place, near + step) {
+            return (near, near + step);
+        }
+        near += step;
+    }
+    (near, high)
+}
+
+/// The place behind all sets of the name of the set at a place that halving finds between two.
+fn past_between<S: SetList>(sets: &S, place: usize, near: usize, high: usize) -> usize
+    requires from { place ≤ near }
+    requires below { near < high }
+    requires past { IsPastName (S.sets sets.now) place high }
+    ensures { IsPastName (S.sets sets.now) place result }
+{
+    let mut near = near;
+    let mut high = high;
+    while near + 1 < high {
+        let middle = near + (high - near) / 2;
+        if sets.are_told_apart(place, middle) {
+            high = middle;
+        } else {
+            near = middle;
+        }
+    }
+    high
 }
 
 /// The place of a set of a group, and a place behind the group's last one, found in doubling steps
 /// from one that a set of the group has.
-fn end_round<S: SetList>(sets: &S, name: &Name, rtype: RType, start: usize) -> (usize, usize)
+fn end_round<S: SetList>(
+    sets: &S,
+    name: &Name,
+    rtype: RType,
+    start: usize,
+    high: usize,
+) -> (usize, usize)
     requires rising { IsRising (S.sets sets.now) }
-    requires member { IsSetOfGroupAt (S.sets sets.now) name.now rtype start }
+    requires ends { EndsBetween (S.sets sets.now) name.now rtype start high }
     ensures { EndsBetween (S.sets sets.now) name.now rtype result.0 result.1 }
 {
     let mut last = start;
-    let high = sets.count();
     while last + 1 < high {
         let step = last - start + 1;
         if step >= high - last {

@@ -4,7 +4,7 @@ ghost use Rattle.std.specs.Prelude.{◌≡◌, ◌<◌, ℕ, List, length, slice
 ghost use Rattle.zone_model.specs.Suffix.{EndsWith};
 ghost use Rattle.zone_model.specs.RecordSetRecord.{RecordSet};
 ghost use Rattle.set_search.specs.Bounds.{is_before};
-ghost use Rattle.set_search.specs.Found.{IsOf, TypeOrNone};
+ghost use Rattle.set_search.specs.Found.{DifferInName, IsOf, TypeOrNone};
 ghost use Rattle.set_search.specs.Stops.{bound_of};
 
 use crate::bounds::Stop;
@@ -43,6 +43,16 @@ pub trait SetList {
         requires { place < length (sets self.now) }
         ensures { (set : RecordSet) → slice_get (sets self.now) place ≡ Some set
             → TypeOrNone name.now set result };
+
+    /// Whether the sets at two places are told apart by what is known of their names at once. Where
+    /// they aren't, nothing is told.
+    fn are_told_apart(&self, place: usize, other: usize) -> bool
+        requires place { place < length (sets self.now) }
+        requires other { other < length (sets self.now) }
+        ensures { IsTrue result → DifferInName (sets self.now) place other }
+    {
+        false
+    }
 }
 
 impl SetList for Vec<RecordSet> {

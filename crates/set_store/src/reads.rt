@@ -1,6 +1,6 @@
 //! Sets read where they stand: compared with bounds and names, and copied.
 
-ghost use Rattle.std.specs.Prelude.{◌≡◌, ◌≤◌, ◌<◌, ◌+◌, ◌-◌, ◌++◌, ℕ, List, drop, length, take, min};
+ghost use Rattle.std.specs.Prelude.{◌≡◌, ◌≢◌, ◌≤◌, ◌<◌, ◌+◌, ◌-◌, ◌++◌, ℕ, List, drop, length, take, min};
 ghost use Rattle.std.specs.Prelude.{slice_get, Some, IfOk, IsTrue, ◌↔◌};
 ghost use Rattle.set_search.specs.Suffix.{EndsWith};
 ghost use Rattle.set_search.specs.RecordSetRecord.{RecordSet};
@@ -19,7 +19,7 @@ ghost use Rattle.set_store.specs.Stored.{IsKept, IsSpelling, IsInUse, Kept, Spel
 use crate::hashes::hash_of;
 use crate::heads::{head_is_before, head_is_below, head_server_labels};
 use crate::siblings::is_before_beside;
-use crate::slots::{NO_CELL, Slot, cell_at};
+use crate::slots::{NO_CELL, Slot, cell_at, tag_at};
 use crate::store::SetSlots;
 use crate::typed::{is_of_at, type_under};
 use octets::{OutOfMemory, behind, front, zeros};
@@ -107,6 +107,18 @@ impl SetSlots {
     {
         written_reads_back();
         type_under(&self.region, &self.slots, slot, name)
+    }
+
+    /// Whether the names of the sets of two slots are told apart by their tags. Where they aren't,
+    /// nothing is told.
+    pub fn are_told_apart(&self, slot: u32, other: u32) -> bool
+        requires slot { IsInUse self.now.slots slot }
+        requires other { IsInUse self.now.slots other }
+        ensures { IsTrue result → (kept another : Kept) → IsKept self.now.slots slot kept
+            → IsKept self.now.slots other another → kept.set.name ≢ another.set.name }
+    {
+        written_reads_back();
+        tag_at(&self.slots, slot) != tag_at(&self.slots, other)
     }
 
     /// How many labels the name of a slot's set has, where that is an NS set.

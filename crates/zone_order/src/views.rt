@@ -78,6 +78,11 @@ impl<'a> SetList for ZoneSets<'a> {
     fn type_at(&self, place: usize, name: &Name) -> Option<u16> {
         self.store.type_at(slot_at(self.order, place), name)
     }
+
+    fn are_told_apart(&self, place: usize, other: usize) -> bool {
+        self.store
+            .are_told_apart(slot_at(self.order, place), slot_at(self.order, other))
+    }
 }
 
 /// The slot at a place.

@@ -1,19 +1,10 @@
-use Rattle.std.proofs.Common.{◌+◌, ◌-◌, arith, subst, sym}
-use Rattle.set_search.specs.Found.{EndsBetween}
-use Rattle.set_search.proofs.Beside.{ends_before, ends_later, ends_somewhere}
+use Rattle.std.proofs.Common.{◌+◌, ◌-◌, arith}
+use Rattle.set_search.proofs.Beside.{ends_before, ends_later}
 use Rattle.set_search.proofs.Lookups.{filled}
 use Rattle.set_search.proofs.groups.end_round.Goals as goal
 
 pub loop-last-init : goal.loop-last-init
-loop-last-init g c =
-    let sets = g.S.SetList.sets c.args.sets.now in
-    record {
-      from = omega arith;
-      ends =
-          subst (EndsBetween sets c.args.name.now c.args.rtype c.args.start) (sym c.count-high.ensures)
-          (ends_somewhere c.args.name.now c.args.rtype sets c.requires.rising c.args.start
-          c.requires.member);
-    }
+loop-last-init g c = record { from = omega arith; ends = c.requires.ends }
 
 pub returns-then-not-is_of : goal.returns-then-not-is_of
 returns-then-not-is_of g c =
@@ -38,7 +29,7 @@ loop-last-preserved g c =
     record {
       from = (let from = c.loop-last.invariant.from in omega (arith, from));
       ends =
-          ends_later c.args.name.now c.args.rtype sets c.requires.rising last c.count-high.result next
+          ends_later c.args.name.now c.args.rtype sets c.requires.rising last c.args.high next
           (omega (arith, more)) c.loop-last.invariant.ends
           (y.0, y.1, (c.is_of.ensures y.0 y.1).0 c.if-not-is_of.false);
     }
