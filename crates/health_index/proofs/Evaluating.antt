@@ -25,7 +25,7 @@ still_idle before after turns idle =
 module _ (views : ViewsAgree) (zones : List Zone) (checks : Checks) (reports : List Report)
     (index : Index) (laid : IsLaidFor zones checks reports index) (valves : Valves)
     (fits : ValvesStandFor laid.net laid.own valves) (idle : IsIdle valves)
-    (spare : (valve : ℕ) → IsSpare (length checks.list) valve → value_of valves valve ≡ true) where
+    (spare : (valve : ℕ) → IsSpare index.numbers valve → value_of valves valve ≡ true) where
   abbrev after : Index
   after = record index { valves = valves }
 
@@ -37,6 +37,7 @@ module _ (views : ViewsAgree) (zones : List Zone) (checks : Checks) (reports : L
     sound = laid.sound;
     are_reports = laid.are_reports;
     ids = laid.ids;
+    numbers = laid.numbers;
     seen = laid.seen;
     as_many = laid.as_many;
     listed = laid.listed;
@@ -73,9 +74,9 @@ module _ (views : ViewsAgree) (zones : List Zone) (checks : Checks) (reports : L
                   apart (one_node zones checks reports index laid k m n (of_valve zones checks reports index laid k m has.1)
                   (subst (λ (j : ℕ). IsNumberOf zones index j n) (sym same) is)) in
                   let alone : Feeds laid.net number k → ⊥ = λ feeds.
-                  let f = feeder zones checks index.seats laid.net laid.own laid.are_zones laid.are_checks laid.sound
-                  (λ p i c at. ap (λ r. r.feeders) (laid.wired.its_checks p i c at).condition)
-                  (condition_seated zones (ids_of checks.list) index.seats laid.net laid.own laid.wired.its_sets) k number m has.1 feeds in
+                  let f = feeder zones checks index.numbers index.seats laid.net laid.own laid.numbers laid.are_zones laid.are_checks laid.sound
+                  (λ p w i c at numbered. ap (λ r. r.feeders) (laid.wired.its_checks p w i c at numbered).condition)
+                  (condition_seated zones (ids_of checks.list) index.numbers index.seats laid.net laid.own laid.wired.its_sets) k number m has.1 feeds in
                   let same = one_node zones checks reports index laid number f.node n (of_valve zones checks reports index laid number f.node f.its) is in
                   fed_not (subst (Contains (feeders (watched_of zones checks) m)) same f.feeds) in
                   to_meet zones checks reports after still_laid agrees_after k m has.1

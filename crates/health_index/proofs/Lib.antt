@@ -1,5 +1,6 @@
 pub mod Agreed
 pub mod Bare
+pub mod Behind
 pub mod Commanding
 pub mod Costing
 pub mod Evaluating
@@ -9,7 +10,6 @@ pub mod Knowing
 pub mod Moving
 pub mod Numbering
 pub mod Ready
-pub mod Renumbered
 pub mod Reporting
 pub mod Reserved
 pub mod Reshaped
@@ -18,4 +18,5 @@ pub mod Staying
 pub mod Taken
 pub mod Telling
 pub mod Truth
+pub mod Valved
 pub mod Ways

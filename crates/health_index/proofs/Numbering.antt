@@ -2,7 +2,6 @@
 use Rattle.std.proofs.Common.{◌≡◌, ◌<◌, ◌≤◌, ℕ, suc, Bool, true, false, List, length, arith, refl, ap, sym, ◌∙◌, inl, inr, Option, None, Some}
 use Rattle.std.specs.Prelude.{◌||◌, ◌⊎◌, is_some, slice_get}
 use Rattle.std.proofs.lemmas.Bool.{false≢true}
-use Rattle.std.proofs.lemmas.Option.{slice_get_within}
 use mathlib.Core.Path.{subst}
 use Rattle.check_model.specs.Checks.{Checks, check_with}
 use Rattle.check_model.specs.declared.checks.Check.{Check}
@@ -22,9 +21,10 @@ use Rattle.record_set.specs.declared.sets.RecordSet.{RecordSet}
 use Rattle.zone_model.specs.Slotted.{IsHere, Slotted}
 use Rattle.health_index.specs.Index.{HasNode, HasNumber, Index, IsLaidFor, IsNumberOf}
 use Rattle.health_index.specs.Laws.{NodesAreNumbered}
-use Rattle.health_planning.specs.Wired.{IsValveFor, IsLedTo, IsSpare, IsTarget, group_seat, ids_of, is_watched, place_of, seat_of}
+use Rattle.health_planning.specs.Wired.{IsValveFor, IsLedTo, IsSpare, IsTarget, group_seat, ids_of, is_watched, place_of, seat_of, valve_with}
+use Rattle.health_planning.proofs.Numbers.{ids_valves, valve_there}
 use Rattle.health_planning.proofs.Places.{found, held_there, id_there, one_place}
-use Rattle.health_planning.proofs.Wiring.{first_here, first_same, ids_long, rising_in, same_names}
+use Rattle.health_planning.proofs.Wiring.{first_here, first_same, rising_in, same_names}
 
 some_same : {X : Type 0} {x y : X} → Some x ≡ Some y → x ≡ y
 some_same e = cc
@@ -44,10 +44,10 @@ group_nodes zone other name name_two rtype rtype_two zones names rtypes =
 module _ (zones : List Zone) (checks : Checks) (reports : List Report) (index : Index)
     (laid : IsLaidFor zones checks reports index) where
   pub of_valve : (number : ℕ) (node : Node)
-      → IsValveFor zones checks.list index.seats laid.net laid.own number node
+      → IsValveFor zones checks.list index.numbers index.seats laid.net laid.own number node
       → IsNumberOf zones index number node
-  of_valve number (CheckNode id) (check, at) =
-      ap (λ (l : List ℕ). slice_get l number) laid.ids ∙ id_there checks.list number id check at
+  of_valve number (CheckNode id) (place, (check, (at, numbered))) =
+      (place, (ap (λ (l : List ℕ). slice_get l place) laid.ids ∙ id_there checks.list place id check at, numbered))
   of_valve number (SetNode zone set) its = its
   of_valve number (GroupNode zone name rtype) (members, (are, w)) = (members, (are, w.seat))
 
@@ -68,9 +68,9 @@ module _ (zones : List Zone) (checks : Checks) (reports : List Report) (index : 
 
   pub there : (number : ℕ) (node : Node) → IsNumberOf zones index number node
       → number < laid.net.size
-  there number (CheckNode id) at =
-      let held = held_there checks.list number id (subst (λ (l : List ℕ). slice_get l number ≡ Some id) laid.ids at) in
-      (laid.wired.its_checks number id held.0 held.1).within
+  there number (CheckNode id) (place, (at, numbered)) =
+      let held = held_there checks.list place id (subst (λ (l : List ℕ). slice_get l place ≡ Some id) laid.ids at) in
+      (laid.wired.its_checks place number id held.0 held.1 numbered).within
   there number (SetNode zone set) (slot, (here, seat)) =
       seat_there zone (record { slot = slot; set = set }) number here seat
   there number (GroupNode zone name rtype) (members, (are, seat)) =
@@ -78,10 +78,11 @@ module _ (zones : List Zone) (checks : Checks) (reports : List Report) (index : 
 
   one_number : (a b : ℕ) (node : Node) → IsNumberOf zones index a node
       → IsNumberOf zones index b node → a ≡ b
-  one_number a b (CheckNode id) first second =
-      let one = held_there checks.list a id (subst (λ (l : List ℕ). slice_get l a ≡ Some id) laid.ids first) in
-      let two = held_there checks.list b id (subst (λ (l : List ℕ). slice_get l b ≡ Some id) laid.ids second) in
-      one_place checks.list a b id one.0 two.0 laid.are_checks.rising one.1 two.1
+  one_number a b (CheckNode id) (p, (first, first_at)) (q, (second, second_at)) =
+      let one = held_there checks.list p id (subst (λ (l : List ℕ). slice_get l p ≡ Some id) laid.ids first) in
+      let two = held_there checks.list q id (subst (λ (l : List ℕ). slice_get l q ≡ Some id) laid.ids second) in
+      let places = one_place checks.list p q id one.0 two.0 laid.are_checks.rising one.1 two.1 in
+      some_same (sym first_at ∙ ap (slice_get index.numbers) places ∙ second_at)
   one_number a b (SetNode zone set) (s, (here, seat)) (t, (there_too, seat_two)) =
       let p = one_of_key (placed_in zones zone) (rising_in zones laid.are_zones.each zone) (record { slot = s; set = set })
       (record { slot = t; set = set }) here there_too refl in
@@ -107,10 +108,8 @@ module _ (zones : List Zone) (checks : Checks) (reports : List Report) (index : 
           absurd (omega arith)
 
   check_early : (number id : ℕ) → IsNumberOf zones index number (CheckNode id)
-      → number < length checks.list
-  check_early number id at =
-      let held = held_there checks.list number id (subst (λ (l : List ℕ). slice_get l number ≡ Some id) laid.ids at) in
-      slice_get_within checks.list number (id, held.0) held.1
+      → number < 200
+  check_early number id (place, (at, numbered)) = laid.numbers.early place number numbered
 
   set_late : (number zone : ℕ) (set : RecordSet) → IsNumberOf zones index number (SetNode zone set)
       → 200 ≤ number
@@ -128,22 +127,20 @@ module _ (zones : List Zone) (checks : Checks) (reports : List Report) (index : 
 
   pub one_node : (number : ℕ) (node other : Node) → IsNumberOf zones index number node
       → IsNumberOf zones index number other → node ≡ other
-  one_node number (CheckNode id) (CheckNode other) first second =
-      ap CheckNode (some_same (sym first ∙ second))
+  one_node number (CheckNode id) (CheckNode other) (p, (first, first_at)) (q, (second, second_at)) =
+      let places = laid.numbers.apart p q number first_at second_at in
+      ap CheckNode (some_same (sym first ∙ ap (slice_get index.ids) places ∙ second))
   one_node number (CheckNode id) (SetNode zone set) first second =
       let early = check_early number id first in
       let late = set_late number zone set second in
-      let few = laid.are_checks.few in
       absurd (omega arith)
   one_node number (CheckNode id) (GroupNode zone name rtype) first second =
       let early = check_early number id first in
       let late = group_late number zone name rtype second in
-      let few = laid.are_checks.few in
       absurd (omega arith)
   one_node number (SetNode zone set) (CheckNode id) first second =
       let early = check_early number id second in
       let late = set_late number zone set first in
-      let few = laid.are_checks.few in
       absurd (omega arith)
   one_node number (SetNode zone set) (SetNode other set_two) (s, (here, seat)) (t, (there_too, seat_two)) =
       let slots = laid.told.sets s t number seat seat_two in
@@ -157,7 +154,6 @@ module _ (zones : List Zone) (checks : Checks) (reports : List Report) (index : 
   one_node number (GroupNode zone name rtype) (CheckNode id) first second =
       let early = check_early number id second in
       let late = group_late number zone name rtype first in
-      let few = laid.are_checks.few in
       absurd (omega arith)
   one_node number (GroupNode zone name rtype) (SetNode other set) (members, (are, its)) (s, (here, seat)) =
       absurd (laid.told.kinds s its.0 number seat its.1.1)
@@ -175,24 +171,25 @@ module _ (zones : List Zone) (checks : Checks) (reports : List Report) (index : 
 
   -- it is that of a check, or behind those of 200 checks
   pub early_or_late : (number : ℕ) (node : Node) → IsNumberOf zones index number node
-      → (number < length checks.list) ⊎ (200 ≤ number)
-  early_or_late number (CheckNode id) is = inl (check_early number id is)
+      → ((place : ℕ) × (slice_get index.numbers place ≡ Some number)) ⊎ (200 ≤ number)
+  early_or_late number (CheckNode id) (place, (at, numbered)) = inl (place, numbered)
   early_or_late number (SetNode zone set) is = inr (set_late number zone set is)
   early_or_late number (GroupNode zone name rtype) is = inr (group_late number zone name rtype is)
 
-  not_spare : (number : ℕ) → (number < length checks.list) ⊎ (200 ≤ number)
-      → IsSpare (length checks.list) number → ⊥
-  not_spare number (inl early) spare = let past = spare.0 in omega arith
-  not_spare number (inr late) spare = let before = spare.1 in omega arith
+  not_spare : (number : ℕ)
+      → ((place : ℕ) × (slice_get index.numbers place ≡ Some number)) ⊎ (200 ≤ number)
+      → IsSpare index.numbers number → ⊥
+  not_spare number (inl early) spare = spare.1 early.0 early.1
+  not_spare number (inr late) spare = let before = spare.0 in omega arith
 
   -- the valve of the number of a node is that of the node
   pub valve_for : (number : ℕ) (node : Node) → IsNumberOf zones index number node
-      → IsValveFor zones checks.list index.seats laid.net laid.own number node
+      → IsValveFor zones checks.list index.numbers index.seats laid.net laid.own number node
   valve_for number node is =
       elim (laid.wired.its_nodes number (there number node is)) [
         | inl spare ↦ absurd (not_spare number (early_or_late number node is) spare)
         | inr n ↦
-            subst (IsValveFor zones checks.list index.seats laid.net laid.own number)
+            subst (IsValveFor zones checks.list index.numbers index.seats laid.net laid.own number)
             (one_node number n.0 node (of_valve number n.0 n.1) is) n.1
       ]
 
@@ -202,7 +199,16 @@ module _ (zones : List Zone) (checks : Checks) (reports : List Report) (index : 
       → HasNumber zones index (CheckNode id)
   check_number id check at =
       let place = place_of (ids_of checks.list) id in
-      (place, ap (λ (l : List ℕ). slice_get l place) laid.ids ∙ id_there checks.list place id check (found checks.list id check at))
+      let in_ids = id_there checks.list place id check (found checks.list id check at) in (
+        valve_with (ids_of checks.list) index.numbers id,
+        (
+          place,
+          (
+            ap (λ (l : List ℕ). slice_get l place) laid.ids ∙ in_ids,
+            valve_there (ids_of checks.list) index.numbers (ids_valves checks.list index.numbers laid.numbers) place id in_ids,
+          ),
+        ),
+      )
 
   set_number : (zone : ℕ) (p : Slotted) → IsHere (placed_in zones zone) p → is_watched p.set ≡ true
       → HasNumber zones index (SetNode zone p.set)
@@ -240,16 +246,12 @@ module _ (zones : List Zone) (checks : Checks) (reports : List Report) (index : 
   size_same : length index.valves.rows.items ≡ laid.net.size
   size_same = laid.fits.laid.size
 
-  as_many : length index.ids ≡ length checks.list
-  as_many = ap length laid.ids ∙ ids_long checks.list
-
-  its_place : (number : ℕ) → HasNode index number
-      → (number < laid.net.size) × ((number < length checks.list) ⊎ (200 ≤ number))
-  its_place number (inl early) =
-      let many = as_many in
-      let few = laid.are_checks.few in
+  its_place : (number : ℕ) → HasNode index number → (number < laid.net.size)
+      × (((place : ℕ) × (slice_get index.numbers place ≡ Some number)) ⊎ (200 ≤ number))
+  its_place number (inl (place, numbered)) =
+      let early = laid.numbers.early place number numbered in
       let most = laid.wired.many in
-      (omega arith, inl (omega arith))
+      (omega arith, inl (place, numbered))
   its_place number (inr (late, within)) = let size = size_same in (omega arith, inr late)
 
   pub of_each : (number : ℕ) → HasNode index number → (node : Node) × IsNumberOf zones index number node
@@ -263,10 +265,9 @@ module _ (zones : List Zone) (checks : Checks) (reports : List Report) (index : 
   pub of_only : (number : ℕ) (node : Node) → IsNumberOf zones index number node → HasNode index number
   of_only number node is =
       let size = size_same in
-      let many = as_many in
       let within = there number node is in
       elim (early_or_late number node is) [
-        | inl early ↦ inl (omega arith)
+        | inl early ↦ inl early
         | inr late ↦ inr (late, omega arith)
       ]
 

@@ -4,7 +4,7 @@ use Rattle.std.proofs.lemmas.Option.{slice_get_within}
 use Rattle.check_model.specs.Checks.{Checks}
 use Rattle.check_model.specs.declared.checks.Check.{Check}
 use Rattle.check_model.specs.declared.checks.Check.TheVariants.{Endpoint, Calculated}
-use Rattle.health_index.specs.Following.{AreEndpoints, HaveCheckers, IsOpenTo}
+use Rattle.health_index.specs.Following.{AreEndpoints, HasCheckers, IsOpenTo}
 use Rattle.health_index.specs.Index.{Index, IsEndpoint, StandsFor}
 use Rattle.health_index.specs.Laws.{EndpointsCanFollow}
 use Rattle.health_index.specs.declared.following.Way.{Way}
@@ -25,7 +25,7 @@ module _ (zones : List Zone) (checks : Checks) (reports : List Report) (index : 
   without id (Endpoint threshold inverted disabled) is none = none
   without id (Calculated threshold inverted disabled children) is none = is
 
-  have : HaveCheckers index.seen
+  have : (place : ℕ) → HasCheckers index.seen place
   have place at =
       let within = slice_get_within index.seen place None at in
       let as_many = stands.as_many in
@@ -38,7 +38,7 @@ module _ (zones : List Zone) (checks : Checks) (reports : List Report) (index : 
   each : (its : Way) → (its ≡ way.Other → ⊥) → IsOpenTo its index
   each way.Same known = tt
   each way.More known = many
-  each (way.Fewer gone) known = (many, have)
+  each (way.Fewer gone) known = have gone
   each way.Other known = absurd (known refl)
 
 pub endpoints_can_follow : EndpointsCanFollow

@@ -3,7 +3,6 @@ use Rattle.std.proofs.Common.{◌≡◌, ◌≢◌, ◌<◌, ◌≤◌, ℕ, zer
 use Rattle.std.specs.Prelude.{slice_get}
 use Rattle.std.proofs.lemmas.Bool.{cases_eq, eq-eqb, ne_eqb}
 use Rattle.std.proofs.lemmas.List.Sums.{length-filter}
-use Rattle.std.proofs.lemmas.Option.{slice_get_within}
 use mathlib.Core.Path.{subst}
 use Rattle.check_model.specs.Checks.{Checks, check_with}
 use Rattle.check_model.specs.declared.checks.Check.{Check}
@@ -86,16 +85,16 @@ module _ (zones : List Zone) (list : List (ℕ × Check)) (index : Index) (net :
       inr (on, (valve, is, (members, are, group_still members valve w)))
 
   node_still : (valve : ℕ) (node : Node)
-      → IsValveFor zones list index.seats net own valve node
-      → IsValveFor zones list index.seats net now valve node
+      → IsValveFor zones list index.numbers index.seats net own valve node
+      → IsValveFor zones list index.numbers index.seats net now valve node
   node_still valve (CheckNode id) its = its
   node_still valve (SetNode zone set) its = its
   node_still valve (GroupNode zone name rtype) (members, (are, w)) =
       (members, (are, group_still members valve w))
 
   seated_still : (zone : ℕ) (p : Slotted)
-      → IsSeated zones (ids_of list) index.seats net own zone p
-      → IsSeated zones (ids_of list) index.seats net now zone p
+      → IsSeated zones (ids_of list) index.numbers index.seats net own zone p
+      → IsSeated zones (ids_of list) index.numbers index.seats net now zone p
   seated_still zone p w = record {
     plain = w.plain;
     told = w.told;
@@ -133,17 +132,17 @@ set_beside (z ∷ xs) (suc k) (suc n) x apart = set_beside xs k n x (λ e. apart
 
 module _ (fifty : FiftyAlone) (more : OneMoreReport) (zones : List Zone) (checks : Checks)
     (reports : List Report) (index : Index) (stands : StandsFor zones checks reports index)
-    (id checker : ℕ) (pass : Bool) (place : ℕ) (its now : Seen) (given : ℕ) (valves : Valves)
+    (id checker : ℕ) (pass : Bool) (place valve : ℕ) (its now : Seen) (given : ℕ) (valves : Valves)
     (checker_within : checker < 50)
     (here : slice_get index.ids place ≡ Some id) (first : place_of index.ids id ≡ place)
-    (endpoint : IsEndpointOf checks id)
+    (numbered : slice_get index.numbers place ≡ Some valve) (endpoint : IsEndpointOf checks id)
     (seen_here : slice_get index.seen place ≡ Some (Some its))
     (takes : (n : ℕ) (results : ℕ → List Bool) → HasSeen n results its
     → HasSeen n (with_result checker pass results) now)
     (counts : (n : ℕ) (results : ℕ → List Bool) → HasSeen n results now
     → given ≡ passing_of n results)
-    (fits : ValvesStandFor stands.net (with_own place given stands.own) valves)
-    (meet : MeetAll stands.net (with_own place given stands.own) valves)
+    (fits : ValvesStandFor stands.net (with_own valve given stands.own) valves)
+    (meet : MeetAll stands.net (with_own valve given stands.own) valves)
     (idle : IsIdle valves) (space : Space) where
   abbrev report : Report
   report = reported id checker pass
@@ -171,11 +170,8 @@ module _ (fifty : FiftyAlone) (more : OneMoreReport) (zones : List Zone) (checks
       × (given ≡ check_own there.0 (passing (report ∷ reports) id))
   here_now = its_check there.0 there.2 (stands.seen place id there.0 (Some its) there.1 seen_here)
 
-  early : place < 200
-  early =
-      let within = slice_get_within checks.list place (id, there.0) there.1 in
-      let few = stands.are_checks.few in
-      omega arith
+  early : valve < 200
+  early = stands.numbers.early place valve numbered
 
   -- another place has another number
   other_id : (p other : ℕ) (check : Check) → p ≢ place
@@ -204,20 +200,23 @@ module _ (fifty : FiftyAlone) (more : OneMoreReport) (zones : List Zone) (checks
         (stands.seen p other check found at (sym (set_beside index.seen place p (Some now) apart) ∙ is))
   ]
 
-  valve_now : (p other : ℕ) (check : Check) → slice_get checks.list p ≡ Some (other, check)
-      → IsCheckValve (ids_of checks.list) stands.net (with_own place given stands.own)
-      (report ∷ reports) p other check
-  valve_now p other check at =
-      let w = stands.wired.its_checks p other check at in
+  valve_now : (p at_valve other : ℕ) (check : Check) → slice_get checks.list p ≡ Some (other, check)
+      → slice_get index.numbers p ≡ Some at_valve
+      → IsCheckValve (ids_of checks.list) index.numbers stands.net (with_own valve given stands.own)
+      (report ∷ reports) at_valve other check
+  valve_now p at_valve other check at at_number =
+      let w = stands.wired.its_checks p at_valve other check at at_number in
       record {
         within = w.within;
         condition = w.condition;
-        its_own = elim (cases_eq p place) [
+        its_own = elim (cases_eq at_valve valve) [
           | inl same ↦
-              let same_held : ◌≡◌ {A = ℕ × Check} (other, check) (id, there.0) = some_same (sym at ∙ ap (slice_get checks.list) same ∙ there.1) in
-              rw (ap (λ (h : ℕ × Check). h.0) same_held, ap (λ (h : ℕ × Check). h.1) same_held, eq-eqb p place same) here_now.1
+              let places = stands.numbers.apart p place valve (at_number ∙ ap Some same) numbered in
+              let same_held : ◌≡◌ {A = ℕ × Check} (other, check) (id, there.0) = some_same (sym at ∙ ap (slice_get checks.list) places ∙ there.1) in
+              rw (ap (λ (h : ℕ × Check). h.0) same_held, ap (λ (h : ℕ × Check). h.1) same_held, eq-eqb at_valve valve same) here_now.1
           | inr apart ↦
-              rw (ne_eqb p place apart) (w.its_own ∙ own_same reports (report ∷ reports) other check (others_same p other check apart at))
+              rw (ne_eqb at_valve valve apart) (w.its_own ∙ own_same reports (report ∷ reports) other check (others_same p other check
+              (λ same. apart (some_same (sym at_number ∙ ap (slice_get index.numbers) same ∙ numbered))) at))
         ];
       }
 
@@ -236,18 +235,19 @@ module _ (fifty : FiftyAlone) (more : OneMoreReport) (zones : List Zone) (checks
       stands.are_reports,
     );
     ids = stands.ids;
+    numbers = stands.numbers;
     seen = seen_now;
     as_many = length-set index.seen place (Some now) ∙ stands.as_many;
     listed = stands.listed;
     net = stands.net;
-    own = with_own place given stands.own;
+    own = with_own valve given stands.own;
     wired = record {
       its_checks = valve_now;
-      its_sets = λ zone p in_zone. seated_still zones checks.list index stands.net stands.own place given early zone p (stands.wired.its_sets zone p in_zone);
-      its_nodes = λ valve within.
-          elim (stands.wired.its_nodes valve within) [
+      its_sets = λ zone p in_zone. seated_still zones checks.list index stands.net stands.own valve given early zone p (stands.wired.its_sets zone p in_zone);
+      its_nodes = λ other within.
+          elim (stands.wired.its_nodes other within) [
             | inl spare ↦ inl spare
-            | inr n ↦ inr (n.0, node_still zones checks.list index stands.net stands.own place given early valve n.0 n.1)
+            | inr n ↦ inr (n.0, node_still zones checks.list index stands.net stands.own valve given early other n.0 n.1)
           ];
       spares = stands.wired.spares;
       many = stands.wired.many;
@@ -313,25 +313,25 @@ alone_in_all one two own own_too valves valve within f g none =
     (λ x. sym (g.laid.reversed x valve (omega arith)) ∙ f.laid.reversed x valve within ∙ ap (times x) none)
 
 -- what stays of an index whose checkers at a place saw one more result
-pub whole_after : (index : Index) (w : IsIntact index) (place given : ℕ) (its now : Seen) (valves : Valves)
+pub whole_after : (index : Index) (w : IsIntact index) (place valve given : ℕ) (its now : Seen) (valves : Valves)
     (space : Space)
     → slice_get index.seen place ≡ Some (Some its)
-    → ValvesStandFor w.net (with_own place given w.own) valves → IsIdle valves
+    → ValvesStandFor w.net (with_own valve given w.own) valves → IsIdle valves
     → IsIntact (record index { seen = set index.seen place (Some now); valves = valves; space = space })
-whole_after index w place given its now valves space here fits idle = record {
+whole_after index w place valve given its now valves space here fits idle = record {
   net = w.net;
-  own = with_own place given w.own;
+  own = with_own valve given w.own;
   fits = fits;
   idle = idle;
   as_many = length-set index.seen place (Some now) ∙ w.as_many;
   apart = w.apart;
-  few = w.few;
+  numbers = w.numbers;
   within = w.within;
   seated = w.seated;
   given = w.given;
-  alone = λ p found is. elim (cases_eq p place) [
-    | inl same ↦ rw same (w.alone place its here)
-    | inr apart ↦ w.alone p found (sym (set_beside index.seen place p (Some now) apart) ∙ is)
+  alone = λ p other found is at. elim (cases_eq p place) [
+    | inl same ↦ w.alone place other its here (ap (slice_get index.numbers) (sym same) ∙ at)
+    | inr apart ↦ w.alone p other found (sym (set_beside index.seen place p (Some now) apart) ∙ is) at
   ];
   spare = w.spare;
 }

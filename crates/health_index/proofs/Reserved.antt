@@ -9,7 +9,7 @@ use Rattle.health_planning.specs.Zones.{Zone}
 use Rattle.health_index.specs.Index.{Index, IsIntact, StandsFor, TellApart}
 use Rattle.health_index.specs.Room.{Keeps}
 use Rattle.health_planning.specs.Building.{AllListed}
-use Rattle.health_planning.specs.Wired.{AreValvesOf}
+use Rattle.health_planning.specs.Wired.{AreValvesOf, HaveValves}
 use Rattle.health_planning.specs.declared.seats.Seat.{Seat}
 
 module _ (before after : Index) (keeps : Keeps before after)
@@ -28,12 +28,14 @@ module _ (before after : Index) (keeps : Keeps before after)
     sound = is.sound;
     are_reports = is.are_reports;
     ids = keeps.ids ∙ is.ids;
+    numbers = subst (HaveValves (length checks.list)) (sym keeps.numbers) is.numbers;
     seen = rw keeps.seen is.seen;
     as_many = as_many is.as_many;
     listed = subst (AllListed zones) (sym keeps.refs) is.listed;
     net = is.net;
     own = is.own;
-    wired = subst (λ (seats : List Seat). AreValvesOf zones checks.list seats is.net is.own reports) (sym keeps.seats) is.wired;
+    wired = subst (λ (seats : List Seat). AreValvesOf zones checks.list after.numbers seats is.net is.own reports) (sym keeps.seats)
+        (subst (λ (numbers : List ℕ). AreValvesOf zones checks.list numbers before.seats is.net is.own reports) (sym keeps.numbers) is.wired);
     told = subst (TellApart zones) (sym keeps.seats) is.told;
     fits = stays is.net is.own is.fits;
     meet = meet is.net is.own is.meet;
@@ -48,10 +50,10 @@ module _ (before after : Index) (keeps : Keeps before after)
     idle = idle is.idle;
     as_many = as_many is.as_many;
     apart = rw keeps.ids is.apart;
-    few = rw keeps.ids is.few;
-    within = rw keeps.ids is.within;
+    numbers = rw (keeps.ids, keeps.numbers) is.numbers;
+    within = rw keeps.numbers is.within;
     seated = rw keeps.seats is.seated;
     given = rw (keeps.refs, keeps.members, keeps.seats) is.given;
-    alone = rw keeps.seen is.alone;
-    spare = rw keeps.ids is.spare;
+    alone = rw (keeps.seen, keeps.numbers) is.alone;
+    spare = rw keeps.numbers is.spare;
   }

@@ -13,7 +13,7 @@ use Rattle.checker_state.specs.Standing.{Seen}
 use Rattle.checker_state.specs.Standing.{StandsFor as HasSeen}
 use Rattle.health_valves.proofs.Needs.{feeders_same, here, there}
 use Rattle.health_valves.specs.Pass.{IsIdle}
-use Rattle.health_valves.specs.Valves.{Condition, Net, ValvesStandFor, renumbered, with_need}
+use Rattle.health_valves.specs.Valves.{Condition, Net, ValvesStandFor, with_need}
 use Rattle.health_valves.specs.declared.valves.Valves.{Valves}
 use Rattle.health_model.specs.Nodes.{CheckNode, Node}
 use Rattle.health_model.specs.Sound.{IsSound}
@@ -25,9 +25,10 @@ use Rattle.health_planning.specs.ZoneEditRecord.TheVariants as edit
 use Rattle.health_planning.specs.DeltaRecord.{Delta}
 use Rattle.health_planning.specs.Building.{IsSeen}
 use Rattle.health_planning.specs.Later.{HasThreshold, IsLaterAt}
-use Rattle.health_planning.specs.Wired.{IsCheckValve, IsSpare, IsValveFor, check_need, check_own, ids_of, is_inverted, place_of, watched_of}
+use Rattle.health_planning.specs.Wired.{IsCheckValve, IsSpare, IsValveFor, StandApart, check_need, check_own, ids_of, is_inverted, valve_with, watched_of}
 use Rattle.health_planning.proofs.MembersOfZoneList.{filled}
-use Rattle.health_index.proofs.Renumbered.{node_now, same_numbers, seated_now}
+use Rattle.health_planning.proofs.Numbers.{number_or_none}
+use Rattle.health_index.proofs.Behind.{node_now, seated_now}
 use Rattle.health_index.specs.Following.{AreEndpoints, AreReshaped, IsFollowed, Reshapes}
 use Rattle.health_index.specs.Index.{Index, IsEndpoint, IsIntact, Space}
 use Rattle.health_index.specs.Index.{StandsFor}
@@ -54,66 +55,76 @@ same_ids (id ∷ ids) (held ∷ list) long each =
 
 -- ---- conditions, one by one
 
-pub none_yet : (list : List (ℕ × Check)) (net : Net) (own : ℕ → ℕ) (valves : Valves)
-    → ValvesStandFor net own valves → Reshapes list 0 net own valves valves
-none_yet list net own valves fits = record {
+pub none_yet : (list : List (ℕ × Check)) (numbers : List ℕ) (net : Net) (own : ℕ → ℕ)
+    (valves : Valves) → ValvesStandFor net own valves → Reshapes list numbers 0 net own valves valves
+none_yet list numbers net own valves fits = record {
   now = net;
   reshaped = record {
     size = refl;
     feeders = λ n. refl;
-    need = λ place held early at. absurd (omega arith);
-    inverted = λ place held early at. absurd (omega arith);
-    others = λ n past. refl;
+    need = λ place valve held early at numbered. absurd (omega arith);
+    inverted = λ place valve held early at numbered. absurd (omega arith);
+    others = λ n none. refl;
   };
   fits = fits;
   meet = λ met. met;
 }
 
-module _ (list : List (ℕ × Check)) (place : ℕ) (held : ℕ × Check) (before after : Net)
-    (at : slice_get list place ≡ Some held) (is : AreReshaped list place before after) where
+module _ (list : List (ℕ × Check)) (numbers : List ℕ) (apart : StandApart numbers) (place valve : ℕ)
+    (held : ℕ × Check) (before after : Net) (at : slice_get list place ≡ Some held)
+    (numbered : slice_get numbers place ≡ Some valve)
+    (is : AreReshaped list numbers place before after) where
   abbrev more : Net
-  more = with_need place (check_need held.1) (is_inverted held.1) after
+  more = with_need valve (check_need held.1) (is_inverted held.1) after
 
-  cond_here : more.condition place
-      ≡ record { need = check_need held.1; inverted = is_inverted held.1; feeders = (after.condition place).feeders }
-  cond_here = here place (check_need held.1) (is_inverted held.1) after
+  cond_here : more.condition valve
+      ≡ record { need = check_need held.1; inverted = is_inverted held.1; feeders = (after.condition valve).feeders }
+  cond_here = here valve (check_need held.1) (is_inverted held.1) after
 
-  cond_there : (n : ℕ) → n ≢ place → more.condition n ≡ after.condition n
-  cond_there n apart = there place (check_need held.1) (is_inverted held.1) after n apart
+  cond_there : (n : ℕ) → n ≢ valve → more.condition n ≡ after.condition n
+  cond_there n differ = there valve (check_need held.1) (is_inverted held.1) after n differ
 
-  pub one_more : AreReshaped list (place + 1) before more
+  -- the valve of another place is another
+  other_valve : (k found : ℕ) → k ≢ place → slice_get numbers k ≡ Some found → found ≢ valve
+  other_valve k found differ at_k same = differ (apart k place valve (at_k ∙ ap Some same) numbered)
+
+  pub one_more : AreReshaped list numbers (place + 1) before more
   one_more = record {
     size = is.size;
-    feeders = λ n. feeders_same place (check_need held.1) (is_inverted held.1) after n ∙ is.feeders n;
-    need = λ k other early at_k. elim (cases_eq k place) [
+    feeders = λ n. feeders_same valve (check_need held.1) (is_inverted held.1) after n ∙ is.feeders n;
+    need = λ k found other early at_k numbered_k. elim (cases_eq k place) [
       | inl e ↦
           let same : held ≡ other = some_same (sym at ∙ ap (slice_get list) (sym e) ∙ at_k) in
-          ap (λ (n : ℕ). (more.condition n).need) e ∙ ap (λ (c : Condition). c.need) cond_here
+          let found_is : found ≡ valve = some_same (sym numbered_k ∙ ap (slice_get numbers) e ∙ numbered) in
+          ap (λ (n : ℕ). (more.condition n).need) found_is ∙ ap (λ (c : Condition). c.need) cond_here
           ∙ ap (λ (h : ℕ × Check). check_need h.1) same
-      | inr apart ↦
-          ap (λ (c : Condition). c.need) (cond_there k apart) ∙ is.need k other (omega arith) at_k
+      | inr differ ↦
+          ap (λ (c : Condition). c.need) (cond_there found (other_valve k found differ numbered_k))
+          ∙ is.need k found other (omega arith) at_k numbered_k
     ];
-    inverted = λ k other early at_k. elim (cases_eq k place) [
+    inverted = λ k found other early at_k numbered_k. elim (cases_eq k place) [
       | inl e ↦
           let same : held ≡ other = some_same (sym at ∙ ap (slice_get list) (sym e) ∙ at_k) in
-          ap (λ (n : ℕ). (more.condition n).inverted) e ∙ ap (λ (c : Condition). c.inverted) cond_here
+          let found_is : found ≡ valve = some_same (sym numbered_k ∙ ap (slice_get numbers) e ∙ numbered) in
+          ap (λ (n : ℕ). (more.condition n).inverted) found_is ∙ ap (λ (c : Condition). c.inverted) cond_here
           ∙ ap (λ (h : ℕ × Check). is_inverted h.1) same
-      | inr apart ↦
-          ap (λ (c : Condition). c.inverted) (cond_there k apart) ∙ is.inverted k other (omega arith) at_k
+      | inr differ ↦
+          ap (λ (c : Condition). c.inverted) (cond_there found (other_valve k found differ numbered_k))
+          ∙ is.inverted k found other (omega arith) at_k numbered_k
     ];
-    others = λ n past.
-        let within = slice_get_within list place held at in
-        cond_there n (λ e. omega arith) ∙ is.others n past;
+    others = λ n none. cond_there n (λ e. none place (numbered ∙ ap Some (sym e))) ∙ is.others n none;
   }
 
-pub one_more_as : (list : List (ℕ × Check)) (place : ℕ) (held : ℕ × Check) (before after : Net)
+pub one_more_as : (list : List (ℕ × Check)) (numbers : List ℕ) → StandApart numbers
+    → (place valve : ℕ) (held : ℕ × Check) (before after : Net)
     (need : ℕ) (inverted : Bool) → need ≡ check_need held.1 → inverted ≡ is_inverted held.1
-    → slice_get list place ≡ Some held → AreReshaped list place before after
-    → AreReshaped list (place + 1) before (with_need place need inverted after)
-one_more_as list place held before after need inverted its_need its_inverted at is =
-    subst (λ (n : ℕ). AreReshaped list (place + 1) before (with_need place n inverted after)) (sym its_need)
-    (subst (λ (i : Bool). AreReshaped list (place + 1) before (with_need place (check_need held.1) i after)) (sym its_inverted)
-    (one_more list place held before after at is))
+    → slice_get list place ≡ Some held → slice_get numbers place ≡ Some valve
+    → AreReshaped list numbers place before after
+    → AreReshaped list numbers (place + 1) before (with_need valve need inverted after)
+one_more_as list numbers apart place valve held before after need inverted its_need its_inverted at numbered is =
+    subst (λ (n : ℕ). AreReshaped list numbers (place + 1) before (with_need valve n inverted after)) (sym its_need)
+    (subst (λ (i : Bool). AreReshaped list numbers (place + 1) before (with_need valve (check_need held.1) i after)) (sym its_inverted)
+    (one_more list numbers apart place valve held before after at numbered is))
 
 -- ---- one check
 
@@ -173,40 +184,45 @@ endpoint_alone (Calculated threshold inverted disabled children) none = absurd n
 module _ (zones : List Zone) (new : Checks) (reports : List Report) (index : Index)
     (f : IsFollowed zones new reports index) (are_new : AreSoundChecks new)
     (endpoints : AreEndpoints new.list) (sound : IsSound (watched_of zones new)) (valves : Valves)
-    (r : Reshapes new.list (length new.list) f.net f.own index.valves valves)
+    (r : Reshapes new.list index.numbers (length new.list) f.net f.own index.valves valves)
     (idle : IsIdle valves) (space : Space) where
-  others : (n : ℕ) → 200 ≤ n → r.now.condition n ≡ renumbered (λ (m : ℕ). m) (f.net.condition n)
+  -- valves behind those of checks keep their conditions
+  others : (n : ℕ) → 200 ≤ n → r.now.condition n ≡ f.net.condition n
   others n past =
-      let few = are_new.few in
-      r.reshaped.others n (omega arith) ∙ same_numbers (f.net.condition n)
+      r.reshaped.others n (λ place at. let early = f.numbers.early place n at in omega arith)
 
-  valve_now : (place id : ℕ) (check : Check) → slice_get new.list place ≡ Some (id, check)
-      → IsCheckValve (ids_of new.list) r.now f.own reports place id check
-  valve_now place id check at =
-      let early = slice_get_within new.list place (id, check) at in
-      let few = are_new.few in
+  valve_now : (place valve id : ℕ) (check : Check) → slice_get new.list place ≡ Some (id, check)
+      → slice_get index.numbers place ≡ Some valve
+      → IsCheckValve (ids_of new.list) index.numbers r.now f.own reports valve id check
+  valve_now place valve id check at numbered =
+      let within = slice_get_within new.list place (id, check) at in
+      let early = f.numbers.early place valve numbered in
       let many = f.many in
       let size = r.reshaped.size in
       record {
         within = omega arith;
-        condition = made (r.now.condition place) (check_need check) (is_inverted check)
-            (map (place_of (ids_of new.list)) (children_of check))
-            (r.reshaped.need place (id, check) early at) (r.reshaped.inverted place (id, check) early at)
-            (r.reshaped.feeders place ∙ f.alone place early
-            ∙ sym (ap (map (place_of (ids_of new.list))) (endpoint_alone check (endpoints place (id, check) at))));
-        its_own = f.owns place id check at;
+        condition = made (r.now.condition valve) (check_need check) (is_inverted check)
+            (map (valve_with (ids_of new.list) index.numbers) (children_of check))
+            (r.reshaped.need place valve (id, check) within at numbered) (r.reshaped.inverted place valve (id, check) within at numbered)
+            (r.reshaped.feeders valve ∙ f.alone place valve numbered
+            ∙ sym (ap (map (valve_with (ids_of new.list) index.numbers)) (endpoint_alone check (endpoints place (id, check) at))));
+        its_own = f.owns place valve id check at numbered;
       }
 
-  nodes_now : (valve : ℕ) → valve < r.now.size → IsSpare (length new.list) valve
-      ⊎ ((node : Node) × IsValveFor zones new.list index.seats r.now f.own valve node)
-  nodes_now valve within = elim (cases_lt valve (length new.list)) [
-    | inl early ↦ (let held = filled new.list valve early in inr (CheckNode held.0.0, (held.0.1, held.1)))
-    | inr past ↦ elim (cases_lt valve 200) [
-      | inl spare ↦ inl (past, spare)
-      | inr behind ↦
-          inr (node_now zones new.list new.list index.seats f.net r.now f.own f.own (λ n. n) r.reshaped.size others (λ n late. refl) (λ n late. refl)
-          f.sets (λ zone p id here is. refl) are_new.few f.nodes valve behind within)
+  nodes_now : (valve : ℕ) → valve < r.now.size → IsSpare index.numbers valve
+      ⊎ ((node : Node) × IsValveFor zones new.list index.numbers index.seats r.now f.own valve node)
+  nodes_now valve within = elim (cases_lt valve 200) [
+    | inl early ↦ elim (number_or_none index.numbers valve) [
+      | inl at ↦
+          let many = f.numbers.as_many in
+          let among = slice_get_within index.numbers at.0 valve at.1 in
+          let held = filled new.list at.0 (omega arith) in
+          inr (CheckNode held.0.0, (at.0, (held.0.1, (held.1, at.1))))
+      | inr none ↦ inl (early, none)
     ]
+    | inr behind ↦
+        inr (node_now zones new.list new.list index.numbers index.numbers index.seats f.net r.now f.own f.own r.reshaped.size others (λ n late. refl)
+        f.sets (λ zone p id here is. refl) f.numbers.early f.nodes valve behind within)
   ]
 
   pub finished : StandsFor zones new reports (record index { valves = valves; space = space })
@@ -217,6 +233,7 @@ module _ (zones : List Zone) (new : Checks) (reports : List Report) (index : Ind
     sound = sound;
     are_reports = f.are_reports;
     ids = f.ids;
+    numbers = f.numbers;
     seen = f.seen;
     as_many = f.as_many;
     listed = f.listed;
@@ -224,10 +241,10 @@ module _ (zones : List Zone) (new : Checks) (reports : List Report) (index : Ind
     own = f.own;
     wired = record {
       its_checks = valve_now;
-      its_sets = seated_now zones new.list new.list index.seats f.net r.now f.own f.own (λ n. n) r.reshaped.size others (λ n late. refl) (λ n late. refl)
+      its_sets = seated_now zones new.list new.list index.numbers index.numbers index.seats f.net r.now f.own f.own r.reshaped.size others (λ n late. refl)
           f.sets (λ zone p id here is. refl);
       its_nodes = nodes_now;
-      spares = λ valve is. r.reshaped.others valve is.0 ∙ f.spares valve is;
+      spares = λ valve is. r.reshaped.others valve is.1 ∙ f.spares valve is;
       many = let size = r.reshaped.size in let many = f.many in omega arith;
       its_groups = λ slot valve is.
           let size = r.reshaped.size in
@@ -242,7 +259,7 @@ module _ (zones : List Zone) (new : Checks) (reports : List Report) (index : Ind
 
 -- what holds of every index still does
 pub whole_reshaped : (index : Index) (w : IsIntact index) (list : List (ℕ × Check)) (many : ℕ) (valves : Valves)
-    (space : Space) → Reshapes list many w.net w.own index.valves valves → IsIdle valves
+    (space : Space) → Reshapes list index.numbers many w.net w.own index.valves valves → IsIdle valves
     → IsIntact (record index { valves = valves; space = space })
 whole_reshaped index w list many valves space r idle =
     let size = r.reshaped.size in
@@ -253,29 +270,35 @@ whole_reshaped index w list many valves space r idle =
       idle = idle;
       as_many = w.as_many;
       apart = w.apart;
-      few = w.few;
-      within = let b = w.within in omega arith;
+      numbers = w.numbers;
+      within = λ place valve at. let b = w.within place valve at in omega arith;
       seated = λ slot valve is. let b = w.seated slot valve is in omega arith;
       given = w.given;
-      alone = λ place its is. r.reshaped.feeders place ∙ w.alone place its is;
+      alone = λ place valve its is at. r.reshaped.feeders valve ∙ w.alone place valve its is at;
       spare = λ valve is. r.reshaped.feeders valve ∙ w.spare valve is;
     }
 
 -- what holds of an index holds where its lists are these
-module _ (index : Index) (w : IsIntact index) (valves : Valves) (space : Space) (ids ids_now : List ℕ) (seen seen_now : List (Option Seen))
-    (same : ids_now ≡ ids) (same_too : seen_now ≡ seen) where
-  pub intact_with : IsIntact (record index { ids = ids; seen = seen; valves = valves; space = space })
-      → IsIntact (record index { ids = ids_now; seen = seen_now; valves = valves; space = space })
+module _ (index : Index) (w : IsIntact index) (valves : Valves) (space : Space)
+    (ids ids_now numbers numbers_now : List ℕ) (seen seen_now : List (Option Seen))
+    (same : ids_now ≡ ids) (same_numbers : numbers_now ≡ numbers) (same_too : seen_now ≡ seen) where
+  abbrev with_lists : (ids numbers : List ℕ) → List (Option Seen) → Index
+  with_lists these those saw =
+      record index { ids = these; numbers = those; seen = saw; valves = valves; space = space }
+
+  pub intact_with : IsIntact (with_lists ids numbers seen) → IsIntact (with_lists ids_now numbers_now seen_now)
   intact_with is =
-      subst (λ (l : List ℕ). IsIntact (record index { ids = l; seen = seen_now; valves = valves; space = space })) (sym same)
-      (subst (λ (l : List (Option Seen)). IsIntact (record index { ids = ids; seen = l; valves = valves; space = space })) (sym same_too) is)
+      subst (λ (l : List ℕ). IsIntact (with_lists l numbers_now seen_now)) (sym same)
+      (subst (λ (l : List ℕ). IsIntact (with_lists ids l seen_now)) (sym same_numbers)
+      (subst (λ (l : List (Option Seen)). IsIntact (with_lists ids numbers l)) (sym same_too) is))
 
   pub followed_with : (zones : List Zone) (new : Checks) (reports : List Report)
-      → IsFollowed zones new reports (record index { ids = ids; seen = seen; valves = valves; space = space })
-      → IsFollowed zones new reports (record index { ids = ids_now; seen = seen_now; valves = valves; space = space })
+      → IsFollowed zones new reports (with_lists ids numbers seen)
+      → IsFollowed zones new reports (with_lists ids_now numbers_now seen_now)
   followed_with zones new reports is =
-      subst (λ (l : List ℕ). IsFollowed zones new reports (record index { ids = l; seen = seen_now; valves = valves; space = space })) (sym same)
-      (subst (λ (l : List (Option Seen)). IsFollowed zones new reports (record index { ids = ids; seen = l; valves = valves; space = space })) (sym same_too) is)
+      subst (λ (l : List ℕ). IsFollowed zones new reports (with_lists l numbers_now seen_now)) (sym same)
+      (subst (λ (l : List ℕ). IsFollowed zones new reports (with_lists ids l seen_now)) (sym same_numbers)
+      (subst (λ (l : List (Option Seen)). IsFollowed zones new reports (with_lists ids numbers l)) (sym same_too) is))
 
 -- ---- commands that tell of no zone
 

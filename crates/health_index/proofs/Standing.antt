@@ -16,7 +16,7 @@ use Rattle.health_planning.specs.SetRefRecord.{SetRef}
 use Rattle.health_planning.specs.Tables.{HaveSlotsApart}
 use Rattle.health_planning.specs.Building.{AllListed, AreGiven, AreOfEndpoints, AreSeen, AreTriggered, IsBuilt, set_trigger}
 use Rattle.health_index.specs.Index.{Index, IsIntact, Space, StandsFor, TellApart}
-use Rattle.health_planning.specs.Wired.{ids_of, place_of, watched_of}
+use Rattle.health_planning.specs.Wired.{HaveValves, ids_of, valve_with, watched_of}
 use Rattle.health_planning.specs.declared.seats.Seat.{Seat}
 use Rattle.health_planning.proofs.Places.{ids_apart}
 use Rattle.health_planning.proofs.Planned.{fed_by_condition}
@@ -26,14 +26,14 @@ some_same : {X : Type 0} {x y : X} → Some x ≡ Some y → x ≡ y
 some_same e = cc
 
 module _ (zones : List Zone) (checks : Checks) (refs members : List SetRef) (seats : List Seat)
-    (blueprint : Drawn) (valves : Valves) (ids : List ℕ) (seen : List (Option Seen)) (space : Space)
+    (blueprint : Drawn) (valves : Valves) (ids numbers : List ℕ) (seen : List (Option Seen)) (space : Space)
     (are_checks : AreSoundChecks checks) (ids_is : ids ≡ ids_of checks.list)
-    (many : length seen ≡ length ids)
-    (built : IsBuilt zones checks.list refs seats blueprint.triggers blueprint.links)
+    (valved : HaveValves (length checks.list) numbers) (many : length seen ≡ length ids)
+    (built : IsBuilt zones checks.list numbers refs seats blueprint.triggers blueprint.links)
     (given : AreGiven refs members seats)
     (fits : ValvesStandFor (net_in blueprint) (own_in blueprint) valves) (idle : IsIdle valves) where
   abbrev laid : Index
-  laid = record { ids = ids; seen = seen; seats = seats; refs = refs; members = members; valves = valves; space = space }
+  laid = record { ids = ids; numbers = numbers; seen = seen; seats = seats; refs = refs; members = members; valves = valves; space = space }
 
   ids_many : length ids ≡ length checks.list
   ids_many = ap length ids_is ∙ ids_long checks.list
@@ -41,7 +41,6 @@ module _ (zones : List Zone) (checks : Checks) (refs members : List SetRef) (sea
   pub whole : AreOfEndpoints checks.list seen → IsIntact laid
   whole kinds =
       let long = ids_many in
-      let few = are_checks.few in
       let size = built.size in
       record {
         net = net_in blueprint;
@@ -50,8 +49,8 @@ module _ (zones : List Zone) (checks : Checks) (refs members : List SetRef) (sea
         idle = idle;
         as_many = many;
         apart = rw ids_is (ids_apart checks.list are_checks.rising);
-        few = omega arith;
-        within = let few = are_checks.few in omega arith;
+        numbers = record { as_many = let m = valved.as_many in omega arith; apart = valved.apart; early = valved.early };
+        within = λ place valve at. let early = valved.early place valve at in omega arith;
         seated = λ slot valve is.
             let o = built.only slot valve is in
             let g = built.sets o.0 o.1.0 o.1.2 in
@@ -59,15 +58,14 @@ module _ (zones : List Zone) (checks : Checks) (refs members : List SetRef) (sea
             let at = o.1.1 in
             omega arith;
         given = given;
-        alone = λ place its is.
+        alone = λ place valve its is numbered.
             let k = kinds place its is in
-            fed_by_condition (slice_get blueprint.triggers place) (feeders_in blueprint.links place)
-            ∙ built.children place k.0 k.1.0 k.1.1.0
-            ∙ ap (map (place_of (ids_of checks.list))) k.1.1.1;
-        spare = λ valve is.
-            let past = is.0 in
             fed_by_condition (slice_get blueprint.triggers valve) (feeders_in blueprint.links valve)
-            ∙ built.unfed valve (omega arith) is.1;
+            ∙ built.children place valve k.0 k.1.0 k.1.1.0 numbered
+            ∙ ap (map (valve_with (ids_of checks.list) numbers)) k.1.1.1;
+        spare = λ valve is.
+            fed_by_condition (slice_get blueprint.triggers valve) (feeders_in blueprint.links valve)
+            ∙ built.unfed valve is;
       }
 
   -- valves stand one after another: those of checks, of sets, of groups
@@ -106,7 +104,7 @@ module _ (zones : List Zone) (checks : Checks) (refs members : List SetRef) (sea
 
   pub stands : (reports : List Report) → AreZones zones → HaveSlotsApart zones
       → IsSound (watched_of zones checks) → AreReports checks.next reports
-      → AllListed zones refs → AreSeen reports checks.list seen → AreTriggered reports checks.list blueprint.triggers
+      → AllListed zones refs → AreSeen reports checks.list seen → AreTriggered reports checks.list numbers blueprint.triggers
       → MeetAll (net_in blueprint) (own_in blueprint) valves → StandsFor zones checks reports laid
   stands reports are_zones apart sound are_reports all are_seen triggered meet = record {
     are_zones = are_zones;
@@ -115,12 +113,13 @@ module _ (zones : List Zone) (checks : Checks) (refs members : List SetRef) (sea
     sound = sound;
     are_reports = are_reports;
     ids = ids_is;
+    numbers = valved;
     seen = are_seen;
     as_many = many;
     listed = all;
     net = net_in blueprint;
     own = own_in blueprint;
-    wired = wired zones checks.list refs seats blueprint are_zones apart built all reports triggered;
+    wired = wired zones checks.list numbers refs seats blueprint are_zones apart valved built all reports triggered;
     told = told;
     fits = fits;
     meet = meet;

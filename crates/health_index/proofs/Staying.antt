@@ -32,7 +32,7 @@ use Rattle.health_planning.specs.DeltaRecord.{Delta}
 use Rattle.health_planning.specs.Tables.{HaveSlotsApart}
 use Rattle.health_planning.specs.Later.{AreLater, IsLaterAt, HasThreshold}
 use Rattle.health_planning.specs.Building.{AllListed, AreAsked, IsListed}
-use Rattle.health_planning.specs.Wired.{AreMembers, IsValveFor, IsGroupValve, IsLedTo, IsSeated, IsTarget, TellGroup, check_or_none, check_seat, group_seat, ids_of, is_watched, only_check, place_of, seat_of, set_condition, watched_of}
+use Rattle.health_planning.specs.Wired.{AreMembers, IsValveFor, IsGroupValve, IsLedTo, IsSeated, IsTarget, TellGroup, check_or_none, check_seat, group_seat, ids_of, is_watched, only_check, seat_of, set_condition, valve_with, watched_of}
 use Rattle.health_planning.specs.declared.seats.Seat.{Seat}
 use Rattle.health_planning.proofs.Groups.{alias_alone}
 use Rattle.health_planning.proofs.Wiring.{first_here, of_group, passes_it, rising_in}
@@ -308,7 +308,7 @@ module _ (before after : List Zone) (are_before : AreZones before) (are_after : 
       groups = λ slot valve is. one_group_now slot valve is (told.groups slot valve is);
     }
 
-  module _ (checks : List (ℕ × Check)) (net : Net) (own : ℕ → ℕ) where
+  module _ (checks : List (ℕ × Check)) (numbers : List ℕ) (net : Net) (own : ℕ → ℕ) where
     -- a group with a valve has it still
     record HasStill (zone : ℕ) (name : List (List ℕ)) (rtype : RType) (valve : ℕ)
         : Type 0 where
@@ -336,8 +336,8 @@ module _ (before after : List Zone) (are_before : AreZones before) (are_after : 
         let g = group_now zone name rtype members valve are w in
         inr (on, (valve, is, (g.members, g.are, g.is)))
 
-    seated_now : (zone : ℕ) (p : Slotted) → IsSeated before (ids_of checks) seats net own zone p
-        → IsSeated after (ids_of checks) seats net own zone p
+    seated_now : (zone : ℕ) (p : Slotted) → IsSeated before (ids_of checks) numbers seats net own zone p
+        → IsSeated after (ids_of checks) numbers seats net own zone p
     seated_now zone p s = record {
       plain = s.plain;
       told = s.told;
@@ -357,7 +357,7 @@ module _ (before after : List Zone) (are_before : AreZones before) (are_after : 
 
     -- a set that nothing decides, in a slot without a valve
     seated_plain : (zone : ℕ) (q : Slotted) → seat_of seats q.slot ≡ 0 → is_watched q.set ≡ false
-        → IsSeated after (ids_of checks) seats net own zone q
+        → IsSeated after (ids_of checks) numbers seats net own zone q
     seated_plain zone q none off = record {
       plain = λ e. none;
       told = λ on. absurd (false≢true (sym off ∙ on));
@@ -366,13 +366,13 @@ module _ (before after : List Zone) (are_before : AreZones before) (are_after : 
 
     -- a set in the place of another that the same check alone decides
     seated_alike : (zone : ℕ) (p q : Slotted) → p.slot ≡ q.slot
-        → IsSeated before (ids_of checks) seats net own zone p → seat_of seats q.slot ≢ 0
+        → IsSeated before (ids_of checks) numbers seats net own zone p → seat_of seats q.slot ≢ 0
         → only_check q.set ≢ 0 → check_seat seats q.slot ≡ only_check q.set
-        → IsSeated after (ids_of checks) seats net own zone q
+        → IsSeated after (ids_of checks) numbers seats net own zone q
     seated_alike zone p q slots s some only told = by (is_watched p.set) refl
       where
         by : (b : Bool) → is_watched p.set ≡ b
-            → IsSeated after (ids_of checks) seats net own zone q
+            → IsSeated after (ids_of checks) numbers seats net own zone q
         by false off = absurd (some (ap (seat_of seats) (sym slots) ∙ s.plain off))
         by true on =
             let g = s.valved on in
@@ -390,16 +390,16 @@ module _ (before after : List Zone) (are_before : AreZones before) (are_after : 
                   within = g.2.within;
                   target = g.2.target;
                   its_target = to_no_target after seats net own zone q.set.rtype q.set.body g.2.target alike.off_too target;
-                  condition = g.2.condition ∙ ap (λ (c : Option ℕ). set_condition (map (place_of (ids_of checks)) (option_to_list c) ++ g.2.target)) alike.check;
+                  condition = g.2.condition ∙ ap (λ (c : Option ℕ). set_condition (map (valve_with (ids_of checks) numbers) (option_to_list c) ++ g.2.target)) alike.check;
                   its_own = g.2.its_own;
                 },
               );
             }
 
     pub seated_all : ((zone : ℕ) (p : Slotted) → IsHere (placed_in before zone) p
-        → IsSeated before (ids_of checks) seats net own zone p)
+        → IsSeated before (ids_of checks) numbers seats net own zone p)
         → (zone : ℕ) (p : Slotted) → IsHere (placed_in after zone) p
-        → IsSeated after (ids_of checks) seats net own zone p
+        → IsSeated after (ids_of checks) numbers seats net own zone p
     seated_all seated zone q here = elim (moves.only zone q here) [
       | inl old ↦ seated_now zone q (seated zone q old)
       | inr new ↦
@@ -420,7 +420,7 @@ module _ (before after : List Zone) (are_before : AreZones before) (are_after : 
     -- each set that something decides was listed, it or the one in whose place it came
     pub listed_all : (refs : List SetRef) → AllListed before refs
         → ((zone : ℕ) (p : Slotted) → IsHere (placed_in before zone) p
-        → IsSeated before (ids_of checks) seats net own zone p) → AllListed after refs
+        → IsSeated before (ids_of checks) numbers seats net own zone p) → AllListed after refs
     listed_all refs listed seated zone q here on = elim (moves.only zone q here) [
       | inl old ↦ listed zone q old on
       | inr new ↦
@@ -445,8 +445,8 @@ module _ (before after : List Zone) (are_before : AreZones before) (are_after : 
         in_place zone p q here slots some true on =
             subst (λ (n : ℕ). IsListed refs (record { zone = zone; slot = n })) slots (listed zone p here on)
 
-    pub node_now : (valve : ℕ) (node : Node) → IsValveFor before checks seats net own valve node
-        → (now : Node) × IsValveFor after checks seats net own valve now
+    pub node_now : (valve : ℕ) (node : Node) → IsValveFor before checks numbers seats net own valve node
+        → (now : Node) × IsValveFor after checks numbers seats net own valve now
     node_now valve (CheckNode id) is = (CheckNode id, is)
     node_now valve (SetNode zone set) (slot, (here, seat)) =
         let q = valve_stays zone (record { slot = slot; set = set }) valve here seat in
@@ -515,20 +515,21 @@ module _ (before after : List Zone) (reports : List Report) (index : Index) (del
     sound = sound;
     are_reports = stands.are_reports;
     ids = stands.ids;
+    numbers = stands.numbers;
     seen = stands.seen;
     as_many = stands.as_many;
-    listed = listed_all before after stands.are_zones are_after delta.removed delta.added moves index.seats valve_leaving.went valve_leaving.came checks.list
+    listed = listed_all before after stands.are_zones are_after delta.removed delta.added moves index.seats valve_leaving.went valve_leaving.came checks.list index.numbers
         stands.net stands.own index.refs stands.listed stands.wired.its_sets;
     net = stands.net;
     own = stands.own;
     wired = record {
       its_checks = stands.wired.its_checks;
-      its_sets = seated_all before after stands.are_zones are_after delta.removed delta.added moves index.seats valve_leaving.went valve_leaving.came checks.list
+      its_sets = seated_all before after stands.are_zones are_after delta.removed delta.added moves index.seats valve_leaving.went valve_leaving.came checks.list index.numbers
           stands.net stands.own stands.wired.its_sets;
       its_nodes = λ valve within.
           elim (stands.wired.its_nodes valve within) [
             | inl spare ↦ inl spare
-            | inr n ↦ inr (node_now before after stands.are_zones are_after delta.removed delta.added moves index.seats valve_leaving.went valve_leaving.came checks.list stands.net stands.own valve n.0 n.1)
+            | inr n ↦ inr (node_now before after stands.are_zones are_after delta.removed delta.added moves index.seats valve_leaving.went valve_leaving.came checks.list index.numbers stands.net stands.own valve n.0 n.1)
           ];
       spares = stands.wired.spares;
       many = stands.wired.many;

@@ -20,10 +20,10 @@ taken checker pass before items after place answer known same is took =
 
 module _ (index : Index) (whole : IsIntact index) (seen : List (Option Seen)) (space : Space) where
   -- one more result was
-  pub whole_taken : (place given : ℕ) (its now : Seen) (valves : Valves)
+  pub whole_taken : (place valve given : ℕ) (its now : Seen) (valves : Valves)
       → slice_get index.seen place ≡ Some (Some its) → seen ≡ set index.seen place (Some now)
-      → ValvesStandFor whole.net (with_own place given whole.own) valves → IsIdle valves
+      → ValvesStandFor whole.net (with_own valve given whole.own) valves → IsIdle valves
       → IsIntact (record index { seen = seen; valves = valves; space = space })
-  whole_taken place given its now valves here is fits idle =
+  whole_taken place valve given its now valves here is fits idle =
       subst (λ s. IsIntact (record index { seen = s; valves = valves; space = space })) (sym is)
-      (whole_after index whole place given its now valves space here fits idle)
+      (whole_after index whole place valve given its now valves space here fits idle)

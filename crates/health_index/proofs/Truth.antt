@@ -1,6 +1,6 @@
 -- An index that stands for a configuration tells its health.
 use Rattle.std.proofs.Common.{◌≡◌, ◌+◌, ◌*◌, ℕ, zero, suc, Bool, true, false, List, [], ◌∷◌, ◌++◌, length, map, add-one, arith, refl, ap, sym, ◌∙◌, inl, inr, Some, None, Option}
-use Rattle.std.specs.Prelude.{◌&&◌, ◌||◌, ◌⊎◌, nat_le, nat_lt, is_some, slice_get}
+use Rattle.std.specs.Prelude.{◌&&◌, ◌||◌, ◌⊎◌, nat_le, nat_lt, is_some, slice_get, slice_index}
 use Rattle.std.specs.List.{filter, list_any}
 use Rattle.std.specs.Option.{option_to_list}
 use Rattle.std.proofs.lemmas.Bool.{cases_lt, false≢true, le-leb, le-ltb, lt-leb, lt-ltb}
@@ -32,12 +32,13 @@ use Rattle.health_index.specs.Laws.{IndexTells, NodesHaveValues, StandsWhereAllM
 use Rattle.health_index.specs.Values.{AreValues, members_in, node_value, seat_in, value_of_set, value_or}
 use Rattle.health_planning.proofs.MembersOfZoneList.{set_in}
 use Rattle.health_planning.proofs.Ending.{condition_seated}
-use Rattle.health_planning.proofs.Places.{found, id_at, one_place}
+use Rattle.health_planning.proofs.Numbers.{ids_valves, number_is, valve_there}
+use Rattle.health_planning.proofs.Places.{found, id_at, id_there, one_place}
 use Rattle.health_planning.proofs.Watching.{zone_sets as sets_seen}
 use Rattle.health_planning.proofs.Wiring.{first_here, first_of, member_there}
 use Rattle.health_index.proofs.Keyed.{grouped_sets}
 use Rattle.health_index.proofs.Numbering.{valve_for, of_valve, there}
-use Rattle.health_planning.specs.Wired.{AreMembers, IsFirstIn, IsValveFor, IsGroupValve, IsGroupSeat, IsTarget, check_need, check_own, check_condition, valves_of, group_seat, ids_of, is_inverted, is_watched, open_in, place_of, plain_among, seat_of, spare_condition, watched_of, with_valve, plain}
+use Rattle.health_planning.specs.Wired.{AreMembers, IsFirstIn, IsValveFor, IsGroupValve, IsGroupSeat, IsTarget, check_need, check_own, check_condition, valves_of, group_seat, ids_of, is_inverted, is_watched, open_in, place_of, plain_among, seat_of, spare_condition, valve_with, watched_of, with_valve, plain}
 use Rattle.health_planning.specs.declared.seats.Seat.{Seat}
 
 -- a valve at which nothing has to be counted is open
@@ -102,34 +103,34 @@ ten passing = elim (cases_lt passing 10) [
   | inr many ↦ le-leb 10 (passing + 0) (omega arith) ∙ sym (lt-ltb 900 (100 * passing) (omega arith))
 ]
 
-pub children_counted : (v : ℕ → Bool) (ids children : List ℕ)
-    → count v (map (place_of ids) children)
-    ≡ length (filter (λ (child : ℕ). v (place_of ids child)) children)
-children_counted v ids [] = refl
-children_counted v ids (child ∷ children) =
-    step (v (place_of ids child)) refl (children_counted v ids children)
+pub children_counted : (v : ℕ → Bool) (ids numbers children : List ℕ)
+    → count v (map (valve_with ids numbers) children)
+    ≡ length (filter (λ (child : ℕ). v (valve_with ids numbers child)) children)
+children_counted v ids numbers [] = refl
+children_counted v ids numbers (child ∷ children) =
+    step (v (valve_with ids numbers child)) refl (children_counted v ids numbers children)
   where
-    step : (b : Bool) → v (place_of ids child) ≡ b
-        → count v (map (place_of ids) children)
-        ≡ length (filter (λ (c : ℕ). v (place_of ids c)) children)
-        → count v (map (place_of ids) (child ∷ children))
-        ≡ length (filter (λ (c : ℕ). v (place_of ids c)) (child ∷ children))
+    step : (b : Bool) → v (valve_with ids numbers child) ≡ b
+        → count v (map (valve_with ids numbers) children)
+        ≡ length (filter (λ (c : ℕ). v (valve_with ids numbers c)) children)
+        → count v (map (valve_with ids numbers) (child ∷ children))
+        ≡ length (filter (λ (c : ℕ). v (valve_with ids numbers c)) (child ∷ children))
     step true e r = rw (e, r) (add-one _)
     step false e r = rw e r
 
-check_equation : (v : ℕ → Bool) (ids : List ℕ) (check : Check) (passing : ℕ → ℕ)
+check_equation : (v : ℕ → Bool) (ids numbers : List ℕ) (check : Check) (passing : ℕ → ℕ)
     → swapped_if (is_inverted check) (nat_le (check_need check)
-    (check_own check passing + count v (map (place_of ids) (children_of check))))
-    ≡ check_value check passing (λ child. v (place_of ids child))
-check_equation v ids (Endpoint threshold inverted true) passing =
+    (check_own check passing + count v (map (valve_with ids numbers) (children_of check))))
+    ≡ check_value check passing (λ child. v (valve_with ids numbers child))
+check_equation v ids numbers (Endpoint threshold inverted true) passing =
     ap (swapped_if inverted) (le-leb 0 (passing threshold + 0) (omega arith))
-check_equation v ids (Endpoint threshold inverted false) passing =
+check_equation v ids numbers (Endpoint threshold inverted false) passing =
     ap (swapped_if inverted) (ten (passing threshold))
-check_equation v ids (Calculated threshold inverted true children) passing =
-    ap (swapped_if inverted) (le-leb 0 (0 + count v (map (place_of ids) children)) (omega arith))
-check_equation v ids (Calculated threshold inverted false children) passing =
-    let same : 0 + count v (map (place_of ids) children) ≡ length (filter (λ (child : ℕ). v (place_of ids child)) children) = let c = children_counted v
-    ids children in omega arith in
+check_equation v ids numbers (Calculated threshold inverted true children) passing =
+    ap (swapped_if inverted) (le-leb 0 (0 + count v (map (valve_with ids numbers) children)) (omega arith))
+check_equation v ids numbers (Calculated threshold inverted false children) passing =
+    let same : 0 + count v (map (valve_with ids numbers) children) ≡ length (filter (λ (child : ℕ). v (valve_with ids numbers child)) children) = let c = children_counted v
+    ids numbers children in omega arith in
     ap (λ (n : ℕ). swapped_if inverted (nat_le threshold n)) same
 
 -- ---- the valve of a set
@@ -243,13 +244,13 @@ module _ (zones : List Zone) (checks : Checks) (reports : List Report) (index : 
   v = node_value zones index
 
   abbrev of_check : ℕ → Bool
-  of_check id = valve_open (place_of its_ids id)
+  of_check id = valve_open (valve_with its_ids index.numbers id)
 
   abbrev of_group : (zone : ℕ) → (name : List (List ℕ)) → RType → Bool
   of_group zone name rtype = v (GroupNode zone name rtype)
 
   abbrev IsValve : (valve : ℕ) → Node → Type 0
-  IsValve valve node = IsValveFor zones checks.list index.seats laid.net laid.own valve node
+  IsValve valve node = IsValveFor zones checks.list index.numbers index.seats laid.net laid.own valve node
 
   -- the equation of a valve with this condition
   condition_equals : (valve own : ℕ) (condition : Condition) → laid.net.condition valve ≡ condition → laid.own valve ≡ own
@@ -261,12 +262,14 @@ module _ (zones : List Zone) (checks : Checks) (reports : List Report) (index : 
 
   -- ---- the values of nodes with valves
 
-  check_valued : (valve id : ℕ) (check : Check) → slice_get checks.list valve ≡ Some (id, check)
-      → v (CheckNode id) ≡ valve_open valve
-  check_valued valve id check at =
-      let its = id_at checks.list valve id check laid.are_checks.rising at in
-      let place = one_place checks.list (place_of its_ids id) valve id check check laid.are_checks.rising (found checks.list id check its) at in
-      ap (λ (ids : List ℕ). valve_open (place_of ids id)) laid.ids ∙ ap valve_open place
+  check_valued : (place valve id : ℕ) (check : Check) → slice_get checks.list place ≡ Some (id, check)
+      → slice_get index.numbers place ≡ Some valve → v (CheckNode id) ≡ valve_open valve
+  check_valued place valve id check at numbered =
+      let its = id_at checks.list place id check laid.are_checks.rising at in
+      let first = one_place checks.list (place_of its_ids id) place id check check laid.are_checks.rising (found checks.list id check its) at in
+      ap (λ (ids : List ℕ). valve_open (valve_with ids index.numbers id)) laid.ids
+      ∙ ap (λ (n : ℕ). valve_open (slice_index index.numbers n)) first
+      ∙ ap valve_open (number_is index.numbers place valve numbered)
 
   seated : (zone : ℕ) (p : Slotted) → IsHere (placed_in zones zone) p
       → v (SetNode zone p.set) ≡ open_in valve_open (seat_of index.seats p.slot)
@@ -289,7 +292,7 @@ module _ (zones : List Zone) (checks : Checks) (reports : List Report) (index : 
 
   -- the value of a node with a valve is that of the valve
   pub valued : (valve : ℕ) (n : Node) → IsValve valve n → v n ≡ valve_open valve
-  valued valve (CheckNode id) (check, at) = check_valued valve id check at
+  valued valve (CheckNode id) (place, (check, (at, numbered))) = check_valued place valve id check at numbered
   valued valve (SetNode zone set) (slot, (here, seat)) =
       seated zone (record { slot = slot; set = set }) here ∙ ap (open_in valve_open) seat
   valued valve (GroupNode zone name rtype) (members, (are, w)) =
@@ -297,15 +300,16 @@ module _ (zones : List Zone) (checks : Checks) (reports : List Report) (index : 
 
   -- ---- their equations
 
-  check_equals : (valve id : ℕ) (check : Check) → slice_get checks.list valve ≡ Some (id, check)
+  check_equals : (place valve id : ℕ) (check : Check) → slice_get checks.list place ≡ Some (id, check)
+      → slice_get index.numbers place ≡ Some valve
       → local watched reports v (CheckNode id) ≡ equation laid.net laid.own valve_open valve
-  check_equals valve id check at =
-      let w = laid.wired.its_checks valve id check at in
+  check_equals place valve id check at numbered =
+      let w = laid.wired.its_checks place valve id check at numbered in
       ap (λ (o : Option Check). value_there o (passing reports id) (λ child. v (CheckNode child)))
-      (id_at checks.list valve id check laid.are_checks.rising at)
-      ∙ ap (λ (ids : List ℕ). check_value check (passing reports id) (λ child. valve_open (place_of ids child))) laid.ids
-      ∙ sym (check_equation valve_open its_ids check (passing reports id))
-      ∙ condition_equals valve (check_own check (passing reports id)) (check_condition its_ids check) w.condition w.its_own
+      (id_at checks.list place id check laid.are_checks.rising at)
+      ∙ ap (λ (ids : List ℕ). check_value check (passing reports id) (λ child. valve_open (valve_with ids index.numbers child))) laid.ids
+      ∙ sym (check_equation valve_open its_ids index.numbers check (passing reports id))
+      ∙ condition_equals valve (check_own check (passing reports id)) (check_condition its_ids index.numbers check) w.condition w.its_own
 
   group_equals : (zone : ℕ) (name : List (List ℕ)) (rtype : RType) (members : List Slotted) (valve : ℕ)
       → AreMembers zones zone name rtype members
@@ -323,29 +327,29 @@ module _ (zones : List Zone) (checks : Checks) (reports : List Report) (index : 
 
   target_equals : (zone : ℕ) (set : RecordSet) (rtype : RType) (its : Body) (target : List ℕ)
       → IsTarget zones index.seats laid.net laid.own zone rtype its target
-      → nat_le (length (map (place_of its_ids) (option_to_list set.check) ++ target))
-      (0 + count valve_open (map (place_of its_ids) (option_to_list set.check) ++ target))
+      → nat_le (length (map (valve_with its_ids index.numbers) (option_to_list set.check) ++ target))
+      (0 + count valve_open (map (valve_with its_ids index.numbers) (option_to_list set.check) ++ target))
       ≡ by_check of_check set.check && by_target (of_group zone) rtype its
   target_equals zone set rtype (body.Values ttl values) target is =
-      rw is (by_one valve_open (place_of its_ids) set.check)
+      rw is (by_one valve_open (valve_with its_ids index.numbers) set.check)
   target_equals zone set rtype (body.Alias name evaluate) target (inl (off, is)) =
-      rw (is, off) (by_one valve_open (place_of its_ids) set.check)
+      rw (is, off) (by_one valve_open (valve_with its_ids index.numbers) set.check)
   target_equals zone set rtype (body.Alias name evaluate) target (inr (on, (valve, is, (members, are, w)))) =
-      rw (is, on, group_valued zone name rtype members valve are w) (by_both valve_open (place_of its_ids) set.check valve)
+      rw (is, on, group_valued zone name rtype members valve are w) (by_both valve_open (valve_with its_ids index.numbers) set.check valve)
 
   set_equals : (zone : ℕ) (p : Slotted) (valve : ℕ) → IsHere (placed_in zones zone) p
       → seat_of index.seats p.slot ≡ suc valve
       → local watched reports v (SetNode zone p.set) ≡ equation laid.net laid.own valve_open valve
   set_equals zone p valve here seat =
-      let w = (condition_seated zones its_ids index.seats laid.net laid.own laid.wired.its_sets zone p valve here seat).is in
-      ap (λ (ids : List ℕ). by_check (λ id. valve_open (place_of ids id)) p.set.check && by_target (of_group zone) p.set.rtype p.set.body) laid.ids
+      let w = (condition_seated zones its_ids index.numbers index.seats laid.net laid.own laid.wired.its_sets zone p valve here seat).is in
+      ap (λ (ids : List ℕ). by_check (λ id. valve_open (valve_with ids index.numbers id)) p.set.check && by_target (of_group zone) p.set.rtype p.set.body) laid.ids
       ∙ sym (target_equals zone p.set p.set.rtype p.set.body w.target w.its_target)
       ∙ condition_equals valve 0 _ w.condition w.its_own
 
   -- the local equation of a node with a valve is that of the valve
   pub equals : (valve : ℕ) (n : Node) → IsValve valve n
       → local watched reports v n ≡ equation laid.net laid.own valve_open valve
-  equals valve (CheckNode id) (check, at) = check_equals valve id check at
+  equals valve (CheckNode id) (place, (check, (at, numbered))) = check_equals place valve id check at numbered
   equals valve (SetNode zone set) (slot, (here, seat)) =
       set_equals zone (record { slot = slot; set = set }) valve here seat
   equals valve (GroupNode zone name rtype) (members, (are, w)) =
@@ -377,7 +381,22 @@ module _ (zones : List Zone) (checks : Checks) (reports : List Report) (index : 
   -- a node has a valve, or it meets its local equation
   pub valve_or_meets : (n : Node) → IsNode watched n
       → ((valve : ℕ) × IsValve valve n) ⊎ Meets watched reports v n
-  valve_or_meets (CheckNode id) (check, at) = inl (place_of its_ids id, (check, found checks.list id check at))
+  valve_or_meets (CheckNode id) (check, at) =
+      let place = place_of its_ids id in
+      let here = found checks.list id check at in
+      inl (
+        valve_with its_ids index.numbers id,
+        (
+          place,
+          (
+            check,
+            (
+              here,
+              valve_there its_ids index.numbers (ids_valves checks.list index.numbers laid.numbers) place id (id_there checks.list place id check here),
+            ),
+          ),
+        ),
+      )
   valve_or_meets (SetNode zone set) is =
       let p = among_mapped (λ (p : Slotted). p.set) (placed_in zones zone) set
       (subst (λ (sets : List RecordSet). IsAmong sets set) (zone_sets zones checks zone) is) in
@@ -406,7 +425,7 @@ module _ (zones : List Zone) (checks : Checks) (reports : List Report) (index : 
 
   -- what has a valve is a node
   node_there : (valve : ℕ) (n : Node) → IsValve valve n → IsNode watched n
-  node_there valve (CheckNode id) (check, at) = (check, id_at checks.list valve id check laid.are_checks.rising at)
+  node_there valve (CheckNode id) (place, (check, (at, numbered))) = (check, id_at checks.list place id check laid.are_checks.rising at)
   node_there valve (SetNode zone set) (slot, (here, seat)) =
       is_node zones checks (record { zone = zone; slot = slot }) set here
   node_there valve (GroupNode zone name rtype) (members, (are, w)) =
@@ -474,6 +493,7 @@ laid_of zones checks reports index stands = record {
   sound = stands.sound;
   are_reports = stands.are_reports;
   ids = stands.ids;
+  numbers = stands.numbers;
   seen = stands.seen;
   as_many = stands.as_many;
   listed = stands.listed;
@@ -484,7 +504,7 @@ laid_of zones checks reports index stands = record {
   fits = stands.fits;
   spare = λ valve is.
       let many = stands.wired.many in
-      let early = is.1 in
+      let early = is.0 in
       stands.meet valve (omega arith)
       ∙ spare_open stands.net stands.own (value_of index.valves) valve (stands.wired.spares valve is);
   idle = stands.idle;
@@ -509,6 +529,7 @@ stands_where_all_meet views zones checks reports index = (
     sound = laid.sound;
     are_reports = laid.are_reports;
     ids = laid.ids;
+    numbers = laid.numbers;
     seen = laid.seen;
     as_many = laid.as_many;
     listed = laid.listed;

@@ -1,6 +1,6 @@
 -- What an index that stood for some checks is to checks of endpoints that follow of them.
 use Rattle.std.proofs.Common.{◌≡◌, ◌≢◌, ◌≤◌, ◌<◌, ◌+◌, ℕ, zero, suc, Bool, List, [], ◌∷◌, ◌++◌, length, map, arith, refl, ap, sym, ◌∙◌, inl, inr, Some, None}
-use Rattle.std.specs.Prelude.{◌⊎◌, Option, slice_get}
+use Rattle.std.specs.Prelude.{◌⊎◌, Option, slice_get, slice_index}
 use Rattle.std.proofs.lemmas.Bool.{cases_eq, cases_lt, eq-eqb, ne_eqb}
 use Rattle.std.proofs.lemmas.List.{length-append}
 use Rattle.std.proofs.lemmas.Option.{slice_get_within}
@@ -12,19 +12,21 @@ use Rattle.check_model.specs.declared.checks.Check.TheVariants.{Endpoint, Calcul
 use Rattle.checker_state.specs.Standing.{Seen, passing_of}
 use Rattle.checker_state.specs.Standing.{StandsFor as HasSeen}
 use Rattle.health_index.proofs.Knowing.{knows_its, still_reports}
-use Rattle.health_index.proofs.Renumbered.{node_now, same_numbers, seated_now}
+use Rattle.health_index.proofs.Behind.{node_now, seated_now}
+use Rattle.health_index.proofs.Valved.{more_valves}
 use Rattle.health_index.proofs.Reshaped.{IsOther, endpoint_alone, no_children, other_own, other_seen, same_ids, was_endpoint}
 use Rattle.health_index.specs.Following.{AreEndpoints, AreMore, HaveIds, IsFollowed, IsFresh}
 use Rattle.health_index.specs.Index.{Index, IsIntact, Space, StandsFor}
 use Rattle.health_model.specs.Nodes.{Node}
 use Rattle.health_model.specs.Statuses.{Report, passing, results_of}
-use Rattle.health_planning.proofs.Built.{checks_there}
+use Rattle.health_planning.proofs.Built.{checks_there, still_there}
+use Rattle.health_planning.proofs.Numbers.{ids_valves, number_is, valve_there}
 use Rattle.health_planning.proofs.Places.{held_there, id_at, id_there, ids_apart, of_all, one_place}
 use Rattle.health_planning.proofs.Seeing.{seen_it}
 use Rattle.health_planning.proofs.Wiring.{ids_long}
 use Rattle.health_planning.specs.Building.{IsSeen}
 use Rattle.health_planning.specs.Later.{AreLater}
-use Rattle.health_planning.specs.Wired.{IsValveFor, StandApart, StandsAt, check_own, ids_of, place_of}
+use Rattle.health_planning.specs.Wired.{IsSpare, IsValveFor, StandApart, StandsAt, check_own, ids_of, place_of, valve_with}
 use Rattle.health_planning.specs.Zones.{Zone, placed_in}
 use Rattle.health_valves.proofs.Runs.{in_more}
 use Rattle.health_valves.specs.Pass.{IsIdle, MeetAll}
@@ -56,24 +58,26 @@ module _ (zones : List Zone) (old new : Checks) (reports : List Report) (index :
       let was = was_there before place id check at at_new in
       other_seen reports id was.0 check its was.2 (stands.seen before id was.0 its was.1 saw)
 
-  pub its_own : (before place id : ℕ) (check : Check) → slice_get index.ids before ≡ Some id
-      → slice_get new.list place ≡ Some (id, check) → stands.own before ≡ check_own check (passing reports id)
-  its_own before place id check at at_new =
+  pub its_own : (before valve place id : ℕ) (check : Check) → slice_get index.ids before ≡ Some id
+      → slice_get index.numbers before ≡ Some valve → slice_get new.list place ≡ Some (id, check)
+      → stands.own valve ≡ check_own check (passing reports id)
+  its_own before valve place id check at numbered at_new =
       let was = was_there before place id check at at_new in
-      (stands.wired.its_checks before id was.0 was.1).its_own ∙ other_own (passing reports id) was.0 check was.2
+      (stands.wired.its_checks before valve id was.0 was.1 numbered).its_own ∙ other_own (passing reports id) was.0 check was.2
 
-  pub its_alone : (before place id : ℕ) (check : Check) → slice_get index.ids before ≡ Some id
-      → slice_get new.list place ≡ Some (id, check) → (stands.net.condition before).feeders ≡ []
-  its_alone before place id check at at_new =
+  pub its_alone : (before valve place id : ℕ) (check : Check) → slice_get index.ids before ≡ Some id
+      → slice_get index.numbers before ≡ Some valve → slice_get new.list place ≡ Some (id, check)
+      → (stands.net.condition valve).feeders ≡ []
+  its_alone before valve place id check at numbered at_new =
       let was = was_there before place id check at at_new in
-      ap (λ (c : Condition). c.feeders) (stands.wired.its_checks before id was.0 was.1).condition
-      ∙ ap (map (place_of (ids_of old.list))) (no_children was.0 check was.2 ∙ endpoint_alone check (endpoints place (id, check) at_new))
+      ap (λ (c : Condition). c.feeders) (stands.wired.its_checks before valve id was.0 was.1 numbered).condition
+      ∙ ap (map (valve_with (ids_of old.list) index.numbers)) (no_children was.0 check was.2 ∙ endpoint_alone check (endpoints place (id, check) at_new))
 
   -- valves behind those of checks
   pub nodes : (valve : ℕ) → 200 ≤ valve → valve < stands.net.size
-      → (node : Node) × IsValveFor zones old.list index.seats stands.net stands.own valve node
+      → (node : Node) × IsValveFor zones old.list index.numbers index.seats stands.net stands.own valve node
   nodes valve behind within = elim (stands.wired.its_nodes valve within) [
-    | inl spare ↦ (let early = spare.1 in absurd (omega arith))
+    | inl spare ↦ (let early = spare.0 in absurd (omega arith))
     | inr n ↦ n
   ]
 
@@ -85,35 +89,39 @@ module _ (zones : List Zone) (old new : Checks) (reports : List Report) (index :
       same_ids index.ids new.list (sym as_many) (λ place held at.
       same place held (let b = slice_get_within new.list place held at in omega arith) at) in
       let lists : ids_of new.list ≡ ids_of old.list = sym ids ∙ stands.ids in
-      let placed : (id : ℕ) → place_of (ids_of new.list) id ≡ place_of (ids_of old.list) id = λ id. ap (λ (l : List ℕ). place_of l id) lists in
+      let placed : (id : ℕ) → valve_with (ids_of new.list) index.numbers id ≡ valve_with (ids_of old.list) index.numbers id = λ id. ap (λ (l : List ℕ). valve_with l index.numbers id) lists in
       let here : (place id : ℕ) (check : Check) → slice_get new.list place ≡ Some (id, check) → slice_get index.ids place ≡ Some id =
       λ place id check at. ap (λ (l : List ℕ). slice_get l place) ids ∙ id_there new.list place id check at in
+      let old_many = ap length stands.ids ∙ ids_long old.list in
       record {
         are_zones = stands.are_zones;
         slots = stands.slots;
         are_reports = still_reports old.next new.next reports later.next stands.are_reports;
         ids = ids;
+        numbers = record {
+          as_many = let many = stands.numbers.as_many in omega arith;
+          apart = stands.numbers.apart;
+          early = stands.numbers.early;
+        };
         seen = λ place id check its at saw. its_seen place place id check its (here place id check at) at saw;
         as_many = stands.as_many;
         listed = stands.listed;
         net = stands.net;
         own = stands.own;
-        sets = seated_now zones old.list new.list index.seats stands.net stands.net stands.own stands.own (λ n. n) refl
-            (λ n behind. same_numbers (stands.net.condition n)) (λ n behind. refl) (λ n behind. refl) stands.wired.its_sets
-            (λ zone p id in_zone is. placed id);
-        nodes = node_now zones old.list new.list index.seats stands.net stands.net stands.own stands.own (λ n. n) refl
-            (λ n behind. same_numbers (stands.net.condition n)) (λ n behind. refl) (λ n behind. refl) stands.wired.its_sets
-            (λ zone p id in_zone is. placed id) stands.are_checks.few nodes;
+        sets = seated_now zones old.list new.list index.numbers index.numbers index.seats stands.net stands.net stands.own stands.own refl
+            (λ n behind. refl) (λ n behind. refl) stands.wired.its_sets (λ zone p id in_zone is. placed id);
+        nodes = node_now zones old.list new.list index.numbers index.numbers index.seats stands.net stands.net stands.own stands.own refl
+            (λ n behind. refl) (λ n behind. refl) stands.wired.its_sets
+            (λ zone p id in_zone is. placed id) stands.numbers.early nodes;
         groups = λ slot valve is. stands.wired.its_groups slot valve (let e = is in omega arith);
-        spares = λ valve is.
-            let old_many = ap length stands.ids ∙ ids_long old.list in
-            let past = is.0 in
-            stands.wired.spares valve (omega arith, is.1);
+        spares = stands.wired.spares;
         many = stands.wired.many;
-        alone = λ place early.
-            let held = filled new.list place early in
-            its_alone place place held.0.0 held.0.1 (here place held.0.0 held.0.1 held.1) held.1;
-        owns = λ place id check at. its_own place place id check (here place id check at) at;
+        alone = λ place valve numbered.
+            let many = stands.numbers.as_many in
+            let within = slice_get_within index.numbers place valve numbered in
+            let held = filled new.list place (omega arith) in
+            its_alone place valve place held.0.0 held.0.1 (here place held.0.0 held.0.1 held.1) numbered held.1;
+        owns = λ place valve id check at numbered. its_own place valve place id check (here place id check at) numbered at;
         told = stands.told;
         fits = stands.fits;
         meet = stands.meet;
@@ -154,18 +162,18 @@ module _ (zones : List Zone) (old new : Checks) (reports : List Report) (index :
     (endpoints : AreEndpoints new.list) (later : AreLater old new)
     (as_many : length new.list ≡ length index.ids + 1)
     (same : HaveIds index.ids (length index.ids) new.list)
-    (id count : ℕ) (check : Check) (at : slice_get new.list (length index.ids) ≡ Some (id, check))
+    (id count valve : ℕ) (spare : IsSpare index.numbers valve) (check : Check) (at : slice_get new.list (length index.ids) ≡ Some (id, check))
     (fresh : Seen) (is_fresh : IsFresh check fresh)
     (counted : (n : ℕ) (results : ℕ → List Bool) → HasSeen n results fresh → count ≡ passing_of n results)
     (valves : Valves)
-    (fits : ValvesStandFor stands.net (with_own (length index.ids) count stands.own) valves)
-    (meet : MeetAll stands.net (with_own (length index.ids) count stands.own) valves)
+    (fits : ValvesStandFor stands.net (with_own valve count stands.own) valves)
+    (meet : MeetAll stands.net (with_own valve count stands.own) valves)
     (idle : IsIdle valves) (space : Space) where
   abbrev last : ℕ
   last = length index.ids
 
   abbrev after : Index
-  after = record index { ids = index.ids ++ id ∷ []; seen = index.seen ++ Some fresh ∷ []; valves = valves; space = space }
+  after = record index { ids = index.ids ++ id ∷ []; numbers = index.numbers ++ valve ∷ []; seen = index.seen ++ Some fresh ∷ []; valves = valves; space = space }
 
   ids_now : after.ids ≡ ids_of new.list
   ids_now = one_more_ids index.ids new.list id check as_many same at
@@ -208,12 +216,17 @@ module _ (zones : List Zone) (old new : Checks) (reports : List Report) (index :
   ]
 
   placed : (zone : ℕ) (p : Slotted) (named : ℕ) → IsHere (placed_in zones zone) p → p.set.check ≡ Some named
-      → place_of (ids_of new.list) named ≡ place_of (ids_of old.list) named
+      → valve_with (ids_of new.list) after.numbers named ≡ valve_with (ids_of old.list) index.numbers named
   placed zone p named here is =
       let k = checks_there zones old stands.sound (record { zone = zone; slot = p.slot }) p.set named here is in
+      let front : place_of (ids_of new.list) named ≡ place_of (ids_of old.list) named =
       ap (λ (l : List ℕ). place_of l named) (sym ids_now)
       ∙ place_front index.ids id named k.0 (ap (λ (l : List ℕ). slice_get l k.0) stands.ids ∙ k.1)
-      ∙ ap (λ (l : List ℕ). place_of l named) stands.ids
+      ∙ ap (λ (l : List ℕ). place_of l named) stands.ids in
+      let there = valve_there (ids_of old.list) index.numbers (ids_valves old.list index.numbers stands.numbers) k.0 named k.1 in
+      ap (slice_index after.numbers) front
+      ∙ number_is after.numbers (place_of (ids_of old.list) named) (valve_with (ids_of old.list) index.numbers named)
+      (still_there index.numbers valve (valve_with (ids_of old.list) index.numbers named) (place_of (ids_of old.list) named) there)
 
   fresh_own : count ≡ check_own check (passing reports id)
   fresh_own = by check is_fresh fresh_seen
@@ -223,17 +236,36 @@ module _ (zones : List Zone) (old new : Checks) (reports : List Report) (index :
       by (Endpoint threshold inverted disabled) its saw = counted threshold (results_of reports id) saw
       by (Calculated threshold inverted disabled children) none saw = absurd none
 
-  own_behind : (n : ℕ) → n ≢ last → with_own last count stands.own n ≡ stands.own n
-  own_behind n apart = rw (ne_eqb n last apart) refl
+  own_beside : (n : ℕ) → n ≢ valve → with_own valve count stands.own n ≡ stands.own n
+  own_beside n apart = rw (ne_eqb n valve apart) refl
+
+  -- a valve of the checks that were there, or the new one
+  number_of_new : (place found : ℕ) → slice_get after.numbers place ≡ Some found
+      → (slice_get index.numbers place ≡ Some found × (place < last)) ⊎ ((place ≡ last) × (found ≡ valve))
+  number_of_new place found at_place = elim (in_more index.numbers valve found place at_place) [
+    | inl old_one ↦
+        let within = slice_get_within index.numbers place found old_one in
+        let many = stands.numbers.as_many in
+        let long = old_many in
+        inl (old_one, omega arith)
+    | inr new_one ↦
+        let many = stands.numbers.as_many in
+        let long = old_many in
+        inr (new_one.0 ∙ many ∙ long, new_one.1)
+  ]
 
   pub more_way : IsFollowed zones new reports after
   more_way =
       let few = are_new.few in
+      let long = old_many in
       record {
         are_zones = stands.are_zones;
         slots = stands.slots;
         are_reports = still_reports old.next new.next reports later.next stands.are_reports;
         ids = ids_now;
+        numbers =
+            let more = more_valves (length old.list) index.numbers valve stands.numbers spare in
+            record { as_many = let many = more.as_many in omega arith; apart = more.apart; early = more.early };
         seen = λ place other its found at_place saw. elim (in_more index.seen (Some fresh) found place saw) [
           | inl before ↦
               let early = slice_get_within index.seen place found before in
@@ -249,29 +281,35 @@ module _ (zones : List Zone) (old new : Checks) (reports : List Report) (index :
         as_many = length-append index.seen (Some fresh ∷ []) ∙ ap (λ (n : ℕ). n + 1) stands.as_many ∙ sym (length-append index.ids (id ∷ []));
         listed = stands.listed;
         net = stands.net;
-        own = with_own last count stands.own;
-        sets = seated_now zones old.list new.list index.seats stands.net stands.net stands.own (with_own last count stands.own) (λ n. n) refl
-            (λ n behind. same_numbers (stands.net.condition n)) (λ n behind. own_behind n (λ e. omega arith)) (λ n behind. refl)
+        own = with_own valve count stands.own;
+        sets = seated_now zones old.list new.list index.numbers after.numbers index.seats stands.net stands.net stands.own (with_own valve count stands.own) refl
+            (λ n behind. refl) (λ n behind. own_beside n (λ e. let early = spare.0 in omega arith))
             stands.wired.its_sets placed;
-        nodes = node_now zones old.list new.list index.seats stands.net stands.net stands.own (with_own last count stands.own) (λ n. n) refl
-            (λ n behind. same_numbers (stands.net.condition n)) (λ n behind. own_behind n (λ e. omega arith)) (λ n behind. refl)
-            stands.wired.its_sets placed stands.are_checks.few
+        nodes = node_now zones old.list new.list index.numbers after.numbers index.seats stands.net stands.net stands.own (with_own valve count stands.own) refl
+            (λ n behind. refl) (λ n behind. own_beside n (λ e. let early = spare.0 in omega arith))
+            stands.wired.its_sets placed stands.numbers.early
             (nodes zones old new reports index stands are_new endpoints later);
-        groups = λ slot valve is. stands.wired.its_groups slot valve (let e = is in omega arith);
-        spares = λ valve is. let many = old_many in let past = is.0 in stands.wired.spares valve (omega arith, is.1);
+        groups = λ slot found is. stands.wired.its_groups slot found (let e = is in omega arith);
+        spares = λ found is. stands.wired.spares found (is.0, λ place here. is.1 place (still_there index.numbers valve found place here));
         many = stands.wired.many;
-        alone = λ place early.
-            let held = filled new.list place early in
-            elim (place_of_new place held.0.0 held.0.1 held.1) [
-              | inl before ↦ its_alone zones old new reports index stands are_new endpoints later place place held.0.0 held.0.1 before.0 held.1
-              | inr behind ↦ (let many = old_many in let is = behind.0 in
-                  ap (λ (c : Condition). c.feeders) (stands.wired.spares place (omega arith, omega arith)))
-            ];
-        owns = λ place other its at_place. elim (place_of_new place other its at_place) [
+        alone = λ place found numbered. elim (number_of_new place found numbered) [
           | inl before ↦
-              own_behind place (λ e. let early = before.1 in omega arith)
-              ∙ its_own zones old new reports index stands are_new endpoints later place place other its before.0 at_place
-          | inr behind ↦ rw (eq-eqb place last behind.0, behind.1.0, behind.1.1) fresh_own
+              let early = before.1 in
+              let held = filled new.list place (omega arith) in
+              its_alone zones old new reports index stands are_new endpoints later place found place held.0.0 held.0.1
+              (same place held.0 before.1 held.1) before.0 held.1
+          | inr behind ↦
+              ap (λ (n : ℕ). (stands.net.condition n).feeders) behind.1
+              ∙ ap (λ (c : Condition). c.feeders) (stands.wired.spares valve spare)
+        ];
+        owns = λ place found other its at_place numbered. elim (number_of_new place found numbered) [
+          | inl before ↦
+              own_beside found (λ e. spare.1 place (before.0 ∙ ap Some e))
+              ∙ its_own zones old new reports index stands are_new endpoints later place found place other its
+              (same place (other, its) before.1 at_place) before.0 at_place
+          | inr behind ↦
+              let held : ◌≡◌ {A = ℕ × Check} (other, its) (id, check) = some_same (sym at_place ∙ ap (slice_get new.list) behind.0 ∙ at) in
+              rw (eq-eqb found valve behind.1, ap (λ (h : ℕ × Check). h.0) held, ap (λ (h : ℕ × Check). h.1) held) fresh_own
         ];
         told = stands.told;
         fits = fits;
@@ -282,37 +320,47 @@ module _ (zones : List Zone) (old new : Checks) (reports : List Report) (index :
 -- what holds of every index still does
 pub whole_more : (index : Index) (w : IsIntact index) (new : Checks) → AreSoundChecks new
     → AreMore index.ids new.list → (id : ℕ) (check : Check)
-    → slice_get new.list (length index.ids) ≡ Some (id, check) → (fresh : Seen) (count : ℕ) (valves : Valves)
-    → 200 ≤ w.net.size → ValvesStandFor w.net (with_own (length index.ids) count w.own) valves → IsIdle valves
-    → (space : Space)
+    → slice_get new.list (length index.ids) ≡ Some (id, check) → (fresh : Seen) (count valve : ℕ)
+    → IsSpare index.numbers valve → (valves : Valves) → 200 ≤ w.net.size
+    → ValvesStandFor w.net (with_own valve count w.own) valves → IsIdle valves → (space : Space)
     → IsIntact (record index {
       ids = index.ids ++ id ∷ [];
+      numbers = index.numbers ++ valve ∷ [];
       seen = index.seen ++ Some fresh ∷ [];
       valves = valves;
       space = space;
     })
-whole_more index w new are_new more id check at fresh count valves roomy fits idle space =
+whole_more index w new are_new more id check at fresh count valve spare valves roomy fits idle space =
     let long = length-append index.ids (id ∷ []) in
-    let most = are_new.few in
-    let as_many = more.0 in
-    let seen_many = w.as_many in
     let ids = one_more_ids index.ids new.list id check more.0 more.1 at in
+    let all = more_valves (length index.ids) index.numbers valve w.numbers spare in
     record {
       net = w.net;
-      own = with_own (length index.ids) count w.own;
+      own = with_own valve count w.own;
       fits = fits;
       idle = idle;
       as_many = length-append index.seen (Some fresh ∷ []) ∙ ap (λ (n : ℕ). n + 1) w.as_many ∙ sym long;
       apart = subst StandApart (sym ids) (ids_apart new.list are_new.rising);
-      few = omega arith;
-      within = omega arith;
+      numbers = record { as_many = all.as_many ∙ sym long; apart = all.apart; early = all.early };
+      within = λ place found at_place. elim (in_more index.numbers valve found place at_place) [
+        | inl before ↦ w.within place found before
+        | inr behind ↦ (let same = behind.1 in let early = spare.0 in omega arith)
+      ];
       seated = w.seated;
       given = w.given;
-      alone = λ place its is. elim (in_more index.seen (Some fresh) (Some its) place is) [
-        | inl before ↦ w.alone place its before
-        | inr behind ↦ (let last = behind.0 in w.spare place (omega arith, omega arith))
+      alone = λ place found its is numbered. elim (in_more index.numbers valve found place numbered) [
+        | inl before ↦ elim (in_more index.seen (Some fresh) (Some its) place is) [
+          | inl saw ↦ w.alone place found its saw before
+          | inr last ↦
+              let within = slice_get_within index.numbers place found before in
+              let many = w.numbers.as_many in
+              let seen_many = w.as_many in
+              let e = last.0 in
+              absurd (omega arith)
+        ]
+        | inr behind ↦ rw behind.1 (w.spare valve spare)
       ];
-      spare = λ valve is. let past = is.0 in w.spare valve (omega arith, is.1);
+      spare = λ found is. w.spare found (is.0, λ place here. is.1 place (still_there index.numbers valve found place here));
     }
 
 -- the check that came, among those that are told
@@ -322,14 +370,16 @@ came_at list told ids place held is same at =
     ap (slice_get list) (sym same) ∙ ap (λ (l : List (ℕ × Check)). slice_get l place) (sym is) ∙ at
 
 -- and what the index is with it
-pub index_with : (index now : Index) (valves : Valves) (space : Space) (ids : List ℕ) (seen : List (Option Seen))
-    (id : ℕ) (its : Seen) → index ≡ now → space ≡ index.space → ids ≡ index.ids ++ id ∷ []
+pub index_with : (index now : Index) (valves : Valves) (space : Space) (ids numbers : List ℕ)
+    (seen : List (Option Seen)) (id valve : ℕ) (its : Seen) → index ≡ now → space ≡ index.space
+    → ids ≡ index.ids ++ id ∷ [] → numbers ≡ index.numbers ++ valve ∷ []
     → seen ≡ index.seen ++ Some its ∷ []
-    → record index { ids = ids; seen = seen; valves = valves; space = space }
-    ≡ record now { ids = now.ids ++ id ∷ []; seen = now.seen ++ Some its ∷ []; valves = valves }
-index_with index now valves space ids seen id its same room ids_are seen_are =
-    subst (λ (i : Index). record index { ids = ids; seen = seen; valves = valves; space = space }
-    ≡ record i { ids = i.ids ++ id ∷ []; seen = i.seen ++ Some its ∷ []; valves = valves }) same
-    (ap (λ (l : List ℕ). record index { ids = l; seen = seen; valves = valves; space = space }) ids_are
-    ∙ ap (λ (l : List (Option Seen)). record index { ids = index.ids ++ id ∷ []; seen = l; valves = valves; space = space }) seen_are
-    ∙ ap (λ (s : Space). record index { ids = index.ids ++ id ∷ []; seen = index.seen ++ Some its ∷ []; valves = valves; space = s }) room)
+    → record index { ids = ids; numbers = numbers; seen = seen; valves = valves; space = space }
+    ≡ record now { ids = now.ids ++ id ∷ []; numbers = now.numbers ++ valve ∷ []; seen = now.seen ++ Some its ∷ []; valves = valves }
+index_with index now valves space ids numbers seen id valve its same room ids_are numbers_are seen_are =
+    subst (λ (i : Index). record index { ids = ids; numbers = numbers; seen = seen; valves = valves; space = space }
+    ≡ record i { ids = i.ids ++ id ∷ []; numbers = i.numbers ++ valve ∷ []; seen = i.seen ++ Some its ∷ []; valves = valves }) same
+    (ap (λ (l : List ℕ). record index { ids = l; numbers = numbers; seen = seen; valves = valves; space = space }) ids_are
+    ∙ ap (λ (l : List ℕ). record index { ids = index.ids ++ id ∷ []; numbers = l; seen = seen; valves = valves; space = space }) numbers_are
+    ∙ ap (λ (l : List (Option Seen)). record index { ids = index.ids ++ id ∷ []; numbers = index.numbers ++ valve ∷ []; seen = l; valves = valves; space = space }) seen_are
+    ∙ ap (λ (s : Space). record index { ids = index.ids ++ id ∷ []; numbers = index.numbers ++ valve ∷ []; seen = index.seen ++ Some its ∷ []; valves = valves; space = s }) room)

@@ -14,7 +14,7 @@ use Rattle.health_model.specs.Nodes.{Node}
 use Rattle.health_model.specs.Statuses.{AreReports, Report, passing}
 use Rattle.health_planning.specs.Building.{AllListed, AreSeen}
 use Rattle.health_planning.specs.Tables.{HaveSlotsApart}
-use Rattle.health_planning.specs.Wired.{IsSeated, IsSpare, IsValveFor, check_need, check_own, group_seat, ids_of, is_inverted, spare_condition}
+use Rattle.health_planning.specs.Wired.{HaveValves, IsSeated, IsSpare, IsValveFor, check_need, check_own, group_seat, ids_of, is_inverted, spare_condition}
 use Rattle.health_planning.specs.Zones.{AreZones, Zone, placed_in}
 use Rattle.zone_model.specs.Slotted.{IsHere, Slotted}
 use Rattle.health_valves.specs.Pass.{IsIdle, MeetAll}
@@ -61,9 +61,9 @@ IsWay ids list way.Other = (AreSame ids list → ⊥) × ((AreMore ids list → 
 
 -- ---- what checkers saw
 
--- checkers of each check saw something, so all are of endpoints
-abbrev pub HaveCheckers : List (Option Seen) → Type 0
-HaveCheckers seen = (place : ℕ) → slice_get seen place ≡ Some None → ⊥
+-- checkers of the check at a place saw something, so it is of an endpoint
+abbrev pub HasCheckers : List (Option Seen) → (place : ℕ) → Type 0
+HasCheckers seen place = slice_get seen place ≡ Some None → ⊥
 
 -- what the checkers of an endpoint's check saw before any result
 abbrev pub IsFresh : Check → Seen → Type 0
@@ -73,26 +73,28 @@ IsFresh (Calculated threshold inverted disabled children) its = ⊥
 -- ---- what changes of the index
 
 -- An index whose checks can follow by this way in place: where one comes there are the valves of 200
--- checks, and where one goes all were of endpoints too. Each that stands for checks of endpoints is one.
+-- checks, and one that goes was of an endpoint too. Each that stands for checks of endpoints is one.
 abbrev pub IsOpenTo : Way → Index → Type 0
 IsOpenTo way.Same index = ⊤
 IsOpenTo way.More index = 200 ≤ size_of index.valves
-IsOpenTo (way.Fewer gone) index = (200 ≤ size_of index.valves) × HaveCheckers index.seen
+IsOpenTo (way.Fewer gone) index = HasCheckers index.seen gone
 IsOpenTo way.Other index = ⊥
 
--- Numbers come and go with the checks, and so does what checkers saw: nothing yet of one that came.
--- Nothing else changes but valves.
+-- Numbers come and go with the checks, and so do their valves and what checkers saw: one that came has
+-- a valve that was spare, and its checkers saw nothing yet. Nothing else changes but valves.
 abbrev pub Follows : Way → List (ℕ × Check) → (before after : Index) → Type 0
 Follows way.Same list before after = after ≡ record before { valves = after.valves }
-Follows way.More list before after = (id : ℕ) × ((check : Check) × ((its : Seen)
+Follows way.More list before after = (id : ℕ) × ((check : Check) × ((its : Seen) × ((valve : ℕ)
     × ((slice_get list (length before.ids) ≡ Some (id, check)) × (IsFresh check its
-    × (after ≡ record before {
+    × (IsSpare before.numbers valve × (after ≡ record before {
       ids = before.ids ++ id ∷ [];
+      numbers = before.numbers ++ valve ∷ [];
       seen = before.seen ++ Some its ∷ [];
       valves = after.valves;
-    })))))
+    })))))))
 Follows (way.Fewer gone) list before after = after ≡ record before {
   ids = remove before.ids gone;
+  numbers = remove before.numbers gone;
   seen = remove before.seen gone;
   valves = after.valves;
 }
@@ -102,20 +104,22 @@ Follows way.Other list before after = ⊥
 
 -- The valves of so many checks have their conditions. What feeds each valve stays, and so do the
 -- conditions of valves that are of no check.
-pub record AreReshaped (list : List (ℕ × Check)) (many : ℕ) (before after : Net) : Type 0 where
+pub record AreReshaped (list : List (ℕ × Check)) (numbers : List ℕ) (many : ℕ) (before after : Net)
+    : Type 0 where
   pub size : after.size ≡ before.size
   pub feeders : (n : ℕ) → (after.condition n).feeders ≡ (before.condition n).feeders
-  pub need : (place : ℕ) (held : ℕ × Check) → place < many → slice_get list place ≡ Some held
-      → (after.condition place).need ≡ check_need held.1
-  pub inverted : (place : ℕ) (held : ℕ × Check) → place < many → slice_get list place ≡ Some held
-      → (after.condition place).inverted ≡ is_inverted held.1
-  pub others : (n : ℕ) → length list ≤ n → after.condition n ≡ before.condition n
+  pub need : (place valve : ℕ) (held : ℕ × Check) → place < many → slice_get list place ≡ Some held
+      → slice_get numbers place ≡ Some valve → (after.condition valve).need ≡ check_need held.1
+  pub inverted : (place valve : ℕ) (held : ℕ × Check) → place < many → slice_get list place ≡ Some held
+      → slice_get numbers place ≡ Some valve → (after.condition valve).inverted ≡ is_inverted held.1
+  pub others : (n : ℕ) → ((place : ℕ) → slice_get numbers place ≡ Some n → ⊥)
+      → after.condition n ≡ before.condition n
 
 -- The valves stand for such a net then, and where all met their equations, all do still.
-pub record Reshapes (list : List (ℕ × Check)) (many : ℕ) (net : Net) (own : ℕ → ℕ)
-    (before after : Valves) : Type 0 where
+pub record Reshapes (list : List (ℕ × Check)) (numbers : List ℕ) (many : ℕ) (net : Net)
+    (own : ℕ → ℕ) (before after : Valves) : Type 0 where
   pub now : Net
-  pub reshaped : AreReshaped list many net now
+  pub reshaped : AreReshaped list numbers many net now
   pub fits : ValvesStandFor now own after
   pub meet : MeetAll net own before → MeetAll now own after
 
@@ -127,22 +131,24 @@ pub record IsFollowed (zones : List Zone) (checks : Checks) (reports : List Repo
   pub slots : HaveSlotsApart zones
   pub are_reports : AreReports checks.next reports
   pub ids : index.ids ≡ ids_of checks.list
+  pub numbers : HaveValves (length checks.list) index.numbers
   pub seen : AreSeen reports checks.list index.seen
   pub as_many : length index.seen ≡ length index.ids
   pub listed : AllListed zones index.refs
   pub net : Net
   pub own : ℕ → ℕ
   pub sets : (zone : ℕ) (p : Slotted) → IsHere (placed_in zones zone) p
-      → IsSeated zones (ids_of checks.list) index.seats net own zone p
+      → IsSeated zones (ids_of checks.list) index.numbers index.seats net own zone p
   pub nodes : (valve : ℕ) → 200 ≤ valve → valve < net.size
-      → (node : Node) × IsValveFor zones checks.list index.seats net own valve node
+      → (node : Node) × IsValveFor zones checks.list index.numbers index.seats net own valve node
   pub groups : (slot valve : ℕ) → group_seat index.seats slot ≡ valve + 1 → valve < net.size
-  pub spares : (valve : ℕ) → IsSpare (length checks.list) valve
+  pub spares : (valve : ℕ) → IsSpare index.numbers valve
       → net.condition valve ≡ spare_condition
   pub many : 200 ≤ net.size
-  pub alone : (place : ℕ) → place < length checks.list → (net.condition place).feeders ≡ []
-  pub owns : (place id : ℕ) (check : Check) → slice_get checks.list place ≡ Some (id, check)
-      → own place ≡ check_own check (passing reports id)
+  pub alone : (place valve : ℕ) → slice_get index.numbers place ≡ Some valve
+      → (net.condition valve).feeders ≡ []
+  pub owns : (place valve id : ℕ) (check : Check) → slice_get checks.list place ≡ Some (id, check)
+      → slice_get index.numbers place ≡ Some valve → own valve ≡ check_own check (passing reports id)
   pub told : TellApart zones index.seats
   pub fits : ValvesStandFor net own index.valves
   pub meet : MeetAll net own index.valves

@@ -21,13 +21,14 @@ use Rattle.health_planning.specs.Tables.{HaveSlotsApart}
 use Rattle.zone_model.specs.Slotted.{IsHere, Slotted}
 use Rattle.health_planning.specs.Looking.{RefersTo}
 use Rattle.health_planning.specs.Building.{AllListed, AreGiven, IsSeen}
-use Rattle.health_planning.specs.Wired.{AreMembers, HasSlot, IsGroupSeat, IsLedTo, IsSpare, AreValvesOf, StandApart, TellGroup, group_seat, ids_of, is_watched, open_in, place_of, seat_of, watched_of}
+use Rattle.health_planning.specs.Wired.{AreMembers, HasSlot, HaveValves, IsGroupSeat, IsLedTo, IsSpare, AreValvesOf, StandApart, TellGroup, group_seat, ids_of, is_watched, open_in, seat_of, valve_with, watched_of}
 use Rattle.health_planning.specs.declared.seats.Seat.{Seat}
 
 -- For how many there is room: numbers of checks and what their checkers saw, now and before a
--- command; slots; sets with valves, and sets of groups with valves; valves, and links between them.
+-- command; valves of checks; slots; sets with valves, and sets of groups with valves; valves, and links between them.
 pub record Space : Type 0 where
   pub ids : ℕ
+  pub numbers : ℕ
   pub seen : ℕ
   pub ids_before : ℕ
   pub seen_before : ℕ
@@ -37,11 +38,12 @@ pub record Space : Type 0 where
   pub triggers : ℕ
   pub links : ℕ
 
--- The numbers of the checks, what the checkers of each endpoint saw, the valves of sets by their
+-- The numbers of the checks, their valves, what the checkers of each endpoint saw, the valves of sets by their
 -- slots, the sets that have valves, those of groups that have one, the valves, and the room that there
 -- is.
 pub record Index : Type 0 where
   pub ids : List ℕ
+  pub numbers : List ℕ
   pub seen : List (Option Seen)
   pub seats : List Seat
   pub refs : List SetRef
@@ -81,6 +83,7 @@ pub record IsLaidFor (zones : List Zone) (checks : Checks) (reports : List Repor
   pub sound : IsSound (watched_of zones checks)
   pub are_reports : AreReports checks.next reports
   pub ids : index.ids ≡ ids_of checks.list
+  pub numbers : HaveValves (length checks.list) index.numbers
   pub seen : (place id : ℕ) (check : Check) (its : Option Seen)
       → slice_get checks.list place ≡ Some (id, check) → slice_get index.seen place ≡ Some its
       → IsSeen reports id check its
@@ -88,10 +91,10 @@ pub record IsLaidFor (zones : List Zone) (checks : Checks) (reports : List Repor
   pub listed : AllListed zones index.refs
   pub net : Net
   pub own : ℕ → ℕ
-  pub wired : AreValvesOf zones checks.list index.seats net own reports
+  pub wired : AreValvesOf zones checks.list index.numbers index.seats net own reports
   pub told : TellApart zones index.seats
   pub fits : ValvesStandFor net own index.valves
-  pub spare : (valve : ℕ) → IsSpare (length checks.list) valve → value_of index.valves valve ≡ true
+  pub spare : (valve : ℕ) → IsSpare index.numbers valve → value_of index.valves valve ≡ true
   pub idle : IsIdle index.valves
 
 -- The index stands for a sound configuration and reports: it is laid out for them, and all is worked
@@ -104,6 +107,7 @@ pub record StandsFor (zones : List Zone) (checks : Checks) (reports : List Repor
   pub sound : IsSound (watched_of zones checks)
   pub are_reports : AreReports checks.next reports
   pub ids : index.ids ≡ ids_of checks.list
+  pub numbers : HaveValves (length checks.list) index.numbers
   pub seen : (place id : ℕ) (check : Check) (its : Option Seen)
       → slice_get checks.list place ≡ Some (id, check) → slice_get index.seen place ≡ Some its
       → IsSeen reports id check its
@@ -111,7 +115,7 @@ pub record StandsFor (zones : List Zone) (checks : Checks) (reports : List Repor
   pub listed : AllListed zones index.refs
   pub net : Net
   pub own : ℕ → ℕ
-  pub wired : AreValvesOf zones checks.list index.seats net own reports
+  pub wired : AreValvesOf zones checks.list index.numbers index.seats net own reports
   pub told : TellApart zones index.seats
   pub fits : ValvesStandFor net own index.valves
   pub meet : MeetAll net own index.valves
@@ -126,7 +130,8 @@ healthy_in index set = open_in (value_of index.valves) (seat_of index.seats set.
 -- The number of a node is that of its valve. A set that nothing decides has none: its health never
 -- waits to be worked out. Nor has a group one to which no evaluated alias leads.
 abbrev pub IsNumberOf : List Zone → Index → (number : ℕ) → Node → Type 0
-IsNumberOf zones index number (CheckNode id) = slice_get index.ids number ≡ Some id
+IsNumberOf zones index number (CheckNode id) =
+    (place : ℕ) × ((slice_get index.ids place ≡ Some id) × (slice_get index.numbers place ≡ Some number))
 IsNumberOf zones index number (SetNode zone set) =
     (slot : ℕ) × (IsHere (placed_in zones zone) (record { slot = slot; set = set })
     × (seat_of index.seats slot ≡ suc number))
@@ -137,10 +142,10 @@ IsNumberOf zones index number (GroupNode zone name rtype) =
 abbrev pub HasNumber : List Zone → Index → Node → Type 0
 HasNumber zones index node = (number : ℕ) × IsNumberOf zones index number node
 
--- The index has a node of the number: that of a check, and behind those of 200 checks that of a set or a
--- group.
+-- The index has a node of the number: that of a check, and behind the first 200 valves that of a set or
+-- a group.
 abbrev pub HasNode : Index → (number : ℕ) → Type 0
-HasNode index number = (number < length index.ids)
+HasNode index number = ((place : ℕ) × (slice_get index.numbers place ≡ Some number))
     ⊎ ((200 ≤ number) × (number < size_of index.valves))
 
 -- Each number that the index has is that of one node alone, and a node has one number at most. Each
@@ -175,7 +180,7 @@ pub record AreNumbered (zones : List Zone) (checks : Checks) (index : Index) : T
 pub record Tells (zones : List Zone) (checks : Checks) (reports : List Report) (index : Index)
     : Type 0 where
   pub statuses : (id : ℕ) (check : Check) → check_with checks.list id ≡ Some check
-      → value_of index.valves (place_of index.ids id) ≡ status checks.list reports id
+      → value_of index.valves (valve_with index.ids index.numbers id) ≡ status checks.list reports id
   pub sets : (set : SetRef) (named : RecordSet) → RefersTo zones set named
       → healthy_in index set ≡ healthy (watched_of zones checks) reports set.zone named
   pub groups : (number zone : ℕ) (name : List (List ℕ)) (rtype : RType)
@@ -187,7 +192,8 @@ pub record Tells (zones : List Zone) (checks : Checks) (reports : List Report) (
 -- ---- what holds of every index
 
 -- Valves that stand for some net; those whose checkers are counted have no feeders, nor have spare ones.
--- No number of a check stands at two places. Seats tell valves only in the slots of the sets that are kept for it.
+-- No number of a check stands at two places, and each check has a valve of its own. Seats tell valves only in
+-- the slots of the sets that are kept for it.
 pub record IsIntact (index : Index) : Type 0 where
   pub net : Net
   pub own : ℕ → ℕ
@@ -195,13 +201,13 @@ pub record IsIntact (index : Index) : Type 0 where
   pub idle : IsIdle index.valves
   pub as_many : length index.seen ≡ length index.ids
   pub apart : StandApart index.ids
-  pub few : length index.ids ≤ 200
-  pub within : length index.ids ≤ net.size
+  pub numbers : HaveValves (length index.ids) index.numbers
+  pub within : (place valve : ℕ) → slice_get index.numbers place ≡ Some valve → valve < net.size
   pub seated : (slot valve : ℕ) → seat_of index.seats slot ≡ suc valve → valve < net.size
   pub given : AreGiven index.refs index.members index.seats
-  pub alone : (place : ℕ) (its : Seen) → slice_get index.seen place ≡ Some (Some its)
-      → (net.condition place).feeders ≡ []
-  pub spare : (valve : ℕ) → IsSpare (length index.ids) valve → (net.condition valve).feeders ≡ []
+  pub alone : (place valve : ℕ) (its : Seen) → slice_get index.seen place ≡ Some (Some its)
+      → slice_get index.numbers place ≡ Some valve → (net.condition valve).feeders ≡ []
+  pub spare : (valve : ℕ) → IsSpare index.numbers valve → (net.condition valve).feeders ≡ []
 
 -- ---- reports
 

@@ -9,6 +9,7 @@ use Rattle.health_index.specs.Index.{Index}
 pub record HasRoom (index : Index) (slots : ℕ) : Type 0 where
   pub few : slots ≤ 2 ^ 29
   pub ids : 200 ≤ index.space.ids
+  pub numbers : 200 ≤ index.space.numbers
   pub seen : 200 ≤ index.space.seen
   pub ids_before : 200 ≤ index.space.ids_before
   pub seen_before : 200 ≤ index.space.seen_before
@@ -19,10 +20,11 @@ pub record HasRoom (index : Index) (slots : ℕ) : Type 0 where
   pub links : slots * 3 + 51200 ≤ index.space.links
   pub valves : HasRoomFor index.valves (slots * 2 + 200) (slots * 3 + 51200)
 
--- Only room changes: checks, what their checkers saw, seats, listed sets, noted members and values
+-- Only room changes: checks, their valves, what their checkers saw, seats, listed sets, noted members and values
 -- stay.
 pub record Keeps (before after : Index) : Type 0 where
   pub ids : after.ids ≡ before.ids
+  pub numbers : after.numbers ≡ before.numbers
   pub seen : after.seen ≡ before.seen
   pub seats : after.seats ≡ before.seats
   pub refs : after.refs ≡ before.refs

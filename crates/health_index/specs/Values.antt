@@ -14,7 +14,7 @@ use Rattle.record_set.specs.Sets.{key_of}
 use Rattle.record_set.specs.declared.sets.RecordSet.{RecordSet}
 use Rattle.zone_model.specs.Slotted.{IsHere, Slotted, sets_of}
 use Rattle.zone_model.specs.Zones.{is_of_group}
-use Rattle.health_planning.specs.Wired.{group_seat, place_of, watched_of}
+use Rattle.health_planning.specs.Wired.{group_seat, valve_with, watched_of}
 use Rattle.health_planning.specs.declared.seats.Seat.{Seat}
 use Rattle.health_index.specs.Index.{HasNumber, Index, IsLaidFor, IsNumberOf, healthy_in}
 
@@ -40,7 +40,7 @@ value_of_set zones index zone set = by_key zones (healthy_in index) zone (key_of
 -- The value of a node is that of its number. A set without a number is healthy, and a group without
 -- one is healthy where some set of it is.
 abbrev pub node_value : List Zone → Index → Node → Bool
-node_value zones index (CheckNode id) = value_of index.valves (place_of index.ids id)
+node_value zones index (CheckNode id) = value_of index.valves (valve_with index.ids index.numbers id)
 node_value zones index (SetNode zone set) = value_of_set zones index zone set
 node_value zones index (GroupNode zone name rtype) =
     value_or (value_of index.valves) (seat_in index.seats (members_in zones zone name rtype))

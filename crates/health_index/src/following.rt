@@ -7,12 +7,13 @@ ghost use Rattle.check_model.specs.declared.checks.Check.{Check};
 ghost use Rattle.health_valves.specs.Pass.{IsIdle};
 ghost use Rattle.health_valves.specs.Valves.{IsReady, Net, ValvesStandFor, size_of};
 ghost use Rattle.health_index.specs.Following.{AreEndpoints, HaveIds, HaveIdsBehind, IsWay, Reshapes};
-ghost use Rattle.health_index.specs.Following.{HaveCheckers, IsFresh};
+ghost use Rattle.health_index.specs.Following.{HasCheckers, IsFresh};
 ghost use Rattle.health_index.specs.Index.{IsEndpoint};
+ghost use Rattle.health_planning.specs.Wired.{HaveValves};
 
 use checker_state::Checkers;
 use health_check::Check;
-use health_planning::{inverted_of, need_of};
+use health_planning::{inverted_of, need_of, number_at};
 use health_valves::Valves;
 
 /// How checks follow of those that had some numbers.
@@ -112,16 +113,12 @@ pub fn way_of(ids: &[u32], list: &[(u32, Check)]) -> Way
     Way::Other
 }
 
-/// Whether something was seen of each check by checkers, which those of endpoints have.
-pub fn have_checkers(seen: &[Option<Checkers>]) -> bool
-    ensures { IsTrue result ↔ HaveCheckers seen.now }
+/// Whether checkers of the check at a place saw something, which those of an endpoint did.
+pub fn has_checkers(seen: &[Option<Checkers>], place: usize) -> bool
+    requires { place < length seen.now }
+    ensures { IsTrue result ↔ HasCheckers seen.now place }
 {
-    for its in seen {
-        if its.is_none() {
-            return false;
-        }
-    }
-    true
+    seen[place].is_some()
 }
 
 /// The checkers of an endpoint's check, before any result.
@@ -138,17 +135,19 @@ pub fn fresh_checkers(check: &Check) -> Checkers
 
 /// Gives the valves of checks their conditions, and works out what stands above those whose values
 /// change. It takes no memory.
-pub fn reshape_checks(valves: &mut Valves, list: &[(u32, Check)])
+pub fn reshape_checks(valves: &mut Valves, list: &[(u32, Check)], numbers: &[u32])
     requires ready { IsReady valves.old }
     requires idle { IsIdle valves.old }
-    requires few { length list.now ≤ 200 }
-    requires within { length list.now ≤ size_of valves.old }
+    requires numbers { HaveValves (length list.now) numbers.now }
+    requires within { (place valve : ℕ) → slice_get numbers.now place ≡ Some valve
+        → valve < size_of valves.old }
     ensures reshaped { (net : Net) (own : ℕ → ℕ) → ValvesStandFor net own valves.old
-        → Reshapes list.now (length list.now) net own valves.old valves.new }
+        → Reshapes list.now numbers.now (length list.now) net own valves.old valves.new }
     ensures idle { IsIdle valves.new }
 {
     for (place, held) in list.iter().enumerate() {
         let check = &held.1;
-        valves.reshape(place as u32, need_of(check), inverted_of(check));
+        let valve = number_at(numbers, place);
+        valves.reshape(valve, need_of(check), inverted_of(check));
     }
 }

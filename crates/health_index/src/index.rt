@@ -10,7 +10,7 @@ ghost use Rattle.health_valves.specs.Pass.{IsIdle};
 ghost use Rattle.health_index.specs.Index.{HasNode, IsEndpointOf, IsLaidFor, IsNumberOf, StandsFor};
 ghost use Rattle.health_index.specs.Index.{healthy_in};
 ghost use Rattle.health_index.specs.Index.{reported};
-ghost use Rattle.health_index.specs.Following.{AreEndpoints, AreFewer, AreMore, Follows, HaveCheckers};
+ghost use Rattle.health_index.specs.Following.{AreEndpoints, AreFewer, AreMore, Follows, HasCheckers};
 ghost use Rattle.health_index.specs.Following.{IsFollowed, IsOpenTo, IsWay};
 ghost use Rattle.health_index.specs.declared.following.Way.{Way};
 ghost use Rattle.health_index.specs.declared.following.Way.TheVariants as way;
@@ -25,17 +25,18 @@ ghost use Rattle.health_model.specs.Statuses.{Report, status, status_told};
 ghost use Rattle.health_planning.specs.Zones.{Zone};
 
 use crate::finding::valve_of;
-use crate::following::{Way, are_endpoints, fresh_checkers, have_checkers, reshape_checks, way_of};
+use crate::following::{Way, are_endpoints, fresh_checkers, has_checkers, reshape_checks, way_of};
 use crate::laws::index_tells_health;
-use crate::reserving::{each_ok, room_for_checks, room_for_slots};
+use crate::reserving::{each_ok, room_for_checks, room_for_numbers, room_for_slots};
 use crate::taking::take_result;
 use crate::valve_leaving::leaves_valves;
+use crate::valve_numbers::{has_number, list_numbers, spare_number};
 use checker_state::{CHECKERS, Checkers, fifty_alone};
 use health_check::CheckTable;
 use health_model::{one_health, one_more_report};
 use health_planning::{
     Delta, HealthView, MOST_CHECKS, Scratch, Seat, SetRef, Zones, clear_seats, list_ids, list_seen,
-    place_near, plan_valves, views_agree,
+    number_at, place_near, plan_valves, views_agree,
 };
 use health_valves::{Blueprint, Steps, Valves};
 use octets::OutOfMemory;
@@ -49,6 +50,8 @@ use std::sync::ledger::Ledger;
 pub struct HealthIndex {
     /// The numbers of the checks, which rise.
     ids: Vec<u32>,
+    /// Their valves. A check keeps its own while it is there.
+    numbers: Vec<u32>,
     /// What the checkers of each endpoint saw.
     seen: Vec<Option<Checkers>>,
     /// By the slot of a set.
@@ -75,6 +78,7 @@ impl Model for HealthIndex {
 
     ghost view = { λ i. record {
       ids = i.ids.items;
+      numbers = i.numbers.items;
       seen = i.seen.items;
       seats = i.seats.items;
       refs = i.refs.items;
@@ -82,6 +86,7 @@ impl Model for HealthIndex {
       valves = i.valves;
       space = record {
         ids = vec_capacity i.ids;
+        numbers = vec_capacity i.numbers;
         seen = vec_capacity i.seen;
         ids_before = vec_capacity i.ids_before;
         seen_before = vec_capacity i.seen_before;
@@ -95,6 +100,7 @@ impl Model for HealthIndex {
 
     ghost invariant = { λ i. IsIntact (record {
       ids = i.ids.items;
+      numbers = i.numbers.items;
       seen = i.seen.items;
       seats = i.seats.items;
       refs = i.refs.items;
@@ -102,6 +108,7 @@ impl Model for HealthIndex {
       valves = i.valves;
       space = record {
         ids = vec_capacity i.ids;
+        numbers = vec_capacity i.numbers;
         seen = vec_capacity i.seen;
         ids_before = vec_capacity i.ids_before;
         seen_before = vec_capacity i.seen_before;
@@ -143,6 +150,7 @@ impl HealthIndex {
     {
         HealthIndex {
             ids: Vec::new(alloc),
+            numbers: Vec::new(alloc),
             seen: Vec::new(alloc),
             seats: Vec::new(alloc),
             valves: Valves::new(alloc),
@@ -171,6 +179,7 @@ impl HealthIndex {
     {
         let now = room_for_checks(&mut self.ids, &mut self.seen);
         let before = room_for_checks(&mut self.ids_before, &mut self.seen_before);
+        let numbers = room_for_numbers(&mut self.numbers);
         let slots = room_for_slots(
             &mut self.seats,
             &mut self.refs,
@@ -179,7 +188,7 @@ impl HealthIndex {
             &mut self.valves,
             zones.slots(),
         );
-        each_ok(now, before, slots)
+        each_ok(now, before, numbers, slots)
     }
 
     /// Takes a command: the zones and the checks are those that it left, and the references are
@@ -228,6 +237,7 @@ impl HealthIndex {
     /// index stays as it is. It takes no memory.
     fn follow(&mut self, checks: &CheckTable, delta: &Delta) -> bool
         requires ids_room { 200 ≤ self.old.space.ids }
+        requires numbers_room { 200 ≤ self.old.space.numbers }
         requires seen_room { 200 ≤ self.old.space.seen }
         ensures zone { result ≡ true → delta.now.zone ≡ 0 }
         ensures stands { (zones : List Zone) (old : Checks) (reports : List Report)
@@ -257,6 +267,7 @@ impl HealthIndex {
     fn take_ids(&mut self, checks: &CheckTable) -> bool
         requires endpoints { AreEndpoints checks.now.checks.list }
         requires ids_room { 200 ≤ self.old.space.ids }
+        requires numbers_room { 200 ≤ self.old.space.numbers }
         requires seen_room { 200 ≤ self.old.space.seen }
         ensures followed { (zones : List Zone) (old : Checks) (reports : List Report)
             → StandsFor zones old reports self.old → AreLater old checks.now.checks
@@ -277,13 +288,14 @@ impl HealthIndex {
         }
     }
 
-    /// Takes a check that came behind those before: it gets the spare valve at its place. The answer is
-    /// whether there is one; else the index stays as it is.
+    /// Takes a check that came behind those before: it gets a spare valve. The answer is whether there are
+    /// such; else the index stays as it is.
     fn add_check(&mut self, checks: &CheckTable) -> bool
         requires sound { AreSoundChecks checks.now.checks }
         requires endpoints { AreEndpoints checks.now.checks.list }
         requires more { AreMore self.old.ids checks.now.checks.list }
         requires ids_room { 200 ≤ self.old.space.ids }
+        requires numbers_room { 200 ≤ self.old.space.numbers }
         requires seen_room { 200 ≤ self.old.space.seen }
         ensures followed { (zones : List Zone) (old : Checks) (reports : List Report)
             → StandsFor zones old reports self.old → AreLater old checks.now.checks
@@ -300,15 +312,16 @@ impl HealthIndex {
         let list = checks.as_slice();
         let held = &list[place];
         let checkers = fresh_checkers(&held.1);
-        self.valves
-            .set_count(place as u32, u32::from(checkers.passing()));
+        let valve = spare_number(&self.numbers);
+        self.valves.set_count(valve, u32::from(checkers.passing()));
         self.ids.push_reserved(held.0);
+        self.numbers.push_reserved(valve);
         self.seen.push_reserved(Some(checkers));
         true
     }
 
-    /// Gives up the check at a place, which went: its valve comes behind those of the others, and is spare.
-    /// The answer is whether nothing feeds any of these; else the index stays as it is.
+    /// Gives up the check at a place, which went: its valve is spare. The answer is whether nothing feeds it,
+    /// as that of an endpoint; else the index stays as it is.
     fn drop_check(&mut self, checks: &CheckTable, gone: usize) -> bool
         requires sound { AreSoundChecks checks.now.checks }
         requires endpoints { AreEndpoints checks.now.checks.list }
@@ -318,20 +331,17 @@ impl HealthIndex {
             → IsSound (watched_of zones checks.now.checks) → result ≡ true
             → IsFollowed zones checks.now.checks reports self.new }
         ensures stays { result ≡ false → self.new ≡ self.old }
-        ensures ready { 200 ≤ size_of self.old.valves → HaveCheckers self.old.seen → result ≡ true }
+        ensures ready { HasCheckers self.old.seen gone → result ≡ true }
         ensures follows { result ≡ true
             → Follows (way.Fewer gone) checks.now.checks.list self.old self.new }
     {
-        let many = self.ids.len();
-        if self.valves.len() < MOST_CHECKS {
+        if !has_checkers(&self.seen, gone) {
             return false;
         }
-        if !have_checkers(&self.seen) {
-            return false;
-        }
-        self.valves.put_behind(gone as u32, many as u32);
-        self.valves.reshape((many - 1) as u32, 0, false);
+        let valve = number_at(&self.numbers, gone);
+        self.valves.reshape(valve, 0, false);
         self.ids.remove(gone);
+        self.numbers.remove(gone);
         self.seen.remove(gone);
         true
     }
@@ -347,7 +357,7 @@ impl HealthIndex {
             → StandsFor zones checks.now.checks reports self.new }
         ensures rest { self.new ≡ record self.old { valves = self.new.valves } }
     {
-        reshape_checks(&mut self.valves, checks.as_slice());
+        reshape_checks(&mut self.valves, checks.as_slice(), &self.numbers);
     }
 
     /// Lays everything out anew, with what the checkers saw. All sets are asked whether something
@@ -369,6 +379,8 @@ impl HealthIndex {
         mem::swap(&mut self.seen, &mut self.seen_before);
         self.ids.clear();
         list_ids(&mut self.ids, list);
+        self.numbers.clear();
+        list_numbers(&mut self.numbers, list.len());
         self.seen.clear();
         list_seen(&mut self.seen, list, &self.ids_before, &self.seen_before);
         clear_seats(&mut self.seats, &self.refs, &self.members, zones.slots());
@@ -379,6 +391,7 @@ impl HealthIndex {
             zones,
             checks,
             &self.ids,
+            &self.numbers,
             &self.seen,
             whole,
             &mut self.members,
@@ -428,8 +441,8 @@ impl HealthIndex {
         let Some(passing) = take_result(self.seen.as_mut_slice(), place, checker, pass) else {
             return false;
         };
-        self.valves
-            .take_count(place as u32, u32::from(passing), steps)
+        let valve = number_at(&self.numbers, place);
+        self.valves.take_count(valve, u32::from(passing), steps)
     }
 
     /// Whether there is a node of the number. The checks have numbers, the sets that something
@@ -438,13 +451,10 @@ impl HealthIndex {
         ensures { IsTrue result ↔ HasNode self.now node }
     {
         let number = node as usize;
-        if number < self.ids.len() {
-            return true;
+        if number >= MOST_CHECKS {
+            return number < self.valves.len();
         }
-        if number < MOST_CHECKS {
-            return false;
-        }
-        number < self.valves.len()
+        has_number(&self.numbers, node)
     }
 
     /// Works a node out anew, which is one step. The answer is whether its value changed.
@@ -489,8 +499,9 @@ impl HealthIndex {
         let Some(place) = place_near(&self.ids, id) else {
             return None;
         };
-        let number = short(self.valves.count(place));
-        Some((self.valves.value(place), number))
+        let valve = number_at(&self.numbers, place) as usize;
+        let number = short(self.valves.count(valve));
+        Some((self.valves.value(valve), number))
     }
 }
 

@@ -41,6 +41,16 @@ pub fn room_for_checks(
     Ok(())
 }
 
+/// Makes room for the valves of all checks that there can be. The list stays as it is.
+pub fn room_for_numbers(numbers: &mut Vec<u32>) -> Result<(), OutOfMemory>
+    ensures numbers { numbers.new.items ≡ numbers.old.items }
+    ensures kept { vec_capacity numbers.old ≤ vec_capacity numbers.new }
+    ensures room { OnOk result (200 ≤ vec_capacity numbers.new) }
+    ensures ready { 200 ≤ vec_capacity numbers.old → IsOk result }
+{
+    make_room(numbers, CHECKS)
+}
+
 /// Makes room for all valves and links over so many slots. The seats, the listed sets, the noted
 /// members and the valves stay as they are; nothing is planned any more.
 pub fn room_for_slots(
@@ -113,14 +123,16 @@ pub fn each_ok(
     first: Result<(), OutOfMemory>,
     second: Result<(), OutOfMemory>,
     third: Result<(), OutOfMemory>,
+    fourth: Result<(), OutOfMemory>,
 ) -> Result<(), OutOfMemory>
     ensures first { OnOk result (IsOk first) }
     ensures second { OnOk result (IsOk second) }
     ensures third { OnOk result (IsOk third) }
-    ensures each { IsOk first → IsOk second → IsOk third → IsOk result }
+    ensures fourth { OnOk result (IsOk fourth) }
+    ensures each { IsOk first → IsOk second → IsOk third → IsOk fourth → IsOk result }
 {
-    match (first, second, third) {
-        (Ok(()), Ok(()), Ok(())) => Ok(()),
+    match (first, second, third, fourth) {
+        (Ok(()), Ok(()), Ok(()), Ok(())) => Ok(()),
         _ => Err(OutOfMemory),
     }
 }

@@ -1,10 +1,9 @@
 -- A blueprint, step by step.
 use Rattle.std.proofs.Common.{◌≡◌, ◌<◌, ◌≤◌, ◌+◌, ◌-◌, ◌^◌, ◌⊎◌, ◌++◌, ◌∷◌, ℕ, zero, suc, true, List, [], length, arith, refl, ap, sym, ◌∙◌, inl, inr, Some, None, Option}
-use Rattle.std.specs.Prelude.{slice_get}
+use Rattle.std.specs.Prelude.{slice_get, slice_index}
 use Rattle.std.proofs.lemmas.Bool.{cases_lt}
 use Rattle.std.proofs.lemmas.List.Elements.{All-from_recursion}
-use Rattle.std.proofs.lemmas.Option.{slice_get-map, slice_get_within}
-use Rattle.std.specs.Option.{option_map}
+use Rattle.std.proofs.lemmas.Option.{slice_get_within}
 use mathlib.Core.Path.{subst}
 use Rattle.check_model.proofs.Members.{all_at, all_mapped}
 use Rattle.check_model.specs.Checks.{AreChildren, Checks, IsId, children_of}
@@ -14,7 +13,6 @@ use Rattle.health_valves.specs.Blueprint.{IsDrawn, Drawn, feeders_in, own_in, ow
 use Rattle.health_valves.specs.declared.blueprint.Feeding.{Feeding}
 use Rattle.health_valves.specs.declared.blueprint.Trigger.{Trigger}
 use Rattle.health_model.specs.Sound.{IsSound}
-use Rattle.health_model.specs.Statuses.{Report}
 use Rattle.record_set.specs.declared.sets.Body.TheVariants.{Alias}
 use Rattle.record_set.specs.declared.sets.RecordSet.{RecordSet}
 use Rattle.policy_select.proofs.MembersOfZoneList.{filled, set_in}
@@ -24,11 +22,12 @@ use Rattle.zone_model.specs.Slotted.{sets_of}
 use Rattle.zone_model.specs.Walks.{HasNoTarget}
 use Rattle.zone_model.specs.Zones.{IsAmong}
 use Rattle.policy_select.specs.Looking.{RefersTo}
-use Rattle.health_planning.specs.Building.{AreBelow, AreFree, AreGrouped, HaveOwnValves, AreTriggered, AreThere, AreWithin, FeedsSet, HasTarget, IsBuilt, IsSmallAt, SameSets, check_links, check_trigger, check_triggers, group_trigger, set_trigger, spare_trigger}
-use Rattle.health_planning.specs.Wired.{group_seat, ids_of, place_of, plain_among, watched_of}
+use Rattle.health_planning.specs.Building.{AreBelow, AreFree, AreGrouped, HaveOwnValves, AreThere, AreWithin, FeedsSet, HasTarget, IsBuilt, IsSmallAt, SameSets, check_links, group_trigger, set_trigger, spare_trigger}
+use Rattle.health_planning.specs.Wired.{HaveValves, IsSpare, group_seat, ids_of, place_of, plain_among, watched_of}
 use Rattle.health_planning.specs.declared.seats.Seat.{Seat}
-use Rattle.health_planning.proofs.Feeding.{check_within, children_fed}
+use Rattle.health_planning.proofs.Feeding.{check_within, children_fed, none_before}
 use Rattle.health_planning.proofs.Grouped.{none_feeds}
+use Rattle.health_planning.proofs.Numbers.{ids_valves, number_is, number_there}
 use Rattle.health_planning.proofs.Places.{id_there, of_all}
 use Rattle.health_planning.proofs.Places.{found}
 use Rattle.health_planning.proofs.Watching.{zone_sets}
@@ -79,21 +78,13 @@ module _ (zones : List Zone) (checks : Checks) (sound : IsSound (watched_of zone
       (set_in (placed_in zones set.zone) (record { slot = set.slot; set = named }) names)) is)
 
 -- the links into checks are between checks
-pub links_early : (list : List (ℕ × Check))
+pub links_early : (list : List (ℕ × Check)) (numbers : List ℕ) → HaveValves (length list) numbers
     → ((place id : ℕ) (check : Check) → slice_get list place ≡ Some (id, check)
     → AreThere (ids_of list) (children_of check))
-    → AreWithin (check_links (ids_of list) 0 list) (length list)
-links_early list there =
+    → AreWithin (check_links (ids_of list) numbers 0 list) 200
+links_early list numbers valves there =
     let long = ids_long list in
-    check_within (ids_of list) 0 (length list) list (omega arith) (omega arith) there
-
--- the valves of checks stand at their places
-pub triggered_at : (reports : List Report) (list : List (ℕ × Check)) (triggers : List Trigger)
-    → triggers ≡ check_triggers reports list → AreTriggered reports list triggers
-triggered_at reports list triggers are place id check at =
-    ap (λ (l : List Trigger). slice_get l place) are
-    ∙ slice_get-map (λ (held : ℕ × Check). check_trigger reports held.0 held.1) list place
-    ∙ ap (option_map (λ (held : ℕ × Check). check_trigger reports held.0 held.1)) at
+    check_within (ids_of list) numbers (ids_valves list numbers valves) 0 200 list (omega arith) (omega arith) there
 
 -- ---- no set is listed yet
 
@@ -120,14 +111,12 @@ listed_below zones first refs seats triggers are slot valve is =
 
 -- ---- the whole blueprint
 
-module _ (zones : List Zone) (list : List (ℕ × Check)) (refs : List SetRef)
-    (seats seats_now : List Seat) (triggers triggers_now : List Trigger) (links before now : List Feeding)
+module _ (zones : List Zone) (list : List (ℕ × Check)) (numbers : List ℕ)
+    (valves : HaveValves (length list) numbers) (refs : List SetRef) (seats seats_now : List Seat) (triggers triggers_now : List Trigger) (links before now : List Feeding)
     (there : (place id : ℕ) (check : Check) → slice_get list place ≡ Some (id, check)
     → AreThere (ids_of list) (children_of check))
-    (are_links : links ≡ check_links (ids_of list) 0 list)
-    (few : length list ≤ 200)
-    (spared : (place : ℕ) → length list ≤ place → place < 200
-    → slice_get triggers place ≡ Some spare_trigger)
+    (are_links : links ≡ check_links (ids_of list) numbers 0 list)
+    (spared : (valve : ℕ) → IsSpare numbers valve → slice_get triggers valve ≡ Some spare_trigger)
     (listed : HaveOwnValves zones 200 refs seats triggers)
     (grouped : AreGrouped zones (length triggers) seats_now triggers_now before)
     (targets : (k : ℕ) (set : SetRef) (named : RecordSet) (name : List (List ℕ))
@@ -141,7 +130,7 @@ module _ (zones : List Zone) (list : List (ℕ × Check)) (refs : List SetRef)
     (within : AreWithin before (length triggers_now))
     (joined : (k : ℕ) (set : SetRef) (named : RecordSet) → slice_get refs k ≡ Some set
     → RefersTo zones set named → feeders_in before (200 + k) ≡ []
-    → FeedsSet zones (ids_of list) seats_now set.zone named
+    → FeedsSet zones (ids_of list) numbers seats_now set.zone named
     (feeders_in now (200 + k)))
     (others : (valve : ℕ)
     → (valve < 200) ⊎ (200 + length refs ≤ valve)
@@ -149,39 +138,41 @@ module _ (zones : List Zone) (list : List (ℕ × Check)) (refs : List SetRef)
     (still : (n : ℕ) → 200 + length refs ≤ n
     → ((slot valve : ℕ) → group_seat seats_now slot ≡ suc valve → valve < n)
     → AreWithin before n → AreWithin now n) where
-  long : length (ids_of list) ≡ length list
-  long = ids_long list
+  between_checks : AreWithin (check_links (ids_of list) numbers 0 list) 200
+  between_checks = links_early list numbers valves there
 
   -- nothing feeds a set before it is joined
   none_yet : (k : ℕ) → k < length refs → feeders_in before (200 + k) ≡ []
   none_yet k early =
-      let l = long in
       let size = listed.size in
       feeders (200 + k) (omega arith)
-      ∙ none_feeds links (length list) (200 + k)
-      (rw are_links (check_within (ids_of list) 0 (length list) list (omega arith) (omega arith) there)) (omega arith)
+      ∙ none_feeds links 200 (200 + k) (rw are_links between_checks) (omega arith)
 
   -- nor a spare valve
-  spare_unfed : (place : ℕ) → length list ≤ place → place < 200 → feeders_in now place ≡ []
-  spare_unfed place past early =
-      let l = long in
+  spare_unfed : (valve : ℕ) → IsSpare numbers valve → feeders_in now valve ≡ []
+  spare_unfed valve is =
+      let early = is.0 in
       let size = listed.size in
-      others place (inl early) ∙ feeders place (omega arith)
-      ∙ none_feeds links (length list) place
-      (rw are_links (check_within (ids_of list) 0 (length list) list (omega arith) (omega arith) there)) past
+      let many = valves.as_many in
+      others valve (inl (omega arith)) ∙ feeders valve (omega arith)
+      ∙ ap (λ (x : List Feeding). feeders_in x valve) are_links
+      ∙ none_before (ids_of list) numbers 0 valve list (λ place there_is e.
+      let same_place : 0 + place ≡ place = omega arith in
+      is.1 place (number_there numbers place valve (omega arith) (sym (ap (slice_index numbers) (sym same_place) ∙ e))))
 
-  pub is_built : IsBuilt zones list refs seats_now triggers_now now
+  pub is_built : IsBuilt zones list numbers refs seats_now triggers_now now
   is_built = record {
-    children = λ place id check at.
-        let b = slice_get_within list place (id, check) at in
+    children = λ place valve id check at numbered.
+        let within = slice_get_within list place (id, check) at in
         let same_place : place ≡ 0 + place = omega arith in
-        let l = long in
+        let early = valves.early place valve numbered in
+        let many = valves.as_many in
         let size = listed.size in
-        others place (inl (omega arith)) ∙ feeders place (omega arith)
-        ∙ ap (λ (x : List Feeding). feeders_in x place) are_links
-        ∙ ap (feeders_in (check_links (ids_of list) 0 list)) same_place
-        ∙ children_fed (ids_of list) 0 place id list check at;
-    spares = λ place past early. kept place spare_trigger (spared place past early);
+        others valve (inl (omega arith)) ∙ feeders valve (omega arith)
+        ∙ ap (λ (x : List Feeding). feeders_in x valve) are_links
+        ∙ ap (feeders_in (check_links (ids_of list) numbers 0 list)) (sym (number_is numbers place valve numbered) ∙ ap (slice_index numbers) same_place)
+        ∙ children_fed (ids_of list) numbers valves.apart 0 place id list check (omega arith) at;
+    spares = λ valve is. kept valve spare_trigger (spared valve is);
     unfed = spare_unfed;
     sets = λ k ref at.
         let g = listed.valves k ref at in
@@ -199,7 +190,7 @@ module _ (zones : List Zone) (list : List (ℕ × Check)) (refs : List SetRef)
         joined k ref named at names (none_yet k b);
     targets = targets;
     groups = subst (λ (n : ℕ). AreGrouped zones n seats_now triggers_now now) listed.size regrouped;
-    within = let l = long in let size = listed.size in
+    within = let size = listed.size in
         still (length triggers_now) (omega arith) groups_below within;
     size = let size = listed.size in omega arith;
   }
@@ -214,7 +205,6 @@ module _ (zones : List Zone) (list : List (ℕ × Check)) (refs : List SetRef)
       regrouped = record {
         valves = λ slot valve is.
             let g = grouped.valves slot valve is in
-            let l = long in
             let size = listed.size in
             let past = g.0 in (
               g.0,
@@ -246,33 +236,38 @@ small_at first triggers now valve early small kept kept_on =
     let s = filled first valve early in
     (s.0, (kept_on valve s.0 (kept valve s.0 s.1), small valve s.0 s.1))
 
+-- nothing is counted at spare valves
+pub spares_small : (triggers : List Trigger) → length triggers ≡ 200
+    → ((n : ℕ) → n < 200 → slice_get triggers n ≡ Some spare_trigger)
+    → (n : ℕ) (trigger : Trigger) → slice_get triggers n ≡ Some trigger → trigger.own ≤ 255
+spares_small triggers size spares n trigger at =
+    let within = slice_get_within triggers n trigger at in
+    let is = ap own_of (sym at ∙ spares n (omega arith)) in
+    omega arith
+
 -- ---- no count is too large
 
-module _ (zones : List Zone) (list : List (ℕ × Check)) (refs : List SetRef) (seats : List Seat)
-    (blueprint : Drawn) (built : IsBuilt zones list refs seats blueprint.triggers blueprint.links)
-    (small : (valve : ℕ) → valve < length list → IsSmallAt blueprint.triggers valve)
+module _ (zones : List Zone) (list : List (ℕ × Check)) (numbers : List ℕ) (refs : List SetRef)
+    (seats : List Seat) (blueprint : Drawn)
+    (built : IsBuilt zones list numbers refs seats blueprint.triggers blueprint.links)
+    (small : (valve : ℕ) → valve < 200 → IsSmallAt blueprint.triggers valve)
     (few_links : length blueprint.links < 2 ^ 31) (few : length blueprint.triggers ≤ 2 ^ 31) where
   own_few : (valve : ℕ) → own_in blueprint valve ≤ 2 ^ 31
   own_few valve = elim (cases_lt valve (length blueprint.triggers)) [
-    | inl there ↦ elim (cases_lt valve (length list)) [
+    | inl there ↦ elim (cases_lt valve 200) [
       | inl early ↦
           let s = small valve early in
           let is = ap own_of s.1.0 in
           let b = s.1.1 in
           omega arith
-      | inr past ↦ elim (cases_lt valve 200) [
-        | inl spare ↦
-            let is = ap own_of (built.spares valve past spare) in
+      | inr behind ↦ elim (cases_lt valve (200 + length refs)) [
+        | inl early ↦ set_own valve behind early
+        | inr late ↦
+            let slot = built.groups.all valve late there in
+            let g = built.groups.valves slot.0 valve slot.1 in
+            let is = ap own_of g.1.trigger in
+            let b = g.1.few in
             omega arith
-        | inr behind ↦ elim (cases_lt valve (200 + length refs)) [
-          | inl early ↦ set_own valve behind early
-          | inr late ↦
-              let slot = built.groups.all valve late there in
-              let g = built.groups.valves slot.0 valve slot.1 in
-              let is = ap own_of g.1.trigger in
-              let b = g.1.few in
-              omega arith
-        ]
       ]
     ]
     | inr past ↦ none_own (slice_get blueprint.triggers valve) refl past

@@ -5,6 +5,7 @@ use Rattle.std.specs.Prelude.{Contains, slice_get}
 use Rattle.std.specs.Option.{option_to_list}
 use Rattle.std.proofs.lemmas.List.{length-append}
 use Rattle.std.proofs.lemmas.List.Elements.{Contains-append_cases, Contains-append_left, Contains-append_right}
+use Rattle.std.proofs.lemmas.Option.{slice_get_within}
 use mathlib.Core.Path.{subst}
 use Rattle.check_model.proofs.Members.{all_at}
 use Rattle.check_model.specs.Checks.{AreChildren, Checks, IsId, children_of}
@@ -29,8 +30,9 @@ use Rattle.policy_select.proofs.MembersOfZoneList.{one_of_key, put_or_in, set_in
 use Rattle.policy_select.specs.Zones.{AreZones, Zone, placed_in}
 use Rattle.zone_model.specs.Slotted.{IsHere, Slotted}
 use Rattle.zone_model.specs.Zones.{IsAmong, group}
-use Rattle.health_planning.specs.Wired.{AreMembers, IsValveFor, IsGroupValve, IsSeated, IsSetValve, IsSpare, IsTarget, valves_of, group_seat, ids_of, is_watched, place_of, seat_of, spare_condition, watched_of, with_valve}
+use Rattle.health_planning.specs.Wired.{AreMembers, HaveValves, IsValveFor, IsGroupValve, IsSeated, IsSetValve, IsSpare, IsTarget, valves_of, group_seat, ids_of, is_watched, place_of, seat_of, spare_condition, valve_with, watched_of, with_valve}
 use Rattle.health_planning.specs.declared.seats.Seat.{Seat}
+use Rattle.health_planning.proofs.Numbers.{number_there}
 use Rattle.health_planning.proofs.Places.{id_at, of_all, one_place}
 use Rattle.health_planning.proofs.Places.{found}
 use Rattle.health_planning.proofs.Watching.{zone_sets}
@@ -105,19 +107,19 @@ module _ {X : Type 0} where
 -- ---- valves and nodes
 
 -- the valve of a set stands as that of a watched one
-pub record HasCondition (zones : List Zone) (ids : List ℕ) (seats : List Seat) (net : Net) (own : ℕ → ℕ)
+pub record HasCondition (zones : List Zone) (ids numbers : List ℕ) (seats : List Seat) (net : Net) (own : ℕ → ℕ)
     (zone : ℕ) (p : Slotted) (valve : ℕ) : Type 0 where
-  pub is : IsSetValve zones ids seats net own zone p.set valve
+  pub is : IsSetValve zones ids numbers seats net own zone p.set valve
 
 -- where each set is seated, a valve that its seat tells is its own
-pub condition_seated : (zones : List Zone) (ids : List ℕ) (seats : List Seat) (net : Net) (own : ℕ → ℕ)
+pub condition_seated : (zones : List Zone) (ids numbers : List ℕ) (seats : List Seat) (net : Net) (own : ℕ → ℕ)
     → ((zone : ℕ) (p : Slotted) → IsHere (placed_in zones zone) p
-    → IsSeated zones ids seats net own zone p)
+    → IsSeated zones ids numbers seats net own zone p)
     → (zone : ℕ) (p : Slotted) (valve : ℕ) → IsHere (placed_in zones zone) p
-    → seat_of seats p.slot ≡ suc valve → HasCondition zones ids seats net own zone p valve
-condition_seated zones ids seats net own seated zone p valve here seat = by (is_watched p.set) refl
+    → seat_of seats p.slot ≡ suc valve → HasCondition zones ids numbers seats net own zone p valve
+condition_seated zones ids numbers seats net own seated zone p valve here seat = by (is_watched p.set) refl
   where
-    by : (b : Bool) → is_watched p.set ≡ b → HasCondition zones ids seats net own zone p valve
+    by : (b : Bool) → is_watched p.set ≡ b → HasCondition zones ids numbers seats net own zone p valve
     by false off =
         let none = (seated zone p here).plain off in
         absurd (omega arith)
@@ -125,15 +127,16 @@ condition_seated zones ids seats net own seated zone p valve here seat = by (is_
         let g = (seated zone p here).valved on in
         let other = g.1 in
         let same : g.0 ≡ valve = omega arith in
-        record { is = subst (IsSetValve zones ids seats net own zone p.set) same g.2 }
+        record { is = subst (IsSetValve zones ids numbers seats net own zone p.set) same g.2 }
 
-module _ (zones : List Zone) (checks : Checks) (seats : List Seat) (net : Net) (own : ℕ → ℕ)
-    (are_zones : AreZones zones) (are_checks : AreSoundChecks checks)
+module _ (zones : List Zone) (checks : Checks) (numbers : List ℕ) (seats : List Seat) (net : Net)
+    (own : ℕ → ℕ) (valves : HaveValves (length checks.list) numbers) (are_zones : AreZones zones) (are_checks : AreSoundChecks checks)
     (sound : IsSound (watched_of zones checks))
-    (children : (place id : ℕ) (check : Check) → slice_get checks.list place ≡ Some (id, check)
-    → (net.condition place).feeders ≡ map (place_of (ids_of checks.list)) (children_of check))
+    (children : (place valve id : ℕ) (check : Check) → slice_get checks.list place ≡ Some (id, check)
+    → slice_get numbers place ≡ Some valve
+    → (net.condition valve).feeders ≡ map (valve_with (ids_of checks.list) numbers) (children_of check))
     (set_valve : (zone : ℕ) (p : Slotted) (valve : ℕ) → IsHere (placed_in zones zone) p
-    → seat_of seats p.slot ≡ suc valve → HasCondition zones (ids_of checks.list) seats net own zone p valve)
+    → seat_of seats p.slot ≡ suc valve → HasCondition zones (ids_of checks.list) numbers seats net own zone p valve)
   where
     abbrev watched : Watched
     watched = watched_of zones checks
@@ -142,7 +145,7 @@ module _ (zones : List Zone) (checks : Checks) (seats : List Seat) (net : Net) (
     its_ids = ids_of checks.list
 
     abbrev IsValve : (valve : ℕ) → Node → Type 0
-    IsValve valve node = IsValveFor zones checks.list seats net own valve node
+    IsValve valve node = IsValveFor zones checks.list numbers seats net own valve node
 
     -- a node, whose valve feeds that of another
     pub record IsFeeder (valve : ℕ) (m : Node) : Type 0 where
@@ -152,10 +155,14 @@ module _ (zones : List Zone) (checks : Checks) (seats : List Seat) (net : Net) (
       pub feeds : Contains (feeders watched m) node
 
     -- the valve of a check that is there
-    check_valve : (id valve : ℕ) → IsId checks.list id → valve ≡ place_of its_ids id
+    check_valve : (id valve : ℕ) → IsId checks.list id → valve ≡ valve_with its_ids numbers id
         → IsValve valve (CheckNode id)
     check_valve id valve (check, at) is =
-        (check, ap (slice_get checks.list) is ∙ found checks.list id check at)
+        let place = place_of its_ids id in
+        let here = found checks.list id check at in
+        let within = slice_get_within checks.list place (id, check) here in
+        let many = valves.as_many in
+        (place, (check, (here, number_there numbers place valve (omega arith) is)))
 
     child_there : (place id : ℕ) (check : Check) → slice_get checks.list place ≡ Some (id, check)
         → (child : ℕ) → Contains (children_of check) child → IsId checks.list child
@@ -163,17 +170,17 @@ module _ (zones : List Zone) (checks : Checks) (seats : List Seat) (net : Net) (
         let are = of_all (λ (held : ℕ × Check). AreChildren checks.list (children_of held.1)) checks.list place (id, check) are_checks.children at in
         all_at (IsId checks.list) (children_of check) child are.there m
 
-    feeds_check : (id valve : ℕ) (check : Check) (x : ℕ)
-        → slice_get checks.list valve ≡ Some (id, check) → Feeds net x valve
-        → IsFeeder x (CheckNode id)
-    feeds_check id valve check x at m =
-        let its = id_at checks.list valve id check are_checks.rising at in
-        let child = came_from (place_of its_ids) (children_of check) x
-        (subst (λ (l : List ℕ). Contains l x) (children valve id check at) m) in
+    feeds_check : (place id valve : ℕ) (check : Check) (x : ℕ)
+        → slice_get checks.list place ≡ Some (id, check) → slice_get numbers place ≡ Some valve
+        → Feeds net x valve → IsFeeder x (CheckNode id)
+    feeds_check place id valve check x at numbered m =
+        let its = id_at checks.list place id check are_checks.rising at in
+        let child = came_from (valve_with its_ids numbers) (children_of check) x
+        (subst (λ (l : List ℕ). Contains l x) (children place valve id check at numbered) m) in
         record {
           there = (check, its);
           node = CheckNode child.0;
-          its = check_valve child.0 x (child_there valve id check at child.0 (of_member (children_of check) child.0 child.1)) child.2;
+          its = check_valve child.0 x (child_there place id check at child.0 (of_member (children_of check) child.0 child.1)) child.2;
           feeds = subst (λ (o : Option Check). Contains (map CheckNode (children_there o)) (CheckNode child.0)) (sym its)
               (mapped_in CheckNode (children_of check) child.0 child.1);
         }
@@ -187,10 +194,10 @@ module _ (zones : List Zone) (checks : Checks) (seats : List Seat) (net : Net) (
 
     check_named : (zone : ℕ) (p : Slotted) → IsHere (placed_in zones zone) p → (x : ℕ)
         → (named : Option ℕ) → p.set.check ≡ named
-        → Contains (map (place_of its_ids) (option_to_list named)) x
+        → Contains (map (valve_with its_ids numbers) (option_to_list named)) x
         → (id : ℕ) × (IsValve x (CheckNode id) × Contains (its_check p.set.check) (CheckNode id))
     check_named zone p here x None is m = absurd (nothing_in x m)
-    check_named zone p here x (Some id) is m = elim (first_or_rest (place_of its_ids id) [] x m) [
+    check_named zone p here x (Some id) is m = elim (first_or_rest (valve_with its_ids numbers id) [] x m) [
       | inl same ↦ (
         id,
         (
@@ -225,7 +232,7 @@ module _ (zones : List Zone) (checks : Checks) (seats : List Seat) (net : Net) (
     feeds_set zone p valve x here seat m =
         let w = (set_valve zone p valve here seat).is in
         let mine = subst (λ (l : List ℕ). Contains l x) (ap (λ r. r.feeders) w.condition) m in
-        elim (Contains-append_cases (map (place_of its_ids) (option_to_list p.set.check)) w.target x mine) [
+        elim (Contains-append_cases (map (valve_with its_ids numbers) (option_to_list p.set.check)) w.target x mine) [
           | inl named ↦
               let c = check_named zone p here x p.set.check refl named in
               record {
@@ -263,7 +270,8 @@ module _ (zones : List Zone) (checks : Checks) (seats : List Seat) (net : Net) (
 
     -- what feeds the valve of a node is the valve of one that feeds the node
     pub feeder : (valve x : ℕ) (m : Node) → IsValve valve m → Feeds net x valve → IsFeeder x m
-    feeder valve x (CheckNode id) (check, at) m = feeds_check id valve check x at m
+    feeder valve x (CheckNode id) (place, (check, (at, numbered))) m =
+        feeds_check place id valve check x at numbered m
     feeder valve x (SetNode zone set) (slot, (here, seat)) m =
         feeds_set zone (record { slot = slot; set = set }) valve x here seat m
     feeder valve x (GroupNode zone name rtype) (members, (are, w)) m =
@@ -283,8 +291,8 @@ module _ (zones : List Zone) (checks : Checks) (seats : List Seat) (net : Net) (
     last_fed (suc k) x y (z, fed, more) = last_fed k z y more
 
     module _ (nodes : (valve : ℕ) → valve < net.size
-        → IsSpare (length checks.list) valve ⊎ ((node : Node) × IsValve valve node))
-        (spares : (valve : ℕ) → IsSpare (length checks.list) valve → net.condition valve ≡ spare_condition) where
+        → IsSpare numbers valve ⊎ ((node : Node) × IsValve valve node))
+        (spares : (valve : ℕ) → IsSpare numbers valve → net.condition valve ≡ spare_condition) where
       -- a valve that something feeds isn't spare
       fed_node : (w y : ℕ) → Feeds net w y → y < net.size → (node : Node) × IsValve y node
       fed_node w y fed within = elim (nodes y within) [
@@ -315,8 +323,12 @@ module _ (zones : List Zone) (checks : Checks) (seats : List Seat) (net : Net) (
           ap (λ (x : Slotted). x.slot) (one_of_key (placed_in zones zone) (rising_in zones are_zones.each zone) p q here there (ap key_of same))
 
       one_valve : (a b : ℕ) (m : Node) → IsValve a m → IsValve b m → a ≡ b
-      one_valve a b (CheckNode id) (c, first) (d, second) =
-          one_place checks.list a b id c d are_checks.rising first second
+      one_valve a b (CheckNode id) (p, (c, (first, a_at))) (q, (d, (second, b_at))) =
+          let places = one_place checks.list p q id c d are_checks.rising first second in
+          some_same (sym a_at ∙ ap (slice_get numbers) places ∙ b_at)
+        where
+          some_same : {x y : ℕ} → Some x ≡ Some y → x ≡ y
+          some_same e = cc
       one_valve a b (SetNode zone set) (s, (here, seat)) (t, (there, seat_two)) =
           let same = one_slot zone (record { slot = s; set = set }) (record { slot = t; set = set }) here there refl in
           let seats_same = ap (seat_of seats) same in
@@ -328,36 +340,38 @@ module _ (zones : List Zone) (checks : Checks) (seats : List Seat) (net : Net) (
           let second = v.seat.1.1 in
           omega arith
 
-      of_check : (place id : ℕ) (check : Check) (n : Node)
-          → slice_get checks.list place ≡ Some (id, check) → place < 200
-          → IsValve place n → n ≡ CheckNode id
-      of_check place id check (CheckNode other) at early (its, is) =
-          ap CheckNode (ap (λ (h : ℕ × Check). h.0) (some_same (sym is ∙ at)))
+      of_check : (valve id : ℕ) (n : Node) → IsValve valve (CheckNode id) → IsValve valve n
+          → n ≡ CheckNode id
+      of_check valve id (CheckNode other) (p, (c, (first, p_at))) (q, (d, (second, q_at))) =
+          let places = valves.apart q p valve q_at p_at in
+          ap CheckNode (ap (λ (h : ℕ × Check). h.0)
+          (some_same (sym second ∙ ap (slice_get checks.list) places ∙ first)))
         where
           some_same : {X : Type 0} {x y : X} → Some x ≡ Some y → x ≡ y
           some_same e = cc
-      of_check place id check (SetNode zone set) at early (slot, (here, seat)) =
-          let w = (set_valve zone (record { slot = slot; set = set }) place here seat).is in
+      of_check valve id (SetNode zone set) (p, (c, (first, p_at))) (slot, (here, seat)) =
+          let w = (set_valve zone (record { slot = slot; set = set }) valve here seat).is in
           let behind = w.behind in
+          let early = valves.early p valve p_at in
           absurd (omega arith)
-      of_check place id check (GroupNode zone name rtype) at early (members, (are, w)) =
+      of_check valve id (GroupNode zone name rtype) (p, (c, (first, p_at))) (members, (are, w)) =
           let behind = w.behind in
+          let early = valves.early p valve p_at in
           absurd (omega arith)
 
       -- a list of the cone of a check has at least as many nodes as valves are above the check's
-      pub cone_long : (place id : ℕ) (check : Check) (walk : List ℕ) (cone : List Node)
-          → slice_get checks.list place ≡ Some (id, check) → place < 200
-          → AreOfCone net (place ∷ []) walk
+      pub cone_long : (valve id : ℕ) (walk : List ℕ) (cone : List Node)
+          → IsValve valve (CheckNode id) → AreOfCone net (valve ∷ []) walk
           → ((n : Node) → InCone watched (CheckNode id) n → Contains cone n)
           → length walk ≤ length cone
-      cone_long place id check walk cone at early are has =
+      cone_long valve id walk cone its are has =
           no_more IsValve one_valve walk cone are.once (λ y m.
           let above = are.above y m in
           let k = above.2.0 in
           let leads = subst (λ (x : ℕ). Leads (Feeds net) k x y) (from_start above.0 above.1) above.2.1 in
           let node = reached k y leads (are.within y m) in
-          let way = path k place y node.0 node.1 leads in
-          let start = of_check place id check way.0 at early way.1.0 in (
+          let way = path k valve y node.0 node.1 leads in
+          let start = of_check valve id way.0 its way.1.0 in (
             node.0,
             (
               node.1,
@@ -366,12 +380,13 @@ module _ (zones : List Zone) (checks : Checks) (seats : List Seat) (net : Net) (
             ),
           ))
         where
-          from_start : (x : ℕ) → Contains (place ∷ []) x → x ≡ place
-          from_start x m = elim (in_cases place x [] m) [
+          from_start : (x : ℕ) → Contains (valve ∷ []) x → x ≡ valve
+          from_start x m = elim (in_cases valve x [] m) [
             | inl same ↦ sym same
             | inr rest ↦ absurd (nothing_in x rest)
           ]
 
-          reached : (k y : ℕ) → Leads (Feeds net) k place y → y < net.size → (node : Node) × IsValve y node
-          reached zero y same within = (CheckNode id, (check, ap (slice_get checks.list) same ∙ at))
-          reached (suc k) y leads within = let w = last_fed k place y leads in fed_node w.0 y w.1 within
+          reached : (k y : ℕ) → Leads (Feeds net) k valve y → y < net.size → (node : Node) × IsValve y node
+          reached zero y same within =
+              (CheckNode id, subst (λ (g : ℕ). IsValve g (CheckNode id)) (sym same) its)
+          reached (suc k) y leads within = let w = last_fed k valve y leads in fed_node w.0 y w.1 within

@@ -1,6 +1,6 @@
 -- There are no more valves and links than slots give room for.
 use Rattle.std.proofs.Common.{◌≡◌, ◌≢◌, ◌<◌, ◌≤◌, ◌+◌, ◌-◌, ◌*◌, ℕ, zero, suc, Bool, true, false, List, [], ◌∷◌, ◌++◌, length, length-append, map, take, drop, arith, refl, ap, sym, ◌∙◌, inl, inr}
-use Rattle.std.specs.Prelude.{◌==◌, Contains, cond}
+use Rattle.std.specs.Prelude.{◌==◌, Contains, cond, slice_index}
 use Rattle.std.specs.List.{AllByRecursion}
 use Rattle.std.proofs.lemmas.Bool.{cases_eq, cases_lt}
 use Rattle.std.proofs.lemmas.List.{get_or_past, length-map}
@@ -20,7 +20,7 @@ use Rattle.zone_model.specs.Slotted.{HaveOwnSlots, IsHere, Slotted}
 use Rattle.zone_model.specs.Zones.{IsAmong}
 use Rattle.health_planning.specs.Building.{AreGrouped, HaveOwnValves, check_links, links_to}
 use Rattle.health_planning.specs.Rooms.{HaveValvesApart, children_among}
-use Rattle.health_planning.specs.Wired.{valves_of, group_seat, place_of, plain_among, seat_of, with_valve}
+use Rattle.health_planning.specs.Wired.{valves_of, group_seat, plain_among, seat_of, valve_with, with_valve}
 use Rattle.health_planning.specs.declared.seats.Seat.{Seat}
 use Rattle.health_planning.proofs.Ending.{came_from, member_valve, no_more}
 use Rattle.health_planning.proofs.Groups.{plain_few}
@@ -246,12 +246,12 @@ children_few (held ∷ list) all =
 pub links_long : (valve : ℕ) (feeders : List ℕ) → length (links_to valve feeders) ≡ length feeders
 links_long valve feeders = length-map feeders (λ (x : ℕ). record { feeder = x; fed = valve })
 
-pub check_links_long : (ids : List ℕ) (place : ℕ) (list : List (ℕ × Check))
-    → length (check_links ids place list) ≡ children_among list
-check_links_long ids place [] = refl
-check_links_long ids place (held ∷ list) =
-    let both = length-append (links_to place (map (place_of ids) (children_of held.1))) (check_links ids (suc place) list) in
-    let links = links_long place (map (place_of ids) (children_of held.1)) in
-    let children = length-map (children_of held.1) (place_of ids) in
-    let rest = check_links_long ids (suc place) list in
+pub check_links_long : (ids numbers : List ℕ) (place : ℕ) (list : List (ℕ × Check))
+    → length (check_links ids numbers place list) ≡ children_among list
+check_links_long ids numbers place [] = refl
+check_links_long ids numbers place (held ∷ list) =
+    let both = length-append (links_to (slice_index numbers place) (map (valve_with ids numbers) (children_of held.1))) (check_links ids numbers (suc place) list) in
+    let links = links_long (slice_index numbers place) (map (valve_with ids numbers) (children_of held.1)) in
+    let children = length-map (children_of held.1) (valve_with ids numbers) in
+    let rest = check_links_long ids numbers (suc place) list in
     omega arith

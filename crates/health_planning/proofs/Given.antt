@@ -161,11 +161,11 @@ one_noted members seats noted ref within empty =
 
 -- ---- what a blueprint gives
 
-pub all_given : (zones : List Zone) (list : List (ℕ × Check)) (refs members : List SetRef)
-    (seats : List Seat) (triggers : List Trigger) (links : List Feeding)
-    → IsBuilt zones list refs seats triggers links → AreNoted members seats
+pub all_given : (zones : List Zone) (list : List (ℕ × Check)) (numbers : List ℕ)
+    (refs members : List SetRef) (seats : List Seat) (triggers : List Trigger) (links : List Feeding)
+    → IsBuilt zones list numbers refs seats triggers links → AreNoted members seats
     → AreGiven refs members seats
-all_given zones list refs members seats triggers links built noted = record {
+all_given zones list numbers refs members seats triggers links built noted = record {
   sets = λ slot some.
       let valve = some_valve (seat_of seats slot) some in
       let o = built.only slot valve.0 valve.1 in

@@ -7,6 +7,7 @@ pub mod Grouped
 pub mod Groups
 pub mod Joined
 pub mod ListedOnce
+pub mod Numbers
 pub mod Places
 pub mod Planned
 pub mod Roomy

@@ -26,7 +26,7 @@ stands_at ids id (Some place) is = is.0
 
 -- a number that stands somewhere stands at its first place, which is the only one among some that
 -- differ
-first_there : (ids : List ℕ) (place id : ℕ) → slice_get ids place ≡ Some id
+pub first_there : (ids : List ℕ) (place id : ℕ) → slice_get ids place ≡ Some id
     → slice_get ids (place_of ids id) ≡ Some id
 first_there [] place id e = let no : ⊥ = cc in absurd no
 first_there (x ∷ ids) zero id e = rw (eq-eqb id x (sym (some_same e))) e

@@ -16,7 +16,7 @@ use Rattle.policy_select.specs.Zones.{AreZones, Zone}
 use Rattle.policy_select.specs.SetRefRecord.{SetRef}
 use Rattle.policy_select.specs.Tables.{HaveSlotsApart}
 use Rattle.health_planning.specs.Building.{IsBuilt}
-use Rattle.health_planning.specs.Wired.{watched_of}
+use Rattle.health_planning.specs.Wired.{HaveValves, watched_of}
 use Rattle.health_planning.specs.declared.seats.Seat.{Seat}
 use Rattle.health_planning.proofs.Ending.{valves_end}
 use Rattle.health_planning.proofs.Grouped.{none_feeds}
@@ -27,17 +27,18 @@ pub fed_by_condition : (o : Option Trigger) (feeders : List ℕ) → (condition_
 fed_by_condition None feeders = refl
 fed_by_condition (Some trigger) feeders = refl
 
-pub blueprint_ends : PathsEnd → (zones : List Zone) (checks : Checks) (refs : List SetRef)
-    (seats : List Seat) (blueprint : Drawn) → AreZones zones → HaveSlotsApart zones
+pub blueprint_ends : PathsEnd → (zones : List Zone) (checks : Checks) (numbers : List ℕ)
+    (refs : List SetRef) (seats : List Seat) (blueprint : Drawn) → AreZones zones → HaveSlotsApart zones
     → AreSoundChecks checks → IsSound (watched_of zones checks)
-    → IsBuilt zones checks.list refs seats blueprint.triggers blueprint.links
+    → HaveValves (length checks.list) numbers
+    → IsBuilt zones checks.list numbers refs seats blueprint.triggers blueprint.links
     → ValvesEnd (Feeds (net_in blueprint)) 64
-blueprint_ends law zones checks refs seats blueprint are_zones apart are_checks sound built =
-    valves_end zones checks seats (net_in blueprint) (own_in blueprint) are_zones are_checks sound
-    (λ place id check at. fed_by_condition (slice_get blueprint.triggers place) (feeders_in blueprint.links place) ∙ built.children place id check at)
-    (λ zone p valve here seat. record { is = set_valve zones checks.list refs seats blueprint are_zones apart built zone p valve here seat })
-    (nodes zones checks.list refs seats blueprint are_zones apart built)
-    (spare zones checks.list refs seats blueprint are_zones apart built)
+blueprint_ends law zones checks numbers refs seats blueprint are_zones apart are_checks sound valves built =
+    valves_end zones checks numbers seats (net_in blueprint) (own_in blueprint) valves are_zones are_checks sound
+    (λ place valve id check at numbered. fed_by_condition (slice_get blueprint.triggers valve) (feeders_in blueprint.links valve) ∙ built.children place valve id check at numbered)
+    (λ zone p valve here seat. record { is = set_valve zones checks.list numbers refs seats blueprint are_zones apart valves built zone p valve here seat })
+    (nodes zones checks.list numbers refs seats blueprint are_zones apart valves built)
+    (spare zones checks.list numbers refs seats blueprint are_zones apart valves built)
     law there
   where
     there : (x y : ℕ) → Feeds (net_in blueprint) x y → y < length blueprint.triggers

@@ -2,7 +2,6 @@
 use Rattle.std.proofs.Common.{◌≡◌, ◌≤◌, ◌<◌, ◌+◌, ℕ, Bool, List, [], ◌∷◌, ◌++◌, length, map, take, arith, refl, ap, sym, ◌∙◌, inl, inr, Some, None, Option}
 use Rattle.std.specs.Prelude.{slice_get}
 use Rattle.std.proofs.lemmas.Bool.{ne_eqb}
-use Rattle.std.proofs.lemmas.List.{map-append}
 use mathlib.Core.Path.{subst}
 use Rattle.check_model.specs.Checks.{Checks, check_with}
 use Rattle.check_model.specs.declared.checks.Check.{Check}
@@ -11,8 +10,6 @@ use Rattle.checker_state.specs.Standing.{Seen, kept, nothing, numbers}
 use Rattle.checker_state.specs.Standing.{StandsFor as HasSeen}
 use Rattle.health_model.specs.Statuses.{AreReports, Report, results_of}
 use Rattle.policy_select.proofs.MembersOfZoneList.{filled}
-use Rattle.zone_model.proofs.Lists.{take_more}
-use Rattle.health_planning.specs.Building.{check_trigger, check_triggers}
 use Rattle.health_planning.specs.Later.{IsLaterAt, HasThreshold, Knows}
 use Rattle.health_planning.specs.Building.{IsSeen}
 use Rattle.health_planning.specs.Wired.{StandsAt, ids_of, place_of}
@@ -20,15 +17,6 @@ use Rattle.health_planning.proofs.Places.{found, held_there, id_there, of_all, o
 
 some_same : {X : Type 0} {x y : X} → Some x ≡ Some y → x ≡ y
 some_same e = cc
-
--- one trigger more
-pub triggers_more : (reports : List Report) (list : List (ℕ × Check)) (place : ℕ) (held : ℕ × Check)
-    → slice_get list place ≡ Some held
-    → check_triggers reports (take place list) ++ check_trigger reports held.0 held.1 ∷ []
-    ≡ check_triggers reports (take (place + 1) list)
-triggers_more reports list place held at =
-    sym (map-append (λ (h : ℕ × Check). check_trigger reports h.0 h.1) (take place list) (held ∷ []))
-    ∙ ap (check_triggers reports) (sym (take_more list place held at))
 
 -- no report is of a number that no check had
 none_of : (next id : ℕ) (reports : List Report) (checker : ℕ) → AreReports next reports

@@ -33,9 +33,10 @@ use Rattle.zone_model.specs.Zones.{IsAmong, IsRising, group, is_of_group}
 use Rattle.policy_select.specs.Looking.{RefersTo}
 use Rattle.policy_select.specs.Tables.{HaveSlotsApart}
 use Rattle.health_planning.specs.Building.{AllListed, AreTriggered, HasTarget, HasTargetValve, IsBuilt, IsListed, check_trigger, group_trigger, number, set_trigger, spare_trigger}
-use Rattle.health_planning.specs.Wired.{AreMembers, HasSlot, IsFirstIn, IsValveFor, IsGroupValve, IsSeated, IsSetValve, IsSpare, IsTarget, AreValvesOf, TellGroup, check_seat, valves_of, group_seat, ids_of, is_watched, only_check, place_of, plain_among, seat_of, spare_condition, with_valve}
+use Rattle.health_planning.specs.Wired.{AreMembers, HasSlot, HaveValves, IsFirstIn, IsValveFor, IsGroupValve, IsSeated, IsSetValve, IsSpare, IsTarget, AreValvesOf, TellGroup, check_seat, valves_of, group_seat, ids_of, is_watched, only_check, plain_among, seat_of, spare_condition, valve_with, with_valve}
 use Rattle.health_planning.specs.declared.seats.Seat.{Seat}
 use Rattle.health_planning.proofs.ListedOnce.{one_ref}
+use Rattle.health_planning.proofs.Numbers.{number_or_none}
 
 some_same : {X : Type 0} {x y : X} → Some x ≡ Some y → x ≡ y
 some_same e = cc
@@ -181,9 +182,10 @@ module _ (zones : List Zone) (are_zones : AreZones zones) where
 pub ids_long : (list : List (ℕ × Check)) → length (ids_of list) ≡ length list
 ids_long list = length-map list (λ (held : ℕ × Check). held.0)
 
-module _ (zones : List Zone) (list : List (ℕ × Check)) (refs : List SetRef) (seats : List Seat)
-    (blueprint : Drawn) (are_zones : AreZones zones) (apart : HaveSlotsApart zones)
-    (built : IsBuilt zones list refs seats blueprint.triggers blueprint.links) where
+module _ (zones : List Zone) (list : List (ℕ × Check)) (numbers : List ℕ) (refs : List SetRef)
+    (seats : List Seat) (blueprint : Drawn) (are_zones : AreZones zones)
+    (apart : HaveSlotsApart zones) (valves : HaveValves (length list) numbers)
+    (built : IsBuilt zones list numbers refs seats blueprint.triggers blueprint.links) where
   -- a group with a valve
   group_there : (members : List Slotted) (slot valve : ℕ) → IsFirstIn members slot
       → group_seat seats slot ≡ suc valve → TellGroup seats members valve → 200 + length refs ≤ valve
@@ -271,7 +273,7 @@ module _ (zones : List Zone) (list : List (ℕ × Check)) (refs : List SetRef) (
 
   checks_many : (check : Option ℕ) (target : List ℕ) (n : ℕ) → n ≡ length target
       → number (is_some check) + n
-      ≡ length (map (place_of (ids_of list)) (option_to_list check) ++ target)
+      ≡ length (map (valve_with (ids_of list) numbers) (option_to_list check) ++ target)
   checks_many None target n e = omega arith
   checks_many (Some id) target n e = omega arith
 
@@ -280,7 +282,7 @@ module _ (zones : List Zone) (list : List (ℕ × Check)) (refs : List SetRef) (
     valve : ℕ
     seat : seat_of seats p.slot ≡ suc valve
     told : check_seat seats p.slot ≡ only_check p.set
-    is : IsSetValve zones (ids_of list) seats (net_in blueprint) (own_in blueprint) zone p.set valve
+    is : IsSetValve zones (ids_of list) numbers seats (net_in blueprint) (own_in blueprint) zone p.set valve
 
   valve_of : (zone : ℕ) (p : Slotted) → IsHere (placed_in zones zone) p
       → IsListed refs (ref_in zone p) → HasValve zone p
@@ -303,7 +305,7 @@ module _ (zones : List Zone) (list : List (ℕ × Check)) (refs : List SetRef) (
           its_target = t.are;
           condition = ap (λ (o : Option Trigger). condition_of o (feeders_in blueprint.links valve)) trigger
               ∙ ap (λ (l : List ℕ). record { need = number (is_some p.set.check) + number (evaluates p.set.body); inverted = false; feeders = l }) feeds.1.1
-              ∙ ap (λ (n : ℕ). record { need = n; inverted = false; feeders = map (place_of (ids_of list)) (option_to_list p.set.check) ++ feeds.0 })
+              ∙ ap (λ (n : ℕ). record { need = n; inverted = false; feeders = map (valve_with (ids_of list) numbers) (option_to_list p.set.check) ++ feeds.0 })
               (checks_many p.set.check feeds.0 (number (evaluates p.set.body)) t.as_many);
           its_own = ap own_of trigger;
         };
@@ -323,15 +325,15 @@ module _ (zones : List Zone) (list : List (ℕ × Check)) (refs : List SetRef) (
   -- a valve that the seat of a set tells is its own
   pub set_valve : (zone : ℕ) (p : Slotted) (valve : ℕ) → IsHere (placed_in zones zone) p
       → seat_of seats p.slot ≡ suc valve
-      → IsSetValve zones (ids_of list) seats (net_in blueprint) (own_in blueprint) zone p.set valve
+      → IsSetValve zones (ids_of list) numbers seats (net_in blueprint) (own_in blueprint) zone p.set valve
   set_valve zone p valve here seat =
       let g = valve_of zone p here (watched_there zone p here valve seat).0 in
       let other = g.seat in
       let same : g.valve ≡ valve = omega arith in
-      subst (IsSetValve zones (ids_of list) seats (net_in blueprint) (own_in blueprint) zone p.set) same g.is
+      subst (IsSetValve zones (ids_of list) numbers seats (net_in blueprint) (own_in blueprint) zone p.set) same g.is
 
   pub seated : AllListed zones refs → (zone : ℕ) (p : Slotted) → IsHere (placed_in zones zone) p
-      → IsSeated zones (ids_of list) seats (net_in blueprint) (own_in blueprint) zone p
+      → IsSeated zones (ids_of list) numbers seats (net_in blueprint) (own_in blueprint) zone p
   seated all zone p here = record {
     plain = λ off. by (seat_of seats p.slot) refl off;
     told = λ on. (valve_of zone p here (all zone p here on)).told;
@@ -344,36 +346,38 @@ module _ (zones : List Zone) (list : List (ℕ × Check)) (refs : List SetRef) (
           absurd (false≢true (sym off ∙ (watched_there zone p here valve e).1))
 
   -- each valve is that of a node, or spare
-  pub nodes : (valve : ℕ) → valve < length blueprint.triggers → IsSpare (length list) valve
-      ⊎ ((node : Node) × IsValveFor zones list seats (net_in blueprint) (own_in blueprint) valve node)
-  nodes valve within = elim (cases_lt valve (length list)) [
-    | inl early ↦
-        let held = filled list valve early in
-        inr (CheckNode held.0.0, (held.0.1, held.1))
-    | inr past ↦ elim (cases_lt valve 200) [
-      | inl spare ↦ inl (past, spare)
-      | inr behind ↦ elim (cases_lt valve (200 + length refs)) [
-        | inl early ↦ inr (set_node valve behind early)
-        | inr late ↦
-            let slot = built.groups.all valve late within in
-            let g = built.groups.valves slot.0 valve slot.1 in
-            let f = first_of g.1.members g.1.here.0 g.1.here.1 in
-            inr (
-              GroupNode g.1.zone g.1.name g.1.rtype,
+  pub nodes : (valve : ℕ) → valve < length blueprint.triggers → IsSpare numbers valve
+      ⊎ ((node : Node) × IsValveFor zones list numbers seats (net_in blueprint) (own_in blueprint) valve node)
+  nodes valve within = elim (cases_lt valve 200) [
+    | inl early ↦ elim (number_or_none numbers valve) [
+      | inl at ↦
+          let many = valves.as_many in
+          let within_list = slice_get_within numbers at.0 valve at.1 in
+          let held = filled list at.0 (omega arith) in
+          inr (CheckNode held.0.0, (at.0, (held.0.1, (held.1, at.1))))
+      | inr none ↦ inl (early, none)
+    ]
+    | inr behind ↦ elim (cases_lt valve (200 + length refs)) [
+      | inl early ↦ inr (set_node valve behind early)
+      | inr late ↦
+          let slot = built.groups.all valve late within in
+          let g = built.groups.valves slot.0 valve slot.1 in
+          let f = first_of g.1.members g.1.here.0 g.1.here.1 in
+          inr (
+            GroupNode g.1.zone g.1.name g.1.rtype,
+            (
+              g.1.members,
               (
-                g.1.members,
-                (
-                  g.1.are,
-                  group_there g.1.members f.p.slot valve (f.p, f.at, refl) (g.1.each f.p f.here) g.1.each g.0 g.1.trigger g.1.fed,
-                ),
+                g.1.are,
+                group_there g.1.members f.p.slot valve (f.p, f.at, refl) (g.1.each f.p f.here) g.1.each g.0 g.1.trigger g.1.fed,
               ),
-            )
-      ]
+            ),
+          )
     ]
   ]
     where
       set_node : (valve : ℕ) → 200 ≤ valve → valve < 200 + length refs
-          → (node : Node) × IsValveFor zones list seats (net_in blueprint) (own_in blueprint) valve node
+          → (node : Node) × IsValveFor zones list numbers seats (net_in blueprint) (own_in blueprint) valve node
       set_node valve past early =
           let k = valve - 200 in
           let is : 200 + k ≡ valve = omega arith in
@@ -381,20 +385,20 @@ module _ (zones : List Zone) (list : List (ℕ × Check)) (refs : List SetRef) (
           let g = built.sets k ref.0 ref.1 in
           (SetNode ref.0.zone g.named, (ref.0.slot, (g.names, g.seat ∙ ap suc is)))
 
-  pub spare : (valve : ℕ) → IsSpare (length list) valve → (net_in blueprint).condition valve ≡ spare_condition
+  pub spare : (valve : ℕ) → IsSpare numbers valve → (net_in blueprint).condition valve ≡ spare_condition
   spare valve is =
-      ap (λ (o : Option Trigger). condition_of o (feeders_in blueprint.links valve)) (built.spares valve is.0 is.1)
-      ∙ ap (condition_of (Some spare_trigger)) (built.unfed valve is.0 is.1)
+      ap (λ (o : Option Trigger). condition_of o (feeders_in blueprint.links valve)) (built.spares valve is)
+      ∙ ap (condition_of (Some spare_trigger)) (built.unfed valve is)
 
-  pub wired : AllListed zones refs → (reports : List Report) → AreTriggered reports list blueprint.triggers
-      → AreValvesOf zones list seats (net_in blueprint) (own_in blueprint) reports
+  pub wired : AllListed zones refs → (reports : List Report) → AreTriggered reports list numbers blueprint.triggers
+      → AreValvesOf zones list numbers seats (net_in blueprint) (own_in blueprint) reports
   wired all reports triggered = record {
-    its_checks = λ place id check at.
-        let trigger = triggered place id check at in
+    its_checks = λ place valve id check at numbered.
+        let trigger = triggered place valve id check at numbered in
         record {
-          within = slice_get_within blueprint.triggers place (check_trigger reports id check) trigger;
-          condition = ap (λ (o : Option Trigger). condition_of o (feeders_in blueprint.links place)) trigger
-              ∙ ap (condition_of (Some (check_trigger reports id check))) (built.children place id check at);
+          within = slice_get_within blueprint.triggers valve (check_trigger reports id check) trigger;
+          condition = ap (λ (o : Option Trigger). condition_of o (feeders_in blueprint.links valve)) trigger
+              ∙ ap (condition_of (Some (check_trigger reports id check))) (built.children place valve id check at numbered);
           its_own = ap own_of trigger;
         };
     its_sets = seated all;

@@ -1,5 +1,5 @@
 -- How the valves of a configuration are planned.
-use Rattle.std.specs.Prelude.{◌≡◌, ◌≢◌, ◌≤◌, ◌<◌, ◌+◌, ◌^◌, ℕ, suc, Bool, true, false, if◌then◌else◌, is_some, List, [], ◌∷◌, ◌++◌, length, map, Option, None, Some, slice_get, Contains, ◌⊎◌}
+use Rattle.std.specs.Prelude.{◌≡◌, ◌≢◌, ◌≤◌, ◌<◌, ◌+◌, ◌^◌, ℕ, suc, Bool, true, false, if◌then◌else◌, is_some, List, [], ◌∷◌, ◌++◌, length, map, Option, None, Some, slice_get, slice_index, Contains, ◌⊎◌}
 use Rattle.std.specs.List.{AllByRecursion}
 use Rattle.std.specs.Option.{option_to_list}
 use Rattle.check_model.specs.Checks.{children_of}
@@ -21,7 +21,7 @@ use Rattle.policy_select.specs.Zones.{Zone, placed_in}
 use Rattle.policy_select.specs.SetRefRecord.{SetRef}
 use Rattle.zone_model.specs.Slotted.{IsHere, Slotted}
 use Rattle.policy_select.specs.Looking.{RefersTo}
-use Rattle.health_planning.specs.Wired.{AreMembers, HasSlot, IsFirstIn, IsLedTo, TellGroup, check_need, check_own, check_seat, valves_of, group_seat, ids_of, is_inverted, is_watched, only_check, place_of, plain_among, seat_of, with_valve}
+use Rattle.health_planning.specs.Wired.{AreMembers, HasSlot, IsFirstIn, IsLedTo, IsSpare, TellGroup, check_need, check_own, check_seat, valves_of, group_seat, ids_of, is_inverted, is_watched, only_check, plain_among, seat_of, valve_with, with_valve}
 use Rattle.health_planning.specs.declared.seats.Seat.{Seat}
 
 -- some valves feed one
@@ -43,26 +43,16 @@ check_trigger reports id check = record {
   own = check_own check (passing reports id);
 }
 
-abbrev pub check_triggers : List Report → List (ℕ × Check) → List Trigger
-check_triggers reports list =
-    map (λ (held : ℕ × Check). check_trigger reports held.0 held.1) list
-
 -- a valve for a check that may come
 abbrev pub spare_trigger : Trigger
 spare_trigger = record { need = 0; inverted = false; own = 0 }
 
--- There are 200 valves, the most that checks can have: the first ones as they were, and spare ones.
-pub record AreSpared (before after : List Trigger) : Type 0 where
-  pub kept : (n : ℕ) (trigger : Trigger) → slice_get before n ≡ Some trigger
-      → slice_get after n ≡ Some trigger
-  pub size : length after ≡ 200
-  pub spares : (n : ℕ) → length before ≤ n → n < 200 → slice_get after n ≡ Some spare_trigger
-
--- the valves of checks stand at their places
-abbrev pub AreTriggered : List Report → List (ℕ × Check) → List Trigger → Type 0
-AreTriggered reports list triggers = (place id : ℕ) (check : Check)
-    → slice_get list place ≡ Some (id, check)
-    → slice_get triggers place ≡ Some (check_trigger reports id check)
+-- the valves of checks stand at their numbers
+abbrev pub AreTriggered : List Report → List (ℕ × Check) → (numbers : List ℕ) → List Trigger
+    → Type 0
+AreTriggered reports list numbers triggers = (place valve id : ℕ) (check : Check)
+    → slice_get list place ≡ Some (id, check) → slice_get numbers place ≡ Some valve
+    → slice_get triggers valve ≡ Some (check_trigger reports id check)
 
 -- few are counted at a valve from outside
 abbrev pub IsSmallAt : List Trigger → (valve : ℕ) → Type 0
@@ -89,10 +79,11 @@ AreOfEndpoints list seen = (place : ℕ) (its : Seen) → slice_get seen place �
     × (children_of check ≡ [])))
 
 -- the links into the valves of checks, from one place on
-abbrev pub check_links : List ℕ → (place : ℕ) → List (ℕ × Check) → List Feeding
-check_links ids place [] = []
-check_links ids place (held ∷ list) =
-    links_to place (map (place_of ids) (children_of held.1)) ++ check_links ids (suc place) list
+abbrev pub check_links : (ids numbers : List ℕ) → (place : ℕ) → List (ℕ × Check) → List Feeding
+check_links ids numbers place [] = []
+check_links ids numbers place (held ∷ list) =
+    links_to (slice_index numbers place) (map (valve_with ids numbers) (children_of held.1))
+    ++ check_links ids numbers (suc place) list
 
 -- each child stands among the numbers
 abbrev pub AreThere : List ℕ → (children : List ℕ) → Type 0
@@ -253,29 +244,31 @@ HasTargetValve zones seats zone rtype (body.Alias name evaluate) target =
     × (target ≡ with_valve (group_seat seats slot) [])))))
 
 -- the valves of its check and of its target group feed that of a set
-abbrev pub FeedsSet : List Zone → (ids : List ℕ) → List Seat → (zone : ℕ) → RecordSet
+abbrev pub FeedsSet : List Zone → (ids numbers : List ℕ) → List Seat → (zone : ℕ) → RecordSet
     → (feeders : List ℕ) → Type 0
-FeedsSet zones ids seats zone set feeders = (target : List ℕ)
+FeedsSet zones ids numbers seats zone set feeders = (target : List ℕ)
     × (HasTargetValve zones seats zone set.rtype set.body target
-    × (feeders ≡ map (place_of ids) (option_to_list set.check) ++ target))
+    × (feeders ≡ map (valve_with ids numbers) (option_to_list set.check) ++ target))
 
 -- links for that came to others
-abbrev pub JoinsSet : List Zone → (ids : List ℕ) → List Seat → (zone : ℕ) → RecordSet
+abbrev pub JoinsSet : List Zone → (ids numbers : List ℕ) → List Seat → (zone : ℕ) → RecordSet
     → (valve : ℕ) → (before after : List Feeding) → Type 0
-JoinsSet zones ids seats zone set valve before after = (feeders : List ℕ)
-    × (FeedsSet zones ids seats zone set feeders × (after ≡ before ++ links_to valve feeders))
+JoinsSet zones ids numbers seats zone set valve before after = (feeders : List ℕ)
+    × (FeedsSet zones ids numbers seats zone set feeders × (after ≡ before ++ links_to valve feeders))
 
 -- ---- a blueprint that is done
 
 -- The valves of all checks and spare ones, 200 in all, then of the sets that something decides, then of
 -- target groups, each with what feeds it.
-pub record IsBuilt (zones : List Zone) (list : List (ℕ × Check)) (refs : List SetRef)
-    (seats : List Seat) (triggers : List Trigger) (links : List Feeding) : Type 0 where
-  pub children : (place id : ℕ) (check : Check) → slice_get list place ≡ Some (id, check)
-      → feeders_in links place ≡ map (place_of (ids_of list)) (children_of check)
-  pub spares : (place : ℕ) → length list ≤ place → place < 200
-      → slice_get triggers place ≡ Some spare_trigger
-  pub unfed : (place : ℕ) → length list ≤ place → place < 200 → feeders_in links place ≡ []
+pub record IsBuilt (zones : List Zone) (list : List (ℕ × Check)) (numbers : List ℕ)
+    (refs : List SetRef) (seats : List Seat) (triggers : List Trigger) (links : List Feeding)
+    : Type 0 where
+  pub children : (place valve id : ℕ) (check : Check) → slice_get list place ≡ Some (id, check)
+      → slice_get numbers place ≡ Some valve
+      → feeders_in links valve ≡ map (valve_with (ids_of list) numbers) (children_of check)
+  pub spares : (valve : ℕ) → IsSpare numbers valve
+      → slice_get triggers valve ≡ Some spare_trigger
+  pub unfed : (valve : ℕ) → IsSpare numbers valve → feeders_in links valve ≡ []
   pub sets : (k : ℕ) (ref : SetRef) → slice_get refs k ≡ Some ref
       → HasSetValve zones seats triggers ref (200 + k)
   pub only : (slot valve : ℕ) → seat_of seats slot ≡ suc valve
@@ -283,7 +276,7 @@ pub record IsBuilt (zones : List Zone) (list : List (ℕ × Check)) (refs : List
       × (ref.slot ≡ slot))
   pub fed : (k : ℕ) (ref : SetRef) (named : RecordSet) → slice_get refs k ≡ Some ref
       → RefersTo zones ref named
-      → FeedsSet zones (ids_of list) seats ref.zone named (feeders_in links (200 + k))
+      → FeedsSet zones (ids_of list) numbers seats ref.zone named (feeders_in links (200 + k))
   pub targets : (k : ℕ) (ref : SetRef) (named : RecordSet) (name : List (List ℕ))
       → slice_get refs k ≡ Some ref → RefersTo zones ref named → named.body ≡ body.Alias name true
       → HasTarget zones seats ref.zone name named.rtype

@@ -1,5 +1,5 @@
 -- Which valves stand for the checks, the sets and the groups of a configuration.
-use Rattle.std.specs.Prelude.{◌≡◌, ◌≤◌, ◌<◌, ◌+◌, ℕ, zero, suc, Bool, true, false, ◌||◌, if◌then◌else◌, nat_eq, List, [], ◌∷◌, ◌++◌, length, map, Option, None, Some, is_some, slice_get, slice_index_or, ◌⊎◌}
+use Rattle.std.specs.Prelude.{◌≡◌, ◌≤◌, ◌<◌, ◌+◌, ℕ, zero, suc, Bool, true, false, ◌||◌, if◌then◌else◌, nat_eq, List, [], ◌∷◌, ◌++◌, length, map, Option, None, Some, is_some, slice_get, slice_index, slice_index_or, ◌⊎◌}
 use Rattle.std.specs.Option.{option_to_list}
 use Rattle.check_model.specs.Checks.{Checks, children_of}
 use Rattle.check_model.specs.declared.checks.Check.{Check}
@@ -34,7 +34,7 @@ is_watched set = is_some set.check || evaluates set.body
 abbrev pub ids_of : List (ℕ × Check) → List ℕ
 ids_of list = map (λ (held : ℕ × Check). held.0) list
 
--- The valve of a check is its place among the checks.
+-- the place of a check among the checks
 abbrev pub place_of : List ℕ → (id : ℕ) → ℕ
 place_of [] id = 0
 place_of (other ∷ ids) id = if nat_eq id other then 0 else suc (place_of ids id)
@@ -53,6 +53,22 @@ StandsAt ids id (Some place) = slice_get ids place ≡ Some id
 abbrev pub StandApart : List ℕ → Type 0
 StandApart ids = (k n id : ℕ) → slice_get ids k ≡ Some id → slice_get ids n ≡ Some id → k ≡ n
 
+-- Each of so many checks has a valve of its own, one of the first 200. It is told by the number at
+-- the place of the check.
+pub record HaveValves (many : ℕ) (numbers : List ℕ) : Type 0 where
+  pub as_many : length numbers ≡ many
+  pub apart : StandApart numbers
+  pub early : (place valve : ℕ) → slice_get numbers place ≡ Some valve → valve < 200
+
+-- the valve of the check with this number
+abbrev pub valve_with : (ids numbers : List ℕ) → (id : ℕ) → ℕ
+valve_with ids numbers id = slice_index numbers (place_of ids id)
+
+-- it is this one, where there is a check with the number
+abbrev pub IsValveWith : (ids numbers : List ℕ) → (id : ℕ) → Option ℕ → Type 0
+IsValveWith ids numbers id None = (place : ℕ) → slice_get ids place ≡ Some id → ⊥
+IsValveWith ids numbers id (Some valve) = valve ≡ valve_with ids numbers id
+
 -- Ten of the fifty checkers open the valve of an endpoint, so many of its children that of a
 -- calculated check, and nothing is needed where it is disabled.
 abbrev pub check_need : Check → ℕ
@@ -63,11 +79,11 @@ abbrev pub is_inverted : Check → Bool
 is_inverted (Endpoint threshold inverted disabled) = inverted
 is_inverted (Calculated threshold inverted disabled children) = inverted
 
-abbrev pub check_condition : List ℕ → Check → Condition
-check_condition ids check = record {
+abbrev pub check_condition : (ids numbers : List ℕ) → Check → Condition
+check_condition ids numbers check = record {
   need = check_need check;
   inverted = is_inverted check;
-  feeders = map (place_of ids) (children_of check);
+  feeders = map (valve_with ids numbers) (children_of check);
 }
 
 -- the passing checkers are counted from outside
@@ -75,12 +91,12 @@ abbrev pub check_own : Check → (passing : ℕ → ℕ) → ℕ
 check_own (Endpoint threshold inverted disabled) passing = passing threshold
 check_own (Calculated threshold inverted disabled children) passing = 0
 
--- the valve at a place is that of a check
-pub record IsCheckValve (ids : List ℕ) (net : Net) (own : ℕ → ℕ) (reports : List Report)
-    (place id : ℕ) (check : Check) : Type 0 where
-  pub within : place < net.size
-  pub condition : net.condition place ≡ check_condition ids check
-  pub its_own : own place ≡ check_own check (passing reports id)
+-- the valve is that of a check
+pub record IsCheckValve (ids numbers : List ℕ) (net : Net) (own : ℕ → ℕ) (reports : List Report)
+    (valve id : ℕ) (check : Check) : Type 0 where
+  pub within : valve < net.size
+  pub condition : net.condition valve ≡ check_condition ids numbers check
+  pub its_own : own valve ≡ check_own check (passing reports id)
 
 -- ---- valves of sets and groups
 
@@ -182,54 +198,57 @@ IsTarget zones seats net own zone rtype (body.Alias name evaluate) target =
 abbrev pub set_condition : (feeders : List ℕ) → Condition
 set_condition feeders = record { need = length feeders; inverted = false; feeders = feeders }
 
-pub record IsSetValve (zones : List Zone) (ids : List ℕ) (seats : List Seat) (net : Net)
+pub record IsSetValve (zones : List Zone) (ids numbers : List ℕ) (seats : List Seat) (net : Net)
     (own : ℕ → ℕ) (zone : ℕ) (set : RecordSet) (valve : ℕ) : Type 0 where
   pub behind : 200 ≤ valve
   pub within : valve < net.size
   pub target : List ℕ
   pub its_target : IsTarget zones seats net own zone set.rtype set.body target
-  pub condition : net.condition valve ≡ set_condition (map (place_of ids) (option_to_list set.check) ++ target)
+  pub condition : net.condition valve ≡ set_condition (map (valve_with ids numbers) (option_to_list set.check) ++ target)
   pub its_own : own valve ≡ 0
 
 -- A set has a valve where something decides its health; its seat tells which check alone does.
-pub record IsSeated (zones : List Zone) (ids : List ℕ) (seats : List Seat) (net : Net)
+pub record IsSeated (zones : List Zone) (ids numbers : List ℕ) (seats : List Seat) (net : Net)
     (own : ℕ → ℕ) (zone : ℕ) (p : Slotted) : Type 0 where
   pub plain : is_watched p.set ≡ false → seat_of seats p.slot ≡ 0
   pub told : is_watched p.set ≡ true → check_seat seats p.slot ≡ only_check p.set
   pub valved : is_watched p.set ≡ true
       → (valve : ℕ) × (seat_of seats p.slot ≡ suc valve)
-      × IsSetValve zones ids seats net own zone p.set valve
+      × IsSetValve zones ids numbers seats net own zone p.set valve
 
 -- ---- all valves
 
 -- the valve of a node
-abbrev pub IsValveFor : List Zone → List (ℕ × Check) → List Seat → Net → (own : ℕ → ℕ)
-    → (valve : ℕ) → Node → Type 0
-IsValveFor zones checks seats net own valve (CheckNode id) =
-    (check : Check) × (slice_get checks valve ≡ Some (id, check))
-IsValveFor zones checks seats net own valve (SetNode zone set) =
+abbrev pub IsValveFor : List Zone → List (ℕ × Check) → (numbers : List ℕ) → List Seat → Net
+    → (own : ℕ → ℕ) → (valve : ℕ) → Node → Type 0
+IsValveFor zones checks numbers seats net own valve (CheckNode id) =
+    (place : ℕ) × ((check : Check) × ((slice_get checks place ≡ Some (id, check))
+    × (slice_get numbers place ≡ Some valve)))
+IsValveFor zones checks numbers seats net own valve (SetNode zone set) =
     (slot : ℕ) × (IsHere (placed_in zones zone) (record { slot = slot; set = set })
     × (seat_of seats slot ≡ suc valve))
-IsValveFor zones checks seats net own valve (GroupNode zone name rtype) =
+IsValveFor zones checks numbers seats net own valve (GroupNode zone name rtype) =
     (members : List Slotted) × (AreMembers zones zone name rtype members
     × IsGroupValve seats net own members valve)
 
--- The valve is spare: of no check yet. Nothing has to be counted at it, and nothing feeds it.
-abbrev pub IsSpare : (checks : ℕ) → (valve : ℕ) → Type 0
-IsSpare checks valve = (checks ≤ valve) × (valve < 200)
+-- The valve is spare: one of the first 200 that is of no check. Nothing has to be counted at it, and
+-- nothing feeds it.
+abbrev pub IsSpare : (numbers : List ℕ) → (valve : ℕ) → Type 0
+IsSpare numbers valve = (valve < 200) × ((place : ℕ) → slice_get numbers place ≡ Some valve → ⊥)
 
 abbrev pub spare_condition : Condition
 spare_condition = record { need = 0; inverted = false; feeders = [] }
 
 -- The valves are those of the configuration, and spare ones for more checks, and there are no others.
-pub record AreValvesOf (zones : List Zone) (checks : List (ℕ × Check)) (seats : List Seat) (net : Net)
-    (own : ℕ → ℕ) (reports : List Report) : Type 0 where
-  pub its_checks : (place id : ℕ) (check : Check) → slice_get checks place ≡ Some (id, check)
-      → IsCheckValve (ids_of checks) net own reports place id check
+pub record AreValvesOf (zones : List Zone) (checks : List (ℕ × Check)) (numbers : List ℕ)
+    (seats : List Seat) (net : Net) (own : ℕ → ℕ) (reports : List Report) : Type 0 where
+  pub its_checks : (place valve id : ℕ) (check : Check) → slice_get checks place ≡ Some (id, check)
+      → slice_get numbers place ≡ Some valve
+      → IsCheckValve (ids_of checks) numbers net own reports valve id check
   pub its_sets : (zone : ℕ) (p : Slotted) → IsHere (placed_in zones zone) p
-      → IsSeated zones (ids_of checks) seats net own zone p
-  pub its_nodes : (valve : ℕ) → valve < net.size → IsSpare (length checks) valve
-      ⊎ ((node : Node) × IsValveFor zones checks seats net own valve node)
-  pub spares : (valve : ℕ) → IsSpare (length checks) valve → net.condition valve ≡ spare_condition
+      → IsSeated zones (ids_of checks) numbers seats net own zone p
+  pub its_nodes : (valve : ℕ) → valve < net.size → IsSpare numbers valve
+      ⊎ ((node : Node) × IsValveFor zones checks numbers seats net own valve node)
+  pub spares : (valve : ℕ) → IsSpare numbers valve → net.condition valve ≡ spare_condition
   pub many : 200 ≤ net.size
   pub its_groups : (slot valve : ℕ) → group_seat seats slot ≡ suc valve → valve < net.size

@@ -11,24 +11,24 @@ ghost use Rattle.checker_state.specs.Standing.{Seen, nothing};
 ghost use Rattle.checker_state.specs.Standing.{StandsFor as HasSeen};
 ghost use Rattle.health_valves.specs.Blueprint.{KeepsRoom};
 ghost use Rattle.health_valves.specs.declared.blueprint.Trigger.{Trigger};
-ghost use Rattle.health_planning.specs.Building.{AreSeen, AreThere, check_links, check_trigger};
-ghost use Rattle.health_planning.specs.Building.{AreFree, AreGiven, AreOfEndpoints, AreSpared, IsFree};
-ghost use Rattle.health_planning.specs.Building.{TellSlot, check_triggers, links_to};
+ghost use Rattle.health_planning.specs.Building.{AreSeen, AreThere, AreTriggered, check_links};
+ghost use Rattle.health_planning.specs.Building.{AreFree, AreGiven, AreOfEndpoints, IsFree, check_trigger};
+ghost use Rattle.health_planning.specs.Building.{TellSlot, links_to, spare_trigger};
 ghost use Rattle.health_planning.specs.Later.{EachIsLater, IsLaterAt, Knows};
 ghost use Rattle.health_planning.specs.Building.{IsSeen};
 ghost use Rattle.health_planning.specs.Rooms.{children_among};
-ghost use Rattle.health_planning.specs.Wired.{StandApart, StandsAt, check_need, check_own, ids_of};
-ghost use Rattle.health_planning.specs.Wired.{is_inverted, place_of};
+ghost use Rattle.health_planning.specs.Wired.{HaveValves, IsSpare, StandApart, StandsAt, check_need};
+ghost use Rattle.health_planning.specs.Wired.{check_own, ids_of, is_inverted, valve_with};
 ghost use Rattle.health_model.specs.Statuses.{Report, passing};
 
-use crate::finding::{place_from, place_near, seen_at};
+use crate::finding::{number_at, place_from, seen_at, valve_with};
 use crate::seats::Seat;
 use checker_state::Checkers;
 use health_check::Check;
 use health_valves::{Blueprint, Feeding, Trigger};
 use policy_select::SetRef;
 
-/// The most checks. Their valves come first, and those of sets behind so many.
+/// The most checks. Their valves are among the first, so many, and those of sets come behind.
 pub const MOST_CHECKS: usize = 200;
 
 /// The numbers of checks.
@@ -95,34 +95,16 @@ fn trigger_of(check: &Check, seen: Option<Checkers>) -> Trigger
     }
 }
 
-/// The valves of checks, by what their checkers saw.
-pub fn add_checks(blueprint: &mut Blueprint, list: &[(u32, Check)], seen: &[Option<Checkers>])
-    requires empty { blueprint.old.triggers ≡ [] }
-    requires as_many { length seen.now ≡ length list.now }
-    requires room { length list.now ≤ blueprint.old.room }
-    ensures triggers { (reports : List Report) → AreSeen reports list.now seen.now
-        → blueprint.new.triggers ≡ check_triggers reports list.now }
-    ensures size { length blueprint.new.triggers ≡ length list.now }
-    ensures small { (n : ℕ) (trigger : Trigger) → slice_get blueprint.new.triggers n ≡ Some trigger
-        → trigger.own ≤ 255 }
-    ensures links { blueprint.new.links ≡ blueprint.old.links }
-    ensures kept { KeepsRoom blueprint.old blueprint.new }
-{
-    for (place, held) in list.iter().enumerate() {
-        let trigger = trigger_of(&held.1, seen_at(seen, place));
-        blueprint.push(trigger);
-    }
-}
-
-/// Spare valves behind those of the checks that there are, as many as checks can come.
+/// Spare valves, as many as there can be checks.
 pub fn add_spares(blueprint: &mut Blueprint)
-    requires few { length blueprint.old.triggers ≤ 200 }
-    requires room { 200 ≤ blueprint.old.room + length blueprint.old.triggers }
-    ensures spared { AreSpared blueprint.old.triggers blueprint.new.triggers }
+    requires empty { blueprint.old.triggers ≡ [] }
+    requires room { 200 ≤ blueprint.old.room }
+    ensures size { length blueprint.new.triggers ≡ 200 }
+    ensures spares { (n : ℕ) → n < 200 → slice_get blueprint.new.triggers n ≡ Some spare_trigger }
     ensures links { blueprint.new.links ≡ blueprint.old.links }
     ensures kept { KeepsRoom blueprint.old blueprint.new }
 {
-    for _place in blueprint.len()..MOST_CHECKS {
+    for _place in 0..MOST_CHECKS {
         blueprint.push(Trigger {
             need: 0,
             inverted: false,
@@ -131,40 +113,73 @@ pub fn add_spares(blueprint: &mut Blueprint)
     }
 }
 
+/// The valves of checks in place of spare ones, by what their checkers saw.
+pub fn put_checks(
+    blueprint: &mut Blueprint,
+    list: &[(u32, Check)],
+    numbers: &[u32],
+    seen: &[Option<Checkers>],
+)
+    requires size { length blueprint.old.triggers ≡ 200 }
+    requires as_many { length seen.now ≡ length list.now }
+    requires valves { HaveValves (length list.now) numbers.now }
+    ensures checks { (reports : List Report) → AreSeen reports list.now seen.now
+        → AreTriggered reports list.now numbers.now blueprint.new.triggers }
+    ensures spares { (valve : ℕ) → IsSpare numbers.now valve
+        → slice_get blueprint.new.triggers valve ≡ slice_get blueprint.old.triggers valve }
+    ensures small { ((n : ℕ) (trigger : Trigger) → slice_get blueprint.old.triggers n ≡ Some trigger
+        → trigger.own ≤ 255)
+        → (n : ℕ) (trigger : Trigger) → slice_get blueprint.new.triggers n ≡ Some trigger
+        → trigger.own ≤ 255 }
+    ensures size { length blueprint.new.triggers ≡ 200 }
+    ensures links { blueprint.new.links ≡ blueprint.old.links }
+    ensures kept { KeepsRoom blueprint.old blueprint.new }
+{
+    for (place, held) in list.iter().enumerate() {
+        let trigger = trigger_of(&held.1, seen_at(seen, place));
+        blueprint.put(number_at(numbers, place), trigger);
+    }
+}
+
 /// What feeds the valve of a calculated check: those of its children.
-fn join_children(blueprint: &mut Blueprint, ids: &[u32], children: &[u32], valve: u32)
+fn join_children(
+    blueprint: &mut Blueprint,
+    ids: &[u32],
+    numbers: &[u32],
+    children: &[u32],
+    valve: u32,
+)
     requires there { AreThere ids.now children.now }
     requires apart { StandApart ids.now }
-    requires few { length ids.now ≤ 200 }
+    requires as_many { length numbers.now ≡ length ids.now }
     requires room { length children.now ≤ blueprint.old.links_room }
     ensures triggers { blueprint.new.triggers ≡ blueprint.old.triggers }
     ensures links { blueprint.new.links
-        ≡ blueprint.old.links ++ links_to valve (map (place_of ids.now) children.now) }
+        ≡ blueprint.old.links
+        ++ links_to valve (map (valve_with ids.now numbers.now) children.now) }
     ensures kept { KeepsRoom blueprint.old blueprint.new }
     ensures room { blueprint.old.links_room ≡ blueprint.new.links_room + length children.now }
 {
     for child in children {
-        let Some(place) = place_near(ids, *child) else {
+        let Some(feeder) = valve_with(ids, numbers, *child) else {
             unreachable!();
         };
-        let link = Feeding {
-            feeder: place as u32,
-            fed: valve,
-        };
+        let link = Feeding { feeder, fed: valve };
         blueprint.feed(link);
     }
 }
 
 /// What feeds the valves of checks.
-pub fn join_checks(blueprint: &mut Blueprint, ids: &[u32], list: &[(u32, Check)])
+pub fn join_checks(blueprint: &mut Blueprint, ids: &[u32], numbers: &[u32], list: &[(u32, Check)])
     requires there { (place id : ℕ) (check : Check) → slice_get list.now place ≡ Some (id, check)
         → AreThere ids.now (children_of check) }
     requires apart { StandApart ids.now }
-    requires few { length list.now ≤ 200 }
-    requires few_ids { length ids.now ≤ 200 }
+    requires as_many { length numbers.now ≡ length ids.now }
+    requires all { length list.now ≤ length numbers.now }
     requires room { children_among list.now ≤ blueprint.old.links_room }
     ensures triggers { blueprint.new.triggers ≡ blueprint.old.triggers }
-    ensures links { blueprint.new.links ≡ blueprint.old.links ++ check_links ids.now 0 list.now }
+    ensures links { blueprint.new.links
+        ≡ blueprint.old.links ++ check_links ids.now numbers.now 0 list.now }
     ensures kept { KeepsRoom blueprint.old blueprint.new }
 {
     for (place, held) in list.iter().enumerate() {
@@ -172,7 +187,7 @@ pub fn join_checks(blueprint: &mut Blueprint, ids: &[u32], list: &[(u32, Check)]
             Check::Endpoint { .. } => {}
             Check::Calculated { children, .. } => {
                 let children = children.as_slice();
-                join_children(blueprint, ids, children, place as u32);
+                join_children(blueprint, ids, numbers, children, number_at(numbers, place));
             }
         }
     }

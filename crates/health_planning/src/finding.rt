@@ -1,7 +1,7 @@
-//! Where checks stand by their numbers, and what their checkers saw.
+//! Where checks stand by their numbers, their valves, and what their checkers saw.
 
-ghost use Rattle.std.specs.Prelude.{◌≡◌, ◌<◌, Some, length, slice_get, true};
-ghost use Rattle.health_planning.specs.Wired.{IsPlace, StandApart, StandsAt};
+ghost use Rattle.std.specs.Prelude.{◌≡◌, ◌<◌, Some, length, slice_get, slice_index, true};
+ghost use Rattle.health_planning.specs.Wired.{IsPlace, IsValveWith, StandApart, StandsAt};
 
 use checker_state::Checkers;
 
@@ -32,6 +32,26 @@ pub fn place_near(ids: &[u32], id: u32) -> Option<usize>
         return Some(place);
     }
     place_in(ids, id)
+}
+
+/// The valve of a check by its number.
+pub fn valve_with(ids: &[u32], numbers: &[u32], id: u32) -> Option<u32>
+    requires apart { StandApart ids.now }
+    requires as_many { length numbers.now ≡ length ids.now }
+    ensures { IsValveWith ids.now numbers.now id result }
+{
+    let Some(place) = place_near(ids, id) else {
+        return None;
+    };
+    Some(number_at(numbers, place))
+}
+
+/// The number at a place.
+pub fn number_at(numbers: &[u32], place: usize) -> u32
+    requires { place < length numbers.now }
+    ensures { result ≡ slice_index numbers.now place }
+{
+    numbers[place]
 }
 
 /// Where a number would stand, if none were missing between the first one and it.

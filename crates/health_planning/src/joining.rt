@@ -6,7 +6,8 @@ ghost use Rattle.std.specs.Option.{option_to_list};
 ghost use Rattle.health_valves.specs.Blueprint.{KeepsRoom, feeders_in};
 ghost use Rattle.health_planning.specs.Building.{AreWithin, FeedsSet, HasTargetValve, JoinsSet};
 ghost use Rattle.health_planning.specs.Building.{links_to};
-ghost use Rattle.health_planning.specs.Wired.{StandApart, check_seat, group_seat, only_check, place_of};
+ghost use Rattle.health_planning.specs.Wired.{HaveValves, StandApart, check_seat, group_seat};
+ghost use Rattle.health_planning.specs.Wired.{only_check, valve_with};
 ghost use Rattle.health_planning.specs.Wired.{with_valve};
 ghost use Rattle.record_set.specs.declared.sets.RecordSet.{RecordSet};
 ghost use Rattle.policy_select.specs.Zones.{placed_in};
@@ -16,7 +17,7 @@ ghost use Rattle.zone_model.specs.Walks.{HasNoTarget};
 ghost use Rattle.policy_select.specs.Looking.{RefersTo};
 
 use crate::building::MOST_CHECKS;
-use crate::finding::place_near;
+use crate::finding::valve_with;
 use crate::grouping::{check_at, join_seat, seat_at};
 use crate::seats::Seat;
 use health_valves::{Blueprint, Feeding};
@@ -61,28 +62,32 @@ fn check_of(zones: &Zones, set: SetRef) -> Option<u32>
 }
 
 /// The valve of a check feeds another, where there is a check.
-fn join_check(blueprint: &mut Blueprint, ids: &[u32], check: Option<u32>, valve: u32)
+fn join_check(
+    blueprint: &mut Blueprint,
+    ids: &[u32],
+    numbers: &[u32],
+    check: Option<u32>,
+    valve: u32,
+)
     requires there { (id : ℕ) → check ≡ Some id
         → (place : ℕ) × (slice_get ids.now place ≡ Some id) }
     requires apart { StandApart ids.now }
-    requires few { length ids.now ≤ 200 }
+    requires as_many { length numbers.now ≡ length ids.now }
     requires room { 1 ≤ blueprint.old.links_room }
     ensures triggers { blueprint.new.triggers ≡ blueprint.old.triggers }
     ensures links { blueprint.new.links
-        ≡ blueprint.old.links ++ links_to valve (map (place_of ids.now) (option_to_list check)) }
+        ≡ blueprint.old.links
+        ++ links_to valve (map (valve_with ids.now numbers.now) (option_to_list check)) }
     ensures kept { KeepsRoom blueprint.old blueprint.new }
     ensures few { blueprint.old.links_room ≤ blueprint.new.links_room + 1 }
 {
     let Some(id) = check else {
         return;
     };
-    let Some(place) = place_near(ids, id) else {
+    let Some(feeder) = valve_with(ids, numbers, id) else {
         unreachable!();
     };
-    blueprint.feed(Feeding {
-        feeder: place as u32,
-        fed: valve,
-    });
+    blueprint.feed(Feeding { feeder, fed: valve });
 }
 
 /// What feeds the valve of a set. Where a check alone decides it the set isn't read: its seat tells
@@ -91,6 +96,7 @@ fn join_set(
     zones: &Zones,
     set: SetRef,
     ids: &[u32],
+    numbers: &[u32],
     seats: &[Seat],
     valve: u32,
     blueprint: &mut Blueprint,
@@ -104,11 +110,11 @@ fn join_set(
     requires told { (named : RecordSet) → RefersTo zones.now.zones set named
         → check_seat seats.now set.slot ≡ only_check named }
     requires apart { StandApart ids.now }
-    requires few { length ids.now ≤ 200 }
+    requires as_many { length numbers.now ≡ length ids.now }
     requires room { 2 ≤ blueprint.old.links_room }
     ensures triggers { blueprint.new.triggers ≡ blueprint.old.triggers }
     ensures links { (named : RecordSet) → RefersTo zones.now.zones set named
-        → JoinsSet zones.now.zones ids.now seats.now set.zone named valve
+        → JoinsSet zones.now.zones ids.now numbers.now seats.now set.zone named valve
         blueprint.old.links blueprint.new.links }
     ensures kept { KeepsRoom blueprint.old blueprint.new }
     ensures few { blueprint.old.links_room ≤ blueprint.new.links_room + 2 }
@@ -116,11 +122,11 @@ fn join_set(
     zones.well_formed();
     let only = check_at(seats, set.slot);
     if only != 0 {
-        join_check(blueprint, ids, Some(only), valve);
+        join_check(blueprint, ids, numbers, Some(only), valve);
         return;
     }
     let target = target_seat(zones, set, seats);
-    join_check(blueprint, ids, check_of(zones, set), valve);
+    join_check(blueprint, ids, numbers, check_of(zones, set), valve);
     join_seat(target, valve, blueprint);
 }
 
@@ -129,6 +135,7 @@ pub fn join_sets(
     zones: &Zones,
     refs: &[SetRef],
     ids: &[u32],
+    numbers: &[u32],
     seats: &[Seat],
     blueprint: &mut Blueprint,
 )
@@ -142,7 +149,7 @@ pub fn join_sets(
     requires told { (k : ℕ) (set : SetRef) (named : RecordSet) → slice_get refs.now k ≡ Some set
         → RefersTo zones.now.zones set named → check_seat seats.now set.slot ≡ only_check named }
     requires apart { StandApart ids.now }
-    requires few { length ids.now ≤ 200 }
+    requires valves { HaveValves (length ids.now) numbers.now }
     requires few_sets { 200 + length refs.now ≤ 2 ^ 32 }
     requires room { 2 * length refs.now ≤ blueprint.old.links_room }
     ensures triggers { blueprint.new.triggers ≡ blueprint.old.triggers }
@@ -151,7 +158,7 @@ pub fn join_sets(
     ensures joined { (k : ℕ) (set : SetRef) (named : RecordSet)
         → slice_get refs.now k ≡ Some set → RefersTo zones.now.zones set named
         → feeders_in blueprint.old.links (200 + k) ≡ []
-        → FeedsSet zones.now.zones ids.now seats.now set.zone named
+        → FeedsSet zones.now.zones ids.now numbers.now seats.now set.zone named
         (feeders_in blueprint.new.links (200 + k)) }
     ensures others { (valve : ℕ)
         → (valve < 200) ⊎ (200 + length refs.now ≤ valve)
@@ -161,6 +168,14 @@ pub fn join_sets(
         → AreWithin blueprint.old.links n → AreWithin blueprint.new.links n }
 {
     for (k, set) in refs.iter().enumerate() {
-        join_set(zones, *set, ids, seats, (MOST_CHECKS + k) as u32, blueprint);
+        join_set(
+            zones,
+            *set,
+            ids,
+            numbers,
+            seats,
+            (MOST_CHECKS + k) as u32,
+            blueprint,
+        );
     }
 }

@@ -17,7 +17,7 @@ mod planning;
 mod seats;
 
 pub use building::{MOST_CHECKS, clear_seats, inverted_of, list_ids, list_seen, need_of};
-pub use finding::place_near;
+pub use finding::{number_at, place_in, place_near};
 pub use listing::{is_watched, only_check};
 pub use planning::plan_valves;
 pub use policy_select::{

@@ -7,11 +7,11 @@ ghost use Rattle.health_valves.specs.Walk.{PathsEnd};
 ghost use Rattle.health_planning.specs.Building.{AllListed, AreAsked, AreFree, AreGiven, AreNoted};
 ghost use Rattle.health_planning.specs.Building.{AreSeen, AreTriggered, IsBuilt, IsSmallAt};
 ghost use Rattle.health_planning.specs.Rooms.{HasBlueprintRoom};
-ghost use Rattle.health_planning.specs.Wired.{ids_of, watched_of};
+ghost use Rattle.health_planning.specs.Wired.{HaveValves, ids_of, watched_of};
 ghost use Rattle.health_model.specs.Sound.{IsSound};
 ghost use Rattle.health_model.specs.Statuses.{Report};
 
-use crate::building::{add_checks, add_spares, join_checks};
+use crate::building::{add_spares, join_checks, put_checks};
 use crate::grouping::group_all;
 use crate::joining::join_sets;
 use crate::listing::list_asked;
@@ -28,6 +28,7 @@ fn plan_all(
     zones: &Zones,
     checks: &CheckTable,
     ids: &[u32],
+    numbers: &[u32],
     seen: &[Option<Checkers>],
     whole: bool,
     known: &mut Vec<SetRef>,
@@ -38,13 +39,14 @@ fn plan_all(
 )
     requires sound { IsSound (watched_of zones.now.zones checks.now.checks) }
     requires ids { ids.now ≡ ids_of checks.now.checks.list }
+    requires valves { HaveValves (length checks.now.checks.list) numbers.now }
     requires as_many { length seen.now ≡ length checks.now.checks.list }
     requires no_refs { refs.old.items ≡ [] }
     requires no_seats { AreFree zones.now.slots seats.old.items }
     requires no_valves { blueprint.old.triggers ≡ [] }
     requires no_links { blueprint.old.links ≡ [] }
     requires room { HasBlueprintRoom blueprint.old refs.old known.old zones.now.slots }
-    ensures built { IsBuilt zones.now.zones checks.now.checks.list refs.new.items
+    ensures built { IsBuilt zones.now.zones checks.now.checks.list numbers.now refs.new.items
         seats.new.items blueprint.new.triggers blueprint.new.links }
     ensures all { AreAsked zones.now.zones whole known.old.items came.now
         → AllListed zones.now.zones refs.new.items }
@@ -52,8 +54,8 @@ fn plan_all(
     ensures noted { AreNoted known.new.items seats.new.items }
     ensures checks { (reports : List Report)
         → AreSeen reports checks.now.checks.list seen.now
-        → AreTriggered reports checks.now.checks.list blueprint.new.triggers }
-    ensures small { (valve : ℕ) → valve < length checks.now.checks.list
+        → AreTriggered reports checks.now.checks.list numbers.now blueprint.new.triggers }
+    ensures small { (valve : ℕ) → valve < 200
         → IsSmallAt blueprint.new.triggers valve }
     ensures few_valves { length blueprint.new.triggers ≤ zones.now.slots * 2 + 200 }
     ensures few_links { length blueprint.new.links ≤ zones.now.slots * 3 + 51200 }
@@ -61,13 +63,13 @@ fn plan_all(
     zones.well_formed();
     zones.slots_apart();
     let list = checks.as_slice();
-    add_checks(blueprint, list, seen);
     add_spares(blueprint);
-    join_checks(blueprint, ids, list);
+    put_checks(blueprint, list, numbers, seen);
+    join_checks(blueprint, ids, numbers, list);
     list_asked(zones, whole, known, came, refs, seats, blueprint);
     known.clear();
     group_all(zones, refs, seats, blueprint, known);
-    join_sets(zones, refs, ids, seats, blueprint);
+    join_sets(zones, refs, ids, numbers, seats, blueprint);
 }
 
 /// Plans the valves of a configuration, where none are planned, by what the checkers of its checks
@@ -78,6 +80,7 @@ pub fn plan_valves(
     zones: &Zones,
     checks: &CheckTable,
     ids: &[u32],
+    numbers: &[u32],
     seen: &[Option<Checkers>],
     whole: bool,
     known: &mut Vec<SetRef>,
@@ -88,13 +91,14 @@ pub fn plan_valves(
 )
     requires sound { IsSound (watched_of zones.now.zones checks.now.checks) }
     requires ids { ids.now ≡ ids_of checks.now.checks.list }
+    requires valves { HaveValves (length checks.now.checks.list) numbers.now }
     requires as_many { length seen.now ≡ length checks.now.checks.list }
     requires no_refs { refs.old.items ≡ [] }
     requires no_seats { AreFree zones.now.slots seats.old.items }
     requires no_valves { blueprint.old.triggers ≡ [] }
     requires no_links { blueprint.old.links ≡ [] }
     requires room { HasBlueprintRoom blueprint.old refs.old known.old zones.now.slots }
-    ensures built { IsBuilt zones.now.zones checks.now.checks.list refs.new.items
+    ensures built { IsBuilt zones.now.zones checks.now.checks.list numbers.now refs.new.items
         seats.new.items blueprint.new.triggers blueprint.new.links }
     ensures all { AreAsked zones.now.zones whole known.old.items came.now
         → AllListed zones.now.zones refs.new.items }
@@ -102,7 +106,7 @@ pub fn plan_valves(
     ensures noted { AreNoted known.new.items seats.new.items }
     ensures checks { (reports : List Report)
         → AreSeen reports checks.now.checks.list seen.now
-        → AreTriggered reports checks.now.checks.list blueprint.new.triggers }
+        → AreTriggered reports checks.now.checks.list numbers.now blueprint.new.triggers }
     ensures planned { IsDrawn blueprint.new }
     ensures ends { PathsEnd (Feeds (net_in blueprint.new)) 64 }
     ensures few_valves { length blueprint.new.triggers ≤ zones.now.slots * 2 + 200 }
@@ -113,6 +117,6 @@ pub fn plan_valves(
     paths_end();
     let list = checks.as_slice();
     plan_all(
-        zones, checks, ids, seen, whole, known, came, refs, seats, blueprint,
+        zones, checks, ids, numbers, seen, whole, known, came, refs, seats, blueprint,
     );
 }

@@ -1,8 +1,6 @@
 pub mod Counts
-pub mod Exchanging
 pub mod Marks
 pub mod Members
-pub mod Moved
 pub mod Needs
 pub mod Planning
 pub mod Runs

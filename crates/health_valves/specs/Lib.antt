@@ -2,6 +2,5 @@ pub mod Valves
 pub mod Laying
 pub mod Listed
 pub mod Pass
-pub mod Behind
 pub mod Blueprint
 pub mod Walk

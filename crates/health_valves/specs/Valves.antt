@@ -1,5 +1,5 @@
 -- Valves over valves: when each is open, and what feeds it.
-use Rattle.std.specs.Prelude.{◌≡◌, ◌≤◌, ◌<◌, ◌+◌, ◌-◌, ◌^◌, ◌==◌, ℕ, Bool, true, false, List, [], ◌∷◌, Option, Some, None, length, take, drop, slice_get, slice_index, slice_index_or, nat_le, map, if◌then◌else◌, Contains}
+use Rattle.std.specs.Prelude.{◌≡◌, ◌≤◌, ◌<◌, ◌+◌, ◌-◌, ◌^◌, ◌==◌, ℕ, Bool, true, false, List, [], ◌∷◌, Option, Some, None, length, take, drop, slice_get, slice_index, slice_index_or, nat_le, if◌then◌else◌, Contains}
 use Rattle.std.specs.Vec.{vec_capacity}
 use Rattle.calculated_health.specs.Status.{swapped_if}
 use Rattle.health_valves.specs.Walk.{PathsEnd}
@@ -111,20 +111,4 @@ abbrev pub with_need : (valve need : ℕ) → Bool → Net → Net
 with_need valve need inverted net = record {
   size = net.size;
   condition = λ n. if n == valve then record { need = need; inverted = inverted; feeders = (net.condition n).feeders } else net.condition n;
-}
-
--- two numbers side by side, each in place of the other
-abbrev pub beside : (valve : ℕ) → ℕ → ℕ
-beside valve n = if n == valve then valve + 1 else if n == valve + 1 then valve else n
-
--- the same condition where valves have other numbers
-abbrev pub renumbered : (ℕ → ℕ) → Condition → Condition
-renumbered number c =
-    record { need = c.need; inverted = c.inverted; feeders = map number c.feeders }
-
--- Two valves side by side have each the number of the other.
-abbrev pub exchanged : (valve : ℕ) → Net → Net
-exchanged valve net = record {
-  size = net.size;
-  condition = λ n. renumbered (beside valve) (net.condition (beside valve n));
 }

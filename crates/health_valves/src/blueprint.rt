@@ -1,6 +1,6 @@
 //! Valves before they are laid, one after another, each with what feeds it.
 
-ghost use Rattle.std.specs.Prelude.{◌≡◌, ◌≤◌, ◌+◌, ◌∷◌, ◌++◌, [], IsOk, OnOk, length};
+ghost use Rattle.std.specs.Prelude.{◌≡◌, ◌≤◌, ◌<◌, ◌+◌, ◌∷◌, ◌++◌, [], IsOk, OnOk, length, slice_set};
 ghost use Rattle.std.specs.List.Sorted.{IsNonDecreasingBy, IsPermutation};
 ghost use Rattle.health_valves.specs.declared.blueprint.Feeding.{Feeding};
 
@@ -97,6 +97,17 @@ impl Blueprint {
         ensures links_room { self.new.links_room ≡ self.old.links_room }
     {
         self.triggers.push_reserved(trigger);
+    }
+
+    /// Another trigger at a valve that there is.
+    pub fn put(&mut self, valve: u32, trigger: Trigger)
+        requires { valve < length self.old.triggers }
+        ensures triggers { self.new.triggers ≡ slice_set self.old.triggers valve trigger }
+        ensures links { self.new.links ≡ self.old.links }
+        ensures room { self.new.room ≡ self.old.room }
+        ensures links_room { self.new.links_room ≡ self.old.links_room }
+    {
+        self.triggers[valve as usize] = trigger;
     }
 
     /// One valve feeds another.

@@ -7,12 +7,11 @@ ghost use Rattle.std.specs.Prelude.{IsOk, OnOk};
 ghost use Rattle.std.specs.List.Sorted.{IsNonDecreasingBy, IsPermutation};
 ghost use Rattle.health_valves.specs.Laying.{HasRoomFor};
 ghost use Rattle.health_valves.specs.Blueprint.{IsDrawn, Drawn, net_in, no_blueprint, own_in};
-ghost use Rattle.health_valves.specs.Behind.{PutsBehind};
 ghost use Rattle.health_valves.specs.Walk.{PathsEnd};
 ghost use Rattle.health_valves.specs.declared.blueprint.Feeding.{Feeding};
 ghost use Rattle.health_valves.specs.Valves.{Feeds, ValvesStandFor, IsReady, MeetsEquation, Net, count};
 ghost use Rattle.health_valves.specs.Valves.{equation};
-ghost use Rattle.health_valves.specs.Valves.{beside, exchanged, size_of, value_in, value_of, with_need, with_own};
+ghost use Rattle.health_valves.specs.Valves.{size_of, value_in, value_of, with_need, with_own};
 ghost use Rattle.health_valves.specs.Pass.{CostsCone, HasCone, HasMarked, IsIdle, IsInOrder, MeetAll};
 ghost use Rattle.health_valves.specs.Pass.{MeetBehind, MeetOutside, FlipsOnly, waiting};
 
@@ -438,48 +437,6 @@ impl Valves {
         self.take_count(valve, count, &mut steps);
     }
 
-    /// One of the first valves gets the last number among these, and those behind it move up. Nothing feeds
-    /// that one or those. It takes no memory.
-    pub fn put_behind(&mut self, from: u32, many: u32)
-        requires ready { IsReady self.old }
-        requires idle { IsIdle self.old }
-        requires early { from < many }
-        requires many { many ≤ size_of self.old }
-        requires alone { (valve : ℕ) → from ≤ valve → valve < many → (net : Net) (own : ℕ → ℕ)
-            → ValvesStandFor net own self.old → (net.condition valve).feeders ≡ [] }
-        ensures puts { (net : Net) (own : ℕ → ℕ) → ValvesStandFor net own self.old
-            → PutsBehind from many net own self.old self.new }
-        ensures idle { IsIdle self.new }
-        ensures room { (n m : ℕ) → HasRoomFor self.old n m → HasRoomFor self.new n m }
-    {
-        for valve in from..many - 1 {
-            self.exchange(valve);
-        }
-    }
-
-    /// Two valves side by side, which nothing feeds, each get the number of the other. It takes no memory.
-    fn exchange(&mut self, valve: u32)
-        requires ready { IsReady self.old }
-        requires idle { IsIdle self.old }
-        requires valve { valve + 1 < size_of self.old }
-        requires alone { (net : Net) (own : ℕ → ℕ) → ValvesStandFor net own self.old
-            → (net.condition valve).feeders ≡ [] }
-        requires next_alone { (net : Net) (own : ℕ → ℕ) → ValvesStandFor net own self.old
-            → (net.condition (valve + 1)).feeders ≡ [] }
-        ensures fits { (net : Net) (own : ℕ → ℕ) → ValvesStandFor net own self.old
-            → ValvesStandFor (exchanged valve net) (λ n. own (beside valve n)) self.new }
-        ensures idle { IsIdle self.new }
-        ensures meet { (net : Net) (own : ℕ → ℕ) → ValvesStandFor net own self.old
-            → MeetAll net own self.old
-            → MeetAll (exchanged valve net) (λ n. own (beside valve n)) self.new }
-        ensures room { (n m : ℕ) → HasRoomFor self.old n m → HasRoomFor self.new n m }
-    {
-        let first = valve as usize;
-        exchange_at(&mut self.rows, first);
-        exchange_at(&mut self.values, first);
-        exchange_at(&mut self.counts, first);
-    }
-
     /// Works out the cone of a valve, with a count of its own that nobody sees.
     fn settle_above<L: Ledger>(&mut self, valve: u32, blank: Blank)
         requires name { blank.name ≡ L.name }
@@ -497,14 +454,6 @@ impl Valves {
         let mut steps = Steps::<L>::new(blank);
         self.settle(&[valve], &mut steps);
     }
-}
-
-/// Two elements side by side change places.
-fn exchange_at<T: Copy>(list: &mut [T], first: usize)
-    requires { first + 1 < length list.old }
-    ensures { (n : ℕ) → slice_get list.new n ≡ slice_get list.old (beside first n) }
-{
-    list.swap(first, first + 1);
 }
 
 /// Whether a valve is open.

@@ -8,6 +8,6 @@ abbrev pub invariant-loop-place : goal.invariant-loop-place
 invariant-loop-place l = record {
   within : l.place ≤ length l.list;
   reshaped : (net : Net) (own : ℕ → ℕ) → ValvesStandFor net own l.fn.valves
-      → Reshapes l.list l.place net own l.fn.valves l.valves;
+      → Reshapes l.list l.numbers l.place net own l.fn.valves l.valves;
   idle : IsIdle l.valves;
 }

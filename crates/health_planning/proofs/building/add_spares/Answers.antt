@@ -7,17 +7,13 @@ use Rattle.health_planning.proofs.Built.{last_there, still_there}
 use Rattle.health_planning.proofs.building.add_spares.Goals as goal
 
 pub loop-place-init : goal.loop-place-init
-loop-place-init c =
-    let from = c.len-place.ensures in
-    let few = c.requires.few in
-    record {
-      few = omega arith;
-      size = omega arith;
-      kept_on = λ n trigger at. at;
-      spares = λ n past early. absurd (omega arith);
-      links = refl;
-      kept = record { valves = refl; links = refl };
-    }
+loop-place-init c = record {
+  few = omega arith;
+  size = ap length c.requires.empty;
+  spares = λ n early. absurd (omega arith);
+  links = refl;
+  kept = record { valves = refl; links = refl };
+}
 
 pub push-requires : goal.push-requires
 push-requires c =
@@ -25,6 +21,7 @@ push-requires c =
     let size = i.size in
     let kept = i.kept.valves in
     let room = c.requires.room in
+    let none = ap length c.requires.empty in
     let early = c.loop-place-test.true in
     omega arith
 
@@ -38,9 +35,8 @@ loop-place-preserved c =
     record {
       few = omega (arith, c.loop-place-test.true);
       size = omega arith;
-      kept_on = λ n trigger at. rw more (still_there triggers spare_trigger trigger n (i.kept_on n trigger at));
-      spares = λ n past early. elim (cases_lt n c.loop-place._place) [
-        | inl before ↦ rw more (still_there triggers spare_trigger spare_trigger n (i.spares n past before))
+      spares = λ n early. elim (cases_lt n c.loop-place._place) [
+        | inl before ↦ rw more (still_there triggers spare_trigger spare_trigger n (i.spares n before))
         | inr behind ↦
             let last : length triggers ≡ n = omega arith in
             rw more (subst (λ (m : ℕ). slice_get (triggers ++ spare_trigger ∷ []) m ≡ Some spare_trigger) last (last_there triggers spare_trigger))
@@ -53,16 +49,4 @@ loop-place-preserved c =
           let links = i.kept.links in
           let same = ap length c.push.ensures.links in
           record { valves = omega arith; links = omega arith };
-    }
-
-pub returns-clause-spared : goal.returns-clause-spared
-returns-clause-spared c =
-    let i = c.loop-place.invariant in
-    let size = i.size in
-    let few = i.few in
-    let end = c.loop-place-test.false in
-    record {
-      kept = i.kept_on;
-      size = omega arith;
-      spares = λ n past early. i.spares n past (omega arith);
     }

@@ -9,6 +9,6 @@ invariant-loop-place l = record {
   triggers : l.blueprint.triggers ≡ l.fn.blueprint.triggers;
   kept : KeepsRoom l.fn.blueprint l.blueprint;
   room : children_among (drop l.place l.list) ≤ l.blueprint.links_room;
-  links : l.blueprint.links ++ check_links l.ids l.place (drop l.place l.list)
-      ≡ l.fn.blueprint.links ++ check_links l.ids 0 l.list;
+  links : l.blueprint.links ++ check_links l.ids l.numbers l.place (drop l.place l.list)
+      ≡ l.fn.blueprint.links ++ check_links l.ids l.numbers 0 l.list;
 }

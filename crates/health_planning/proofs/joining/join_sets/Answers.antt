@@ -30,6 +30,7 @@ pub loop-k-preserved : goal.loop-k-preserved
 loop-k-preserved c =
     let zones = c.args.zones.now.zones in
     let ids = c.args.ids.now in
+    let numbers = c.args.numbers.now in
     let seats = c.args.seats.now in
     let i = c.loop-k.invariant in
     let here = slice_get-get_or c.args.refs.now c.loop-k.k (record { zone = 0; slot = 0 }) c.loop-k-test.true in
@@ -52,7 +53,7 @@ loop-k-preserved c =
           omega arith;
       joined = λ k set named early at names none. elim (cases_lt k c.loop-k.k) [
         | inl past ↦
-            subst (FeedsSet zones ids seats set.zone named)
+            subst (FeedsSet zones ids numbers seats set.zone named)
             (sym (ap (λ (l : List Feeding). feeders_in l (200 + k)) joins.1.1 ∙ fed_beside before valve (200 + k) joins.0 (λ e. omega arith)))
             (i.joined k set named past at names none)
         | inr now ↦
@@ -61,8 +62,8 @@ loop-k-preserved c =
             let names_here = subst (λ (s : SetRef). RefersTo zones s named) (sym set_is) names in
             let its = c.join_set.ensures.links named names_here in
             let none_yet = i.others valve (inr (omega arith)) ∙ ap (λ (n : ℕ). feeders_in c.args.blueprint.now.links (200 + n)) (sym k_is) ∙ none in
-            subst (λ (s : SetRef). FeedsSet zones ids seats s.zone named (feeders_in c.join_set.new.blueprint.links (200 + k))) set_is
-            (subst (FeedsSet zones ids seats _ named)
+            subst (λ (s : SetRef). FeedsSet zones ids numbers seats s.zone named (feeders_in c.join_set.new.blueprint.links (200 + k))) set_is
+            (subst (FeedsSet zones ids numbers seats _ named)
             (sym (ap (λ (l : List Feeding). feeders_in l (200 + k)) its.1.1
             ∙ ap (λ (n : ℕ). feeders_in (before ++ links_to valve its.0) (200 + n)) k_is
             ∙ fed_here before valve its.0 none_yet)) its.1.0)
@@ -73,10 +74,9 @@ loop-k-preserved c =
           ∙ i.others g (elim apart [ inl low ↦ inl low | inr high ↦ inr (omega arith) ]);
       within = λ n fits groups start.
           let early = c.loop-k-test.true in
-          let few = c.requires.few in
           rw joins.1.1 (within_more before (links_to valve joins.0) n (i.within n fits groups start)
           (to_within valve n joins.0 (omega arith)
-          (set_within zones ids seats n (omega arith) groups _ one.0 joins.0 joins.1.0 (λ id is. c.requires.there _ one.0 id one.1 is))));
+          (set_within zones ids numbers c.requires.valves seats n (omega arith) groups _ one.0 joins.0 joins.1.0 (λ id is. c.requires.there _ one.0 id one.1 is))));
     }
 
 pub returns-clause-joined : goal.returns-clause-joined

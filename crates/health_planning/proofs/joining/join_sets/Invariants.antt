@@ -16,7 +16,7 @@ invariant-loop-k l = record {
   few : l.fn.blueprint.links_room ≤ l.blueprint.links_room + 2 * l.k;
   joined : (k : ℕ) (set : SetRef) (named : RecordSet) → k < l.k → slice_get l.refs k ≡ Some set
       → RefersTo l.zones.zones set named → feeders_in l.fn.blueprint.links (200 + k) ≡ []
-      → FeedsSet l.zones.zones l.ids l.seats set.zone named
+      → FeedsSet l.zones.zones l.ids l.numbers l.seats set.zone named
       (feeders_in l.blueprint.links (200 + k));
   others : (valve : ℕ) → (valve < 200) ⊎ (200 + l.k ≤ valve)
       → feeders_in l.blueprint.links valve ≡ feeders_in l.fn.blueprint.links valve;

@@ -3,15 +3,16 @@ use mathlib.Core.Path.{subst}
 use Rattle.health_valves.specs.declared.blueprint.Feeding.{Feeding}
 use Rattle.health_valves.specs.declared.blueprint.Trigger.{Trigger}
 use Rattle.policy_select.specs.SetRefRecord.{SetRef}
-use Rattle.health_planning.specs.Building.{AreAsked, HaveOwnValves, IsSmallAt, check_links, check_triggers, spare_trigger}
+use Rattle.health_planning.specs.Building.{AreAsked, HaveOwnValves, IsSmallAt, check_links, spare_trigger}
 use Rattle.health_planning.specs.Rooms.{children_among}
 use Rattle.health_planning.specs.Wired.{check_seat, only_check}
 use Rattle.health_planning.specs.declared.seats.Seat.{Seat}
 use Rattle.policy_select.proofs.Members.{one_named}
-use Rattle.health_planning.proofs.Built.{checks_there, children_placed, is_built, links_early, listed_below, none_listed, triggered_at, small_at, targets_there}
+use Rattle.health_planning.proofs.Built.{checks_there, children_placed, is_built, links_early, listed_below, none_listed, small_at, spares_small, targets_there}
 use Rattle.health_planning.proofs.Few.{check_links_long, children_few, few_grouped, few_listed}
 use Rattle.health_planning.proofs.Given.{all_given}
 use Rattle.health_planning.proofs.Grouped.{still_within}
+use Rattle.health_planning.proofs.Numbers.{ids_valves}
 use Rattle.health_planning.proofs.Places.{ids_apart}
 use Rattle.health_planning.proofs.Roomy.{joined_few, listed_apart}
 use Rattle.health_planning.proofs.Wiring.{ids_long}
@@ -32,48 +33,48 @@ join_sets-requires-clause-apart c =
 
 pub list_asked-requires-clause-listed : goal.list_asked-requires-clause-listed
 list_asked-requires-clause-listed c =
-    let size = c.add_spares.ensures.spared.size in
+    let size = c.put_checks.ensures.size in
     rw (c.requires.no_refs, c.join_checks.ensures.triggers) (
       200,
       none_listed c.args.zones.now.zones c.args.zones.now.slots c.args.seats.now.items c.requires.no_seats 200
-          c.add_spares.new.blueprint.triggers size,
+          c.put_checks.new.blueprint.triggers size,
     )
 
 pub group_all-requires-clause-below : goal.group_all-requires-clause-below
 group_all-requires-clause-below c =
     let list = c.args.checks.now.checks.list in
-    let size = c.add_spares.ensures.spared.size in
+    let size = c.put_checks.ensures.size in
     let start : HaveOwnValves c.args.zones.now.zones 200 c.args.refs.now.items c.args.seats.now.items c.join_checks.new.blueprint.triggers =
     rw (c.requires.no_refs, c.join_checks.ensures.triggers)
-    (none_listed c.args.zones.now.zones c.args.zones.now.slots c.args.seats.now.items c.requires.no_seats 200 c.add_spares.new.blueprint.triggers size) in
+    (none_listed c.args.zones.now.zones c.args.zones.now.slots c.args.seats.now.items c.requires.no_seats 200 c.put_checks.new.blueprint.triggers size) in
     listed_below c.args.zones.now.zones 200 c.list_asked.new.refs.items c.list_asked.new.seats.items c.list_asked.new.blueprint.triggers
     (c.list_asked.ensures.listed 200 start)
 
 pub group_all-requires-clause-none : goal.group_all-requires-clause-none
 group_all-requires-clause-none c =
     let list = c.args.checks.now.checks.list in
-    let size = c.add_spares.ensures.spared.size in
+    let size = c.put_checks.ensures.size in
     let start : HaveOwnValves c.args.zones.now.zones 200 c.args.refs.now.items c.args.seats.now.items c.join_checks.new.blueprint.triggers =
     rw (c.requires.no_refs, c.join_checks.ensures.triggers)
-    (none_listed c.args.zones.now.zones c.args.zones.now.slots c.args.seats.now.items c.requires.no_seats 200 c.add_spares.new.blueprint.triggers size) in
+    (none_listed c.args.zones.now.zones c.args.zones.now.slots c.args.seats.now.items c.requires.no_seats 200 c.put_checks.new.blueprint.triggers size) in
     (c.list_asked.ensures.listed 200 start).no_group
 
 pub group_all-requires-clause-within : goal.group_all-requires-clause-within
 group_all-requires-clause-within c =
     let checks = c.args.checks.now.checks in
     let list = checks.list in
-    let size = c.add_spares.ensures.spared.size in
+    let size = c.put_checks.ensures.size in
     let start : HaveOwnValves c.args.zones.now.zones 200 c.args.refs.now.items c.args.seats.now.items c.join_checks.new.blueprint.triggers =
     rw (c.requires.no_refs, c.join_checks.ensures.triggers)
-    (none_listed c.args.zones.now.zones c.args.zones.now.slots c.args.seats.now.items c.requires.no_seats 200 c.add_spares.new.blueprint.triggers size) in
+    (none_listed c.args.zones.now.zones c.args.zones.now.slots c.args.seats.now.items c.requires.no_seats 200 c.put_checks.new.blueprint.triggers size) in
     let listed = (c.list_asked.ensures.listed 200 start).size in
     let few = c.as_slice-list.ensures.sound.few in
-    let links : c.list_asked.new.blueprint.links ≡ check_links c.args.ids.now 0 c.as_slice-list.result.now =
+    let links : c.list_asked.new.blueprint.links ≡ check_links c.args.ids.now c.args.numbers.now 0 c.as_slice-list.result.now =
     c.list_asked.ensures.links ∙ c.join_checks.ensures.links
-    ∙ ap (λ (l : List Feeding). l ++ check_links c.args.ids.now 0 c.as_slice-list.result.now) (c.add_spares.ensures.links ∙ c.add_checks.ensures.links ∙ c.requires.no_links) in
+    ∙ ap (λ (l : List Feeding). l ++ check_links c.args.ids.now c.args.numbers.now 0 c.as_slice-list.result.now) (c.put_checks.ensures.links ∙ c.add_spares.ensures.links ∙ c.requires.no_links) in
     rw (links, c.requires.ids, c.as_slice-list.ensures.checks)
-    (still_within (check_links _ 0 list) (length list) (length c.list_asked.new.blueprint.triggers) (omega arith)
-    (links_early list (children_placed checks c.as_slice-list.ensures.sound)))
+    (still_within (check_links _ c.args.numbers.now 0 list) 200 (length c.list_asked.new.blueprint.triggers) (omega arith)
+    (links_early list c.args.numbers.now c.requires.valves (children_placed checks c.as_slice-list.ensures.sound)))
 
 pub group_all-requires-clause-targets : goal.group_all-requires-clause-targets
 group_all-requires-clause-targets c = targets_there c.args.zones.now.zones c.args.checks.now.checks c.requires.sound
@@ -85,10 +86,10 @@ pub group_all-requires-clause-told : goal.group_all-requires-clause-told
 group_all-requires-clause-told c k set named at names =
     let zones = c.args.zones.now.zones in
     let list = c.args.checks.now.checks.list in
-    let size = c.add_spares.ensures.spared.size in
+    let size = c.put_checks.ensures.size in
     let start : HaveOwnValves c.args.zones.now.zones 200 c.args.refs.now.items c.args.seats.now.items c.join_checks.new.blueprint.triggers =
     rw (c.requires.no_refs, c.join_checks.ensures.triggers)
-    (none_listed c.args.zones.now.zones c.args.zones.now.slots c.args.seats.now.items c.requires.no_seats 200 c.add_spares.new.blueprint.triggers size) in
+    (none_listed c.args.zones.now.zones c.args.zones.now.slots c.args.seats.now.items c.requires.no_seats 200 c.put_checks.new.blueprint.triggers size) in
     let g = (c.list_asked.ensures.listed 200 start).valves k set (rw c.deref-2.ensures.value at at) in
     g.told ∙ ap only_check (one_named zones set g.named named c.well_formed-2.ensures g.names names)
 
@@ -96,10 +97,10 @@ pub join_sets-requires-clause-told : goal.join_sets-requires-clause-told
 join_sets-requires-clause-told c k set named at names =
     let zones = c.args.zones.now.zones in
     let list = c.args.checks.now.checks.list in
-    let size = c.add_spares.ensures.spared.size in
+    let size = c.put_checks.ensures.size in
     let start : HaveOwnValves c.args.zones.now.zones 200 c.args.refs.now.items c.args.seats.now.items c.join_checks.new.blueprint.triggers =
     rw (c.requires.no_refs, c.join_checks.ensures.triggers)
-    (none_listed c.args.zones.now.zones c.args.zones.now.slots c.args.seats.now.items c.requires.no_seats 200 c.add_spares.new.blueprint.triggers size) in
+    (none_listed c.args.zones.now.zones c.args.zones.now.slots c.args.seats.now.items c.requires.no_seats 200 c.put_checks.new.blueprint.triggers size) in
     let g = (c.list_asked.ensures.listed 200 start).valves k set (rw c.deref-3.ensures.value at at) in
     ap (λ (l : List Seat). check_seat l set.slot) c.deref-4.ensures.value
     ∙ c.group_all.ensures.sets.checks set.slot
@@ -108,10 +109,10 @@ join_sets-requires-clause-told c k set named at names =
 pub join_sets-requires-clause-named : goal.join_sets-requires-clause-named
 join_sets-requires-clause-named c k set at =
     let list = c.args.checks.now.checks.list in
-    let size = c.add_spares.ensures.spared.size in
+    let size = c.put_checks.ensures.size in
     let start : HaveOwnValves c.args.zones.now.zones 200 c.args.refs.now.items c.args.seats.now.items c.join_checks.new.blueprint.triggers =
     rw (c.requires.no_refs, c.join_checks.ensures.triggers)
-    (none_listed c.args.zones.now.zones c.args.zones.now.slots c.args.seats.now.items c.requires.no_seats 200 c.add_spares.new.blueprint.triggers size) in
+    (none_listed c.args.zones.now.zones c.args.zones.now.slots c.args.seats.now.items c.requires.no_seats 200 c.put_checks.new.blueprint.triggers size) in
     let g = (c.list_asked.ensures.listed 200 start).valves k set (rw c.deref-3.ensures.value at at) in
     (g.named, g.names)
 
@@ -126,20 +127,19 @@ returns-clause-built c =
     let l = c.list_asked.ensures in
     let g = c.group_all.ensures in
     let j = c.join_sets.ensures in
-    let size = c.add_spares.ensures.spared.size in
+    let size = c.put_checks.ensures.size in
     let start : HaveOwnValves zones 200 c.args.refs.now.items c.args.seats.now.items c.join_checks.new.blueprint.triggers =
     rw (c.requires.no_refs, c.join_checks.ensures.triggers)
-    (none_listed zones c.args.zones.now.slots c.args.seats.now.items c.requires.no_seats 200 c.add_spares.new.blueprint.triggers size) in
-    let links : c.list_asked.new.blueprint.links ≡ check_links c.args.ids.now 0 c.as_slice-list.result.now =
+    (none_listed zones c.args.zones.now.slots c.args.seats.now.items c.requires.no_seats 200 c.put_checks.new.blueprint.triggers size) in
+    let links : c.list_asked.new.blueprint.links ≡ check_links c.args.ids.now c.args.numbers.now 0 c.as_slice-list.result.now =
     l.links ∙ c.join_checks.ensures.links
-    ∙ ap (λ (x : List Feeding). x ++ check_links c.args.ids.now 0 c.as_slice-list.result.now) (c.add_spares.ensures.links ∙ c.add_checks.ensures.links ∙ c.requires.no_links) in
-    rw j.triggers (is_built zones list c.list_asked.new.refs.items c.list_asked.new.seats.items c.group_all.new.seats.items
+    ∙ ap (λ (x : List Feeding). x ++ check_links c.args.ids.now c.args.numbers.now 0 c.as_slice-list.result.now) (c.put_checks.ensures.links ∙ c.add_spares.ensures.links ∙ c.requires.no_links) in
+    rw j.triggers (is_built zones list c.args.numbers.now c.requires.valves c.list_asked.new.refs.items c.list_asked.new.seats.items c.group_all.new.seats.items
     c.list_asked.new.blueprint.triggers c.group_all.new.blueprint.triggers c.list_asked.new.blueprint.links c.group_all.new.blueprint.links c.join_sets.new.blueprint.links
     (children_placed checks c.as_slice-list.ensures.sound)
-    (links ∙ ap (λ (x : List ℕ). check_links x 0 c.as_slice-list.result.now) c.requires.ids ∙ ap (check_links _ 0) c.as_slice-list.ensures.checks)
-    c.as_slice-list.ensures.sound.few
-    (λ place past early. l.triggers place spare_trigger (rw c.join_checks.ensures.triggers
-    (c.add_spares.ensures.spared.spares place (let many = c.add_checks.ensures.size ∙ ap length c.as_slice-list.ensures.checks in omega arith) early)))
+    (links ∙ ap (λ (x : List ℕ). check_links x c.args.numbers.now 0 c.as_slice-list.result.now) c.requires.ids ∙ ap (check_links _ c.args.numbers.now 0) c.as_slice-list.ensures.checks)
+    (λ valve is. l.triggers valve spare_trigger (rw c.join_checks.ensures.triggers
+    (c.put_checks.ensures.spares valve is ∙ c.add_spares.ensures.spares valve is.0)))
     (l.listed 200 start) g.grouped.grouped (rw c.deref-2.ensures.value at g.all) g.sets g.triggers g.feeders g.more g.within
     (rw (c.requires.ids, c.deref-3.ensures.value, c.deref-4.ensures.value) at j.joined)
     (rw c.deref-3.ensures.value at j.others)
@@ -147,7 +147,7 @@ returns-clause-built c =
 
 pub returns-clause-given : goal.returns-clause-given
 returns-clause-given c =
-    all_given c.args.zones.now.zones c.args.checks.now.checks.list c.list_asked.new.refs.items c.group_all.new.members.items c.group_all.new.seats.items
+    all_given c.args.zones.now.zones c.args.checks.now.checks.list c.args.numbers.now c.list_asked.new.refs.items c.group_all.new.members.items c.group_all.new.seats.items
     c.join_sets.new.blueprint.triggers c.join_sets.new.blueprint.links (returns-clause-built c) c.group_all.ensures.noted
 
 pub returns-clause-all : goal.returns-clause-all
@@ -164,51 +164,45 @@ group_all-requires-clause-members_room c =
     omega arith
 
 pub returns-clause-checks : goal.returns-clause-checks
-returns-clause-checks c reports are place id check at =
+returns-clause-checks c reports are place valve id check at numbered =
     let list = c.as_slice-list.ensures.checks in
-    let triggers = c.add_checks.ensures.triggers reports (rw list are) ∙ ap (check_triggers reports) list in
-    let first = triggered_at reports c.args.checks.now.checks.list c.add_checks.new.blueprint.triggers triggers place id check at in
+    let first = c.put_checks.ensures.checks reports (rw list are) place valve id check (rw list at) numbered in
     rw c.join_sets.ensures.triggers
-    (c.group_all.ensures.triggers place _ (c.list_asked.ensures.triggers place _
-    (rw c.join_checks.ensures.triggers (c.add_spares.ensures.spared.kept place _ first))))
+    (c.group_all.ensures.triggers valve _ (c.list_asked.ensures.triggers valve _
+    (rw c.join_checks.ensures.triggers first)))
 
 pub returns-clause-small : goal.returns-clause-small
 returns-clause-small c valve early =
-    let size = c.add_checks.ensures.size ∙ ap length c.as_slice-list.ensures.checks in
+    let size = c.put_checks.ensures.size in
     subst (λ (l : List Trigger). IsSmallAt l valve) (sym c.join_sets.ensures.triggers)
-    (small_at c.add_checks.new.blueprint.triggers c.list_asked.new.blueprint.triggers c.group_all.new.blueprint.triggers valve (omega arith)
-    c.add_checks.ensures.small
-    (λ n trigger at. c.list_asked.ensures.triggers n trigger (rw c.join_checks.ensures.triggers (c.add_spares.ensures.spared.kept n trigger at)))
+    (small_at c.put_checks.new.blueprint.triggers c.list_asked.new.blueprint.triggers c.group_all.new.blueprint.triggers valve (omega arith)
+    (c.put_checks.ensures.small (spares_small c.add_spares.new.blueprint.triggers c.add_spares.ensures.size c.add_spares.ensures.spares))
+    (λ n trigger at. c.list_asked.ensures.triggers n trigger (rw c.join_checks.ensures.triggers at))
     c.group_all.ensures.triggers)
-
-pub add_spares-requires-clause-few : goal.add_spares-requires-clause-few
-add_spares-requires-clause-few c =
-    let few = c.as_slice-list.ensures.sound.few in
-    let as_list = ap length c.as_slice-list.ensures.checks in
-    let added = c.add_checks.ensures.size in
-    omega arith
 
 pub add_spares-requires-clause-room : goal.add_spares-requires-clause-room
 add_spares-requires-clause-room c =
     let valves_room = c.requires.room.valves in
-    let no_triggers = ap length c.requires.no_valves in
-    let added_valves = c.add_checks.ensures.kept.valves in
     omega arith
 
-pub add_checks-requires-clause-room : goal.add_checks-requires-clause-room
-add_checks-requires-clause-room c =
-    let checks = c.args.checks.now.checks in
-    let list = checks.list in
-    let sound = c.as_slice-list.ensures.sound in
-    let few = sound.few in
-    let as_list = ap length c.as_slice-list.ensures.checks in
-    let room = c.requires.room in
-    let few_slots = room.few in
-    let valves_room = room.valves in
-    let links_room = room.links in
-    let no_triggers = ap length c.requires.no_valves in
-    let no_links = ap length c.requires.no_links in
+pub put_checks-requires-clause-valves : goal.put_checks-requires-clause-valves
+put_checks-requires-clause-valves c = rw c.as_slice-list.ensures.checks c.requires.valves
+
+pub join_checks-requires-clause-as_many : goal.join_checks-requires-clause-as_many
+join_checks-requires-clause-as_many c =
+    let many = c.requires.valves.as_many in
+    let ids = ap length c.requires.ids ∙ ids_long c.args.checks.now.checks.list in
     omega arith
+
+pub join_checks-requires-clause-all : goal.join_checks-requires-clause-all
+join_checks-requires-clause-all c =
+    let many = c.requires.valves.as_many in
+    let list = ap length c.as_slice-list.ensures.checks in
+    omega arith
+
+pub join_sets-requires-clause-valves : goal.join_sets-requires-clause-valves
+join_sets-requires-clause-valves c =
+    rw c.requires.ids (ids_valves c.args.checks.now.checks.list c.args.numbers.now c.requires.valves)
 
 pub join_checks-requires-clause-room : goal.join_checks-requires-clause-room
 join_checks-requires-clause-room c =
@@ -227,11 +221,11 @@ join_checks-requires-clause-room c =
     let same_children = ap children_among c.as_slice-list.ensures.checks in
     let long_seats = c.requires.no_seats.size in
     let no_refs = ap length c.requires.no_refs in
-    let added = c.add_checks.ensures.size in
-    let added_valves = c.add_checks.ensures.kept.valves in
-    let added_links = c.add_checks.ensures.kept.links in
-    let added_same = ap length c.add_checks.ensures.links in
-    let spared = c.add_spares.ensures.spared.size in
+    let added = c.put_checks.ensures.size in
+    let added_valves = c.put_checks.ensures.kept.valves in
+    let added_links = c.put_checks.ensures.kept.links in
+    let added_same = ap length c.put_checks.ensures.links in
+    let spared = c.add_spares.ensures.size in
     let spared_valves = c.add_spares.ensures.kept.valves in
     let spared_links = c.add_spares.ensures.kept.links in
     let spared_same = ap length c.add_spares.ensures.links in
@@ -254,20 +248,20 @@ list_asked-requires-clause-room c =
     let same_children = ap children_among c.as_slice-list.ensures.checks in
     let long_seats = c.requires.no_seats.size in
     let no_refs = ap length c.requires.no_refs in
-    let added = c.add_checks.ensures.size in
-    let added_valves = c.add_checks.ensures.kept.valves in
-    let added_links = c.add_checks.ensures.kept.links in
-    let added_same = ap length c.add_checks.ensures.links in
-    let spared = c.add_spares.ensures.spared.size in
+    let added = c.put_checks.ensures.size in
+    let added_valves = c.put_checks.ensures.kept.valves in
+    let added_links = c.put_checks.ensures.kept.links in
+    let added_same = ap length c.put_checks.ensures.links in
+    let spared = c.add_spares.ensures.size in
     let spared_valves = c.add_spares.ensures.kept.valves in
     let spared_links = c.add_spares.ensures.kept.links in
     let spared_same = ap length c.add_spares.ensures.links in
     let joined_valves = c.join_checks.ensures.kept.valves in
     let joined_links = c.join_checks.ensures.kept.links in
     let joined_same = ap length c.join_checks.ensures.triggers in
-    let joined_more = ap length c.join_checks.ensures.links ∙ length-append c.add_spares.new.blueprint.links
-    (check_links c.args.ids.now 0 c.as_slice-list.result.now) in
-    let joined_long = check_links_long c.args.ids.now 0 c.as_slice-list.result.now in
+    let joined_more = ap length c.join_checks.ensures.links ∙ length-append c.put_checks.new.blueprint.links
+    (check_links c.args.ids.now c.args.numbers.now 0 c.as_slice-list.result.now) in
+    let joined_long = check_links_long c.args.ids.now c.args.numbers.now 0 c.as_slice-list.result.now in
     let refs_room = room.refs_room in
     record { few = omega arith; refs_room = omega arith; valves = omega arith }
 
@@ -288,23 +282,23 @@ group_all-requires-clause-apart c =
     let same_children = ap children_among c.as_slice-list.ensures.checks in
     let long_seats = c.requires.no_seats.size in
     let no_refs = ap length c.requires.no_refs in
-    let added = c.add_checks.ensures.size in
-    let added_valves = c.add_checks.ensures.kept.valves in
-    let added_links = c.add_checks.ensures.kept.links in
-    let added_same = ap length c.add_checks.ensures.links in
-    let spared = c.add_spares.ensures.spared.size in
+    let added = c.put_checks.ensures.size in
+    let added_valves = c.put_checks.ensures.kept.valves in
+    let added_links = c.put_checks.ensures.kept.links in
+    let added_same = ap length c.put_checks.ensures.links in
+    let spared = c.add_spares.ensures.size in
     let spared_valves = c.add_spares.ensures.kept.valves in
     let spared_links = c.add_spares.ensures.kept.links in
     let spared_same = ap length c.add_spares.ensures.links in
     let joined_valves = c.join_checks.ensures.kept.valves in
     let joined_links = c.join_checks.ensures.kept.links in
     let joined_same = ap length c.join_checks.ensures.triggers in
-    let joined_more = ap length c.join_checks.ensures.links ∙ length-append c.add_spares.new.blueprint.links
-    (check_links c.args.ids.now 0 c.as_slice-list.result.now) in
-    let joined_long = check_links_long c.args.ids.now 0 c.as_slice-list.result.now in
+    let joined_more = ap length c.join_checks.ensures.links ∙ length-append c.put_checks.new.blueprint.links
+    (check_links c.args.ids.now c.args.numbers.now 0 c.as_slice-list.result.now) in
+    let joined_long = check_links_long c.args.ids.now c.args.numbers.now 0 c.as_slice-list.result.now in
     let start : HaveOwnValves c.args.zones.now.zones 200 c.args.refs.now.items c.args.seats.now.items c.join_checks.new.blueprint.triggers =
     rw (c.requires.no_refs, c.join_checks.ensures.triggers)
-    (none_listed c.args.zones.now.zones c.args.zones.now.slots c.args.seats.now.items c.requires.no_seats 200 c.add_spares.new.blueprint.triggers spared) in
+    (none_listed c.args.zones.now.zones c.args.zones.now.slots c.args.seats.now.items c.requires.no_seats 200 c.put_checks.new.blueprint.triggers added) in
     let is_listed = c.list_asked.ensures.listed 200 start in
     let listed_size = is_listed.size in
     let listed_few = few_listed c.args.zones.now.zones 200 c.list_asked.new.refs.items c.list_asked.new.seats.items c.list_asked.new.blueprint.triggers
@@ -332,23 +326,23 @@ group_all-requires-clause-few c =
     let same_children = ap children_among c.as_slice-list.ensures.checks in
     let long_seats = c.requires.no_seats.size in
     let no_refs = ap length c.requires.no_refs in
-    let added = c.add_checks.ensures.size in
-    let added_valves = c.add_checks.ensures.kept.valves in
-    let added_links = c.add_checks.ensures.kept.links in
-    let added_same = ap length c.add_checks.ensures.links in
-    let spared = c.add_spares.ensures.spared.size in
+    let added = c.put_checks.ensures.size in
+    let added_valves = c.put_checks.ensures.kept.valves in
+    let added_links = c.put_checks.ensures.kept.links in
+    let added_same = ap length c.put_checks.ensures.links in
+    let spared = c.add_spares.ensures.size in
     let spared_valves = c.add_spares.ensures.kept.valves in
     let spared_links = c.add_spares.ensures.kept.links in
     let spared_same = ap length c.add_spares.ensures.links in
     let joined_valves = c.join_checks.ensures.kept.valves in
     let joined_links = c.join_checks.ensures.kept.links in
     let joined_same = ap length c.join_checks.ensures.triggers in
-    let joined_more = ap length c.join_checks.ensures.links ∙ length-append c.add_spares.new.blueprint.links
-    (check_links c.args.ids.now 0 c.as_slice-list.result.now) in
-    let joined_long = check_links_long c.args.ids.now 0 c.as_slice-list.result.now in
+    let joined_more = ap length c.join_checks.ensures.links ∙ length-append c.put_checks.new.blueprint.links
+    (check_links c.args.ids.now c.args.numbers.now 0 c.as_slice-list.result.now) in
+    let joined_long = check_links_long c.args.ids.now c.args.numbers.now 0 c.as_slice-list.result.now in
     let start : HaveOwnValves c.args.zones.now.zones 200 c.args.refs.now.items c.args.seats.now.items c.join_checks.new.blueprint.triggers =
     rw (c.requires.no_refs, c.join_checks.ensures.triggers)
-    (none_listed c.args.zones.now.zones c.args.zones.now.slots c.args.seats.now.items c.requires.no_seats 200 c.add_spares.new.blueprint.triggers spared) in
+    (none_listed c.args.zones.now.zones c.args.zones.now.slots c.args.seats.now.items c.requires.no_seats 200 c.put_checks.new.blueprint.triggers added) in
     let is_listed = c.list_asked.ensures.listed 200 start in
     let listed_size = is_listed.size in
     let listed_few = few_listed c.args.zones.now.zones 200 c.list_asked.new.refs.items c.list_asked.new.seats.items c.list_asked.new.blueprint.triggers
@@ -376,23 +370,23 @@ group_all-requires-clause-room c =
     let same_children = ap children_among c.as_slice-list.ensures.checks in
     let long_seats = c.requires.no_seats.size in
     let no_refs = ap length c.requires.no_refs in
-    let added = c.add_checks.ensures.size in
-    let added_valves = c.add_checks.ensures.kept.valves in
-    let added_links = c.add_checks.ensures.kept.links in
-    let added_same = ap length c.add_checks.ensures.links in
-    let spared = c.add_spares.ensures.spared.size in
+    let added = c.put_checks.ensures.size in
+    let added_valves = c.put_checks.ensures.kept.valves in
+    let added_links = c.put_checks.ensures.kept.links in
+    let added_same = ap length c.put_checks.ensures.links in
+    let spared = c.add_spares.ensures.size in
     let spared_valves = c.add_spares.ensures.kept.valves in
     let spared_links = c.add_spares.ensures.kept.links in
     let spared_same = ap length c.add_spares.ensures.links in
     let joined_valves = c.join_checks.ensures.kept.valves in
     let joined_links = c.join_checks.ensures.kept.links in
     let joined_same = ap length c.join_checks.ensures.triggers in
-    let joined_more = ap length c.join_checks.ensures.links ∙ length-append c.add_spares.new.blueprint.links
-    (check_links c.args.ids.now 0 c.as_slice-list.result.now) in
-    let joined_long = check_links_long c.args.ids.now 0 c.as_slice-list.result.now in
+    let joined_more = ap length c.join_checks.ensures.links ∙ length-append c.put_checks.new.blueprint.links
+    (check_links c.args.ids.now c.args.numbers.now 0 c.as_slice-list.result.now) in
+    let joined_long = check_links_long c.args.ids.now c.args.numbers.now 0 c.as_slice-list.result.now in
     let start : HaveOwnValves c.args.zones.now.zones 200 c.args.refs.now.items c.args.seats.now.items c.join_checks.new.blueprint.triggers =
     rw (c.requires.no_refs, c.join_checks.ensures.triggers)
-    (none_listed c.args.zones.now.zones c.args.zones.now.slots c.args.seats.now.items c.requires.no_seats 200 c.add_spares.new.blueprint.triggers spared) in
+    (none_listed c.args.zones.now.zones c.args.zones.now.slots c.args.seats.now.items c.requires.no_seats 200 c.put_checks.new.blueprint.triggers added) in
     let is_listed = c.list_asked.ensures.listed 200 start in
     let listed_size = is_listed.size in
     let listed_few = few_listed c.args.zones.now.zones 200 c.list_asked.new.refs.items c.list_asked.new.seats.items c.list_asked.new.blueprint.triggers
@@ -420,23 +414,23 @@ group_all-requires-clause-links_room c =
     let same_children = ap children_among c.as_slice-list.ensures.checks in
     let long_seats = c.requires.no_seats.size in
     let no_refs = ap length c.requires.no_refs in
-    let added = c.add_checks.ensures.size in
-    let added_valves = c.add_checks.ensures.kept.valves in
-    let added_links = c.add_checks.ensures.kept.links in
-    let added_same = ap length c.add_checks.ensures.links in
-    let spared = c.add_spares.ensures.spared.size in
+    let added = c.put_checks.ensures.size in
+    let added_valves = c.put_checks.ensures.kept.valves in
+    let added_links = c.put_checks.ensures.kept.links in
+    let added_same = ap length c.put_checks.ensures.links in
+    let spared = c.add_spares.ensures.size in
     let spared_valves = c.add_spares.ensures.kept.valves in
     let spared_links = c.add_spares.ensures.kept.links in
     let spared_same = ap length c.add_spares.ensures.links in
     let joined_valves = c.join_checks.ensures.kept.valves in
     let joined_links = c.join_checks.ensures.kept.links in
     let joined_same = ap length c.join_checks.ensures.triggers in
-    let joined_more = ap length c.join_checks.ensures.links ∙ length-append c.add_spares.new.blueprint.links
-    (check_links c.args.ids.now 0 c.as_slice-list.result.now) in
-    let joined_long = check_links_long c.args.ids.now 0 c.as_slice-list.result.now in
+    let joined_more = ap length c.join_checks.ensures.links ∙ length-append c.put_checks.new.blueprint.links
+    (check_links c.args.ids.now c.args.numbers.now 0 c.as_slice-list.result.now) in
+    let joined_long = check_links_long c.args.ids.now c.args.numbers.now 0 c.as_slice-list.result.now in
     let start : HaveOwnValves c.args.zones.now.zones 200 c.args.refs.now.items c.args.seats.now.items c.join_checks.new.blueprint.triggers =
     rw (c.requires.no_refs, c.join_checks.ensures.triggers)
-    (none_listed c.args.zones.now.zones c.args.zones.now.slots c.args.seats.now.items c.requires.no_seats 200 c.add_spares.new.blueprint.triggers spared) in
+    (none_listed c.args.zones.now.zones c.args.zones.now.slots c.args.seats.now.items c.requires.no_seats 200 c.put_checks.new.blueprint.triggers added) in
     let is_listed = c.list_asked.ensures.listed 200 start in
     let listed_size = is_listed.size in
     let listed_few = few_listed c.args.zones.now.zones 200 c.list_asked.new.refs.items c.list_asked.new.seats.items c.list_asked.new.blueprint.triggers
@@ -464,23 +458,23 @@ join_sets-requires-clause-few_sets c =
     let same_children = ap children_among c.as_slice-list.ensures.checks in
     let long_seats = c.requires.no_seats.size in
     let no_refs = ap length c.requires.no_refs in
-    let added = c.add_checks.ensures.size in
-    let added_valves = c.add_checks.ensures.kept.valves in
-    let added_links = c.add_checks.ensures.kept.links in
-    let added_same = ap length c.add_checks.ensures.links in
-    let spared = c.add_spares.ensures.spared.size in
+    let added = c.put_checks.ensures.size in
+    let added_valves = c.put_checks.ensures.kept.valves in
+    let added_links = c.put_checks.ensures.kept.links in
+    let added_same = ap length c.put_checks.ensures.links in
+    let spared = c.add_spares.ensures.size in
     let spared_valves = c.add_spares.ensures.kept.valves in
     let spared_links = c.add_spares.ensures.kept.links in
     let spared_same = ap length c.add_spares.ensures.links in
     let joined_valves = c.join_checks.ensures.kept.valves in
     let joined_links = c.join_checks.ensures.kept.links in
     let joined_same = ap length c.join_checks.ensures.triggers in
-    let joined_more = ap length c.join_checks.ensures.links ∙ length-append c.add_spares.new.blueprint.links
-    (check_links c.args.ids.now 0 c.as_slice-list.result.now) in
-    let joined_long = check_links_long c.args.ids.now 0 c.as_slice-list.result.now in
+    let joined_more = ap length c.join_checks.ensures.links ∙ length-append c.put_checks.new.blueprint.links
+    (check_links c.args.ids.now c.args.numbers.now 0 c.as_slice-list.result.now) in
+    let joined_long = check_links_long c.args.ids.now c.args.numbers.now 0 c.as_slice-list.result.now in
     let start : HaveOwnValves c.args.zones.now.zones 200 c.args.refs.now.items c.args.seats.now.items c.join_checks.new.blueprint.triggers =
     rw (c.requires.no_refs, c.join_checks.ensures.triggers)
-    (none_listed c.args.zones.now.zones c.args.zones.now.slots c.args.seats.now.items c.requires.no_seats 200 c.add_spares.new.blueprint.triggers spared) in
+    (none_listed c.args.zones.now.zones c.args.zones.now.slots c.args.seats.now.items c.requires.no_seats 200 c.put_checks.new.blueprint.triggers added) in
     let is_listed = c.list_asked.ensures.listed 200 start in
     let listed_size = is_listed.size in
     let listed_few = few_listed c.args.zones.now.zones 200 c.list_asked.new.refs.items c.list_asked.new.seats.items c.list_asked.new.blueprint.triggers
@@ -510,23 +504,23 @@ join_sets-requires-clause-room c =
     let same_children = ap children_among c.as_slice-list.ensures.checks in
     let long_seats = c.requires.no_seats.size in
     let no_refs = ap length c.requires.no_refs in
-    let added = c.add_checks.ensures.size in
-    let added_valves = c.add_checks.ensures.kept.valves in
-    let added_links = c.add_checks.ensures.kept.links in
-    let added_same = ap length c.add_checks.ensures.links in
-    let spared = c.add_spares.ensures.spared.size in
+    let added = c.put_checks.ensures.size in
+    let added_valves = c.put_checks.ensures.kept.valves in
+    let added_links = c.put_checks.ensures.kept.links in
+    let added_same = ap length c.put_checks.ensures.links in
+    let spared = c.add_spares.ensures.size in
     let spared_valves = c.add_spares.ensures.kept.valves in
     let spared_links = c.add_spares.ensures.kept.links in
     let spared_same = ap length c.add_spares.ensures.links in
     let joined_valves = c.join_checks.ensures.kept.valves in
     let joined_links = c.join_checks.ensures.kept.links in
     let joined_same = ap length c.join_checks.ensures.triggers in
-    let joined_more = ap length c.join_checks.ensures.links ∙ length-append c.add_spares.new.blueprint.links
-    (check_links c.args.ids.now 0 c.as_slice-list.result.now) in
-    let joined_long = check_links_long c.args.ids.now 0 c.as_slice-list.result.now in
+    let joined_more = ap length c.join_checks.ensures.links ∙ length-append c.put_checks.new.blueprint.links
+    (check_links c.args.ids.now c.args.numbers.now 0 c.as_slice-list.result.now) in
+    let joined_long = check_links_long c.args.ids.now c.args.numbers.now 0 c.as_slice-list.result.now in
     let start : HaveOwnValves c.args.zones.now.zones 200 c.args.refs.now.items c.args.seats.now.items c.join_checks.new.blueprint.triggers =
     rw (c.requires.no_refs, c.join_checks.ensures.triggers)
-    (none_listed c.args.zones.now.zones c.args.zones.now.slots c.args.seats.now.items c.requires.no_seats 200 c.add_spares.new.blueprint.triggers spared) in
+    (none_listed c.args.zones.now.zones c.args.zones.now.slots c.args.seats.now.items c.requires.no_seats 200 c.put_checks.new.blueprint.triggers added) in
     let is_listed = c.list_asked.ensures.listed 200 start in
     let listed_size = is_listed.size in
     let listed_few = few_listed c.args.zones.now.zones 200 c.list_asked.new.refs.items c.list_asked.new.seats.items c.list_asked.new.blueprint.triggers
@@ -563,23 +557,23 @@ returns-clause-few_valves c =
     let same_children = ap children_among c.as_slice-list.ensures.checks in
     let long_seats = c.requires.no_seats.size in
     let no_refs = ap length c.requires.no_refs in
-    let added = c.add_checks.ensures.size in
-    let added_valves = c.add_checks.ensures.kept.valves in
-    let added_links = c.add_checks.ensures.kept.links in
-    let added_same = ap length c.add_checks.ensures.links in
-    let spared = c.add_spares.ensures.spared.size in
+    let added = c.put_checks.ensures.size in
+    let added_valves = c.put_checks.ensures.kept.valves in
+    let added_links = c.put_checks.ensures.kept.links in
+    let added_same = ap length c.put_checks.ensures.links in
+    let spared = c.add_spares.ensures.size in
     let spared_valves = c.add_spares.ensures.kept.valves in
     let spared_links = c.add_spares.ensures.kept.links in
     let spared_same = ap length c.add_spares.ensures.links in
     let joined_valves = c.join_checks.ensures.kept.valves in
     let joined_links = c.join_checks.ensures.kept.links in
     let joined_same = ap length c.join_checks.ensures.triggers in
-    let joined_more = ap length c.join_checks.ensures.links ∙ length-append c.add_spares.new.blueprint.links
-    (check_links c.args.ids.now 0 c.as_slice-list.result.now) in
-    let joined_long = check_links_long c.args.ids.now 0 c.as_slice-list.result.now in
+    let joined_more = ap length c.join_checks.ensures.links ∙ length-append c.put_checks.new.blueprint.links
+    (check_links c.args.ids.now c.args.numbers.now 0 c.as_slice-list.result.now) in
+    let joined_long = check_links_long c.args.ids.now c.args.numbers.now 0 c.as_slice-list.result.now in
     let start : HaveOwnValves c.args.zones.now.zones 200 c.args.refs.now.items c.args.seats.now.items c.join_checks.new.blueprint.triggers =
     rw (c.requires.no_refs, c.join_checks.ensures.triggers)
-    (none_listed c.args.zones.now.zones c.args.zones.now.slots c.args.seats.now.items c.requires.no_seats 200 c.add_spares.new.blueprint.triggers spared) in
+    (none_listed c.args.zones.now.zones c.args.zones.now.slots c.args.seats.now.items c.requires.no_seats 200 c.put_checks.new.blueprint.triggers added) in
     let is_listed = c.list_asked.ensures.listed 200 start in
     let listed_size = is_listed.size in
     let listed_few = few_listed c.args.zones.now.zones 200 c.list_asked.new.refs.items c.list_asked.new.seats.items c.list_asked.new.blueprint.triggers
@@ -616,23 +610,23 @@ returns-clause-few_links c =
     let same_children = ap children_among c.as_slice-list.ensures.checks in
     let long_seats = c.requires.no_seats.size in
     let no_refs = ap length c.requires.no_refs in
-    let added = c.add_checks.ensures.size in
-    let added_valves = c.add_checks.ensures.kept.valves in
-    let added_links = c.add_checks.ensures.kept.links in
-    let added_same = ap length c.add_checks.ensures.links in
-    let spared = c.add_spares.ensures.spared.size in
+    let added = c.put_checks.ensures.size in
+    let added_valves = c.put_checks.ensures.kept.valves in
+    let added_links = c.put_checks.ensures.kept.links in
+    let added_same = ap length c.put_checks.ensures.links in
+    let spared = c.add_spares.ensures.size in
     let spared_valves = c.add_spares.ensures.kept.valves in
     let spared_links = c.add_spares.ensures.kept.links in
     let spared_same = ap length c.add_spares.ensures.links in
     let joined_valves = c.join_checks.ensures.kept.valves in
     let joined_links = c.join_checks.ensures.kept.links in
     let joined_same = ap length c.join_checks.ensures.triggers in
-    let joined_more = ap length c.join_checks.ensures.links ∙ length-append c.add_spares.new.blueprint.links
-    (check_links c.args.ids.now 0 c.as_slice-list.result.now) in
-    let joined_long = check_links_long c.args.ids.now 0 c.as_slice-list.result.now in
+    let joined_more = ap length c.join_checks.ensures.links ∙ length-append c.put_checks.new.blueprint.links
+    (check_links c.args.ids.now c.args.numbers.now 0 c.as_slice-list.result.now) in
+    let joined_long = check_links_long c.args.ids.now c.args.numbers.now 0 c.as_slice-list.result.now in
     let start : HaveOwnValves c.args.zones.now.zones 200 c.args.refs.now.items c.args.seats.now.items c.join_checks.new.blueprint.triggers =
     rw (c.requires.no_refs, c.join_checks.ensures.triggers)
-    (none_listed c.args.zones.now.zones c.args.zones.now.slots c.args.seats.now.items c.requires.no_seats 200 c.add_spares.new.blueprint.triggers spared) in
+    (none_listed c.args.zones.now.zones c.args.zones.now.slots c.args.seats.now.items c.requires.no_seats 200 c.put_checks.new.blueprint.triggers added) in
     let is_listed = c.list_asked.ensures.listed 200 start in
     let listed_size = is_listed.size in
     let listed_few = few_listed c.args.zones.now.zones 200 c.list_asked.new.refs.items c.list_asked.new.seats.items c.list_asked.new.blueprint.triggers

@@ -31,6 +31,10 @@ pub follow-requires-clause-ids_room : goal.follow-requires-clause-ids_room
 follow-requires-clause-ids_room c =
     (subst (λ (i : Index). HasRoom i c.args.zones.now.slots) (sym c.self.view_is) c.requires.room).ids
 
+pub follow-requires-clause-numbers_room : goal.follow-requires-clause-numbers_room
+follow-requires-clause-numbers_room c =
+    (subst (λ (i : Index). HasRoom i c.args.zones.now.slots) (sym c.self.view_is) c.requires.room).numbers
+
 pub follow-requires-clause-seen_room : goal.follow-requires-clause-seen_room
 follow-requires-clause-seen_room c =
     (subst (λ (i : Index). HasRoom i c.args.zones.now.slots) (sym c.self.view_is) c.requires.room).seen

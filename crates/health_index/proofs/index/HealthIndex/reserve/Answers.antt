@@ -12,6 +12,7 @@ invariant_of-self c =
     let slots = c.room_for_slots-slots.ensures in
     still_whole _ _ (record {
       ids = now.ids;
+      numbers = c.room_for_numbers-numbers.ensures.numbers;
       seen = now.seen;
       seats = slots.seats;
       refs = slots.refs;
@@ -28,6 +29,7 @@ returns-clause-kept c n room =
     record {
       few = old.few;
       ids = omega (arith, old.ids, now.ids_kept);
+      numbers = omega (arith, old.numbers, c.room_for_numbers-numbers.ensures.kept);
       seen = omega (arith, old.seen, now.seen_kept);
       ids_before = omega (arith, old.ids_before, before.ids_kept);
       seen_before = omega (arith, old.seen_before, before.seen_kept);
@@ -45,6 +47,7 @@ returns-clause-stands c zones checks reports is =
     let slots = c.room_for_slots-slots.ensures in
     still_stands _ _ (record {
       ids = now.ids;
+      numbers = c.room_for_numbers-numbers.ensures.numbers;
       seen = now.seen;
       seats = slots.seats;
       refs = slots.refs;
@@ -58,5 +61,6 @@ returns-clause-ready c room =
     let old = subst (HasRoom _) (sym c.slots.ensures) known in
     c.each_ok.ensures.each (c.room_for_checks-now.ensures.ready old.ids old.seen)
     (c.room_for_checks-before.ensures.ready old.ids_before old.seen_before)
+    (c.room_for_numbers-numbers.ensures.ready old.numbers)
     (c.room_for_slots-slots.ensures.ready old.few old.seats old.refs old.members old.triggers
     old.links old.valves)

@@ -41,7 +41,7 @@ returns-in-Fewer-clause-in_place c told is open_to =
     let same = one_way c.args.self.now.ids c.args.checks.now.checks.list (way.Fewer c.in-Fewer.gone) told apart
     (λ other. subst (λ (w : Way). IsOpenTo w c.args.self.now) other open_to) fewer is in
     let ready = subst (λ (w : Way). IsOpenTo w c.args.self.now) (sym same) open_to in
-    let done = c.drop_check.ensures.ready ready.0 ready.1 in
+    let done = c.drop_check.ensures.ready ready in
     subst (λ (w : Way). (c.drop_check.result ≡ true)
     × Follows w c.args.checks.now.checks.list c.args.self.now c.drop_check.new.self) same (done, c.drop_check.ensures.follows done)
 
