@@ -61,7 +61,7 @@ IsWay ids list way.Other = (AreSame ids list → ⊥) × ((AreMore ids list → 
 
 -- ---- what checkers saw
 
--- checkers of the check at a place saw something, so it is of an endpoint
+-- the index has the checkers of the check at a place, so it is of an endpoint
 abbrev pub HasCheckers : List (Option Seen) → (place : ℕ) → Type 0
 HasCheckers seen place = slice_get seen place ≡ Some None → ⊥
 

@@ -113,7 +113,7 @@ pub fn way_of(ids: &[u32], list: &[(u32, Check)]) -> Way
     Way::Other
 }
 
-/// Whether checkers of the check at a place saw something, which those of an endpoint did.
+/// Whether there are checkers of the check at a place, which that of an endpoint has.
 pub fn has_checkers(seen: &[Option<Checkers>], place: usize) -> bool
     requires { place < length seen.now }
     ensures { IsTrue result ↔ HasCheckers seen.now place }

@@ -50,7 +50,7 @@ use std::sync::ledger::Ledger;
 pub struct HealthIndex {
     /// The numbers of the checks, which rise.
     ids: Vec<u32>,
-    /// Their valves. A check keeps its own while it is there.
+    /// Their valves. A check keeps its own where others come and go in place, until all are laid out anew.
     numbers: Vec<u32>,
     /// What the checkers of each endpoint saw.
     seen: Vec<Option<Checkers>>,
@@ -288,8 +288,8 @@ impl HealthIndex {
         }
     }
 
-    /// Takes a check that came behind those before: it gets a spare valve. The answer is whether there are
-    /// such; else the index stays as it is.
+    /// Takes a check that came behind those before: it gets a spare valve. The answer is whether the valves
+    /// of 200 checks are there, as they are once any are laid out; else the index stays as it is.
     fn add_check(&mut self, checks: &CheckTable) -> bool
         requires sound { AreSoundChecks checks.now.checks }
         requires endpoints { AreEndpoints checks.now.checks.list }
@@ -320,8 +320,8 @@ impl HealthIndex {
         true
     }
 
-    /// Gives up the check at a place, which went: its valve is spare. The answer is whether nothing feeds it,
-    /// as that of an endpoint; else the index stays as it is.
+    /// Gives up the check at a place, which went: its valve is spare. The answer is whether it was of an
+    /// endpoint, whose valve nothing feeds; else the index stays as it is.
     fn drop_check(&mut self, checks: &CheckTable, gone: usize) -> bool
         requires sound { AreSoundChecks checks.now.checks }
         requires endpoints { AreEndpoints checks.now.checks.list }

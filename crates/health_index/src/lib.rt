@@ -6,8 +6,8 @@
 //! The valves are planned (`health_planning`), and then laid out. After a command this is done anew,
 //! in room that was made before (`reserving`), but where no valve changes by the sets that went and
 //! came (`valve_leaving`): then all stays as it is. And where all checks are of endpoints, and keep their
-//! numbers, or one comes or goes (`following`): then the valves of checks change in place. Each check keeps
-//! its valve while it is there (`valve_numbers`).
+//! numbers, or one comes or goes (`following`): then the valves of checks change in place, and each other
+//! check keeps its own (`valve_numbers`); where all is laid out anew it may get another.
 #![tactic(auto)]
 
 mod finding;

@@ -28,10 +28,11 @@ pub fn has_number(numbers: &[u32], number: u32) -> bool
     }
 }
 
-/// A valve between two numbers that no check has, where there is one.
+/// The first valve from one number on and below another that no check has, where there is one.
 fn spare_between(numbers: &[u32], from: usize, to: usize) -> Option<u32>
     requires { to ≤ 200 }
-    ensures found { (valve : ℕ) → result ≡ Some valve → IsSpare numbers.now valve }
+    ensures found { (valve : ℕ) → result ≡ Some valve
+        → (from ≤ valve) × (valve < to) × IsSpare numbers.now valve }
     ensures none { result ≡ None → (valve : ℕ) → from ≤ valve → valve < to
         → (place : ℕ) × (slice_get numbers.now place ≡ Some valve) }
 {
@@ -43,17 +44,25 @@ fn spare_between(numbers: &[u32], from: usize, to: usize) -> Option<u32>
     None
 }
 
-/// A valve that no check has: the one behind as many as there are checks, where that is spare.
+/// A valve that no check has: the first one behind the last check's, else the first of all. Where
+/// checks came one after another the one behind the last check's mostly is spare.
 pub fn spare_number(numbers: &[u32]) -> u32
     requires { length numbers.now < 200 }
     ensures { IsSpare numbers.now result }
 {
-    let many = numbers.len();
-    if let Some(valve) = spare_between(numbers, many, MOST_CHECKS) {
+    if let Some(valve) = spare_between(numbers, behind_last(numbers), MOST_CHECKS) {
         return valve;
     }
-    let Some(valve) = spare_between(numbers, 0, many) else {
+    let Some(valve) = spare_between(numbers, 0, MOST_CHECKS) else {
         unreachable!();
     };
     valve
+}
+
+/// The number behind that of the last check's valve.
+fn behind_last(numbers: &[u32]) -> usize {
+    match numbers.last() {
+        Some(last) => (*last as usize).saturating_add(1),
+        None => 0,
+    }
 }

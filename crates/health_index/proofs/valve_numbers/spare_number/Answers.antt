@@ -1,6 +1,5 @@
-use Rattle.std.proofs.Common.{◌≡◌, ◌<◌, ◌≤◌, ℕ, List, length, arith, refl, ap, sym, ◌∙◌, inl, inr, Some}
+use Rattle.std.proofs.Common.{◌≡◌, ◌<◌, ℕ, List, length, arith, sym, ◌∙◌, Some}
 use Rattle.std.specs.Prelude.{slice_get}
-use Rattle.std.proofs.lemmas.Bool.{cases_lt}
 use Rattle.std.proofs.lemmas.Option.{slice_get_within}
 use Rattle.health_planning.proofs.Few.{no_more_than}
 use Rattle.health_index.proofs.valve_numbers.spare_number.Goals as goal
@@ -20,7 +19,5 @@ too_few numbers short all =
 
 pub unreachable-requires : goal.unreachable-requires
 unreachable-requires c =
-    too_few c.args.numbers.now c.requires (λ valve early. elim (cases_lt valve (length c.args.numbers.now)) [
-      | inl before ↦ c.spare_between-2.ensures.none c.in_default-spare_between.is valve (omega arith) before
-      | inr behind ↦ c.spare_between.ensures.none c.in_default.is valve behind early
-    ])
+    too_few c.args.numbers.now c.requires (λ valve early.
+    c.spare_between-2.ensures.none c.in_default-spare_between.is valve (omega arith) early)
