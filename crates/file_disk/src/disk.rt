@@ -19,12 +19,16 @@ const FOLDER: &str = ".";
 /// A file of the current folder as a disk. It tells nothing of its bytes, and is seen as its count of faults.
 ///
 /// The file is opened at the first call. One that isn't there reads as empty, and is made by the first write.
+/// How long it is, the system is asked once: nobody else writes to it, and its own writes tell what they make
+/// of that. Behind a write that failed the system is asked anew.
 #[derive(Drop)]
 pub struct FileDisk<'a, R: Files<File = File>> {
     files: &'a R,
     name: &'a str,
     file: Option<File>,
     is_named: bool,
+    /// How many octets the file has, where that is known.
+    length: Option<u64>,
     faults: u64,
 }
 
@@ -46,6 +50,7 @@ impl<'a, R: Files<File = File>> FileDisk<'a, R> {
             name,
             file: None,
             is_named: false,
+            length: None,
             faults: 0,
         }
     }
@@ -74,38 +79,55 @@ impl<'a, R: Files<File = File>> FileDisk<'a, R> {
         Ok(())
     }
 
+    /// How many octets the file has, none where it isn't there.
     fn measure(&mut self) -> io::Result<u64>
         ensures { self.new ≡ self.old }
     {
         self.open()?;
-        match &self.file {
-            Some(file) => Ok(file.metadata()?.len()),
-            None => Ok(0),
+        let Some(file) = &self.file else {
+            return Ok(0);
+        };
+        if let Some(length) = self.length {
+            return Ok(length);
         }
+        let length = file.metadata()?.len();
+        self.length = Some(length);
+        Ok(length)
     }
 
+    /// Reads, unless it would go past the end.
     fn read(&mut self, at: u64, into: &mut [u8]) -> io::Result<()>
         ensures { self.new ≡ self.old }
     {
+        if into.is_empty() && at > self.measure()? {
+            return Err(io::Error::from(ErrorKind::UnexpectedEof));
+        }
         self.open()?;
         match &self.file {
-            Some(file) => read_within(file, at, into),
-            None if at == 0 && into.is_empty() => Ok(()),
+            Some(file) => file.read_exact_at(into, at),
+            None if into.is_empty() => Ok(()),
             None => Err(io::Error::from(ErrorKind::UnexpectedEof)),
         }
     }
 
+    /// Writes, unless it would begin past the end.
     fn write(&mut self, at: u64, from: &[u8]) -> io::Result<()>
         ensures { self.new ≡ self.old }
     {
-        self.open()?;
-        if self.file.is_none() && at == 0 {
+        let length = self.measure()?;
+        if at > length {
+            return Err(io::Error::from(ErrorKind::InvalidInput));
+        }
+        if self.file.is_none() {
             self.file = opened(self.files, self.name, true)?;
         }
-        match &self.file {
-            Some(file) => write_within(file, at, from),
-            None => Err(io::Error::from(ErrorKind::InvalidInput)),
-        }
+        let Some(file) = &self.file else {
+            return Err(io::Error::from(ErrorKind::InvalidInput));
+        };
+        self.length = None;
+        file.write_all_at(from, at)?;
+        self.length = Some(length.max(at.saturating_add(from.len() as u64)));
+        Ok(())
     }
 
     /// The first sync keeps the name of the file too, which stands in its folder.
@@ -211,20 +233,4 @@ fn opened<R: Files<File = File>>(files: &R, name: &str, make: bool) -> io::Resul
         Err(error) if error.kind() == ErrorKind::NotFound && !make => Ok(None),
         Err(error) => Err(error),
     }
-}
-
-/// Reads, unless it would go past the end.
-fn read_within(file: &File, at: u64, into: &mut [u8]) -> io::Result<()> {
-    if into.is_empty() && at > file.metadata()?.len() {
-        return Err(io::Error::from(ErrorKind::UnexpectedEof));
-    }
-    file.read_exact_at(into, at)
-}
-
-/// Writes, unless it would begin past the end.
-fn write_within(file: &File, at: u64, from: &[u8]) -> io::Result<()> {
-    if at > file.metadata()?.len() {
-        return Err(io::Error::from(ErrorKind::InvalidInput));
-    }
-    file.write_all_at(from, at)
 }
