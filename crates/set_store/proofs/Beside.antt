@@ -1,6 +1,6 @@
 -- Two names right below one name are in the order of their first labels.
 use Rattle.std.proofs.Common.{◌≡◌, ◌≢◌, ℕ, zero, suc, ◌+◌, ◌<◌, ◌≤◌, List, [], ◌∷◌, ◌++◌, take, drop, length, get_or, min, ap, ◌∙◌, sym, refl, Bool, true, false, Option, None, Some, Less, Greater, arith, append_assoc, subst}
-use Rattle.std.specs.Prelude.{if◌then◌else◌, IfSome, not}
+use Rattle.std.specs.Prelude.{if◌then◌else◌, IfSome, IsTrue, ◌↔◌, not}
 use Rattle.std.specs.List.{AllByRecursion, flat_map}
 use Rattle.std.specs.declared.cmp.Ordering.{Ordering}
 use Rattle.std.specs.Cmp.Lexicographic.{slice_cmp}
@@ -69,6 +69,25 @@ same_first (x ∷ xs) = refl
 same_text : (n : ℕ) (xs : List ℕ) → n < 32 → take n (drop 1 (take 32 xs)) ≡ take n (drop 1 xs)
 same_text n [] lt = refl
 same_text n (x ∷ xs) lt = take_twice n 31 xs (omega (arith, lt))
+
+-- what stands within the first ones
+inside : (k n m : ℕ) (xs : List ℕ) → k + n ≤ m → take n (drop k (take m xs)) ≡ take n (drop k xs)
+inside zero n m xs le = take_twice n m xs (omega (arith, le))
+inside (suc k) n zero xs le = absurd (omega (arith, le))
+inside (suc k) n (suc m) [] le = refl
+inside (suc k) n (suc m) (x ∷ xs) le = inside k n m xs (omega (arith, le))
+
+pub told_within : (known first piece octets : List ℕ) (offset : ℕ) (found : Bool)
+    → first ≡ take 32 known → offset + length octets ≤ length first
+    → piece ≡ take (length octets) (drop offset first) → IsTrue found ↔ (piece ≡ octets)
+    → IsTrue found ↔ (take (length octets) (drop offset known) ≡ octets)
+told_within known first piece octets offset found there fits is told =
+    let long : length first ≡ min 32 (length known) = ap length there ∙ length-take 32 known in
+    let same : piece ≡ take (length octets) (drop offset known) =
+    is
+    ∙ (ap (λ (f : List ℕ). take (length octets) (drop offset f)) there
+    ∙ inside offset (length octets) 32 known (omega (arith, fits, long))) in
+    subst (λ (p : List ℕ). IsTrue found ↔ (p ≡ octets)) same told
 
 module _ (octets front : List ℕ) (name : List (List ℕ)) (more : List ℕ) (is : IsName name)
     (spelled : octets ≡ wire name ++ more) (there : front ≡ take 32 octets) (own : ℕ)

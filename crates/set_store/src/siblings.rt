@@ -3,7 +3,7 @@
 
 ghost use Rattle.std.specs.Prelude.{◌≡◌, ◌≤◌, ◌+◌, ℕ, List, drop, get_or, length, take};
 ghost use Rattle.std.specs.Prelude.{if◌then◌else◌};
-ghost use Rattle.std.specs.Prelude.{IfSome};
+ghost use Rattle.std.specs.Prelude.{IfSome, IsTrue, ◌↔◌};
 ghost use Rattle.std.specs.Cmp.Lexicographic.{slice_cmp};
 ghost use Rattle.std.specs.Ordering.{nat_cmp};
 ghost use Rattle.std.specs.declared.cmp.Ordering.TheVariants.{Greater, Less};
@@ -15,6 +15,7 @@ ghost use Rattle.set_search.specs.Stops.{bound_of};
 ghost use Rattle.set_store.specs.Index.{HoldsAt};
 ghost use Rattle.set_store.specs.Stored.{IsSpelling, Spells};
 
+use crate::heads::is_same;
 use crate::reads::{front_at, stands_at};
 use crate::slots::Slot;
 use crate::typed::type_under;
@@ -126,10 +127,40 @@ fn is_named_before(region: &Region, slots: &Vec<Slot>, slot: u32, name: &Name) -
     if size == 0 {
         return None;
     }
-    if !stands_at(region, slots, slot, own + 1, behind(octets, size + 1)) {
+    if !goes_on(
+        region,
+        slots,
+        slot,
+        front,
+        own + 1,
+        behind(octets, size + 1),
+    ) {
         return None;
     }
     label_before(part(front, 1, own), part(octets, 1, size))
+}
+
+/// Whether the octets of a slot's set, of which these are the first ones, go on with others from a
+/// place on.
+fn goes_on(
+    region: &Region,
+    slots: &Vec<Slot>,
+    slot: u32,
+    first: &[u8],
+    offset: usize,
+    octets: &[u8],
+) -> bool
+    requires there { (known : List ℕ) × HoldsAt region.now.held slots.now.items slot known }
+    requires first { (known : List ℕ) → HoldsAt region.now.held slots.now.items slot known
+        → first.now ≡ take 32 known }
+    requires near { offset ≤ 32 }
+    ensures { (known : List ℕ) → HoldsAt region.now.held slots.now.items slot known
+        → IsTrue result ↔ (take (length octets.now) (drop offset known) ≡ octets.now) }
+{
+    if offset + octets.len() <= first.len() {
+        return is_same(part(first, offset, octets.len()), octets);
+    }
+    stands_at(region, slots, slot, offset, octets)
 }
 
 /// The first octet, which in a name is how many octets the first label has.

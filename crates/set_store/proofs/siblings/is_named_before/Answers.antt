@@ -30,6 +30,6 @@ returns c octets set holds spells =
     c.if-own-eq0.false c.args.name.now c.octets-octets.result.now c.octets-octets.ensures.name
     c.octets-octets.ensures.spelled c.first_octet-size.result c.first_octet-size.ensures
     c.if-size-eq0.false c.behind.result.now c.part.result.now c.part-2.result.now c.behind.ensures
-    ((c.stands_at.ensures octets holds).0 (let f = c.if-not-stands_at.false in grind (arith, f)))
+    ((c.goes_on.ensures octets holds).0 (let f = c.if-not-goes_on.false in grind (arith, f)))
     c.part.ensures c.part-2.ensures (let f = c.if-own-ge32.false in omega (arith, f)) in
     told_of c.label_before.result _ _ same c.label_before.ensures
