@@ -14,7 +14,7 @@ use zone_changes::{SetSlots, hash_of};
 const NOTHING: u32 = 0xffff_ffff;
 
 /// How many entries in a row are tried.
-const TRIES: usize = 8;
+const TRIES: usize = 16;
 
 /// A flat table: an entry has eight bits of a hash and the place of the first set of that name.
 #[derive(Drop)]
@@ -59,14 +59,15 @@ impl Hints {
         None
     }
 
-    /// Makes the table larger where it is small for so many places. It stays as it is where there
-    /// is no memory.
+    /// Makes the table larger where so many places would leave less than a fifth of it free: by three
+    /// quarters more entries than places. It stays as it is where there is no memory.
     pub fn grow(&mut self, places: usize) {
         let size = self.entries.len();
-        if places <= size - size / 8 {
+        if places <= size - size / 5 {
             return;
         }
-        let more = places.saturating_add(places / 4).saturating_add(TRIES) - size;
+        let spare = places / 2 + places / 4;
+        let more = places.saturating_add(spare).saturating_add(TRIES) - size;
         if self.entries.reserve_exact(more).is_err() {
             return;
         }
@@ -126,10 +127,11 @@ impl Hints {
         self.moved / sets.max(1) > sets / 32
     }
 
-    /// Tells that the name of a zone came or went, and makes the table anew where these are many.
+    /// Tells that the name of a zone came or went, and makes the table anew where these are many: of
+    /// fewer than 1,024 zones each time, since all places behind such a name are wrong.
     pub fn refresh_names(&mut self, list: &[NamedZone]) {
         self.moved = self.moved.saturating_add(1);
-        if self.moved > list.len() / 64 {
+        if self.moved > list.len() / 1_024 {
             clear(&mut self.entries);
             fill_names(&mut self.entries, list);
             self.moved = 0;
