@@ -32,6 +32,8 @@ pub struct Apexes {
     list: Vec<NamedZone>,
     /// Where a name may stand.
     hints: Hints,
+    /// How many octets the longest name had that came.
+    most: usize,
     /// Whether a zone came for which there was no room.
     is_lost: bool,
 }
@@ -56,6 +58,7 @@ impl Apexes {
         Apexes {
             list: Vec::new(alloc),
             hints: Hints::new(Vec::new(alloc)),
+            most: 0,
             is_lost: false,
         }
     }
@@ -83,6 +86,7 @@ impl Apexes {
         if !put(&mut self.list, id, name) {
             self.is_lost = true;
         }
+        self.most = self.most.max(name.octets().len());
         self.hints.refresh_names(&self.list);
     }
 
@@ -98,13 +102,17 @@ impl Apexes {
     pub fn longest(&self, name: &Name) -> Option<u32>
         ensures { (list : List NamedZone) → self.now ≡ Some list → LongestName list name.now result }
     {
-        longest_in(&self.list, name, hint_of(&self.hints, &self.list, name))
+        longest_in(
+            &self.list,
+            name,
+            hint_of(&self.hints, &self.list, name, self.most),
+        )
     }
 }
 
-/// The place of the longest name at or above this one that a hint tells: it may be another place.
-/// Of one name alone it is known.
-fn hint_of(hints: &Hints, list: &[NamedZone], name: &Name) -> Option<usize> {
+/// The place of the longest name at or above this one that a hint tells, where none has more than so
+/// many octets: it may be another place. Of one name alone it is known.
+fn hint_of(hints: &Hints, list: &[NamedZone], name: &Name, most: usize) -> Option<usize> {
     if list.len() == 1 {
         return Some(0);
     }
@@ -112,14 +120,25 @@ fn hint_of(hints: &Hints, list: &[NamedZone], name: &Name) -> Option<usize> {
     let mut at = 0;
     while at < octets.len() {
         let rest = behind(octets, at);
-        if let Some(place) = hints.find(rest) {
-            if is_at(list, place, rest) {
-                return Some(place);
-            }
+        if let Some(place) = place_of_name(hints, list, rest, most) {
+            return Some(place);
         }
         at += octets[at] as usize + 1;
     }
     None
+}
+
+/// The place at which the name of these octets stands, where a hint tells it and none has more than
+/// so many octets.
+fn place_of_name(hints: &Hints, list: &[NamedZone], octets: &[u8], most: usize) -> Option<usize> {
+    if octets.len() > most {
+        return None;
+    }
+    let place = hints.find(octets)?;
+    if !is_at(list, place, octets) {
+        return None;
+    }
+    Some(place)
 }
 
 /// Whether the name of these octets stands at a place.
