@@ -177,7 +177,7 @@ fn is_with<S: SetList>(sets: &S, name: &Name, rtype: RType, member: usize, place
 
 /// The place behind the last set of a group, of which one stands at a place.
 ///
-/// Whether a set is of the group tells its name's octets, which is less than the order of two names.
+/// The set beside it is asked first: mostly its tag tells that there are no more.
 fn end_of<S: SetList>(sets: &S, name: &Name, rtype: RType, place: usize) -> usize
     requires rising { IsRising (S.sets sets.now) }
     requires member { IsSetOfGroupAt (S.sets sets.now) name.now rtype place }
@@ -266,7 +266,8 @@ fn past_between<S: SetList>(sets: &S, place: usize, near: usize, high: usize) ->
 }
 
 /// The place of a set of a group, and a place behind the group's last one, found in doubling steps
-/// from one that a set of the group has.
+/// from one that a set of the group has. Whether a set is of the group tells its name's octets, which is
+/// less than the order of two names.
 fn end_round<S: SetList>(
     sets: &S,
     name: &Name,
