@@ -11,6 +11,7 @@ ghost use Rattle.set_search.specs.Found.{Finds, FindsAt};
 ghost use Rattle.zone_rules.specs.Lent.{sets_lent};
 
 use crate::lent::{Lent, insert_at, replace_at, take_away};
+use crate::near::Near;
 use batch_limits::{Action, Change, ChangeRefusal};
 use dns_name::Name;
 use octets::OutOfMemory;
@@ -20,12 +21,12 @@ use zone_rules::set_at;
 
 /// Applies a change. Where it is refused, the sets may be thrown away.
 ///
-/// The hint is where its set may stand, and then where the next one does if it comes right behind.
+/// Its set may stand near that of the change before.
 pub fn apply<'a>(
     sets: &mut Vec<&'a RecordSet>,
     apex: &Name,
     change: &'a Change,
-    hint: &mut Option<usize>,
+    near: &mut Near,
 ) -> Result<(), ChangeRefusal>
     requires { IsRising (sets_lent sets.old.items) }
     ensures ok { OnOk result (
@@ -37,9 +38,9 @@ pub fn apply<'a>(
         return Err(ChangeRefusal::NotInZone);
     }
     match change.action {
-        Action::Create => create(sets, apex, change, hint),
-        Action::Delete => delete(sets, apex, change, hint),
-        Action::Upsert => upsert(sets, apex, change, hint),
+        Action::Create => create(sets, apex, change, near),
+        Action::Delete => delete(sets, apex, change, near),
+        Action::Upsert => upsert(sets, apex, change, near),
     }
 }
 
@@ -48,7 +49,7 @@ fn create<'a>(
     sets: &mut Vec<&'a RecordSet>,
     apex: &Name,
     change: &'a Change,
-    hint: &mut Option<usize>,
+    near: &mut Near,
 ) -> Result<(), ChangeRefusal>
     requires rising { IsRising (sets_lent sets.old.items) }
     requires inside { EndsWith change.now.set.name apex.now }
@@ -58,7 +59,7 @@ fn create<'a>(
     ensures err { IfErr result (λ why.
         Applies (sets_lent sets.old.items) apex.now change.now (Err why)) }
 {
-    let place = match find_set(sets, &change.set, hint) {
+    let place = match find_set(sets, &change.set, near) {
         Ok(_) => return Err(ChangeRefusal::AlreadyExists),
         Err(place) => place,
     };
@@ -73,7 +74,7 @@ fn delete<'a>(
     sets: &mut Vec<&'a RecordSet>,
     apex: &Name,
     change: &'a Change,
-    hint: &mut Option<usize>,
+    near: &mut Near,
 ) -> Result<(), ChangeRefusal>
     requires rising { IsRising (sets_lent sets.old.items) }
     requires inside { EndsWith change.now.set.name apex.now }
@@ -83,7 +84,7 @@ fn delete<'a>(
     ensures err { IfErr result (λ why.
         Applies (sets_lent sets.old.items) apex.now change.now (Err why)) }
 {
-    let place = match find_set(sets, &change.set, hint) {
+    let place = match find_set(sets, &change.set, near) {
         Ok(place) => place,
         Err(_) => return Err(ChangeRefusal::NotFound),
     };
@@ -102,7 +103,7 @@ fn upsert<'a>(
     sets: &mut Vec<&'a RecordSet>,
     apex: &Name,
     change: &'a Change,
-    hint: &mut Option<usize>,
+    near: &mut Near,
 ) -> Result<(), ChangeRefusal>
     requires rising { IsRising (sets_lent sets.old.items) }
     requires inside { EndsWith change.now.set.name apex.now }
@@ -112,7 +113,7 @@ fn upsert<'a>(
     ensures err { IfErr result (λ why.
         Applies (sets_lent sets.old.items) apex.now change.now (Err why)) }
 {
-    match find_set(sets, &change.set, hint) {
+    match find_set(sets, &change.set, near) {
         Ok(place) => {
             replace_at(sets, place, &change.set);
             Ok(())
@@ -124,13 +125,8 @@ fn upsert<'a>(
     }
 }
 
-/// The place of the set with the key of this one, or else that at which it would stand. Batches
-/// mostly name sets in zone order, so that the place behind is the next hint.
-fn find_set(
-    sets: &Vec<&RecordSet>,
-    given: &RecordSet,
-    hint: &mut Option<usize>,
-) -> Result<usize, usize>
+/// The place of the set with the key of this one, or else that at which it would stand.
+fn find_set(sets: &Vec<&RecordSet>, given: &RecordSet, near: &mut Near) -> Result<usize, usize>
     requires { IsRising (sets_lent sets.now.items) }
     ensures { Finds (sets_lent sets.now.items) (key_of given.now) result }
 {
@@ -139,17 +135,10 @@ fn find_set(
             sets: sets.as_slice(),
         },
         &given.key(),
-        *hint,
+        near.hint(),
     );
-    *hint = Some(behind(&found));
+    near.found(&found);
     found
-}
-
-/// The place behind one that was found.
-fn behind(found: &Result<usize, usize>) -> usize {
-    match found {
-        Ok(place) | Err(place) => place.wrapping_add(1),
-    }
 }
 
 /// Whether the set with the key of this one, which stands at the place, is equal to it.

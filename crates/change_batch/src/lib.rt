@@ -6,6 +6,7 @@
 
 mod applying;
 mod lent;
+mod near;
 mod preparing;
 mod whole;
 

@@ -6,6 +6,7 @@ ghost use Rattle.set_search.specs.Zones.{IsZone};
 ghost use Rattle.zone_rules.specs.Lent.{sets_lent};
 
 use crate::applying::apply;
+use crate::near::Near;
 use batch_limits::{BatchRefusal, Change};
 use dns_name::Name;
 use octets::OutOfMemory;
@@ -32,9 +33,9 @@ pub fn lend_after<'a>(
         Ok(lent) => lent,
         Err(OutOfMemory) => return Err(BatchRefusal::OutOfMemory),
     };
-    let mut hint = None;
+    let mut near = Near::new();
     for (i, change) in changes.iter().enumerate() {
-        match apply(&mut after, apex, change, &mut hint) {
+        match apply(&mut after, apex, change, &mut near) {
             Ok(()) => {}
             Err(why) => return Err(why.at(i)),
         }
