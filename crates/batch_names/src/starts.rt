@@ -14,15 +14,39 @@ use rdata::RType;
 use std::alloc::Global;
 use zone_table::Zones;
 
-/// Where the sets of a name begin, if the zone has any. The hint is where they may, and then where
-/// those of the next name may, since batches mostly name sets in zone order.
-fn start_of(zones: &Zones, zone: u32, name: &Name, near: &mut Option<usize>) -> Option<usize>
+/// How far apart places are at which one is no hint of the other: from there on halving a whole zone
+/// takes as many comparisons.
+const FAR: usize = 32;
+
+/// Where sets were found, and whether that tells where the next ones may stand. Batches mostly name
+/// sets in zone order.
+#[derive(Drop)]
+struct Near {
+    place: usize,
+    is_near: bool,
+}
+
+impl Near {
+    /// A place at which the next sets may stand, which may be wrong.
+    fn hint(&self) -> Option<usize> {
+        if self.is_near { Some(self.place) } else { None }
+    }
+
+    /// Sets were found at a place.
+    fn found(&mut self, place: usize) {
+        self.is_near = place.abs_diff(self.place) < FAR;
+        self.place = place;
+    }
+}
+
+/// Where the sets of a name begin, if the zone has any. They may stand near those of the name before.
+fn start_of(zones: &Zones, zone: u32, name: &Name, near: &mut Near) -> Option<usize>
     ensures { StartOrNone (sets_of (placed_in zones.now.zones zone)) name.now result }
 {
     zones.well_formed();
     // No type is lower, and a set without an identifier comes first.
-    let start = zones.group_near(zone, name, RType::A, *near).start;
-    *near = Some(start);
+    let start = zones.group_near(zone, name, RType::A, near.hint()).start;
+    near.found(start);
     if zones.has_name(zone, start, name) {
         return Some(start);
     }
@@ -40,7 +64,10 @@ fn each_start(
         changes.now starts.items) }
 {
     let mut starts = Vec::with_capacity(alloc, changes.len())?;
-    let mut near = None;
+    let mut near = Near {
+        place: 0,
+        is_near: false,
+    };
     for change in changes {
         if let Some(start) = start_of(zones, zone, &change.set.name, &mut near) {
             starts.push(start)?;
