@@ -1,14 +1,15 @@
--- The rules for groups and names see of a set its name, its type and its policy.
+-- The rules for groups and names see of a set its name, its type and its policy without a weight.
 use Rattle.std.proofs.Common.{◌≡◌, ℕ, ◌<◌, List, [], ◌∷◌, map, length, Bool, true, false, cond, set}
 use Rattle.std.proofs.Common.{zero, suc}
 use Rattle.std.proofs.Common.{Some, None, refl, sym, ap, ◌∙◌, subst, inl, inr, arith, ◌&&◌}
-use Rattle.std.specs.Prelude.{Option, slice_get, ◌==◌}
+use Rattle.std.specs.Prelude.{Option, slice_get, ◌==◌, ◌↔◌}
 use Rattle.std.specs.List.{filter}
 use Rattle.std.specs.Option.{option_map}
 use Rattle.std.proofs.lemmas.Option.{slice_get-map, slice_get_within}
 use Rattle.dns_name.specs.Order.{same_labels}
 use Rattle.record_set.specs.RTypeRecord.{RType}
 use Rattle.record_set.specs.RoutingRecord.{Routing}
+use Rattle.record_set.specs.RoutingRecord.TheVariants as routing
 use Rattle.record_set.specs.Types.{number_of}
 use Rattle.record_set.specs.declared.sets.RecordSet.{RecordSet}
 use Rattle.config_model.proofs.Among.{among_at, place_of}
@@ -16,13 +17,14 @@ use Rattle.config_model.specs.Zones.{AreOneGroup, group, is_of_group}
 use Rattle.change_batch.specs.Rules.{Rule, OnePolicy, CnameAlone, OwnPlace, GroupSize, Breaks, AreRivals}
 use Rattle.change_batch.specs.Rules.{BreaksAt, HasCname, HasCnameConflict, HasOtherType, MeetsAll}
 use Rattle.change_batch.specs.Rules.{NoneBreaksBefore, policy_of}
+use Rattle.batch_edits.specs.Replacing.{seen}
 
 some_one : {X : Type 0} (x y : X) → Some x ≡ Some y → x ≡ y
 some_one x y e = grind (arith, e)
 
 -- what the sets beside it see of a set
 abbrev pub face : RecordSet → List (List ℕ) × RType × Routing
-face set = (set.name, set.rtype, set.routing)
+face set = (set.name, set.rtype, seen set.routing)
 
 name_of : (set other : RecordSet) → face set ≡ face other → set.name ≡ other.name
 name_of set other e = ap (λ (f : List (List ℕ) × RType × Routing). f.0) e
@@ -30,8 +32,63 @@ name_of set other e = ap (λ (f : List (List ℕ) × RType × Routing). f.0) e
 type_of : (set other : RecordSet) → face set ≡ face other → set.rtype ≡ other.rtype
 type_of set other e = ap (λ (f : List (List ℕ) × RType × Routing). f.1) e
 
-routing_of : (set other : RecordSet) → face set ≡ face other → set.routing ≡ other.routing
+routing_of : (set other : RecordSet) → face set ≡ face other
+    → seen set.routing ≡ seen other.routing
 routing_of set other e = ap (λ (f : List (List ℕ) × RType × Routing). f.2) e
+
+-- ---- weights
+
+policy_seen : (r : Routing) → policy_of (seen r) ≡ policy_of r
+policy_seen routing.Simple = refl
+policy_seen (routing.Weighted ident weight) = refl
+policy_seen (routing.Failover ident role) = refl
+policy_seen (routing.Geolocation ident place) = refl
+policy_seen (routing.Latency ident region) = refl
+policy_seen (routing.Multivalue ident) = refl
+policy_seen (routing.Cidr ident collection location) = refl
+
+same_policy : (r s : Routing) → seen r ≡ seen s → policy_of r ≡ policy_of s
+same_policy r s e = sym (policy_seen r) ∙ ap policy_of e ∙ policy_seen s
+
+no_rival : (r : Routing) (ident : List ℕ) (weight : ℕ)
+    → AreRivals r (routing.Weighted ident weight) → ⊥
+no_rival routing.Simple ident weight h = h
+no_rival (routing.Weighted a b) ident weight h = h
+no_rival (routing.Failover a b) ident weight h = h
+no_rival (routing.Geolocation a b) ident weight h = h
+no_rival (routing.Latency a b) ident weight h = h
+no_rival (routing.Multivalue a) ident weight h = h
+no_rival (routing.Cidr a b c) ident weight h = h
+
+seen_first : (r s : Routing) → AreRivals r s ↔ AreRivals (seen r) s
+seen_first routing.Simple s = ((λ h. h), (λ h. h))
+seen_first (routing.Weighted a b) s = ((λ h. h), (λ h. h))
+seen_first (routing.Failover a b) s = ((λ h. h), (λ h. h))
+seen_first (routing.Geolocation a b) s = ((λ h. h), (λ h. h))
+seen_first (routing.Latency a b) s = ((λ h. h), (λ h. h))
+seen_first (routing.Multivalue a) s = ((λ h. h), (λ h. h))
+seen_first (routing.Cidr a b c) s = ((λ h. h), (λ h. h))
+
+seen_second : (r s : Routing) → AreRivals r s ↔ AreRivals r (seen s)
+seen_second r routing.Simple = ((λ h. h), (λ h. h))
+seen_second r (routing.Weighted a b) =
+    ((λ h. absurd (no_rival r a b h)), (λ h. absurd (no_rival r a 0 h)))
+seen_second r (routing.Failover a b) = ((λ h. h), (λ h. h))
+seen_second r (routing.Geolocation a b) = ((λ h. h), (λ h. h))
+seen_second r (routing.Latency a b) = ((λ h. h), (λ h. h))
+seen_second r (routing.Multivalue a) = ((λ h. h), (λ h. h))
+seen_second r (routing.Cidr a b c) = ((λ h. h), (λ h. h))
+
+rivals_too : (r s t u : Routing) → seen r ≡ seen t → seen s ≡ seen u → AreRivals r s
+    → AreRivals t u
+rivals_too r s t u e f rivals =
+    (seen_first t u).1
+    ((seen_second (seen t) u).1
+    (subst (λ x. AreRivals (seen t) x) f
+    (subst (λ x. AreRivals x (seen s)) e
+    ((seen_second (seen r) s).0 ((seen_first r s).0 rivals)))))
+
+-- ---- sets that show the same
 
 -- the set at the same place of a list that shows the same
 facing : (sets others : List RecordSet) → map face sets ≡ map face others → (i : ℕ)
@@ -135,9 +192,10 @@ module _ (sets others : List RecordSet) (same : map face sets ≡ map face other
               b.nearest k back.0 low high back.1
               (grouped other it.0 back.0 set back.2 (sym it.2) one);
           differs = λ e. b.differs
-              (ap policy_of (sym (routing_of before.0 b.set_before before.2))
+              (sym (same_policy before.0.routing b.set_before.routing
+              (routing_of before.0 b.set_before before.2))
               ∙ e
-              ∙ ap policy_of (routing_of it.0 set it.2));
+              ∙ same_policy it.0.routing set.routing (routing_of it.0 set it.2));
         },
       )
   breaks_too CnameAlone i set there b =
@@ -158,10 +216,8 @@ module _ (sets others : List RecordSet) (same : map face sets ≡ map face other
           other = other.0;
           there = other.1;
           one_group = grouped b.other set other.0 it.0 other.2 it.2 b.one_group;
-          one_place = subst (λ r. AreRivals r it.0.routing)
-              (sym (routing_of other.0 b.other other.2))
-              (subst (λ r. AreRivals b.other.routing r) (sym (routing_of it.0 set it.2))
-              b.one_place);
+          one_place = rivals_too b.other.routing set.routing other.0.routing it.0.routing
+              (sym (routing_of other.0 b.other other.2)) (sym (routing_of it.0 set it.2)) b.one_place;
         },
       )
   breaks_too GroupSize i set there b =

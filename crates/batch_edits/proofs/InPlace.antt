@@ -1,4 +1,4 @@
--- A set in the place of one of its key and its policy.
+-- A set in the place of one of its key and its policy, but for a weight.
 use Rattle.std.proofs.Common.{◌≡◌, ◌≢◌, ℕ, ◌+◌, suc, List, [], ◌∷◌, ◌++◌, map, take, drop, set}
 use Rattle.std.proofs.Common.{Some, Less, Equal, false, ◌<◌, ◌≤◌, refl, sym, ap, ◌∙◌, subst, inl, inr, arith}
 use Rattle.std.specs.Prelude.{◌⊎◌, slice_get}
@@ -25,7 +25,7 @@ use Rattle.change_batch.proofs.Edits.{replaced}
 use Rattle.change_batch.proofs.Lookups.{at_one, below_or_not, found}
 use Rattle.change_batch.proofs.Told.{put_in_place}
 use Rattle.batch_names.proofs.Members.{left_at, in_all}
-use Rattle.batch_edits.specs.Replacing.{Swaps}
+use Rattle.batch_edits.specs.Replacing.{Swaps, seen}
 use Rattle.batch_edits.proofs.Faces.{face, faces_stay}
 use Rattle.batch_edits.proofs.Missing.{missing_of_both, one_set}
 use Rattle.batch_edits.specs.declared.editing.Edit.{Edit}
@@ -101,7 +101,8 @@ swapped front back old new edit same_key rising still (inr (other, keys, sets)) 
 
 module _ (few : List RecordSet) (apex : List (List ℕ)) (change : Change) (old : RecordSet)
     (zone : IsZone few apex) (upsert : change.action ≡ action.Upsert) (there : IsAmong few old)
-    (same_key : key_of old ≡ key_of change.set) (routing : old.routing ≡ change.set.routing) where
+    (same_key : key_of old ≡ key_of change.set)
+    (routing : seen old.routing ≡ seen change.set.routing) where
   pub its_place : (i : ℕ) × (slice_get few i ≡ Some old)
   its_place = place_of few old there
 

@@ -18,7 +18,7 @@ use Rattle.config_model.proofs.Places.{rising_at}
 use Rattle.batch_edits.specs.Places.{AddsKey, AddsSet, IsNextPlace}
 use Rattle.config_model.specs.Differences.{AreMissing}
 use Rattle.std.proofs.lemmas.Option.{slice_get_within}
-use Rattle.std.proofs.lemmas.List.{append_assoc, append-nil, drop_all, take_all, take-append-drop}
+use Rattle.std.proofs.lemmas.List.{take_all}
 use Rattle.config_model.proofs.Lists.{take_more}
 use Rattle.batch_names.proofs.Members.{filled, left_at}
 use Rattle.change_batch.proofs.Lookups.{at_one}
@@ -91,14 +91,6 @@ module _ (others : List RecordSet) where
       missing_new sets new.1.0 set new.1.2 none,
     ),
   )
-
--- all are missing where none is among the others
-all_missing : (others sets : List RecordSet)
-    → ((set : RecordSet) → IsAmong sets set → IsAmong others set → ⊥)
-    → AreMissing sets others sets
-all_missing others [] none = refl
-all_missing others (set ∷ sets) none =
-    inr (none set (inl refl), (sets, refl, all_missing others sets (λ s there. none s (inr there))))
 
 -- what is missing of two lists, one after the other
 pub missing_of_both : (others sets more found also : List RecordSet) → AreMissing sets others found
@@ -278,40 +270,6 @@ pub found_all : (sets others : List RecordSet) (i place : ℕ) (found : List Rec
     → length sets ≤ i → FoundSo sets others i place found → AreMissing sets others found
 found_all sets others i place found past so_far =
     subst (λ s. AreMissing s others found) (take_all i sets past) so_far.missing
-
--- where no others are left, all sets that are left are missing
-pub found_rest : (sets others : List RecordSet) (i place : ℕ) (found more : List RecordSet)
-    → length others ≤ place → more ≡ found ++ drop i sets → FoundSo sets others i place found
-    → AreMissing sets others more
-found_rest sets others i place found more past are so_far =
-    subst (λ f. AreMissing sets others f) (sym are)
-    (subst (λ s. AreMissing s others (found ++ drop i sets)) (take-append-drop i sets)
-    (missing_of_both others (take i sets) (drop i sets) found (drop i sets) so_far.missing
-    (all_missing others (drop i sets) none)))
-  where
-    none : (set : RecordSet) → IsAmong (drop i sets) set → IsAmong others set → ⊥
-    none set left there =
-        let k = place_of others set there in
-        let within = slice_get_within others k.0 set k.1 in
-        let before : k.0 < place = omega (arith, within, past) in
-        not_below (key_of set) (key_of set) refl (so_far.passed k.0 set set before k.1 left)
-
--- ---- sets that are added one by one
-
-pub rest_more : (sets all found more : List RecordSet) (place : ℕ) (set : RecordSet)
-    → slice_get sets place ≡ Some set → more ≡ found ++ set ∷ [] → found ++ drop place sets ≡ all
-    → more ++ drop (place + 1) sets ≡ all
-rest_more sets all found more place set at are so_far =
-    ap (λ (f : List RecordSet). f ++ drop (place + 1) sets) are
-    ∙ append_assoc found (set ∷ []) (drop (place + 1) sets)
-    ∙ ap (λ (rest : List RecordSet). found ++ rest) (sym (left_at sets place set at))
-    ∙ so_far
-
-pub rest_none : (sets all found : List RecordSet) (place : ℕ) → length sets ≤ place
-    → found ++ drop place sets ≡ all → found ≡ all
-rest_none sets all found place past so_far =
-    sym (append-nil found)
-    ∙ ap (λ (rest : List RecordSet). found ++ rest) (sym (drop_all place sets past)) ∙ so_far
 
 -- keys of one set more
 pub keys_more : (sets : List RecordSet) (set : RecordSet)

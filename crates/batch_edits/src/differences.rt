@@ -1,6 +1,6 @@
 //! Sets that are in one list and not in another, both lent and in zone order.
 
-ghost use Rattle.std.specs.Prelude.{◌≡◌, ◌≤◌, ◌++◌, slice_get, length, drop, false, IfOk, OnOk};
+ghost use Rattle.std.specs.Prelude.{◌≡◌, ◌≤◌, slice_get, length, false, IfOk};
 ghost use Rattle.std.specs.Prelude.{IsTrue, ◌↔◌, Some};
 ghost use Rattle.change_batch.specs.LentSets.{sets_lent};
 ghost use Rattle.config_model.specs.Zones.{IsRising};
@@ -51,29 +51,9 @@ pub fn missing_sets(
     let mut found = Vec::with_capacity(alloc, most.min(sets.len()))?;
     let mut place = 0;
     for i in 0..count(sets) {
-        if place >= count(others) {
-            add_rest(alloc, sets, i, &mut found)?;
-            return Ok(found);
-        }
         place = add_set(alloc, others, place, set_at(sets, i), &mut found)?;
     }
     Ok(found)
-}
-
-/// Adds copies of the sets from a place on. None of them is looked for, since no others are left.
-fn add_rest(
-    alloc: Global,
-    sets: &[&RecordSet],
-    from: usize,
-    found: &mut Vec<RecordSet>,
-) -> Result<(), OutOfMemory>
-    ensures { OnOk result (
-        found.new.items ≡ found.old.items ++ drop from (sets_lent sets.now)) }
-{
-    for place in from..count(sets) {
-        found.push(set_at(sets, place).copy(alloc)?)?;
-    }
-    Ok(())
 }
 
 /// Adds the key of a set, where that is not among the others from a place on, and says where to

@@ -29,8 +29,9 @@ pub struct Edit {
 /// The edit that a batch makes of its zone, or the first refusal of the batch. What the scratch
 /// holds afterwards is left open.
 ///
-/// It reads the sets of the names that the batch names, and no others. Where the batch is one UPSERT
-/// of a set that is there with the same policy, it reads that set alone.
+/// It reads the sets of the names that the batch names. Where the batch is one UPSERT, it first reads
+/// the set of its key, or where that isn't there the next one behind the key, which may have another
+/// name; a set that is there with the same policy, or with another weight, is all that it reads.
 pub fn edit_of(
     alloc: Global,
     zones: &Zones,

@@ -1,9 +1,9 @@
-//! A batch that is one UPSERT of a set that is there, with the same policy.
+//! A batch that is one UPSERT of a set that is there, with the same policy or with another weight.
 //!
 //! Such a set breaks no rule that the zone meets, since the rules see of it no more than its name, its
-//! type and its policy. So no other set of its name is read.
+//! type and its policy without a weight. So no other set of its name is read.
 
-ghost use Rattle.std.specs.Prelude.{◌≡◌, ◌∷◌, [], ℕ, List, Ok, Err, IfOk, IfErr, IfSome};
+ghost use Rattle.std.specs.Prelude.{◌≡◌, ◌∷◌, [], ℕ, List, Ok, Err, IfOk, IfErr, IfSome, IsTrue};
 ghost use Rattle.std.specs.List.{AllByRecursion};
 ghost use Rattle.config_model.specs.Laws.{HasBoundedSet};
 ghost use Rattle.config_model.specs.Slotted.{sets_of};
@@ -11,7 +11,7 @@ ghost use Rattle.batch_names.specs.AllZones.{IsZoneId, placed_in};
 ghost use Rattle.batch_names.specs.Looking.{IsApex};
 ghost use Rattle.change_batch.specs.ChangeRecord.{Change};
 ghost use Rattle.batch_edits.specs.Edits.{EditsOrNot, MeetsRules};
-ghost use Rattle.batch_edits.specs.Replacing.{IsReplaced, Swaps};
+ghost use Rattle.batch_edits.specs.Replacing.{IsReplaced, Swaps, seen};
 
 use crate::editing::Edit;
 use crate::sameness::is_equal;
@@ -19,11 +19,11 @@ use batch_limits::{Action, Change, check_limits};
 use batch_names::{Scratch, SetKeys, Sets, Zones, keyed_set, names_decide, one_apex, sets_of_one};
 use change_batch::{Batch, BatchRefusal};
 use octets::OutOfMemory;
-use record_set::RecordSet;
+use record_set::{RecordSet, Routing};
 use std::alloc::Global;
 
-/// The edit of a batch that is one UPSERT of a set that is there with the same policy, or none where
-/// the batch is another.
+/// The edit of a batch that is one UPSERT of a set that is there with the same policy, but for a
+/// weight, or none where the batch is another.
 pub fn replacing_edit(
     alloc: Global,
     zones: &Zones,
@@ -63,7 +63,7 @@ pub fn replacing_edit(
 }
 
 /// The set of a zone that gives way to the only change's, where that is an UPSERT with the policy of
-/// the set. None where it isn't.
+/// the set, but for a weight. None where it isn't.
 fn replaced_set(
     alloc: Global,
     zones: &Zones,
@@ -83,10 +83,25 @@ fn replaced_set(
     let Some(set) = keyed_set(alloc, zones, zone, &change.set.key(), scratch)? else {
         return Ok(None);
     };
-    if !set.routing.is_same(&change.set.routing) {
+    if !are_seen_alike(&set.routing, &change.set.routing) {
         return Ok(None);
     }
     Ok(Some(set))
+}
+
+/// Whether two policies are the same but for a weight.
+fn are_seen_alike(policy: &Routing, other: &Routing) -> bool
+    ensures { IsTrue result → seen policy.now ≡ seen other.now }
+{
+    if policy.is_same(other) {
+        return true;
+    }
+    match (policy, other) {
+        (Routing::Weighted(ident, _), Routing::Weighted(other_ident, _)) => {
+            ident.is_same(other_ident)
+        }
+        _ => false,
+    }
 }
 
 /// The edit by which a set gives way to the only change's, or which changes nothing where the two are
