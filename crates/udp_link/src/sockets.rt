@@ -133,6 +133,8 @@ impl Sockets {
     }
 
     /// A query that is there.
+    // In its caller's place: what comes isn't handed on through memory.
+    #[inline(always)]
     fn query(&self, into: &mut [u8]) -> io::Result<Option<Arrival>>
         ensures within { IfOk result (λ found.
             IfSome found (λ a. octets_given a ≤ length into.old)) }
