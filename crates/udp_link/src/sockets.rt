@@ -16,6 +16,10 @@ use std::time::Duration;
 /// After so many queries in a row the report socket is looked at.
 const MAX_QUERIES: u32 = 64;
 
+/// After so many queries in a row the system isn't asked any more to tell of others, until none is
+/// there: where it tells of them, each reply that is sent has it look for who waits at the socket.
+const MANY_QUERIES: u32 = 16;
+
 /// How many milliseconds are waited for a datagram.
 const WAIT: u64 = 100;
 
@@ -37,6 +41,8 @@ pub(crate) struct Sockets {
     queries: u32,
     /// Whether the system told of reports, and the socket was not found empty since.
     is_reported: bool,
+    /// Whether the system tells of queries.
+    is_watched: bool,
 }
 
 impl Sockets {
@@ -62,6 +68,7 @@ impl Sockets {
             events,
             queries: 0,
             is_reported: false,
+            is_watched: true,
         })
     }
 
@@ -92,10 +99,32 @@ impl Sockets {
         }
         if let Some(arrival) = self.query(into)? {
             self.queries += 1;
+            if self.queries == MANY_QUERIES {
+                self.look_away();
+            }
             return Ok(arrival);
         }
         self.queries = 0;
+        self.watch()?;
         self.wait(into)
+    }
+
+    /// Has the system tell of queries: also of one that is there already.
+    fn watch(&mut self) -> io::Result<()> {
+        if !self.is_watched {
+            self.poll
+                .registry()
+                .register(&mut self.query, QUERY, Interest::READABLE)?;
+            self.is_watched = true;
+        }
+        Ok(())
+    }
+
+    /// Has the system tell of queries no more. Where it refuses, it goes on telling.
+    fn look_away(&mut self) {
+        if self.is_watched && self.poll.registry().deregister(&mut self.query).is_ok() {
+            self.is_watched = false;
+        }
     }
 
     /// Waits for a datagram, where no query is there.
