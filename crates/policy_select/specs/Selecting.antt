@@ -1,5 +1,5 @@
 -- What is selected of a group, and at the end of aliases.
-use Rattle.std.specs.Prelude.{◌≡◌, ◌<◌, ℕ, List, [], ◌∷◌, Bool, length, take, slice_get, Option}
+use Rattle.std.specs.Prelude.{◌≡◌, ◌<◌, ◌+◌, ℕ, List, [], ◌∷◌, Bool, length, take, slice_get, Option}
 use Rattle.std.specs.Prelude.{None, Some, ⊤}
 use Rattle.std.specs.List.{All}
 use Rattle.multivalue.specs.Answer.{picked}
@@ -13,7 +13,7 @@ use Rattle.zone_table.specs.Looking.{IsGroupNow}
 use Rattle.zone_table.specs.declared.refs.Group.{Group}
 use Rattle.answer_model.specs.declared.used.Used.{Used}
 use Rattle.answer_model.specs.Clients.{Client}
-use Rattle.answer_model.specs.Descent.{Choices, Descended, Means, sets_at}
+use Rattle.answer_model.specs.Descent.{Choices, Descended, Means, descend, sets_at}
 use Rattle.answer_model.specs.Choice.{chosen}
 use Rattle.zone_table.specs.SetRefRecord.{SetRef}
 use Rattle.policy_select.specs.declared.selection.Selected.{Selected}
@@ -111,3 +111,10 @@ GivesDescent zones view client words g descent before selected made used =
     → Gives zones
     (descent (means_of (healthy g.zone) client words) (sets_in_zone zones g.zone)
     (sets_in zones g) before) selected made used
+
+-- A descent from a group ends with its first set, by one choice, which uses nothing.
+abbrev pub EndsWithFirst : List Zone → Group → Type 0
+EndsWithFirst zones g = (view : SetRef → Bool) (client : Client) (words : List ℕ) (count : ℕ)
+    (used : Used)
+    → GivesDescent zones view client words g descend (record { count = count; used = used })
+    (selected_of g (0 ∷ [])) (count + 1) used

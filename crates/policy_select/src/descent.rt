@@ -16,7 +16,8 @@ ghost use Rattle.zone_table.specs.SetRefRecord.{SetRef};
 ghost use Rattle.zone_table.specs.Looking.{IsGroupNow};
 ghost use Rattle.policy_select.specs.Groups.{FewInGroups, sets_in, sets_in_zone};
 ghost use Rattle.policy_select.specs.Seen.{IsSeen};
-ghost use Rattle.policy_select.specs.Selecting.{AreOfGroup, GivesDescent, HoldsFirst};
+ghost use Rattle.policy_select.specs.Selecting.{AreOfGroup, EndsWithFirst, GivesDescent};
+ghost use Rattle.policy_select.specs.Selecting.{HoldsFirst};
 ghost use Rattle.policy_select.specs.Selecting.{HoldsFront, IsInZone};
 ghost use Rattle.policy_select.specs.Selecting.{LeadsTo, TargetOf, choice_of};
 
@@ -101,7 +102,57 @@ pub fn descend_seen<V: HealthView>(
     )
 }
 
+/// The same from a group whose first set is held.
+pub fn descend_held<V: HealthView>(
+    zones: &Zones,
+    group: Group,
+    view: &V,
+    tables: &Tables,
+    client: IpAddress,
+    words: &[u64; 8],
+    choices: &mut u8,
+    used: &mut Used,
+    seen: &mut Seen,
+    scratch: &mut Scratch,
+) -> Selected
+    requires group { IsGroupNow zones.now.zones group }
+    requires some { 0 < group.length }
+    requires few { FewInGroups (sets_in_zone zones.now.zones group.zone) }
+    requires room { choices.old ≤ 238 }
+    requires first { (set : RecordSet)
+        × (slice_get (sets_in zones.now.zones group) 0 ≡ Some set)
+        × (scratch.old ≡ Some set) × HasSpelling set }
+    requires seen { IsSeen tables.now client seen.old }
+    ensures gives { GivesDescent zones.now.zones (V.test view.now)
+        (client_with tables.now zones.now.collections.list client) words.now group descended
+        (record { count = choices.old; used = used.old }) result choices.new used.new }
+    ensures places { AreOfGroup zones.now.zones result }
+    ensures held { HoldsFirst zones.now.zones result scratch.new }
+    ensures most { choices.new ≤ choices.old + 17 }
+    ensures seen { IsSeen tables.now client seen.new }
+{
+    descend_on(
+        MOST, zones, group, view, tables, client, words, choices, used, seen, scratch,
+    )
+}
+
+/// Loads the first set of a group, and tells whether it answers alone: it is simple and has values.
+/// Then it is chosen by whatever word, and nothing is chosen behind it.
+#[inline(always)]
+pub fn first_answers(zones: &Zones, group: Group, scratch: &mut Scratch) -> bool
+    requires group { IsGroupNow zones.now.zones group }
+    requires some { 0 < group.length }
+    ensures first { (set : RecordSet)
+        × (slice_get (sets_in zones.now.zones group) 0 ≡ Some set)
+        × (scratch.new ≡ Some set) × HasSpelling set }
+    ensures alone { IsTrue result → EndsWithFirst zones.now.zones group }
+{
+    load_member(zones, group, 0, scratch);
+    answers_alone(scratch)
+}
+
 /// The same with so many choices at most.
+#[cycle(descend_from)]
 fn descend_from<V: HealthView>(
     most: u8,
     zones: &Zones,
@@ -138,6 +189,45 @@ fn descend_from<V: HealthView>(
         *choices += 1;
         return choose_simple(zones, group, scratch);
     }
+    descend_on(
+        most, zones, group, view, tables, client, words, choices, used, seen, scratch,
+    )
+}
+
+/// The same from a group whose first set is held.
+// Apart, so that a group whose first set answers alone passes by what it doesn't need.
+#[cycle(descend_from)]
+#[inline(never)]
+fn descend_on<V: HealthView>(
+    most: u8,
+    zones: &Zones,
+    group: Group,
+    view: &V,
+    tables: &Tables,
+    client: IpAddress,
+    words: &[u64; 8],
+    choices: &mut u8,
+    used: &mut Used,
+    seen: &mut Seen,
+    scratch: &mut Scratch,
+) -> Selected
+    requires many { 0 < most }
+    requires group { IsGroupNow zones.now.zones group }
+    requires some { 0 < group.length }
+    requires few { FewInGroups (sets_in_zone zones.now.zones group.zone) }
+    requires room { choices.old + most ≤ 255 }
+    requires first { (set : RecordSet)
+        × (slice_get (sets_in zones.now.zones group) 0 ≡ Some set)
+        × (scratch.old ≡ Some set) × HasSpelling set }
+    requires seen { IsSeen tables.now client seen.old }
+    ensures gives { GivesDescent zones.now.zones (V.test view.now)
+        (client_with tables.now zones.now.collections.list client) words.now group (descends most)
+        (record { count = choices.old; used = used.old }) result choices.new used.new }
+    ensures places { AreOfGroup zones.now.zones result }
+    ensures held { HoldsFirst zones.now.zones result scratch.new }
+    ensures most { choices.new ≤ choices.old + most }
+    ensures seen { IsSeen tables.now client seen.new }
+{
     let selected = choose_next(
         zones, group, view, tables, client, words, choices, used, seen, scratch,
     );
@@ -237,8 +327,7 @@ fn choose_simple(zones: &Zones, group: Group, scratch: &Scratch) -> Selected
 
 /// Chooses by the policy of the first set of a group, which is held. The scratch holds the first
 /// selected set then.
-// Apart, so that a simple group passes by what it doesn't need.
-#[inline(never)]
+#[inline(always)]
 fn choose_held<V: HealthView>(
     zones: &Zones,
     group: Group,

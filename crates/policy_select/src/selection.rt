@@ -72,6 +72,7 @@ pub fn select<V: HealthView>(
 
 /// Chooses from a group by the policy of its first set, and notes what the choice used, and what it
 /// saw in the tables. The scratch holds the first set, before and after.
+#[inline(always)]
 pub(crate) fn choose<V: HealthView>(
     rule: &Rule,
     zones: &Zones,

@@ -1,4 +1,4 @@
-use Rattle.std.proofs.Common.{◌≡◌, ℕ, ◌-◌, ◌+◌, Option, suc, refl, sym, ◌∙◌, subst, arith}
+use Rattle.std.proofs.Common.{◌≡◌, ℕ, ◌-◌, ◌+◌, Option, suc, refl, rules, sym, ◌∙◌, subst, arith}
 use Rattle.std.specs.Prelude.{IfSome, IsTrue}
 use Rattle.answer_model.specs.Clients.{client_with}
 use Rattle.answer_model.specs.Descent.{descends, word_of}
@@ -10,8 +10,8 @@ use Rattle.policy_select.specs.Selecting.{Gives, means_of}
 use Rattle.policy_select.proofs.Descending.{ends_here, goes_on}
 use Rattle.policy_select.proofs.descent.+descend_from.Goals as goal
 
-pub choose_simple-requires-clause-first : goal.choose_simple-requires-clause-first
-choose_simple-requires-clause-first g t c =
+pub descend_from-choose_simple-requires-clause-first : goal.descend_from-choose_simple-requires-clause-first
+descend_from-choose_simple-requires-clause-first g t c =
     let loaded = c.load_member.ensures in
     let set = loaded.some.0 in
     let alone = subst
@@ -21,13 +21,43 @@ choose_simple-requires-clause-first g t c =
     let simple = alone c.if-answers_alone.true in
     (set, sym loaded.loaded ∙ loaded.some.1, simple.0, loaded.some.1, simple.1)
 
-pub choose_next-selected-requires-clause-first : goal.choose_next-selected-requires-clause-first
-choose_next-selected-requires-clause-first g t c =
+pub descend_from-descend_on-requires : goal.descend_from-descend_on-requires
+descend_from-descend_on-requires g t c = λ κs lives.
     let loaded = c.load_member.ensures in
-    (loaded.some.0, sym loaded.loaded ∙ loaded.some.1, loaded.some.1, loaded.some.2)
+    let some = c.if-most-eq0.false in
+    let sets = c.if-group-eq0.false in (
+      search (rules, arith),
+      (
+        first_of (search rules, search (rules, lives), assumption lives),
+        (
+          omega (arith, some),
+          (
+            c.requires.group,
+            (
+              omega (arith, sets),
+              (
+                c.requires.few,
+                (
+                  c.requires.room,
+                  (
+                    (
+                      loaded.some.0,
+                      sym loaded.loaded ∙ loaded.some.1,
+                      loaded.some.1,
+                      loaded.some.2,
+                    ),
+                    c.requires.seen,
+                  ),
+                ),
+              ),
+            ),
+          ),
+        ),
+      ),
+    )
 
-pub returns-then-answers_alone-clause-gives : goal.returns-then-answers_alone-clause-gives
-returns-then-answers_alone-clause-gives g t c = λ healthy agrees.
+pub descend_from-returns-then-answers_alone-clause-gives : goal.descend_from-returns-then-answers_alone-clause-gives
+descend_from-returns-then-answers_alone-clause-gives g t c = λ healthy agrees.
     let zones = c.args.zones.now.zones in
     let test = g.V.HealthView.test c.args.view.now in
     let client = client_with c.args.tables.now c.args.zones.now.collections.list c.args.client in
@@ -45,13 +75,13 @@ returns-then-answers_alone-clause-gives g t c = λ healthy agrees.
     (record { count = c.args.choices.now; used = c.args.used.now })) chosen.result
     (c.args.choices.now + 1) c.args.used.now) one gives
 
-pub returns-in-None-clause-gives : goal.returns-in-None-clause-gives
-returns-in-None-clause-gives g t c = λ healthy agrees.
+pub descend_on-returns-in-None-clause-gives : goal.descend_on-returns-in-None-clause-gives
+descend_on-returns-in-None-clause-gives g t c = λ healthy agrees.
     let zones = c.args.zones.now.zones in
     let client = client_with c.args.tables.now c.args.zones.now.collections.list c.args.client in
     let here = c.args.group in
     let chosen = c.choose_next-selected in
-    let some = c.if-most-eq0.false in
+    let some = c.requires.many in
     let one : suc (c.args.most - 1) ≡ c.args.most = omega (arith, some) in
     let gives = ends_here zones (g.V.HealthView.test c.args.view.now) healthy agrees client
     c.args.words.now here (c.args.most - 1) c.args.choices.now c.args.used.now chosen.result
@@ -62,14 +92,14 @@ returns-in-None-clause-gives g t c = λ healthy agrees.
     (record { count = c.args.choices.now; used = c.args.used.now })) chosen.result
     chosen.new.choices chosen.new.used) one gives
 
-pub returns-in-Some-clause-gives : goal.returns-in-Some-clause-gives
-returns-in-Some-clause-gives g t c = λ healthy agrees.
+pub descend_on-returns-in-Some-clause-gives : goal.descend_on-returns-in-Some-clause-gives
+descend_on-returns-in-Some-clause-gives g t c = λ healthy agrees.
     let zones = c.args.zones.now.zones in
     let client = client_with c.args.tables.now c.args.zones.now.collections.list c.args.client in
     let here = c.args.group in
     let chosen = c.choose_next-selected in
     let rest = c.descend_from in
-    let some = c.if-most-eq0.false in
+    let some = c.requires.many in
     let one : suc (c.args.most - 1) ≡ c.args.most = omega (arith, some) in
     let gives = goes_on zones (g.V.HealthView.test c.args.view.now) healthy agrees client
     c.args.words.now here (c.args.most - 1) c.args.choices.now c.args.used.now chosen.result
