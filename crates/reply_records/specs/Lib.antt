@@ -8,3 +8,4 @@ pub use Rattle.dns_wire.specs.Draft
 pub use Rattle.policy_select.specs.Groups
 pub use Rattle.policy_select.specs.Selecting
 pub use Rattle.policy_select.specs.declared.selection.Selected as SelectedRecord
+pub use Rattle.policy_select.specs.Holding

@@ -47,7 +47,19 @@ pub fn write_chosen(
     write_several(zones, *group, places, owner, reply, scratch);
 }
 
+/// Writes the records with which a set that is held answers a name alone.
+pub fn write_first(owner: &Name, reply: &mut Reply, scratch: &Scratch)
+    requires held { IsHolding scratch.now }
+    requires open { TakesRecords Answer reply.old }
+    ensures { (set : RecordSet) → scratch.now ≡ Some set
+        → Writes Answer (answer_records owner.now (set ∷ [])) reply.old reply.new }
+{
+    write_values(reply, Section::Answer, owner, ttl_of(scratch), scratch);
+}
+
 /// Writes the records of the sets at some places of a group.
+// Apart from the way that most answers take: its room for values makes a large frame.
+#[inline(never)]
 fn write_several(
     zones: &Zones,
     group: Group,

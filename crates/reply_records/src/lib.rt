@@ -11,8 +11,11 @@ mod joint;
 mod negative;
 mod seen;
 
-pub use chosen::{first_record, write_chosen};
+pub use chosen::{first_record, write_chosen, write_first};
 pub use delegation::{name_in, write_delegation};
 pub use held::{write_one, write_values};
 pub use negative::write_soa;
-pub use policy_select::{HealthView, Selected, descend, descend_seen, find_group, views_agree};
+pub use policy_select::{
+    HealthView, Selected, descend, descend_held, descend_seen, find_group, first_answers,
+    views_agree,
+};
