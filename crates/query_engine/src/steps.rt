@@ -13,6 +13,7 @@ ghost use Rattle.dns_name.specs.Suffix.{EndsWith};
 ghost use Rattle.dns_wire.specs.declared.reply.Section.TheVariants.{Answer};
 ghost use Rattle.reply_records.specs.Groups.{Agrees, FewInGroups, sets_in, sets_in_zone};
 ghost use Rattle.reply_records.specs.Selecting.{AreOfGroup, HoldsFirst, selected_sets};
+ghost use Rattle.reply_records.specs.Holding.{IsHolding};
 ghost use Rattle.rdata_layout.specs.declared.types.RType.TheVariants as rtype;
 ghost use Rattle.record_set.specs.declared.sets.RecordSet.{RecordSet};
 ghost use Rattle.record_set.specs.declared.sets.SetKey.{SetKey};
@@ -34,8 +35,8 @@ use dns_wire::{Reply, Section, records_add_up};
 use geo_latency::Tables;
 use rdata_layout::{RType, types_have_their_own_number};
 use reply_records::{
-    HealthView, Selected, descend_seen, find_group, first_record, name_in, views_agree,
-    write_chosen, write_one,
+    HealthView, Selected, descend_held, descend_seen, find_group, first_answers, first_record,
+    name_in, views_agree, write_chosen, write_first, write_one,
 };
 use zone_lookup::{
     Found, Group, Scratch, Standing, Zones, asked_group, cut_above, cuts_are_nearest, find_asked,
@@ -56,6 +57,7 @@ fn answer_group<V: HealthView>(
     scratch: &mut Scratch,
 ) -> End
     requires group { IsGroupNow zones.now.zones group }
+    requires some { 0 < group.length }
     requires zone { group.zone ≡ asked.now.zone }
     requires few { FewInGroups (sets_in_zone zones.now.zones group.zone) }
     requires room { progress.old.count ≤ 238 }
@@ -74,7 +76,11 @@ fn answer_group<V: HealthView>(
     ensures seen { IsSeen tables.now asked.now.client progress.new.seen }
 {
     records_add_up();
-    let selected = descend_seen(
+    if first_answers(zones, group, scratch) {
+        progress.count += 1;
+        return answer_first(name, reply, scratch);
+    }
+    let selected = descend_held(
         zones,
         group,
         view,
@@ -90,6 +96,19 @@ fn answer_group<V: HealthView>(
         Selected::Nothing => answer_nodata(zones, asked, reply, scratch),
         Selected::Sets(_, _) => answer_chosen(zones, &selected, name, reply, scratch),
     }
+}
+
+/// The records of a set that is held, and answers alone, answer a name.
+fn answer_first(name: &Name, reply: &mut Reply, scratch: &Scratch) -> End
+    requires held { IsHolding scratch.now }
+    requires open { TakesRecords Answer reply.old }
+    ensures ends { (set : RecordSet) (used : Used) → scratch.now ≡ Some set
+        → EndsAs (record (ends used) { answers = answer_records name.now (set ∷ []) })
+        reply.old reply.new result used }
+    ensures rcode { result.rcode < 16 }
+{
+    write_first(name, reply, scratch);
+    End { aa: true, rcode: 0 }
 }
 
 /// The records of chosen sets answer a name. The first of them is held.
