@@ -18,7 +18,7 @@ const MAX_QUERIES: u32 = 64;
 
 /// After so many queries in a row the system isn't asked any more to tell of others, until none is
 /// there: where it tells of them, each reply that is sent has it look for who waits at the socket.
-const MANY_QUERIES: u32 = 16;
+const MANY_QUERIES: u32 = 8;
 
 /// How many milliseconds are waited for a datagram.
 const WAIT: u64 = 100;
