@@ -1,5 +1,5 @@
 -- Valves of sets and groups, which stand behind those of checks, where their conditions stay.
-use Rattle.std.proofs.Common.{◌≡◌, ◌≤◌, ◌<◌, ℕ, false, List, [], ◌∷◌, ◌++◌, length, map, arith, refl, ap, sym, ◌∙◌, inl, inr, Some, None, Option}
+use Rattle.std.proofs.Common.{◌≡◌, ◌≤◌, ◌<◌, ℕ, suc, false, List, [], ◌∷◌, ◌++◌, length, map, arith, refl, ap, sym, ◌∙◌, inl, inr, Some, None, Option}
 use Rattle.std.specs.Prelude.{slice_get}
 use Rattle.std.specs.Option.{option_to_list}
 use Rattle.check_model.specs.declared.checks.Check.{Check}
@@ -59,20 +59,28 @@ module _ (zones : List Zone) (list list_now : List (ℕ × Check)) (numbers numb
       record {
         plain = w.plain;
         told = w.told;
-        valved = λ on.
-            let g = w.valved on in (
-              g.0,
-              g.1,
-              record {
-                behind = g.2.behind;
-                within = let b = g.2.within in omega arith;
-                target = g.2.target;
-                its_target = target_now zone p.set.rtype p.set.body g.2.target g.2.its_target;
-                condition = condition g.0 g.2.behind ∙ g.2.condition
-                    ∙ ap (λ (l : List ℕ). set_condition (l ++ g.2.target)) (named_now zone p here p.set.check refl);
-                its_own = counted g.0 g.2.behind ∙ g.2.its_own;
-              },
-            );
+        valved = λ on. elim (w.valved on) [
+          | inl alone ↦ inl (
+            alone.0,
+            (
+              alone.1.0,
+              alone.1.1 ∙ ap suc (sym (placed zone p alone.0 here alone.1.0.1)),
+            ),
+          )
+          | inr g ↦ inr (
+            g.0,
+            g.1,
+            record {
+              behind = g.2.behind;
+              within = let b = g.2.within in omega arith;
+              target = g.2.target;
+              its_target = target_now zone p.set.rtype p.set.body g.2.target g.2.its_target;
+              condition = condition g.0 g.2.behind ∙ g.2.condition
+                  ∙ ap (λ (l : List ℕ). set_condition (l ++ g.2.target)) (named_now zone p here p.set.check refl);
+              its_own = counted g.0 g.2.behind ∙ g.2.its_own;
+            },
+          )
+        ];
       }
 
   -- each valve behind those of checks is that of a node still

@@ -9,6 +9,7 @@ use Rattle.health_planning.specs.Zones.{Zone}
 use Rattle.health_index.specs.Index.{Index, StandsFor}
 use Rattle.health_planning.specs.Wired.{ids_of, place_of, watched_of}
 use Rattle.health_planning.proofs.Ending.{cone_long, condition_seated}
+use Rattle.health_index.proofs.Alone.{early_in}
 use Rattle.health_index.proofs.Reporting.{at_place}
 
 -- Where a status turns, as many valves are worked out as the cone of its check has nodes at most.
@@ -28,7 +29,8 @@ few_steps zones checks reports index stands id place valve here first numbered c
     let walk = costs refl in
     let most = cone_long zones checks index.numbers index.seats stands.net stands.own stands.numbers stands.are_zones stands.are_checks stands.sound
     (λ p w i c is is_at. ap (λ r. r.feeders) (stands.wired.its_checks p w i c is is_at).condition)
-    (condition_seated zones (ids_of checks.list) index.numbers index.seats stands.net stands.own stands.wired.its_sets) stands.wired.its_nodes stands.wired.spares
+    (condition_seated zones (ids_of checks.list) index.numbers index.seats stands.net stands.own stands.wired.its_sets
+    (early_in zones checks index.numbers stands.numbers stands.sound)) stands.wired.its_nodes stands.wired.spares
     valve id walk.0 cone (place, (check.0, (check.1, numbered))) walk.1.0 has in
     let is = walk.1.1 in
     omega arith

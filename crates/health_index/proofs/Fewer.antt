@@ -208,6 +208,7 @@ module _ (zones : List Zone) (old new : Checks) (reports : List Report) (index :
             condition_late (λ n late. refl) stands.wired.its_sets placed stands.numbers.early
             (nodes zones old new reports index stands are_new endpoints later);
         groups = λ slot found is. stands.wired.its_groups slot found (let e = is in omega arith);
+        members = λ slot found is. stands.wired.its_members slot found (let e = is in omega arith);
         spares = spares_now;
         many = stands.wired.many;
         alone = λ place found at.

@@ -20,19 +20,9 @@ use Rattle.health_planning.specs.ZoneEditRecord.{ZoneEdit}
 use Rattle.health_planning.specs.ZoneEditRecord.TheVariants as edit
 use Rattle.health_planning.specs.DeltaRecord.{Delta}
 use Rattle.health_planning.proofs.Wiring.{rising_in}
-use Rattle.health_index.specs.Leaving.{IsOneOf}
-
--- A set that isn't there any more is told as one that went, and a new one as one that came. What is
--- told to have gone was there, and a slot keeps its key.
-pub record Moves (before after : List Zone) (removed added : List SetRef) : Type 0 where
-  pub stays : (zone : ℕ) (p : Slotted) → IsHere (placed_in before zone) p
-      → IsOneOf removed (ref_in zone p) ⊎ IsHere (placed_in after zone) p
-  pub only : (zone : ℕ) (p : Slotted) → IsHere (placed_in after zone) p
-      → IsHere (placed_in before zone) p ⊎ IsOneOf added (ref_in zone p)
-  pub gone : (zone : ℕ) (q : Slotted) → IsOneOf removed (ref_in zone q)
-      → (p : Slotted) × IsHere (placed_in before zone) p × (p.slot ≡ q.slot)
-  pub keys : (zone : ℕ) (p q : Slotted) → IsHere (placed_in before zone) p
-      → IsHere (placed_in after zone) q → p.slot ≡ q.slot → key_of p.set ≡ key_of q.set
+use Rattle.check_model.specs.Checks.{Checks}
+use Rattle.health_index.proofs.Reshaped.{zones_stay}
+use Rattle.health_index.specs.Leaving.{AreLeft, IsOneOf, Moves}
 
 some_same : {X : Type 0} {x y : X} → Some x ≡ Some y → x ≡ y
 some_same e = cc
@@ -214,6 +204,17 @@ module _ (before after : List Zone) (are_before : AreZones before) (are_after : 
       in_zone id g.0 q g.2 g.1)
       (λ p q here there slots. absurd (subst (λ (l : List Slotted). IsHere l q) (none_there after zone gone) there))
 
+-- Where the zones stay no set goes or comes.
+same_moves : (zones : List Zone) → AreZones zones → (added : List SetRef) → Moves zones zones [] added
+same_moves zones are added = record {
+  stays = λ zone p here. inr here;
+  only = λ zone p here. inl here;
+  gone = λ zone q told. let no : ⊥ = cc in absurd no;
+  keys = λ zone p q here there slots.
+      ap key_of (one_named zones (ref_in zone p) p.set q.set are here
+      (subst (λ (n : ℕ). IsHere (placed_in zones zone) (record { slot = n; set = q.set })) (sym slots) there));
+}
+
 pub moved : (before after : List Zone) → AreZones before → AreZones after → (made : ZoneEdit)
     (delta : Delta) → IsAllowed before made → Edits before made after delta → delta.zone ≢ 0
     → Moves before after delta.removed delta.added
@@ -230,19 +231,20 @@ moved before after are_before are_after (edit.Change zone remove add) delta allo
 moved before after are_before are_after (edit.Collections now) delta allowed edits some =
     absurd (some edits.zone)
 
--- Each set is one that was there, or that is told to have come.
-pub kept_or_came : (before after : List Zone) → AreZones before → AreZones after
-    → (made : ZoneEdit) (delta : Delta) → IsAllowed before made → Edits before made after delta
-    → (zone : ℕ) (p : Slotted) → IsHere (placed_in after zone) p
-    → IsHere (placed_in before zone) p ⊎ IsOneOf delta.added (ref_in zone p)
-kept_or_came before after are_before are_after (edit.Begin zone name sets) delta allowed edits =
-    let some : delta.zone ≢ 0 = λ none. let is = edits.zone in let least = allowed.3 in omega arith in
-    (moved before after are_before are_after (edit.Begin zone name sets) delta allowed edits some).only
-kept_or_came before after are_before are_after (edit.End zone) delta allowed edits =
-    (closed before after are_before are_after delta.removed delta.added zone edits.others
-    edits.its.0 edits.its.1).only
-kept_or_came before after are_before are_after (edit.Change zone remove add) delta allowed edits =
-    (changed before after are_before are_after delta.removed delta.added zone edits.others remove add
-    edits.its.1).only
-kept_or_came before after are_before are_after (edit.Collections now) delta allowed edits =
-    λ zone p here. inl (subst (λ (l : List Zone). IsHere (placed_in l zone) p) edits.its.0 here)
+-- Each command moves the sets that it tells: those that went, where it tells of a zone, and those that came.
+pub all_moved : (before : List Zone) (old : Checks) (after : List Zone) (new : Checks) (delta : Delta)
+    → AreZones before → AreZones after → AreLeft before old after new delta → (gone : List SetRef)
+    → (delta.zone ≡ 0 → gone ≡ []) → (delta.zone ≢ 0 → gone ≡ delta.removed)
+    → Moves before after gone delta.added
+all_moved before old after new delta are_before are_after left gone none told = elim (cases_eq delta.zone 0) [
+  | inl is ↦
+      subst (λ (z : List Zone). Moves before z gone delta.added) (sym (zones_stay before old after new delta are_before left is))
+      (subst (λ (l : List SetRef). Moves before before l delta.added) (sym (none is)) (same_moves before are_before delta.added))
+  | inr some ↦
+      subst (λ (l : List SetRef). Moves before after l delta.added) (sym (told some)) (by left some)
+]
+  where
+    by : AreLeft before old after new delta → delta.zone ≢ 0 → Moves before after delta.removed delta.added
+    by (inl (made, (allowed, edits, kept))) some =
+        moved before after are_before are_after made delta allowed edits some
+    by (inr (stayed, follows, is)) some = absurd (some is)

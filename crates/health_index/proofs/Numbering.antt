@@ -1,5 +1,5 @@
 -- Numbers of nodes.
-use Rattle.std.proofs.Common.{◌≡◌, ◌<◌, ◌≤◌, ℕ, suc, Bool, true, false, List, length, arith, refl, ap, sym, ◌∙◌, inl, inr, Option, None, Some}
+use Rattle.std.proofs.Common.{◌≡◌, ◌<◌, ◌≤◌, ◌+◌, ◌-◌, ℕ, suc, Bool, true, false, List, length, arith, refl, ap, sym, ◌∙◌, inl, inr, Option, None, Some}
 use Rattle.std.specs.Prelude.{◌||◌, ◌⊎◌, is_some, slice_get}
 use Rattle.std.proofs.lemmas.Bool.{false≢true}
 use mathlib.Core.Path.{subst}
@@ -19,9 +19,11 @@ use Rattle.record_set.specs.declared.sets.Body.{Body}
 use Rattle.record_set.specs.declared.sets.Body.TheVariants as body
 use Rattle.record_set.specs.declared.sets.RecordSet.{RecordSet}
 use Rattle.zone_model.specs.Slotted.{IsHere, Slotted}
-use Rattle.health_index.specs.Index.{HasNode, HasNumber, Index, IsLaidFor, IsNumberOf}
+use Rattle.health_index.specs.Index.{HasNode, HasNumber, Index, IsLaidFor, IsNumberBehind, IsNumberOf, IsOwnNumber, TellsOfCheck}
+use Rattle.health_index.proofs.Alone.{early_in, seat_alone}
 use Rattle.health_index.specs.Laws.{NodesAreNumbered}
-use Rattle.health_planning.specs.Wired.{IsValveFor, IsLedTo, IsSpare, IsTarget, group_seat, ids_of, is_watched, place_of, seat_of, valve_with}
+use Rattle.health_valves.specs.Valves.{size_of}
+use Rattle.health_planning.specs.Wired.{IsAlone, IsValveFor, IsLedTo, IsSpare, IsTarget, group_seat, ids_of, is_watched, own_part, place_of, seat_of, set_seat, valve_with}
 use Rattle.health_planning.proofs.Numbers.{ids_valves, valve_there}
 use Rattle.health_planning.proofs.Places.{found, held_there, id_there, one_place}
 use Rattle.health_planning.proofs.Wiring.{first_here, first_same, rising_in, same_names}
@@ -45,11 +47,22 @@ module _ (zones : List Zone) (checks : Checks) (reports : List Report) (index : 
     (laid : IsLaidFor zones checks reports index) where
   pub of_valve : (number : ℕ) (node : Node)
       → IsValveFor zones checks.list index.numbers index.seats laid.net laid.own number node
-      → IsNumberOf zones index number node
+      → IsOwnNumber zones index number node
   of_valve number (CheckNode id) (place, (check, (at, numbered))) =
       (place, (ap (λ (l : List ℕ). slice_get l place) laid.ids ∙ id_there checks.list place id check at, numbered))
   of_valve number (SetNode zone set) its = its
   of_valve number (GroupNode zone name rtype) (members, (are, w)) = (members, (are, w.seat))
+
+  -- a check alone decides the set
+  abbrev HasCheck : Slotted → Type 0
+  HasCheck p = (id : ℕ) × (IsAlone p.set id
+      × (set_seat index.seats p.slot ≡ suc (valve_with (ids_of checks.list) index.numbers id)))
+
+  seat_bare : (zone : ℕ) (p : Slotted) → IsHere (placed_in zones zone) p → (id : ℕ) → IsAlone p.set id
+      → set_seat index.seats p.slot ≡ suc (valve_with (ids_of checks.list) index.numbers id)
+      → TellsOfCheck index.seats p.slot
+  seat_bare = seat_alone zones (ids_of checks.list) index.numbers index.seats laid.net laid.own
+      (early_in zones checks index.numbers laid.numbers laid.sound)
 
   -- the valve of a set is there
   seat_there : (zone : ℕ) (p : Slotted) (valve : ℕ) → IsHere (placed_in zones zone) p
@@ -58,15 +71,19 @@ module _ (zones : List Zone) (checks : Checks) (reports : List Report) (index : 
     where
       by : (b : Bool) → is_watched p.set ≡ b → valve < laid.net.size
       by false off =
-          let none = (laid.wired.its_sets zone p here).plain off in
+          let none = ap own_part ((laid.wired.its_sets zone p here).plain off) in
           absurd (omega arith)
-      by true on =
-          let g = (laid.wired.its_sets zone p here).valved on in
-          let other = g.1 in
-          let b = g.2.within in
-          omega arith
+      by true on = elim ((laid.wired.its_sets zone p here).valved on) [
+        | inl alone ↦
+            let none = (seat_bare zone p here alone.0 alone.1.0 alone.1.1).0 in
+            absurd (omega arith)
+        | inr g ↦
+            let other = g.1 in
+            let b = g.2.within in
+            omega arith
+      ]
 
-  pub there : (number : ℕ) (node : Node) → IsNumberOf zones index number node
+  pub there : (number : ℕ) (node : Node) → IsOwnNumber zones index number node
       → number < laid.net.size
   there number (CheckNode id) (place, (at, numbered)) =
       let held = held_there checks.list place id (subst (λ (l : List ℕ). slice_get l place ≡ Some id) laid.ids at) in
@@ -76,8 +93,8 @@ module _ (zones : List Zone) (checks : Checks) (reports : List Report) (index : 
   there number (GroupNode zone name rtype) (members, (are, seat)) =
       laid.wired.its_groups seat.0 number seat.1.1
 
-  one_number : (a b : ℕ) (node : Node) → IsNumberOf zones index a node
-      → IsNumberOf zones index b node → a ≡ b
+  one_number : (a b : ℕ) (node : Node) → IsOwnNumber zones index a node
+      → IsOwnNumber zones index b node → a ≡ b
   one_number a b (CheckNode id) (p, (first, first_at)) (q, (second, second_at)) =
       let one = held_there checks.list p id (subst (λ (l : List ℕ). slice_get l p ≡ Some id) laid.ids first) in
       let two = held_there checks.list q id (subst (λ (l : List ℕ). slice_get l q ≡ Some id) laid.ids second) in
@@ -97,36 +114,53 @@ module _ (zones : List Zone) (checks : Checks) (reports : List Report) (index : 
 
   -- ---- each number is that of one node alone
 
-  decided : (number zone : ℕ) (set : RecordSet) → IsNumberOf zones index number (SetNode zone set)
+  decided : (number zone : ℕ) (set : RecordSet) → IsOwnNumber zones index number (SetNode zone set)
       → is_watched set ≡ true
   decided number zone set (slot, (here, seat)) = by (is_watched set) refl
     where
       by : (b : Bool) → is_watched set ≡ b → is_watched set ≡ true
       by true on = on
       by false off =
-          let none = (laid.wired.its_sets zone (record { slot = slot; set = set }) here).plain off in
+          let none = ap own_part ((laid.wired.its_sets zone (record { slot = slot; set = set }) here).plain off) in
           absurd (omega arith)
 
-  check_early : (number id : ℕ) → IsNumberOf zones index number (CheckNode id)
+  check_early : (number id : ℕ) → IsOwnNumber zones index number (CheckNode id)
       → number < 200
   check_early number id (place, (at, numbered)) = laid.numbers.early place number numbered
 
-  set_late : (number zone : ℕ) (set : RecordSet) → IsNumberOf zones index number (SetNode zone set)
+  set_late : (number zone : ℕ) (set : RecordSet) → IsOwnNumber zones index number (SetNode zone set)
       → 200 ≤ number
   set_late number zone set (slot, (here, seat)) =
-      let g = (laid.wired.its_sets zone (record { slot = slot; set = set }) here).valved (decided number zone set (slot, (here, seat))) in
-      let its = g.1 in
-      let b = g.2.behind in
-      omega arith
+      elim ((laid.wired.its_sets zone (record { slot = slot; set = set }) here).valved (decided number zone set (slot, (here, seat)))) [
+        | inl alone ↦
+            let none = (seat_bare zone (record { slot = slot; set = set }) here alone.0 alone.1.0 alone.1.1).0 in
+            absurd (omega arith)
+        | inr g ↦
+            let its = g.1 in
+            let b = g.2.behind in
+            omega arith
+      ]
 
   group_late : (number zone : ℕ) (name : List (List ℕ)) (rtype : RType)
-      → IsNumberOf zones index number (GroupNode zone name rtype)
+      → IsOwnNumber zones index number (GroupNode zone name rtype)
       → 200 ≤ number
   group_late number zone name rtype (members, (are, seat)) =
       (laid.told.groups seat.0 number seat.1.1).behind
 
-  pub one_node : (number : ℕ) (node other : Node) → IsNumberOf zones index number node
-      → IsNumberOf zones index number other → node ≡ other
+  -- sets in one slot are one
+  one_set : (zone other s t : ℕ) (set set_two : RecordSet)
+      → IsHere (placed_in zones zone) (record { slot = s; set = set })
+      → IsHere (placed_in zones other) (record { slot = t; set = set_two }) → s ≡ t
+      → SetNode zone set ≡ SetNode other set_two
+  one_set zone other s t set set_two here there_too slots =
+      let one : SetRef = record { zone = zone; slot = s } in
+      let two : SetRef = record { zone = other; slot = t } in
+      let refs : one ≡ two = one_ref zones one two set set_two laid.slots here there_too slots in
+      let sets = one_named zones two set set_two laid.are_zones (subst (λ (r : SetRef). RefersTo zones r set) refs here) there_too in
+      ap (λ (r : SetRef). SetNode r.zone set) refs ∙ ap (SetNode other) sets
+
+  pub one_node : (number : ℕ) (node other : Node) → IsOwnNumber zones index number node
+      → IsOwnNumber zones index number other → node ≡ other
   one_node number (CheckNode id) (CheckNode other) (p, (first, first_at)) (q, (second, second_at)) =
       let places = laid.numbers.apart p q number first_at second_at in
       ap CheckNode (some_same (sym first ∙ ap (slice_get index.ids) places ∙ second))
@@ -143,12 +177,7 @@ module _ (zones : List Zone) (checks : Checks) (reports : List Report) (index : 
       let late = set_late number zone set first in
       absurd (omega arith)
   one_node number (SetNode zone set) (SetNode other set_two) (s, (here, seat)) (t, (there_too, seat_two)) =
-      let slots = laid.told.sets s t number seat seat_two in
-      let one : SetRef = record { zone = zone; slot = s } in
-      let two : SetRef = record { zone = other; slot = t } in
-      let refs : one ≡ two = one_ref zones one two set set_two laid.slots here there_too slots in
-      let sets = one_named zones two set set_two laid.are_zones (subst (λ (r : SetRef). RefersTo zones r set) refs here) there_too in
-      ap (λ (r : SetRef). SetNode r.zone set) refs ∙ ap (SetNode other) sets
+      one_set zone other s t set set_two here there_too (laid.told.sets s t number seat seat_two)
   one_node number (SetNode zone set) (GroupNode other name rtype) (s, (here, seat)) (members, (are, its)) =
       absurd (laid.told.kinds s its.0 number seat its.1.1)
   one_node number (GroupNode zone name rtype) (CheckNode id) first second =
@@ -170,7 +199,7 @@ module _ (zones : List Zone) (checks : Checks) (reports : List Report) (index : 
       group_nodes zone other name name_two rtype rtype_two (one.0 ∙ sym two.0) (one.1.0 ∙ sym two.1.0) (one.1.1 ∙ sym two.1.1)
 
   -- it is that of a check, or behind those of 200 checks
-  pub early_or_late : (number : ℕ) (node : Node) → IsNumberOf zones index number node
+  pub early_or_late : (number : ℕ) (node : Node) → IsOwnNumber zones index number node
       → ((place : ℕ) × (slice_get index.numbers place ≡ Some number)) ⊎ (200 ≤ number)
   early_or_late number (CheckNode id) (place, (at, numbered)) = inl (place, numbered)
   early_or_late number (SetNode zone set) is = inr (set_late number zone set is)
@@ -183,7 +212,7 @@ module _ (zones : List Zone) (checks : Checks) (reports : List Report) (index : 
   not_spare number (inr late) spare = let before = spare.0 in omega arith
 
   -- the valve of the number of a node is that of the node
-  pub valve_for : (number : ℕ) (node : Node) → IsNumberOf zones index number node
+  pub valve_for : (number : ℕ) (node : Node) → IsOwnNumber zones index number node
       → IsValveFor zones checks.list index.numbers index.seats laid.net laid.own number node
   valve_for number node is =
       elim (laid.wired.its_nodes number (there number node is)) [
@@ -195,13 +224,16 @@ module _ (zones : List Zone) (checks : Checks) (reports : List Report) (index : 
 
   -- ---- which nodes have numbers
 
+  size_same : size_of index.valves ≡ laid.net.size
+  size_same = laid.fits.laid.size
+
   check_number : (id : ℕ) (check : Check) → check_with checks.list id ≡ Some check
       → HasNumber zones index (CheckNode id)
   check_number id check at =
       let place = place_of (ids_of checks.list) id in
       let in_ids = id_there checks.list place id check (found checks.list id check at) in (
         valve_with (ids_of checks.list) index.numbers id,
-        (
+        inl (
           place,
           (
             ap (λ (l : List ℕ). slice_get l place) laid.ids ∙ in_ids,
@@ -210,30 +242,38 @@ module _ (zones : List Zone) (checks : Checks) (reports : List Report) (index : 
         ),
       )
 
-  set_number : (zone : ℕ) (p : Slotted) → IsHere (placed_in zones zone) p → is_watched p.set ≡ true
+  -- the number of a set that something decides
+  pub set_number : (zone : ℕ) (p : Slotted) → IsHere (placed_in zones zone) p → is_watched p.set ≡ true
       → HasNumber zones index (SetNode zone p.set)
-  set_number zone p here on =
-      let g = (laid.wired.its_sets zone p here).valved on in
-      (g.0, (p.slot, (here, g.1)))
+  set_number zone p here on = elim ((laid.wired.its_sets zone p here).valved on) [
+    | inl alone ↦ (
+      size_of index.valves + p.slot,
+      inr (p.slot, (here, (seat_bare zone p here alone.0 alone.1.0 alone.1.1, refl))),
+    )
+    | inr g ↦ (g.0, inl (p.slot, (here, g.1)))
+  ]
 
   target_number : (zone : ℕ) (p : Slotted) (name : List (List ℕ)) → IsHere (placed_in zones zone) p
       → p.set.body ≡ body.Alias name true → HasNumber zones index (GroupNode zone name p.set.rtype)
   target_number zone p name here is =
       let on : is_watched p.set ≡ true = ap (λ (b : Body). is_some p.set.check || evaluates b) is ∙ or_true p.set.check in
-      let g = (laid.wired.its_sets zone p here).valved on in
-      by g.2.target (subst (λ (b : Body). IsTarget zones index.seats laid.net laid.own zone p.set.rtype b g.2.target)
-      is g.2.its_target)
+      elim ((laid.wired.its_sets zone p here).valved on) [
+        | inl alone ↦ absurd (false≢true (sym alone.1.0.0 ∙ ap evaluates is))
+        | inr g ↦
+            by g.2.target (subst (λ (b : Body). IsTarget zones index.seats laid.net laid.own zone p.set.rtype b g.2.target)
+            is g.2.its_target)
+      ]
     where
       by : (target : List ℕ)
           → IsTarget zones index.seats laid.net laid.own zone p.set.rtype (body.Alias name true) target
           → HasNumber zones index (GroupNode zone name p.set.rtype)
       by target (inl (off, without)) = absurd (false≢true (sym off))
-      by target (inr (evaluated, (valve, target_is, (members, are, w)))) = (valve, (members, (are, w.seat)))
+      by target (inr (evaluated, (valve, target_is, (members, are, w)))) = (valve, inl (members, (are, w.seat)))
 
   -- an evaluated alias leads to a group with a number
-  led_to : (number zone : ℕ) (name : List (List ℕ)) (rtype : RType)
-      → IsNumberOf zones index number (GroupNode zone name rtype) → IsLedTo zones zone name rtype
-  led_to number zone name rtype (members, (are, seat)) =
+  led_own : (number zone : ℕ) (name : List (List ℕ)) (rtype : RType)
+      → IsOwnNumber zones index number (GroupNode zone name rtype) → IsLedTo zones zone name rtype
+  led_own number zone name rtype (members, (are, seat)) =
       let g = laid.told.groups seat.0 number seat.1.1 in
       let p = first_here members seat.0 seat.1.0 in
       let q = g.only seat.0 seat.1.1 in
@@ -243,43 +283,131 @@ module _ (zones : List Zone) (checks : Checks) (reports : List Report) (index : 
       (subst (λ (n : List (List ℕ)). IsLedTo zones zone n g.rtype) one.1.0
       (subst (λ (z : ℕ). IsLedTo zones z g.name g.rtype) one.0 g.led))
 
-  size_same : length index.valves.rows.items ≡ laid.net.size
-  size_same = laid.fits.laid.size
+  led_to : (number zone : ℕ) (name : List (List ℕ)) (rtype : RType)
+      → IsNumberOf zones index number (GroupNode zone name rtype) → IsLedTo zones zone name rtype
+  led_to number zone name rtype (inl own) = led_own number zone name rtype own
+  led_to number zone name rtype (inr none) = absurd none
 
-  its_place : (number : ℕ) → HasNode index number → (number < laid.net.size)
-      × (((place : ℕ) × (slice_get index.numbers place ≡ Some number)) ⊎ (200 ≤ number))
-  its_place number (inl (place, numbered)) =
-      let early = laid.numbers.early place number numbered in
-      let most = laid.wired.many in
-      (omega arith, inl (place, numbered))
-  its_place number (inr (late, within)) = let size = size_same in (omega arith, inr late)
+  pub decided_by : (number zone : ℕ) (set : RecordSet) → IsNumberOf zones index number (SetNode zone set)
+      → is_watched set ≡ true
+  decided_by number zone set (inl own) = decided number zone set own
+  decided_by number zone set (inr (slot, (here, (tells, is)))) = by (is_watched set) refl
+    where
+      by : (b : Bool) → is_watched set ≡ b → is_watched set ≡ true
+      by true on = on
+      by false off = absurd (tells.1 ((laid.wired.its_sets zone (record { slot = slot; set = set }) here).plain off))
+
+  -- a number behind those of all valves
+  pub past : (number : ℕ) (node : Node) → IsNumberBehind zones index number node
+      → size_of index.valves ≤ number
+  past number (CheckNode id) none = absurd none
+  past number (SetNode zone set) (slot, (here, (tells, is))) = omega arith
+  past number (GroupNode zone name rtype) none = absurd none
+
+  apart_own : (number : ℕ) (node other : Node) → IsOwnNumber zones index number node
+      → IsNumberBehind zones index number other → ⊥
+  apart_own number node other own behind =
+      let within = there number node own in
+      let late = past number other behind in
+      let size = size_same in
+      omega arith
+
+  one_behind : (number : ℕ) (node other : Node) → IsNumberBehind zones index number node
+      → IsNumberBehind zones index number other → node ≡ other
+  one_behind number (CheckNode id) other none second = absurd none
+  one_behind number (SetNode zone set) (CheckNode id) first none = absurd none
+  one_behind number (SetNode zone set) (SetNode other set_two) (s, (here, (tells, is))) (t, (there_too, (tells_two, is_two))) =
+      one_set zone other s t set set_two here there_too (omega arith)
+  one_behind number (SetNode zone set) (GroupNode other name rtype) first none = absurd none
+  one_behind number (GroupNode zone name rtype) other none second = absurd none
+
+  pub node_of_one : (number : ℕ) (node other : Node) → IsNumberOf zones index number node
+      → IsNumberOf zones index number other → node ≡ other
+  node_of_one number node other (inl first) (inl second) = one_node number node other first second
+  node_of_one number node other (inl first) (inr second) = absurd (apart_own number node other first second)
+  node_of_one number node other (inr first) (inl second) = absurd (apart_own number other node second first)
+  node_of_one number node other (inr first) (inr second) = one_behind number node other first second
+
+  -- a set has one of the two kinds
+  one_kind : (a b : ℕ) (node : Node) → IsOwnNumber zones index a node → IsNumberBehind zones index b node → ⊥
+  one_kind a b (CheckNode id) own none = none
+  one_kind a b (SetNode zone set) (s, (here, seat)) (t, (there_too, (tells, is))) =
+      let p = one_of_key (placed_in zones zone) (rising_in zones laid.are_zones.each zone) (record { slot = s; set = set })
+      (record { slot = t; set = set }) here there_too refl in
+      let seats_same = ap (λ (q : Slotted). seat_of index.seats q.slot) p in
+      let none = tells.0 in
+      omega arith
+  one_kind a b (GroupNode zone name rtype) own none = none
+
+  both_behind : (a b : ℕ) (node : Node) → IsNumberBehind zones index a node
+      → IsNumberBehind zones index b node → a ≡ b
+  both_behind a b (CheckNode id) none second = absurd none
+  both_behind a b (SetNode zone set) (s, (here, (tells, is))) (t, (there_too, (tells_two, is_two))) =
+      let p = one_of_key (placed_in zones zone) (rising_in zones laid.are_zones.each zone) (record { slot = s; set = set })
+      (record { slot = t; set = set }) here there_too refl in
+      let slots = ap (λ (q : Slotted). q.slot) p in
+      omega arith
+  both_behind a b (GroupNode zone name rtype) none second = absurd none
+
+  number_of_one : (a b : ℕ) (node : Node) → IsNumberOf zones index a node
+      → IsNumberOf zones index b node → a ≡ b
+  number_of_one a b node (inl first) (inl second) = one_number a b node first second
+  number_of_one a b node (inl first) (inr second) = absurd (one_kind a b node first second)
+  number_of_one a b node (inr first) (inl second) = absurd (one_kind b a node second first)
+  number_of_one a b node (inr first) (inr second) = both_behind a b node first second
+
+  -- which numbers there are
+  by_valve : (number : ℕ) → number < laid.net.size
+      → ((place : ℕ) × (slice_get index.numbers place ≡ Some number)) ⊎ (200 ≤ number)
+      → (node : Node) × IsNumberOf zones index number node
+  by_valve number within place = elim (laid.wired.its_nodes number within) [
+    | inl spare ↦ absurd (not_spare number place spare)
+    | inr n ↦ (n.0, inl (of_valve number n.0 n.1))
+  ]
 
   pub of_each : (number : ℕ) → HasNode index number → (node : Node) × IsNumberOf zones index number node
-  of_each number has =
-      let place = its_place number has in
-      elim (laid.wired.its_nodes number place.0) [
-        | inl spare ↦ absurd (not_spare number place.1 spare)
-        | inr n ↦ (n.0, of_valve number n.0 n.1)
-      ]
+  of_each number (inl (place, numbered)) =
+      let early = laid.numbers.early place number numbered in
+      let most = laid.wired.many in
+      by_valve number (omega arith) (inl (place, numbered))
+  of_each number (inr (inl (late, within))) =
+      let size = size_same in
+      by_valve number (omega arith) (inr late)
+  of_each number (inr (inr (late, tells))) =
+      let taken = laid.told.here (number - size_of index.valves) tells.1 in
+      let ref = taken.0 in
+      let slots : ref.slot ≡ number - size_of index.valves = taken.1.1.1 in (
+        SetNode ref.zone taken.1.0,
+        inr (ref.slot, (taken.1.1.0, (subst (TellsOfCheck index.seats) (sym slots) tells, omega arith))),
+      )
+
+  behind_there : (number : ℕ) (node : Node) → IsNumberBehind zones index number node
+      → TellsOfCheck index.seats (number - size_of index.valves)
+  behind_there number (CheckNode id) none = absurd none
+  behind_there number (SetNode zone set) (slot, (here, (tells, is))) =
+      let same : slot ≡ number - size_of index.valves = omega arith in
+      subst (TellsOfCheck index.seats) same tells
+  behind_there number (GroupNode zone name rtype) none = absurd none
 
   pub of_only : (number : ℕ) (node : Node) → IsNumberOf zones index number node → HasNode index number
-  of_only number node is =
+  of_only number node (inl own) =
       let size = size_same in
-      let within = there number node is in
-      elim (early_or_late number node is) [
+      let within = there number node own in
+      elim (early_or_late number node own) [
         | inl early ↦ inl early
-        | inr late ↦ inr (late, omega arith)
+        | inr late ↦ inr (inl (late, omega arith))
       ]
+  of_only number node (inr behind) = inr (inr (past number node behind, behind_there number node behind))
 
 pub nodes_are_numbered : NodesAreNumbered
 nodes_are_numbered zones checks reports index laid = record {
   each = of_each zones checks reports index laid;
   only = of_only zones checks reports index laid;
-  one = one_number zones checks reports index laid;
-  apart = one_node zones checks reports index laid;
+  one = number_of_one zones checks reports index laid;
+  apart = node_of_one zones checks reports index laid;
   its_checks = check_number zones checks reports index laid;
   its_sets = set_number zones checks reports index laid;
-  decided = decided zones checks reports index laid;
+  decided = decided_by zones checks reports index laid;
   targets = target_number zones checks reports index laid;
   led = led_to zones checks reports index laid;
 }

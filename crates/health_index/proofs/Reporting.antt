@@ -98,18 +98,21 @@ module _ (zones : List Zone) (list : List (ℕ × Check)) (index : Index) (net :
   seated_still zone p w = record {
     plain = w.plain;
     told = w.told;
-    valved = λ e. let g = w.valved e in (
-      g.0,
-      g.1,
-      record {
-        behind = g.2.behind;
-        within = g.2.within;
-        target = g.2.target;
-        its_target = target_still zone p.set.rtype p.set.body g.2.target g.2.its_target;
-        condition = g.2.condition;
-        its_own = untouched own place given early g.0 g.2.behind ∙ g.2.its_own;
-      },
-    );
+    valved = λ e. elim (w.valved e) [
+      | inl alone ↦ inl alone
+      | inr g ↦ inr (
+        g.0,
+        g.1,
+        record {
+          behind = g.2.behind;
+          within = g.2.within;
+          target = g.2.target;
+          its_target = target_still zone p.set.rtype p.set.body g.2.target g.2.its_target;
+          condition = g.2.condition;
+          its_own = untouched own place given early g.0 g.2.behind ∙ g.2.its_own;
+        },
+      )
+    ];
   }
 
 -- ---- one more report
@@ -252,6 +255,7 @@ module _ (fifty : FiftyAlone) (more : OneMoreReport) (zones : List Zone) (checks
       spares = stands.wired.spares;
       many = stands.wired.many;
       its_groups = stands.wired.its_groups;
+      its_members = stands.wired.its_members;
     };
     told = stands.told;
     fits = fits;

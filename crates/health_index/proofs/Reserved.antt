@@ -6,9 +6,9 @@ use Rattle.health_valves.specs.Valves.{ValvesStandFor, Net}
 use Rattle.health_valves.specs.Pass.{IsIdle, MeetAll}
 use Rattle.health_model.specs.Statuses.{Report}
 use Rattle.health_planning.specs.Zones.{Zone}
-use Rattle.health_index.specs.Index.{Index, IsIntact, StandsFor, TellApart}
+use Rattle.health_index.specs.Index.{Index, IsIntact, OwnListed, StandsFor, TellApart}
 use Rattle.health_index.specs.Room.{Keeps}
-use Rattle.health_planning.specs.Building.{AllListed}
+use Rattle.health_planning.specs.SetRefRecord.{SetRef}
 use Rattle.health_planning.specs.Wired.{AreValvesOf, HaveValves}
 use Rattle.health_planning.specs.declared.seats.Seat.{Seat}
 
@@ -31,7 +31,8 @@ module _ (before after : Index) (keeps : Keeps before after)
     numbers = subst (HaveValves (length checks.list)) (sym keeps.numbers) is.numbers;
     seen = rw keeps.seen is.seen;
     as_many = as_many is.as_many;
-    listed = subst (AllListed zones) (sym keeps.refs) is.listed;
+    listed = subst (λ (refs : List SetRef). OwnListed zones refs after.seats) (sym keeps.refs)
+        (subst (OwnListed zones before.refs) (sym keeps.seats) is.listed);
     net = is.net;
     own = is.own;
     wired = subst (λ (seats : List Seat). AreValvesOf zones checks.list after.numbers seats is.net is.own reports) (sym keeps.seats)

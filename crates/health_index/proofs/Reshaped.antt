@@ -250,6 +250,7 @@ module _ (zones : List Zone) (new : Checks) (reports : List Report) (index : Ind
           let size = r.reshaped.size in
           let b = f.groups slot valve (let e = is in omega arith) in
           omega arith;
+      its_members = λ slot valve is. f.members slot valve (let e = is in omega arith);
     };
     told = f.told;
     fits = r.fits;

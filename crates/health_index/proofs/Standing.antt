@@ -1,5 +1,5 @@
 -- An index that was laid out stands for its configuration.
-use Rattle.std.proofs.Common.{◌≡◌, ◌+◌, ℕ, List, length, map, arith, ap, sym, ◌∙◌, Option, Some}
+use Rattle.std.proofs.Common.{◌≡◌, ◌≢◌, ◌<◌, ◌+◌, ℕ, zero, suc, List, length, map, arith, refl, ap, sym, ◌∙◌, Option, Some}
 use Rattle.std.specs.Prelude.{slice_get}
 use Rattle.std.proofs.lemmas.Option.{slice_get_within}
 use Rattle.check_model.specs.Checks.{Checks}
@@ -14,13 +14,14 @@ use Rattle.health_model.specs.Statuses.{AreReports, Report}
 use Rattle.health_planning.specs.Zones.{AreZones, Zone}
 use Rattle.health_planning.specs.SetRefRecord.{SetRef}
 use Rattle.health_planning.specs.Tables.{HaveSlotsApart}
-use Rattle.health_planning.specs.Building.{AllListed, AreGiven, AreOfEndpoints, AreSeen, AreTriggered, IsBuilt, set_trigger}
+use Rattle.health_planning.specs.Building.{AllListed, AllTell, AreGiven, AreOfEndpoints, AreSeen, AreTriggered, IsBuilt, HoldsSet, set_trigger}
 use Rattle.health_index.specs.Index.{Index, IsIntact, Space, StandsFor, TellApart}
-use Rattle.health_planning.specs.Wired.{HaveValves, ids_of, valve_with, watched_of}
+use Rattle.health_planning.specs.Wired.{HaveValves, ids_of, seat_of, set_seat, valve_with, watched_of}
 use Rattle.health_planning.specs.declared.seats.Seat.{Seat}
 use Rattle.health_planning.proofs.Places.{ids_apart}
 use Rattle.health_planning.proofs.Planned.{fed_by_condition}
-use Rattle.health_planning.proofs.Wiring.{ids_long, wired}
+use Rattle.health_planning.proofs.Told.{own_early, own_suc}
+use Rattle.health_planning.proofs.Wiring.{ids_long, watched_there, wired}
 
 some_same : {X : Type 0} {x y : X} → Some x ≡ Some y → x ≡ y
 some_same e = cc
@@ -51,12 +52,7 @@ module _ (zones : List Zone) (checks : Checks) (refs members : List SetRef) (sea
         apart = rw ids_is (ids_apart checks.list are_checks.rising);
         numbers = record { as_many = let m = valved.as_many in omega arith; apart = valved.apart; early = valved.early };
         within = λ place valve at. let early = valved.early place valve at in omega arith;
-        seated = λ slot valve is.
-            let o = built.only slot valve is in
-            let g = built.sets o.0 o.1.0 o.1.2 in
-            let b = slice_get_within blueprint.triggers (200 + o.0) (set_trigger g.named) g.trigger in
-            let at = o.1.1 in
-            omega arith;
+        seated = λ slot valve is. by_seat slot valve is (seat_of seats slot) refl;
         given = given;
         alone = λ place valve its is numbered.
             let k = kinds place its is in
@@ -67,10 +63,25 @@ module _ (zones : List Zone) (checks : Checks) (refs members : List SetRef) (sea
             fed_by_condition (slice_get blueprint.triggers valve) (feeders_in blueprint.links valve)
             ∙ built.unfed valve is;
       }
+    where
+      -- a valve of the set's own, or that of a check
+      by_seat : (slot valve : ℕ) → set_seat seats slot ≡ suc valve → (seat : ℕ) → seat_of seats slot ≡ seat
+          → valve < length blueprint.triggers
+      by_seat slot valve is zero none =
+          let early = own_early (set_seat seats slot) none in
+          let size = built.size in
+          omega arith
+      by_seat slot valve is (suc found) some =
+          let o = built.only slot found some in
+          let g = built.sets o.0 o.1.0 o.1.2 in
+          let b = slice_get_within blueprint.triggers (200 + o.0) (set_trigger g.named) g.trigger in
+          let at = o.1.1 in
+          let same = own_suc (set_seat seats slot) found some in
+          omega arith
 
   -- valves stand one after another: those of checks, of sets, of groups
-  told : TellApart zones seats
-  told = record {
+  told : ((slot : ℕ) → set_seat seats slot ≢ 0 → HoldsSet zones slot) → TellApart zones seats
+  told here = record {
     sets = λ slot other valve is is_too.
         let a = built.only slot valve is in
         let b = built.only other valve is_too in
@@ -100,13 +111,16 @@ module _ (zones : List Zone) (checks : Checks) (refs members : List SetRef) (sea
           each = g.1.each;
           only = g.1.only;
         };
+    here = here;
   }
 
   pub stands : (reports : List Report) → AreZones zones → HaveSlotsApart zones
       → IsSound (watched_of zones checks) → AreReports checks.next reports
-      → AllListed zones refs → AreSeen reports checks.list seen → AreTriggered reports checks.list numbers blueprint.triggers
+      → AllListed zones refs → AllTell zones (ids_of checks.list) numbers refs seats
+      → ((slot : ℕ) → set_seat seats slot ≢ 0 → HoldsSet zones slot)
+      → AreSeen reports checks.list seen → AreTriggered reports checks.list numbers blueprint.triggers
       → MeetAll (net_in blueprint) (own_in blueprint) valves → StandsFor zones checks reports laid
-  stands reports are_zones apart sound are_reports all are_seen triggered meet = record {
+  stands reports are_zones apart sound are_reports all tell here are_seen triggered meet = record {
     are_zones = are_zones;
     slots = apart;
     are_checks = are_checks;
@@ -116,11 +130,11 @@ module _ (zones : List Zone) (checks : Checks) (refs members : List SetRef) (sea
     numbers = valved;
     seen = are_seen;
     as_many = many;
-    listed = all;
+    listed = λ zone valve p there seat. (watched_there zones checks.list numbers refs seats blueprint are_zones apart valved built zone p there valve seat).0;
     net = net_in blueprint;
     own = own_in blueprint;
-    wired = wired zones checks.list numbers refs seats blueprint are_zones apart valved built all reports triggered;
-    told = told;
+    wired = wired zones checks.list numbers refs seats blueprint are_zones apart valved built all tell reports triggered;
+    told = told here;
     fits = fits;
     meet = meet;
     idle = idle;

@@ -2,7 +2,8 @@
 use Rattle.std.proofs.Common.{◌≡◌, ◌≢◌, ◌++◌, ℕ, suc, Bool, true, false, cond, List, [], ◌∷◌, map, arith, refl, ap, sym, ◌∙◌, inl, inr, Less, Option, None, Some}
 use Rattle.std.specs.List.{filter}
 use Rattle.std.specs.Option.{option_to_list}
-use Rattle.std.specs.Prelude.{◌||◌, is_some}
+use Rattle.std.specs.Prelude.{◌||◌, ◌⊎◌, is_some, slice_get}
+use Rattle.health_planning.specs.Looking.{RefersTo}
 use Rattle.std.proofs.lemmas.Bool.{false≢true}
 use mathlib.Core.Path.{subst}
 use Rattle.check_model.specs.Checks.{Checks, check_with}
@@ -31,15 +32,15 @@ use Rattle.zone_model.specs.Zones.{IsAmong, IsRising, is_of_group}
 use Rattle.health_planning.specs.DeltaRecord.{Delta}
 use Rattle.health_planning.specs.Tables.{HaveSlotsApart}
 use Rattle.health_planning.specs.Later.{AreLater, IsLaterAt, HasThreshold}
-use Rattle.health_planning.specs.Building.{AllListed, AreAsked, IsListed}
-use Rattle.health_planning.specs.Wired.{AreMembers, IsValveFor, IsGroupValve, IsLedTo, IsSeated, IsTarget, TellGroup, check_or_none, check_seat, group_seat, ids_of, is_watched, only_check, seat_of, set_condition, valve_with, watched_of}
+use Rattle.health_planning.specs.Building.{IsListed, HoldsSet}
+use Rattle.health_planning.specs.Wired.{AreMembers, IsValveFor, IsGroupValve, IsLedTo, IsSeated, IsTarget, TellGroup, check_or_none, check_seat, group_seat, ids_of, is_watched, only_check, own_part, seat_of, set_condition, set_seat, valve_with, watched_of}
 use Rattle.health_planning.specs.declared.seats.Seat.{Seat}
 use Rattle.health_planning.proofs.Groups.{alias_alone}
 use Rattle.health_planning.proofs.Wiring.{first_here, of_group, passes_it, rising_in}
-use Rattle.health_index.specs.Index.{Index, IsOfOneGroup, StandsFor, TellApart}
-use Rattle.health_index.specs.Leaving.{AllCameKeepValves, AllWentKeepValves, KeepsValves, AreLeft}
+use Rattle.health_index.specs.Index.{Index, IsOfOneGroup, OwnListed, StandsFor, TellApart}
+use Rattle.health_index.specs.Leaving.{AllCameKeepValves, AllWentKeepValves, AreLeft, HasNoValve, IsOneOf, KeepsValves, Moves}
 use Rattle.health_index.proofs.Keyed.{HasIts, first_by_slots, valves_by_slots, grouped, grouped_sets, its, its_same, keyed, keyed_same, plain_by_slots}
-use Rattle.health_index.proofs.Moving.{Moves, kept_or_came, moved}
+use Rattle.health_index.proofs.Moving.{moved}
 
 -- ---- sets that pass a test
 
@@ -123,9 +124,25 @@ module _ (zones : List Zone) (seats : List Seat) (net : Net) (own : ℕ → ℕ)
 
 -- ---- valves
 
+-- Another set came in the place of one that went; or neither that nor its group had a valve of its own.
+abbrev pub WentBy : List Seat → (added : List SetRef) → SetRef → Type 0
+WentBy seats added ref =
+    ((seat_of seats ref.slot ≡ 0) × (group_seat seats ref.slot ≡ 0)) ⊎ IsOneOf added ref
+
+-- A set came in the place of another, or into a slot and a group without a valve of their own; and where its
+-- slot has one, the same check alone decides it.
+pub record CameBy (zones : List Zone) (seats : List Seat) (removed : List SetRef) (ref : SetRef) : Type 0 where
+  pub set : RecordSet
+  pub names : RefersTo zones ref set
+  pub as_own : (seat_of seats ref.slot ≡ 0)
+      ⊎ ((only_check set ≢ 0) × (check_seat seats ref.slot ≡ only_check set))
+  pub place : IsOneOf removed ref
+      ⊎ ((seat_of seats ref.slot ≡ 0) × HasNoValve zones seats ref.zone set.name set.rtype)
+
 module _ (before after : List Zone) (are_before : AreZones before) (are_after : AreZones after)
     (removed added : List SetRef) (moves : Moves before after removed added) (seats : List Seat)
-    (went : AllWentKeepValves seats added removed) (came : AllCameKeepValves after seats removed added) where
+    (went : (i : ℕ) (ref : SetRef) → slice_get removed i ≡ Some ref → WentBy seats added ref)
+    (came : (i : ℕ) (ref : SetRef) → slice_get added i ≡ Some ref → CameBy after seats removed ref) where
   -- where a set or its group has a valve, a set with its key is in its slot
   stays_seated : (zone : ℕ) (p : Slotted) → IsHere (placed_in before zone) p
       → ((seat_of seats p.slot ≡ 0) × (group_seat seats p.slot ≡ 0) → ⊥)
@@ -273,18 +290,18 @@ module _ (before after : List Zone) (are_before : AreZones before) (are_after : 
         | inr other ↦
             let c = came other.0 (ref_in zone p) other.1 in
             let its_seat = alias zone p here (ap evaluates is.0) in
-            elim c.as_seated [
-              | inl plain ↦ absurd (its_seat.0 plain.0)
-              | inr same ↦ absurd (same.1 (sym same.2 ∙ its_seat.1))
+            elim c.as_own [
+              | inl plain ↦ absurd (its_seat.0 plain)
+              | inr same ↦ absurd (same.0 (sym same.1 ∙ its_seat.1))
             ]
       ]
       | inr there ↦ (p, (there, is))
     ]
 
     -- the seats that tell the valve of a group are those of its sets still
-    one_group_now : (slot valve : ℕ) → group_seat seats slot ≡ suc valve
+    pub groups_now : (slot valve : ℕ) → group_seat seats slot ≡ suc valve
         → IsOfOneGroup before seats valve → IsOfOneGroup after seats valve
-    one_group_now slot valve is g =
+    groups_now slot valve is g =
         let f = g.only slot is in
         record {
           zone = g.zone;
@@ -301,12 +318,29 @@ module _ (before after : List Zone) (are_before : AreZones before) (are_after : 
               (q.0, q.1, ap (λ (k : SetKey × ℕ). k.1) q.2 ∙ p.2);
         }
 
-    pub told_now : TellApart before seats → TellApart after seats
-    told_now told = record {
+    pub told_now : ((slot : ℕ) → set_seat seats slot ≢ 0 → HoldsSet after slot) → TellApart before seats
+        → TellApart after seats
+    told_now here told = record {
       sets = told.sets;
       kinds = told.kinds;
-      groups = λ slot valve is. one_group_now slot valve is (told.groups slot valve is);
+      groups = λ slot valve is. groups_now slot valve is (told.groups slot valve is);
+      here = here;
     }
+
+  -- each set with a valve of its own was listed, it or the one in whose place it came
+  pub listed_all : (refs : List SetRef) → OwnListed before refs seats → OwnListed after refs seats
+  listed_all refs listed zone valve q here seat = elim (moves.only zone q here) [
+    | inl old ↦ listed zone valve q old seat
+    | inr new ↦
+        let c = came new.0 (ref_in zone q) new.1 in
+        elim c.place [
+          | inl told ↦
+              let p = moves.gone zone q told in
+              subst (λ (n : ℕ). IsListed refs (record { zone = zone; slot = n })) p.2
+              (listed zone valve p.0 p.1 (ap (seat_of seats) p.2 ∙ seat))
+          | inr alone ↦ (let none = alone.0 in absurd (omega arith))
+        ]
+  ]
 
   module _ (checks : List (ℕ × Check)) (numbers : List ℕ) (net : Net) (own : ℕ → ℕ) where
     -- a group with a valve has it still
@@ -327,7 +361,7 @@ module _ (before after : List Zone) (are_before : AreZones before) (are_after : 
           is = valve_now zone name rtype members valve are w.each f.0 f.1 net own w;
         }
 
-    target_now : (zone : ℕ) (rtype : RType) (its_body : Body) (target : List ℕ)
+    pub target_now : (zone : ℕ) (rtype : RType) (its_body : Body) (target : List ℕ)
         → IsTarget before seats net own zone rtype its_body target
         → IsTarget after seats net own zone rtype its_body target
     target_now zone rtype (body.Values ttl values) target is = is
@@ -341,22 +375,25 @@ module _ (before after : List Zone) (are_before : AreZones before) (are_after : 
     seated_now zone p s = record {
       plain = s.plain;
       told = s.told;
-      valved = λ on. let g = s.valved on in (
-        g.0,
-        g.1,
-        record {
-          behind = g.2.behind;
-          within = g.2.within;
-          target = g.2.target;
-          its_target = target_now zone p.set.rtype p.set.body g.2.target g.2.its_target;
-          condition = g.2.condition;
-          its_own = g.2.its_own;
-        },
-      );
+      valved = λ on. elim (s.valved on) [
+        | inl alone ↦ inl alone
+        | inr g ↦ inr (
+          g.0,
+          g.1,
+          record {
+            behind = g.2.behind;
+            within = g.2.within;
+            target = g.2.target;
+            its_target = target_now zone p.set.rtype p.set.body g.2.target g.2.its_target;
+            condition = g.2.condition;
+            its_own = g.2.its_own;
+          },
+        )
+      ];
     }
 
     -- a set that nothing decides, in a slot without a valve
-    seated_plain : (zone : ℕ) (q : Slotted) → seat_of seats q.slot ≡ 0 → is_watched q.set ≡ false
+    seated_plain : (zone : ℕ) (q : Slotted) → set_seat seats q.slot ≡ 0 → is_watched q.set ≡ false
         → IsSeated after (ids_of checks) numbers seats net own zone q
     seated_plain zone q none off = record {
       plain = λ e. none;
@@ -366,44 +403,54 @@ module _ (before after : List Zone) (are_before : AreZones before) (are_after : 
 
     -- a set in the place of another that the same check alone decides
     seated_alike : (zone : ℕ) (p q : Slotted) → p.slot ≡ q.slot
-        → IsSeated before (ids_of checks) numbers seats net own zone p → seat_of seats q.slot ≢ 0
+        → IsSeated before (ids_of checks) numbers seats net own zone p → set_seat seats q.slot ≢ 0
         → only_check q.set ≢ 0 → check_seat seats q.slot ≡ only_check q.set
         → IsSeated after (ids_of checks) numbers seats net own zone q
     seated_alike zone p q slots s some only told = by (is_watched p.set) refl
       where
         by : (b : Bool) → is_watched p.set ≡ b
             → IsSeated after (ids_of checks) numbers seats net own zone q
-        by false off = absurd (some (ap (seat_of seats) (sym slots) ∙ s.plain off))
+        by false off = absurd (some (ap (set_seat seats) (sym slots) ∙ s.plain off))
         by true on =
-            let g = s.valved on in
             let one = ap (check_seat seats) slots ∙ told in
             let alike = same_check p.set q.set (sym (s.told on) ∙ one) only in
-            let target = no_target_of before seats net own zone p.set.rtype p.set.body g.2.target alike.off g.2.its_target in
             record {
               plain = λ off. absurd (false≢true (sym off ∙ alike.watched));
               told = λ e. told;
-              valved = λ e. (
-                g.0,
-                ap (seat_of seats) (sym slots) ∙ g.1,
-                record {
-                  behind = g.2.behind;
-                  within = g.2.within;
-                  target = g.2.target;
-                  its_target = to_no_target after seats net own zone q.set.rtype q.set.body g.2.target alike.off_too target;
-                  condition = g.2.condition ∙ ap (λ (c : Option ℕ). set_condition (map (valve_with (ids_of checks) numbers) (option_to_list c) ++ g.2.target)) alike.check;
-                  its_own = g.2.its_own;
-                },
-              );
+              valved = λ e. elim (s.valved on) [
+                | inl alone ↦ inl (
+                  alone.0,
+                  (
+                    (alike.off_too, sym alike.check ∙ alone.1.0.1),
+                    ap (set_seat seats) (sym slots) ∙ alone.1.1,
+                  ),
+                )
+                | inr g ↦
+                    let target = no_target_of before seats net own zone p.set.rtype p.set.body g.2.target alike.off g.2.its_target in
+                    inr (
+                      g.0,
+                      ap (seat_of seats) (sym slots) ∙ g.1,
+                      record {
+                        behind = g.2.behind;
+                        within = g.2.within;
+                        target = g.2.target;
+                        its_target = to_no_target after seats net own zone q.set.rtype q.set.body g.2.target alike.off_too target;
+                        condition = g.2.condition ∙ ap (λ (c : Option ℕ). set_condition (map (valve_with (ids_of checks) numbers) (option_to_list c) ++ g.2.target)) alike.check;
+                        its_own = g.2.its_own;
+                      },
+                    )
+              ];
             }
 
-    pub seated_all : ((zone : ℕ) (p : Slotted) → IsHere (placed_in before zone) p
+    pub seated_all : AllCameKeepValves after seats removed added
+        → ((zone : ℕ) (p : Slotted) → IsHere (placed_in before zone) p
         → IsSeated before (ids_of checks) numbers seats net own zone p)
         → (zone : ℕ) (p : Slotted) → IsHere (placed_in after zone) p
         → IsSeated after (ids_of checks) numbers seats net own zone p
-    seated_all seated zone q here = elim (moves.only zone q here) [
+    seated_all keeps seated zone q here = elim (moves.only zone q here) [
       | inl old ↦ seated_now zone q (seated zone q old)
       | inr new ↦
-          let c = came new.0 (ref_in zone q) new.1 in
+          let c = keeps new.0 (ref_in zone q) new.1 in
           let set_is = one_named after (ref_in zone q) c.set q.set are_after c.names here in
           elim c.as_seated [
             | inl plain ↦ seated_plain zone q plain.0 (sym (ap is_watched set_is) ∙ plain.1)
@@ -416,34 +463,6 @@ module _ (before after : List Zone) (are_before : AreZones before) (are_after : 
             ]
           ]
     ]
-
-    -- each set that something decides was listed, it or the one in whose place it came
-    pub listed_all : (refs : List SetRef) → AllListed before refs
-        → ((zone : ℕ) (p : Slotted) → IsHere (placed_in before zone) p
-        → IsSeated before (ids_of checks) numbers seats net own zone p) → AllListed after refs
-    listed_all refs listed seated zone q here on = elim (moves.only zone q here) [
-      | inl old ↦ listed zone q old on
-      | inr new ↦
-          let c = came new.0 (ref_in zone q) new.1 in
-          let set_is = one_named after (ref_in zone q) c.set q.set are_after c.names here in
-          elim c.as_seated [
-            | inl plain ↦ absurd (false≢true (sym plain.1 ∙ ap is_watched set_is ∙ on))
-            | inr same ↦ elim c.place [
-              | inl told ↦
-                  let p = moves.gone zone q told in
-                  in_place zone p.0 q p.1 p.2 same.0 (is_watched p.0.set) refl
-              | inr alone ↦ absurd (same.0 alone.0)
-            ]
-          ]
-    ]
-      where
-        in_place : (zone : ℕ) (p q : Slotted) → IsHere (placed_in before zone) p
-            → p.slot ≡ q.slot → seat_of seats q.slot ≢ 0 → (b : Bool) → is_watched p.set ≡ b
-            → IsListed refs (ref_in zone q)
-        in_place zone p q here slots some false off =
-            absurd (some (ap (seat_of seats) (sym slots) ∙ (seated zone p here).plain off))
-        in_place zone p q here slots some true on =
-            subst (λ (n : ℕ). IsListed refs (record { zone = zone; slot = n })) slots (listed zone p here on)
 
     pub node_now : (valve : ℕ) (node : Node) → IsValveFor before checks numbers seats net own valve node
         → (now : Node) × IsValveFor after checks numbers seats net own valve now
@@ -474,37 +493,78 @@ leaves_follow before old after new delta (inl (made, (allowed, edits, kept))) =
     subst (AreLater old) (sym kept) (follows_itself old)
 leaves_follow before old after new delta (inr (stayed, follows, none)) = follows
 
--- Each set that something decides had a valve, or is told to have come.
-pub asked_after : (before : List Zone) (old : Checks) (after : List Zone) (new : Checks)
-    (reports : List Report) (index : Index) (delta : Delta) → AreZones after
-    → StandsFor before old reports index → AreLeft before old after new delta
-    → AreAsked after false index.refs delta.added
-asked_after before old after new reports index delta are_after stands (inl (made, (allowed, edits, kept))) zone p here on =
-    elim (kept_or_came before after stands.are_zones are_after made delta allowed edits zone p here) [
-      | inl was ↦ inr (inl (stands.listed zone p was on))
-      | inr came ↦ inr (inr came)
-    ]
-asked_after before old after new reports index delta are_after stands (inr (stayed, follows, none)) zone p here on =
-    inr (inl (stands.listed zone p (subst (λ (l : List Zone). IsHere (placed_in l zone) p) stayed here) on))
-
 -- the seat of an alias whose target's health counts tells a valve, and names no check
-alias_seated : (zones : List Zone) (checks : Checks) (reports : List Report) (index : Index)
+pub alias_seated : (zones : List Zone) (checks : Checks) (reports : List Report) (index : Index)
     → StandsFor zones checks reports index → (zone : ℕ) (p : Slotted)
     → IsHere (placed_in zones zone) p → evaluates p.set.body ≡ true
     → (seat_of index.seats p.slot ≢ 0) × (check_seat index.seats p.slot ≡ 0)
 alias_seated zones checks reports index stands zone p here on =
     let w = stands.wired.its_sets zone p here in
-    let decided : is_watched p.set ≡ true = ap (λ (b : Bool). is_some p.set.check || b) on ∙ or_true p.set.check in
-    let seat = (w.valved decided).1 in
-    (λ none. omega arith, w.told decided ∙ alias_alone p.set on)
+    let decided : is_watched p.set ≡ true = ap (λ (b : Bool). is_some p.set.check || b) on ∙ or_true p.set.check in (
+      elim (w.valved decided) [
+        | inl alone ↦ absurd (false≢true (sym alone.1.0.0 ∙ on))
+        | inr g ↦ (λ none. let seat = g.1 in omega arith)
+      ],
+      w.told decided ∙ alias_alone p.set on,
+    )
   where
     or_true : (check : Option ℕ) → is_some check || true ≡ true
     or_true None = refl
     or_true (Some id) = refl
 
+-- what keeps all valves keeps those of sets' own
+went_by : (seats : List Seat) (added removed : List SetRef) → AllWentKeepValves seats added removed
+    → (i : ℕ) (ref : SetRef) → slice_get removed i ≡ Some ref → WentBy seats added ref
+went_by seats added removed went i ref at = elim (went i ref at) [
+  | inl none ↦ inl (ap own_part none.0, none.1)
+  | inr other ↦ inr other
+]
+
+came_by : (zones : List Zone) (seats : List Seat) (removed added : List SetRef)
+    → AllCameKeepValves zones seats removed added
+    → (i : ℕ) (ref : SetRef) → slice_get added i ≡ Some ref → CameBy zones seats removed ref
+came_by zones seats removed added came i ref at =
+    let c = came i ref at in
+    record {
+      set = c.set;
+      names = c.names;
+      as_own = elim c.as_seated [
+        | inl plain ↦ inl (ap own_part plain.0)
+        | inr same ↦ inr (same.1, same.2)
+      ];
+      place = elim c.place [
+        | inl told ↦ inl told
+        | inr alone ↦ inr (ap own_part alone.0, alone.1)
+      ];
+    }
+
+-- a seat that tells something is that of a set still
+taken_stays : (before after : List Zone) (removed added : List SetRef) (seats : List Seat)
+    → Moves before after removed added → AllWentKeepValves seats added removed
+    → AllCameKeepValves after seats removed added → (slot : ℕ) → set_seat seats slot ≢ 0
+    → HoldsSet before slot → HoldsSet after slot
+taken_stays before after removed added seats moves went came slot some (ref, (named, (names, same))) =
+    let p : Slotted = record { slot = ref.slot; set = named } in
+    elim (moves.stays ref.zone p names) [
+      | inl told ↦ elim (went told.0 (ref_in ref.zone p) told.1) [
+        | inl none ↦ absurd (some (ap (set_seat seats) (sym same) ∙ none.0))
+        | inr other ↦
+            let c = came other.0 (ref_in ref.zone p) other.1 in
+            (ref_in ref.zone p, (c.set, (c.names, same)))
+      ]
+      | inr there ↦ (ref, (named, (there, same)))
+    ]
+
 module _ (before after : List Zone) (reports : List Report) (index : Index) (delta : Delta)
     (are_after : AreZones after) (slots_after : HaveSlotsApart after)
     (valve_leaving : KeepsValves after index.seats delta) where
+  by_went : (i : ℕ) (ref : SetRef) → slice_get delta.removed i ≡ Some ref → WentBy index.seats delta.added ref
+  by_went = went_by index.seats delta.added delta.removed valve_leaving.went
+
+  by_came : (i : ℕ) (ref : SetRef) → slice_get delta.added i ≡ Some ref
+      → CameBy after index.seats delta.removed ref
+  by_came = came_by after index.seats delta.removed delta.added valve_leaving.came
+
   edited : (checks : Checks) → IsSound (watched_of after checks)
       → StandsFor before checks reports index
       → Moves before after delta.removed delta.added → StandsFor after checks reports index
@@ -518,25 +578,27 @@ module _ (before after : List Zone) (reports : List Report) (index : Index) (del
     numbers = stands.numbers;
     seen = stands.seen;
     as_many = stands.as_many;
-    listed = listed_all before after stands.are_zones are_after delta.removed delta.added moves index.seats valve_leaving.went valve_leaving.came checks.list index.numbers
-        stands.net stands.own index.refs stands.listed stands.wired.its_sets;
+    listed = listed_all before after stands.are_zones are_after delta.removed delta.added moves index.seats by_went by_came
+        index.refs stands.listed;
     net = stands.net;
     own = stands.own;
     wired = record {
       its_checks = stands.wired.its_checks;
-      its_sets = seated_all before after stands.are_zones are_after delta.removed delta.added moves index.seats valve_leaving.went valve_leaving.came checks.list index.numbers
-          stands.net stands.own stands.wired.its_sets;
+      its_sets = seated_all before after stands.are_zones are_after delta.removed delta.added moves index.seats by_went by_came checks.list index.numbers
+          stands.net stands.own valve_leaving.came stands.wired.its_sets;
       its_nodes = λ valve within.
           elim (stands.wired.its_nodes valve within) [
             | inl spare ↦ inl spare
-            | inr n ↦ inr (node_now before after stands.are_zones are_after delta.removed delta.added moves index.seats valve_leaving.went valve_leaving.came checks.list index.numbers stands.net stands.own valve n.0 n.1)
+            | inr n ↦ inr (node_now before after stands.are_zones are_after delta.removed delta.added moves index.seats by_went by_came checks.list index.numbers stands.net stands.own valve n.0 n.1)
           ];
       spares = stands.wired.spares;
       many = stands.wired.many;
       its_groups = stands.wired.its_groups;
+      its_members = stands.wired.its_members;
     };
-    told = told_now before after stands.are_zones are_after delta.removed delta.added moves index.seats valve_leaving.went valve_leaving.came
-        (alias_seated before checks reports index stands) stands.told;
+    told = told_now before after stands.are_zones are_after delta.removed delta.added moves index.seats by_went by_came
+        (alias_seated before checks reports index stands)
+        (λ slot some. taken_stays before after delta.removed delta.added index.seats moves valve_leaving.went valve_leaving.came slot some (stands.told.here slot some)) stands.told;
     fits = stands.fits;
     meet = stands.meet;
     idle = stands.idle;

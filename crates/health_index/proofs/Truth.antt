@@ -1,5 +1,5 @@
 -- An index that stands for a configuration tells its health.
-use Rattle.std.proofs.Common.{◌≡◌, ◌+◌, ◌*◌, ℕ, zero, suc, Bool, true, false, List, [], ◌∷◌, ◌++◌, length, map, add-one, arith, refl, ap, sym, ◌∙◌, inl, inr, Some, None, Option}
+use Rattle.std.proofs.Common.{◌≡◌, ◌<◌, ◌+◌, ◌*◌, ◌-◌, ℕ, zero, suc, Bool, true, false, List, [], ◌∷◌, ◌++◌, length, map, add-one, arith, refl, ap, sym, ◌∙◌, inl, inr, Some, None, Option}
 use Rattle.std.specs.Prelude.{◌&&◌, ◌||◌, ◌⊎◌, nat_le, nat_lt, is_some, slice_get, slice_index}
 use Rattle.std.specs.List.{filter, list_any}
 use Rattle.std.specs.Option.{option_to_list}
@@ -9,7 +9,7 @@ use Rattle.calculated_health.specs.Status.{swapped_if}
 use Rattle.check_model.specs.Checks.{Checks, children_of}
 use Rattle.check_model.specs.declared.checks.Check.{Check}
 use Rattle.check_model.specs.declared.checks.Check.TheVariants.{Endpoint, Calculated}
-use Rattle.health_valves.specs.Valves.{MeetsEquation, Condition, Net, count, equation, value_of}
+use Rattle.health_valves.specs.Valves.{MeetsEquation, Condition, Net, count, equation, size_of, value_of}
 use Rattle.health_valves.specs.Pass.{MeetAll}
 use Rattle.health_model.proofs.Members.{of_filter}
 use Rattle.health_model.specs.Healthy.{Watched, by_check, by_target, group_value, set_value, sets_of as sets_at}
@@ -27,7 +27,7 @@ use Rattle.health_planning.specs.SetRefRecord.{SetRef}
 use Rattle.zone_model.specs.Slotted.{IsHere, Slotted, sets_of}
 use Rattle.zone_model.specs.Zones.{IsAmong, group, is_of_group}
 use Rattle.health_planning.specs.Looking.{RefersTo}
-use Rattle.health_index.specs.Index.{HasNumber, Index, IsLaidFor, StandsFor, healthy_in}
+use Rattle.health_index.specs.Index.{HasNumber, Index, IsLaidFor, IsNumberBehind, IsNumberOf, StandsFor, healthy_in, value_at}
 use Rattle.health_index.specs.Laws.{IndexTells, NodesHaveValues, StandsWhereAllMeet}
 use Rattle.health_index.specs.Values.{AreValues, members_in, node_value, seat_in, value_of_set, value_or}
 use Rattle.health_planning.proofs.MembersOfZoneList.{set_in}
@@ -37,8 +37,10 @@ use Rattle.health_planning.proofs.Places.{found, id_at, id_there, one_place}
 use Rattle.health_planning.proofs.Watching.{zone_sets as sets_seen}
 use Rattle.health_planning.proofs.Wiring.{first_here, first_of, member_there}
 use Rattle.health_index.proofs.Keyed.{grouped_sets}
-use Rattle.health_index.proofs.Numbering.{valve_for, of_valve, there}
-use Rattle.health_planning.specs.Wired.{AreMembers, IsFirstIn, IsValveFor, IsGroupValve, IsGroupSeat, IsTarget, check_need, check_own, check_condition, valves_of, group_seat, ids_of, is_inverted, is_watched, open_in, place_of, plain_among, seat_of, spare_condition, valve_with, watched_of, with_valve, plain}
+use Rattle.health_index.proofs.Alone.{alone_decides, early_in}
+use Rattle.health_index.proofs.Numbering.{of_valve, set_number, there, valve_for}
+use Rattle.health_planning.proofs.Told.{own_suc}
+use Rattle.health_planning.specs.Wired.{AreMembers, IsAlone, IsFirstIn, IsValveFor, IsGroupValve, IsGroupSeat, IsTarget, check_need, check_own, check_condition, valves_of, group_seat, ids_of, is_inverted, is_watched, open_in, place_of, plain_among, seat_of, set_seat, spare_condition, valve_with, watched_of, with_valve, plain}
 use Rattle.health_planning.specs.declared.seats.Seat.{Seat}
 
 -- a valve at which nothing has to be counted is open
@@ -272,7 +274,7 @@ module _ (zones : List Zone) (checks : Checks) (reports : List Report) (index : 
       ∙ ap valve_open (number_is index.numbers place valve numbered)
 
   seated : (zone : ℕ) (p : Slotted) → IsHere (placed_in zones zone) p
-      → v (SetNode zone p.set) ≡ open_in valve_open (seat_of index.seats p.slot)
+      → v (SetNode zone p.set) ≡ open_in valve_open (set_seat index.seats p.slot)
   seated zone p here = sym (agrees (record { zone = zone; slot = p.slot }) p.set here)
 
   group_valued : (zone : ℕ) (name : List (List ℕ)) (rtype : RType) (members : List Slotted) (valve : ℕ)
@@ -294,7 +296,8 @@ module _ (zones : List Zone) (checks : Checks) (reports : List Report) (index : 
   pub valued : (valve : ℕ) (n : Node) → IsValve valve n → v n ≡ valve_open valve
   valued valve (CheckNode id) (place, (check, (at, numbered))) = check_valued place valve id check at numbered
   valued valve (SetNode zone set) (slot, (here, seat)) =
-      seated zone (record { slot = slot; set = set }) here ∙ ap (open_in valve_open) seat
+      seated zone (record { slot = slot; set = set }) here
+      ∙ ap (open_in valve_open) (own_suc (set_seat index.seats slot) valve seat)
   valued valve (GroupNode zone name rtype) (members, (are, w)) =
       group_valued zone name rtype members valve are w
 
@@ -320,7 +323,7 @@ module _ (zones : List Zone) (checks : Checks) (reports : List Report) (index : 
       sym (condition_equals valve (plain_among index.seats members) _ w.condition w.its_own)
       ∙ one_open valve_open index.seats members
       ∙ any_same (λ (p : Slotted). open_in valve_open (seat_of index.seats p.slot)) (λ (p : Slotted). value_of_set zones index zone p.set) members
-      (λ p m. sym (seated zone p (are.here p m)))
+      (λ p m. sym (seated zone p (are.here p m) ∙ ap (open_in valve_open) (laid.wired.its_members p.slot valve (w.each p m))))
       ∙ sym (any_mapped (value_of_set zones index zone) members)
       ∙ ap (list_any (value_of_set zones index zone)) are.sets
       ∙ ap (λ (sets : List RecordSet). list_any (value_of_set zones index zone) (filter (is_of_group name rtype) sets)) (sym (zone_sets zones checks zone)))
@@ -341,7 +344,8 @@ module _ (zones : List Zone) (checks : Checks) (reports : List Report) (index : 
       → seat_of index.seats p.slot ≡ suc valve
       → local watched reports v (SetNode zone p.set) ≡ equation laid.net laid.own valve_open valve
   set_equals zone p valve here seat =
-      let w = (condition_seated zones its_ids index.numbers index.seats laid.net laid.own laid.wired.its_sets zone p valve here seat).is in
+      let w = (condition_seated zones its_ids index.numbers index.seats laid.net laid.own laid.wired.its_sets
+      (early_in zones checks index.numbers laid.numbers laid.sound) zone p valve here seat).is in
       ap (λ (ids : List ℕ). by_check (λ id. valve_open (valve_with ids index.numbers id)) p.set.check && by_target (of_group zone) p.set.rtype p.set.body) laid.ids
       ∙ sym (target_equals zone p.set p.set.rtype p.set.body w.target w.its_target)
       ∙ condition_equals valve 0 _ w.condition w.its_own
@@ -369,6 +373,21 @@ module _ (zones : List Zone) (checks : Checks) (reports : List Report) (index : 
       → v (SetNode zone p.set) ≡ true
   bare_set zone p here off =
       seated zone p here ∙ ap (open_in valve_open) ((laid.wired.its_sets zone p here).plain off)
+
+  -- a set that a check alone decides
+  alone_valued : (zone : ℕ) (p : Slotted) → IsHere (placed_in zones zone) p → (id : ℕ)
+      → set_seat index.seats p.slot ≡ suc (valve_with its_ids index.numbers id)
+      → v (SetNode zone p.set) ≡ v (CheckNode id)
+  alone_valued zone p here id seat =
+      seated zone p here ∙ ap (open_in valve_open) seat
+      ∙ ap (λ (ids : List ℕ). valve_open (valve_with ids index.numbers id)) (sym laid.ids)
+
+  pub alone_meets : (zone : ℕ) (p : Slotted) → IsHere (placed_in zones zone) p → (id : ℕ) → IsAlone p.set id
+      → set_seat index.seats p.slot ≡ suc (valve_with its_ids index.numbers id)
+      → Meets watched reports v (SetNode zone p.set)
+  alone_meets zone p here id alone seat =
+      alone_valued zone p here id seat
+      ∙ sym (alone_decides (λ other. v (CheckNode other)) (of_group zone) p.set id alone)
 
   bare_group : (zone : ℕ) (name : List (List ℕ)) (rtype : RType)
       → seat_in index.seats (members_in zones zone name rtype) ≡ 0
@@ -407,9 +426,10 @@ module _ (zones : List Zone) (checks : Checks) (reports : List Report) (index : 
           → ((valve : ℕ) × IsValve valve (SetNode zone p.set)) ⊎ Meets watched reports v (SetNode zone p.set)
       by p here false off =
           inr (bare_set zone p here off ∙ sym (nothing_decides (λ id. v (CheckNode id)) (of_group zone) p.set off))
-      by p here true on =
-          let g = (laid.wired.its_sets zone p here).valved on in
-          inl (g.0, (p.slot, (here, g.1)))
+      by p here true on = elim ((laid.wired.its_sets zone p here).valved on) [
+        | inl alone ↦ inr (alone_meets zone p here alone.0 alone.1.0 alone.1.1)
+        | inr g ↦ inl (g.0, (p.slot, (here, g.1)))
+      ]
   valve_or_meets (GroupNode zone name rtype) is =
       by (seat_in index.seats (members_in zones zone name rtype)) refl
     where
@@ -451,9 +471,31 @@ module _ (zones : List Zone) (checks : Checks) (reports : List Report) (index : 
         | inr n ↦ of_meet valve n.0 n.1 (all n.0 (node_there valve n.0 n.1))
       ]
 
+  -- the value of a number
+  at_own : (number : ℕ) → number < laid.net.size → value_at index number ≡ valve_open number
+  at_own number within =
+      let size = laid.fits.laid.size in
+      rw (lt-ltb number (size_of index.valves) (omega arith)) refl
+
+  at_behind : (number : ℕ) (n : Node) → IsNumberBehind zones index number n → v n ≡ value_at index number
+  at_behind number (CheckNode id) none = absurd none
+  at_behind number (SetNode zone set) (slot, (here, (tells, is))) =
+      let same : number - size_of index.valves ≡ slot = omega arith in
+      let late : value_at index number ≡ open_in valve_open (set_seat index.seats (number - size_of index.valves)) =
+      rw (le-ltb number (size_of index.valves) (omega arith)) refl in
+      seated zone (record { slot = slot; set = set }) here
+      ∙ ap (λ (k : ℕ). open_in valve_open (set_seat index.seats k)) (sym same) ∙ sym late
+  at_behind number (GroupNode zone name rtype) none = absurd none
+
+  numbered : (number : ℕ) (n : Node) → IsNumberOf zones index number n → v n ≡ value_at index number
+  numbered number n (inl own) =
+      valued number n (valve_for zones checks reports index laid number n own)
+      ∙ sym (at_own number (there zones checks reports index laid number n own))
+  numbered number n (inr behind) = at_behind number n behind
+
   pub values : AreValues zones checks index
   values = record {
-    numbered = λ number n is. valued number n (valve_for zones checks reports index laid number n is);
+    numbered = numbered;
     sets = λ zone p here none. by_watch zone p here none (is_watched p.set) refl;
     groups = λ zone name rtype none. by_seat zone name rtype none (seat_in index.seats (members_in zones zone name rtype)) refl;
   }
@@ -463,8 +505,7 @@ module _ (zones : List Zone) (checks : Checks) (reports : List Report) (index : 
           → v (SetNode zone p.set) ≡ true
       by_watch zone p here none false off = bare_set zone p here off
       by_watch zone p here none true on =
-          let g = (laid.wired.its_sets zone p here).valved on in
-          absurd (none (g.0, (p.slot, (here, g.1))))
+          absurd (none (set_number zones checks reports index laid zone p here on))
 
       by_seat : (zone : ℕ) (name : List (List ℕ)) (rtype : RType)
           → (HasNumber zones index (GroupNode zone name rtype) → ⊥) → (n : ℕ)
@@ -474,7 +515,7 @@ module _ (zones : List Zone) (checks : Checks) (reports : List Report) (index : 
       by_seat zone name rtype none (suc valve) seat =
           absurd (none (
             valve,
-            (
+            inl (
               members_in zones zone name rtype,
               (
                 listed_are zones zone name rtype,
@@ -554,8 +595,11 @@ tells one views zones checks reports index stands =
     record {
       sets = λ set named names. agrees set named names ∙ same (SetNode set.zone named) (is_node zones checks set named names);
       statuses = λ id check at. same (CheckNode id) (check, at);
-      groups = λ number zone name rtype is.
-          let its = valve_for zones checks reports index laid number (GroupNode zone name rtype) is in
-          sym (valued zones checks reports index laid agrees number (GroupNode zone name rtype) its)
-          ∙ same (GroupNode zone name rtype) (node_there zones checks reports index laid agrees number (GroupNode zone name rtype) its);
+      groups = λ number zone name rtype is. elim is [
+        | inl own ↦
+            let its = valve_for zones checks reports index laid number (GroupNode zone name rtype) own in
+            sym (valued zones checks reports index laid agrees number (GroupNode zone name rtype) its)
+            ∙ same (GroupNode zone name rtype) (node_there zones checks reports index laid agrees number (GroupNode zone name rtype) its)
+        | inr none ↦ absurd none
+      ];
     }

@@ -114,6 +114,7 @@ module _ (zones : List Zone) (old new : Checks) (reports : List Report) (index :
             (λ n behind. refl) (λ n behind. refl) stands.wired.its_sets
             (λ zone p id in_zone is. placed id) stands.numbers.early nodes;
         groups = λ slot valve is. stands.wired.its_groups slot valve (let e = is in omega arith);
+        members = λ slot valve is. stands.wired.its_members slot valve (let e = is in omega arith);
         spares = stands.wired.spares;
         many = stands.wired.many;
         alone = λ place valve numbered.
@@ -290,6 +291,7 @@ module _ (zones : List Zone) (old new : Checks) (reports : List Report) (index :
             stands.wired.its_sets placed stands.numbers.early
             (nodes zones old new reports index stands are_new endpoints later);
         groups = λ slot found is. stands.wired.its_groups slot found (let e = is in omega arith);
+        members = λ slot found is. stands.wired.its_members slot found (let e = is in omega arith);
         spares = λ found is. stands.wired.spares found (is.0, λ place here. is.1 place (still_there index.numbers valve found place here));
         many = stands.wired.many;
         alone = λ place found numbered. elim (number_of_new place found numbered) [

@@ -7,14 +7,14 @@ use Rattle.check_model.specs.declared.checks.Check.{Check}
 use Rattle.check_model.specs.declared.checks.Check.TheVariants.{Endpoint, Calculated}
 use Rattle.checker_state.specs.Standing.{Seen, nothing}
 use Rattle.checker_state.specs.Standing.{StandsFor as HasSeen}
-use Rattle.health_index.specs.Index.{Index, IsEndpoint, TellApart}
+use Rattle.health_index.specs.Index.{Index, IsEndpoint, OwnListed, TellApart}
 use Rattle.health_index.specs.declared.following.Way.{Way}
 use Rattle.health_index.specs.declared.following.Way.TheVariants as way
 use Rattle.health_model.specs.Nodes.{Node}
 use Rattle.health_model.specs.Statuses.{AreReports, Report, passing}
-use Rattle.health_planning.specs.Building.{AllListed, AreSeen}
+use Rattle.health_planning.specs.Building.{AreSeen}
 use Rattle.health_planning.specs.Tables.{HaveSlotsApart}
-use Rattle.health_planning.specs.Wired.{HaveValves, IsSeated, IsSpare, IsValveFor, check_need, check_own, group_seat, ids_of, is_inverted, spare_condition}
+use Rattle.health_planning.specs.Wired.{HaveValves, IsSeated, IsSpare, IsValveFor, check_need, check_own, group_seat, ids_of, is_inverted, seat_of, set_seat, spare_condition, valve_with}
 use Rattle.health_planning.specs.Zones.{AreZones, Zone, placed_in}
 use Rattle.zone_model.specs.Slotted.{IsHere, Slotted}
 use Rattle.health_valves.specs.Pass.{IsIdle, MeetAll}
@@ -58,6 +58,12 @@ IsWay ids list way.More = AreMore ids list
 IsWay ids list (way.Fewer gone) = AreFewer ids gone list
 IsWay ids list way.Other = (AreSame ids list → ⊥) × ((AreMore ids list → ⊥)
     × ((gone : ℕ) → AreFewer ids gone list → ⊥))
+
+-- Each check that was there, by its number, has the valve that it had.
+abbrev pub KeepValves : (ids numbers ids_now numbers_now : List ℕ) → Type 0
+KeepValves ids numbers ids_now numbers_now = (place place_now id : ℕ)
+    → slice_get ids place ≡ Some id → slice_get ids_now place_now ≡ Some id
+    → valve_with ids_now numbers_now id ≡ valve_with ids numbers id
 
 -- ---- what checkers saw
 
@@ -134,7 +140,7 @@ pub record IsFollowed (zones : List Zone) (checks : Checks) (reports : List Repo
   pub numbers : HaveValves (length checks.list) index.numbers
   pub seen : AreSeen reports checks.list index.seen
   pub as_many : length index.seen ≡ length index.ids
-  pub listed : AllListed zones index.refs
+  pub listed : OwnListed zones index.refs index.seats
   pub net : Net
   pub own : ℕ → ℕ
   pub sets : (zone : ℕ) (p : Slotted) → IsHere (placed_in zones zone) p
@@ -142,6 +148,8 @@ pub record IsFollowed (zones : List Zone) (checks : Checks) (reports : List Repo
   pub nodes : (valve : ℕ) → 200 ≤ valve → valve < net.size
       → (node : Node) × IsValveFor zones checks.list index.numbers index.seats net own valve node
   pub groups : (slot valve : ℕ) → group_seat index.seats slot ≡ valve + 1 → valve < net.size
+  pub members : (slot valve : ℕ) → group_seat index.seats slot ≡ valve + 1
+      → set_seat index.seats slot ≡ seat_of index.seats slot
   pub spares : (valve : ℕ) → IsSpare index.numbers valve
       → net.condition valve ≡ spare_condition
   pub many : 200 ≤ net.size

@@ -1,5 +1,5 @@
 -- When an index stands for a configuration and reports.
-use Rattle.std.specs.Prelude.{◌≡◌, ◌≤◌, ◌<◌, ◌⊎◌, ℕ, suc, Bool, true, List, [], length, Option, None, Some, slice_get, ⊤}
+use Rattle.std.specs.Prelude.{◌≡◌, ◌≢◌, ◌≤◌, ◌<◌, ◌+◌, ◌-◌, ◌⊎◌, ℕ, suc, Bool, true, if◌then◌else◌, nat_lt, List, [], length, Option, None, Some, slice_get, ⊤}
 use Rattle.check_model.specs.Checks.{Checks, check_with}
 use Rattle.check_model.specs.Checks.{IsSound as AreSoundChecks}
 use Rattle.check_model.specs.declared.checks.Check.{Check}
@@ -20,8 +20,9 @@ use Rattle.health_planning.specs.SetRefRecord.{SetRef}
 use Rattle.health_planning.specs.Tables.{HaveSlotsApart}
 use Rattle.zone_model.specs.Slotted.{IsHere, Slotted}
 use Rattle.health_planning.specs.Looking.{RefersTo}
-use Rattle.health_planning.specs.Building.{AllListed, AreGiven, IsSeen}
-use Rattle.health_planning.specs.Wired.{AreMembers, HasSlot, HaveValves, IsGroupSeat, IsLedTo, IsSpare, AreValvesOf, StandApart, TellGroup, group_seat, ids_of, is_watched, open_in, seat_of, valve_with, watched_of}
+use Rattle.health_planning.specs.Building.{AreGiven, IsListed, IsSeen, HoldsSet}
+use Rattle.health_planning.specs.Changes.{ref_in}
+use Rattle.health_planning.specs.Wired.{AreMembers, HasSlot, HaveValves, IsGroupSeat, IsLedTo, IsSpare, AreValvesOf, StandApart, TellGroup, group_seat, ids_of, is_watched, open_in, seat_of, set_seat, valve_with, watched_of}
 use Rattle.health_planning.specs.declared.seats.Seat.{Seat}
 
 -- For how many there is room: numbers of checks and what their checkers saw, now and before a
@@ -64,7 +65,8 @@ pub record IsOfOneGroup (zones : List Zone) (seats : List Seat) (valve : ℕ) : 
   pub each : TellGroup seats members valve
   pub only : (slot : ℕ) → group_seat seats slot ≡ suc valve → HasSlot members slot
 
--- Seats tell no valve for two sets, for a set and a group, or for two groups.
+-- Seats tell no valve of their own for two sets, none for a set and a group, or for two groups. One that tells
+-- a valve is that of a set.
 pub record TellApart (zones : List Zone) (seats : List Seat) : Type 0 where
   pub sets : (slot other valve : ℕ) → seat_of seats slot ≡ suc valve
       → seat_of seats other ≡ suc valve → slot ≡ other
@@ -72,6 +74,12 @@ pub record TellApart (zones : List Zone) (seats : List Seat) : Type 0 where
       → group_seat seats other ≡ suc valve → ⊥
   pub groups : (slot valve : ℕ) → group_seat seats slot ≡ suc valve
       → IsOfOneGroup zones seats valve
+  pub here : (slot : ℕ) → set_seat seats slot ≢ 0 → HoldsSet zones slot
+
+-- Each set with a valve of its own is one of those that are listed.
+abbrev pub OwnListed : List Zone → List SetRef → List Seat → Type 0
+OwnListed zones refs seats = (zone valve : ℕ) (p : Slotted) → IsHere (placed_in zones zone) p
+    → seat_of seats p.slot ≡ suc valve → IsListed refs (ref_in zone p)
 
 -- The index is laid out for a sound configuration and reports: its valves are wired for them, and what
 -- is counted is of them. Values may have to be worked out still; but a valve that no check has is open.
@@ -88,7 +96,7 @@ pub record IsLaidFor (zones : List Zone) (checks : Checks) (reports : List Repor
       → slice_get checks.list place ≡ Some (id, check) → slice_get index.seen place ≡ Some its
       → IsSeen reports id check its
   pub as_many : length index.seen ≡ length index.ids
-  pub listed : AllListed zones index.refs
+  pub listed : OwnListed zones index.refs index.seats
   pub net : Net
   pub own : ℕ → ℕ
   pub wired : AreValvesOf zones checks.list index.numbers index.seats net own reports
@@ -112,7 +120,7 @@ pub record StandsFor (zones : List Zone) (checks : Checks) (reports : List Repor
       → slice_get checks.list place ≡ Some (id, check) → slice_get index.seen place ≡ Some its
       → IsSeen reports id check its
   pub as_many : length index.seen ≡ length index.ids
-  pub listed : AllListed zones index.refs
+  pub listed : OwnListed zones index.refs index.seats
   pub net : Net
   pub own : ℕ → ℕ
   pub wired : AreValvesOf zones checks.list index.numbers index.seats net own reports
@@ -123,30 +131,57 @@ pub record StandsFor (zones : List Zone) (checks : Checks) (reports : List Repor
 
 -- Whether the set that a reference names is healthy.
 abbrev pub healthy_in : Index → SetRef → Bool
-healthy_in index set = open_in (value_of index.valves) (seat_of index.seats set.slot)
+healthy_in index set = open_in (value_of index.valves) (set_seat index.seats set.slot)
 
 -- ---- numbers of nodes
 
--- The number of a node is that of its valve. A set that nothing decides has none: its health never
--- waits to be worked out. Nor has a group one to which no evaluated alias leads.
-abbrev pub IsNumberOf : List Zone → Index → (number : ℕ) → Node → Type 0
-IsNumberOf zones index number (CheckNode id) =
+-- the number of a node that has a valve is that of the valve
+abbrev pub IsOwnNumber : List Zone → Index → (number : ℕ) → Node → Type 0
+IsOwnNumber zones index number (CheckNode id) =
     (place : ℕ) × ((slice_get index.ids place ≡ Some id) × (slice_get index.numbers place ≡ Some number))
-IsNumberOf zones index number (SetNode zone set) =
+IsOwnNumber zones index number (SetNode zone set) =
     (slot : ℕ) × (IsHere (placed_in zones zone) (record { slot = slot; set = set })
     × (seat_of index.seats slot ≡ suc number))
-IsNumberOf zones index number (GroupNode zone name rtype) =
+IsOwnNumber zones index number (GroupNode zone name rtype) =
     (members : List Slotted) × (AreMembers zones zone name rtype members
     × IsGroupSeat index.seats members number)
+
+-- the seat in a slot tells the valve of a check, and none of the set's own
+abbrev pub TellsOfCheck : List Seat → (slot : ℕ) → Type 0
+TellsOfCheck seats slot = (seat_of seats slot ≡ 0) × (set_seat seats slot ≢ 0)
+
+-- That of a set which a check alone decides, and whose seat tells the valve of that check, comes behind
+-- those of all valves, by its slot.
+abbrev pub IsNumberBehind : List Zone → Index → (number : ℕ) → Node → Type 0
+IsNumberBehind zones index number (CheckNode id) = ⊥
+IsNumberBehind zones index number (SetNode zone set) =
+    (slot : ℕ) × (IsHere (placed_in zones zone) (record { slot = slot; set = set })
+    × (TellsOfCheck index.seats slot × (number ≡ size_of index.valves + slot)))
+IsNumberBehind zones index number (GroupNode zone name rtype) = ⊥
+
+-- The number of a node. A set that nothing decides has none: its health never waits to be worked out. Nor
+-- has a group one to which no evaluated alias leads.
+abbrev pub IsNumberOf : List Zone → Index → (number : ℕ) → Node → Type 0
+IsNumberOf zones index number node =
+    IsOwnNumber zones index number node ⊎ IsNumberBehind zones index number node
 
 abbrev pub HasNumber : List Zone → Index → Node → Type 0
 HasNumber zones index node = (number : ℕ) × IsNumberOf zones index number node
 
--- The index has a node of the number: that of a check, and behind the first 200 valves that of a set or
--- a group.
+-- The index has a node of the number: that of a check; behind the first 200 valves that of a set or a group;
+-- and behind all valves that of a set which a check alone decides.
 abbrev pub HasNode : Index → (number : ℕ) → Type 0
 HasNode index number = ((place : ℕ) × (slice_get index.numbers place ≡ Some number))
-    ⊎ ((200 ≤ number) × (number < size_of index.valves))
+    ⊎ (((200 ≤ number) × (number < size_of index.valves))
+    ⊎ ((size_of index.valves ≤ number)
+    × TellsOfCheck index.seats (number - size_of index.valves)))
+
+-- The value of a number: of the valve that has it, and behind all valves that of the check by which a set
+-- is healthy.
+abbrev pub value_at : Index → (number : ℕ) → Bool
+value_at index number = if nat_lt number (size_of index.valves)
+    then value_of index.valves number
+    else open_in (value_of index.valves) (set_seat index.seats (number - size_of index.valves))
 
 -- Each number that the index has is that of one node alone, and a node has one number at most. Each
 -- check has one, each set that something decides and no other set, and each group to which an
@@ -203,7 +238,7 @@ pub record IsIntact (index : Index) : Type 0 where
   pub apart : StandApart index.ids
   pub numbers : HaveValves (length index.ids) index.numbers
   pub within : (place valve : ℕ) → slice_get index.numbers place ≡ Some valve → valve < net.size
-  pub seated : (slot valve : ℕ) → seat_of index.seats slot ≡ suc valve → valve < net.size
+  pub seated : (slot valve : ℕ) → set_seat index.seats slot ≡ suc valve → valve < net.size
   pub given : AreGiven index.refs index.members index.seats
   pub alone : (place valve : ℕ) (its : Seen) → slice_get index.seen place ≡ Some (Some its)
       → slice_get index.numbers place ≡ Some valve → (net.condition valve).feeders ≡ []
@@ -223,7 +258,7 @@ IsEndpointOf checks id = IsEndpoint (check_with checks.list id)
 abbrev pub reported : (id checker : ℕ) → Bool → Report
 reported id checker pass = record { check = id; checker = checker; pass = pass }
 
--- the valve of the set in a slot, where it has one
+-- the valve by which the set in a slot is healthy, where there is one
 abbrev pub IsValveOf : List Seat → (slot : ℕ) → Option ℕ → Type 0
-IsValveOf seats slot None = seat_of seats slot ≡ 0
-IsValveOf seats slot (Some valve) = seat_of seats slot ≡ suc valve
+IsValveOf seats slot None = set_seat seats slot ≡ 0
+IsValveOf seats slot (Some valve) = set_seat seats slot ≡ suc valve

@@ -16,7 +16,7 @@ use Rattle.zone_model.specs.Slotted.{IsHere, Slotted, sets_of}
 use Rattle.zone_model.specs.Zones.{is_of_group}
 use Rattle.health_planning.specs.Wired.{group_seat, valve_with, watched_of}
 use Rattle.health_planning.specs.declared.seats.Seat.{Seat}
-use Rattle.health_index.specs.Index.{HasNumber, Index, IsLaidFor, IsNumberOf, healthy_in}
+use Rattle.health_index.specs.Index.{HasNumber, Index, IsLaidFor, IsNumberOf, healthy_in, value_at}
 
 -- the sets of a group of a zone, each with its slot
 abbrev pub members_in : List Zone → (zone : ℕ) → (name : List (List ℕ)) → RType → List Slotted
@@ -49,7 +49,7 @@ node_value zones index (GroupNode zone name rtype) =
 -- So each node that has a number has its value, and the two kinds that may have none have theirs.
 pub record AreValues (zones : List Zone) (checks : Checks) (index : Index) : Type 0 where
   pub numbered : (number : ℕ) (n : Node) → IsNumberOf zones index number n
-      → node_value zones index n ≡ value_of index.valves number
+      → node_value zones index n ≡ value_at index number
   pub sets : (zone : ℕ) (p : Slotted) → IsHere (placed_in zones zone) p
       → (HasNumber zones index (SetNode zone p.set) → ⊥)
       → node_value zones index (SetNode zone p.set) ≡ true

@@ -1,10 +1,10 @@
-//! The seat in a slot, and the valve of the set there.
+//! The seat in a slot, and the valve by which the set there is healthy.
 
-ghost use Rattle.std.specs.Prelude.{◌≡◌};
-ghost use Rattle.health_index.specs.Index.{IsValveOf};
+ghost use Rattle.std.specs.Prelude.{◌≡◌, ◌↔◌, IsTrue};
+ghost use Rattle.health_index.specs.Index.{IsValveOf, TellsOfCheck};
 ghost use Rattle.health_planning.specs.Building.{IsSeatAt};
 
-use health_planning::Seat;
+use health_planning::{Seat, own_valve};
 
 /// The seat in a slot; one without valves, where there is none.
 pub fn find_seat(seats: &[Seat], slot: u32) -> Seat
@@ -21,7 +21,7 @@ pub fn find_seat(seats: &[Seat], slot: u32) -> Seat
     seats[at]
 }
 
-/// The valve of the set in a slot.
+/// The valve by which the set in a slot is healthy: its own, or that of the check which alone decides it.
 pub fn valve_of(seats: &[Seat], slot: u32) -> Option<usize>
     ensures { IsValveOf seats.now slot result }
 {
@@ -30,4 +30,15 @@ pub fn valve_of(seats: &[Seat], slot: u32) -> Option<usize>
         return None;
     }
     Some((seat - 1) as usize)
+}
+
+/// Whether the seat in a slot tells the valve of a check, and none of the set's own.
+pub fn tells_of_check(seats: &[Seat], slot: usize) -> bool
+    ensures { IsTrue result ↔ TellsOfCheck seats.now slot }
+{
+    if slot >= seats.len() {
+        return false;
+    }
+    let seat = seats[slot].set;
+    seat != 0 && own_valve(seat) == 0
 }

@@ -6,7 +6,8 @@ ghost use Rattle.check_model.specs.Checks.{IsBounded};
 ghost use Rattle.check_model.specs.declared.checks.Check.{Check};
 ghost use Rattle.health_valves.specs.Pass.{IsIdle};
 ghost use Rattle.health_valves.specs.Valves.{IsReady, Net, ValvesStandFor, size_of};
-ghost use Rattle.health_index.specs.Following.{AreEndpoints, HaveIds, HaveIdsBehind, IsWay, Reshapes};
+ghost use Rattle.health_index.specs.Following.{AreEndpoints, AreSame, HaveIds, HaveIdsBehind};
+ghost use Rattle.health_index.specs.Following.{IsWay, Reshapes};
 ghost use Rattle.health_index.specs.Following.{HasCheckers, IsFresh};
 ghost use Rattle.health_index.specs.Index.{IsEndpoint};
 ghost use Rattle.health_planning.specs.Wired.{HaveValves};
@@ -88,6 +89,16 @@ fn agree_behind(ids: &[u32], list: &[(u32, Check)], gone: usize) -> bool
         }
     }
     true
+}
+
+/// Whether the checks have these numbers.
+pub fn has_ids(ids: &[u32], list: &[(u32, Check)]) -> bool
+    ensures { IsTrue result ↔ AreSame ids.now list.now }
+{
+    if list.len() != ids.len() {
+        return false;
+    }
+    agreeing(ids, list) == ids.len()
 }
 
 /// How checks follow of those that had these numbers.

@@ -10,33 +10,35 @@ ghost use Rattle.health_valves.specs.Pass.{IsIdle};
 ghost use Rattle.health_index.specs.Index.{HasNode, IsEndpointOf, IsLaidFor, IsNumberOf, StandsFor};
 ghost use Rattle.health_index.specs.Index.{healthy_in};
 ghost use Rattle.health_index.specs.Index.{reported};
-ghost use Rattle.health_index.specs.Following.{AreEndpoints, AreFewer, AreMore, Follows, HasCheckers};
+ghost use Rattle.health_index.specs.Following.{AreEndpoints, AreFewer, AreMore, AreSame, Follows};
+ghost use Rattle.health_index.specs.Following.{HasCheckers};
 ghost use Rattle.health_index.specs.Following.{IsFollowed, IsOpenTo, IsWay};
 ghost use Rattle.health_index.specs.declared.following.Way.{Way};
 ghost use Rattle.health_index.specs.declared.following.Way.TheVariants as way;
-ghost use Rattle.health_index.specs.Leaving.{KeepsValves, AreLeft};
+ghost use Rattle.health_index.specs.Leaving.{AreLeft, KeepsValves, Moves, SparesValves};
 ghost use Rattle.health_index.specs.Room.{HasRoom, Keeps};
 ghost use Rattle.health_index.specs.Values.{WorksOut};
-ghost use Rattle.health_planning.specs.Building.{AreAsked};
 ghost use Rattle.health_planning.specs.Wired.{watched_of};
 ghost use Rattle.health_model.specs.Nodes.{CheckNode, InCone, Node};
 ghost use Rattle.health_model.specs.Sound.{IsSound};
 ghost use Rattle.health_model.specs.Statuses.{Report, status, status_told};
 ghost use Rattle.health_planning.specs.Zones.{Zone};
 
-use crate::finding::valve_of;
-use crate::following::{Way, are_endpoints, fresh_checkers, has_checkers, reshape_checks, way_of};
+use crate::finding::{tells_of_check, valve_of};
+use crate::following::{
+    Way, are_endpoints, fresh_checkers, has_checkers, has_ids, reshape_checks, way_of,
+};
 use crate::laws::index_tells_health;
 use crate::reserving::{each_ok, room_for_checks, room_for_numbers, room_for_slots};
 use crate::taking::take_result;
-use crate::valve_leaving::leaves_valves;
-use crate::valve_numbers::{has_number, list_numbers, spare_number};
+use crate::valve_leaving::{gone_by, leaves_valves, spares_valves};
+use crate::valve_numbers::{asks_all, has_number, keep_numbers, spare_number};
 use checker_state::{CHECKERS, Checkers, fifty_alone};
 use health_check::CheckTable;
 use health_model::{one_health, one_more_report};
 use health_planning::{
-    Delta, HealthView, MOST_CHECKS, Scratch, Seat, SetRef, Zones, clear_seats, list_ids, list_seen,
-    number_at, place_near, plan_valves, views_agree,
+    Delta, HealthView, MOST_CHECKS, Scratch, Seat, SetRef, Zones, list_ids, list_seen, number_at,
+    place_near, plan_valves, seat_anew, seat_beside, views_agree,
 };
 use health_valves::{Blueprint, Steps, Valves};
 use octets::OutOfMemory;
@@ -60,7 +62,7 @@ pub struct HealthIndex {
     /// The numbers of the checks before the last command, and what their checkers saw.
     ids_before: Vec<u32>,
     seen_before: Vec<Option<Checkers>>,
-    /// The sets with valves.
+    /// The sets with valves of their own.
     refs: Vec<SetRef>,
     /// The sets of target groups with valves; and while all is laid out, the sets that had valves.
     members: Vec<SetRef>,
@@ -140,7 +142,7 @@ impl HealthIndex {
             return Err(OutOfMemory);
         };
         let none: Vec<SetRef> = Vec::new(alloc);
-        index.lay(zones, checks, true, none.as_slice());
+        index.lay(zones, checks, true, none.as_slice(), none.as_slice());
         Ok(index)
     }
 
@@ -197,12 +199,13 @@ impl HealthIndex {
     /// Where sets gave way to others that the same check alone decides, or nothing, and else sets
     /// that nothing decides went and came, but in no group to which an evaluated alias leads, it
     /// costs a look at these and at their groups, and a comparison of those that came with those that
-    /// went. Where it tells of no zone, and all checks are of endpoints and have the numbers of those before,
+    /// went. Where sets went and came in no such group, and none of them is an evaluated alias, whichever
+    /// checks they name, it costs a look at these, at their groups and at the numbers of checks. Where it tells of no zone, and all checks are of endpoints and have the numbers of those before,
     /// as after UpdateHealthCheck, or one came behind them or one of them went, as after CreateHealthCheck and
     /// DeleteHealthCheck, it costs a look at the checks, and what stands above those whose status changes.
-    /// Otherwise all valves are laid out anew: it costs what the configuration has of checks and
-    /// of sets that something decides, with their target groups, and had of them before. Of the other
-    /// sets it asks only those that came, and their seats stay as they are.
+    /// Otherwise all valves are laid out anew: it costs what the configuration has of checks, of evaluated
+    /// aliases and of the sets of their target groups, and had of them before. Of the other
+    /// sets it asks only those that went and came, and their seats stay as they are.
     pub fn on_command(&mut self, zones: &Zones, checks: &CheckTable, delta: &Delta)
         requires room { HasRoom self.old zones.now.slots }
         requires sound { IsSound (watched_of zones.now.zones checks.now.checks) }
@@ -215,6 +218,12 @@ impl HealthIndex {
         ensures same { KeepsValves zones.now.zones self.old.seats delta.now
             → self.new ≡ self.old }
 
+        // Where they went and came beside all valves of sets and groups, nothing changes but seats: which
+        // check alone decides a set.
+        ensures beside { SparesValves zones.now.zones self.old.seats delta.now
+            → AreSame self.old.ids checks.now.checks.list → 200 ≤ size_of self.old.valves
+            → self.new ≡ record self.old { seats = self.new.seats } }
+
         // Where the checks of endpoints stay, or one came or went, nothing changes but their valves, those
         // above, and what the index has of that one.
         ensures in_place { (way : Way) → delta.now.zone ≡ 0 → AreEndpoints checks.now.checks.list
@@ -226,10 +235,53 @@ impl HealthIndex {
         if leaves_valves(zones, &self.seats, delta, &mut self.scratch) {
             return;
         }
+        if self.reseat(zones, checks, delta) {
+            return;
+        }
         if self.follow(checks, delta) {
             return;
         }
-        self.lay(zones, checks, false, delta.added.as_slice());
+        self.lay(zones, checks, false, gone_by(delta), delta.added.as_slice());
+    }
+
+    /// Takes a command by which no valve of a set or a group changes: sets went and came beside them, and
+    /// checks stay. Those that came are seated by the checks that alone decide them. The answer is whether it
+    /// is one; else the index stays as it is. It takes no memory.
+    fn reseat(&mut self, zones: &Zones, checks: &CheckTable, delta: &Delta) -> bool
+        requires room { HasRoom self.old zones.now.slots }
+        requires sound { IsSound (watched_of zones.now.zones checks.now.checks) }
+        ensures stands { (before : List Zone) (old : Checks) (reports : List Report)
+            → StandsFor before old reports self.old
+            → AreLeft before old zones.now.zones checks.now.checks delta.now → result ≡ true
+            → StandsFor zones.now.zones checks.now.checks reports self.new }
+        ensures zone { result ≡ true → delta.now.zone ≢ 0 }
+        ensures stays { result ≡ false → self.new ≡ self.old }
+        ensures ready { SparesValves zones.now.zones self.old.seats delta.now
+            → AreSame self.old.ids checks.now.checks.list → 200 ≤ size_of self.old.valves
+            → result ≡ true }
+        ensures rest { self.new ≡ record self.old { seats = self.new.seats } }
+    {
+        zones.well_formed();
+        zones.slots_apart();
+        if !spares_valves(zones, &self.seats, delta, &mut self.scratch) {
+            return false;
+        }
+        let list = checks.as_slice();
+        if !has_ids(&self.ids, list) {
+            return false;
+        }
+        if self.valves.len() < MOST_CHECKS {
+            return false;
+        }
+        seat_beside(
+            zones,
+            delta.removed.as_slice(),
+            delta.added.as_slice(),
+            &self.ids,
+            &self.numbers,
+            &mut self.seats,
+        );
+        true
     }
 
     /// Takes a command that tells of no zone, after which all checks are of endpoints, with the numbers of
@@ -361,15 +413,23 @@ impl HealthIndex {
     }
 
     /// Lays everything out anew, with what the checkers saw. All sets are asked whether something
-    /// decides them, or those that had valves and those that came. It takes no memory.
-    fn lay(&mut self, zones: &Zones, checks: &CheckTable, whole: bool, came: &[SetRef])
+    /// decides them, or those that had valves of their own and those that went and came. Checks keep their
+    /// valves then, and so each other set that a check alone decides keeps its seat. It takes no memory.
+    fn lay(
+        &mut self,
+        zones: &Zones,
+        checks: &CheckTable,
+        whole: bool,
+        gone: &[SetRef],
+        came: &[SetRef],
+    )
         requires room { HasRoom self.old zones.now.slots }
         requires sound { IsSound (watched_of zones.now.zones checks.now.checks) }
         ensures first { self.old.ids ≡ [] → whole ≡ true
             → StandsFor zones.now.zones checks.now.checks [] self.new }
         ensures stands { (before : List Zone) (old : Checks) (reports : List Report)
             → StandsFor before old reports self.old → AreLater old checks.now.checks
-            → AreAsked zones.now.zones whole self.old.refs came.now
+            → Moves before zones.now.zones gone.now came.now
             → StandsFor zones.now.zones checks.now.checks reports self.new }
     {
         zones.well_formed();
@@ -379,11 +439,21 @@ impl HealthIndex {
         mem::swap(&mut self.seen, &mut self.seen_before);
         self.ids.clear();
         list_ids(&mut self.ids, list);
-        self.numbers.clear();
-        list_numbers(&mut self.numbers, list.len());
+        let kept = keep_numbers(&mut self.numbers, &self.ids_before, list);
+        let all = asks_all(whole, kept);
         self.seen.clear();
         list_seen(&mut self.seen, list, &self.ids_before, &self.seen_before);
-        clear_seats(&mut self.seats, &self.refs, &self.members, zones.slots());
+        seat_anew(
+            zones,
+            all,
+            &self.refs,
+            &self.members,
+            gone,
+            came,
+            &self.ids,
+            &self.numbers,
+            &mut self.seats,
+        );
         mem::swap(&mut self.refs, &mut self.members);
         self.refs.clear();
         self.blueprint.clear();
@@ -393,7 +463,7 @@ impl HealthIndex {
             &self.ids,
             &self.numbers,
             &self.seen,
-            whole,
+            all,
             &mut self.members,
             came,
             &mut self.refs,
@@ -451,13 +521,18 @@ impl HealthIndex {
         ensures { IsTrue result ↔ HasNode self.now node }
     {
         let number = node as usize;
+        let many = self.valves.len();
+        if number >= many {
+            return tells_of_check(&self.seats, number - many);
+        }
         if number >= MOST_CHECKS {
-            return number < self.valves.len();
+            return true;
         }
         has_number(&self.numbers, node)
     }
 
-    /// Works a node out anew, which is one step. The answer is whether its value changed.
+    /// Works a node out anew, which is one step. The answer is whether its value changed. That of a set which
+    /// a check alone decides is the value of that check at each moment, so it doesn't.
     pub fn eval_node<L: Ledger>(&mut self, node: u32, steps: &mut Steps<L>) -> bool
         requires node { HasNode self.old node }
         ensures tick { steps.new ≡ steps.old + 1 }
@@ -468,8 +543,9 @@ impl HealthIndex {
             → IsLaidFor zones checks reports self.old → IsNumberOf zones self.old node n
             → WorksOut zones checks reports n self.old self.new result }
 
-        // The same of its valve.
+        // The same of its valve, where it has one of its own.
         ensures meets { (net : Net) (own : ℕ → ℕ) → ValvesStandFor net own self.old.valves
+            → node < size_of self.old.valves
             → MeetsEquation net own (value_of self.new.valves) node }
         ensures spares { (net : Net) (own : ℕ → ℕ) (n : ℕ) → ValvesStandFor net own self.old.valves
             → n ≢ node → (Feeds net node n → ⊥)
@@ -486,6 +562,10 @@ impl HealthIndex {
         ensures idle { IsIdle self.new.valves }
     {
         views_agree();
+        if node as usize >= self.valves.len() {
+            steps.tick();
+            return false;
+        }
         self.valves.eval_node(node, steps)
     }
 

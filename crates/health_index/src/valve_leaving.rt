@@ -1,22 +1,24 @@
 //! Commands by which surely no valve changes: sets give way to others that the same check alone decides, or
 //! nothing, or sets that nothing decides go and come where no valve is.
 
-ghost use Rattle.std.specs.Prelude.{◌≡◌, ◌↔◌, ℕ, IsTrue, List};
+ghost use Rattle.std.specs.Prelude.{◌≡◌, ◌≢◌, ◌↔◌, [], ℕ, IsTrue, List, false};
 ghost use Rattle.health_index.specs.Leaving.{AllCameKeepValves, AllWentKeepValves};
 ghost use Rattle.health_index.specs.Leaving.{CameKeepsValves, HasNoValve, IsAsSeated, IsOneOf};
-ghost use Rattle.health_index.specs.Leaving.{KeepsValves, WentKeepsValves};
-ghost use Rattle.health_planning.specs.Building.{IsSeatAt};
+ghost use Rattle.health_index.specs.Leaving.{AllCameBeside, AllWentBeside, CameBeside, KeepsValves};
+ghost use Rattle.health_index.specs.Leaving.{SparesValves, WentKeepsValves};
+ghost use Rattle.health_planning.specs.Building.{IsFree, IsSeatAt};
 ghost use Rattle.health_planning.specs.Wired.{group_seat};
 ghost use Rattle.health_planning.specs.declared.seats.Seat.{Seat};
 ghost use Rattle.health_planning.specs.Groups.{members_of};
 ghost use Rattle.record_set.specs.declared.sets.RecordSet.{RecordSet};
-ghost use Rattle.health_planning.specs.Telling.{watch_of};
+ghost use Rattle.health_planning.specs.Telling.{evaluates, watch_of};
 ghost use Rattle.zone_model.specs.Slotted.{IsHere, Slotted};
 ghost use Rattle.health_planning.specs.Looking.{IsGroupNow, RefersTo};
 
 use crate::finding::find_seat;
 use health_planning::{
     Delta, Group, Scratch, Seat, SetRef, Watch, Zones, find_group, is_watched, only_check,
+    own_valve,
 };
 
 /// Whether one of some references is this one.
@@ -162,4 +164,87 @@ pub fn leaves_valves(zones: &Zones, seats: &[Seat], delta: &Delta, scratch: &mut
         return false;
     }
     all_came_leave_valves(zones, seats, removed, added, scratch)
+}
+
+/// The sets that went by a command, where it tells of a zone.
+pub fn gone_by(delta: &Delta) -> &[SetRef]
+    ensures none { delta.now.zone ≡ 0 → result.now ≡ [] }
+    ensures told { delta.now.zone ≢ 0 → result.now ≡ delta.now.removed }
+{
+    if delta.zone == 0 {
+        return &[];
+    }
+    delta.removed.as_slice()
+}
+
+/// Whether a slot has no valve of its own, and its group has none.
+fn is_free(seats: &[Seat], slot: u32) -> bool
+    ensures { IsTrue result ↔ IsFree seats.now slot }
+{
+    let seat = find_seat(seats, slot);
+    own_valve(seat.set) == 0 && seat.group == 0
+}
+
+/// Whether all sets that went went from such slots.
+fn all_went_beside(seats: &[Seat], removed: &[SetRef]) -> bool
+    ensures { IsTrue result ↔ AllWentBeside seats.now removed.now }
+{
+    for set in removed {
+        if !is_free(seats, set.slot) {
+            return false;
+        }
+    }
+    true
+}
+
+/// Whether a reference names a set that is no evaluated alias.
+fn is_off(zones: &Zones, set: SetRef) -> bool
+    ensures { IsTrue result ↔ ((named : RecordSet) × RefersTo zones.now.zones set named
+        × (evaluates named.body ≡ false)) }
+{
+    zones.well_formed();
+    match zones.watch(set) {
+        Some(watch) => !watch.evaluates,
+        None => false,
+    }
+}
+
+/// Whether a set came that is no evaluated alias, into a slot and a group without a valve of their own.
+fn came_beside(zones: &Zones, seats: &[Seat], set: SetRef, scratch: &mut Scratch) -> bool
+    ensures { IsTrue result ↔ CameBeside zones.now.zones seats.now set }
+{
+    zones.well_formed();
+    if !is_off(zones, set) {
+        return false;
+    }
+    if own_valve(find_seat(seats, set.slot).set) != 0 {
+        return false;
+    }
+    has_no_valve(zones, seats, set, scratch)
+}
+
+/// Whether all sets that came did so.
+fn all_came_beside(zones: &Zones, seats: &[Seat], added: &[SetRef], scratch: &mut Scratch) -> bool
+    ensures { IsTrue result ↔ AllCameBeside zones.now.zones seats.now added.now }
+{
+    for set in added {
+        if !came_beside(zones, seats, *set, scratch) {
+            return false;
+        }
+    }
+    true
+}
+
+/// Whether no valve changes by the sets that went from a zone and by those that came, but which checks alone
+/// decide some sets may.
+pub fn spares_valves(zones: &Zones, seats: &[Seat], delta: &Delta, scratch: &mut Scratch) -> bool
+    ensures { IsTrue result ↔ SparesValves zones.now.zones seats.now delta.now }
+{
+    if delta.zone == 0 {
+        return false;
+    }
+    if !all_went_beside(seats, delta.removed.as_slice()) {
+        return false;
+    }
+    all_came_beside(zones, seats, delta.added.as_slice(), scratch)
 }

@@ -1,8 +1,12 @@
 //! Which valves checks get.
 
-ghost use Rattle.std.specs.Prelude.{◌≡◌, ◌≤◌, ◌<◌, ◌↔◌, [], ℕ, IsTrue, None, Some, length, slice_get, vec_capacity};
-ghost use Rattle.health_planning.specs.Wired.{HaveValves, IsSpare};
+ghost use Rattle.std.specs.Prelude.{◌≡◌, ◌≤◌, ◌<◌, ◌↔◌, [], ℕ, IsTrue, None, Some, false, length, slice_get, true};
+ghost use Rattle.std.specs.Prelude.{vec_capacity};
+ghost use Rattle.health_index.specs.Following.{KeepValves};
+ghost use Rattle.health_planning.specs.Wired.{HaveValves, IsSpare, StandApart, ids_of};
 
+use crate::following::{Way, way_of};
+use health_check::Check;
 use health_planning::{MOST_CHECKS, place_in};
 
 /// Gives so many checks the first valves, where none has one.
@@ -16,6 +20,49 @@ pub fn list_numbers(numbers: &mut Vec<u32>, many: usize)
     for place in 0..many {
         numbers.push_reserved(place as u32);
     }
+}
+
+/// The valves of checks that follow of those that had some numbers. Where one came behind them, or one of them
+/// went, or none did, each that stays keeps its valve, which is the answer. Else all have others.
+pub fn keep_numbers(numbers: &mut Vec<u32>, ids: &[u32], list: &[(u32, Check)]) -> bool
+    requires valves { HaveValves (length ids.now) numbers.old.items }
+    requires apart { StandApart ids.now }
+    requires apart_now { StandApart (ids_of list.now) }
+    requires few { length list.now ≤ 200 }
+    requires room { 200 ≤ vec_capacity numbers.old }
+    ensures valves { HaveValves (length list.now) numbers.new.items }
+    ensures kept { result ≡ true
+        → KeepValves ids.now numbers.old.items (ids_of list.now) numbers.new.items }
+    ensures room { vec_capacity numbers.new ≡ vec_capacity numbers.old }
+{
+    match way_of(ids, list) {
+        Way::Same => true,
+        Way::More => {
+            let valve = spare_number(numbers);
+            numbers.push_reserved(valve);
+            true
+        }
+        Way::Fewer(gone) => {
+            numbers.remove(gone);
+            true
+        }
+        Way::Other => {
+            numbers.clear();
+            list_numbers(numbers, list.len());
+            false
+        }
+    }
+}
+
+/// Whether all sets are asked: where that is wanted, and where checks got other valves.
+pub fn asks_all(whole: bool, kept: bool) -> bool
+    ensures wanted { whole ≡ true → result ≡ true }
+    ensures kept { result ≡ false → kept ≡ true }
+{
+    if whole {
+        return true;
+    }
+    !kept
 }
 
 /// Whether a number is that of a check's valve.

@@ -22,8 +22,8 @@ use Rattle.zone_model.specs.Slotted.{sets_of}
 use Rattle.zone_model.specs.Walks.{HasNoTarget}
 use Rattle.zone_model.specs.Zones.{IsAmong}
 use Rattle.policy_select.specs.Looking.{RefersTo}
-use Rattle.health_planning.specs.Building.{AreBelow, AreFree, AreGrouped, HaveOwnValves, AreThere, AreWithin, FeedsSet, HasTarget, IsBuilt, IsSmallAt, SameSets, check_links, group_trigger, set_trigger, spare_trigger}
-use Rattle.health_planning.specs.Wired.{HaveValves, IsSpare, group_seat, ids_of, place_of, plain_among, watched_of}
+use Rattle.health_planning.specs.Building.{AreBelow, AreFree, AreGrouped, HaveOwnValves, AreThere, AreWithin, FeedsSet, HasTarget, IsBuilt, IsSmallAt, SameSets, TargetsListed, check_links, group_trigger, set_trigger, spare_trigger}
+use Rattle.health_planning.specs.Wired.{HaveValves, IsSpare, group_seat, ids_of, own_part, place_of, plain_among, watched_of}
 use Rattle.health_planning.specs.declared.seats.Seat.{Seat}
 use Rattle.health_planning.proofs.Feeding.{check_within, children_fed, none_before}
 use Rattle.health_planning.proofs.Grouped.{none_feeds}
@@ -89,20 +89,22 @@ links_early list numbers valves there =
 -- ---- no set is listed yet
 
 pub none_listed : (zones : List Zone) (slots : ℕ) (seats : List Seat) → AreFree slots seats
-    → (first : ℕ) (triggers : List Trigger)
-    → length triggers ≡ first → HaveOwnValves zones first [] seats triggers
-none_listed zones slots seats free first triggers size = record {
+    → (first : ℕ) (triggers : List Trigger) → 200 ≤ first
+    → length triggers ≡ first → HaveOwnValves zones first seats [] seats triggers
+none_listed zones slots seats free first triggers late size = record {
+  behind = late;
   size = omega arith;
   valves = λ k ref at. let no : ⊥ = cc in absurd no;
   only = λ slot valve is. let none = (free.each slot).0 in absurd (omega arith);
+  others = λ slot. inr (refl, refl);
   no_group = λ slot. (free.each slot).1;
 }
 
 -- the valves of listed sets are among those that there are
-pub listed_below : (zones : List Zone) (first : ℕ) (refs : List SetRef) (seats : List Seat)
-    (triggers : List Trigger) → HaveOwnValves zones first refs seats triggers
+pub listed_below : (zones : List Zone) (first : ℕ) (before : List Seat) (refs : List SetRef)
+    (seats : List Seat) (triggers : List Trigger) → HaveOwnValves zones first before refs seats triggers
     → AreBelow seats (length triggers)
-listed_below zones first refs seats triggers are slot valve is =
+listed_below zones first before refs seats triggers are slot valve is =
     let o = are.only slot valve is in
     let b = slice_get_within refs o.0 o.1.0 o.1.2 in
     let g = o.1.1 in
@@ -112,12 +114,14 @@ listed_below zones first refs seats triggers are slot valve is =
 -- ---- the whole blueprint
 
 module _ (zones : List Zone) (list : List (ℕ × Check)) (numbers : List ℕ)
-    (valves : HaveValves (length list) numbers) (refs : List SetRef) (seats seats_now : List Seat) (triggers triggers_now : List Trigger) (links before now : List Feeding)
+    (valves : HaveValves (length list) numbers) (refs : List SetRef)
+    (first_seats seats seats_now : List Seat) (triggers triggers_now : List Trigger) (links before now : List Feeding)
     (there : (place id : ℕ) (check : Check) → slice_get list place ≡ Some (id, check)
     → AreThere (ids_of list) (children_of check))
     (are_links : links ≡ check_links (ids_of list) numbers 0 list)
     (spared : (valve : ℕ) → IsSpare numbers valve → slice_get triggers valve ≡ Some spare_trigger)
-    (listed : HaveOwnValves zones 200 refs seats triggers)
+    (listed : HaveOwnValves zones 200 first_seats refs seats triggers)
+    (members : TargetsListed zones (length refs) refs)
     (grouped : AreGrouped zones (length triggers) seats_now triggers_now before)
     (targets : (k : ℕ) (set : SetRef) (named : RecordSet) (name : List (List ℕ))
     → slice_get refs k ≡ Some set → RefersTo zones set named → named.body ≡ Alias name true
@@ -180,15 +184,16 @@ module _ (zones : List Zone) (list : List (ℕ × Check)) (numbers : List ℕ)
           named = g.named;
           names = g.names;
           watched = g.watched;
-          seat = same.valves ref.slot ∙ g.seat;
+          seat = ap own_part (same.valves ref.slot) ∙ g.seat;
           told = same.checks ref.slot ∙ g.told;
           trigger = kept (200 + k) (set_trigger g.named) g.trigger;
         };
-    only = λ slot valve is. listed.only slot valve (sym (same.valves slot) ∙ is);
+    only = λ slot valve is. listed.only slot valve (sym (ap own_part (same.valves slot)) ∙ is);
     fed = λ k ref named at names.
         let b = slice_get_within refs k ref at in
         joined k ref named at names (none_yet k b);
     targets = targets;
+    members = members;
     groups = subst (λ (n : ℕ). AreGrouped zones n seats_now triggers_now now) listed.size regrouped;
     within = let size = listed.size in
         still (length triggers_now) (omega arith) groups_below within;

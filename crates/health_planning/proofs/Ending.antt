@@ -6,6 +6,7 @@ use Rattle.std.specs.Option.{option_to_list}
 use Rattle.std.proofs.lemmas.List.{length-append}
 use Rattle.std.proofs.lemmas.List.Elements.{Contains-append_cases, Contains-append_left, Contains-append_right}
 use Rattle.std.proofs.lemmas.Option.{slice_get_within}
+use Rattle.std.proofs.lemmas.Bool.{le-leb}
 use mathlib.Core.Path.{subst}
 use Rattle.check_model.proofs.Members.{all_at}
 use Rattle.check_model.specs.Checks.{AreChildren, Checks, IsId, children_of}
@@ -30,7 +31,7 @@ use Rattle.policy_select.proofs.MembersOfZoneList.{one_of_key, put_or_in, set_in
 use Rattle.policy_select.specs.Zones.{AreZones, Zone, placed_in}
 use Rattle.zone_model.specs.Slotted.{IsHere, Slotted}
 use Rattle.zone_model.specs.Zones.{IsAmong, group}
-use Rattle.health_planning.specs.Wired.{AreMembers, HaveValves, IsValveFor, IsGroupValve, IsSeated, IsSetValve, IsSpare, IsTarget, valves_of, group_seat, ids_of, is_watched, place_of, seat_of, spare_condition, valve_with, watched_of, with_valve}
+use Rattle.health_planning.specs.Wired.{IsAlone, AreMembers, HaveValves, IsValveFor, IsGroupValve, IsSeated, IsSetValve, IsSpare, IsTarget, valves_of, group_seat, ids_of, is_watched, place_of, seat_of, spare_condition, valve_with, watched_of, with_valve, own_part, set_seat}
 use Rattle.health_planning.specs.declared.seats.Seat.{Seat}
 use Rattle.health_planning.proofs.Numbers.{number_there}
 use Rattle.health_planning.proofs.Places.{id_at, of_all, one_place}
@@ -111,23 +112,35 @@ pub record HasCondition (zones : List Zone) (ids numbers : List ℕ) (seats : Li
     (zone : ℕ) (p : Slotted) (valve : ℕ) : Type 0 where
   pub is : IsSetValve zones ids numbers seats net own zone p.set valve
 
--- where each set is seated, a valve that its seat tells is its own
+-- where each set is seated, a valve of its own that its seat tells is that
 pub condition_seated : (zones : List Zone) (ids numbers : List ℕ) (seats : List Seat) (net : Net) (own : ℕ → ℕ)
     → ((zone : ℕ) (p : Slotted) → IsHere (placed_in zones zone) p
     → IsSeated zones ids numbers seats net own zone p)
+    → ((zone : ℕ) (p : Slotted) (id : ℕ) → IsHere (placed_in zones zone) p → p.set.check ≡ Some id
+    → valve_with ids numbers id < 200)
     → (zone : ℕ) (p : Slotted) (valve : ℕ) → IsHere (placed_in zones zone) p
     → seat_of seats p.slot ≡ suc valve → HasCondition zones ids numbers seats net own zone p valve
-condition_seated zones ids numbers seats net own seated zone p valve here seat = by (is_watched p.set) refl
+condition_seated zones ids numbers seats net own seated early zone p valve here seat = by (is_watched p.set) refl
   where
+    by_check : (id : ℕ) → IsAlone p.set id → set_seat seats p.slot ≡ suc (valve_with ids numbers id)
+        → HasCondition zones ids numbers seats net own zone p valve
+    by_check id alone is =
+        let front = early zone p id here alone.1 in
+        let none : own_part (suc (valve_with ids numbers id)) ≡ 0 = rw (le-leb (suc (valve_with ids numbers id)) 200 (omega arith)) refl in
+        let same = ap own_part is in
+        absurd (omega arith)
+
     by : (b : Bool) → is_watched p.set ≡ b → HasCondition zones ids numbers seats net own zone p valve
     by false off =
-        let none = (seated zone p here).plain off in
+        let none = ap own_part ((seated zone p here).plain off) in
         absurd (omega arith)
-    by true on =
-        let g = (seated zone p here).valved on in
-        let other = g.1 in
-        let same : g.0 ≡ valve = omega arith in
-        record { is = subst (IsSetValve zones ids numbers seats net own zone p.set) same g.2 }
+    by true on = elim ((seated zone p here).valved on) [
+      | inl alone ↦ by_check alone.0 alone.1.0 alone.1.1
+      | inr g ↦
+          let other = g.1 in
+          let same : g.0 ≡ valve = omega arith in
+          record { is = subst (IsSetValve zones ids numbers seats net own zone p.set) same g.2 }
+    ]
 
 module _ (zones : List Zone) (checks : Checks) (numbers : List ℕ) (seats : List Seat) (net : Net)
     (own : ℕ → ℕ) (valves : HaveValves (length checks.list) numbers) (are_zones : AreZones zones) (are_checks : AreSoundChecks checks)

@@ -20,7 +20,7 @@ use Rattle.zone_model.specs.Slotted.{HaveOwnSlots, IsHere, Slotted}
 use Rattle.zone_model.specs.Zones.{IsAmong}
 use Rattle.health_planning.specs.Building.{AreGrouped, HaveOwnValves, check_links, links_to}
 use Rattle.health_planning.specs.Rooms.{HaveValvesApart, children_among}
-use Rattle.health_planning.specs.Wired.{valves_of, group_seat, plain_among, seat_of, valve_with, with_valve}
+use Rattle.health_planning.specs.Wired.{valves_of, group_seat, own_part, plain_among, seat_of, valve_with, with_valve}
 use Rattle.health_planning.specs.declared.seats.Seat.{Seat}
 use Rattle.health_planning.proofs.Ending.{came_from, member_valve, no_more}
 use Rattle.health_planning.proofs.Groups.{plain_few}
@@ -89,7 +89,7 @@ seat_within : (seats : List Seat) (slot valve : ℕ) → seat_of seats slot ≡ 
 seat_within seats slot valve is = elim (cases_lt slot (length seats)) [
   | inl within ↦ within
   | inr past ↦
-      let none = ap (λ (s : Seat). s.set) (get_or_past seats slot (record { set = 0; group = 0; check = 0 }) past) in
+      let none = ap (λ (s : Seat). own_part s.set) (get_or_past seats slot (record { set = 0; group = 0; check = 0 }) past) in
       absurd (omega arith)
 ]
 
@@ -102,10 +102,10 @@ group_within seats slot valve is = elim (cases_lt slot (length seats)) [
       absurd (omega arith)
 ]
 
-pub few_listed : (zones : List Zone) (first : ℕ) (refs : List SetRef) (seats : List Seat)
-    (triggers : List Trigger) → HaveOwnValves zones first refs seats triggers
+pub few_listed : (zones : List Zone) (first : ℕ) (before : List Seat) (refs : List SetRef) (seats : List Seat)
+    (triggers : List Trigger) → HaveOwnValves zones first before refs seats triggers
     → length refs ≤ length seats
-few_listed zones first refs seats triggers are =
+few_listed zones first before refs seats triggers are =
     no_more_than (λ (k slot : ℕ). seat_of seats slot ≡ suc (first + k)) (λ a b slot e f. omega arith)
     (length refs) (length seats) (λ k early.
     let ref = filled refs k early in

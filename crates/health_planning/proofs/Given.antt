@@ -2,7 +2,6 @@
 use Rattle.std.proofs.Common.{◌≡◌, ◌≢◌, ◌<◌, ◌≤◌, ◌+◌, ℕ, zero, suc, List, [], ◌∷◌, ◌++◌, length, length-append, length-set, set, get_or-set_same, get_or-set_other, take, arith, refl, ap, sym, ◌∙◌, inl, inr, Some}
 use Rattle.std.specs.Prelude.{slice_get}
 use Rattle.std.proofs.lemmas.Bool.{cases_eq}
-use Rattle.std.proofs.lemmas.List.{get_or_past}
 use Rattle.check_model.specs.declared.checks.Check.{Check}
 use Rattle.health_valves.proofs.Runs.{in_more}
 use Rattle.health_valves.specs.declared.blueprint.Feeding.{Feeding}
@@ -11,7 +10,7 @@ use Rattle.policy_select.proofs.MembersOfZoneList.{filled}
 use Rattle.policy_select.specs.SetRefRecord.{SetRef}
 use Rattle.policy_select.specs.Zones.{Zone}
 use Rattle.health_planning.specs.Building.{AreGiven, AreNoted, IsBuilt, IsFree, TellSlot}
-use Rattle.health_planning.specs.Wired.{check_seat, group_seat, seat_of}
+use Rattle.health_planning.specs.Wired.{check_seat, group_seat, own_part, seat_of, set_seat}
 use Rattle.health_planning.specs.declared.seats.Seat.{Seat}
 use Rattle.health_planning.proofs.Few.{group_within, no_more_than}
 use Rattle.health_planning.proofs.Grouped.{group_beside, seat_now, seated}
@@ -21,44 +20,7 @@ use Rattle.health_planning.proofs.ListedOnce.{last_at, still_at}
 some_same : {X : Type 0} {x y : X} → Some x ≡ Some y → x ≡ y
 some_same e = cc
 
-abbrev pub bare_seat : Seat
-bare_seat = record { set = 0; group = 0; check = 0 }
-
 -- ---- seats that are cleared
-
-pub free_past : (seats : List Seat) (slot : ℕ) → length seats ≤ slot → IsFree seats slot
-free_past seats slot past =
-    let none = get_or_past seats slot bare_seat past in
-    (ap (λ (s : Seat). s.set) none, ap (λ (s : Seat). s.group) none)
-
-pub free_here : (seats : List Seat) (slot : ℕ) → slot < length seats
-    → IsFree (set seats slot bare_seat) slot
-free_here seats slot within =
-    let now = get_or-set_same seats slot bare_seat bare_seat within in
-    (ap (λ (s : Seat). s.set) now, ap (λ (s : Seat). s.group) now)
-
-pub free_still : (seats : List Seat) (slot other : ℕ) → slot < length seats → IsFree seats other
-    → IsFree (set seats slot bare_seat) other
-free_still seats slot other within free = elim (cases_eq other slot) [
-  | inl same ↦ rw same (free_here seats slot within)
-  | inr apart ↦
-      let now = get_or-set_other seats slot other bare_seat bare_seat apart in
-      (ap (λ (s : Seat). s.set) now ∙ free.0, ap (λ (s : Seat). s.group) now ∙ free.1)
-]
-
-pub free_more : (seats : List Seat) (slot : ℕ) → IsFree seats slot
-    → IsFree (seats ++ bare_seat ∷ []) slot
-free_more [] zero free = (refl, refl)
-free_more [] (suc slot) free = (refl, refl)
-free_more (s ∷ seats) zero free = free
-free_more (s ∷ seats) (suc slot) free = free_more seats slot free
-
-pub free_front : (n : ℕ) (seats : List Seat) (slot : ℕ) → IsFree seats slot
-    → IsFree (take n seats) slot
-free_front zero seats slot free = (refl, refl)
-free_front (suc n) [] slot free = free
-free_front (suc n) (s ∷ seats) zero free = free
-free_front (suc n) (s ∷ seats) (suc slot) free = free_front n seats slot free
 
 -- where the listed sets and the noted members are cleared, no seat tells a valve
 pub all_free : (refs members : List SetRef) (seats once twice : List Seat)
@@ -156,7 +118,7 @@ one_noted members seats noted ref within empty =
     let more = noted_more members seats noted ref after (λ none. omega arith) (group_beside seats ref.slot 1 within) empty in
     let few = noted_few (members ++ ref ∷ []) after more in
     let longer = length-append members (ref ∷ []) in
-    let as_long = length-set seats ref.slot (record { set = seat_of seats ref.slot; group = 1; check = check_seat seats ref.slot }) in
+    let as_long = length-set seats ref.slot (record { set = set_seat seats ref.slot; group = 1; check = check_seat seats ref.slot }) in
     omega arith
 
 -- ---- what a blueprint gives

@@ -12,7 +12,7 @@ use Rattle.rdata_layout.specs.declared.types.RType.{RType}
 use Rattle.policy_select.specs.Zones.{Zone}
 use Rattle.zone_model.specs.Slotted.{IsHere, Slotted}
 use Rattle.health_planning.specs.Building.{AreBelow, AreGrouped, AreSeated, AreWithin, HasGroupValve, HasTarget, SameSets, group_trigger, links_to}
-use Rattle.health_planning.specs.Wired.{AreMembers, HasSlot, IsLedTo, TellGroup, valves_of, group_seat, check_seat, plain, plain_among, seat_of, with_valve}
+use Rattle.health_planning.specs.Wired.{AreMembers, HasSlot, IsLedTo, TellGroup, valves_of, group_seat, check_seat, own_part, plain, plain_among, seat_of, set_seat, with_valve}
 use Rattle.health_planning.specs.declared.seats.Seat.{Seat}
 use Rattle.health_planning.proofs.ListedOnce.{last_at, still_at}
 
@@ -79,7 +79,7 @@ pub valves_same : (before after : List Seat) → SameSets before after → (memb
     → valves_of after members ≡ valves_of before members
 valves_same before after same [] = refl
 valves_same before after same (p ∷ members) =
-    ap (λ (n : ℕ). with_valve n (valves_of after members)) (same.valves p.slot)
+    ap (λ (n : ℕ). with_valve (own_part n) (valves_of after members)) (same.valves p.slot)
     ∙ ap (with_valve (seat_of before p.slot)) (valves_same before after same members)
 
 pub plain_same : (before after : List Seat) → SameSets before after → (members : List Slotted)
@@ -87,7 +87,7 @@ pub plain_same : (before after : List Seat) → SameSets before after → (membe
 plain_same before after same [] = refl
 plain_same before after same (p ∷ members) =
     let r = plain_same before after same members in
-    let e = ap plain (same.valves p.slot) in
+    let e = ap (λ (n : ℕ). plain (own_part n)) (same.valves p.slot) in
     omega arith
 
 -- ---- one more seat
@@ -97,7 +97,7 @@ module _ (seats : List Seat) (slot valve : ℕ) (within : slot < length seats) w
   no_one = record { set = 0; group = 0; check = 0 }
 
   abbrev pub its_seat : Seat
-  its_seat = record { set = seat_of seats slot; group = valve; check = check_seat seats slot }
+  its_seat = record { set = set_seat seats slot; group = valve; check = check_seat seats slot }
 
   abbrev pub seated : List Seat
   seated = set seats slot its_seat

@@ -1,3 +1,4 @@
+mod Anew
 pub mod Built
 pub mod Ending
 pub mod Feeding
@@ -12,6 +13,7 @@ pub mod Places
 pub mod Planned
 pub mod Roomy
 pub mod Seeing
+pub mod Told
 pub mod Watching
 pub mod Wiring
 pub use Rattle.policy_select.proofs.Members

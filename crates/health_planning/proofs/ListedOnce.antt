@@ -1,7 +1,7 @@
 -- Sets that are listed one after another, each with a valve of its own.
 use Rattle.std.proofs.Common.{◌≡◌, ◌≢◌, ◌<◌, ◌≤◌, ◌+◌, ℕ, zero, suc, Bool, true, false, cond, List, [], ◌∷◌, ◌++◌, length, length-append, set, get_or, get_or-set_same, get_or-set_other, arith, refl, ap, sym, ◌∙◌, inl, inr, Some}
 use Rattle.std.specs.Prelude.{◌==◌, slice_get}
-use Rattle.std.proofs.lemmas.Bool.{cases_eq, false≢true, ne_eqb}
+use Rattle.std.proofs.lemmas.Bool.{cases_eq, false≢true, ne_eqb, lt-leb}
 use Rattle.std.proofs.lemmas.Option.{get_or_from_slice_get, slice_get_read}
 use mathlib.Core.Path.{subst}
 use Rattle.health_valves.proofs.Runs.{in_more}
@@ -15,7 +15,7 @@ use Rattle.zone_model.specs.Slotted.{IsHere, Slotted}
 use Rattle.policy_select.specs.Looking.{IsSetAt, RefersTo}
 use Rattle.policy_select.specs.Tables.{HaveSlotsApart, HaveSlotsBelow}
 use Rattle.health_planning.specs.Building.{HaveOwnValves, HasSetValve, IsListed, set_trigger}
-use Rattle.health_planning.specs.Wired.{check_seat, group_seat, is_watched, only_check, seat_of}
+use Rattle.health_planning.specs.Wired.{check_seat, group_seat, is_watched, only_check, seat_of, own_part, set_seat}
 use Rattle.health_planning.specs.declared.seats.Seat.{Seat}
 
 -- an element stays where one more comes
@@ -67,25 +67,29 @@ one_ref zones one other a b apart first second same =
         pair : {i j m n : ℕ} → i ≡ j → m ≡ n → ◌≡◌ {A = ℕ × ℕ} (i, m) (j, n)
         pair e f = cc
 
-seat_here : (seats : List Seat) (slot : ℕ) (s : Seat) → slot < length seats
-    → seat_of (set seats slot s) slot ≡ s.set
+pub seat_here : (seats : List Seat) (slot : ℕ) (s : Seat) → slot < length seats
+    → set_seat (set seats slot s) slot ≡ s.set
 seat_here seats slot s within = ap (λ (x : Seat). x.set) (get_or-set_same seats slot s _ within)
 
-check_here : (seats : List Seat) (slot : ℕ) (s : Seat) → slot < length seats
+pub check_here : (seats : List Seat) (slot : ℕ) (s : Seat) → slot < length seats
     → check_seat (set seats slot s) slot ≡ s.check
 check_here seats slot s within = ap (λ (x : Seat). x.check) (get_or-set_same seats slot s _ within)
 
-check_beside : (seats : List Seat) (slot other : ℕ) (s : Seat) → other ≢ slot
+pub check_beside : (seats : List Seat) (slot other : ℕ) (s : Seat) → other ≢ slot
     → check_seat (set seats slot s) other ≡ check_seat seats other
 check_beside seats slot other s apart = ap (λ (x : Seat). x.check) (get_or-set_other seats slot other s _ apart)
 
-seat_beside : (seats : List Seat) (slot other : ℕ) (s : Seat) → other ≢ slot
-    → seat_of (set seats slot s) other ≡ seat_of seats other
+pub seat_beside : (seats : List Seat) (slot other : ℕ) (s : Seat) → other ≢ slot
+    → set_seat (set seats slot s) other ≡ set_seat seats other
 seat_beside seats slot other s apart = ap (λ (x : Seat). x.set) (get_or-set_other seats slot other s _ apart)
 
-module _ (zones : List Zone) (first : ℕ) (refs : List SetRef) (seats : List Seat)
-    (triggers : List Trigger) (ref : SetRef) (named : RecordSet) (valve : ℕ)
-    (are : HaveOwnValves zones first refs seats triggers) (names : RefersTo zones ref named)
+-- a valve behind those of checks is a set's own
+pub own_is : (seat : ℕ) → 200 < seat → own_part seat ≡ seat
+own_is seat late = rw (lt-leb seat 200 late) refl
+
+module _ (zones : List Zone) (first : ℕ) (before : List Seat) (refs : List SetRef)
+    (seats : List Seat) (triggers : List Trigger) (ref : SetRef) (named : RecordSet) (valve : ℕ)
+    (are : HaveOwnValves zones first before refs seats triggers) (names : RefersTo zones ref named)
     (watched : is_watched named ≡ true) (within : ref.slot < length seats)
     (empty : seat_of seats ref.slot ≡ 0) (is_valve : valve ≡ length triggers) where
   abbrev now : List Seat
@@ -102,7 +106,7 @@ module _ (zones : List Zone) (first : ℕ) (refs : List SetRef) (seats : List Se
         named = g.named;
         names = g.names;
         watched = g.watched;
-        seat = seat_beside seats ref.slot other.slot _ apart ∙ g.seat;
+        seat = ap own_part (seat_beside seats ref.slot other.slot _ apart) ∙ g.seat;
         told = check_beside seats ref.slot other.slot _ apart ∙ g.told;
         trigger = still_at triggers (set_trigger named) (set_trigger g.named) (first + k) g.trigger;
       }
@@ -111,21 +115,26 @@ module _ (zones : List Zone) (first : ℕ) (refs : List SetRef) (seats : List Se
       → HasSetValve zones now (triggers ++ set_trigger named ∷ []) other (first + k)
   new_valve other k at is =
       let size = are.size in
+      let behind = are.behind in
+      let late : 200 < valve + 1 = omega arith in
       rw is (record {
         named = named;
         names = names;
         watched = watched;
-        seat = seat_here seats ref.slot _ within ∙ omega arith;
+        seat = ap own_part (seat_here seats ref.slot _ within) ∙ own_is (valve + 1) late ∙ omega arith;
         told = check_here seats ref.slot _ within;
         trigger = last_at triggers (set_trigger named) (first + k) (omega arith);
       })
 
-  pub listed_more : HaveOwnValves zones first (refs ++ ref ∷ []) now (triggers ++ set_trigger named ∷ [])
+  pub listed_more : HaveOwnValves zones first before (refs ++ ref ∷ []) now (triggers ++ set_trigger named ∷ [])
   listed_more =
       let size = are.size in
       let longer = length-append triggers (set_trigger named ∷ []) in
       let more = length-append refs (ref ∷ []) in
+      let behind = are.behind in
+      let late : 200 < valve + 1 = omega arith in
       record {
+        behind = are.behind;
         size = omega arith;
         valves = λ k other at. elim (in_more refs ref other k at) [
           | inl old ↦ old_valve k other old
@@ -133,13 +142,23 @@ module _ (zones : List Zone) (first : ℕ) (refs : List SetRef) (seats : List Se
         ];
         only = λ slot g is. elim (cases_eq slot ref.slot) [
           | inl same ↦
-              let here = seat_here seats ref.slot (record { set = valve + 1; group = 0; check = only_check named }) within in
+              let here = ap own_part (seat_here seats ref.slot (record { set = valve + 1; group = 0; check = only_check named }) within) ∙ own_is (valve + 1) late in
               let now_is : seat_of now ref.slot ≡ suc g = ap (seat_of now) (sym same) ∙ is in
               let n : g ≡ first + length refs = omega arith in
               (length refs, (ref, n, last_at refs ref (length refs) refl, sym same))
           | inr apart ↦
-              let old = are.only slot g (sym (seat_beside seats ref.slot slot _ apart) ∙ is) in
+              let old = are.only slot g (sym (ap own_part (seat_beside seats ref.slot slot _ apart)) ∙ is) in
               (old.0, (old.1.0, old.1.1, still_at refs ref old.1.0 old.0 old.1.2, old.1.3))
+        ];
+        others = λ slot. elim (cases_eq slot ref.slot) [
+          | inl same ↦ inl (length refs, (ref, (last_at refs ref (length refs) refl, sym same)))
+          | inr apart ↦ elim (are.others slot) [
+            | inl told ↦ inl (told.0, (told.1.0, (still_at refs ref told.1.0 told.0 told.1.1.0, told.1.1.1)))
+            | inr same ↦ inr (
+              seat_beside seats ref.slot slot _ apart ∙ same.0,
+              check_beside seats ref.slot slot _ apart ∙ same.1,
+            )
+          ]
         ];
         no_group = λ slot. elim (cases_eq slot ref.slot) [
           | inl same ↦ ap (group_seat now) same ∙ ap (λ (x : Seat). x.group)
@@ -151,11 +170,11 @@ module _ (zones : List Zone) (first : ℕ) (refs : List SetRef) (seats : List Se
       }
 
 -- a set whose slot has a valve is listed
-pub listed_already : (zones : List Zone) (first : ℕ) (refs : List SetRef) (seats : List Seat)
+pub listed_already : (zones : List Zone) (first : ℕ) (before : List Seat) (refs : List SetRef) (seats : List Seat)
     (triggers : List Trigger) (ref : SetRef) (named : RecordSet)
-    → HaveOwnValves zones first refs seats triggers → HaveSlotsApart zones → RefersTo zones ref named
+    → HaveOwnValves zones first before refs seats triggers → HaveSlotsApart zones → RefersTo zones ref named
     → (seat_of seats ref.slot ≢ 0) → IsListed refs ref
-listed_already zones first refs seats triggers ref named are apart names some =
+listed_already zones first before refs seats triggers ref named are apart names some =
     by (seat_of seats ref.slot) refl
   where
     by : (n : ℕ) → seat_of seats ref.slot ≡ n → IsListed refs ref
@@ -168,7 +187,7 @@ listed_already zones first refs seats triggers ref named are apart names some =
 
 -- the seat that was read
 pub seat_is : (seats : List Seat) (slot : ℕ) (s : Seat) → slot < length seats
-    → s ≡ get_or seats slot s → s.set ≡ seat_of seats slot
+    → s ≡ get_or seats slot s → s.set ≡ set_seat seats slot
 seat_is seats slot s within is =
     ap (λ (x : Seat). x.set) (sym (get_or_from_slice_get seats slot s _
     (slice_get_read seats (length seats) slot s refl within is)))

@@ -26,7 +26,7 @@ use Rattle.policy_select.specs.GroupRecord.{Group}
 use Rattle.policy_select.specs.Tables.{HaveSlotsApart, HaveSlotsBelow}
 use Rattle.health_planning.specs.Building.{AreBelow, HaveOwnValves, AreSeated, AreWithin, group_trigger, links_to}
 use Rattle.health_planning.specs.Rooms.{AreJoined, CanGroup, HasListRoom, HaveValvesApart}
-use Rattle.health_planning.specs.Wired.{AreMembers, IsLedTo, check_seat, valves_of, group_seat, is_watched, only_check, plain_among, seat_of}
+use Rattle.health_planning.specs.Wired.{AreMembers, IsLedTo, check_seat, valves_of, group_seat, is_watched, only_check, own_part, plain_among, seat_of, set_seat}
 use Rattle.health_planning.specs.declared.seats.Seat.{Seat}
 use Rattle.health_planning.proofs.Ending.{member_valve}
 use Rattle.health_planning.proofs.Few.{few_valves, few_listed, few_once, few_placed, valves_once, links_long, once_both, own_among}
@@ -63,9 +63,9 @@ can_start zones seats blueprint below apart none room links_room few = record {
 }
 
 -- no two listed sets have one valve
-pub listed_apart : (zones : List Zone) (first : ℕ) (refs : List SetRef) (seats : List Seat)
-    (triggers : List Trigger) → HaveOwnValves zones first refs seats triggers → HaveValvesApart seats
-listed_apart zones first refs seats triggers are slot other valve one two =
+pub listed_apart : (zones : List Zone) (first : ℕ) (before : List Seat) (refs : List SetRef) (seats : List Seat)
+    (triggers : List Trigger) → HaveOwnValves zones first before refs seats triggers → HaveValvesApart seats
+listed_apart zones first before refs seats triggers are slot other valve one two =
     let a = are.only slot valve one in
     let b = are.only other valve two in
     let a_is = a.1.1 in
@@ -78,13 +78,13 @@ listed_apart zones first refs seats triggers are slot other valve one two =
     some_same e = cc
 
 -- one more set can be listed
-pub one_more : (zones : List Zone) (first : ℕ) (refs : List SetRef) (seats : List Seat)
+pub one_more : (zones : List Zone) (first : ℕ) (before : List Seat) (refs : List SetRef) (seats : List Seat)
     (triggers : List Trigger) (ref : SetRef) (named : RecordSet)
-    → HaveOwnValves zones first refs seats triggers → RefersTo zones ref named → is_watched named ≡ true
+    → HaveOwnValves zones first before refs seats triggers → RefersTo zones ref named → is_watched named ≡ true
     → ref.slot < length seats → seat_of seats ref.slot ≡ 0 → length refs + 1 ≤ length seats
-one_more zones first refs seats triggers ref named are names watched within empty =
-    let now = listed_more zones first refs seats triggers ref named (length triggers) are names watched within empty refl in
-    let most = few_listed zones first (refs ++ ref ∷ []) _ _ now in
+one_more zones first before refs seats triggers ref named are names watched within empty =
+    let now = listed_more zones first before refs seats triggers ref named (length triggers) are names watched within empty refl in
+    let most = few_listed zones first before (refs ++ ref ∷ []) _ _ now in
     let longer = length-append refs (ref ∷ []) in
     let as_long = length-set seats ref.slot (record { set = length triggers + 1; group = 0; check = only_check named }) in
     omega arith
@@ -179,7 +179,7 @@ module _ (zones : List Zone) (are_zones : AreZones zones) (apart : HaveSlotsApar
   pub valve_early : length blueprint.triggers + 1 ≤ from + length seats
   valve_early =
       let most = few_valves from (length blueprint.triggers + 1) (seated seats one.slot (valve + 1) within) all in
-      let as_long = length-set seats one.slot (record { set = seat_of seats one.slot; group = valve + 1; check = check_seat seats one.slot }) in
+      let as_long = length-set seats one.slot (record { set = set_seat seats one.slot; group = valve + 1; check = check_seat seats one.slot }) in
       omega arith
     where
       all : (found : ℕ) → from ≤ found → found < length blueprint.triggers + 1
@@ -243,9 +243,9 @@ module _ (zones : List Zone) (are_zones : AreZones zones) (apart : HaveSlotsApar
         let same = sits.sets in
         record {
           least = omega arith;
-          sets = λ other found is. can.sets other found (sym (same.valves other) ∙ is);
+          sets = λ other found is. can.sets other found (sym (ap own_part (same.valves other)) ∙ is);
           apart = λ first second found first_is second_is.
-              can.apart first second found (sym (same.valves first) ∙ first_is) (sym (same.valves second) ∙ second_is);
+              can.apart first second found (sym (ap own_part (same.valves first)) ∙ first_is) (sym (ap own_part (same.valves second)) ∙ second_is);
           grouped = rw (triggers, links) (grouped_more seats blueprint.triggers blueprint.links valve members below links_within is_valve zones zone name rtype are bare
               one in_one few seats_now sits from can.least led can.grouped);
           joined = rw links joined_now;

@@ -1,9 +1,9 @@
 -- The valves that are built are those of the configuration.
 use Rattle.std.proofs.Common.{◌⊎◌, ◌≡◌, ◌<◌, ◌≤◌, ◌+◌, ◌-◌, ℕ, zero, suc, Bool, true, false, List, [], ◌∷◌, ◌++◌, length, map, arith, refl, ap, sym, ◌∙◌, inl, inr, Some, None, Option}
-use Rattle.std.specs.Prelude.{◌==◌, cond, is_some, slice_get}
+use Rattle.std.specs.Prelude.{◌==◌, ◌||◌, cond, is_some, slice_get}
 use Rattle.std.specs.List.{AllByRecursion, filter}
 use Rattle.std.specs.Option.{option_to_list}
-use Rattle.std.proofs.lemmas.Bool.{cases_lt, false≢true}
+use Rattle.std.proofs.lemmas.Bool.{cases_lt, false≢true, le-leb}
 use Rattle.std.proofs.lemmas.List.{length-map}
 use Rattle.std.proofs.lemmas.Bool.Decides.{Decides-and, Decides-eqb}
 use Rattle.std.proofs.lemmas.Option.{slice_get_within}
@@ -32,10 +32,10 @@ use Rattle.zone_model.specs.Slotted.{IsHere, Slotted, sets_of}
 use Rattle.zone_model.specs.Zones.{IsAmong, IsRising, group, is_of_group}
 use Rattle.policy_select.specs.Looking.{RefersTo}
 use Rattle.policy_select.specs.Tables.{HaveSlotsApart}
-use Rattle.health_planning.specs.Building.{AllListed, AreTriggered, HasTarget, HasTargetValve, IsBuilt, IsListed, check_trigger, group_trigger, number, set_trigger, spare_trigger}
-use Rattle.health_planning.specs.Wired.{AreMembers, HasSlot, HaveValves, IsFirstIn, IsValveFor, IsGroupValve, IsSeated, IsSetValve, IsSpare, IsTarget, AreValvesOf, TellGroup, check_seat, valves_of, group_seat, ids_of, is_watched, only_check, plain_among, seat_of, spare_condition, valve_with, with_valve}
+use Rattle.health_planning.specs.Building.{AllListed, AllTell, AreTriggered, HasTarget, HasTargetValve, IsBuilt, IsListed, TellsCheck, check_trigger, group_trigger, number, set_trigger, spare_trigger}
+use Rattle.health_planning.specs.Wired.{AreMembers, HasSlot, HaveValves, IsAlone, IsFirstIn, IsValveFor, IsGroupValve, IsSeated, IsSetValve, IsSpare, IsTarget, AreValvesOf, TellGroup, check_seat, valves_of, group_seat, ids_of, is_watched, only_check, own_part, plain_among, seat_of, set_seat, spare_condition, valve_with, with_valve}
 use Rattle.health_planning.specs.declared.seats.Seat.{Seat}
-use Rattle.health_planning.proofs.ListedOnce.{one_ref}
+use Rattle.health_planning.proofs.ListedOnce.{one_ref, own_is}
 use Rattle.health_planning.proofs.Numbers.{number_or_none}
 
 some_same : {X : Type 0} {x y : X} → Some x ≡ Some y → x ≡ y
@@ -77,6 +77,28 @@ rising_in (zone ∷ zones) each id = by (zone.id == id) (rising_in zones each.1 
         → IsRising (sets_of (cond b zone.placed (placed_in zones id)))
     by true rest = each.0.sets.rising
     by false rest = rest
+
+in_filter : (f : RecordSet → Bool) (xs : List RecordSet) (x : RecordSet) → IsAmong xs x → f x ≡ true
+    → IsAmong (filter f xs) x
+in_filter f [] x there on = absurd there
+in_filter f (y ∷ ys) x there on = by (f y) refl there (λ later. in_filter f ys x later on)
+  where
+    by : (b : Bool) → f y ≡ b → IsAmong (y ∷ ys) x → (IsAmong ys x → IsAmong (filter f ys) x)
+        → IsAmong (cond b (y ∷ filter f ys) (filter f ys)) x
+    by true e (inl same) rest = inl same
+    by true e (inr later) rest = inr (rest later)
+    by false e (inl same) rest = absurd (false≢true (sym e ∙ ap f same ∙ on))
+    by false e (inr later) rest = rest later
+
+-- a set of a name and type is one of their group
+pub in_members : (zones : List Zone) → AreZones zones → (zone : ℕ) (name : List (List ℕ)) (rtype : RType)
+    (members : List Slotted) (p : Slotted) → AreMembers zones zone name rtype members
+    → IsHere (placed_in zones zone) p → name ≡ p.set.name → rtype ≡ p.set.rtype → IsHere members p
+in_members zones are_zones zone name rtype members p are here name_is rtype_is =
+    let among = in_filter (is_of_group name rtype) (sets_of (placed_in zones zone)) p.set (set_in (placed_in zones zone) p here) (passes_it name rtype p.set name_is rtype_is) in
+    let q = placed_with members p.set (subst (λ (l : List RecordSet). IsAmong l p.set) (sym are.sets) among) in
+    let one = one_of_key (placed_in zones zone) (rising_in zones are_zones.each zone) q.0 p (are.here q.0 q.1) here (ap key_of q.2) in
+    subst (IsHere members) one q.1
 
 -- the first set of a group
 record HasFirst (zones : List Zone) (zone : ℕ) (name : List (List ℕ)) (rtype : RType)
@@ -176,6 +198,20 @@ module _ (zones : List Zone) (are_zones : AreZones zones) where
         subst (λ (z : ℕ). AreMembers zones z name rtype ys) one.0
         (subst (λ (n : List (List ℕ)). AreMembers zones other n rtype ys) one.1.0
         (subst (λ (r : RType). AreMembers zones other name_two r ys) one.1.1 are_ys))
+
+-- a set that something decides and no target's health does names a check
+named_check : (set : RecordSet) → evaluates set.body ≡ false → is_watched set ≡ true
+    → (id : ℕ) × (set.check ≡ Some id)
+named_check set off on = by set.check refl (sym (ap (λ (b : Bool). is_some set.check || b) off) ∙ on)
+  where
+    by : (check : Option ℕ) → set.check ≡ check → is_some set.check || false ≡ true
+        → (id : ℕ) × (set.check ≡ Some id)
+    by None is some = absurd (false≢true (sym (ap (λ (o : Option ℕ). is_some o || false) is) ∙ some))
+    by (Some id) is some = (id, is)
+
+-- and that is the only one
+only_is : (set : RecordSet) (id : ℕ) → evaluates set.body ≡ false → set.check ≡ Some id → only_check set ≡ id
+only_is set id off is = rw (off, is) refl
 
 -- ---- all valves
 
@@ -312,7 +348,7 @@ module _ (zones : List Zone) (list : List (ℕ × Check)) (numbers : List ℕ) (
       }
 
   -- a set whose slot has a valve is listed, and one that something decides
-  watched_there : (zone : ℕ) (p : Slotted) → IsHere (placed_in zones zone) p → (valve : ℕ)
+  pub watched_there : (zone : ℕ) (p : Slotted) → IsHere (placed_in zones zone) p → (valve : ℕ)
       → seat_of seats p.slot ≡ suc valve
       → IsListed refs (ref_in zone p) × (is_watched p.set ≡ true)
   watched_there zone p here valve seat =
@@ -332,18 +368,69 @@ module _ (zones : List Zone) (list : List (ℕ × Check)) (numbers : List ℕ) (
       let same : g.valve ≡ valve = omega arith in
       subst (IsSetValve zones (ids_of list) numbers seats (net_in blueprint) (own_in blueprint) zone p.set) same g.is
 
-  pub seated : AllListed zones refs → (zone : ℕ) (p : Slotted) → IsHere (placed_in zones zone) p
+  pub seated : AllListed zones refs → AllTell zones (ids_of list) numbers refs seats → (zone : ℕ) (p : Slotted) → IsHere (placed_in zones zone) p
       → IsSeated zones (ids_of list) numbers seats (net_in blueprint) (own_in blueprint) zone p
-  seated all zone p here = record {
-    plain = λ off. by (seat_of seats p.slot) refl off;
-    told = λ on. (valve_of zone p here (all zone p here on)).told;
-    valved = λ on. let g = valve_of zone p here (all zone p here on) in (g.valve, g.seat, g.is);
-  }
+  seated all tell zone p here = elim (tell zone p here) [
+    | inl listed ↦ by_own (valve_of zone p here listed)
+    | inr told ↦ record {
+      plain = told.plain;
+      told = λ on. (by_check told (evaluates p.set.body) refl on).0;
+      valved = λ on. (by_check told (evaluates p.set.body) refl on).1;
+    }
+  ]
     where
-      by : (n : ℕ) → seat_of seats p.slot ≡ n → is_watched p.set ≡ false → seat_of seats p.slot ≡ 0
-      by zero e off = e
-      by (suc valve) e off =
-          absurd (false≢true (sym off ∙ (watched_there zone p here valve e).1))
+      by_own : HasValve zone p → IsSeated zones (ids_of list) numbers seats (net_in blueprint) (own_in blueprint) zone p
+      by_own g = record {
+        plain = λ off. absurd (false≢true (sym off ∙ (watched_there zone p here g.valve g.seat).1));
+        told = λ on. g.told;
+        valved = λ on. inr (g.valve, g.seat, g.is);
+      }
+
+      by_check : TellsCheck (ids_of list) numbers seats p → (b : Bool) → evaluates p.set.body ≡ b
+          → is_watched p.set ≡ true
+          → (check_seat seats p.slot ≡ only_check p.set)
+          × (((id : ℕ) × (IsAlone p.set id × (set_seat seats p.slot ≡ suc (valve_with (ids_of list) numbers id))))
+          ⊎ ((valve : ℕ) × (seat_of seats p.slot ≡ suc valve)
+          × IsSetValve zones (ids_of list) numbers seats (net_in blueprint) (own_in blueprint) zone p.set valve))
+      by_check told true on watched =
+          let g = valve_of zone p here (all zone p here on) in
+          (g.told, inr (g.valve, g.seat, g.is))
+      by_check told false off watched =
+          let id = named_check p.set off watched in
+          let its = told.alone id.0 (off, id.1) in
+          (its.0 ∙ sym (only_is p.set id.0 off id.1), inl (id.0, ((off, id.1), its.1)))
+
+  -- the sets of a group with a valve that something decides have valves of their own
+  members_own : AllListed zones refs → AllTell zones (ids_of list) numbers refs seats → (slot valve : ℕ)
+      → group_seat seats slot ≡ suc valve → set_seat seats slot ≡ seat_of seats slot
+  members_own all tell slot valve is =
+      let g = (built.groups.valves slot valve is).1 in
+      let p = g.here in
+      let of = of_group (sets_of (placed_in zones g.zone)) g.name g.rtype p.0.set
+      (subst (λ (l : List RecordSet). IsAmong l p.0.set) g.are.sets (set_in g.members p.0 p.1)) in
+      let alias = g.led in
+      let k = all g.zone alias.0 alias.1.0 (ap evaluates alias.1.1.0) in
+      let within = slice_get_within refs k.0 (ref_in g.zone alias.0) k.1 in
+      let listed = built.members k.0 (ref_in g.zone alias.0) alias.0.set g.name within k.1 alias.1.0 alias.1.1.0
+      p.0 (g.are.here p.0 p.1) of.0 (alias.1.1.1 ∙ of.1) in
+      subst (λ (n : ℕ). set_seat seats n ≡ seat_of seats n) p.2
+      (by g.zone p.0 (g.are.here p.0 p.1) listed (is_watched p.0.set) refl)
+    where
+      own_same : (seat found : ℕ) → own_part seat ≡ suc found → seat ≡ own_part seat
+      own_same seat found e = elim (cases_lt 200 seat) [
+        | inl late ↦ sym (own_is seat late)
+        | inr early ↦ (let none : own_part seat ≡ 0 = rw (le-leb seat 200 early) refl in absurd (omega arith))
+      ]
+
+      by : (zone : ℕ) (p : Slotted) → IsHere (placed_in zones zone) p
+          → (is_watched p.set ≡ true → IsListed refs (ref_in zone p)) → (b : Bool) → is_watched p.set ≡ b
+          → set_seat seats p.slot ≡ seat_of seats p.slot
+      by zone p here listed true on =
+          let g = valve_of zone p here (listed on) in
+          own_same (set_seat seats p.slot) g.valve g.seat
+      by zone p here listed false off =
+          let none = (seated all tell zone p here).plain off in
+          none ∙ sym (ap own_part none)
 
   -- each valve is that of a node, or spare
   pub nodes : (valve : ℕ) → valve < length blueprint.triggers → IsSpare numbers valve
@@ -390,9 +477,9 @@ module _ (zones : List Zone) (list : List (ℕ × Check)) (numbers : List ℕ) (
       ap (λ (o : Option Trigger). condition_of o (feeders_in blueprint.links valve)) (built.spares valve is)
       ∙ ap (condition_of (Some spare_trigger)) (built.unfed valve is)
 
-  pub wired : AllListed zones refs → (reports : List Report) → AreTriggered reports list numbers blueprint.triggers
+  pub wired : AllListed zones refs → AllTell zones (ids_of list) numbers refs seats → (reports : List Report) → AreTriggered reports list numbers blueprint.triggers
       → AreValvesOf zones list numbers seats (net_in blueprint) (own_in blueprint) reports
-  wired all reports triggered = record {
+  wired all tell reports triggered = record {
     its_checks = λ place valve id check at numbered.
         let trigger = triggered place valve id check at numbered in
         record {
@@ -401,11 +488,12 @@ module _ (zones : List Zone) (list : List (ℕ × Check)) (numbers : List ℕ) (
               ∙ ap (condition_of (Some (check_trigger reports id check))) (built.children place valve id check at numbered);
           its_own = ap own_of trigger;
         };
-    its_sets = seated all;
+    its_sets = seated all tell;
     its_nodes = nodes;
     spares = spare;
     many = let size = built.size in omega arith;
     its_groups = λ slot valve is.
         let g = built.groups.valves slot valve is in
         slice_get_within blueprint.triggers valve (group_trigger (plain_among seats g.1.members)) g.1.trigger;
+    its_members = members_own all tell;
   }

@@ -21,7 +21,7 @@ use Rattle.policy_select.specs.Zones.{Zone, placed_in}
 use Rattle.policy_select.specs.SetRefRecord.{SetRef}
 use Rattle.zone_model.specs.Slotted.{IsHere, Slotted}
 use Rattle.policy_select.specs.Looking.{RefersTo}
-use Rattle.health_planning.specs.Wired.{AreMembers, HasSlot, IsFirstIn, IsLedTo, IsSpare, TellGroup, check_need, check_own, check_seat, valves_of, group_seat, ids_of, is_inverted, is_watched, only_check, plain_among, seat_of, valve_with, with_valve}
+use Rattle.health_planning.specs.Wired.{AreMembers, HasSlot, IsFirstIn, IsLedTo, IsSpare, TellGroup, check_need, check_own, check_seat, valves_of, group_seat, IsAlone, ids_of, is_inverted, is_watched, only_check, plain_among, seat_of, set_seat, valve_with, with_valve}
 use Rattle.health_planning.specs.declared.seats.Seat.{Seat}
 
 -- some valves feed one
@@ -102,6 +102,16 @@ set_trigger set = record {
   own = 0;
 }
 
+-- one of some references is to this slot
+abbrev pub TellSlot : List SetRef → (slot : ℕ) → Type 0
+TellSlot refs slot =
+    (k : ℕ) × ((ref : SetRef) × ((slice_get refs k ≡ Some ref) × (ref.slot ≡ slot)))
+
+-- what the seat in a slot tells of its set is as before
+abbrev pub TellsOn : (before after : List Seat) → (slot : ℕ) → Type 0
+TellsOn before after slot = (set_seat after slot ≡ set_seat before slot)
+    × (check_seat after slot ≡ check_seat before slot)
+
 -- the valve of a set that was listed
 pub record HasSetValve (zones : List Zone) (seats : List Seat) (triggers : List Trigger) (ref : SetRef)
     (valve : ℕ) : Type 0 where
@@ -112,32 +122,58 @@ pub record HasSetValve (zones : List Zone) (seats : List Seat) (triggers : List 
   pub told : check_seat seats ref.slot ≡ only_check named
   pub trigger : slice_get triggers valve ≡ Some (set_trigger named)
 
--- The listed sets have valves of their own, from one number on, and no other slot has.
-pub record HaveOwnValves (zones : List Zone) (first : ℕ) (refs : List SetRef) (seats : List Seat)
-    (triggers : List Trigger) : Type 0 where
+-- The listed sets have valves of their own, from one number on that is behind those of checks, and no other
+-- slot has. What the seats of other sets told before they tell still.
+pub record HaveOwnValves (zones : List Zone) (first : ℕ) (before : List Seat) (refs : List SetRef)
+    (seats : List Seat) (triggers : List Trigger) : Type 0 where
+  pub behind : 200 ≤ first
   pub size : length triggers ≡ first + length refs
   pub valves : (k : ℕ) (ref : SetRef) → slice_get refs k ≡ Some ref
       → HasSetValve zones seats triggers ref (first + k)
   pub only : (slot valve : ℕ) → seat_of seats slot ≡ suc valve
       → (k : ℕ) × ((ref : SetRef) × (valve ≡ first + k) × (slice_get refs k ≡ Some ref)
       × (ref.slot ≡ slot))
+  pub others : (slot : ℕ) → TellSlot refs slot ⊎ TellsOn before seats slot
   pub no_group : (slot : ℕ) → group_seat seats slot ≡ 0
 
 -- one of them is this one
 abbrev pub IsListed : List SetRef → SetRef → Type 0
 IsListed refs ref = (k : ℕ) × (slice_get refs k ≡ Some ref)
 
--- each set that something decides is listed
+-- each evaluated alias is listed
 abbrev pub AllListed : List Zone → List SetRef → Type 0
 AllListed zones refs = (zone : ℕ) (p : Slotted) → IsHere (placed_in zones zone) p
-    → is_watched p.set ≡ true → IsListed refs (ref_in zone p)
+    → evaluates p.set.body ≡ true → IsListed refs (ref_in zone p)
 
--- Where not all sets are asked whether something decides them, those that something decides are
--- among the ones that are: such as are known, or came.
+-- Where not all sets are asked whether they are evaluated aliases, these are among the ones that are: such
+-- as are known, or came.
 abbrev pub AreAsked : List Zone → (whole : Bool) → (known came : List SetRef) → Type 0
 AreAsked zones whole known came = (zone : ℕ) (p : Slotted) → IsHere (placed_in zones zone) p
-    → is_watched p.set ≡ true
+    → evaluates p.set.body ≡ true
     → (whole ≡ true) ⊎ (IsListed known (ref_in zone p) ⊎ IsListed came (ref_in zone p))
+
+-- The sets of a group that something decides are listed.
+abbrev pub TargetListed : List Zone → (zone : ℕ) → (name : List (List ℕ)) → RType → List SetRef → Type 0
+TargetListed zones zone name rtype refs = (p : Slotted) → IsHere (placed_in zones zone) p
+    → name ≡ p.set.name → rtype ≡ p.set.rtype → is_watched p.set ≡ true
+    → IsListed refs (ref_in zone p)
+
+-- So are those of the target groups of the first so many of some evaluated aliases.
+abbrev pub TargetsListed : List Zone → (many : ℕ) → List SetRef → Type 0
+TargetsListed zones many refs = (k : ℕ) (ref : SetRef) (named : RecordSet) (name : List (List ℕ))
+    → k < many → slice_get refs k ≡ Some ref → RefersTo zones ref named
+    → named.body ≡ body.Alias name true → TargetListed zones ref.zone name named.rtype refs
+
+-- What the seat of a set tells where a check alone decides it, or nothing.
+pub record TellsCheck (ids numbers : List ℕ) (seats : List Seat) (p : Slotted) : Type 0 where
+  pub plain : is_watched p.set ≡ false → set_seat seats p.slot ≡ 0
+  pub alone : (id : ℕ) → IsAlone p.set id → (check_seat seats p.slot ≡ id)
+      × (set_seat seats p.slot ≡ suc (valve_with ids numbers id))
+
+-- Each set is listed, or its seat tells that.
+abbrev pub AllTell : List Zone → (ids numbers : List ℕ) → List SetRef → List Seat → Type 0
+AllTell zones ids numbers refs seats = (zone : ℕ) (p : Slotted) → IsHere (placed_in zones zone) p
+    → IsListed refs (ref_in zone p) ⊎ TellsCheck ids numbers seats p
 
 -- ---- groups
 
@@ -175,7 +211,7 @@ AreBelow seats n = (slot valve : ℕ) → seat_of seats slot ≡ suc valve → v
 
 -- What seats tell of sets is as before.
 pub record SameSets (before after : List Seat) : Type 0 where
-  pub valves : (slot : ℕ) → seat_of after slot ≡ seat_of before slot
+  pub valves : (slot : ℕ) → set_seat after slot ≡ set_seat before slot
   pub checks : (slot : ℕ) → check_seat after slot ≡ check_seat before slot
 
 -- Some sets come to be seated at the valve of their group, given as one more; no other set is.
@@ -197,16 +233,11 @@ pub record HasTarget (zones : List Zone) (seats : List Seat) (zone : ℕ) (name 
   pub valve : ℕ
   pub seat : group_seat seats slot ≡ suc valve
 
--- one of some references is to this slot
-abbrev pub TellSlot : List SetRef → (slot : ℕ) → Type 0
-TellSlot refs slot =
-    (k : ℕ) × ((ref : SetRef) × ((slice_get refs k ≡ Some ref) × (ref.slot ≡ slot)))
-
--- the seat in a slot tells no valve
+-- the seat in a slot tells no valve but one of a check
 abbrev pub IsFree : List Seat → (slot : ℕ) → Type 0
 IsFree seats slot = (seat_of seats slot ≡ 0) × (group_seat seats slot ≡ 0)
 
--- One seat for each slot, and none tells a valve.
+-- One seat for each slot, and none tells a valve but one of a check.
 pub record AreFree (slots : ℕ) (seats : List Seat) : Type 0 where
   pub size : length seats ≡ slots
   pub each : (slot : ℕ) → IsFree seats slot
@@ -225,9 +256,64 @@ pub record AreNoted (members : List SetRef) (seats : List Seat) : Type 0 where
   pub once : (k n : ℕ) (one other : SetRef) → slice_get members k ≡ Some one
       → slice_get members n ≡ Some other → one.slot ≡ other.slot → k ≡ n
 
+-- the seat in a slot tells nothing
+abbrev pub IsBare : List Seat → (slot : ℕ) → Type 0
+IsBare seats slot = (set_seat seats slot ≡ 0) × (group_seat seats slot ≡ 0)
+
+-- all that the seat in a slot tells is as before
+abbrev pub TellsAll : (before after : List Seat) → (slot : ℕ) → Type 0
+TellsAll before after slot =
+    TellsOn before after slot × (group_seat after slot ≡ group_seat before slot)
+
+-- The seat in a slot tells of its set what it told; or nothing, where it told a valve of the set's own.
+abbrev pub KeepsCheck : (before after : List Seat) → (slot : ℕ) → Type 0
+KeepsCheck before after slot =
+    TellsOn before after slot ⊎ ((seat_of before slot ≢ 0) × (set_seat after slot ≡ 0))
+
+-- a set stands in the slot
+abbrev pub HoldsSet : List Zone → (slot : ℕ) → Type 0
+HoldsSet zones slot =
+    (set : SetRef) × ((named : RecordSet) × (RefersTo zones set named × (set.slot ≡ slot)))
+
+-- What the seat in a slot tells is as before; or a set stands there, and it tells no valve of its own.
+abbrev pub SeatsCheck : List Zone → (before after : List Seat) → (slot : ℕ) → Type 0
+SeatsCheck zones before after slot =
+    TellsOn before after slot ⊎ (HoldsSet zones slot × (seat_of after slot ≡ 0))
+
+-- Seats by which the valves of sets and groups can be planned anew. The sets that are told as known or come
+-- are seated by the checks that alone decide them; so are all sets, where all are asked. Of the
+-- others each seat that told no valve of a set's own tells what it told, but where a set went.
+pub record AreSeatedAnew (zones : List Zone) (ids numbers : List ℕ) (whole : Bool)
+    (known gone came : List SetRef) (before after : List Seat) : Type 0 where
+  pub all : whole ≡ true → (zone : ℕ) (p : Slotted) → IsHere (placed_in zones zone) p
+      → TellsCheck ids numbers after p
+  pub told : (ref : SetRef) (p : Slotted)
+      → IsListed known ref ⊎ (IsListed gone ref ⊎ IsListed came ref)
+      → IsHere (placed_in zones ref.zone) p → p.slot ≡ ref.slot → TellsCheck ids numbers after p
+  pub stays : whole ≡ false → (zone : ℕ) (p : Slotted) → IsHere (placed_in zones zone) p
+      → seat_of before p.slot ≡ 0 → (TellSlot gone p.slot → ⊥) → TellsCheck ids numbers before p
+      → TellsCheck ids numbers after p
+  pub here : (slot : ℕ) → set_seat after slot ≢ 0 → HoldsSet zones slot
+      ⊎ ((whole ≡ false) × ((TellSlot gone slot → ⊥) × TellsOn before after slot))
+
+-- Sets that went and came are seated by the checks that alone decide them, where they are there, beside others
+-- whose seats tell what they told. No valve of a set's own comes by it, and nothing changes of groups.
+pub record AreSeatedBeside (zones : List Zone) (ids numbers : List ℕ) (gone came : List SetRef)
+    (before after : List Seat) : Type 0 where
+  pub told : (ref : SetRef) (p : Slotted) → IsListed gone ref ⊎ IsListed came ref
+      → IsHere (placed_in zones ref.zone) p → p.slot ≡ ref.slot → TellsCheck ids numbers after p
+  pub stays : (zone : ℕ) (p : Slotted) → IsHere (placed_in zones zone) p
+      → (TellSlot gone p.slot → ⊥) → TellsCheck ids numbers before p → TellsCheck ids numbers after p
+  pub here : (slot : ℕ) → set_seat after slot ≢ 0 → HoldsSet zones slot
+      ⊎ ((TellSlot gone slot → ⊥) × TellsOn before after slot)
+  pub others : (slot : ℕ)
+      → (TellSlot gone slot ⊎ TellSlot came slot) ⊎ TellsOn before after slot
+  pub free : (slot : ℕ) → seat_of before slot ≡ 0 → seat_of after slot ≡ 0
+  pub groups : (slot : ℕ) → group_seat after slot ≡ group_seat before slot
+
 -- the seat in a slot
 pub record IsSeatAt (seats : List Seat) (slot : ℕ) (seat : Seat) : Type 0 where
-  pub set : seat.set ≡ seat_of seats slot
+  pub set : seat.set ≡ set_seat seats slot
   pub group : seat.group ≡ group_seat seats slot
   pub check : seat.check ≡ check_seat seats slot
 
@@ -280,6 +366,7 @@ pub record IsBuilt (zones : List Zone) (list : List (ℕ × Check)) (numbers : L
   pub targets : (k : ℕ) (ref : SetRef) (named : RecordSet) (name : List (List ℕ))
       → slice_get refs k ≡ Some ref → RefersTo zones ref named → named.body ≡ body.Alias name true
       → HasTarget zones seats ref.zone name named.rtype
+  pub members : TargetsListed zones (length refs) refs
   pub groups : AreGrouped zones (200 + length refs) seats triggers links
   pub within : AreWithin links (length triggers)
   pub size : 200 + length refs ≤ length triggers

@@ -1,5 +1,5 @@
 -- Which valves stand for the checks, the sets and the groups of a configuration.
-use Rattle.std.specs.Prelude.{◌≡◌, ◌≤◌, ◌<◌, ◌+◌, ℕ, zero, suc, Bool, true, false, ◌||◌, if◌then◌else◌, nat_eq, List, [], ◌∷◌, ◌++◌, length, map, Option, None, Some, is_some, slice_get, slice_index, slice_index_or, ◌⊎◌}
+use Rattle.std.specs.Prelude.{◌≡◌, ◌≤◌, ◌<◌, ◌+◌, ℕ, zero, suc, Bool, true, false, ◌||◌, if◌then◌else◌, nat_eq, nat_le, List, [], ◌∷◌, ◌++◌, length, map, Option, None, Some, is_some, slice_get, slice_index, slice_index_or, ◌⊎◌}
 use Rattle.std.specs.Option.{option_to_list}
 use Rattle.check_model.specs.Checks.{Checks, children_of}
 use Rattle.check_model.specs.declared.checks.Check.{Check}
@@ -100,9 +100,18 @@ pub record IsCheckValve (ids numbers : List ℕ) (net : Net) (own : ℕ → ℕ)
 
 -- ---- valves of sets and groups
 
--- the valve of the set in a slot, plus one, and 0 where it has none
+-- What the seat in a slot tells of the valve by which its set is healthy: one more than that, and 0 where
+-- there is none. It is a valve of the set's own, or that of the check that alone decides the set.
+abbrev pub set_seat : List Seat → (slot : ℕ) → ℕ
+set_seat seats slot = (slice_index_or seats slot (record { set = 0; group = 0; check = 0 })).set
+
+-- one that is a set's own stands behind the first 200, which are those of checks
+abbrev pub own_part : (seat : ℕ) → ℕ
+own_part seat = if nat_le seat 200 then 0 else seat
+
+-- the valve of its own that the set in a slot has, plus one, and 0 where it has none
 abbrev pub seat_of : List Seat → (slot : ℕ) → ℕ
-seat_of seats slot = (slice_index_or seats slot (record { set = 0; group = 0; check = 0 })).set
+seat_of seats slot = own_part (set_seat seats slot)
 
 -- the number of the check that alone decides a set; 0 where there is none such
 abbrev pub check_or_none : Option ℕ → ℕ
@@ -111,6 +120,10 @@ check_or_none (Some id) = id
 
 abbrev pub only_check : RecordSet → ℕ
 only_check set = if evaluates set.body then 0 else check_or_none set.check
+
+-- a check alone decides the set
+abbrev pub IsAlone : RecordSet → (id : ℕ) → Type 0
+IsAlone set id = (evaluates set.body ≡ false) × (set.check ≡ Some id)
 
 -- what the seat in a slot says of that number
 abbrev pub check_seat : List Seat → (slot : ℕ) → ℕ
@@ -207,14 +220,16 @@ pub record IsSetValve (zones : List Zone) (ids numbers : List ℕ) (seats : List
   pub condition : net.condition valve ≡ set_condition (map (valve_with ids numbers) (option_to_list set.check) ++ target)
   pub its_own : own valve ≡ 0
 
--- A set has a valve where something decides its health; its seat tells which check alone does.
+-- A set that something decides has a valve of its own, or its seat tells that of the check that alone
+-- decides it; the seat also tells which check alone does.
 pub record IsSeated (zones : List Zone) (ids numbers : List ℕ) (seats : List Seat) (net : Net)
     (own : ℕ → ℕ) (zone : ℕ) (p : Slotted) : Type 0 where
-  pub plain : is_watched p.set ≡ false → seat_of seats p.slot ≡ 0
+  pub plain : is_watched p.set ≡ false → set_seat seats p.slot ≡ 0
   pub told : is_watched p.set ≡ true → check_seat seats p.slot ≡ only_check p.set
   pub valved : is_watched p.set ≡ true
-      → (valve : ℕ) × (seat_of seats p.slot ≡ suc valve)
-      × IsSetValve zones ids numbers seats net own zone p.set valve
+      → ((id : ℕ) × (IsAlone p.set id × (set_seat seats p.slot ≡ suc (valve_with ids numbers id))))
+      ⊎ ((valve : ℕ) × (seat_of seats p.slot ≡ suc valve)
+      × IsSetValve zones ids numbers seats net own zone p.set valve)
 
 -- ---- all valves
 
@@ -239,7 +254,8 @@ IsSpare numbers valve = (valve < 200) × ((place : ℕ) → slice_get numbers pl
 abbrev pub spare_condition : Condition
 spare_condition = record { need = 0; inverted = false; feeders = [] }
 
--- The valves are those of the configuration, and spare ones for more checks, and there are no others.
+-- The valves are those of the configuration, and spare ones for more checks, and there are no others. The sets
+-- of a group with a valve have valves of their own, where something decides them.
 pub record AreValvesOf (zones : List Zone) (checks : List (ℕ × Check)) (numbers : List ℕ)
     (seats : List Seat) (net : Net) (own : ℕ → ℕ) (reports : List Report) : Type 0 where
   pub its_checks : (place valve id : ℕ) (check : Check) → slice_get checks place ≡ Some (id, check)
@@ -252,3 +268,5 @@ pub record AreValvesOf (zones : List Zone) (checks : List (ℕ × Check)) (numbe
   pub spares : (valve : ℕ) → IsSpare numbers valve → net.condition valve ≡ spare_condition
   pub many : 200 ≤ net.size
   pub its_groups : (slot valve : ℕ) → group_seat seats slot ≡ suc valve → valve < net.size
+  pub its_members : (slot valve : ℕ) → group_seat seats slot ≡ suc valve
+      → set_seat seats slot ≡ seat_of seats slot

@@ -3,7 +3,7 @@
 //!
 //! Seats are cleared only where they were given: a store has many slots, and few of them have valves.
 
-ghost use Rattle.std.specs.Prelude.{◌≡◌, ◌≤◌, ◌<◌, ◌+◌, ◌++◌, ◌∷◌, [], ℕ, List, None, Some, length};
+ghost use Rattle.std.specs.Prelude.{◌≡◌, ◌≢◌, ◌≤◌, ◌<◌, ◌+◌, ◌++◌, ◌∷◌, [], ℕ, List, None, Some, length};
 ghost use Rattle.std.specs.Prelude.{is_some, map, slice_get, true, vec_capacity, vec_len};
 ghost use Rattle.check_model.specs.declared.checks.Check.{Check};
 ghost use Rattle.check_model.specs.Checks.{Checks, IsBounded, children_of};
@@ -12,17 +12,18 @@ ghost use Rattle.checker_state.specs.Standing.{StandsFor as HasSeen};
 ghost use Rattle.health_valves.specs.Blueprint.{KeepsRoom};
 ghost use Rattle.health_valves.specs.declared.blueprint.Trigger.{Trigger};
 ghost use Rattle.health_planning.specs.Building.{AreSeen, AreThere, AreTriggered, check_links};
-ghost use Rattle.health_planning.specs.Building.{AreFree, AreGiven, AreOfEndpoints, IsFree, check_trigger};
-ghost use Rattle.health_planning.specs.Building.{TellSlot, links_to, spare_trigger};
+ghost use Rattle.health_planning.specs.Building.{AreFree, AreGiven, AreOfEndpoints, IsBare, IsFree};
+ghost use Rattle.health_planning.specs.Building.{KeepsCheck, TellSlot, TellsAll, check_trigger, links_to};
+ghost use Rattle.health_planning.specs.Building.{spare_trigger};
 ghost use Rattle.health_planning.specs.Later.{EachIsLater, IsLaterAt, Knows};
 ghost use Rattle.health_planning.specs.Building.{IsSeen};
 ghost use Rattle.health_planning.specs.Rooms.{children_among};
 ghost use Rattle.health_planning.specs.Wired.{HaveValves, IsSpare, StandApart, StandsAt, check_need};
-ghost use Rattle.health_planning.specs.Wired.{check_own, ids_of, is_inverted, valve_with};
+ghost use Rattle.health_planning.specs.Wired.{check_own, ids_of, is_inverted, own_part, valve_with};
 ghost use Rattle.health_model.specs.Statuses.{Report, passing};
 
 use crate::finding::{number_at, place_from, seen_at, valve_with};
-use crate::seats::Seat;
+use crate::seats::{Seat, own_valve, seat_at};
 use checker_state::Checkers;
 use health_check::Check;
 use health_valves::{Blueprint, Feeding, Trigger};
@@ -265,10 +266,33 @@ pub fn list_seen(
     }
 }
 
-/// Clears the seat in a slot, where there is one.
+/// A seat without a valve of the set's own, and without one of its group. What it tells of a check that
+/// alone decides the set stays.
+fn without_valves(seat: Seat) -> Seat
+    ensures group { result.group ≡ 0 }
+    ensures own { own_part result.set ≡ 0 }
+    ensures check { (own_part seat.set ≡ 0 → (result.set ≡ seat.set) × (result.check ≡ seat.check))
+        × (own_part seat.set ≢ 0 → result.set ≡ 0) }
+{
+    if own_valve(seat.set) != 0 {
+        return Seat {
+            set: 0,
+            group: 0,
+            check: 0,
+        };
+    }
+    Seat {
+        set: seat.set,
+        group: 0,
+        check: seat.check,
+    }
+}
+
+/// Clears what the seat in a slot tells of valves but one of a check, where there is a seat.
 fn clear_one(seats: &mut Vec<Seat>, slot: u32)
     ensures here { IsFree seats.new.items slot }
     ensures free { (other : ℕ) → IsFree seats.old.items other → IsFree seats.new.items other }
+    ensures checks { (other : ℕ) → KeepsCheck seats.old.items seats.new.items other }
     ensures size { length seats.new.items ≡ length seats.old.items }
     ensures room { vec_capacity seats.new ≡ vec_capacity seats.old }
 {
@@ -276,17 +300,15 @@ fn clear_one(seats: &mut Vec<Seat>, slot: u32)
     if at >= seats.len() {
         return;
     }
-    seats[at] = Seat {
-        set: 0,
-        group: 0,
-        check: 0,
-    };
+    let cleared = without_valves(seat_at(seats, slot));
+    seats[at] = cleared;
 }
 
-/// Clears the seats of some sets.
+/// Clears the seats of some sets but for what they tell of checks.
 fn clear_those(seats: &mut Vec<Seat>, those: &[SetRef])
     ensures cleared { (slot : ℕ) → TellSlot those.now slot → IsFree seats.new.items slot }
     ensures free { (slot : ℕ) → IsFree seats.old.items slot → IsFree seats.new.items slot }
+    ensures checks { (slot : ℕ) → KeepsCheck seats.old.items seats.new.items slot }
     ensures size { length seats.new.items ≡ length seats.old.items }
     ensures room { vec_capacity seats.new ≡ vec_capacity seats.old }
 {
@@ -295,14 +317,14 @@ fn clear_those(seats: &mut Vec<Seat>, those: &[SetRef])
     }
 }
 
-/// Seats for so many slots, where none tells a valve.
-fn fill_seats(seats: &mut Vec<Seat>, slots: usize)
+/// At least as many seats as there are slots: those that come tell nothing.
+pub fn grow_seats(seats: &mut Vec<Seat>, slots: usize)
     requires room { slots ≤ vec_capacity seats.old }
-    requires free { (slot : ℕ) → IsFree seats.old.items slot }
-    ensures free { AreFree slots seats.new.items }
+    ensures all { (slot : ℕ) → TellsAll seats.old.items seats.new.items slot }
+    ensures least { slots ≤ length seats.new.items }
+    ensures few { length seats.old.items ≤ slots → length seats.new.items ≡ slots }
     ensures room { vec_capacity seats.new ≡ vec_capacity seats.old }
 {
-    seats.truncate(slots);
     for _i in seats.len()..slots {
         seats.push_reserved(Seat {
             set: 0,
@@ -312,15 +334,28 @@ fn fill_seats(seats: &mut Vec<Seat>, slots: usize)
     }
 }
 
-/// Seats without valves, one for each slot: those that tell valves are cleared, which are in the slots
-/// of the listed sets and of the noted members.
+/// As many seats as there are slots: what those tell that stay is as before, and the others tell nothing.
+pub fn fit_seats(seats: &mut Vec<Seat>, slots: usize)
+    requires room { slots ≤ vec_capacity seats.old }
+    ensures size { length seats.new.items ≡ slots }
+    ensures front { (slot : ℕ) → slot < slots → TellsAll seats.old.items seats.new.items slot }
+    ensures past { (slot : ℕ) → slots ≤ slot → IsBare seats.new.items slot }
+    ensures room { vec_capacity seats.new ≡ vec_capacity seats.old }
+{
+    seats.truncate(slots);
+    grow_seats(seats, slots);
+}
+
+/// Seats without valves but those of checks, one for each slot: those that tell others are cleared, which are
+/// in the slots of the listed sets and of the noted members.
 pub fn clear_seats(seats: &mut Vec<Seat>, refs: &[SetRef], members: &[SetRef], slots: usize)
     requires given { AreGiven refs.now members.now seats.old.items }
     requires room { slots ≤ vec_capacity seats.old }
     ensures free { AreFree slots seats.new.items }
+    ensures checks { (slot : ℕ) → slot < slots → KeepsCheck seats.old.items seats.new.items slot }
     ensures room { vec_capacity seats.new ≡ vec_capacity seats.old }
 {
     clear_those(seats, refs);
     clear_those(seats, members);
-    fill_seats(seats, slots);
+    fit_seats(seats, slots);
 }

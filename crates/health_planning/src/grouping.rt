@@ -9,26 +9,17 @@ ghost use Rattle.policy_select.specs.Zones.{placed_in};
 ghost use Rattle.zone_model.specs.Slotted.{sets_of};
 ghost use Rattle.zone_model.specs.Walks.{HasNoTarget};
 ghost use Rattle.policy_select.specs.Looking.{RefersTo};
-ghost use Rattle.health_planning.specs.Building.{IsSeatAt};
 ghost use Rattle.health_planning.specs.Building.{AreBelow, AreNoted, AreSeated, AreWithin, HasTarget};
 ghost use Rattle.health_planning.specs.Building.{SameSets, links_to};
 ghost use Rattle.health_planning.specs.Rooms.{CanGroup, HaveValvesApart};
-ghost use Rattle.health_planning.specs.Wired.{check_seat, valves_of, group_seat, only_check, plain};
+ghost use Rattle.health_planning.specs.Wired.{check_seat, valves_of, group_seat, only_check, own_part, plain};
 ghost use Rattle.health_planning.specs.Wired.{plain_among, with_valve};
 ghost use Rattle.policy_select.specs.Groups.{members_of};
 ghost use Rattle.policy_select.specs.Looking.{IsGroupNow};
 
-use crate::seats::Seat;
+use crate::seats::{Seat, own_valve, seat_at};
 use health_valves::{Blueprint, Feeding, Trigger};
 use policy_select::{Group, SetRef, Zones, find_group};
-
-/// The seat in a slot.
-pub fn seat_at(seats: &[Seat], slot: u32) -> Seat
-    requires { slot < length seats.now }
-    ensures { IsSeatAt seats.now slot result }
-{
-    seats[slot as usize]
-}
 
 /// The number of the check that alone decides the set in a slot, as its seat tells it; 0 where there
 /// is none such.
@@ -42,11 +33,11 @@ pub fn check_at(seats: &[Seat], slot: u32) -> u32
     seats[at].check
 }
 
-/// Whether the set of a seat has no valve, as a number.
+/// Whether the set of a seat has no valve of its own, as a number.
 fn plain_at(seat: Seat) -> usize
-    ensures { result ≡ plain seat.set }
+    ensures { result ≡ plain (own_part seat.set) }
 {
-    if seat.set == 0 { 1 } else { 0 }
+    if own_valve(seat.set) == 0 { 1 } else { 0 }
 }
 
 /// How many sets of a group have no valve.
@@ -95,7 +86,7 @@ fn join_members(zones: &Zones, group: Group, seats: &[Seat], valve: u32, bluepri
     zones.slots_within();
     for i in 0..group.length {
         let seat = seat_at(seats, zones.member(group, i).slot);
-        join_seat(seat.set, valve, blueprint);
+        join_seat(own_valve(seat.set), valve, blueprint);
     }
 }
 

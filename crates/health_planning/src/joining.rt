@@ -18,8 +18,8 @@ ghost use Rattle.policy_select.specs.Looking.{RefersTo};
 
 use crate::building::MOST_CHECKS;
 use crate::finding::valve_with;
-use crate::grouping::{check_at, join_seat, seat_at};
-use crate::seats::Seat;
+use crate::grouping::{check_at, join_seat};
+use crate::seats::{Seat, seat_at};
 use health_valves::{Blueprint, Feeding};
 use policy_select::{SetRef, Zones, find_group};
 

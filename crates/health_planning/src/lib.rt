@@ -14,13 +14,15 @@ mod grouping;
 mod joining;
 mod listing;
 mod planning;
+mod seating;
 mod seats;
 
-pub use building::{MOST_CHECKS, clear_seats, inverted_of, list_ids, list_seen, need_of};
+pub use building::{MOST_CHECKS, inverted_of, list_ids, list_seen, need_of};
 pub use finding::{number_at, place_in, place_near};
 pub use listing::{is_watched, only_check};
 pub use planning::plan_valves;
 pub use policy_select::{
     Delta, Group, HealthView, Scratch, SetRef, Watch, Zones, find_group, views_agree,
 };
-pub use seats::Seat;
+pub use seating::{seat_anew, seat_beside};
+pub use seats::{Seat, own_valve};

@@ -1,22 +1,27 @@
-//! Which sets have valves: those that something decides.
+//! Which sets have valves of their own: evaluated aliases, and the sets of their target groups that
+//! something decides. Of another set a check alone decides, or nothing: its seat tells the valve of that check.
 
-ghost use Rattle.std.specs.Prelude.{◌≡◌, ◌<◌, ℕ, true, false, Some, length, slice_get};
+ghost use Rattle.std.specs.Prelude.{◌≡◌, ◌<◌, ℕ, List, true, false, Some, length, slice_get};
 ghost use Rattle.health_valves.specs.Blueprint.{KeepsRoom};
 ghost use Rattle.health_valves.specs.declared.blueprint.Trigger.{Trigger};
-ghost use Rattle.health_planning.specs.Building.{AllListed, AreAsked, HaveOwnValves, IsListed, set_trigger};
+ghost use Rattle.health_planning.specs.Building.{AllListed, AreAsked, HaveOwnValves, IsListed, TargetListed};
+ghost use Rattle.health_planning.specs.Building.{TargetsListed, set_trigger};
+ghost use Rattle.health_planning.specs.declared.seats.Seat.{Seat};
+ghost use Rattle.record_set.specs.declared.sets.Body.TheVariants.{Alias};
+ghost use Rattle.policy_select.specs.Groups.{members_of};
 ghost use Rattle.health_planning.specs.Rooms.{HasListRoom};
 ghost use Rattle.health_planning.specs.Wired.{is_watched, only_check};
 ghost use Rattle.record_set.specs.declared.sets.RecordSet.{RecordSet};
-ghost use Rattle.policy_select.specs.Telling.{watch_of};
+ghost use Rattle.policy_select.specs.Telling.{evaluates, watch_of};
 ghost use Rattle.policy_select.specs.Changes.{ref_in};
 ghost use Rattle.policy_select.specs.Zones.{placed_in};
 ghost use Rattle.policy_select.specs.SetRefRecord.{SetRef};
 ghost use Rattle.zone_model.specs.Slotted.{IsHere, Slotted};
-ghost use Rattle.policy_select.specs.Looking.{RefersTo};
+ghost use Rattle.policy_select.specs.Looking.{IsGroupNow, RefersTo};
 
-use crate::seats::Seat;
+use crate::seats::{Seat, own_valve};
 use health_valves::{Blueprint, Trigger};
-use policy_select::{SetRef, Watch, Zones};
+use policy_select::{Group, SetRef, Watch, Zones, find_group};
 
 /// Whether something decides the health of a set.
 pub fn is_watched(watch: Watch) -> bool
@@ -59,13 +64,15 @@ fn list_one(
 )
     requires slot { set.slot < length seats.old.items }
     requires room { HasListRoom blueprint.old refs.old seats.old.items }
-    requires listed { (first : ℕ)
-        × HaveOwnValves zones.now.zones first refs.old.items seats.old.items blueprint.old.triggers }
-    ensures listed { (first : ℕ)
-        → HaveOwnValves zones.now.zones first refs.old.items seats.old.items blueprint.old.triggers
-        → HaveOwnValves zones.now.zones first refs.new.items seats.new.items blueprint.new.triggers }
-    ensures goes_on { (ref : SetRef) → IsListed refs.old.items ref
-        → IsListed refs.new.items ref }
+    requires listed { (first : ℕ) × ((before : List Seat) × HaveOwnValves zones.now.zones first before
+        refs.old.items seats.old.items blueprint.old.triggers) }
+    ensures listed { (first : ℕ) (before : List Seat)
+        → HaveOwnValves zones.now.zones first before refs.old.items seats.old.items
+        blueprint.old.triggers
+        → HaveOwnValves zones.now.zones first before refs.new.items seats.new.items
+        blueprint.new.triggers }
+    ensures goes_on { (k : ℕ) (ref : SetRef) → slice_get refs.old.items k ≡ Some ref
+        → slice_get refs.new.items k ≡ Some ref }
     ensures here { (named : RecordSet) → RefersTo zones.now.zones set named
         → is_watched named ≡ true → IsListed refs.new.items set }
     ensures triggers { (n : ℕ) (trigger : Trigger) → slice_get blueprint.old.triggers n ≡ Some trigger
@@ -84,7 +91,8 @@ fn list_one(
         return;
     }
     let slot = set.slot as usize;
-    if seats[slot].set != 0 {
+    let own = own_valve(seats[slot].set);
+    if own != 0 {
         return;
     }
     let valve = blueprint.len() as u32;
@@ -97,7 +105,45 @@ fn list_one(
     };
 }
 
-/// Gives the sets of a zone valves. None has one where none names a check or is an alias.
+/// Gives an evaluated alias a valve, where it has none.
+fn list_alias(
+    zones: &Zones,
+    set: SetRef,
+    refs: &mut Vec<SetRef>,
+    seats: &mut Vec<Seat>,
+    blueprint: &mut Blueprint,
+)
+    requires slot { set.slot < length seats.old.items }
+    requires room { HasListRoom blueprint.old refs.old seats.old.items }
+    requires listed { (first : ℕ) × ((before : List Seat) × HaveOwnValves zones.now.zones first before
+        refs.old.items seats.old.items blueprint.old.triggers) }
+    ensures listed { (first : ℕ) (before : List Seat)
+        → HaveOwnValves zones.now.zones first before refs.old.items seats.old.items
+        blueprint.old.triggers
+        → HaveOwnValves zones.now.zones first before refs.new.items seats.new.items
+        blueprint.new.triggers }
+    ensures here { (named : RecordSet) → RefersTo zones.now.zones set named
+        → evaluates named.body ≡ true → IsListed refs.new.items set }
+    ensures goes_on { (k : ℕ) (ref : SetRef) → slice_get refs.old.items k ≡ Some ref
+        → slice_get refs.new.items k ≡ Some ref }
+    ensures triggers { (n : ℕ) (trigger : Trigger) → slice_get blueprint.old.triggers n ≡ Some trigger
+        → slice_get blueprint.new.triggers n ≡ Some trigger }
+    ensures links { blueprint.new.links ≡ blueprint.old.links }
+    ensures size { length seats.new.items ≡ length seats.old.items }
+    ensures room { HasListRoom blueprint.new refs.new seats.new.items }
+    ensures kept { KeepsRoom blueprint.old blueprint.new }
+{
+    zones.well_formed();
+    let Some(watch) = zones.watch(set) else {
+        return;
+    };
+    if !watch.evaluates {
+        return;
+    }
+    list_one(zones, set, refs, seats, blueprint);
+}
+
+/// Gives the evaluated aliases of a zone valves. There is none where none of its sets is an alias.
 fn list_zone(
     zones: &Zones,
     zone: u32,
@@ -107,15 +153,17 @@ fn list_zone(
 )
     requires slots { length seats.old.items ≡ zones.now.slots }
     requires room { HasListRoom blueprint.old refs.old seats.old.items }
-    requires listed { (first : ℕ)
-        × HaveOwnValves zones.now.zones first refs.old.items seats.old.items blueprint.old.triggers }
-    ensures listed { (first : ℕ)
-        → HaveOwnValves zones.now.zones first refs.old.items seats.old.items blueprint.old.triggers
-        → HaveOwnValves zones.now.zones first refs.new.items seats.new.items blueprint.new.triggers }
+    requires listed { (first : ℕ) × ((before : List Seat) × HaveOwnValves zones.now.zones first before
+        refs.old.items seats.old.items blueprint.old.triggers) }
+    ensures listed { (first : ℕ) (before : List Seat)
+        → HaveOwnValves zones.now.zones first before refs.old.items seats.old.items
+        blueprint.old.triggers
+        → HaveOwnValves zones.now.zones first before refs.new.items seats.new.items
+        blueprint.new.triggers }
     ensures all { (p : Slotted) → IsHere (placed_in zones.now.zones zone) p
-        → is_watched p.set ≡ true → IsListed refs.new.items (ref_in zone p) }
-    ensures goes_on { (ref : SetRef) → IsListed refs.old.items ref
-        → IsListed refs.new.items ref }
+        → evaluates p.set.body ≡ true → IsListed refs.new.items (ref_in zone p) }
+    ensures goes_on { (k : ℕ) (ref : SetRef) → slice_get refs.old.items k ≡ Some ref
+        → slice_get refs.new.items k ≡ Some ref }
     ensures triggers { (n : ℕ) (trigger : Trigger) → slice_get blueprint.old.triggers n ≡ Some trigger
         → slice_get blueprint.new.triggers n ≡ Some trigger }
     ensures links { blueprint.new.links ≡ blueprint.old.links }
@@ -123,28 +171,24 @@ fn list_zone(
     ensures room { HasListRoom blueprint.new refs.new seats.new.items }
     ensures kept { KeepsRoom blueprint.old blueprint.new }
 {
-    if has_watched(zones, zone) {
+    if has_aliases(zones, zone) {
         list_each(zones, zone, refs, seats, blueprint);
     }
 }
 
-/// Whether something may decide the health of a set of a zone, by what is counted of its sets.
-fn has_watched(zones: &Zones, zone: u32) -> bool
+/// Whether a zone may have an evaluated alias, by what is counted of its sets.
+fn has_aliases(zones: &Zones, zone: u32) -> bool
     ensures { result ≡ false → (p : Slotted) → IsHere (placed_in zones.now.zones zone) p
-        → is_watched p.set ≡ false }
+        → evaluates p.set.body ≡ false }
 {
-    let named = zones.checked(zone);
     let aliases = zones.aliases(zone);
-    if named > 0 {
-        return true;
-    }
     if aliases > 0 {
         return true;
     }
     false
 }
 
-/// Gives the sets of a zone valves, each of which is asked whether something decides it.
+/// Gives the evaluated aliases of a zone valves: each of its sets is asked.
 fn list_each(
     zones: &Zones,
     zone: u32,
@@ -154,15 +198,17 @@ fn list_each(
 )
     requires slots { length seats.old.items ≡ zones.now.slots }
     requires room { HasListRoom blueprint.old refs.old seats.old.items }
-    requires listed { (first : ℕ)
-        × HaveOwnValves zones.now.zones first refs.old.items seats.old.items blueprint.old.triggers }
-    ensures listed { (first : ℕ)
-        → HaveOwnValves zones.now.zones first refs.old.items seats.old.items blueprint.old.triggers
-        → HaveOwnValves zones.now.zones first refs.new.items seats.new.items blueprint.new.triggers }
+    requires listed { (first : ℕ) × ((before : List Seat) × HaveOwnValves zones.now.zones first before
+        refs.old.items seats.old.items blueprint.old.triggers) }
+    ensures listed { (first : ℕ) (before : List Seat)
+        → HaveOwnValves zones.now.zones first before refs.old.items seats.old.items
+        blueprint.old.triggers
+        → HaveOwnValves zones.now.zones first before refs.new.items seats.new.items
+        blueprint.new.triggers }
     ensures all { (p : Slotted) → IsHere (placed_in zones.now.zones zone) p
-        → is_watched p.set ≡ true → IsListed refs.new.items (ref_in zone p) }
-    ensures goes_on { (ref : SetRef) → IsListed refs.old.items ref
-        → IsListed refs.new.items ref }
+        → evaluates p.set.body ≡ true → IsListed refs.new.items (ref_in zone p) }
+    ensures goes_on { (k : ℕ) (ref : SetRef) → slice_get refs.old.items k ≡ Some ref
+        → slice_get refs.new.items k ≡ Some ref }
     ensures triggers { (n : ℕ) (trigger : Trigger) → slice_get blueprint.old.triggers n ≡ Some trigger
         → slice_get blueprint.new.triggers n ≡ Some trigger }
     ensures links { blueprint.new.links ≡ blueprint.old.links }
@@ -175,11 +221,11 @@ fn list_each(
         let Some(set) = zones.at(zone, i) else {
             unreachable!();
         };
-        list_one(zones, set, refs, seats, blueprint);
+        list_alias(zones, set, refs, seats, blueprint);
     }
 }
 
-/// Gives the sets of all zones valves.
+/// Gives the evaluated aliases of all zones valves.
 fn list_sets(
     zones: &Zones,
     refs: &mut Vec<SetRef>,
@@ -188,15 +234,17 @@ fn list_sets(
 )
     requires slots { length seats.old.items ≡ zones.now.slots }
     requires room { HasListRoom blueprint.old refs.old seats.old.items }
-    requires listed { (first : ℕ)
-        × HaveOwnValves zones.now.zones first refs.old.items seats.old.items blueprint.old.triggers }
-    ensures listed { (first : ℕ)
-        → HaveOwnValves zones.now.zones first refs.old.items seats.old.items blueprint.old.triggers
-        → HaveOwnValves zones.now.zones first refs.new.items seats.new.items blueprint.new.triggers }
+    requires listed { (first : ℕ) × ((before : List Seat) × HaveOwnValves zones.now.zones first before
+        refs.old.items seats.old.items blueprint.old.triggers) }
+    ensures listed { (first : ℕ) (before : List Seat)
+        → HaveOwnValves zones.now.zones first before refs.old.items seats.old.items
+        blueprint.old.triggers
+        → HaveOwnValves zones.now.zones first before refs.new.items seats.new.items
+        blueprint.new.triggers }
     ensures all { (zone : ℕ) (p : Slotted) → IsHere (placed_in zones.now.zones zone) p
-        → is_watched p.set ≡ true → IsListed refs.new.items (ref_in zone p) }
-    ensures goes_on { (ref : SetRef) → IsListed refs.old.items ref
-        → IsListed refs.new.items ref }
+        → evaluates p.set.body ≡ true → IsListed refs.new.items (ref_in zone p) }
+    ensures goes_on { (k : ℕ) (ref : SetRef) → slice_get refs.old.items k ≡ Some ref
+        → slice_get refs.new.items k ≡ Some ref }
     ensures triggers { (n : ℕ) (trigger : Trigger) → slice_get blueprint.old.triggers n ≡ Some trigger
         → slice_get blueprint.new.triggers n ≡ Some trigger }
     ensures links { blueprint.new.links ≡ blueprint.old.links }
@@ -212,7 +260,7 @@ fn list_sets(
     }
 }
 
-/// Gives a set a valve, where it is there, something decides it and it has none.
+/// Gives a set a valve, where it is there and an evaluated alias, and has none.
 fn list_known(
     zones: &Zones,
     set: SetRef,
@@ -222,15 +270,17 @@ fn list_known(
 )
     requires slots { length seats.old.items ≡ zones.now.slots }
     requires room { HasListRoom blueprint.old refs.old seats.old.items }
-    requires listed { (first : ℕ)
-        × HaveOwnValves zones.now.zones first refs.old.items seats.old.items blueprint.old.triggers }
-    ensures listed { (first : ℕ)
-        → HaveOwnValves zones.now.zones first refs.old.items seats.old.items blueprint.old.triggers
-        → HaveOwnValves zones.now.zones first refs.new.items seats.new.items blueprint.new.triggers }
+    requires listed { (first : ℕ) × ((before : List Seat) × HaveOwnValves zones.now.zones first before
+        refs.old.items seats.old.items blueprint.old.triggers) }
+    ensures listed { (first : ℕ) (before : List Seat)
+        → HaveOwnValves zones.now.zones first before refs.old.items seats.old.items
+        blueprint.old.triggers
+        → HaveOwnValves zones.now.zones first before refs.new.items seats.new.items
+        blueprint.new.triggers }
     ensures here { (named : RecordSet) → RefersTo zones.now.zones set named
-        → is_watched named ≡ true → IsListed refs.new.items set }
-    ensures goes_on { (ref : SetRef) → IsListed refs.old.items ref
-        → IsListed refs.new.items ref }
+        → evaluates named.body ≡ true → IsListed refs.new.items set }
+    ensures goes_on { (k : ℕ) (ref : SetRef) → slice_get refs.old.items k ≡ Some ref
+        → slice_get refs.new.items k ≡ Some ref }
     ensures triggers { (n : ℕ) (trigger : Trigger) → slice_get blueprint.old.triggers n ≡ Some trigger
         → slice_get blueprint.new.triggers n ≡ Some trigger }
     ensures links { blueprint.new.links ≡ blueprint.old.links }
@@ -242,10 +292,10 @@ fn list_known(
     if set.slot as usize >= seats.len() {
         return;
     }
-    list_one(zones, set, refs, seats, blueprint);
+    list_alias(zones, set, refs, seats, blueprint);
 }
 
-/// Gives some sets valves.
+/// Gives the evaluated aliases among some sets valves.
 fn list_those(
     zones: &Zones,
     those: &[SetRef],
@@ -255,16 +305,18 @@ fn list_those(
 )
     requires slots { length seats.old.items ≡ zones.now.slots }
     requires room { HasListRoom blueprint.old refs.old seats.old.items }
-    requires listed { (first : ℕ)
-        × HaveOwnValves zones.now.zones first refs.old.items seats.old.items blueprint.old.triggers }
-    ensures listed { (first : ℕ)
-        → HaveOwnValves zones.now.zones first refs.old.items seats.old.items blueprint.old.triggers
-        → HaveOwnValves zones.now.zones first refs.new.items seats.new.items blueprint.new.triggers }
+    requires listed { (first : ℕ) × ((before : List Seat) × HaveOwnValves zones.now.zones first before
+        refs.old.items seats.old.items blueprint.old.triggers) }
+    ensures listed { (first : ℕ) (before : List Seat)
+        → HaveOwnValves zones.now.zones first before refs.old.items seats.old.items
+        blueprint.old.triggers
+        → HaveOwnValves zones.now.zones first before refs.new.items seats.new.items
+        blueprint.new.triggers }
     ensures all { (k : ℕ) (set : SetRef) (named : RecordSet) → slice_get those.now k ≡ Some set
-        → RefersTo zones.now.zones set named → is_watched named ≡ true
+        → RefersTo zones.now.zones set named → evaluates named.body ≡ true
         → IsListed refs.new.items set }
-    ensures goes_on { (ref : SetRef) → IsListed refs.old.items ref
-        → IsListed refs.new.items ref }
+    ensures goes_on { (k : ℕ) (ref : SetRef) → slice_get refs.old.items k ≡ Some ref
+        → slice_get refs.new.items k ≡ Some ref }
     ensures triggers { (n : ℕ) (trigger : Trigger) → slice_get blueprint.old.triggers n ≡ Some trigger
         → slice_get blueprint.new.triggers n ≡ Some trigger }
     ensures links { blueprint.new.links ≡ blueprint.old.links }
@@ -277,7 +329,8 @@ fn list_those(
     }
 }
 
-/// Gives sets valves: those of all zones, or else the ones that are known and the ones that came.
+/// Gives evaluated aliases valves: those of all zones, or else the ones among the sets that are known and
+/// those that came.
 pub fn list_asked(
     zones: &Zones,
     whole: bool,
@@ -289,15 +342,17 @@ pub fn list_asked(
 )
     requires slots { length seats.old.items ≡ zones.now.slots }
     requires room { HasListRoom blueprint.old refs.old seats.old.items }
-    requires listed { (first : ℕ)
-        × HaveOwnValves zones.now.zones first refs.old.items seats.old.items blueprint.old.triggers }
-    ensures listed { (first : ℕ)
-        → HaveOwnValves zones.now.zones first refs.old.items seats.old.items blueprint.old.triggers
-        → HaveOwnValves zones.now.zones first refs.new.items seats.new.items blueprint.new.triggers }
+    requires listed { (first : ℕ) × ((before : List Seat) × HaveOwnValves zones.now.zones first before
+        refs.old.items seats.old.items blueprint.old.triggers) }
+    ensures listed { (first : ℕ) (before : List Seat)
+        → HaveOwnValves zones.now.zones first before refs.old.items seats.old.items
+        blueprint.old.triggers
+        → HaveOwnValves zones.now.zones first before refs.new.items seats.new.items
+        blueprint.new.triggers }
     ensures all { AreAsked zones.now.zones whole known.now came.now
         → AllListed zones.now.zones refs.new.items }
-    ensures goes_on { (ref : SetRef) → IsListed refs.old.items ref
-        → IsListed refs.new.items ref }
+    ensures goes_on { (k : ℕ) (ref : SetRef) → slice_get refs.old.items k ≡ Some ref
+        → slice_get refs.new.items k ≡ Some ref }
     ensures triggers { (n : ℕ) (trigger : Trigger) → slice_get blueprint.old.triggers n ≡ Some trigger
         → slice_get blueprint.new.triggers n ≡ Some trigger }
     ensures links { blueprint.new.links ≡ blueprint.old.links }
@@ -311,4 +366,118 @@ pub fn list_asked(
     }
     list_those(zones, known, refs, seats, blueprint);
     list_those(zones, came, refs, seats, blueprint);
+}
+
+/// Gives the sets of a group valves, where something decides them and they have none.
+fn list_members(
+    zones: &Zones,
+    group: Group,
+    refs: &mut Vec<SetRef>,
+    seats: &mut Vec<Seat>,
+    blueprint: &mut Blueprint,
+)
+    requires group { IsGroupNow zones.now.zones group }
+    requires slots { length seats.old.items ≡ zones.now.slots }
+    requires room { HasListRoom blueprint.old refs.old seats.old.items }
+    requires listed { (first : ℕ) × ((before : List Seat) × HaveOwnValves zones.now.zones first before
+        refs.old.items seats.old.items blueprint.old.triggers) }
+    ensures listed { (first : ℕ) (before : List Seat)
+        → HaveOwnValves zones.now.zones first before refs.old.items seats.old.items
+        blueprint.old.triggers
+        → HaveOwnValves zones.now.zones first before refs.new.items seats.new.items
+        blueprint.new.triggers }
+    ensures all { (p : Slotted) → IsHere (members_of zones.now.zones group) p
+        → is_watched p.set ≡ true → IsListed refs.new.items (ref_in group.zone p) }
+    ensures goes_on { (k : ℕ) (ref : SetRef) → slice_get refs.old.items k ≡ Some ref
+        → slice_get refs.new.items k ≡ Some ref }
+    ensures triggers { (n : ℕ) (trigger : Trigger) → slice_get blueprint.old.triggers n ≡ Some trigger
+        → slice_get blueprint.new.triggers n ≡ Some trigger }
+    ensures links { blueprint.new.links ≡ blueprint.old.links }
+    ensures size { length seats.new.items ≡ length seats.old.items }
+    ensures room { HasListRoom blueprint.new refs.new seats.new.items }
+    ensures kept { KeepsRoom blueprint.old blueprint.new }
+{
+    zones.slots_within();
+    for i in 0..group.length {
+        list_one(zones, zones.member(group, i), refs, seats, blueprint);
+    }
+}
+
+/// Gives the sets of the target group of an evaluated alias valves, where something decides them and
+/// they have none.
+fn list_target(
+    zones: &Zones,
+    set: SetRef,
+    refs: &mut Vec<SetRef>,
+    seats: &mut Vec<Seat>,
+    blueprint: &mut Blueprint,
+)
+    requires slots { length seats.old.items ≡ zones.now.slots }
+    requires room { HasListRoom blueprint.old refs.old seats.old.items }
+    requires listed { (first : ℕ) × ((before : List Seat) × HaveOwnValves zones.now.zones first before
+        refs.old.items seats.old.items blueprint.old.triggers) }
+    ensures listed { (first : ℕ) (before : List Seat)
+        → HaveOwnValves zones.now.zones first before refs.old.items seats.old.items
+        blueprint.old.triggers
+        → HaveOwnValves zones.now.zones first before refs.new.items seats.new.items
+        blueprint.new.triggers }
+    ensures members { (named : RecordSet) (name : List (List ℕ)) → RefersTo zones.now.zones set named
+        → named.body ≡ Alias name true
+        → TargetListed zones.now.zones set.zone name named.rtype refs.new.items }
+    ensures goes_on { (k : ℕ) (ref : SetRef) → slice_get refs.old.items k ≡ Some ref
+        → slice_get refs.new.items k ≡ Some ref }
+    ensures triggers { (n : ℕ) (trigger : Trigger) → slice_get blueprint.old.triggers n ≡ Some trigger
+        → slice_get blueprint.new.triggers n ≡ Some trigger }
+    ensures links { blueprint.new.links ≡ blueprint.old.links }
+    ensures size { length seats.new.items ≡ length seats.old.items }
+    ensures room { HasListRoom blueprint.new refs.new seats.new.items }
+    ensures kept { KeepsRoom blueprint.old blueprint.new }
+{
+    zones.well_formed();
+    let Some(watch) = zones.watch(set) else {
+        return;
+    };
+    if !watch.evaluates {
+        return;
+    }
+    let Some(target) = zones.target(set) else {
+        return;
+    };
+    let group = find_group(zones, set.zone, &target.0, target.1);
+    list_members(zones, group, refs, seats, blueprint);
+}
+
+/// Gives the sets of the target groups of listed aliases valves, where something decides them. Those among
+/// them that are aliases themselves are listed by it, and so are the sets of their target groups.
+pub fn list_targets(
+    zones: &Zones,
+    refs: &mut Vec<SetRef>,
+    seats: &mut Vec<Seat>,
+    blueprint: &mut Blueprint,
+)
+    requires slots { length seats.old.items ≡ zones.now.slots }
+    requires room { HasListRoom blueprint.old refs.old seats.old.items }
+    requires listed { (first : ℕ) × ((before : List Seat) × HaveOwnValves zones.now.zones first before
+        refs.old.items seats.old.items blueprint.old.triggers) }
+    ensures listed { (first : ℕ) (before : List Seat)
+        → HaveOwnValves zones.now.zones first before refs.old.items seats.old.items
+        blueprint.old.triggers
+        → HaveOwnValves zones.now.zones first before refs.new.items seats.new.items
+        blueprint.new.triggers }
+    ensures members { TargetsListed zones.now.zones (length refs.new.items) refs.new.items }
+    ensures goes_on { (k : ℕ) (ref : SetRef) → slice_get refs.old.items k ≡ Some ref
+        → slice_get refs.new.items k ≡ Some ref }
+    ensures triggers { (n : ℕ) (trigger : Trigger) → slice_get blueprint.old.triggers n ≡ Some trigger
+        → slice_get blueprint.new.triggers n ≡ Some trigger }
+    ensures links { blueprint.new.links ≡ blueprint.old.links }
+    ensures size { length seats.new.items ≡ length seats.old.items }
+    ensures room { HasListRoom blueprint.new refs.new seats.new.items }
+    ensures kept { KeepsRoom blueprint.old blueprint.new }
+{
+    let mut k = 0;
+    while k < refs.len() {
+        let set = refs[k];
+        list_target(zones, set, refs, seats, blueprint);
+        k += 1;
+    }
 }

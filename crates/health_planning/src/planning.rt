@@ -1,11 +1,12 @@
 //! All valves of a configuration, and what feeds each of them.
 
-ghost use Rattle.std.specs.Prelude.{◌≡◌, ◌≤◌, ◌<◌, ◌+◌, ◌*◌, [], ℕ, List, length};
+ghost use Rattle.std.specs.Prelude.{◌≡◌, ◌≤◌, ◌<◌, ◌+◌, ◌*◌, ◌⊎◌, [], ℕ, List, length};
 ghost use Rattle.health_valves.specs.Valves.{Feeds};
 ghost use Rattle.health_valves.specs.Blueprint.{IsDrawn, net_in};
 ghost use Rattle.health_valves.specs.Walk.{PathsEnd};
 ghost use Rattle.health_planning.specs.Building.{AllListed, AreAsked, AreFree, AreGiven, AreNoted};
-ghost use Rattle.health_planning.specs.Building.{AreSeen, AreTriggered, IsBuilt, IsSmallAt};
+ghost use Rattle.health_planning.specs.Building.{AreSeen, AreTriggered, IsBuilt, IsSmallAt, TellSlot};
+ghost use Rattle.health_planning.specs.Building.{TellsOn};
 ghost use Rattle.health_planning.specs.Rooms.{HasBlueprintRoom};
 ghost use Rattle.health_planning.specs.Wired.{HaveValves, ids_of, watched_of};
 ghost use Rattle.health_model.specs.Sound.{IsSound};
@@ -14,7 +15,7 @@ ghost use Rattle.health_model.specs.Statuses.{Report};
 use crate::building::{add_spares, join_checks, put_checks};
 use crate::grouping::group_all;
 use crate::joining::join_sets;
-use crate::listing::list_asked;
+use crate::listing::{list_asked, list_targets};
 use crate::seats::Seat;
 use checker_state::Checkers;
 use health_check::CheckTable;
@@ -50,6 +51,8 @@ fn plan_all(
         seats.new.items blueprint.new.triggers blueprint.new.links }
     ensures all { AreAsked zones.now.zones whole known.old.items came.now
         → AllListed zones.now.zones refs.new.items }
+    ensures rest { (slot : ℕ) → TellSlot refs.new.items slot
+        ⊎ TellsOn seats.old.items seats.new.items slot }
     ensures given { AreGiven refs.new.items known.new.items seats.new.items }
     ensures noted { AreNoted known.new.items seats.new.items }
     ensures checks { (reports : List Report)
@@ -67,6 +70,7 @@ fn plan_all(
     put_checks(blueprint, list, numbers, seen);
     join_checks(blueprint, ids, numbers, list);
     list_asked(zones, whole, known, came, refs, seats, blueprint);
+    list_targets(zones, refs, seats, blueprint);
     known.clear();
     group_all(zones, refs, seats, blueprint, known);
     join_sets(zones, refs, ids, numbers, seats, blueprint);
@@ -102,6 +106,8 @@ pub fn plan_valves(
         seats.new.items blueprint.new.triggers blueprint.new.links }
     ensures all { AreAsked zones.now.zones whole known.old.items came.now
         → AllListed zones.now.zones refs.new.items }
+    ensures rest { (slot : ℕ) → TellSlot refs.new.items slot
+        ⊎ TellsOn seats.old.items seats.new.items slot }
     ensures given { AreGiven refs.new.items known.new.items seats.new.items }
     ensures noted { AreNoted known.new.items seats.new.items }
     ensures checks { (reports : List Report)

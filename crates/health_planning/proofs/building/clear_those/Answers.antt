@@ -1,9 +1,10 @@
-use Rattle.std.proofs.Common.{◌≡◌, arith, ◌∙◌, inl, inr}
+use Rattle.std.proofs.Common.{◌≡◌, arith, refl, ◌∙◌, inl, inr}
 use Rattle.std.proofs.lemmas.Bool.{cases_lt}
 use Rattle.std.proofs.lemmas.Option.{get_or_from_slice_get, slice_get_within}
 use mathlib.Core.Path.{subst}
 use Rattle.policy_select.specs.SetRefRecord.{SetRef}
 use Rattle.health_planning.specs.Building.{IsFree}
+use Rattle.health_planning.proofs.Told.{keeps_trans}
 use Rattle.health_planning.proofs.building.clear_those.Goals as goal
 
 pub loop-set-preserved : goal.loop-set-preserved
@@ -19,6 +20,7 @@ loop-set-preserved c =
             subst (λ (s : SetRef). IsFree c.clear_one.new.seats.items s.slot) e o.here
       ];
       free = λ slot free. o.free slot (i.free slot free);
+      checks = λ slot. keeps_trans _ _ _ slot (i.checks slot) (o.checks slot);
       size = o.size ∙ i.size;
       room = o.room ∙ i.room;
     }
@@ -29,3 +31,12 @@ returns-clause-cleared c slot told =
     let end = c.loop-set-test.false in
     subst (IsFree c.loop-set.seats.items) told.1.1.1
     (c.loop-set.invariant.cleared told.0 told.1.0 (omega arith) told.1.1.0)
+
+pub loop-set-init : goal.loop-set-init
+loop-set-init c = record {
+  cleared = λ k set early at. absurd (omega arith);
+  free = λ slot free. free;
+  checks = λ slot. inl (refl, refl);
+  size = refl;
+  room = refl;
+}

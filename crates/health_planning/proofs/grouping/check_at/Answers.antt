@@ -1,6 +1,6 @@
 use Rattle.std.proofs.Common.{arith, ap, sym}
 use Rattle.std.proofs.lemmas.List.{get_or_past}
-use Rattle.health_planning.proofs.Given.{bare_seat}
+use Rattle.health_planning.proofs.Told.{bare_seat}
 use Rattle.health_planning.specs.declared.seats.Seat.{Seat}
 use Rattle.health_planning.proofs.grouping.check_at.Goals as goal
 

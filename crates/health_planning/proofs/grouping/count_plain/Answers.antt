@@ -1,9 +1,9 @@
-use Rattle.std.proofs.Common.{◌≡◌, arith, ap, sym, ◌∙◌, take}
+use Rattle.std.proofs.Common.{◌≡◌, ℕ, arith, ap, sym, ◌∙◌, take}
 use Rattle.policy_select.proofs.Noted.{few_members}
 use Rattle.policy_select.specs.Groups.{members_of}
 use Rattle.std.proofs.lemmas.List.{take_all}
 use Rattle.zone_model.proofs.Lists.{take_more}
-use Rattle.health_planning.specs.Wired.{plain, plain_among, seat_of}
+use Rattle.health_planning.specs.Wired.{own_part, plain, plain_among, set_seat}
 use Rattle.health_planning.proofs.Groups.{member_at, plain_few, plain_more}
 use Rattle.health_planning.proofs.ListedOnce.{slot_below}
 use Rattle.health_planning.proofs.grouping.count_plain.Goals as goal
@@ -23,10 +23,10 @@ loop-i-preserved c =
     let few = i.few in
     let seat = c.seat_at-seat.ensures.set in
     let one = c.plain_at-plains.ensures in
-    let most = plain_few c.seat_at-seat.result.set in
+    let most = plain_few (own_part c.seat_at-seat.result.set) in
     let was = i.plains in
     let now = ap (plain_among c.args.seats.now) more ∙ plain_more c.args.seats.now (take c.loop-i.i (members_of c.args.zones.now.zones c.args.group)) m.p in
-    let its = ap plain (seat ∙ ap (seat_of c.args.seats.now) (sym m.slot)) in
+    let its = ap (λ (n : ℕ). plain (own_part n)) (seat ∙ ap (set_seat c.args.seats.now) (sym m.slot)) in
     record {
       few = omega arith;
       within = omega (arith, c.loop-i-test.true);

@@ -1,4 +1,4 @@
-use Rattle.std.proofs.Common.{◌≡◌, length, arith, sym, refl, ◌∙◌, inl, inr}
+use Rattle.std.proofs.Common.{◌≡◌, length, arith, sym, refl, ◌∙◌, inl, inr, ap}
 use Rattle.std.proofs.lemmas.Bool.{cases_lt}
 use Rattle.std.proofs.lemmas.Option.{get_or_from_slice_get, slice_get-get_or, slice_get_within}
 use mathlib.Core.Path.{subst}
@@ -8,6 +8,7 @@ use Rattle.health_planning.specs.Building.{HasTarget}
 use Rattle.health_planning.proofs.Given.{none_noted}
 use Rattle.health_planning.proofs.Grouped.{target_on}
 use Rattle.health_planning.proofs.Roomy.{can_start}
+use Rattle.health_planning.specs.Wired.{own_part}
 use Rattle.health_planning.proofs.grouping.group_all.Goals as goal
 
 pub loop-set-init : goal.loop-set-init
@@ -36,7 +37,7 @@ loop-set-preserved c =
     let more = o.more in
     record {
       slots = o.size ∙ i.slots;
-      below = λ slot valve is. let b = i.below slot valve (sym (o.sets.valves slot) ∙ is) in omega arith;
+      below = λ slot valve is. let b = i.below slot valve (sym (ap own_part (o.sets.valves slot)) ∙ is) in omega arith;
       within = o.within;
       grouped = o.grouped (length c.args.blueprint.now.triggers) (length c.args.blueprint.now.links) i.grouped;
       kept =

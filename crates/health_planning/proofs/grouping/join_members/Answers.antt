@@ -5,7 +5,7 @@ use Rattle.policy_select.specs.Groups.{members_of}
 use Rattle.std.proofs.lemmas.List.{take_all}
 use Rattle.zone_model.proofs.Lists.{take_more}
 use Rattle.health_planning.specs.Building.{links_to}
-use Rattle.health_planning.specs.Wired.{valves_of, seat_of, with_valve}
+use Rattle.health_planning.specs.Wired.{own_part, valves_of, seat_of, set_seat, with_valve}
 use Rattle.health_planning.proofs.Few.{valves_some, links_long}
 use Rattle.health_planning.proofs.Groups.{valves_more, links_more, member_at}
 use Rattle.health_planning.proofs.ListedOnce.{slot_below}
@@ -26,7 +26,7 @@ loop-i-preserved c =
     let members = members_of c.args.zones.now.zones c.args.group in
     let m = member_at c.args.zones.now.zones c.args.group c.loop-i.i c.member.result c.loop-i-test.true c.member.ensures in
     let more = take_more members c.loop-i.i m.p m.at in
-    let seat = c.seat_at-seat.ensures.set ∙ ap (seat_of seats) (sym m.slot) in
+    let seat = c.own_valve.ensures ∙ ap own_part (c.seat_at-seat.ensures.set ∙ ap (set_seat seats) (sym m.slot)) in
     let valves = ap (valves_of seats) more ∙ valves_more seats (take c.loop-i.i members) m.p in
     let all = ap (links_to c.args.valve) valves ∙ links_more c.args.valve (valves_of seats (take c.loop-i.i members)) (with_valve (seat_of seats m.p.slot) []) in
     record {
@@ -38,9 +38,9 @@ loop-i-preserved c =
           let links_kept = i.kept.links in
           let more_links = o.kept.links in
           record { valves = omega arith; links = omega arith };
-      links = o.links ∙ ap (λ (l : List Feeding). l ++ links_to c.args.valve (with_valve c.seat_at-seat.result.set [])) i.links
+      links = o.links ∙ ap (λ (l : List Feeding). l ++ links_to c.args.valve (with_valve c.own_valve.result [])) i.links
           ∙ append_assoc c.args.blueprint.now.links (links_to c.args.valve (valves_of seats (take c.loop-i.i members)))
-          (links_to c.args.valve (with_valve c.seat_at-seat.result.set []))
+          (links_to c.args.valve (with_valve c.own_valve.result []))
           ∙ ap (λ n. c.args.blueprint.now.links ++ (links_to c.args.valve (valves_of seats (take c.loop-i.i members)) ++ links_to c.args.valve (with_valve n []))) seat
           ∙ ap (λ (l : List Feeding). c.args.blueprint.now.links ++ l) (sym all);
     }
@@ -60,7 +60,7 @@ join_seat-requires c =
     let members = members_of c.args.zones.now.zones c.args.group in
     let m = member_at c.args.zones.now.zones c.args.group c.loop-i.i c.member.result c.loop-i-test.true c.member.ensures in
     let more = take_more members c.loop-i.i m.p m.at in
-    let seat = c.seat_at-seat.ensures.set ∙ ap (seat_of seats) (sym m.slot) in
+    let seat = c.own_valve.ensures ∙ ap own_part (c.seat_at-seat.ensures.set ∙ ap (set_seat seats) (sym m.slot)) in
     let its = ap (λ n. length (with_valve n [])) seat in
     let valves = ap (λ l. length (valves_of seats l)) more ∙ ap length (valves_more seats (take c.loop-i.i members) m.p)
     ∙ length-append (valves_of seats (take c.loop-i.i members)) (with_valve (seat_of seats m.p.slot) []) in

@@ -7,12 +7,13 @@ use Rattle.std.proofs.lemmas.Option.{slice_get_within}
 use Rattle.policy_select.specs.Zones.{placed_in}
 use Rattle.policy_select.specs.Looking.{IsSetAt}
 use Rattle.health_planning.specs.Building.{IsListed}
-use Rattle.health_planning.specs.Wired.{is_watched}
+use Rattle.policy_select.specs.Telling.{evaluates}
+use Rattle.record_set.specs.declared.sets.RecordSet.{RecordSet}
 use Rattle.health_planning.proofs.ListedOnce.{slot_below, told_at}
 use Rattle.health_planning.proofs.listing.list_each.Goals as goal
 
-pub list_one-requires-clause-slot : goal.list_one-requires-clause-slot
-list_one-requires-clause-slot c =
+pub list_alias-requires-clause-slot : goal.list_alias-requires-clause-slot
+list_alias-requires-clause-slot c =
     let t = told_at c.args.zones.now.zones c.args.zone c.loop-i.i c.in-Some.set
     (subst (IsSetAt c.args.zones.now.zones c.args.zone c.loop-i.i) c.in-Some.is c.at.ensures) in
     let b = slot_below c.args.zones.now.zones c.args.zones.now.slots c.in-Some.set t.set c.slots_within.ensures.within t.names in
@@ -23,14 +24,14 @@ pub loop-i-preserved : goal.loop-i-preserved
 loop-i-preserved c =
     let zones = c.args.zones.now.zones in
     let i = c.loop-i.invariant in
-    let o = c.list_one.ensures in
+    let o = c.list_alias.ensures in
     let t = told_at zones c.args.zone c.loop-i.i c.in-Some.set (subst (IsSetAt zones c.args.zone c.loop-i.i) c.in-Some.is c.at.ensures) in
     record {
       within = omega (arith, c.loop-i-test.true, c.count-i-end.ensures);
       slots = o.size ∙ i.slots;
-      ready = (i.ready.0, o.listed i.ready.0 i.ready.1);
-      listed = λ first are. o.listed first (i.listed first are);
-      goes_on = λ ref listed. o.goes_on ref (i.goes_on ref listed);
+      ready = (i.ready.0, (i.ready.1.0, o.listed i.ready.0 i.ready.1.0 i.ready.1.1));
+      listed = λ first before are. o.listed first before (i.listed first before are);
+      goes_on = λ k ref at. o.goes_on k ref (i.goes_on k ref at);
       triggers = λ n trigger at. o.triggers n trigger (i.triggers n trigger at);
       links = o.links ∙ i.links;
       room = o.room;
@@ -41,11 +42,11 @@ loop-i-preserved c =
           let more_links = o.kept.links in
           record { valves = omega arith; links = omega arith };
       all = λ k p before at watched. elim (cases_lt k c.loop-i.i) [
-        | inl early ↦ o.goes_on (ref_in c.args.zone p) (i.all k p early at watched)
+        | inl early ↦ (let l = i.all k p early at watched in (l.0, o.goes_on l.0 (ref_in c.args.zone p) l.1))
         | inr late ↦
             let k_is : k ≡ c.loop-i.i = omega arith in
             let its = t.its p (rw k_is at at) in
-            subst (IsListed c.list_one.new.refs.items) (sym its.1) (o.here t.set t.names (sym (ap is_watched its.0) ∙ watched))
+            subst (IsListed c.list_alias.new.refs.items) (sym its.1) (o.here t.set t.names (sym (ap (λ (x : RecordSet). evaluates x.body) its.0) ∙ watched))
       ];
     }
 

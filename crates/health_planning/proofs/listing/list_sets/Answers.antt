@@ -12,8 +12,8 @@ pub loop-next-init : goal.loop-next-init
 loop-next-init c = record {
   slots = c.requires.slots;
   ready = c.requires.listed;
-  listed = λ first are. are;
-  goes_on = λ ref listed. listed;
+  listed = λ first before are. are;
+  goes_on = λ k ref at. at;
   triggers = λ n trigger at. at;
   links = refl;
   room = c.requires.room;
@@ -38,9 +38,9 @@ loop-next-preserved c =
     let next = subst (NextZoneOrNone zones c.loop-next.zone) c.in-Some.is c.zone_after.ensures in
     record {
       slots = o.size ∙ i.slots;
-      ready = (i.ready.0, o.listed i.ready.0 i.ready.1);
-      listed = λ first are. o.listed first (i.listed first are);
-      goes_on = λ ref listed. o.goes_on ref (i.goes_on ref listed);
+      ready = (i.ready.0, (i.ready.1.0, o.listed i.ready.0 i.ready.1.0 i.ready.1.1));
+      listed = λ first before are. o.listed first before (i.listed first before are);
+      goes_on = λ k ref at. o.goes_on k ref (i.goes_on k ref at);
       triggers = λ n trigger at. o.triggers n trigger (i.triggers n trigger at);
       links = o.links ∙ i.links;
       room = o.room;
@@ -57,6 +57,6 @@ loop-next-preserved c =
             let least = next.least z.0 z.1.0 (omega arith) in
             let same : id ≡ c.in-Some.next = omega arith in
             rw same (o.all p (rw same at here) watched)
-        | inr before ↦ o.goes_on (ref_in id p) (i.all id p (omega arith) here watched)
+        | inr before ↦ (let l = i.all id p (omega arith) here watched in (l.0, o.goes_on l.0 (ref_in id p) l.1))
       ];
     }

@@ -15,9 +15,9 @@ loop-set-preserved c =
     record {
       slots = o.size ∙ i.slots;
       same_size = o.size ∙ i.same_size;
-      ready = (i.ready.0, o.listed i.ready.0 i.ready.1);
-      listed = λ first are. o.listed first (i.listed first are);
-      goes_on = λ ref listed. o.goes_on ref (i.goes_on ref listed);
+      ready = (i.ready.0, (i.ready.1.0, o.listed i.ready.0 i.ready.1.0 i.ready.1.1));
+      listed = λ first before are. o.listed first before (i.listed first before are);
+      goes_on = λ k ref at. o.goes_on k ref (i.goes_on k ref at);
       triggers = λ n trigger at. o.triggers n trigger (i.triggers n trigger at);
       links = o.links ∙ i.links;
       room = o.room;
@@ -28,7 +28,7 @@ loop-set-preserved c =
           let more_links = o.kept.links in
           record { valves = omega arith; links = omega arith };
       all = λ k set named before at names watched. elim (cases_lt k c.loop-set.set-index) [
-        | inl early ↦ o.goes_on set (i.all k set named early at names watched)
+        | inl early ↦ (let l = i.all k set named early at names watched in (l.0, o.goes_on l.0 set l.1))
         | inr late ↦
             let k_is : k ≡ c.loop-set.set-index = omega arith in
             let e = get_or_from_slice_get c.args.those.now c.loop-set.set-index set (record { zone = 0; slot = 0 }) (rw k_is at at) in

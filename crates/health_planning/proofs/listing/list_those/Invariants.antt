@@ -1,10 +1,11 @@
-use Rattle.std.proofs.Common.{◌≡◌, ◌<◌, ℕ, true, length, Some}
+use Rattle.std.proofs.Common.{◌≡◌, ◌<◌, ℕ, List, true, length, Some}
 use Rattle.std.specs.Prelude.{slice_get}
 use Rattle.health_valves.specs.Blueprint.{KeepsRoom}
 use Rattle.health_valves.specs.declared.blueprint.Trigger.{Trigger}
 use Rattle.health_planning.specs.Building.{HaveOwnValves, IsListed}
 use Rattle.health_planning.specs.Rooms.{HasListRoom}
-use Rattle.health_planning.specs.Wired.{is_watched}
+use Rattle.policy_select.specs.Telling.{evaluates}
+use Rattle.health_planning.specs.declared.seats.Seat.{Seat}
 use Rattle.policy_select.specs.SetRefRecord.{SetRef}
 use Rattle.policy_select.specs.Looking.{RefersTo}
 use Rattle.record_set.specs.declared.sets.RecordSet.{RecordSet}
@@ -14,11 +15,11 @@ abbrev pub invariant-loop-set : goal.invariant-loop-set
 invariant-loop-set l = record {
   slots : length l.seats.items ≡ l.zones.slots;
   same_size : length l.seats.items ≡ length l.fn.seats.items;
-  ready : (first : ℕ) × HaveOwnValves l.zones.zones first l.refs.items l.seats.items l.blueprint.triggers;
-  listed : (first : ℕ)
-      → HaveOwnValves l.zones.zones first l.fn.refs.items l.fn.seats.items l.fn.blueprint.triggers
-      → HaveOwnValves l.zones.zones first l.refs.items l.seats.items l.blueprint.triggers;
-  goes_on : (ref : SetRef) → IsListed l.fn.refs.items ref → IsListed l.refs.items ref;
+  ready : (first : ℕ) × ((before : List Seat) × HaveOwnValves l.zones.zones first before l.refs.items l.seats.items l.blueprint.triggers);
+  listed : (first : ℕ) (before : List Seat)
+      → HaveOwnValves l.zones.zones first before l.fn.refs.items l.fn.seats.items l.fn.blueprint.triggers
+      → HaveOwnValves l.zones.zones first before l.refs.items l.seats.items l.blueprint.triggers;
+  goes_on : (k : ℕ) (ref : SetRef) → slice_get l.fn.refs.items k ≡ Some ref → slice_get l.refs.items k ≡ Some ref;
   triggers : (n : ℕ) (trigger : Trigger) → slice_get l.fn.blueprint.triggers n ≡ Some trigger
       → slice_get l.blueprint.triggers n ≡ Some trigger;
   links : l.blueprint.links ≡ l.fn.blueprint.links;
@@ -26,5 +27,5 @@ invariant-loop-set l = record {
   kept : KeepsRoom l.fn.blueprint l.blueprint;
   all : (k : ℕ) (set : SetRef) (named : RecordSet) → k < l.set-index
       → slice_get l.those k ≡ Some set → RefersTo l.zones.zones set named
-      → is_watched named ≡ true → IsListed l.refs.items set;
+      → evaluates named.body ≡ true → IsListed l.refs.items set;
 }

@@ -1,4 +1,4 @@
-use Rattle.std.proofs.Common.{◌≡◌, ◌++◌, ℕ, List, length, length-append, arith, ap, sym, ◌∙◌}
+use Rattle.std.proofs.Common.{◌≡◌, ◌++◌, ℕ, List, length, length-append, arith, ap, sym, ◌∙◌, inl, inr}
 use mathlib.Core.Path.{subst}
 use Rattle.health_valves.specs.declared.blueprint.Feeding.{Feeding}
 use Rattle.health_valves.specs.declared.blueprint.Trigger.{Trigger}
@@ -36,44 +36,47 @@ list_asked-requires-clause-listed c =
     let size = c.put_checks.ensures.size in
     rw (c.requires.no_refs, c.join_checks.ensures.triggers) (
       200,
-      none_listed c.args.zones.now.zones c.args.zones.now.slots c.args.seats.now.items c.requires.no_seats 200
-          c.put_checks.new.blueprint.triggers size,
+      (
+        c.args.seats.now.items,
+        none_listed c.args.zones.now.zones c.args.zones.now.slots c.args.seats.now.items c.requires.no_seats 200
+            c.put_checks.new.blueprint.triggers (omega arith) size,
+      ),
     )
 
 pub group_all-requires-clause-below : goal.group_all-requires-clause-below
 group_all-requires-clause-below c =
     let list = c.args.checks.now.checks.list in
     let size = c.put_checks.ensures.size in
-    let start : HaveOwnValves c.args.zones.now.zones 200 c.args.refs.now.items c.args.seats.now.items c.join_checks.new.blueprint.triggers =
+    let start : HaveOwnValves c.args.zones.now.zones 200 c.args.seats.now.items c.args.refs.now.items c.args.seats.now.items c.join_checks.new.blueprint.triggers =
     rw (c.requires.no_refs, c.join_checks.ensures.triggers)
-    (none_listed c.args.zones.now.zones c.args.zones.now.slots c.args.seats.now.items c.requires.no_seats 200 c.put_checks.new.blueprint.triggers size) in
-    listed_below c.args.zones.now.zones 200 c.list_asked.new.refs.items c.list_asked.new.seats.items c.list_asked.new.blueprint.triggers
-    (c.list_asked.ensures.listed 200 start)
+    (none_listed c.args.zones.now.zones c.args.zones.now.slots c.args.seats.now.items c.requires.no_seats 200 c.put_checks.new.blueprint.triggers (omega arith) size) in
+    listed_below c.args.zones.now.zones 200 c.args.seats.now.items c.list_targets.new.refs.items c.list_targets.new.seats.items c.list_targets.new.blueprint.triggers
+    (c.list_targets.ensures.listed 200 c.args.seats.now.items (c.list_asked.ensures.listed 200 c.args.seats.now.items start))
 
 pub group_all-requires-clause-none : goal.group_all-requires-clause-none
 group_all-requires-clause-none c =
     let list = c.args.checks.now.checks.list in
     let size = c.put_checks.ensures.size in
-    let start : HaveOwnValves c.args.zones.now.zones 200 c.args.refs.now.items c.args.seats.now.items c.join_checks.new.blueprint.triggers =
+    let start : HaveOwnValves c.args.zones.now.zones 200 c.args.seats.now.items c.args.refs.now.items c.args.seats.now.items c.join_checks.new.blueprint.triggers =
     rw (c.requires.no_refs, c.join_checks.ensures.triggers)
-    (none_listed c.args.zones.now.zones c.args.zones.now.slots c.args.seats.now.items c.requires.no_seats 200 c.put_checks.new.blueprint.triggers size) in
-    (c.list_asked.ensures.listed 200 start).no_group
+    (none_listed c.args.zones.now.zones c.args.zones.now.slots c.args.seats.now.items c.requires.no_seats 200 c.put_checks.new.blueprint.triggers (omega arith) size) in
+    (c.list_targets.ensures.listed 200 c.args.seats.now.items (c.list_asked.ensures.listed 200 c.args.seats.now.items start)).no_group
 
 pub group_all-requires-clause-within : goal.group_all-requires-clause-within
 group_all-requires-clause-within c =
     let checks = c.args.checks.now.checks in
     let list = checks.list in
     let size = c.put_checks.ensures.size in
-    let start : HaveOwnValves c.args.zones.now.zones 200 c.args.refs.now.items c.args.seats.now.items c.join_checks.new.blueprint.triggers =
+    let start : HaveOwnValves c.args.zones.now.zones 200 c.args.seats.now.items c.args.refs.now.items c.args.seats.now.items c.join_checks.new.blueprint.triggers =
     rw (c.requires.no_refs, c.join_checks.ensures.triggers)
-    (none_listed c.args.zones.now.zones c.args.zones.now.slots c.args.seats.now.items c.requires.no_seats 200 c.put_checks.new.blueprint.triggers size) in
-    let listed = (c.list_asked.ensures.listed 200 start).size in
+    (none_listed c.args.zones.now.zones c.args.zones.now.slots c.args.seats.now.items c.requires.no_seats 200 c.put_checks.new.blueprint.triggers (omega arith) size) in
+    let listed = (c.list_targets.ensures.listed 200 c.args.seats.now.items (c.list_asked.ensures.listed 200 c.args.seats.now.items start)).size in
     let few = c.as_slice-list.ensures.sound.few in
-    let links : c.list_asked.new.blueprint.links ≡ check_links c.args.ids.now c.args.numbers.now 0 c.as_slice-list.result.now =
-    c.list_asked.ensures.links ∙ c.join_checks.ensures.links
+    let links : c.list_targets.new.blueprint.links ≡ check_links c.args.ids.now c.args.numbers.now 0 c.as_slice-list.result.now =
+    c.list_targets.ensures.links ∙ c.list_asked.ensures.links ∙ c.join_checks.ensures.links
     ∙ ap (λ (l : List Feeding). l ++ check_links c.args.ids.now c.args.numbers.now 0 c.as_slice-list.result.now) (c.put_checks.ensures.links ∙ c.add_spares.ensures.links ∙ c.requires.no_links) in
     rw (links, c.requires.ids, c.as_slice-list.ensures.checks)
-    (still_within (check_links _ c.args.numbers.now 0 list) 200 (length c.list_asked.new.blueprint.triggers) (omega arith)
+    (still_within (check_links _ c.args.numbers.now 0 list) 200 (length c.list_targets.new.blueprint.triggers) (omega arith)
     (links_early list c.args.numbers.now c.requires.valves (children_placed checks c.as_slice-list.ensures.sound)))
 
 pub group_all-requires-clause-targets : goal.group_all-requires-clause-targets
@@ -87,10 +90,10 @@ group_all-requires-clause-told c k set named at names =
     let zones = c.args.zones.now.zones in
     let list = c.args.checks.now.checks.list in
     let size = c.put_checks.ensures.size in
-    let start : HaveOwnValves c.args.zones.now.zones 200 c.args.refs.now.items c.args.seats.now.items c.join_checks.new.blueprint.triggers =
+    let start : HaveOwnValves c.args.zones.now.zones 200 c.args.seats.now.items c.args.refs.now.items c.args.seats.now.items c.join_checks.new.blueprint.triggers =
     rw (c.requires.no_refs, c.join_checks.ensures.triggers)
-    (none_listed c.args.zones.now.zones c.args.zones.now.slots c.args.seats.now.items c.requires.no_seats 200 c.put_checks.new.blueprint.triggers size) in
-    let g = (c.list_asked.ensures.listed 200 start).valves k set (rw c.deref-2.ensures.value at at) in
+    (none_listed c.args.zones.now.zones c.args.zones.now.slots c.args.seats.now.items c.requires.no_seats 200 c.put_checks.new.blueprint.triggers (omega arith) size) in
+    let g = (c.list_targets.ensures.listed 200 c.args.seats.now.items (c.list_asked.ensures.listed 200 c.args.seats.now.items start)).valves k set (rw c.deref-2.ensures.value at at) in
     g.told ∙ ap only_check (one_named zones set g.named named c.well_formed-2.ensures g.names names)
 
 pub join_sets-requires-clause-told : goal.join_sets-requires-clause-told
@@ -98,10 +101,10 @@ join_sets-requires-clause-told c k set named at names =
     let zones = c.args.zones.now.zones in
     let list = c.args.checks.now.checks.list in
     let size = c.put_checks.ensures.size in
-    let start : HaveOwnValves c.args.zones.now.zones 200 c.args.refs.now.items c.args.seats.now.items c.join_checks.new.blueprint.triggers =
+    let start : HaveOwnValves c.args.zones.now.zones 200 c.args.seats.now.items c.args.refs.now.items c.args.seats.now.items c.join_checks.new.blueprint.triggers =
     rw (c.requires.no_refs, c.join_checks.ensures.triggers)
-    (none_listed c.args.zones.now.zones c.args.zones.now.slots c.args.seats.now.items c.requires.no_seats 200 c.put_checks.new.blueprint.triggers size) in
-    let g = (c.list_asked.ensures.listed 200 start).valves k set (rw c.deref-3.ensures.value at at) in
+    (none_listed c.args.zones.now.zones c.args.zones.now.slots c.args.seats.now.items c.requires.no_seats 200 c.put_checks.new.blueprint.triggers (omega arith) size) in
+    let g = (c.list_targets.ensures.listed 200 c.args.seats.now.items (c.list_asked.ensures.listed 200 c.args.seats.now.items start)).valves k set (rw c.deref-3.ensures.value at at) in
     ap (λ (l : List Seat). check_seat l set.slot) c.deref-4.ensures.value
     ∙ c.group_all.ensures.sets.checks set.slot
     ∙ g.told ∙ ap only_check (one_named zones set g.named named c.well_formed-2.ensures g.names names)
@@ -110,10 +113,10 @@ pub join_sets-requires-clause-named : goal.join_sets-requires-clause-named
 join_sets-requires-clause-named c k set at =
     let list = c.args.checks.now.checks.list in
     let size = c.put_checks.ensures.size in
-    let start : HaveOwnValves c.args.zones.now.zones 200 c.args.refs.now.items c.args.seats.now.items c.join_checks.new.blueprint.triggers =
+    let start : HaveOwnValves c.args.zones.now.zones 200 c.args.seats.now.items c.args.refs.now.items c.args.seats.now.items c.join_checks.new.blueprint.triggers =
     rw (c.requires.no_refs, c.join_checks.ensures.triggers)
-    (none_listed c.args.zones.now.zones c.args.zones.now.slots c.args.seats.now.items c.requires.no_seats 200 c.put_checks.new.blueprint.triggers size) in
-    let g = (c.list_asked.ensures.listed 200 start).valves k set (rw c.deref-3.ensures.value at at) in
+    (none_listed c.args.zones.now.zones c.args.zones.now.slots c.args.seats.now.items c.requires.no_seats 200 c.put_checks.new.blueprint.triggers (omega arith) size) in
+    let g = (c.list_targets.ensures.listed 200 c.args.seats.now.items (c.list_asked.ensures.listed 200 c.args.seats.now.items start)).valves k set (rw c.deref-3.ensures.value at at) in
     (g.named, g.names)
 
 pub join_sets-requires-clause-there : goal.join_sets-requires-clause-there
@@ -128,36 +131,58 @@ returns-clause-built c =
     let g = c.group_all.ensures in
     let j = c.join_sets.ensures in
     let size = c.put_checks.ensures.size in
-    let start : HaveOwnValves zones 200 c.args.refs.now.items c.args.seats.now.items c.join_checks.new.blueprint.triggers =
+    let start : HaveOwnValves zones 200 c.args.seats.now.items c.args.refs.now.items c.args.seats.now.items c.join_checks.new.blueprint.triggers =
     rw (c.requires.no_refs, c.join_checks.ensures.triggers)
-    (none_listed zones c.args.zones.now.slots c.args.seats.now.items c.requires.no_seats 200 c.put_checks.new.blueprint.triggers size) in
-    let links : c.list_asked.new.blueprint.links ≡ check_links c.args.ids.now c.args.numbers.now 0 c.as_slice-list.result.now =
-    l.links ∙ c.join_checks.ensures.links
+    (none_listed zones c.args.zones.now.slots c.args.seats.now.items c.requires.no_seats 200 c.put_checks.new.blueprint.triggers (omega arith) size) in
+    let links : c.list_targets.new.blueprint.links ≡ check_links c.args.ids.now c.args.numbers.now 0 c.as_slice-list.result.now =
+    c.list_targets.ensures.links ∙ l.links ∙ c.join_checks.ensures.links
     ∙ ap (λ (x : List Feeding). x ++ check_links c.args.ids.now c.args.numbers.now 0 c.as_slice-list.result.now) (c.put_checks.ensures.links ∙ c.add_spares.ensures.links ∙ c.requires.no_links) in
-    rw j.triggers (is_built zones list c.args.numbers.now c.requires.valves c.list_asked.new.refs.items c.list_asked.new.seats.items c.group_all.new.seats.items
-    c.list_asked.new.blueprint.triggers c.group_all.new.blueprint.triggers c.list_asked.new.blueprint.links c.group_all.new.blueprint.links c.join_sets.new.blueprint.links
+    rw j.triggers (is_built zones list c.args.numbers.now c.requires.valves c.list_targets.new.refs.items c.args.seats.now.items c.list_targets.new.seats.items c.group_all.new.seats.items
+    c.list_targets.new.blueprint.triggers c.group_all.new.blueprint.triggers c.list_targets.new.blueprint.links c.group_all.new.blueprint.links c.join_sets.new.blueprint.links
     (children_placed checks c.as_slice-list.ensures.sound)
     (links ∙ ap (λ (x : List ℕ). check_links x c.args.numbers.now 0 c.as_slice-list.result.now) c.requires.ids ∙ ap (check_links _ c.args.numbers.now 0) c.as_slice-list.ensures.checks)
-    (λ valve is. l.triggers valve spare_trigger (rw c.join_checks.ensures.triggers
-    (c.put_checks.ensures.spares valve is ∙ c.add_spares.ensures.spares valve is.0)))
-    (l.listed 200 start) g.grouped.grouped (rw c.deref-2.ensures.value at g.all) g.sets g.triggers g.feeders g.more g.within
+    (λ valve is. c.list_targets.ensures.triggers valve spare_trigger (l.triggers valve spare_trigger (rw c.join_checks.ensures.triggers
+    (c.put_checks.ensures.spares valve is ∙ c.add_spares.ensures.spares valve is.0))))
+    (c.list_targets.ensures.listed 200 c.args.seats.now.items (l.listed 200 c.args.seats.now.items start)) c.list_targets.ensures.members g.grouped.grouped (rw c.deref-2.ensures.value at g.all) g.sets g.triggers g.feeders g.more g.within
     (rw (c.requires.ids, c.deref-3.ensures.value, c.deref-4.ensures.value) at j.joined)
     (rw c.deref-3.ensures.value at j.others)
     (rw (c.deref-3.ensures.value, c.deref-4.ensures.value) at j.within))
 
 pub returns-clause-given : goal.returns-clause-given
 returns-clause-given c =
-    all_given c.args.zones.now.zones c.args.checks.now.checks.list c.args.numbers.now c.list_asked.new.refs.items c.group_all.new.members.items c.group_all.new.seats.items
+    all_given c.args.zones.now.zones c.args.checks.now.checks.list c.args.numbers.now c.list_targets.new.refs.items c.group_all.new.members.items c.group_all.new.seats.items
     c.join_sets.new.blueprint.triggers c.join_sets.new.blueprint.links (returns-clause-built c) c.group_all.ensures.noted
 
 pub returns-clause-all : goal.returns-clause-all
-returns-clause-all c asked =
-    c.list_asked.ensures.all
-    (subst (λ (l : List SetRef). AreAsked c.args.zones.now.zones c.args.whole l c.args.came.now) (sym c.deref.ensures.value) asked)
+returns-clause-all c asked zone p here on =
+    let l = c.list_asked.ensures.all
+    (subst (λ (l : List SetRef). AreAsked c.args.zones.now.zones c.args.whole l c.args.came.now) (sym c.deref.ensures.value) asked) zone p here on in
+    (l.0, c.list_targets.ensures.goes_on l.0 _ l.1)
+
+pub returns-clause-rest : goal.returns-clause-rest
+returns-clause-rest c slot =
+    let size = c.put_checks.ensures.size in
+    let start : HaveOwnValves c.args.zones.now.zones 200 c.args.seats.now.items c.args.refs.now.items c.args.seats.now.items c.join_checks.new.blueprint.triggers =
+    rw (c.requires.no_refs, c.join_checks.ensures.triggers)
+    (none_listed c.args.zones.now.zones c.args.zones.now.slots c.args.seats.now.items c.requires.no_seats 200 c.put_checks.new.blueprint.triggers (omega arith) size) in
+    let same = c.group_all.ensures.sets in
+    elim ((c.list_targets.ensures.listed 200 c.args.seats.now.items (c.list_asked.ensures.listed 200 c.args.seats.now.items start)).others slot) [
+      | inl told ↦ inl told
+      | inr on ↦ inr (same.valves slot ∙ on.0, same.checks slot ∙ on.1)
+    ]
+
+pub list_targets-requires-clause-listed : goal.list_targets-requires-clause-listed
+list_targets-requires-clause-listed c =
+    let size = c.put_checks.ensures.size in
+    let start : HaveOwnValves c.args.zones.now.zones 200 c.args.seats.now.items c.args.refs.now.items c.args.seats.now.items c.join_checks.new.blueprint.triggers =
+    rw (c.requires.no_refs, c.join_checks.ensures.triggers)
+    (none_listed c.args.zones.now.zones c.args.zones.now.slots c.args.seats.now.items c.requires.no_seats 200 c.put_checks.new.blueprint.triggers (omega arith) size) in
+    (200, (c.args.seats.now.items, c.list_asked.ensures.listed 200 c.args.seats.now.items start))
 
 pub group_all-requires-clause-members_room : goal.group_all-requires-clause-members_room
 group_all-requires-clause-members_room c =
     let seats = c.list_asked.ensures.size in
+    let more = c.list_targets.ensures.size in
     let long = c.requires.no_seats.size in
     let room = c.requires.room.known_room in
     let cleared = c.clear.ensures.capacity in
@@ -168,16 +193,16 @@ returns-clause-checks c reports are place valve id check at numbered =
     let list = c.as_slice-list.ensures.checks in
     let first = c.put_checks.ensures.checks reports (rw list are) place valve id check (rw list at) numbered in
     rw c.join_sets.ensures.triggers
-    (c.group_all.ensures.triggers valve _ (c.list_asked.ensures.triggers valve _
-    (rw c.join_checks.ensures.triggers first)))
+    (c.group_all.ensures.triggers valve _ (c.list_targets.ensures.triggers valve _ (c.list_asked.ensures.triggers valve _
+    (rw c.join_checks.ensures.triggers first))))
 
 pub returns-clause-small : goal.returns-clause-small
 returns-clause-small c valve early =
     let size = c.put_checks.ensures.size in
     subst (λ (l : List Trigger). IsSmallAt l valve) (sym c.join_sets.ensures.triggers)
-    (small_at c.put_checks.new.blueprint.triggers c.list_asked.new.blueprint.triggers c.group_all.new.blueprint.triggers valve (omega arith)
+    (small_at c.put_checks.new.blueprint.triggers c.list_targets.new.blueprint.triggers c.group_all.new.blueprint.triggers valve (omega arith)
     (c.put_checks.ensures.small (spares_small c.add_spares.new.blueprint.triggers c.add_spares.ensures.size c.add_spares.ensures.spares))
-    (λ n trigger at. c.list_asked.ensures.triggers n trigger (rw c.join_checks.ensures.triggers at))
+    (λ n trigger at. c.list_targets.ensures.triggers n trigger (c.list_asked.ensures.triggers n trigger (rw c.join_checks.ensures.triggers at)))
     c.group_all.ensures.triggers)
 
 pub add_spares-requires-clause-room : goal.add_spares-requires-clause-room
@@ -296,18 +321,22 @@ group_all-requires-clause-apart c =
     let joined_more = ap length c.join_checks.ensures.links ∙ length-append c.put_checks.new.blueprint.links
     (check_links c.args.ids.now c.args.numbers.now 0 c.as_slice-list.result.now) in
     let joined_long = check_links_long c.args.ids.now c.args.numbers.now 0 c.as_slice-list.result.now in
-    let start : HaveOwnValves c.args.zones.now.zones 200 c.args.refs.now.items c.args.seats.now.items c.join_checks.new.blueprint.triggers =
+    let start : HaveOwnValves c.args.zones.now.zones 200 c.args.seats.now.items c.args.refs.now.items c.args.seats.now.items c.join_checks.new.blueprint.triggers =
     rw (c.requires.no_refs, c.join_checks.ensures.triggers)
-    (none_listed c.args.zones.now.zones c.args.zones.now.slots c.args.seats.now.items c.requires.no_seats 200 c.put_checks.new.blueprint.triggers added) in
-    let is_listed = c.list_asked.ensures.listed 200 start in
+    (none_listed c.args.zones.now.zones c.args.zones.now.slots c.args.seats.now.items c.requires.no_seats 200 c.put_checks.new.blueprint.triggers (omega arith) added) in
+    let is_listed = c.list_targets.ensures.listed 200 c.args.seats.now.items (c.list_asked.ensures.listed 200 c.args.seats.now.items start) in
     let listed_size = is_listed.size in
-    let listed_few = few_listed c.args.zones.now.zones 200 c.list_asked.new.refs.items c.list_asked.new.seats.items c.list_asked.new.blueprint.triggers
+    let listed_few = few_listed c.args.zones.now.zones 200 c.args.seats.now.items c.list_targets.new.refs.items c.list_targets.new.seats.items c.list_targets.new.blueprint.triggers
     is_listed in
     let listed_seats = c.list_asked.ensures.size in
     let listed_valves = c.list_asked.ensures.kept.valves in
     let listed_links = c.list_asked.ensures.kept.links in
     let listed_same = ap length c.list_asked.ensures.links in
-    listed_apart c.args.zones.now.zones 200 c.list_asked.new.refs.items c.list_asked.new.seats.items c.list_asked.new.blueprint.triggers is_listed
+    let more_seats = c.list_targets.ensures.size in
+    let more_valves = c.list_targets.ensures.kept.valves in
+    let more_links = c.list_targets.ensures.kept.links in
+    let more_same = ap length c.list_targets.ensures.links in
+    listed_apart c.args.zones.now.zones 200 c.args.seats.now.items c.list_targets.new.refs.items c.list_targets.new.seats.items c.list_targets.new.blueprint.triggers is_listed
 
 pub group_all-requires-clause-few : goal.group_all-requires-clause-few
 group_all-requires-clause-few c =
@@ -340,17 +369,21 @@ group_all-requires-clause-few c =
     let joined_more = ap length c.join_checks.ensures.links ∙ length-append c.put_checks.new.blueprint.links
     (check_links c.args.ids.now c.args.numbers.now 0 c.as_slice-list.result.now) in
     let joined_long = check_links_long c.args.ids.now c.args.numbers.now 0 c.as_slice-list.result.now in
-    let start : HaveOwnValves c.args.zones.now.zones 200 c.args.refs.now.items c.args.seats.now.items c.join_checks.new.blueprint.triggers =
+    let start : HaveOwnValves c.args.zones.now.zones 200 c.args.seats.now.items c.args.refs.now.items c.args.seats.now.items c.join_checks.new.blueprint.triggers =
     rw (c.requires.no_refs, c.join_checks.ensures.triggers)
-    (none_listed c.args.zones.now.zones c.args.zones.now.slots c.args.seats.now.items c.requires.no_seats 200 c.put_checks.new.blueprint.triggers added) in
-    let is_listed = c.list_asked.ensures.listed 200 start in
+    (none_listed c.args.zones.now.zones c.args.zones.now.slots c.args.seats.now.items c.requires.no_seats 200 c.put_checks.new.blueprint.triggers (omega arith) added) in
+    let is_listed = c.list_targets.ensures.listed 200 c.args.seats.now.items (c.list_asked.ensures.listed 200 c.args.seats.now.items start) in
     let listed_size = is_listed.size in
-    let listed_few = few_listed c.args.zones.now.zones 200 c.list_asked.new.refs.items c.list_asked.new.seats.items c.list_asked.new.blueprint.triggers
+    let listed_few = few_listed c.args.zones.now.zones 200 c.args.seats.now.items c.list_targets.new.refs.items c.list_targets.new.seats.items c.list_targets.new.blueprint.triggers
     is_listed in
     let listed_seats = c.list_asked.ensures.size in
     let listed_valves = c.list_asked.ensures.kept.valves in
     let listed_links = c.list_asked.ensures.kept.links in
     let listed_same = ap length c.list_asked.ensures.links in
+    let more_seats = c.list_targets.ensures.size in
+    let more_valves = c.list_targets.ensures.kept.valves in
+    let more_links = c.list_targets.ensures.kept.links in
+    let more_same = ap length c.list_targets.ensures.links in
     omega arith
 
 pub group_all-requires-clause-room : goal.group_all-requires-clause-room
@@ -384,17 +417,21 @@ group_all-requires-clause-room c =
     let joined_more = ap length c.join_checks.ensures.links ∙ length-append c.put_checks.new.blueprint.links
     (check_links c.args.ids.now c.args.numbers.now 0 c.as_slice-list.result.now) in
     let joined_long = check_links_long c.args.ids.now c.args.numbers.now 0 c.as_slice-list.result.now in
-    let start : HaveOwnValves c.args.zones.now.zones 200 c.args.refs.now.items c.args.seats.now.items c.join_checks.new.blueprint.triggers =
+    let start : HaveOwnValves c.args.zones.now.zones 200 c.args.seats.now.items c.args.refs.now.items c.args.seats.now.items c.join_checks.new.blueprint.triggers =
     rw (c.requires.no_refs, c.join_checks.ensures.triggers)
-    (none_listed c.args.zones.now.zones c.args.zones.now.slots c.args.seats.now.items c.requires.no_seats 200 c.put_checks.new.blueprint.triggers added) in
-    let is_listed = c.list_asked.ensures.listed 200 start in
+    (none_listed c.args.zones.now.zones c.args.zones.now.slots c.args.seats.now.items c.requires.no_seats 200 c.put_checks.new.blueprint.triggers (omega arith) added) in
+    let is_listed = c.list_targets.ensures.listed 200 c.args.seats.now.items (c.list_asked.ensures.listed 200 c.args.seats.now.items start) in
     let listed_size = is_listed.size in
-    let listed_few = few_listed c.args.zones.now.zones 200 c.list_asked.new.refs.items c.list_asked.new.seats.items c.list_asked.new.blueprint.triggers
+    let listed_few = few_listed c.args.zones.now.zones 200 c.args.seats.now.items c.list_targets.new.refs.items c.list_targets.new.seats.items c.list_targets.new.blueprint.triggers
     is_listed in
     let listed_seats = c.list_asked.ensures.size in
     let listed_valves = c.list_asked.ensures.kept.valves in
     let listed_links = c.list_asked.ensures.kept.links in
     let listed_same = ap length c.list_asked.ensures.links in
+    let more_seats = c.list_targets.ensures.size in
+    let more_valves = c.list_targets.ensures.kept.valves in
+    let more_links = c.list_targets.ensures.kept.links in
+    let more_same = ap length c.list_targets.ensures.links in
     omega arith
 
 pub group_all-requires-clause-links_room : goal.group_all-requires-clause-links_room
@@ -428,17 +465,21 @@ group_all-requires-clause-links_room c =
     let joined_more = ap length c.join_checks.ensures.links ∙ length-append c.put_checks.new.blueprint.links
     (check_links c.args.ids.now c.args.numbers.now 0 c.as_slice-list.result.now) in
     let joined_long = check_links_long c.args.ids.now c.args.numbers.now 0 c.as_slice-list.result.now in
-    let start : HaveOwnValves c.args.zones.now.zones 200 c.args.refs.now.items c.args.seats.now.items c.join_checks.new.blueprint.triggers =
+    let start : HaveOwnValves c.args.zones.now.zones 200 c.args.seats.now.items c.args.refs.now.items c.args.seats.now.items c.join_checks.new.blueprint.triggers =
     rw (c.requires.no_refs, c.join_checks.ensures.triggers)
-    (none_listed c.args.zones.now.zones c.args.zones.now.slots c.args.seats.now.items c.requires.no_seats 200 c.put_checks.new.blueprint.triggers added) in
-    let is_listed = c.list_asked.ensures.listed 200 start in
+    (none_listed c.args.zones.now.zones c.args.zones.now.slots c.args.seats.now.items c.requires.no_seats 200 c.put_checks.new.blueprint.triggers (omega arith) added) in
+    let is_listed = c.list_targets.ensures.listed 200 c.args.seats.now.items (c.list_asked.ensures.listed 200 c.args.seats.now.items start) in
     let listed_size = is_listed.size in
-    let listed_few = few_listed c.args.zones.now.zones 200 c.list_asked.new.refs.items c.list_asked.new.seats.items c.list_asked.new.blueprint.triggers
+    let listed_few = few_listed c.args.zones.now.zones 200 c.args.seats.now.items c.list_targets.new.refs.items c.list_targets.new.seats.items c.list_targets.new.blueprint.triggers
     is_listed in
     let listed_seats = c.list_asked.ensures.size in
     let listed_valves = c.list_asked.ensures.kept.valves in
     let listed_links = c.list_asked.ensures.kept.links in
     let listed_same = ap length c.list_asked.ensures.links in
+    let more_seats = c.list_targets.ensures.size in
+    let more_valves = c.list_targets.ensures.kept.valves in
+    let more_links = c.list_targets.ensures.kept.links in
+    let more_same = ap length c.list_targets.ensures.links in
     omega arith
 
 pub join_sets-requires-clause-few_sets : goal.join_sets-requires-clause-few_sets
@@ -472,17 +513,21 @@ join_sets-requires-clause-few_sets c =
     let joined_more = ap length c.join_checks.ensures.links ∙ length-append c.put_checks.new.blueprint.links
     (check_links c.args.ids.now c.args.numbers.now 0 c.as_slice-list.result.now) in
     let joined_long = check_links_long c.args.ids.now c.args.numbers.now 0 c.as_slice-list.result.now in
-    let start : HaveOwnValves c.args.zones.now.zones 200 c.args.refs.now.items c.args.seats.now.items c.join_checks.new.blueprint.triggers =
+    let start : HaveOwnValves c.args.zones.now.zones 200 c.args.seats.now.items c.args.refs.now.items c.args.seats.now.items c.join_checks.new.blueprint.triggers =
     rw (c.requires.no_refs, c.join_checks.ensures.triggers)
-    (none_listed c.args.zones.now.zones c.args.zones.now.slots c.args.seats.now.items c.requires.no_seats 200 c.put_checks.new.blueprint.triggers added) in
-    let is_listed = c.list_asked.ensures.listed 200 start in
+    (none_listed c.args.zones.now.zones c.args.zones.now.slots c.args.seats.now.items c.requires.no_seats 200 c.put_checks.new.blueprint.triggers (omega arith) added) in
+    let is_listed = c.list_targets.ensures.listed 200 c.args.seats.now.items (c.list_asked.ensures.listed 200 c.args.seats.now.items start) in
     let listed_size = is_listed.size in
-    let listed_few = few_listed c.args.zones.now.zones 200 c.list_asked.new.refs.items c.list_asked.new.seats.items c.list_asked.new.blueprint.triggers
+    let listed_few = few_listed c.args.zones.now.zones 200 c.args.seats.now.items c.list_targets.new.refs.items c.list_targets.new.seats.items c.list_targets.new.blueprint.triggers
     is_listed in
     let listed_seats = c.list_asked.ensures.size in
     let listed_valves = c.list_asked.ensures.kept.valves in
     let listed_links = c.list_asked.ensures.kept.links in
     let listed_same = ap length c.list_asked.ensures.links in
+    let more_seats = c.list_targets.ensures.size in
+    let more_valves = c.list_targets.ensures.kept.valves in
+    let more_links = c.list_targets.ensures.kept.links in
+    let more_same = ap length c.list_targets.ensures.links in
     let refs = ap length c.deref-3.ensures.value in
     let ids = ap length c.requires.ids ∙ ids_long list in
     omega arith
@@ -518,22 +563,26 @@ join_sets-requires-clause-room c =
     let joined_more = ap length c.join_checks.ensures.links ∙ length-append c.put_checks.new.blueprint.links
     (check_links c.args.ids.now c.args.numbers.now 0 c.as_slice-list.result.now) in
     let joined_long = check_links_long c.args.ids.now c.args.numbers.now 0 c.as_slice-list.result.now in
-    let start : HaveOwnValves c.args.zones.now.zones 200 c.args.refs.now.items c.args.seats.now.items c.join_checks.new.blueprint.triggers =
+    let start : HaveOwnValves c.args.zones.now.zones 200 c.args.seats.now.items c.args.refs.now.items c.args.seats.now.items c.join_checks.new.blueprint.triggers =
     rw (c.requires.no_refs, c.join_checks.ensures.triggers)
-    (none_listed c.args.zones.now.zones c.args.zones.now.slots c.args.seats.now.items c.requires.no_seats 200 c.put_checks.new.blueprint.triggers added) in
-    let is_listed = c.list_asked.ensures.listed 200 start in
+    (none_listed c.args.zones.now.zones c.args.zones.now.slots c.args.seats.now.items c.requires.no_seats 200 c.put_checks.new.blueprint.triggers (omega arith) added) in
+    let is_listed = c.list_targets.ensures.listed 200 c.args.seats.now.items (c.list_asked.ensures.listed 200 c.args.seats.now.items start) in
     let listed_size = is_listed.size in
-    let listed_few = few_listed c.args.zones.now.zones 200 c.list_asked.new.refs.items c.list_asked.new.seats.items c.list_asked.new.blueprint.triggers
+    let listed_few = few_listed c.args.zones.now.zones 200 c.args.seats.now.items c.list_targets.new.refs.items c.list_targets.new.seats.items c.list_targets.new.blueprint.triggers
     is_listed in
     let listed_seats = c.list_asked.ensures.size in
     let listed_valves = c.list_asked.ensures.kept.valves in
     let listed_links = c.list_asked.ensures.kept.links in
     let listed_same = ap length c.list_asked.ensures.links in
+    let more_seats = c.list_targets.ensures.size in
+    let more_valves = c.list_targets.ensures.kept.valves in
+    let more_links = c.list_targets.ensures.kept.links in
+    let more_same = ap length c.list_targets.ensures.links in
     let can = c.group_all.ensures.grouped in
-    let grouped_few = few_grouped c.args.zones.now.zones (length c.list_asked.new.blueprint.triggers) c.group_all.new.seats.items c.group_all.new.blueprint.triggers
+    let grouped_few = few_grouped c.args.zones.now.zones (length c.list_targets.new.blueprint.triggers) c.group_all.new.seats.items c.group_all.new.blueprint.triggers
     c.group_all.new.blueprint.links can.grouped in
     let grouped_seats = c.group_all.ensures.size in
-    let grouped_long = joined_few (length c.list_asked.new.blueprint.triggers) (length c.list_asked.new.blueprint.links) c.group_all.new.seats.items
+    let grouped_long = joined_few (length c.list_targets.new.blueprint.triggers) (length c.list_targets.new.blueprint.links) c.group_all.new.seats.items
     c.group_all.new.blueprint.links can.joined in
     let grouped_valves = c.group_all.ensures.kept.valves in
     let grouped_links = c.group_all.ensures.kept.links in
@@ -571,22 +620,26 @@ returns-clause-few_valves c =
     let joined_more = ap length c.join_checks.ensures.links ∙ length-append c.put_checks.new.blueprint.links
     (check_links c.args.ids.now c.args.numbers.now 0 c.as_slice-list.result.now) in
     let joined_long = check_links_long c.args.ids.now c.args.numbers.now 0 c.as_slice-list.result.now in
-    let start : HaveOwnValves c.args.zones.now.zones 200 c.args.refs.now.items c.args.seats.now.items c.join_checks.new.blueprint.triggers =
+    let start : HaveOwnValves c.args.zones.now.zones 200 c.args.seats.now.items c.args.refs.now.items c.args.seats.now.items c.join_checks.new.blueprint.triggers =
     rw (c.requires.no_refs, c.join_checks.ensures.triggers)
-    (none_listed c.args.zones.now.zones c.args.zones.now.slots c.args.seats.now.items c.requires.no_seats 200 c.put_checks.new.blueprint.triggers added) in
-    let is_listed = c.list_asked.ensures.listed 200 start in
+    (none_listed c.args.zones.now.zones c.args.zones.now.slots c.args.seats.now.items c.requires.no_seats 200 c.put_checks.new.blueprint.triggers (omega arith) added) in
+    let is_listed = c.list_targets.ensures.listed 200 c.args.seats.now.items (c.list_asked.ensures.listed 200 c.args.seats.now.items start) in
     let listed_size = is_listed.size in
-    let listed_few = few_listed c.args.zones.now.zones 200 c.list_asked.new.refs.items c.list_asked.new.seats.items c.list_asked.new.blueprint.triggers
+    let listed_few = few_listed c.args.zones.now.zones 200 c.args.seats.now.items c.list_targets.new.refs.items c.list_targets.new.seats.items c.list_targets.new.blueprint.triggers
     is_listed in
     let listed_seats = c.list_asked.ensures.size in
     let listed_valves = c.list_asked.ensures.kept.valves in
     let listed_links = c.list_asked.ensures.kept.links in
     let listed_same = ap length c.list_asked.ensures.links in
+    let more_seats = c.list_targets.ensures.size in
+    let more_valves = c.list_targets.ensures.kept.valves in
+    let more_links = c.list_targets.ensures.kept.links in
+    let more_same = ap length c.list_targets.ensures.links in
     let can = c.group_all.ensures.grouped in
-    let grouped_few = few_grouped c.args.zones.now.zones (length c.list_asked.new.blueprint.triggers) c.group_all.new.seats.items c.group_all.new.blueprint.triggers
+    let grouped_few = few_grouped c.args.zones.now.zones (length c.list_targets.new.blueprint.triggers) c.group_all.new.seats.items c.group_all.new.blueprint.triggers
     c.group_all.new.blueprint.links can.grouped in
     let grouped_seats = c.group_all.ensures.size in
-    let grouped_long = joined_few (length c.list_asked.new.blueprint.triggers) (length c.list_asked.new.blueprint.links) c.group_all.new.seats.items
+    let grouped_long = joined_few (length c.list_targets.new.blueprint.triggers) (length c.list_targets.new.blueprint.links) c.group_all.new.seats.items
     c.group_all.new.blueprint.links can.joined in
     let grouped_valves = c.group_all.ensures.kept.valves in
     let grouped_links = c.group_all.ensures.kept.links in
@@ -624,22 +677,26 @@ returns-clause-few_links c =
     let joined_more = ap length c.join_checks.ensures.links ∙ length-append c.put_checks.new.blueprint.links
     (check_links c.args.ids.now c.args.numbers.now 0 c.as_slice-list.result.now) in
     let joined_long = check_links_long c.args.ids.now c.args.numbers.now 0 c.as_slice-list.result.now in
-    let start : HaveOwnValves c.args.zones.now.zones 200 c.args.refs.now.items c.args.seats.now.items c.join_checks.new.blueprint.triggers =
+    let start : HaveOwnValves c.args.zones.now.zones 200 c.args.seats.now.items c.args.refs.now.items c.args.seats.now.items c.join_checks.new.blueprint.triggers =
     rw (c.requires.no_refs, c.join_checks.ensures.triggers)
-    (none_listed c.args.zones.now.zones c.args.zones.now.slots c.args.seats.now.items c.requires.no_seats 200 c.put_checks.new.blueprint.triggers added) in
-    let is_listed = c.list_asked.ensures.listed 200 start in
+    (none_listed c.args.zones.now.zones c.args.zones.now.slots c.args.seats.now.items c.requires.no_seats 200 c.put_checks.new.blueprint.triggers (omega arith) added) in
+    let is_listed = c.list_targets.ensures.listed 200 c.args.seats.now.items (c.list_asked.ensures.listed 200 c.args.seats.now.items start) in
     let listed_size = is_listed.size in
-    let listed_few = few_listed c.args.zones.now.zones 200 c.list_asked.new.refs.items c.list_asked.new.seats.items c.list_asked.new.blueprint.triggers
+    let listed_few = few_listed c.args.zones.now.zones 200 c.args.seats.now.items c.list_targets.new.refs.items c.list_targets.new.seats.items c.list_targets.new.blueprint.triggers
     is_listed in
     let listed_seats = c.list_asked.ensures.size in
     let listed_valves = c.list_asked.ensures.kept.valves in
     let listed_links = c.list_asked.ensures.kept.links in
     let listed_same = ap length c.list_asked.ensures.links in
+    let more_seats = c.list_targets.ensures.size in
+    let more_valves = c.list_targets.ensures.kept.valves in
+    let more_links = c.list_targets.ensures.kept.links in
+    let more_same = ap length c.list_targets.ensures.links in
     let can = c.group_all.ensures.grouped in
-    let grouped_few = few_grouped c.args.zones.now.zones (length c.list_asked.new.blueprint.triggers) c.group_all.new.seats.items c.group_all.new.blueprint.triggers
+    let grouped_few = few_grouped c.args.zones.now.zones (length c.list_targets.new.blueprint.triggers) c.group_all.new.seats.items c.group_all.new.blueprint.triggers
     c.group_all.new.blueprint.links can.grouped in
     let grouped_seats = c.group_all.ensures.size in
-    let grouped_long = joined_few (length c.list_asked.new.blueprint.triggers) (length c.list_asked.new.blueprint.links) c.group_all.new.seats.items
+    let grouped_long = joined_few (length c.list_targets.new.blueprint.triggers) (length c.list_targets.new.blueprint.links) c.group_all.new.seats.items
     c.group_all.new.blueprint.links can.joined in
     let grouped_valves = c.group_all.ensures.kept.valves in
     let grouped_links = c.group_all.ensures.kept.links in

@@ -1,16 +1,17 @@
-use Rattle.std.proofs.Common.{List, ap, false, refl, sym, ◌∙◌}
+use Rattle.std.proofs.Common.{◌≤◌, List, ap, false, refl, sym, ◌∙◌}
 use Rattle.std.proofs.lemmas.Bool.{false≢true}
 use mathlib.Core.Path.{subst}
-use Rattle.health_planning.specs.Building.{AreAsked}
-use Rattle.health_planning.specs.SetRefRecord.{SetRef}
+use Rattle.health_index.proofs.Moving.{all_moved}
 use Rattle.health_planning.specs.declared.seats.Seat.{Seat}
-use Rattle.health_index.proofs.Staying.{asked_after, leaves_follow, stands_with_valves}
+use Rattle.health_index.proofs.Staying.{leaves_follow, stands_with_valves}
 use Rattle.health_index.specs.Index.{Index, StandsFor}
-use Rattle.health_index.specs.Following.{Follows, IsOpenTo, IsWay}
+use Rattle.health_index.specs.Following.{AreSame, Follows, IsOpenTo, IsWay}
 use Rattle.health_index.proofs.Reshaped.{zones_stay}
 use Rattle.health_index.specs.Room.{HasRoom}
 use Rattle.health_planning.specs.Zones.{Zone}
-use Rattle.health_index.specs.Leaving.{KeepsValves}
+use Rattle.health_index.specs.Leaving.{KeepsValves, Moves, SparesValves}
+use Rattle.health_index.proofs.Beside.{seats_same}
+use Rattle.health_valves.specs.Valves.{size_of}
 use Rattle.health_index.proofs.index.HealthIndex.on_command.Goals as goal
 
 pub returns-then-leaves_valves-clause-stands : goal.returns-then-leaves_valves-clause-stands
@@ -27,17 +28,52 @@ pub returns-then-leaves_valves-clause-in_place : goal.returns-then-leaves_valves
 returns-then-leaves_valves-clause-in_place c told none endpoints is open_to =
     absurd ((c.if-leaves_valves.ensures.0 refl).zone none)
 
+-- where no valve of their own changes by the sets that went and came
+pub returns-then-leaves_valves-clause-beside : goal.returns-then-leaves_valves-clause-beside
+returns-then-leaves_valves-clause-beside c spares same many = seats_same _ _ c.self.view_is
+
+pub reseat-requires-clause-room : goal.reseat-requires-clause-room
+reseat-requires-clause-room c = subst (λ (i : Index). HasRoom i c.args.zones.now.slots) (sym c.self.view_is) c.requires.room
+
+pub returns-then-reseat-clause-stands : goal.returns-then-reseat-clause-stands
+returns-then-reseat-clause-stands c before old reports stands leaves =
+    c.if-reseat.ensures.stands before old reports (subst (StandsFor before old reports) (sym c.self.view_is) stands) leaves refl
+
+pub returns-then-reseat-clause-beside : goal.returns-then-reseat-clause-beside
+returns-then-reseat-clause-beside c spares same many =
+    c.if-reseat.ensures.rest ∙ ap (λ (i : Index). record i { seats = c.reseat.new.self.seats }) c.self.view_is
+
+pub returns-then-reseat-clause-in_place : goal.returns-then-reseat-clause-in_place
+returns-then-reseat-clause-in_place c told none endpoints is open_to =
+    absurd (c.if-reseat.ensures.zone refl none)
+
+pub returns-then-follow-clause-beside : goal.returns-then-follow-clause-beside
+returns-then-follow-clause-beside c spares same many =
+    let zones = c.args.zones.now.zones in
+    absurd (false≢true (c.if-reseat.ensures.ready
+    (subst (λ (i : Index). SparesValves zones i.seats c.args.delta.now) (sym c.self.view_is) spares)
+    (subst (λ (i : Index). AreSame i.ids c.args.checks.now.checks.list) (sym c.self.view_is) same)
+    (subst (λ (i : Index). 200 ≤ size_of i.valves) (sym c.self.view_is) many)))
+
+pub returns-clause-beside : goal.returns-clause-beside
+returns-clause-beside c spares same many =
+    let zones = c.args.zones.now.zones in
+    absurd (false≢true (c.if-reseat.ensures.ready
+    (subst (λ (i : Index). SparesValves zones i.seats c.args.delta.now) (sym c.self.view_is) spares)
+    (subst (λ (i : Index). AreSame i.ids c.args.checks.now.checks.list) (sym c.self.view_is) same)
+    (subst (λ (i : Index). 200 ≤ size_of i.valves) (sym c.self.view_is) many)))
+
 pub follow-requires-clause-ids_room : goal.follow-requires-clause-ids_room
 follow-requires-clause-ids_room c =
-    (subst (λ (i : Index). HasRoom i c.args.zones.now.slots) (sym c.self.view_is) c.requires.room).ids
+    (subst (λ (i : Index). HasRoom i c.args.zones.now.slots) (sym (c.if-reseat.ensures.stays refl ∙ c.self.view_is)) c.requires.room).ids
 
 pub follow-requires-clause-numbers_room : goal.follow-requires-clause-numbers_room
 follow-requires-clause-numbers_room c =
-    (subst (λ (i : Index). HasRoom i c.args.zones.now.slots) (sym c.self.view_is) c.requires.room).numbers
+    (subst (λ (i : Index). HasRoom i c.args.zones.now.slots) (sym (c.if-reseat.ensures.stays refl ∙ c.self.view_is)) c.requires.room).numbers
 
 pub follow-requires-clause-seen_room : goal.follow-requires-clause-seen_room
 follow-requires-clause-seen_room c =
-    (subst (λ (i : Index). HasRoom i c.args.zones.now.slots) (sym c.self.view_is) c.requires.room).seen
+    (subst (λ (i : Index). HasRoom i c.args.zones.now.slots) (sym (c.if-reseat.ensures.stays refl ∙ c.self.view_is)) c.requires.room).seen
 
 pub returns-then-follow-clause-stands : goal.returns-then-follow-clause-stands
 returns-then-follow-clause-stands c before old reports stands leaves =
@@ -45,33 +81,34 @@ returns-then-follow-clause-stands c before old reports stands leaves =
     let checks = c.args.checks.now.checks in
     let same = zones_stay before old zones checks c.args.delta.now stands.are_zones leaves (c.if-follow.ensures.zone refl) in
     c.if-follow.ensures.stands zones old reports
-    (subst (StandsFor zones old reports) (sym c.self.view_is) (subst (λ (z : List Zone). StandsFor z old reports c.args.self.now) (sym same) stands))
+    (subst (StandsFor zones old reports) (sym (c.if-reseat.ensures.stays refl ∙ c.self.view_is)) (subst (λ (z : List Zone). StandsFor z old reports c.args.self.now) (sym same) stands))
     (leaves_follow before old zones checks c.args.delta.now leaves) c.requires.sound refl
 
 pub returns-then-follow-clause-in_place : goal.returns-then-follow-clause-in_place
 returns-then-follow-clause-in_place c told none endpoints is open_to =
-    subst (λ (i : Index). Follows told c.args.checks.now.checks.list i c.follow.new.self) c.self.view_is
+    subst (λ (i : Index). Follows told c.args.checks.now.checks.list i c.follow.new.self) (c.if-reseat.ensures.stays refl ∙ c.self.view_is)
     (c.if-follow.ensures.in_place told none endpoints
-    (subst (λ (i : Index). IsWay i.ids c.args.checks.now.checks.list told) (sym c.self.view_is) is)
-    (subst (IsOpenTo told) (sym c.self.view_is) open_to)).1
+    (subst (λ (i : Index). IsWay i.ids c.args.checks.now.checks.list told) (sym (c.if-reseat.ensures.stays refl ∙ c.self.view_is)) is)
+    (subst (IsOpenTo told) (sym (c.if-reseat.ensures.stays refl ∙ c.self.view_is)) open_to)).1
 
 pub lay-requires-clause-room : goal.lay-requires-clause-room
 lay-requires-clause-room c =
-    subst (λ (i : Index). HasRoom i c.args.zones.now.slots) (sym (c.if-follow.ensures.stays refl ∙ c.self.view_is)) c.requires.room
+    subst (λ (i : Index). HasRoom i c.args.zones.now.slots) (sym (c.if-follow.ensures.stays refl ∙ c.if-reseat.ensures.stays refl ∙ c.self.view_is)) c.requires.room
 
 pub returns-clause-in_place : goal.returns-clause-in_place
 returns-clause-in_place c told none endpoints is open_to =
     absurd (false≢true (c.if-follow.ensures.in_place told none endpoints
-    (subst (λ (i : Index). IsWay i.ids c.args.checks.now.checks.list told) (sym c.self.view_is) is)
-    (subst (IsOpenTo told) (sym c.self.view_is) open_to)).0)
+    (subst (λ (i : Index). IsWay i.ids c.args.checks.now.checks.list told) (sym (c.if-reseat.ensures.stays refl ∙ c.self.view_is)) is)
+    (subst (IsOpenTo told) (sym (c.if-reseat.ensures.stays refl ∙ c.self.view_is)) open_to)).0)
 
 pub returns-clause-stands : goal.returns-clause-stands
 returns-clause-stands c before old reports stands leaves =
     let zones = c.args.zones.now.zones in
     let checks = c.args.checks.now.checks in
-    let same = c.if-follow.ensures.stays refl ∙ c.self.view_is in
-    let asked = asked_after before old zones checks reports c.args.self.now c.args.delta.now c.well_formed-2.ensures stands leaves in
+    let delta = c.args.delta.now in
+    let same = c.if-follow.ensures.stays refl ∙ c.if-reseat.ensures.stays refl ∙ c.self.view_is in
+    let moves = all_moved before old zones checks delta stands.are_zones c.well_formed-2.ensures leaves c.gone_by.result.now
+    c.gone_by.ensures.none c.gone_by.ensures.told in
     c.lay.ensures.stands before old reports (subst (StandsFor before old reports) (sym same) stands)
-    (leaves_follow before old zones checks c.args.delta.now leaves)
-    (subst (λ (l : List SetRef). AreAsked zones false c.follow.new.self.refs l) (sym c.as_slice.ensures)
-    (subst (λ (i : Index). AreAsked zones false i.refs c.args.delta.now.added) (sym same) asked))
+    (leaves_follow before old zones checks delta leaves)
+    (subst (Moves before zones c.gone_by.result.now) (sym c.as_slice.ensures) moves)
