@@ -1,13 +1,14 @@
 //! Where the sets of a name may stand, told by a hash of the name.
 //!
 //! A hint is tried and never trusted: no contract speaks of what the table holds, so nothing has to
-//! be mended where sets come and go. A name that comes is entered at its place, and the table is
-//! made anew once entries are wrong by too much. Where that is put off, it is made anew only once a
-//! sixteenth of the sets gave way or went, which pays for it.
+//! be mended where sets come and go. A name that comes is entered at its place, what it moves is
+//! counted part by part, and the table is made anew once entries are wrong by too much. Where that is
+//! put off, it is made anew only once a sixteenth of the sets gave way or went, which pays for it.
 
 ghost use Rattle.zone_changes.specs.Orders.{IsOrder};
 
 use crate::apexes::NamedZone;
+use crate::shifts::Shifts;
 use zone_changes::{SetSlots, hash_of};
 
 /// An entry that tells nothing.
@@ -20,8 +21,13 @@ const TRIES: usize = 16;
 #[derive(Drop)]
 pub struct Hints {
     entries: Vec<u32>,
-    /// By how many places sets moved since the table was made, all of them together.
+    /// By how many places sets moved since the table was made, all of them together, but for those
+    /// that came.
     moved: usize,
+    /// How many sets came in front of others since then.
+    came: usize,
+    /// How many came in front of each part of the zone.
+    shifts: Shifts,
     /// How many sets that were there gave way or went since then.
     changed: usize,
 }
@@ -32,6 +38,8 @@ impl Hints {
         Hints {
             entries,
             moved: 0,
+            came: 0,
+            shifts: Shifts::new(0),
             changed: 0,
         }
     }
@@ -51,7 +59,7 @@ impl Hints {
                         return None;
                     }
                     if *entry >> 24 == tag_of(hash) {
-                        return Some((*entry & 0xff_ffff) as usize);
+                        return Some(self.shifts.now((*entry & 0xff_ffff) as usize));
                     }
                 }
             }
@@ -84,13 +92,16 @@ impl Hints {
     /// Tells that a set came to a place, and how many stand behind it now. Its name is entered,
     /// unless the table has to be made anew.
     pub fn came(&mut self, name: &[u8], place: usize, behind: usize) {
-        self.moved = self.moved.saturating_add(behind);
+        if self.came == 0 {
+            self.shifts = Shifts::new(place.saturating_add(behind));
+        }
+        let then = self.shifts.then(place);
+        if behind > 0 {
+            self.came = self.came.saturating_add(1);
+            self.shifts.came(then);
+        }
         if !self.is_old(place.saturating_add(behind)) {
-            put(
-                &mut self.entries,
-                hash_of(name),
-                (place % 0x100_0000) as u32,
-            );
+            put(&mut self.entries, hash_of(name), (then % 0x100_0000) as u32);
         }
     }
 
@@ -119,12 +130,15 @@ impl Hints {
         clear(&mut self.entries);
         fill(&mut self.entries, store, zone, order);
         self.moved = 0;
+        self.came = 0;
+        self.shifts = Shifts::new(0);
         self.changed = 0;
     }
 
-    /// Whether so many sets moved by too much: in the mean by more than a thirty-second of them.
+    /// Whether entries of so many sets are wrong by too much: an eighth of the sets came in front of
+    /// others, or sets went that moved all, in the mean, by more than a thirty-second of them.
     fn is_old(&self, sets: usize) -> bool {
-        self.moved / sets.max(1) > sets / 32
+        self.came > sets / 8 || self.moved / sets.max(1) > sets / 32
     }
 
     /// Tells that the name of a zone came or went, and makes the table anew where these are many: of

@@ -9,6 +9,7 @@ mod changing;
 mod finding;
 mod hints;
 mod refs;
+mod shifts;
 mod stored;
 
 pub use apexes::{Apexes, NamedZone};
