@@ -1,5 +1,5 @@
 -- Seats by which valves are planned anew: each set is seated by the check that alone decides it, or nothing.
-use Rattle.std.proofs.Common.{◌≡◌, ◌≢◌, ◌⊎◌, ℕ, zero, suc, Bool, true, false, List, [], ◌∷◌, length, arith, refl, ap, sym, ◌∙◌, inl, inr, Some}
+use Rattle.std.proofs.Common.{◌≡◌, ◌≢◌, ◌⊎◌, ℕ, zero, suc, Bool, true, false, List, [], ◌∷◌, refl, ap, sym, ◌∙◌, inl, inr, Some}
 use Rattle.std.specs.Prelude.{slice_get}
 use Rattle.std.proofs.lemmas.Bool.{cases_eq, false≢true}
 use mathlib.Core.Path.{subst}
@@ -8,19 +8,17 @@ use Rattle.check_model.specs.declared.checks.Check.{Check}
 use Rattle.health_index.proofs.Alone.{HasOwn, HasTold, early_in, own_or_told}
 use Rattle.health_index.specs.Following.{KeepValves}
 use Rattle.health_index.specs.Index.{Index, StandsFor}
-use Rattle.health_index.specs.Leaving.{IsOneOf, Moves}
+use Rattle.health_index.specs.Leaving.{Moves}
 use Rattle.health_model.specs.Sound.{IsSound}
 use Rattle.health_model.specs.Statuses.{Report}
 use Rattle.health_planning.proofs.Built.{checks_there}
 use Rattle.health_planning.proofs.ListedOnce.{one_ref}
 use Rattle.health_planning.proofs.Told.{tells_on}
-use Rattle.health_planning.specs.Building.{AllTell, AreAsked, AreSeatedAnew, IsBuilt, IsListed, HoldsSet, TellSlot, TellsCheck, TellsOn}
+use Rattle.health_planning.specs.Building.{AllTell, AreAsked, AreSeatedAnew, IsBuilt, HoldsSet, TellSlot, TellsCheck, TellsOn}
 use Rattle.health_planning.specs.Changes.{ref_in}
-use Rattle.health_planning.specs.Looking.{RefersTo}
 use Rattle.health_planning.specs.SetRefRecord.{SetRef}
 use Rattle.health_planning.specs.Tables.{HaveSlotsApart}
-use Rattle.health_planning.specs.Telling.{evaluates}
-use Rattle.health_planning.specs.Wired.{IsAlone, ids_of, seat_of, set_seat, valve_with, watched_of}
+use Rattle.health_planning.specs.Wired.{ids_of, seat_of, set_seat, valve_with, watched_of}
 use Rattle.health_planning.specs.Zones.{Zone, placed_in}
 use Rattle.health_planning.specs.declared.seats.Seat.{Seat}
 use Rattle.health_valves.specs.declared.blueprint.Feeding.{Feeding}

@@ -1,9 +1,8 @@
 -- Sets that a check alone decides: each seat that tells no valve of the set's own tells that of the check.
-use Rattle.std.proofs.Common.{◌≡◌, ◌≢◌, ◌<◌, ◌≤◌, ℕ, zero, suc, Bool, true, false, List, length, arith, refl, ap, sym, ◌∙◌, inl, inr, Option, None, Some}
-use Rattle.std.specs.Prelude.{◌&&◌, ◌||◌, ◌⊎◌, is_some, slice_get}
+use Rattle.std.proofs.Common.{◌≡◌, ◌≢◌, ◌<◌, ℕ, suc, Bool, true, false, List, length, arith, refl, ap, sym, ◌∙◌, inl, inr, Option, None, Some}
+use Rattle.std.specs.Prelude.{◌&&◌, ◌||◌, ◌⊎◌, is_some}
 use Rattle.std.proofs.lemmas.Bool.{false≢true}
 use Rattle.check_model.specs.Checks.{Checks}
-use Rattle.check_model.specs.declared.checks.Check.{Check}
 use Rattle.health_model.specs.Healthy.{by_check, by_target, set_value}
 use Rattle.health_model.specs.Sound.{IsSound}
 use Rattle.health_planning.proofs.Built.{checks_there}

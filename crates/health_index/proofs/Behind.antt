@@ -1,10 +1,10 @@
 -- Valves of sets and groups, which stand behind those of checks, where their conditions stay.
-use Rattle.std.proofs.Common.{◌≡◌, ◌≤◌, ◌<◌, ℕ, suc, false, List, [], ◌∷◌, ◌++◌, length, map, arith, refl, ap, sym, ◌∙◌, inl, inr, Some, None, Option}
+use Rattle.std.proofs.Common.{◌≡◌, ◌≤◌, ◌<◌, ℕ, suc, List, ◌∷◌, ◌++◌, map, arith, refl, ap, sym, ◌∙◌, inl, inr, Some, None, Option}
 use Rattle.std.specs.Prelude.{slice_get}
 use Rattle.std.specs.Option.{option_to_list}
 use Rattle.check_model.specs.declared.checks.Check.{Check}
 use Rattle.health_model.specs.Nodes.{CheckNode, GroupNode, Node, SetNode}
-use Rattle.health_planning.specs.Wired.{AreMembers, IsGroupValve, IsSeated, IsTarget, IsValveFor, ids_of, set_condition, valve_with}
+use Rattle.health_planning.specs.Wired.{IsGroupValve, IsSeated, IsTarget, IsValveFor, ids_of, set_condition, valve_with}
 use Rattle.health_planning.specs.Zones.{Zone, placed_in}
 use Rattle.health_planning.specs.declared.seats.Seat.{Seat}
 use Rattle.health_valves.specs.Valves.{Net}

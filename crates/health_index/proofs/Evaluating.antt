@@ -1,5 +1,5 @@
 -- What working out one node leaves.
-use Rattle.std.proofs.Common.{◌≡◌, ◌≢◌, ◌+◌, ◌∙◌, ℕ, Bool, true, false, length, arith, refl, ap, sym, inl, inr}
+use Rattle.std.proofs.Common.{◌≡◌, ◌≢◌, ◌∙◌, ℕ, Bool, true, false, arith, refl, ap, sym, inl, inr}
 use Rattle.std.proofs.lemmas.Bool.{false≢true}
 use Rattle.std.specs.Prelude.{◌↔◌, Contains, IsTrue, List}
 use mathlib.Core.Path.{subst}
@@ -10,8 +10,8 @@ use Rattle.health_valves.specs.declared.valves.Valves.{Valves}
 use Rattle.health_model.specs.Nodes.{CheckNode, GroupNode, Node, SetNode, feeders}
 use Rattle.health_model.specs.Statuses.{Report}
 use Rattle.health_planning.specs.Groups.{ViewsAgree}
-use Rattle.health_planning.specs.Zones.{Zone, placed_in}
-use Rattle.zone_model.specs.Slotted.{IsHere, Slotted}
+use Rattle.health_planning.specs.Zones.{Zone}
+use Rattle.zone_model.specs.Slotted.{Slotted}
 use Rattle.health_planning.specs.Wired.{IsSpare, ids_of, watched_of}
 use Rattle.health_planning.proofs.Ending.{feeder, condition_seated}
 use Rattle.health_index.specs.Index.{Index, IsLaidFor, IsNumberBehind, IsNumberOf, IsOwnNumber, healthy_in}

@@ -1,5 +1,5 @@
 -- What an index that stood for some checks is to checks of endpoints, after one of them went.
-use Rattle.std.proofs.Common.{◌≡◌, ◌≢◌, ◌≤◌, ◌<◌, ◌+◌, ℕ, zero, suc, false, List, [], ◌∷◌, length, arith, refl, ap, sym, ◌∙◌, inl, inr, Some, None}
+use Rattle.std.proofs.Common.{◌≡◌, ◌≤◌, ◌<◌, ◌+◌, ℕ, false, List, [], length, arith, refl, ap, sym, ◌∙◌, inl, inr, Some, None}
 use Rattle.std.specs.List.{remove}
 use Rattle.std.specs.Prelude.{◌⊎◌, Option, slice_get, slice_index}
 use Rattle.std.proofs.lemmas.Bool.{cases_eq, cases_lt}
@@ -25,7 +25,7 @@ use Rattle.health_planning.proofs.Numbers.{ids_valves, number_is, valve_there}
 use Rattle.health_planning.proofs.Places.{held_there, ids_apart, only_place}
 use Rattle.health_planning.proofs.Wiring.{ids_long}
 use Rattle.health_planning.specs.Later.{AreLater}
-use Rattle.health_planning.specs.Wired.{HaveValves, IsSpare, StandApart, ids_of, place_of, spare_condition, valve_with, watched_of}
+use Rattle.health_planning.specs.Wired.{HaveValves, IsSpare, StandApart, ids_of, spare_condition, valve_with, watched_of}
 use Rattle.health_planning.specs.Zones.{Zone, placed_in}
 use Rattle.health_valves.proofs.Needs.{feeders_same, here, there}
 use Rattle.health_valves.specs.Pass.{IsIdle, MeetAll}

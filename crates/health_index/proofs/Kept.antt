@@ -3,7 +3,6 @@ use Rattle.std.proofs.Common.{◌≡◌, ◌≢◌, ◌≤◌, ◌<◌, ◌+◌,
 use Rattle.std.specs.List.{remove}
 use Rattle.std.specs.Prelude.{◌⊎◌, slice_get, slice_index}
 use Rattle.std.proofs.lemmas.Option.{slice_get_within}
-use mathlib.Core.Path.{subst}
 use Rattle.check_model.specs.declared.checks.Check.{Check}
 use Rattle.std.proofs.lemmas.Bool.{cases_lt}
 use Rattle.health_index.proofs.Reshaped.{same_ids}

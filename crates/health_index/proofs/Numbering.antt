@@ -1,5 +1,5 @@
 -- Numbers of nodes.
-use Rattle.std.proofs.Common.{◌≡◌, ◌<◌, ◌≤◌, ◌+◌, ◌-◌, ℕ, suc, Bool, true, false, List, length, arith, refl, ap, sym, ◌∙◌, inl, inr, Option, None, Some}
+use Rattle.std.proofs.Common.{◌≡◌, ◌<◌, ◌≤◌, ◌+◌, ◌-◌, ℕ, suc, Bool, true, false, List, arith, refl, ap, sym, ◌∙◌, inl, inr, Option, None, Some}
 use Rattle.std.specs.Prelude.{◌||◌, ◌⊎◌, is_some, slice_get}
 use Rattle.std.proofs.lemmas.Bool.{false≢true}
 use mathlib.Core.Path.{subst}

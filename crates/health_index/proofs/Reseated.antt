@@ -1,5 +1,5 @@
 -- Sets that went and came beside all valves of sets and groups: seats tell the same of these.
-use Rattle.std.proofs.Common.{◌≡◌, ◌≢◌, ◌≤◌, ◌<◌, ◌⊎◌, ℕ, suc, Bool, true, false, List, [], ◌∷◌, arith, refl, ap, sym, ◌∙◌, inl, inr, Some}
+use Rattle.std.proofs.Common.{◌≡◌, ◌≢◌, ◌≤◌, ◌<◌, ◌⊎◌, ℕ, suc, false, List, [], ◌∷◌, arith, refl, ap, sym, ◌∙◌, inl, inr, Some}
 use Rattle.std.specs.Prelude.{slice_get}
 use mathlib.Core.Path.{subst}
 use Rattle.check_model.specs.Checks.{Checks}
@@ -8,24 +8,24 @@ use Rattle.health_index.proofs.Again.{of_parts, slot_or_not}
 use Rattle.health_index.proofs.Alone.{early_in, of_own, of_told, own_or_told}
 use Rattle.health_index.proofs.Moving.{moved}
 use Rattle.health_index.proofs.Staying.{CameBy, WentBy, alias_seated, groups_now, listed_all, node_now, target_now}
-use Rattle.health_index.specs.Index.{Index, IsIntact, Space, IsOfOneGroup, OwnListed, StandsFor, TellApart}
+use Rattle.health_index.specs.Index.{Index, IsIntact, Space, StandsFor, TellApart}
 use Rattle.health_index.specs.Leaving.{AllCameBeside, AllWentBeside, AreLeft, Moves, SparesValves}
 use Rattle.health_model.specs.Nodes.{CheckNode, GroupNode, Node, SetNode}
 use Rattle.health_model.specs.Sound.{IsSound}
 use Rattle.health_model.specs.Statuses.{Report}
 use Rattle.health_planning.proofs.ListedOnce.{one_ref}
 use Rattle.health_planning.proofs.Members.{one_named}
-use Rattle.health_planning.proofs.Told.{own_early, own_suc}
+use Rattle.health_planning.proofs.Told.{own_early}
 use Rattle.health_planning.specs.Building.{AreGiven, AreSeatedBeside, IsFree, HoldsSet, TellSlot, TellsCheck, TellsOn}
 use Rattle.health_planning.specs.Changes.{ref_in}
 use Rattle.health_planning.specs.DeltaRecord.{Delta}
 use Rattle.health_planning.specs.SetRefRecord.{SetRef}
 use Rattle.health_planning.specs.Tables.{HaveSlotsApart}
 use Rattle.health_planning.specs.Telling.{evaluates}
-use Rattle.health_planning.specs.Wired.{IsGroupValve, IsSeated, IsSetValve, IsTarget, IsValveFor, check_seat, group_seat, ids_of, own_part, plain, plain_among, seat_of, set_seat, valve_with, valves_of, watched_of, with_valve}
+use Rattle.health_planning.specs.Wired.{IsGroupValve, IsSeated, IsSetValve, IsTarget, IsValveFor, group_seat, ids_of, own_part, plain, plain_among, seat_of, set_seat, valve_with, valves_of, watched_of, with_valve}
 use Rattle.health_planning.specs.Zones.{AreZones, Zone, placed_in}
 use Rattle.health_planning.specs.declared.seats.Seat.{Seat}
-use Rattle.health_valves.specs.Valves.{Net, ValvesStandFor}
+use Rattle.health_valves.specs.Valves.{Net}
 use Rattle.rdata_layout.specs.declared.types.RType.{RType}
 use Rattle.record_set.specs.declared.sets.Body.{Body}
 use Rattle.record_set.specs.declared.sets.Body.TheVariants as body

@@ -1,5 +1,5 @@
 -- Seats that are given, and cleared again: each is told by a set that is listed or noted.
-use Rattle.std.proofs.Common.{◌≡◌, ◌≢◌, ◌<◌, ◌≤◌, ◌+◌, ℕ, zero, suc, List, [], ◌∷◌, ◌++◌, length, length-append, length-set, set, get_or-set_same, get_or-set_other, take, arith, refl, ap, sym, ◌∙◌, inl, inr, Some}
+use Rattle.std.proofs.Common.{◌≡◌, ◌≢◌, ◌<◌, ◌≤◌, ◌+◌, ℕ, List, [], ◌∷◌, ◌++◌, length, length-append, length-set, arith, refl, ap, sym, ◌∙◌, inl, inr, Some}
 use Rattle.std.specs.Prelude.{slice_get}
 use Rattle.std.proofs.lemmas.Bool.{cases_eq}
 use Rattle.check_model.specs.declared.checks.Check.{Check}
@@ -10,7 +10,7 @@ use Rattle.policy_select.proofs.MembersOfZoneList.{filled}
 use Rattle.policy_select.specs.SetRefRecord.{SetRef}
 use Rattle.policy_select.specs.Zones.{Zone}
 use Rattle.health_planning.specs.Building.{AreGiven, AreNoted, IsBuilt, IsFree, TellSlot}
-use Rattle.health_planning.specs.Wired.{check_seat, group_seat, own_part, seat_of, set_seat}
+use Rattle.health_planning.specs.Wired.{check_seat, group_seat, seat_of, set_seat}
 use Rattle.health_planning.specs.declared.seats.Seat.{Seat}
 use Rattle.health_planning.proofs.Few.{group_within, no_more_than}
 use Rattle.health_planning.proofs.Grouped.{group_beside, seat_now, seated}

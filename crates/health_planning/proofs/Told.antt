@@ -1,12 +1,12 @@
 -- Seats that tell the check which alone decides a set.
-use Rattle.std.proofs.Common.{◌≡◌, ◌≢◌, ◌≤◌, ◌<◌, ℕ, zero, suc, List, [], ◌∷◌, ◌++◌, length, set, take, get_or-set_other, get_or-set_same, arith, refl, ap, sym, ◌∙◌, inl, inr, Option, None, Some}
+use Rattle.std.proofs.Common.{◌≡◌, ◌≢◌, ◌≤◌, ◌<◌, ℕ, zero, suc, List, [], ◌∷◌, ◌++◌, length, set, take, get_or-set_other, get_or-set_same, arith, refl, ap, sym, ◌∙◌, inl, inr, None, Some}
 use Rattle.std.specs.Prelude.{slice_index_or}
 use Rattle.std.proofs.lemmas.Bool.{cases_eq, cases_lt, le-leb}
 use Rattle.std.proofs.lemmas.List.{get_or_past}
 use mathlib.Core.Path.{subst}
 use Rattle.policy_select.specs.Zones.{Zone}
 use Rattle.health_planning.specs.Building.{IsBare, IsFree, HoldsSet, KeepsCheck, SeatsCheck, TellsAll, TellsCheck, TellsOn}
-use Rattle.health_planning.specs.Wired.{IsAlone, check_seat, group_seat, is_watched, only_check, own_part, seat_of, set_seat}
+use Rattle.health_planning.specs.Wired.{IsAlone, check_seat, group_seat, only_check, own_part, set_seat}
 use Rattle.health_planning.specs.declared.seats.Seat.{Seat}
 use Rattle.health_planning.proofs.ListedOnce.{check_beside, check_here, own_is, seat_beside, seat_here}
 use Rattle.record_set.specs.declared.sets.RecordSet.{RecordSet}

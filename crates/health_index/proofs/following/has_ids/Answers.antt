@@ -1,4 +1,4 @@
-use Rattle.std.proofs.Common.{◌≡◌, ℕ, arith, length, refl, sym, ◌∙◌}
+use Rattle.std.proofs.Common.{ℕ, arith, length}
 use mathlib.Core.Path.{subst}
 use Rattle.std.proofs.lemmas.Bool.{eq-eqb, eqb-true}
 use Rattle.health_index.specs.Following.{HaveIds}

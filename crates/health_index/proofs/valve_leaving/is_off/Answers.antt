@@ -1,4 +1,4 @@
-use Rattle.std.proofs.Common.{◌≡◌, ◌∙◌, ap, false, sym}
+use Rattle.std.proofs.Common.{◌∙◌, ap, sym}
 use mathlib.Core.Path.{subst}
 use Rattle.health_planning.proofs.Members.{one_named}
 use Rattle.health_planning.specs.Looking.{Watches}

@@ -1,10 +1,8 @@
-use Rattle.std.proofs.Common.{[], ◌∷◌, ◌++◌, List, ℕ, arith, ap, length, sym, ◌∙◌}
-use Rattle.std.specs.List.{remove}
+use Rattle.std.proofs.Common.{[], ◌∷◌, ◌++◌, ℕ, arith, ap, length, sym}
 use mathlib.Core.Path.{subst}
 use Rattle.health_index.proofs.Kept.{kept_fewer, kept_more, kept_same}
 use Rattle.health_index.proofs.Valved.{fewer_valves, more_valves}
-use Rattle.health_index.specs.Following.{KeepValves}
-use Rattle.health_planning.specs.Wired.{HaveValves, ids_of}
+use Rattle.health_planning.specs.Wired.{HaveValves}
 use Rattle.health_index.proofs.valve_numbers.keep_numbers.Goals as goal
 
 pub returns-in-Same-clause-valves : goal.returns-in-Same-clause-valves

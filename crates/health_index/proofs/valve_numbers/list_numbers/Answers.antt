@@ -1,5 +1,4 @@
-use Rattle.std.proofs.Common.{◌≡◌, ◌∷◌, [], ℕ, length, length-append, arith, ap, refl, sym, ◌∙◌, inl, inr, Some}
-use Rattle.std.specs.Prelude.{slice_get}
+use Rattle.std.proofs.Common.{◌∷◌, [], length, length-append, arith, ap, refl, sym, ◌∙◌, inl, inr}
 use Rattle.std.proofs.lemmas.Option.{slice_get_within}
 use Rattle.health_valves.proofs.Runs.{in_more}
 use Rattle.health_index.proofs.valve_numbers.list_numbers.Goals as goal

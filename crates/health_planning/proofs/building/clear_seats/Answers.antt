@@ -1,4 +1,4 @@
-use Rattle.std.proofs.Common.{arith, inl, inr}
+use Rattle.std.proofs.Common.{inl, inr}
 use Rattle.std.proofs.lemmas.Bool.{cases_lt}
 use Rattle.health_planning.proofs.Given.{all_free}
 use Rattle.health_planning.proofs.Told.{bare_free, free_all, keeps_trans}

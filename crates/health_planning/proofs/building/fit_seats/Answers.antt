@@ -1,4 +1,4 @@
-use Rattle.std.proofs.Common.{ap, arith, length, take}
+use Rattle.std.proofs.Common.{arith}
 use Rattle.health_planning.proofs.Told.{all_trans, bare_past, seats_front}
 use Rattle.health_planning.proofs.building.fit_seats.Goals as goal
 

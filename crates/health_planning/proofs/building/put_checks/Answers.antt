@@ -1,12 +1,10 @@
-use Rattle.std.proofs.Common.{◌≡◌, ◌<◌, ℕ, List, length, length-set, arith, ap, refl, sym, ◌∙◌, inl, inr, Some}
+use Rattle.std.proofs.Common.{◌≡◌, ℕ, List, length, length-set, arith, ap, refl, sym, ◌∙◌, inl, inr, Some}
 use Rattle.std.specs.Prelude.{slice_get}
 use Rattle.std.proofs.lemmas.Bool.{cases_eq, cases_lt}
 use Rattle.std.proofs.lemmas.Option.{slice_get_read, slice_get_within}
-use mathlib.Core.Path.{subst}
 use Rattle.check_model.specs.declared.checks.Check.{Check}
 use Rattle.health_valves.proofs.Needs.{set_beside, set_here}
 use Rattle.health_valves.specs.declared.blueprint.Trigger.{Trigger}
-use Rattle.health_planning.specs.Building.{check_trigger}
 use Rattle.health_planning.proofs.Numbers.{number_there}
 use Rattle.health_planning.proofs.building.put_checks.Goals as goal
 

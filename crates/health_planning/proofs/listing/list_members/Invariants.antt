@@ -2,7 +2,7 @@ use Rattle.std.proofs.Common.{◌≡◌, ◌≤◌, ◌<◌, ℕ, List, true, le
 use Rattle.std.specs.Prelude.{slice_get}
 use Rattle.health_valves.specs.Blueprint.{KeepsRoom}
 use Rattle.health_valves.specs.declared.blueprint.Trigger.{Trigger}
-use Rattle.health_planning.specs.Building.{HaveOwnValves, IsListed, TargetsListed}
+use Rattle.health_planning.specs.Building.{HaveOwnValves, IsListed}
 use Rattle.health_planning.specs.Rooms.{HasListRoom}
 use Rattle.health_planning.specs.Wired.{is_watched}
 use Rattle.health_planning.specs.declared.seats.Seat.{Seat}

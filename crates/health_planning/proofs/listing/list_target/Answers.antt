@@ -1,4 +1,4 @@
-use Rattle.std.proofs.Common.{◌≡◌, ◌∙◌, ℕ, ap, refl, sym, true}
+use Rattle.std.proofs.Common.{◌≡◌, ◌∙◌, ℕ, ap, sym, true}
 use Rattle.std.specs.Prelude.{not}
 use mathlib.Core.Path.{subst}
 use Rattle.std.proofs.lemmas.Bool.{false≢true}

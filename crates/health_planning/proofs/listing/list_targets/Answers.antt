@@ -1,4 +1,4 @@
-use Rattle.std.proofs.Common.{◌≡◌, ◌≤◌, ℕ, length, arith, ap, refl, sym, ◌∙◌, inl, inr, Some}
+use Rattle.std.proofs.Common.{◌≡◌, arith, ap, refl, sym, ◌∙◌, inl, inr, Some}
 use Rattle.std.specs.Prelude.{slice_get}
 use mathlib.Core.Path.{subst}
 use Rattle.std.proofs.lemmas.Bool.{cases_lt}

@@ -2,14 +2,10 @@ use Rattle.std.proofs.Common.{◌≡◌, ◌≤◌, ◌-◌, ℕ, List, length, 
 use Rattle.std.specs.Prelude.{slice_get}
 use Rattle.health_valves.specs.Blueprint.{KeepsRoom}
 use Rattle.health_valves.specs.declared.blueprint.Trigger.{Trigger}
-use Rattle.health_planning.specs.Building.{HaveOwnValves, IsListed, TargetsListed}
+use Rattle.health_planning.specs.Building.{HaveOwnValves, TargetsListed}
 use Rattle.health_planning.specs.Rooms.{HasListRoom}
-use Rattle.health_planning.specs.Wired.{is_watched}
 use Rattle.health_planning.specs.declared.seats.Seat.{Seat}
-use Rattle.policy_select.specs.Changes.{ref_in}
-use Rattle.policy_select.specs.Groups.{members_of}
 use Rattle.policy_select.specs.SetRefRecord.{SetRef}
-use Rattle.zone_model.specs.Slotted.{Slotted}
 use Rattle.health_planning.proofs.listing.list_targets.Given as goal
 
 abbrev pub invariant-loop-k : goal.invariant-loop-k

@@ -1,4 +1,4 @@
-use Rattle.std.proofs.Common.{List, ap, arith, refl, ◌∙◌, length}
+use Rattle.std.proofs.Common.{List, ap, arith, ◌∙◌, length}
 use Rattle.health_planning.specs.Wired.{group_seat}
 use Rattle.health_planning.specs.declared.seats.Seat.{Seat}
 use Rattle.health_planning.proofs.ListedOnce.{check_beside, seat_beside, seat_here}

@@ -1,4 +1,4 @@
-use Rattle.std.proofs.Common.{◌≡◌, arith, ap, length, refl, sym, ◌∙◌, inl, inr, true}
+use Rattle.std.proofs.Common.{arith, sym, ◌∙◌, inl}
 use Rattle.std.proofs.lemmas.Bool.{false≢true}
 use Rattle.health_planning.proofs.Anew.{free_anew, seated_anew}
 use Rattle.health_planning.proofs.seating.seat_anew.Goals as goal

@@ -1,4 +1,4 @@
-use Rattle.std.proofs.Common.{ap, arith, length}
+use Rattle.std.proofs.Common.{arith}
 use Rattle.health_planning.proofs.Anew.{seated_beside}
 use Rattle.health_planning.proofs.seating.seat_beside.Goals as goal
 

@@ -1,9 +1,9 @@
-use Rattle.std.proofs.Common.{◌≡◌, ◌≢◌, ◌<◌, ℕ, List, length, arith, ap, refl, sym, ◌∙◌, inl, inr}
+use Rattle.std.proofs.Common.{◌<◌, ℕ, List, length, arith, ap, refl, sym, ◌∙◌, inl, inr}
 use Rattle.std.proofs.lemmas.Bool.{cases_eq}
 use mathlib.Core.Path.{subst}
 use Rattle.policy_select.proofs.Members.{one_named}
 use Rattle.policy_select.specs.Changes.{ref_in}
-use Rattle.policy_select.specs.Looking.{RefersTo, Watches}
+use Rattle.policy_select.specs.Looking.{Watches}
 use Rattle.policy_select.specs.SetRefRecord.{SetRef}
 use Rattle.policy_select.specs.Telling.{watch_of}
 use Rattle.policy_select.specs.Zones.{placed_in}

@@ -1,8 +1,7 @@
-use Rattle.std.proofs.Common.{◌≡◌, ℕ, arith, ap, refl, sym, ◌∙◌, inl, inr}
+use Rattle.std.proofs.Common.{◌≡◌, ℕ, arith, ap, refl, ◌∙◌, inl, inr}
 use mathlib.Core.Path.{subst}
 use Rattle.std.proofs.lemmas.Bool.{cases_lt}
 use Rattle.std.proofs.lemmas.Option.{slice_get_within}
-use Rattle.policy_select.specs.Changes.{ref_in}
 use Rattle.policy_select.specs.Looking.{IsSetAt}
 use Rattle.policy_select.specs.SetRefRecord.{SetRef}
 use Rattle.policy_select.specs.Zones.{placed_in}

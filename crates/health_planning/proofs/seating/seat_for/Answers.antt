@@ -1,5 +1,4 @@
-use Rattle.std.proofs.Common.{◌≡◌, ◌∙◌, ℕ, arith, ap, sym, Some}
-use Rattle.std.specs.Prelude.{slice_get}
+use Rattle.std.proofs.Common.{◌≡◌, ◌∙◌, arith, ap, sym, Some}
 use mathlib.Core.Path.{subst}
 use Rattle.health_planning.specs.Wired.{IsValveWith, valve_with}
 use Rattle.health_planning.proofs.Numbers.{valve_early}

@@ -1,4 +1,4 @@
-use Rattle.std.proofs.Common.{◌≡◌, ◌∙◌, inl, refl, sym}
+use Rattle.std.proofs.Common.{◌∙◌, inl, refl, sym}
 use Rattle.policy_select.specs.Zones.{placed_in}
 use Rattle.health_planning.proofs.Unwatched.{none_named}
 use Rattle.health_planning.proofs.seating.seat_zone.Goals as goal

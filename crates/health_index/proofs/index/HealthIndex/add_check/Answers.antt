@@ -1,9 +1,7 @@
-use Rattle.std.proofs.Common.{◌≡◌, ◌++◌, ◌∷◌, [], ℕ, Some, length, arith, refl, ap, sym, ◌∙◌}
+use Rattle.std.proofs.Common.{◌≡◌, ◌++◌, ◌∷◌, [], Some, length, arith, refl, ap, sym, ◌∙◌}
 use Rattle.std.specs.Prelude.{slice_get}
 use Rattle.std.proofs.lemmas.Option.{slice_get_read}
 use mathlib.Core.Path.{subst}
-use Rattle.health_valves.specs.Valves.{ValvesStandFor, with_own}
-use Rattle.health_valves.specs.Pass.{MeetAll}
 use Rattle.health_index.proofs.Reporting.{alone_in_all}
 use Rattle.health_index.proofs.Reshaped.{followed_with, intact_with}
 use Rattle.health_index.proofs.Ways.{came_at, index_with, more_way, whole_more}

@@ -1,7 +1,6 @@
 use Rattle.std.proofs.Common.{length, arith, refl, ap, sym}
 use Rattle.std.specs.List.{remove}
 use mathlib.Core.Path.{subst}
-use Rattle.checker_state.specs.Standing.{Seen}
 use Rattle.health_index.proofs.Fewer.{fewer_way, gone_alone, whole_fewer}
 use Rattle.health_index.proofs.Reporting.{alone_in_all}
 use Rattle.health_index.proofs.Reshaped.{followed_with, intact_with}

@@ -3,7 +3,7 @@ use Rattle.std.specs.Prelude.{slice_get}
 use mathlib.Core.Path.{subst}
 use Rattle.health_valves.specs.Valves.{ValvesStandFor, size_of}
 use Rattle.health_valves.specs.declared.valves.Valves.{Valves}
-use Rattle.health_index.specs.Index.{HasNode, Index, IsLaidFor, IsNumberBehind, IsNumberOf, IsOwnNumber}
+use Rattle.health_index.specs.Index.{HasNode, Index, IsLaidFor, IsNumberOf}
 use Rattle.health_planning.specs.Wired.{IsSpare}
 use Rattle.health_index.proofs.Evaluating.{still_idle, works_alone, works_out_of}
 use Rattle.health_index.proofs.Numbering.{past, there}

@@ -1,4 +1,4 @@
-use Rattle.std.proofs.Common.{◌≡◌, ◌∙◌, ◌-◌, ◌↔◌, ℕ, IsTrue, List, arith, refl, ap, sym, inl, inr, Some}
+use Rattle.std.proofs.Common.{◌≡◌, ◌∙◌, ◌-◌, ◌↔◌, ℕ, IsTrue, List, arith, refl, ap, inl, inr, Some}
 use Rattle.std.specs.Prelude.{slice_get}
 use mathlib.Core.Path.{subst}
 use Rattle.health_index.specs.Index.{HasNode, Index, TellsOfCheck}
