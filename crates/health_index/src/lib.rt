@@ -1,13 +1,14 @@
 //! The health of every check, set and group of a configuration, kept up to date report by report.
 //!
-//! A set that nothing decides has no valve: it is healthy, and nothing but its seat is written for it.
-//! Room for a valve is kept all the same, so that no command wants memory.
+//! A set that nothing decides has no valve: it is healthy, and nothing but its seat is written for it. A set
+//! that a check alone decides is as healthy as the check, whose valve its seat tells, but in a target group
+//! whose health counts. Room for a valve is kept all the same, so that no command wants memory.
 //!
 //! The valves are planned (`health_planning`), and then laid out. After a command this is done anew,
 //! in room that was made before (`reserving`), but where no valve changes by the sets that went and
-//! came (`valve_leaving`): then all stays as it is. And where all checks are of endpoints, and keep their
-//! numbers, or one comes or goes (`following`): then the valves of checks change in place, and each other
-//! check keeps its own (`valve_numbers`); where all is laid out anew it may get another.
+//! came (`valve_leaving`): then all stays as it is, or their seats alone change. And where all checks are of
+//! endpoints, and keep their numbers, or one comes or goes (`following`): then the valves of checks change in
+//! place. Each other check keeps its valve (`valve_numbers`), also where all is laid out anew.
 #![tactic(auto)]
 
 mod finding;

@@ -1,11 +1,12 @@
 //! How the valves of checks, sets and target groups are planned, and what feeds each of them.
 //!
-//! A set that nothing decides has no valve: it is healthy, and nothing but its seat is written for it.
-//! Room for a valve is kept all the same, so that no command wants memory.
+//! A set that nothing decides has no valve: it is healthy, and nothing but its seat is written for it. Nor
+//! has one that a check alone decides, but in a target group whose health counts: its seat tells the valve of
+//! that check (`seating`). Room for a valve is kept all the same, so that no command wants memory.
 //!
-//! The valves of checks and what feeds them come first (`building`), then those of sets (`listing`)
-//! and of target groups (`grouping`), and then what feeds the valves of sets (`joining`). All of it is
-//! made in room that was made before.
+//! The valves of checks and what feeds them come first (`building`), then those of evaluated aliases and of
+//! the sets of their target groups (`listing`) and of these groups (`grouping`), and then what feeds the valves
+//! of sets (`joining`). All of it is made in room that was made before.
 #![tactic(auto)]
 
 mod building;
