@@ -6,7 +6,7 @@ use mathlib.Core.Path.{subst}
 use Rattle.check_model.specs.Checks.{Checks}
 use Rattle.check_model.specs.declared.checks.Check.{Check}
 use Rattle.health_index.proofs.Alone.{HasOwn, HasTold, early_in, own_or_told}
-use Rattle.health_index.specs.Following.{KeepValves}
+use Rattle.health_index.specs.Following.{HaveTheirValves}
 use Rattle.health_index.specs.Index.{Index, StandsFor}
 use Rattle.health_index.specs.Leaving.{Moves}
 use Rattle.health_model.specs.Sound.{IsSound}
@@ -85,7 +85,7 @@ module _ (before after : List Zone) (old new : Checks) (reports : List Report) (
     (stands : StandsFor before old reports index) (sound : IsSound (watched_of after new))
     (gone came : List SetRef) (moves : Moves before after gone came) (numbers : List ℕ)
     (seats : List Seat) (whole : Bool)
-    (kept : whole ≡ false → KeepValves index.ids index.numbers (ids_of new.list) numbers)
+    (kept : whole ≡ false → HaveTheirValves index.ids index.numbers (ids_of new.list) numbers)
     (anew : AreSeatedAnew after (ids_of new.list) numbers whole index.refs gone came index.seats seats) where
   seat_was : (zone : ℕ) (p : Slotted) → IsHere (placed_in before zone) p
       → HasOwn before (ids_of old.list) index.numbers index.seats stands.net stands.own zone p
@@ -179,11 +179,11 @@ anew_for zones list ids numbers numbers_now whole refs refs_now gone came before
     (subst (λ (l : List SetRef). AreSeatedAnew zones ids numbers whole l gone came before after) refs_are is))
 
 pub kept_for : (ids ids_now numbers : List ℕ) (list list_now : List (ℕ × Check)) (numbers_now : List ℕ)
-    → ids ≡ ids_now → list ≡ list_now → KeepValves ids numbers (ids_of list) numbers_now
-    → KeepValves ids_now numbers (ids_of list_now) numbers_now
+    → ids ≡ ids_now → list ≡ list_now → HaveTheirValves ids numbers (ids_of list) numbers_now
+    → HaveTheirValves ids_now numbers (ids_of list_now) numbers_now
 kept_for ids ids_now numbers list list_now numbers_now ids_are list_is kept =
-    subst (λ (l : List ℕ). KeepValves l numbers (ids_of list_now) numbers_now) ids_are
-    (subst (λ (l : List (ℕ × Check)). KeepValves ids numbers (ids_of l) numbers_now) list_is kept)
+    subst (λ (l : List ℕ). HaveTheirValves l numbers (ids_of list_now) numbers_now) ids_are
+    (subst (λ (l : List (ℕ × Check)). HaveTheirValves ids numbers (ids_of l) numbers_now) list_is kept)
 
 -- where all sets are seated, each seat that tells something is that of a set
 pub taken_whole : (zones : List Zone) (ids numbers : List ℕ) (whole : Bool) (refs gone came : List SetRef)

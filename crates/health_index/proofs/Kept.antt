@@ -7,7 +7,7 @@ use Rattle.check_model.specs.declared.checks.Check.{Check}
 use Rattle.std.proofs.lemmas.Bool.{cases_lt}
 use Rattle.health_index.proofs.Reshaped.{same_ids}
 use Rattle.health_index.proofs.Valved.{removed_at, stood, stood_is}
-use Rattle.health_index.specs.Following.{AreFewer, AreMore, AreSame, HaveIds, KeepValves}
+use Rattle.health_index.specs.Following.{AreFewer, AreMore, AreSame, HaveIds, HaveTheirValves}
 use Rattle.health_planning.proofs.Built.{still_there}
 use Rattle.health_planning.proofs.MembersOfZoneList.{filled}
 use Rattle.health_planning.proofs.Numbers.{number_is}
@@ -42,13 +42,13 @@ module _ (ids numbers : List ℕ) (list : List (ℕ × Check)) (apart : StandApa
       let its = some_same (sym at ∙ same place held.0 within held.1) in
       id_there list place held.0.0 held.0.1 held.1 ∙ ap Some (sym its)
 
-  pub kept_same : AreSame ids list → KeepValves ids numbers (ids_of list) numbers
+  pub kept_same : AreSame ids list → HaveTheirValves ids numbers (ids_of list) numbers
   kept_same is place place_now id at at_now =
       at_places numbers place place id at
       (in_place place id is.1 (let long = is.0 in omega arith) at) refl
 
   pub kept_more : AreMore ids list → (valve : ℕ)
-      → KeepValves ids numbers (ids_of list) (numbers ++ valve ∷ [])
+      → HaveTheirValves ids numbers (ids_of list) (numbers ++ valve ∷ [])
   kept_more is valve place place_now id at at_now =
       let within = slice_get_within ids place id at in
       let many = valves.as_many in
@@ -58,7 +58,7 @@ module _ (ids numbers : List ℕ) (list : List (ℕ × Check)) (apart : StandApa
       (still_there numbers valve its.0 place its.1 ∙ sym its.1)
 
   pub kept_fewer : (gone : ℕ) → AreFewer ids gone list
-      → KeepValves ids numbers (ids_of list) (remove numbers gone)
+      → HaveTheirValves ids numbers (ids_of list) (remove numbers gone)
   kept_fewer gone is place place_now id at at_now =
       let held = held_there list place_now id at_now in
       at_places (remove numbers gone) (stood gone place_now) place_now id

@@ -60,8 +60,8 @@ IsWay ids list way.Other = (AreSame ids list → ⊥) × ((AreMore ids list → 
     × ((gone : ℕ) → AreFewer ids gone list → ⊥))
 
 -- Each check that was there, by its number, has the valve that it had.
-abbrev pub KeepValves : (ids numbers ids_now numbers_now : List ℕ) → Type 0
-KeepValves ids numbers ids_now numbers_now = (place place_now id : ℕ)
+abbrev pub HaveTheirValves : (ids numbers ids_now numbers_now : List ℕ) → Type 0
+HaveTheirValves ids numbers ids_now numbers_now = (place place_now id : ℕ)
     → slice_get ids place ≡ Some id → slice_get ids_now place_now ≡ Some id
     → valve_with ids_now numbers_now id ≡ valve_with ids numbers id
 

@@ -26,7 +26,8 @@ use Rattle.health_planning.specs.Wired.{AreMembers, HasSlot, HaveValves, IsGroup
 use Rattle.health_planning.specs.declared.seats.Seat.{Seat}
 
 -- For how many there is room: numbers of checks and what their checkers saw, now and before a
--- command; valves of checks; slots; sets with valves, and sets of groups with valves; valves, and links between them.
+-- command; valves of checks; slots; sets with valves of their own, and sets of groups with valves; valves,
+-- and links between them.
 pub record Space : Type 0 where
   pub ids : ℕ
   pub numbers : ℕ

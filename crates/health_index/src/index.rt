@@ -52,7 +52,7 @@ use std::sync::ledger::Ledger;
 pub struct HealthIndex {
     /// The numbers of the checks, which rise.
     ids: Vec<u32>,
-    /// Their valves. A check keeps its own where others come and go in place, until all are laid out anew.
+    /// Their valves. A check keeps its own while it is there, but where checks are others altogether.
     numbers: Vec<u32>,
     /// What the checkers of each endpoint saw.
     seen: Vec<Option<Checkers>>,
@@ -412,9 +412,10 @@ impl HealthIndex {
         reshape_checks(&mut self.valves, checks.as_slice(), &self.numbers);
     }
 
-    /// Lays everything out anew, with what the checkers saw. All sets are asked whether something
-    /// decides them, or those that had valves of their own and those that went and came. Checks keep their
-    /// valves then, and so each other set that a check alone decides keeps its seat. It takes no memory.
+    /// Lays everything out anew, with what the checkers saw. All sets are asked which check alone decides them
+    /// and whether they are evaluated aliases, or those that had valves of their own and those that went and
+    /// came. Checks keep their valves then, and so each other set that a check alone decides keeps its seat.
+    /// It takes no memory.
     fn lay(
         &mut self,
         zones: &Zones,

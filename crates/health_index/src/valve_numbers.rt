@@ -2,7 +2,7 @@
 
 ghost use Rattle.std.specs.Prelude.{◌≡◌, ◌≤◌, ◌<◌, ◌↔◌, [], ℕ, IsTrue, None, Some, false, length, slice_get, true};
 ghost use Rattle.std.specs.Prelude.{vec_capacity};
-ghost use Rattle.health_index.specs.Following.{KeepValves};
+ghost use Rattle.health_index.specs.Following.{HaveTheirValves};
 ghost use Rattle.health_planning.specs.Wired.{HaveValves, IsSpare, StandApart, ids_of};
 
 use crate::following::{Way, way_of};
@@ -32,7 +32,7 @@ pub fn keep_numbers(numbers: &mut Vec<u32>, ids: &[u32], list: &[(u32, Check)]) 
     requires room { 200 ≤ vec_capacity numbers.old }
     ensures valves { HaveValves (length list.now) numbers.new.items }
     ensures kept { result ≡ true
-        → KeepValves ids.now numbers.old.items (ids_of list.now) numbers.new.items }
+        → HaveTheirValves ids.now numbers.old.items (ids_of list.now) numbers.new.items }
     ensures room { vec_capacity numbers.new ≡ vec_capacity numbers.old }
 {
     match way_of(ids, list) {

@@ -281,8 +281,9 @@ SeatsCheck zones before after slot =
     TellsOn before after slot ⊎ (HoldsSet zones slot × (seat_of after slot ≡ 0))
 
 -- Seats by which the valves of sets and groups can be planned anew. The sets that are told as known or come
--- are seated by the checks that alone decide them; so are all sets, where all are asked. Of the
--- others each seat that told no valve of a set's own tells what it told, but where a set went.
+-- are seated by the checks that alone decide them; so are all sets, where all are asked. Each other
+-- seat that told the check which alone decides its set tells it still, and one that tells something is that
+-- of a set, or tells what it told where none went.
 pub record AreSeatedAnew (zones : List Zone) (ids numbers : List ℕ) (whole : Bool)
     (known gone came : List SetRef) (before after : List Seat) : Type 0 where
   pub all : whole ≡ true → (zone : ℕ) (p : Slotted) → IsHere (placed_in zones zone) p
@@ -344,8 +345,8 @@ JoinsSet zones ids numbers seats zone set valve before after = (feeders : List �
 
 -- ---- a blueprint that is done
 
--- The valves of all checks and spare ones, 200 in all, then of the sets that something decides, then of
--- target groups, each with what feeds it.
+-- The valves of all checks and spare ones, 200 in all, then of the listed sets, then of target groups, each
+-- with what feeds it.
 pub record IsBuilt (zones : List Zone) (list : List (ℕ × Check)) (numbers : List ℕ)
     (refs : List SetRef) (seats : List Seat) (triggers : List Trigger) (links : List Feeding)
     : Type 0 where

@@ -217,7 +217,8 @@ pub record IsSetValve (zones : List Zone) (ids numbers : List ℕ) (seats : List
   pub within : valve < net.size
   pub target : List ℕ
   pub its_target : IsTarget zones seats net own zone set.rtype set.body target
-  pub condition : net.condition valve ≡ set_condition (map (valve_with ids numbers) (option_to_list set.check) ++ target)
+  pub condition : net.condition valve
+      ≡ set_condition (map (valve_with ids numbers) (option_to_list set.check) ++ target)
   pub its_own : own valve ≡ 0
 
 -- A set that something decides has a valve of its own, or its seat tells that of the check that alone

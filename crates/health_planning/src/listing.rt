@@ -54,7 +54,8 @@ fn trigger_of(watch: Watch) -> Trigger
     }
 }
 
-/// Gives a set a valve, where something decides it and it has none.
+/// Gives a set a valve, where something decides it and it has none. One that has is not read, since many
+/// aliases may lead to it.
 fn list_one(
     zones: &Zones,
     set: SetRef,
@@ -84,15 +85,15 @@ fn list_one(
 {
     zones.well_formed();
     zones.slots_apart();
+    let slot = set.slot as usize;
+    let own = own_valve(seats[slot].set);
+    if own != 0 {
+        return;
+    }
     let Some(watch) = zones.watch(set) else {
         return;
     };
     if !is_watched(watch) {
-        return;
-    }
-    let slot = set.slot as usize;
-    let own = own_valve(seats[slot].set);
-    if own != 0 {
         return;
     }
     let valve = blueprint.len() as u32;

@@ -77,8 +77,8 @@ fn plan_all(
 }
 
 /// Plans the valves of a configuration, where none are planned, by what the checkers of its checks
-/// saw. All sets are asked whether something decides them, or the ones that are known and the ones
-/// that came. In the end the sets of the groups with valves stand in place of the known ones. It takes
+/// saw. All sets are asked whether they are evaluated aliases, or the ones that are known and the
+/// ones that came, and the sets of target groups whether something decides them. In the end the sets of the groups with valves stand in place of the known ones. It takes
 /// no memory.
 pub fn plan_valves(
     zones: &Zones,

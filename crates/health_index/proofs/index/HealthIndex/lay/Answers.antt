@@ -7,7 +7,7 @@ use Rattle.health_planning.specs.Building.{AreAsked, AreSeen}
 use Rattle.health_planning.specs.Later.{EachIsLater, Knows}
 use Rattle.health_planning.specs.SetRefRecord.{SetRef}
 use Rattle.health_index.specs.Index.{Index, StandsFor}
-use Rattle.health_index.specs.Following.{KeepValves}
+use Rattle.health_index.specs.Following.{HaveTheirValves}
 use Rattle.health_index.proofs.Again.{anew_for, asked, kept_for, taken, taken_all, taken_whole, tell_all, tells}
 use Rattle.health_planning.proofs.Built.{checks_there}
 use Rattle.health_index.specs.Room.{HasRoom}
@@ -182,7 +182,7 @@ returns-clause-stands c before old reports is follows moves =
     let anew = anew_for zones checks.list c.deref-6.result.now c.deref-7.result.now numbers all c.deref-4.result.now c.self.inside.refs.items c.args.gone.now c.args.came.now
     c.self.inside.seats.items seated (c.deref-6.ensures.value ∙ ids) c.deref-7.ensures.value c.deref-4.ensures.value c.seat_anew.ensures.anew in
     let first_ids = c.deref.ensures.value ∙ ap (λ v. v.items) c.swap.ensures.y_after in
-    let kept : all ≡ false → KeepValves c.self.inside.ids.items c.self.inside.numbers.items (ids_of checks.list) numbers =
+    let kept : all ≡ false → HaveTheirValves c.self.inside.ids.items c.self.inside.numbers.items (ids_of checks.list) numbers =
     λ off. kept_for c.deref.result.now c.self.inside.ids.items c.self.inside.numbers.items c.as_slice-list.result.now checks.list numbers first_ids list
     (c.keep_numbers-kept.ensures.kept (c.asks_all-all.ensures.kept off)) in
     let listed = c.plan_valves.ensures.all (subst (λ (l : List SetRef). AreAsked zones all l c.args.came.now) refs_before
