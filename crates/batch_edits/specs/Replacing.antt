@@ -9,7 +9,7 @@ use Rattle.change_batch.specs.ActionRecord.TheVariants.{Upsert}
 use Rattle.change_batch.specs.ChangeRecord.{Change}
 use Rattle.batch_edits.specs.declared.editing.Edit.{Edit}
 
--- A policy as the rules for groups and names see it: each weight is one to them.
+-- A policy as the rules for groups and names see it: all weights are alike to them.
 abbrev pub seen : Routing → Routing
 seen routing.Simple = routing.Simple
 seen (routing.Weighted ident weight) = routing.Weighted ident 0

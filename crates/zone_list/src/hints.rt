@@ -92,7 +92,7 @@ impl Hints {
     /// Tells that a set came to a place, and how many stand behind it now. Its name is entered,
     /// unless the table has to be made anew.
     pub fn came(&mut self, name: &[u8], place: usize, behind: usize) {
-        if self.came == 0 {
+        if behind > 0 && self.came == 0 {
             self.shifts = Shifts::new(place.saturating_add(behind));
         }
         let then = self.shifts.then(place);

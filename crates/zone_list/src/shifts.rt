@@ -55,7 +55,8 @@ fn part_of(place: usize, bits: u32) -> usize
     place.wrapping_shr(bits).min(PARTS - 1)
 }
 
-/// How large parts are of so many places: half of all parts or more are used.
+/// How large parts are of so many places, as a power of two: from 32 places on half of all parts or
+/// more are used.
 fn bits_for(places: usize) -> u32 {
     for bits in 0..31u32 {
         if places >> bits < PARTS {
