@@ -1,15 +1,17 @@
 -- Names in lower case, told from their octets.
-use Rattle.std.proofs.Common.{◌≡◌, ℕ, ◌<◌, inl, inr, List, [], ◌∷◌, ◌++◌, length, map, take, get_or, arith, ap, ◌∙◌, sym, refl, subst}
+use Rattle.std.proofs.Common.{◌≡◌, ℕ, ◌<◌, inl, inr, List, [], ◌∷◌, ◌++◌, length, map, take, drop, get_or, arith, ap, ◌∙◌, sym, refl, subst}
 use Rattle.std.specs.List.{AllByRecursion}
 use Rattle.std.specs.Char.{to_ascii_lowercase}
 use Rattle.std.proofs.lemmas.Bool.{cases_lt}
 use Rattle.std.proofs.lemmas.List.{get_or-take, get_or_past, length-take}
+use Rattle.std.proofs.Math.ListN.{replicate}
 use Rattle.std.proofs.Math.Seq.{take-append_seam}
 use Rattle.dns_name.specs.Labels.{wire, lowered, IsRawLabel, IsRawName}
 use Rattle.dns_name.specs.Names.{IsName}
-use Rattle.dns_name.specs.Stored.{labels_of, IsLowerLabel}
-use Rattle.dns_name.proofs.Labels.{map-wire, raw_lowered, lower_each}
-use Rattle.dns_name.proofs.Steps.{labels_back, is_wire, lowered_same}
+use Rattle.dns_name.specs.Stored.{labels_of, IsLowerLabel, IsStored}
+use Rattle.dns_name.specs.Whole.{IsWire}
+use Rattle.dns_name.proofs.Labels.{map-wire, raw_lowered, lower_each, stored_lower}
+use Rattle.dns_name.proofs.Steps.{labels_back, is_wire, lowered_same, raw_name}
 use Rattle.dns_name.proofs.Texts.{name_of_octets}
 
 -- octets of which each is in lower case
@@ -69,3 +71,16 @@ lower_front octets piece rest n labels p name e size =
     ap (λ k. take k octets) (sym size) ∙ ap (take (length (wire labels))) e
     ∙ take-append_seam (wire labels) rest in
     subst AreLower (sym (p ∙ front)) (lower_wire labels name)
+
+-- an array to whose front the octets of a name were copied
+pub stored_copy : (array octets : List ℕ) → IsWire octets
+    → array ≡ octets ++ drop (length octets) (replicate 255 0)
+    → IsStored array (length octets) × (labels_of array ≡ labels_of octets)
+stored_copy array octets w a =
+    let raw = raw_name octets w in
+    let lower : map to_ascii_lowercase octets ≡ octets =
+    ap (map to_ascii_lowercase) w.spelled ∙ map-wire (labels_of octets) w.each
+    ∙ ap wire (lowered_same (labels_of octets) w.lower) ∙ sym w.spelled in
+    let s = stored_lower array octets (labels_of octets) raw w.spelled
+    (a ∙ ap (λ t. t ++ drop (length octets) (replicate 255 0)) (sym lower)) in
+    (s.0, s.1 ∙ lowered_same (labels_of octets) w.lower)

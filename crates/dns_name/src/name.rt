@@ -209,7 +209,12 @@ impl Name {
         requires { IsWire octets.now }
         ensures { result ≡ labels_of octets.now }
     {
-        Name::stored(octets)
+        let mut bytes = [0; 255];
+        fill_front(&mut bytes, octets);
+        Name {
+            bytes,
+            len: octets.len() as u8,
+        }
     }
 
     /// The name that these bytes spell.

@@ -1,10 +1,8 @@
-use Rattle.std.proofs.Common.{◌∙◌}
-use Rattle.dns_name.proofs.Steps.{raw_name, lowered_same}
+use Rattle.dns_name.proofs.Lower.{stored_copy}
 use Rattle.dns_name.proofs.name.Name.of_octets.Goals as goal
 
-pub stored-requires : goal.stored-requires
-stored-requires c = (_, raw_name _ c.requires, c.requires.spelled)
+pub invariant_of-result : goal.invariant_of-result
+invariant_of-result c = (stored_copy _ _ c.requires c.fill_front.ensures).0
 
 pub returns : goal.returns
-returns c = c.stored.ensures _ (raw_name _ c.requires) c.requires.spelled
-    ∙ lowered_same _ c.requires.lower
+returns c = (stored_copy _ _ c.requires c.fill_front.ensures).1
