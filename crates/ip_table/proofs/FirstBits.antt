@@ -185,3 +185,17 @@ masked a d m is =
     ∙ ap (λ x. cond (not (nat_eq x 0)) 1 0) (and_pow (number_of a) k)
     ∙ flag (bit_at (number_of a) k) (2 ^ k) (bit_at-lt (number_of a) k) (pow_pos k)
     ∙ ap (λ j. number_of a / 2 ^ j % 2) place
+
+-- the bit behind the first ones, read in the first half of the number
+pub bit_of_half : (a : IpAddress) (d : ℕ) → d < 64
+    → number_of a / 2 ^ 64 / 2 ^ (63 - d) % 2 ≡ bit_behind d a
+bit_of_half a d low =
+    let place : 64 + (63 - d) ≡ 128 - (d + 1) = omega (arith, low) in
+    ap (λ x. x % 2) (shr-shr (number_of a) 64 (63 - d) ∙ ap (λ j. number_of a / 2 ^ j) place)
+
+-- the 32 bits behind the first ones, read in the first half of the number
+pub window_of_half : (a : IpAddress) (d : ℕ) → d ≤ 32
+    → number_of a / 2 ^ 64 / 2 ^ (32 - d) % 2 ^ 32 ≡ window d a
+window_of_half a d low =
+    let place : 64 + (32 - d) ≡ 96 - d = omega (arith, low) in
+    ap (λ x. x % 2 ^ 32) (shr-shr (number_of a) 64 (32 - d) ∙ ap (λ j. number_of a / 2 ^ j) place)

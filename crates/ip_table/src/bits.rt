@@ -1,6 +1,6 @@
 //! The bits of an address as a number, and windows of them.
 
-ghost use Rattle.std.specs.Prelude.{◌≡◌, ◌+◌, ◌-◌, ◌^◌, ◌/◌, ◌≤◌, ◌↔◌, ℕ, cond};
+ghost use Rattle.std.specs.Prelude.{◌≡◌, ◌+◌, ◌-◌, ◌^◌, ◌/◌, ◌%◌, ◌<◌, ◌≤◌, ◌↔◌, ℕ, cond};
 ghost use Rattle.address_text.specs.declared.address.IpAddress.{IpAddress};
 ghost use Rattle.ip_table.specs.Bits.{width_of, number_of, first_bits};
 ghost use Rattle.ip_table.specs.Trees.{bit_behind, window};
@@ -55,19 +55,54 @@ pub(crate) fn bit_of(depth: u8, number: u128) -> u8
 
 /// Whether the bit behind the first ones is set, of the number that an address's bits spell.
 ///
-/// Walks that have to be fast take this form, which compiles to no branch.
+/// Walks that have to be fast take this form, which chooses by no branch, and moves half the number
+/// where that is enough.
+#[inline(always)]
 pub(crate) fn has_bit(depth: u8, number: u128) -> bool
     ensures { (a : IpAddress) → number ≡ number_of a → cond result 1 0 ≡ bit_behind depth a }
 {
+    if depth < 64 {
+        return has_bit_of_half(depth, first_half(number));
+    }
     number & (TOP >> depth.min(127)) != 0
 }
 
+/// The first 64 of 128 bits.
+#[inline(always)]
+fn first_half(number: u128) -> u64
+    ensures { result ≡ number / 2 ^ 64 }
+{
+    (number >> 64) as u64
+}
+
+/// Whether the bit behind the first ones is set, of 64 bits.
+#[inline(always)]
+fn has_bit_of_half(depth: u8, half: u64) -> bool
+    requires { depth < 64 }
+    ensures { cond result 1 0 ≡ half / 2 ^ (63 - depth) % 2 }
+{
+    half >> (63 - depth) & 1 == 1
+}
+
 /// The 32 bits behind the first ones, of the number that an address's bits spell.
+#[inline(always)]
 pub(crate) fn window_of(depth: u8, number: u128) -> u32
     requires { depth ≤ 96 }
     ensures { (a : IpAddress) → number ≡ number_of a → result ≡ window depth a }
 {
+    if depth <= 32 {
+        return window_of_half(depth, first_half(number));
+    }
     (number >> (96 - depth) & 0xffff_ffff) as u32
+}
+
+/// The 32 bits behind the first ones, of 64 bits.
+#[inline(always)]
+fn window_of_half(depth: u8, half: u64) -> u32
+    requires { depth ≤ 32 }
+    ensures { result ≡ half / 2 ^ (32 - depth) % 2 ^ 32 }
+{
+    (half >> (32 - depth) & 0xffff_ffff) as u32
 }
 
 /// How many first bits two addresses have in common that differ in the 32 bits behind the first
