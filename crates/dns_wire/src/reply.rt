@@ -255,6 +255,9 @@ impl Reply {
         requires { length self.old.bytes + length opt.now ≤ self.old.room }
         ensures { self.new ≡ closed opt.now self.old }
     {
+        if opt.is_empty() {
+            return;
+        }
         self.len = append(&mut self.buffer, self.len, opt);
     }
 
