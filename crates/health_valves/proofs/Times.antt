@@ -1,10 +1,12 @@
 -- Counting how often a number stands in a list.
 use Rattle.std.proofs.Common.{◌≡◌, ◌≢◌, ◌<◌, ◌≤◌, ◌+◌, ℕ, suc, Bool, true, false, List, [], ◌∷◌, length, get_or, set, drop, drop-cons, add-one, get_or-set_same, get_or-set_other, arith, refl, ap, sym, ◌∙◌, inl, inr}
-use Rattle.std.specs.Prelude.{if◌then◌else◌, ◌==◌}
-use Rattle.std.proofs.lemmas.Bool.{cases_eq, eq-eqb, ne_eqb}
+use Rattle.std.specs.Prelude.{if◌then◌else◌, ◌==◌, ◌||◌}
+use Rattle.std.proofs.lemmas.Bool.{cases_eq, eq-eqb, eqb-true, ne_eqb}
+use Rattle.std.proofs.lemmas.Map.Views.{Contains-from_any}
 use Rattle.std.proofs.Math.ListN.{drop_of_length-le}
 use Rattle.health_valves.specs.Valves.{count}
-use Rattle.std.specs.List.{Contains}
+use Rattle.std.specs.List.{Contains, list_any}
+use Rattle.std.specs.Prelude.{nat_eq}
 use Rattle.health_valves.proofs.Members.{in_tail, in_none, in_cases}
 use Rattle.health_valves.specs.Valves.{times}
 
@@ -82,3 +84,17 @@ in_times x (y ∷ ys) w = elim (in_cases y x ys w) [
     more : (b : Bool) (n : ℕ) → 0 < n → 0 < (if b then n + 1 else n)
     more true n h = omega arith
     more false n h = h
+
+pub any_in : (x : ℕ) (xs : List ℕ) → list_any (λ y. nat_eq y x) xs ≡ true → Contains xs x
+any_in x xs some = Contains-from_any {eq = λ q y. nat_eq y q} (λ a b e. sym (eqb-true b a e)) x xs some
+
+pub in_any : (x : ℕ) (xs : List ℕ) → Contains xs x → list_any (λ y. nat_eq y x) xs ≡ true
+in_any x [] w = absurd (in_none x w)
+in_any x (y ∷ ys) w = elim (in_cases y x ys w) [
+  | inl e ↦ rw (eq-eqb y x e) refl
+  | inr i ↦ later (nat_eq y x) _ (in_any x ys i)
+]
+  where
+    later : (b r : Bool) → r ≡ true → (b || r) ≡ true
+    later true r e = refl
+    later false r e = e

@@ -300,6 +300,28 @@ impl Valves {
         self.counts[valve]
     }
 
+    /// How many of those that feed a valve have to be open.
+    pub fn need(&self, valve: usize) -> u32
+        requires valve { valve < size_of self.now }
+        ensures { (net : Net) (own : ℕ → ℕ) → ValvesStandFor net own self.now
+            → result ≡ (net.condition valve).need }
+    {
+        self.rows[valve].need
+    }
+
+    /// Whether a valve feeds another.
+    pub fn feeds(&self, feeder: usize, valve: u32) -> bool
+        requires ready { IsReady self.now }
+        requires valve { valve < size_of self.now }
+        ensures { (net : Net) (own : ℕ → ℕ) → ValvesStandFor net own self.now
+            → IsTrue result ↔ Feeds net feeder valve }
+    {
+        if feeder >= self.rows.len() {
+            return false;
+        }
+        fed_by(&self.edges, self.rows[feeder]).contains(&valve)
+    }
+
     /// How many valves there are.
     pub fn len(&self) -> usize
         ensures { result ≡ size_of self.now }
