@@ -9,6 +9,7 @@ ghost use Rattle.zone_changes.specs.Orders.{IsOrder};
 
 use crate::apexes::NamedZone;
 use crate::shifts::Shifts;
+use octets::{behind, front, put_at};
 use zone_changes::{SetSlots, hash_of};
 
 /// An entry that tells nothing.
@@ -65,6 +66,28 @@ impl Hints {
             }
         }
         None
+    }
+
+    /// The place that is told of the name above this one, or of the wildcard below that: mostly this
+    /// one would stand right behind. Nothing is told of names right below one of so many octets, as
+    /// the apex has: the sets of a whole zone would be between.
+    #[inline(never)]
+    pub fn find_above(&self, name: &[u8], apex: usize) -> Option<usize> {
+        let above = above(name);
+        if above.len() <= apex {
+            return None;
+        }
+        if let Some(place) = self.find(above) {
+            return Some(place);
+        }
+        let mut wildcard = [0; 255];
+        wildcard[0] = 1;
+        wildcard[1] = b'*';
+        if above.len() > 253 {
+            return None;
+        }
+        put_at(&mut wildcard, 2, above);
+        self.find(front(&wildcard, 2 + above.len()))
     }
 
     /// Makes the table larger where so many places would leave less than a fifth of it free: by three
@@ -150,6 +173,20 @@ impl Hints {
             fill_names(&mut self.entries, list);
             self.moved = 0;
         }
+    }
+}
+
+/// The octets behind the first label, where there are as many.
+fn above(name: &[u8]) -> &[u8] {
+    match name {
+        [size, ..] => {
+            let first = *size as usize + 1;
+            if first > name.len() {
+                return name;
+            }
+            behind(name, first)
+        }
+        [] => name,
     }
 }
 

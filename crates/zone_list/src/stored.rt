@@ -96,6 +96,13 @@ impl StoredZone {
         self.hints.find(name.octets())
     }
 
+    /// A place near which the sets of a name may stand that has no hint of its own, by that of the
+    /// name above it.
+    pub fn hint_above(&self, name: &Name) -> Option<usize> {
+        self.hints
+            .find_above(name.octets(), self.apex.octets().len())
+    }
+
     /// Makes room for so many more sets. Room that was there stays, also where memory runs out.
     pub fn reserve(&mut self, more: usize) -> Result<(), OutOfMemory>
         ensures id { self.new.id ≡ self.old.id }

@@ -198,6 +198,27 @@ pub fn hint_of(list: &[StoredZone], zone: u32, name: &Name) -> Option<usize>
     }
 }
 
+/// A hint, or where there is none one by the name above.
+pub fn hint_or(list: &[StoredZone], zone: u32, name: &Name, hint: Option<usize>) -> Option<usize>
+    requires { AreListed (named_of list.now) }
+{
+    match hint {
+        Some(place) => Some(place),
+        None => hint_above(list, zone, name),
+    }
+}
+
+/// A place near which the sets of a name may stand that has no hint of its own, which may be wrong.
+#[inline(never)]
+fn hint_above(list: &[StoredZone], zone: u32, name: &Name) -> Option<usize>
+    requires { AreListed (named_of list.now) }
+{
+    match find_zone(list, zone) {
+        Some(place) => list[place].hint_above(name),
+        None => None,
+    }
+}
+
 /// How many octets the sets of a zone have, and how many of them are aliases.
 pub fn sums_in(store: &SetSlots, list: &[StoredZone], zone: u32) -> Sums
     requires { AreIntact store.now.slots list.now }

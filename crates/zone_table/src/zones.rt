@@ -22,8 +22,9 @@ ghost use Rattle.zone_list.specs.Stops.{bound_of as told};
 
 use crate::edits::{Ready, ZoneEdit};
 use crate::looking::{
-    apex_of, copies, has_name, hint_of, load, may_have_cuts, order_of, policy, policy_front,
-    slot_at, slot_behind, slot_in, slots_of, sums_in, target, view_near, watch, zone_sets,
+    apex_of, copies, has_name, hint_of, hint_or, load, may_have_cuts, order_of, policy,
+    policy_front, slot_at, slot_behind, slot_in, slots_of, sums_in, target, view_near, watch,
+    zone_sets,
 };
 use crate::making::{make, note_name, settle, settle_all};
 use crate::needs::{need_of, reserve_for, reserve_name};
@@ -285,8 +286,9 @@ impl Zones {
         ensures { IsGroup self.now.zones zone name.now rtype result }
     {
         match view_near(&self.store, &self.list, zone, name) {
-            Some((sets, hint)) => {
-                let (start, length) = group_in(&sets, name, rtype, hint.or(near));
+            Some((sets, told)) => {
+                let hint = hint_or(&self.list, zone, name, told.or(near));
+                let (start, length) = group_in(&sets, name, rtype, hint);
                 Group {
                     zone,
                     start,
