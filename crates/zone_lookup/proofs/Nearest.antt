@@ -1,5 +1,5 @@
 -- The longest name at or above a name that exists.
-use Rattle.std.proofs.Common.{◌≡◌, ◌≢◌, ◌<◌, ◌≤◌, ℕ, Bool, true, false, List, [], ◌∷◌, ◌++◌}
+use Rattle.std.proofs.Common.{◌≡◌, ◌≢◌, ◌<◌, ◌≤◌, ◌+◌, ℕ, Bool, true, false, List, [], ◌∷◌, ◌++◌}
 use Rattle.std.proofs.Common.{Option, Some, None, length, refl, sym, ap, ◌∙◌, subst, arith, inl, inr}
 use Rattle.std.proofs.lemmas.List.{length-append}
 use Rattle.std.specs.Prelude.{IsTrue, ◌↔◌, ◌&&◌, ◌==◌, cond, slice_get}
@@ -69,6 +69,24 @@ nearest_itself sets name exists = record {
   exists = exists;
   longest = λ other ends there. no_longer name other ends;
 }
+
+-- the parent of a name that doesn't exist, where that does
+pub nearest_parent : (sets : List RecordSet) (name parent : List (List ℕ)) → EndsWith name parent
+    → length name ≡ length parent + 1 → Exists sets parent → (Exists sets name → ⊥)
+    → IsNearest sets name parent
+nearest_parent sets name parent above one exists missing = record {
+  above = above;
+  exists = exists;
+  longest = λ other ends there. by other there ends.0 ends.1;
+}
+  where
+    by : (other : List (List ℕ)) → Exists sets other → (first : List (List ℕ))
+        → name ≡ first ++ other → length other ≤ length parent
+    by other there [] is = absurd (missing (subst (Exists sets) (sym is) there))
+    by other there (label ∷ first) is =
+        let long = ap (λ (n : List (List ℕ)). length n) is in
+        let parts = length-append first other in
+        omega (arith, long, parts, one)
 
 -- ---- no zone cut between the two
 

@@ -3,7 +3,7 @@
 //! The sets of all names below a name stand together. So the two sets between which a name stands in
 //! zone order tell whether it exists, and which of its ancestors do, without a search for each.
 
-ghost use Rattle.std.specs.Prelude.{◌≡◌, ◌≢◌, [], ℕ, IsTrue, ◌↔◌, List};
+ghost use Rattle.std.specs.Prelude.{◌≡◌, ◌≢◌, ◌+◌, [], ℕ, IsTrue, ◌↔◌, List, length};
 ghost use Rattle.dns_name.specs.Suffix.{EndsWith};
 ghost use Rattle.policy_select.specs.Groups.{sets_in_zone};
 ghost use Rattle.policy_select.specs.RecordSetRecord.{RecordSet};
@@ -156,12 +156,28 @@ pub(crate) fn nearest_of(
     ensures inside { EndsWith result apex.now }
 {
     zones.well_formed();
+    // Most names that exist have a set, which isn't held for that.
+    if zones.has_name(zone, place, name) {
+        return *name;
+    }
     let behind = name_at(zones, zone, place, scratch);
     if is_under(&behind, name) {
         return *name;
     }
+    // Most names are right below the apex, which exists.
+    if is_child(name, apex) {
+        return *apex;
+    }
     let before = name_before(zones, zone, place, scratch);
     nearest_beside(name, &before, &behind)
+}
+
+/// Whether a name has one label more than another above it.
+fn is_child(name: &Name, other: &Name) -> bool
+    requires { EndsWith name.now other.now }
+    ensures { IsTrue result ↔ (length name.now ≡ length other.now + 1) }
+{
+    name.labels() - other.labels() == 1
 }
 
 /// The name of the set at a place of a zone, where it has as many.
