@@ -43,6 +43,7 @@ module _ (views : ViewsAgree) (zones : List Zone) (checks : Checks) (reports : L
     numbers = laid.numbers;
     seen = laid.seen;
     as_many = laid.as_many;
+    kin = laid.kin;
     listed = laid.listed;
     net = laid.net;
     own = laid.own;

@@ -1,28 +1,28 @@
--- What an index that stood for some checks is to checks of endpoints, after one of them went.
+-- What an index that stood for some checks is to checks with the same kin, after one of an endpoint went.
 use Rattle.std.proofs.Common.{◌≡◌, ◌≤◌, ◌<◌, ◌+◌, ℕ, false, List, [], length, arith, refl, ap, sym, ◌∙◌, inl, inr, Some, None}
 use Rattle.std.specs.List.{remove}
 use Rattle.std.specs.Prelude.{◌⊎◌, Option, slice_get, slice_index}
 use Rattle.std.proofs.lemmas.Bool.{cases_eq, cases_lt}
 use Rattle.std.proofs.lemmas.List.Edits.{length-remove}
-use Rattle.std.proofs.lemmas.Option.{slice_get_within}
 use mathlib.Core.Path.{subst}
-use Rattle.check_model.specs.Checks.{Checks}
+use Rattle.check_model.specs.Checks.{AreChildren, Checks, children_of}
 use Rattle.check_model.specs.Checks.{IsSound as AreSoundChecks}
 use Rattle.check_model.specs.declared.checks.Check.{Check}
 use Rattle.checker_state.specs.Standing.{Seen}
 use Rattle.health_index.proofs.Behind.{node_now, seated_now}
 use Rattle.health_index.proofs.Knowing.{still_reports}
-use Rattle.health_index.proofs.Reshaped.{same_ids}
+use Rattle.health_index.proofs.Reshaped.{feeders_as, same_ids}
 use Rattle.health_index.proofs.Valved.{fewer_valves, removed_before, removed_at, removed_behind, spare_before, stood, stood_is}
-use Rattle.health_index.proofs.Ways.{its_alone, its_own, its_seen, nodes}
-use Rattle.health_index.specs.Following.{AreEndpoints, AreFewer, HasCheckers, IsFollowed}
+use Rattle.health_index.proofs.Ways.{its_feeders, its_own, its_seen, nodes}
+use Rattle.health_index.specs.Following.{AreFewer, HasCheckers, IsFollowed}
 use Rattle.health_index.specs.Index.{Index, IsIntact, Space, StandsFor}
+use Rattle.health_index.specs.Kin.{kin_of}
 use Rattle.health_model.specs.Sound.{IsSound}
 use Rattle.health_model.specs.Statuses.{Report}
 use Rattle.health_planning.proofs.Built.{checks_there}
 use Rattle.health_planning.proofs.MembersOfZoneList.{filled}
 use Rattle.health_planning.proofs.Numbers.{ids_valves, number_is, valve_there}
-use Rattle.health_planning.proofs.Places.{held_there, ids_apart, only_place}
+use Rattle.health_planning.proofs.Places.{held_there, ids_apart, of_all, only_place}
 use Rattle.health_planning.proofs.Wiring.{ids_long}
 use Rattle.health_planning.specs.Later.{AreLater}
 use Rattle.health_planning.specs.Wired.{HaveValves, IsSpare, StandApart, ids_of, spare_condition, valve_with, watched_of}
@@ -115,7 +115,7 @@ whole_fewer index w new are_new gone valve fewer numbered alone valves fits idle
 
 module _ (zones : List Zone) (old new : Checks) (reports : List Report) (index : Index)
     (stands : StandsFor zones old reports index) (are_new : AreSoundChecks new)
-    (endpoints : AreEndpoints new.list) (later : AreLater old new) (sound : IsSound (watched_of zones new))
+    (kin : index.kin ≡ kin_of new.list) (later : AreLater old new) (sound : IsSound (watched_of zones new))
     (gone valve : ℕ) (fewer : AreFewer index.ids gone new.list)
     (numbered : slice_get index.numbers gone ≡ Some valve)
     (alone : (stands.net.condition valve).feeders ≡ []) (valves : Valves)
@@ -157,18 +157,24 @@ module _ (zones : List Zone) (old new : Checks) (reports : List Report) (index :
       by m (inl early) = ap (slice_get index.ids) early.0 ∙ fewer.1.1.0 place (id, check) early.1 at
       by m (inr past) = ap (slice_get index.ids) past.0 ∙ fewer.1.1.1 place (id, check) past.1 at
 
+  -- each check that stays has the valve that it had
+  stays : (place named : ℕ) → slice_get (ids_of new.list) place ≡ Some named
+      → valve_with (ids_of new.list) left named ≡ valve_with (ids_of old.list) index.numbers named
+  stays place named at =
+      let held = held_there new.list place named at in
+      let m = stood gone place in
+      let was = subst (λ (l : List ℕ). slice_get l m ≡ Some named) stands.ids (ids_before place named held.0 held.1) in
+      let here = valve_there (ids_of old.list) index.numbers (ids_valves old.list index.numbers stands.numbers) m named was in
+      let old_place = only_place (ids_of old.list) (ids_apart old.list stands.are_checks.rising) m named was in
+      ap (slice_index left) (only_place (ids_of new.list) (ids_apart new.list are_new.rising) place named at)
+      ∙ number_is left place (valve_with (ids_of old.list) index.numbers named)
+      (removed_at index.numbers gone place ∙ ap (slice_get index.numbers) (sym old_place) ∙ here)
+
   placed : (zone : ℕ) (q : Slotted) (named : ℕ) → IsHere (placed_in zones zone) q → q.set.check ≡ Some named
       → valve_with (ids_of new.list) left named ≡ valve_with (ids_of old.list) index.numbers named
   placed zone q named in_zone is =
       let k = checks_there zones new sound (record { zone = zone; slot = q.slot }) q.set named in_zone is in
-      let held = held_there new.list k.0 named k.1 in
-      let m = stood gone k.0 in
-      let was = subst (λ (l : List ℕ). slice_get l m ≡ Some named) stands.ids (ids_before k.0 named held.0 held.1) in
-      let here = valve_there (ids_of old.list) index.numbers (ids_valves old.list index.numbers stands.numbers) m named was in
-      let old_place = only_place (ids_of old.list) (ids_apart old.list stands.are_checks.rising) m named was in
-      ap (slice_index left) (only_place (ids_of new.list) (ids_apart new.list are_new.rising) k.0 named k.1)
-      ∙ number_is left k.0 (valve_with (ids_of old.list) index.numbers named)
-      (removed_at index.numbers gone k.0 ∙ ap (slice_get index.numbers) (sym old_place) ∙ here)
+      stays k.0 named k.1
 
   spares_now : (found : ℕ) → IsSpare left found → now.condition found ≡ spare_condition
   spares_now found is = elim (cases_eq valve found) [
@@ -196,9 +202,10 @@ module _ (zones : List Zone) (old new : Checks) (reports : List Report) (index :
         numbers = fewer_valves index.numbers gone (length new.list) before_all goes;
         seen = λ place id check its at saw.
             let m = stood gone place in
-            its_seen zones old new reports index stands are_new endpoints later m place id check its
+            its_seen zones old new reports index stands are_new kin later m place id check its
             (ids_before place id check at) at (sym (removed_at index.seen gone place) ∙ saw);
         as_many = omega arith;
+        kin = kin;
         listed = stands.listed;
         net = now;
         own = stands.own;
@@ -206,23 +213,22 @@ module _ (zones : List Zone) (old new : Checks) (reports : List Report) (index :
             condition_late (λ n late. refl) stands.wired.its_sets placed;
         nodes = node_now zones old.list new.list index.numbers left index.seats stands.net now stands.own stands.own refl
             condition_late (λ n late. refl) stands.wired.its_sets placed stands.numbers.early
-            (nodes zones old new reports index stands are_new endpoints later);
+            (nodes zones old new reports index stands are_new kin later);
         groups = λ slot found is. stands.wired.its_groups slot found (let e = is in omega arith);
         members = λ slot found is. stands.wired.its_members slot found (let e = is in omega arith);
         spares = spares_now;
         many = stands.wired.many;
-        alone = λ place found at.
-            let fewer_all = fewer_valves index.numbers gone (length new.list) before_all goes in
-            let many = fewer_all.as_many in
-            let within = slice_get_within left place found at in
-            let held = filled new.list place (omega arith) in
+        feeders = λ place found id check at at_number.
             let m = stood gone place in
+            let there = of_all (λ (h : ℕ × Check). AreChildren new.list (children_of h.1)) new.list place (id, check) are_new.children at in
             feeders_same valve 0 false stands.net found
-            ∙ its_alone zones old new reports index stands are_new endpoints later m found place held.0.0 held.0.1
-            (ids_before place held.0.0 held.0.1 held.1) (sym (removed_at index.numbers gone place) ∙ at) held.1;
+            ∙ its_feeders zones old new reports index stands are_new kin later m found place id check
+            (ids_before place id check at) (sym (removed_at index.numbers gone place) ∙ at_number) at
+            ∙ feeders_as new.list (valve_with (ids_of old.list) index.numbers) (valve_with (ids_of new.list) left) (children_of check)
+            there.there (λ k named at_k. sym (stays k named at_k));
         owns = λ place found id check at at_number.
             let m = stood gone place in
-            its_own zones old new reports index stands are_new endpoints later m found place id check
+            its_own zones old new reports index stands are_new kin later m found place id check
             (ids_before place id check at) (sym (removed_at index.numbers gone place) ∙ at_number) at;
         told = stands.told;
         fits = fits;

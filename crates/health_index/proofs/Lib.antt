@@ -4,11 +4,13 @@ pub mod Alone
 pub mod Bare
 pub mod Behind
 pub mod Beside
+pub mod Commanded
 pub mod Commanding
 pub mod Costing
 pub mod Evaluating
 pub mod Fewer
 pub mod Kept
+pub mod Kindred
 pub mod Keyed
 pub mod Knowing
 pub mod Moving

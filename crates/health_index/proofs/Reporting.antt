@@ -241,6 +241,7 @@ module _ (fifty : FiftyAlone) (more : OneMoreReport) (zones : List Zone) (checks
     numbers = stands.numbers;
     seen = seen_now;
     as_many = length-set index.seen place (Some now) ∙ stands.as_many;
+    kin = stands.kin;
     listed = stands.listed;
     net = stands.net;
     own = with_own valve given stands.own;

@@ -255,6 +255,7 @@ module _ (before after : List Zone) (checks : Checks) (reports : List Report) (i
     numbers = stands.numbers;
     seen = stands.seen;
     as_many = stands.as_many;
+    kin = stands.kin;
     listed = λ zone valve p here seat.
         listed_all before after stands.are_zones are_after removed added moves index.seats by_went by_came
         index.refs stands.listed zone valve p here (sym (own_same p.slot) ∙ seat);

@@ -31,6 +31,7 @@ module _ (before after : Index) (keeps : Keeps before after)
     numbers = subst (HaveValves (length checks.list)) (sym keeps.numbers) is.numbers;
     seen = rw keeps.seen is.seen;
     as_many = as_many is.as_many;
+    kin = keeps.kin ∙ is.kin;
     listed = subst (λ (refs : List SetRef). OwnListed zones refs after.seats) (sym keeps.refs)
         (subst (OwnListed zones before.refs) (sym keeps.seats) is.listed);
     net = is.net;

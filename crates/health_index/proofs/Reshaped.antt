@@ -1,11 +1,11 @@
--- An index whose checks are of endpoints and keep their numbers, after they got other conditions.
+-- An index whose checks keep their numbers and their children, after they got other conditions.
 use Rattle.std.proofs.Common.{◌≡◌, ◌≢◌, ◌≤◌, ◌<◌, ◌+◌, ℕ, suc, Bool, List, [], ◌∷◌, length, map, arith, refl, ap, sym, ◌∙◌, inl, inr, Some, None, Option}
 use Rattle.std.specs.Prelude.{◌⊎◌, slice_get}
 use Rattle.std.specs.List.{AllByRecursion}
 use Rattle.std.proofs.lemmas.Bool.{cases_eq, cases_lt}
 use Rattle.std.proofs.lemmas.Option.{slice_get_within}
 use mathlib.Core.Path.{subst}
-use Rattle.check_model.specs.Checks.{Checks, check_with, children_of}
+use Rattle.check_model.specs.Checks.{Checks, IsId, check_with, children_of}
 use Rattle.check_model.specs.Checks.{IsSound as AreSoundChecks}
 use Rattle.check_model.specs.declared.checks.Check.{Check}
 use Rattle.check_model.specs.declared.checks.Check.TheVariants.{Endpoint, Calculated}
@@ -26,12 +26,16 @@ use Rattle.health_planning.specs.DeltaRecord.{Delta}
 use Rattle.health_planning.specs.Building.{IsSeen}
 use Rattle.health_planning.specs.Later.{HasThreshold, IsLaterAt}
 use Rattle.health_planning.specs.Wired.{IsCheckValve, IsSpare, IsValveFor, StandApart, check_need, check_own, ids_of, is_inverted, valve_with, watched_of}
+use Rattle.health_planning.proofs.Built.{id_placed}
 use Rattle.health_planning.proofs.MembersOfZoneList.{filled}
 use Rattle.health_planning.proofs.Numbers.{number_or_none}
+use Rattle.health_planning.proofs.Places.{id_at, of_all, one_place}
 use Rattle.health_index.proofs.Behind.{node_now, seated_now}
-use Rattle.health_index.specs.Following.{AreEndpoints, AreReshaped, IsFollowed, Reshapes}
+use Rattle.health_index.proofs.Kindred.{IsParent, same_children}
+use Rattle.health_index.specs.Following.{AreReshaped, IsFollowed, Reshapes}
 use Rattle.health_index.specs.Index.{Index, IsEndpoint, IsIntact, Space}
 use Rattle.health_index.specs.Index.{StandsFor}
+use Rattle.health_index.specs.Kin.{kin_of}
 use Rattle.health_index.specs.Leaving.{AreLeft}
 
 some_same : {X : Type 0} {x y : X} → Some x ≡ Some y → x ≡ y
@@ -128,11 +132,12 @@ one_more_as list numbers apart place valve held before after need inverted its_n
 
 -- ---- one check
 
--- both are of endpoints with one threshold
+-- both are of endpoints with one threshold, or both are calculated with the same children
 abbrev pub IsOther : (was check : Check) → Type 0
 IsOther (Endpoint threshold inverted disabled) (Endpoint other its_inverted its_disabled) = threshold ≡ other
 IsOther (Endpoint threshold inverted disabled) (Calculated other its_inverted its_disabled children) = ⊥
-IsOther (Calculated threshold inverted disabled children) check = ⊥
+IsOther (Calculated threshold inverted disabled children) (Endpoint other its_inverted its_disabled) = ⊥
+IsOther (Calculated threshold inverted disabled children) (Calculated other its_inverted its_disabled its_children) = children ≡ its_children
 
 kept_threshold : (was : Check) (threshold : ℕ) (inverted disabled : Bool) → HasThreshold (Some was) threshold
     → IsOther was (Endpoint threshold inverted disabled)
@@ -152,17 +157,40 @@ other_seen reports id (Endpoint threshold inverted disabled) (Endpoint other its
 other_seen reports id (Endpoint threshold inverted disabled) (Endpoint other its_inverted its_disabled) (Some seen) same is =
     subst (λ (n : ℕ). HasSeen n (results_of reports id) seen) same is
 other_seen reports id (Endpoint threshold inverted disabled) (Calculated other its_inverted its_disabled children) its none is = absurd none
-other_seen reports id (Calculated threshold inverted disabled children) check its none is = absurd none
+other_seen reports id (Calculated threshold inverted disabled children) (Endpoint other its_inverted its_disabled) its none is = absurd none
+other_seen reports id (Calculated threshold inverted disabled children) (Calculated other its_inverted its_disabled its_children) its same is = is
 
 pub other_own : (passed : ℕ → ℕ) (was check : Check) → IsOther was check → check_own was passed ≡ check_own check passed
 other_own passed (Endpoint threshold inverted disabled) (Endpoint other its_inverted its_disabled) same = ap passed same
 other_own passed (Endpoint threshold inverted disabled) (Calculated other its_inverted its_disabled children) none = absurd none
-other_own passed (Calculated threshold inverted disabled children) check none = absurd none
+other_own passed (Calculated threshold inverted disabled children) (Endpoint other its_inverted its_disabled) none = absurd none
+other_own passed (Calculated threshold inverted disabled children) (Calculated other its_inverted its_disabled its_children) same = refl
 
-pub no_children : (was check : Check) → IsOther was check → children_of was ≡ children_of check
-no_children (Endpoint threshold inverted disabled) (Endpoint other its_inverted its_disabled) same = refl
-no_children (Endpoint threshold inverted disabled) (Calculated other its_inverted its_disabled children) none = absurd none
-no_children (Calculated threshold inverted disabled children) check none = absurd none
+pub children_kept : (was check : Check) → IsOther was check → children_of was ≡ children_of check
+children_kept (Endpoint threshold inverted disabled) (Endpoint other its_inverted its_disabled) same = refl
+children_kept (Endpoint threshold inverted disabled) (Calculated other its_inverted its_disabled children) none = absurd none
+children_kept (Calculated threshold inverted disabled children) (Endpoint other its_inverted its_disabled) none = absurd none
+children_kept (Calculated threshold inverted disabled children) (Calculated other its_inverted its_disabled its_children) same = same
+
+-- a calculated check with these children is such a one
+other_parent : (its : Check) (threshold : ℕ) (inverted disabled : Bool) (children : List ℕ) → IsParent its children
+    → IsOther its (Calculated threshold inverted disabled children)
+other_parent (Endpoint other its_inverted its_disabled) threshold inverted disabled children none = absurd none.0
+other_parent (Calculated other its_inverted its_disabled its_children) threshold inverted disabled children is = is.1
+
+-- where checks with the same kin follow of others, one that was there is such a one
+pub was_other : (old new : Checks) → AreSoundChecks old → kin_of old.list ≡ kin_of new.list
+    → (before place id : ℕ) (was check : Check) → slice_get old.list before ≡ Some (id, was)
+    → slice_get new.list place ≡ Some (id, check) → IsLaterAt old id check → IsOther was check
+was_other old new are same before place id was (Endpoint threshold inverted disabled) at at_new later =
+    let below = of_all (λ (h : ℕ × Check). (1 ≤ h.0) × (h.0 < old.next)) old.list before (id, was) are.ids at in
+    was_endpoint old id was (Endpoint threshold inverted disabled) below.1 (id_at old.list before id was are.rising at) tt later
+was_other old new are same before place id was (Calculated threshold inverted disabled children) at at_new later =
+    let found = same_children new.list old.list (sym same) place id (Calculated threshold inverted disabled children) tt at_new in
+    let here = one_place old.list before found.0 id was found.1.0 are.rising at found.1.1.0 in
+    let held : ◌≡◌ {A = ℕ × Check} (id, was) (id, found.1.0) = some_same (sym at ∙ ap (slice_get old.list) here ∙ found.1.1.0) in
+    subst (λ (its : Check). IsOther its (Calculated threshold inverted disabled children)) (sym (ap (λ (h : ℕ × Check). h.1) held))
+    (other_parent found.1.0 threshold inverted disabled children found.1.1.1)
 
 abbrev condition : ℕ → Bool → List ℕ → Condition
 condition need inverted feeders = record { need = need; inverted = inverted; feeders = feeders }
@@ -176,14 +204,20 @@ made c need inverted feeders a b d =
 
 -- ---- the index
 
--- the check of an endpoint has no children
-pub endpoint_alone : (check : Check) → IsEndpoint (Some check) → children_of check ≡ []
-endpoint_alone (Endpoint threshold inverted disabled) is = refl
-endpoint_alone (Calculated threshold inverted disabled children) none = absurd none
+-- by two maps that agree on checks that are there, what feeds a valve is the same
+pub feeders_as : (list : List (ℕ × Check)) (f g : ℕ → ℕ) (children : List ℕ) → AllByRecursion (IsId list) children
+    → ((place id : ℕ) → slice_get (ids_of list) place ≡ Some id → f id ≡ g id) → map f children ≡ map g children
+feeders_as list f g [] there same = refl
+feeders_as list f g (id ∷ children) there same =
+    let k = id_placed list id there.0 in
+    both (same k.0 id k.1) (feeders_as list f g children there.1 same)
+  where
+    both : {i j : ℕ} {xs ys : List ℕ} → i ≡ j → xs ≡ ys → i ∷ xs ≡ j ∷ ys
+    both e f = cc
 
 module _ (zones : List Zone) (new : Checks) (reports : List Report) (index : Index)
     (f : IsFollowed zones new reports index) (are_new : AreSoundChecks new)
-    (endpoints : AreEndpoints new.list) (sound : IsSound (watched_of zones new)) (valves : Valves)
+    (sound : IsSound (watched_of zones new)) (valves : Valves)
     (r : Reshapes new.list index.numbers (length new.list) f.net f.own index.valves valves)
     (idle : IsIdle valves) (space : Space) where
   -- valves behind those of checks keep their conditions
@@ -204,8 +238,7 @@ module _ (zones : List Zone) (new : Checks) (reports : List Report) (index : Ind
         condition = made (r.now.condition valve) (check_need check) (is_inverted check)
             (map (valve_with (ids_of new.list) index.numbers) (children_of check))
             (r.reshaped.need place valve (id, check) within at numbered) (r.reshaped.inverted place valve (id, check) within at numbered)
-            (r.reshaped.feeders valve ∙ f.alone place valve numbered
-            ∙ sym (ap (map (valve_with (ids_of new.list) index.numbers)) (endpoint_alone check (endpoints place (id, check) at))));
+            (r.reshaped.feeders valve ∙ f.feeders place valve id check at numbered);
         its_own = f.owns place valve id check at numbered;
       }
 
@@ -236,6 +269,7 @@ module _ (zones : List Zone) (new : Checks) (reports : List Report) (index : Ind
     numbers = f.numbers;
     seen = f.seen;
     as_many = f.as_many;
+    kin = f.kin;
     listed = f.listed;
     net = r.now;
     own = f.own;

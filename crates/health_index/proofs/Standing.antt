@@ -16,6 +16,7 @@ use Rattle.health_planning.specs.SetRefRecord.{SetRef}
 use Rattle.health_planning.specs.Tables.{HaveSlotsApart}
 use Rattle.health_planning.specs.Building.{AllListed, AllTell, AreGiven, AreOfEndpoints, AreSeen, AreTriggered, IsBuilt, HoldsSet, set_trigger}
 use Rattle.health_index.specs.Index.{Index, IsIntact, Space, StandsFor, TellApart}
+use Rattle.health_index.specs.Kin.{kin_of}
 use Rattle.health_planning.specs.Wired.{HaveValves, ids_of, seat_of, set_seat, valve_with, watched_of}
 use Rattle.health_planning.specs.declared.seats.Seat.{Seat}
 use Rattle.health_planning.proofs.Places.{ids_apart}
@@ -27,14 +28,15 @@ some_same : {X : Type 0} {x y : X} → Some x ≡ Some y → x ≡ y
 some_same e = cc
 
 module _ (zones : List Zone) (checks : Checks) (refs members : List SetRef) (seats : List Seat)
-    (blueprint : Drawn) (valves : Valves) (ids numbers : List ℕ) (seen : List (Option Seen)) (space : Space)
+    (blueprint : Drawn) (valves : Valves) (ids numbers : List ℕ) (seen : List (Option Seen)) (kin : List ℕ) (space : Space)
     (are_checks : AreSoundChecks checks) (ids_is : ids ≡ ids_of checks.list)
+    (kin_is : kin ≡ kin_of checks.list)
     (valved : HaveValves (length checks.list) numbers) (many : length seen ≡ length ids)
     (built : IsBuilt zones checks.list numbers refs seats blueprint.triggers blueprint.links)
     (given : AreGiven refs members seats)
     (fits : ValvesStandFor (net_in blueprint) (own_in blueprint) valves) (idle : IsIdle valves) where
   abbrev laid : Index
-  laid = record { ids = ids; numbers = numbers; seen = seen; seats = seats; refs = refs; members = members; valves = valves; space = space }
+  laid = record { ids = ids; numbers = numbers; seen = seen; kin = kin; seats = seats; refs = refs; members = members; valves = valves; space = space }
 
   ids_many : length ids ≡ length checks.list
   ids_many = ap length ids_is ∙ ids_long checks.list
@@ -130,6 +132,7 @@ module _ (zones : List Zone) (checks : Checks) (refs members : List SetRef) (sea
     numbers = valved;
     seen = are_seen;
     as_many = many;
+    kin = kin_is;
     listed = λ zone valve p there seat. (watched_there zones checks.list numbers refs seats blueprint are_zones apart valved built zone p there valve seat).0;
     net = net_in blueprint;
     own = own_in blueprint;

@@ -578,6 +578,7 @@ module _ (before after : List Zone) (reports : List Report) (index : Index) (del
     numbers = stands.numbers;
     seen = stands.seen;
     as_many = stands.as_many;
+    kin = stands.kin;
     listed = listed_all before after stands.are_zones are_after delta.removed delta.added moves index.seats by_went by_came
         index.refs stands.listed;
     net = stands.net;

@@ -1,11 +1,12 @@
--- What an index that stood for some checks is to checks of endpoints that follow of them.
+-- What an index that stood for some checks is to checks with the same kin that follow of them.
 use Rattle.std.proofs.Common.{◌≡◌, ◌≢◌, ◌≤◌, ◌<◌, ◌+◌, ℕ, zero, suc, Bool, List, [], ◌∷◌, ◌++◌, length, map, arith, refl, ap, sym, ◌∙◌, inl, inr, Some, None}
+use Rattle.std.specs.List.{AllByRecursion}
 use Rattle.std.specs.Prelude.{◌⊎◌, Option, slice_get, slice_index}
 use Rattle.std.proofs.lemmas.Bool.{cases_eq, cases_lt, eq-eqb, ne_eqb}
 use Rattle.std.proofs.lemmas.List.{length-append}
 use Rattle.std.proofs.lemmas.Option.{slice_get_within}
 use mathlib.Core.Path.{subst}
-use Rattle.check_model.specs.Checks.{Checks}
+use Rattle.check_model.specs.Checks.{AreChildren, Checks, IsId, children_of}
 use Rattle.check_model.specs.Checks.{IsSound as AreSoundChecks}
 use Rattle.check_model.specs.declared.checks.Check.{Check}
 use Rattle.check_model.specs.declared.checks.Check.TheVariants.{Endpoint, Calculated}
@@ -14,9 +15,10 @@ use Rattle.checker_state.specs.Standing.{StandsFor as HasSeen}
 use Rattle.health_index.proofs.Knowing.{knows_its, still_reports}
 use Rattle.health_index.proofs.Behind.{node_now, seated_now}
 use Rattle.health_index.proofs.Valved.{more_valves}
-use Rattle.health_index.proofs.Reshaped.{IsOther, endpoint_alone, no_children, other_own, other_seen, same_ids, was_endpoint}
-use Rattle.health_index.specs.Following.{AreEndpoints, AreMore, HaveIds, IsFollowed, IsFresh}
+use Rattle.health_index.proofs.Reshaped.{IsOther, children_kept, feeders_as, other_own, other_seen, same_ids, was_other}
+use Rattle.health_index.specs.Following.{AreMore, HaveIds, IsFollowed, IsFresh}
 use Rattle.health_index.specs.Index.{Index, IsIntact, Space, StandsFor}
+use Rattle.health_index.specs.Kin.{kin_of}
 use Rattle.health_model.specs.Nodes.{Node}
 use Rattle.health_model.specs.Statuses.{Report, passing, results_of}
 use Rattle.health_planning.proofs.Built.{checks_there, still_there}
@@ -37,18 +39,17 @@ use Rattle.zone_model.specs.Slotted.{IsHere, Slotted}
 
 module _ (zones : List Zone) (old new : Checks) (reports : List Report) (index : Index)
     (stands : StandsFor zones old reports index) (are_new : AreSoundChecks new)
-    (endpoints : AreEndpoints new.list) (later : AreLater old new) where
-  -- a check whose number was there: it was of an endpoint, with its threshold
+    (kin : index.kin ≡ kin_of new.list) (later : AreLater old new) where
+  -- a check whose number was there: it was of an endpoint, with its threshold, or calculated, with its children
   pub was_there : (before place id : ℕ) (check : Check) → slice_get index.ids before ≡ Some id
       → slice_get new.list place ≡ Some (id, check)
       → (was : Check) × (slice_get old.list before ≡ Some (id, was)) × IsOther was check
   was_there before place id check at at_new =
-      let held = held_there old.list before id (subst (λ (l : List ℕ). slice_get l before ≡ Some id) stands.ids at) in
-      let below = of_all (λ (h : ℕ × Check). (1 ≤ h.0) × (h.0 < old.next)) old.list before (id, held.0) stands.are_checks.ids held.1 in (
+      let held = held_there old.list before id (subst (λ (l : List ℕ). slice_get l before ≡ Some id) stands.ids at) in (
         held.0,
         held.1,
-        was_endpoint old id held.0 check below.1 (id_at old.list before id held.0 stands.are_checks.rising held.1)
-            (endpoints place (id, check) at_new) (later.each id check (id_at new.list place id check are_new.rising at_new)),
+        was_other old new stands.are_checks (sym stands.kin ∙ kin) before place id held.0 check held.1 at_new
+            (later.each id check (id_at new.list place id check are_new.rising at_new)),
       )
 
   pub its_seen : (before place id : ℕ) (check : Check) (its : Option Seen) → slice_get index.ids before ≡ Some id
@@ -65,13 +66,21 @@ module _ (zones : List Zone) (old new : Checks) (reports : List Report) (index :
       let was = was_there before place id check at at_new in
       (stands.wired.its_checks before valve id was.0 was.1 numbered).its_own ∙ other_own (passing reports id) was.0 check was.2
 
-  pub its_alone : (before valve place id : ℕ) (check : Check) → slice_get index.ids before ≡ Some id
+  pub its_feeders : (before valve place id : ℕ) (check : Check) → slice_get index.ids before ≡ Some id
       → slice_get index.numbers before ≡ Some valve → slice_get new.list place ≡ Some (id, check)
-      → (stands.net.condition valve).feeders ≡ []
-  its_alone before valve place id check at numbered at_new =
+      → (stands.net.condition valve).feeders ≡ map (valve_with (ids_of old.list) index.numbers) (children_of check)
+  its_feeders before valve place id check at numbered at_new =
       let was = was_there before place id check at at_new in
       ap (λ (c : Condition). c.feeders) (stands.wired.its_checks before valve id was.0 was.1 numbered).condition
-      ∙ ap (map (valve_with (ids_of old.list) index.numbers)) (no_children was.0 check was.2 ∙ endpoint_alone check (endpoints place (id, check) at_new))
+      ∙ ap (map (valve_with (ids_of old.list) index.numbers)) (children_kept was.0 check was.2)
+
+  -- its children were there
+  pub children_there : (before place id : ℕ) (check : Check) → slice_get index.ids before ≡ Some id
+      → slice_get new.list place ≡ Some (id, check) → AllByRecursion (IsId old.list) (children_of check)
+  children_there before place id check at at_new =
+      let was = was_there before place id check at at_new in
+      let there = of_all (λ (h : ℕ × Check). AreChildren old.list (children_of h.1)) old.list before (id, was.0) stands.are_checks.children was.1 in
+      subst (AllByRecursion (IsId old.list)) (children_kept was.0 check was.2) there.there
 
   -- valves behind those of checks
   pub nodes : (valve : ℕ) → 200 ≤ valve → valve < stands.net.size
@@ -105,6 +114,7 @@ module _ (zones : List Zone) (old new : Checks) (reports : List Report) (index :
         };
         seen = λ place id check its at saw. its_seen place place id check its (here place id check at) at saw;
         as_many = stands.as_many;
+        kin = kin;
         listed = stands.listed;
         net = stands.net;
         own = stands.own;
@@ -117,11 +127,9 @@ module _ (zones : List Zone) (old new : Checks) (reports : List Report) (index :
         members = λ slot valve is. stands.wired.its_members slot valve (let e = is in omega arith);
         spares = stands.wired.spares;
         many = stands.wired.many;
-        alone = λ place valve numbered.
-            let many = stands.numbers.as_many in
-            let within = slice_get_within index.numbers place valve numbered in
-            let held = filled new.list place (omega arith) in
-            its_alone place valve place held.0.0 held.0.1 (here place held.0.0 held.0.1 held.1) numbered held.1;
+        feeders = λ place valve id check at numbered.
+            its_feeders place valve place id check (here place id check at) numbered at
+            ∙ ap (λ (l : List ℕ). map (valve_with l index.numbers) (children_of check)) (sym lists);
         owns = λ place valve id check at numbered. its_own place valve place id check (here place id check at) numbered at;
         told = stands.told;
         fits = stands.fits;
@@ -160,7 +168,7 @@ place_front (y ∷ ids) x id (suc place) at = elim (cases_eq id y) [
 
 module _ (zones : List Zone) (old new : Checks) (reports : List Report) (index : Index)
     (stands : StandsFor zones old reports index) (are_new : AreSoundChecks new)
-    (endpoints : AreEndpoints new.list) (later : AreLater old new)
+    (kin : index.kin ≡ kin_of new.list) (later : AreLater old new)
     (as_many : length new.list ≡ length index.ids + 1)
     (same : HaveIds index.ids (length index.ids) new.list)
     (id count valve : ℕ) (spare : IsSpare index.numbers valve) (check : Check) (at : slice_get new.list (length index.ids) ≡ Some (id, check))
@@ -216,18 +224,32 @@ module _ (zones : List Zone) (old new : Checks) (reports : List Report) (index :
         inr (is, (ap (λ (h : ℕ × Check). h.0) held, ap (λ (h : ℕ × Check). h.1) held))
   ]
 
+  -- each check that was there has the valve that it had
+  stays : (place named : ℕ) → slice_get (ids_of old.list) place ≡ Some named
+      → valve_with (ids_of new.list) after.numbers named ≡ valve_with (ids_of old.list) index.numbers named
+  stays place named was =
+      let front : place_of (ids_of new.list) named ≡ place_of (ids_of old.list) named =
+      ap (λ (l : List ℕ). place_of l named) (sym ids_now)
+      ∙ place_front index.ids id named place (ap (λ (l : List ℕ). slice_get l place) stands.ids ∙ was)
+      ∙ ap (λ (l : List ℕ). place_of l named) stands.ids in
+      let there = valve_there (ids_of old.list) index.numbers (ids_valves old.list index.numbers stands.numbers) place named was in
+      ap (slice_index after.numbers) front
+      ∙ number_is after.numbers (place_of (ids_of old.list) named) (valve_with (ids_of old.list) index.numbers named)
+      (still_there index.numbers valve (valve_with (ids_of old.list) index.numbers named) (place_of (ids_of old.list) named) there)
+
   placed : (zone : ℕ) (p : Slotted) (named : ℕ) → IsHere (placed_in zones zone) p → p.set.check ≡ Some named
       → valve_with (ids_of new.list) after.numbers named ≡ valve_with (ids_of old.list) index.numbers named
   placed zone p named here is =
       let k = checks_there zones old stands.sound (record { zone = zone; slot = p.slot }) p.set named here is in
-      let front : place_of (ids_of new.list) named ≡ place_of (ids_of old.list) named =
-      ap (λ (l : List ℕ). place_of l named) (sym ids_now)
-      ∙ place_front index.ids id named k.0 (ap (λ (l : List ℕ). slice_get l k.0) stands.ids ∙ k.1)
-      ∙ ap (λ (l : List ℕ). place_of l named) stands.ids in
-      let there = valve_there (ids_of old.list) index.numbers (ids_valves old.list index.numbers stands.numbers) k.0 named k.1 in
-      ap (slice_index after.numbers) front
-      ∙ number_is after.numbers (place_of (ids_of old.list) named) (valve_with (ids_of old.list) index.numbers named)
-      (still_there index.numbers valve (valve_with (ids_of old.list) index.numbers named) (place_of (ids_of old.list) named) there)
+      stays k.0 named k.1
+
+  -- the new check is of an endpoint, and has no children
+  fresh_alone : children_of check ≡ []
+  fresh_alone = by check is_fresh
+    where
+      by : (c : Check) → IsFresh c fresh → children_of c ≡ []
+      by (Endpoint threshold inverted disabled) its = refl
+      by (Calculated threshold inverted disabled children) none = absurd none
 
   fresh_own : count ≡ check_own check (passing reports id)
   fresh_own = by check is_fresh fresh_seen
@@ -271,7 +293,7 @@ module _ (zones : List Zone) (old new : Checks) (reports : List Report) (index :
           | inl before ↦
               let early = slice_get_within index.seen place found before in
               let many = stands.as_many in
-              its_seen zones old new reports index stands are_new endpoints later place place other its found
+              its_seen zones old new reports index stands are_new kin later place place other its found
               (same place (other, its) (omega arith) at_place) at_place before
           | inr behind ↦
               let many = stands.as_many in
@@ -280,6 +302,7 @@ module _ (zones : List Zone) (old new : Checks) (reports : List Report) (index :
               rw (ap (λ (h : ℕ × Check). h.0) held, ap (λ (h : ℕ × Check). h.1) held, behind.1) fresh_seen
         ];
         as_many = length-append index.seen (Some fresh ∷ []) ∙ ap (λ (n : ℕ). n + 1) stands.as_many ∙ sym (length-append index.ids (id ∷ []));
+        kin = kin;
         listed = stands.listed;
         net = stands.net;
         own = with_own valve count stands.own;
@@ -289,25 +312,29 @@ module _ (zones : List Zone) (old new : Checks) (reports : List Report) (index :
         nodes = node_now zones old.list new.list index.numbers after.numbers index.seats stands.net stands.net stands.own (with_own valve count stands.own) refl
             (λ n behind. refl) (λ n behind. own_beside n (λ e. let early = spare.0 in omega arith))
             stands.wired.its_sets placed stands.numbers.early
-            (nodes zones old new reports index stands are_new endpoints later);
+            (nodes zones old new reports index stands are_new kin later);
         groups = λ slot found is. stands.wired.its_groups slot found (let e = is in omega arith);
         members = λ slot found is. stands.wired.its_members slot found (let e = is in omega arith);
         spares = λ found is. stands.wired.spares found (is.0, λ place here. is.1 place (still_there index.numbers valve found place here));
         many = stands.wired.many;
-        alone = λ place found numbered. elim (number_of_new place found numbered) [
+        feeders = λ place found other its at_place numbered. elim (number_of_new place found numbered) [
           | inl before ↦
-              let early = before.1 in
-              let held = filled new.list place (omega arith) in
-              its_alone zones old new reports index stands are_new endpoints later place found place held.0.0 held.0.1
-              (same place held.0 before.1 held.1) before.0 held.1
+              its_feeders zones old new reports index stands are_new kin later place found place other its
+              (same place (other, its) before.1 at_place) before.0 at_place
+              ∙ feeders_as old.list (valve_with (ids_of old.list) index.numbers) (valve_with (ids_of new.list) after.numbers) (children_of its)
+              (children_there zones old new reports index stands are_new kin later place place other its
+              (same place (other, its) before.1 at_place) at_place)
+              (λ k named was. sym (stays k named was))
           | inr behind ↦
+              let held : ◌≡◌ {A = ℕ × Check} (other, its) (id, check) = some_same (sym at_place ∙ ap (slice_get new.list) behind.0 ∙ at) in
               ap (λ (n : ℕ). (stands.net.condition n).feeders) behind.1
               ∙ ap (λ (c : Condition). c.feeders) (stands.wired.spares valve spare)
+              ∙ sym (ap (map (valve_with (ids_of new.list) after.numbers)) (ap (λ (h : ℕ × Check). children_of h.1) held ∙ fresh_alone))
         ];
         owns = λ place found other its at_place numbered. elim (number_of_new place found numbered) [
           | inl before ↦
               own_beside found (λ e. spare.1 place (before.0 ∙ ap Some e))
-              ∙ its_own zones old new reports index stands are_new endpoints later place found place other its
+              ∙ its_own zones old new reports index stands are_new kin later place found place other its
               (same place (other, its) before.1 at_place) before.0 at_place
           | inr behind ↦
               let held : ◌≡◌ {A = ℕ × Check} (other, its) (id, check) = some_same (sym at_place ∙ ap (slice_get new.list) behind.0 ∙ at) in

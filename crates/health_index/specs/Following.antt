@@ -1,13 +1,14 @@
--- Commands after which all checks are of endpoints: how the checks follow of those before, and what changes
--- of the valves.
-use Rattle.std.specs.Prelude.{◌≡◌, ◌≤◌, ◌<◌, ◌+◌, ◌++◌, ℕ, List, [], ◌∷◌, Option, None, Some, length, slice_get, ⊤}
+-- Commands by which no calculated check comes, goes or gets other children: how the checks follow of those
+-- before, and what changes of the valves.
+use Rattle.std.specs.Prelude.{◌≡◌, ◌≤◌, ◌<◌, ◌+◌, ◌++◌, ℕ, List, [], ◌∷◌, Option, None, Some, length, map, slice_get, ⊤}
 use Rattle.std.specs.List.{remove}
-use Rattle.check_model.specs.Checks.{Checks}
+use Rattle.check_model.specs.Checks.{Checks, children_of}
 use Rattle.check_model.specs.declared.checks.Check.{Check}
 use Rattle.check_model.specs.declared.checks.Check.TheVariants.{Endpoint, Calculated}
 use Rattle.checker_state.specs.Standing.{Seen, nothing}
 use Rattle.checker_state.specs.Standing.{StandsFor as HasSeen}
 use Rattle.health_index.specs.Index.{Index, IsEndpoint, OwnListed, TellApart}
+use Rattle.health_index.specs.Kin.{kin_of}
 use Rattle.health_index.specs.declared.following.Way.{Way}
 use Rattle.health_index.specs.declared.following.Way.TheVariants as way
 use Rattle.health_model.specs.Nodes.{Node}
@@ -22,11 +23,6 @@ use Rattle.health_valves.specs.Valves.{Net, ValvesStandFor, size_of}
 use Rattle.health_valves.specs.declared.valves.Valves.{Valves}
 
 -- ---- how checks follow
-
--- all checks are of endpoints
-abbrev pub AreEndpoints : List (ℕ × Check) → Type 0
-AreEndpoints list = (place : ℕ) (held : ℕ × Check) → slice_get list place ≡ Some held
-    → IsEndpoint (Some held.1)
 
 -- as far as some place the checks have these numbers, one by one
 abbrev pub HaveIds : (ids : List ℕ) → (many : ℕ) → List (ℕ × Check) → Type 0
@@ -71,6 +67,11 @@ HaveTheirValves ids numbers ids_now numbers_now = (place place_now id : ℕ)
 abbrev pub HasCheckers : List (Option Seen) → (place : ℕ) → Type 0
 HasCheckers seen place = slice_get seen place ≡ Some None → ⊥
 
+-- the check at a place is of an endpoint
+abbrev pub IsEndpointAt : List (ℕ × Check) → (place : ℕ) → Type 0
+IsEndpointAt list place = (held : ℕ × Check) → slice_get list place ≡ Some held
+    → IsEndpoint (Some held.1)
+
 -- what the checkers of an endpoint's check saw before any result
 abbrev pub IsFresh : Check → Seen → Type 0
 IsFresh (Endpoint threshold inverted disabled) its = HasSeen threshold nothing its
@@ -78,16 +79,18 @@ IsFresh (Calculated threshold inverted disabled children) its = ⊥
 
 -- ---- what changes of the index
 
--- An index whose checks can follow by this way in place: where one comes there are the valves of 200
--- checks, and one that goes was of an endpoint too. Each that stands for checks of endpoints is one.
-abbrev pub IsOpenTo : Way → Index → Type 0
-IsOpenTo way.Same index = ⊤
-IsOpenTo way.More index = 200 ≤ size_of index.valves
-IsOpenTo (way.Fewer gone) index = HasCheckers index.seen gone
-IsOpenTo way.Other index = ⊥
+-- An index whose checks can follow by this way in place: one that comes is of an endpoint, and there are the
+-- valves of 200 checks then; one that goes was of an endpoint. Each that stands for checks is one, where these
+-- have the same kin as those that follow.
+abbrev pub IsOpenTo : Way → List (ℕ × Check) → Index → Type 0
+IsOpenTo way.Same list index = ⊤
+IsOpenTo way.More list index = (200 ≤ size_of index.valves) × IsEndpointAt list (length index.ids)
+IsOpenTo (way.Fewer gone) list index = HasCheckers index.seen gone
+IsOpenTo way.Other list index = ⊥
 
 -- Numbers come and go with the checks, and so do their valves and what checkers saw: one that came has
--- a valve that was spare, and its checkers saw nothing yet. Nothing else changes but valves.
+-- a valve that was spare, and its checkers saw nothing yet. Nothing else changes but valves, and the children
+-- of calculated checks are kept as they were.
 abbrev pub Follows : Way → List (ℕ × Check) → (before after : Index) → Type 0
 Follows way.Same list before after = after ≡ record before { valves = after.valves }
 Follows way.More list before after = (id : ℕ) × ((check : Check) × ((its : Seen) × ((valve : ℕ)
@@ -129,8 +132,8 @@ pub record Reshapes (list : List (ℕ × Check)) (numbers : List ℕ) (many : �
   pub fits : ValvesStandFor now own after
   pub meet : MeetAll net own before → MeetAll now own after
 
--- The index has the numbers of checks of endpoints, and all that is to stand for them but what opens their
--- valves.
+-- The index has the numbers of checks, and all that is to stand for them but how many open their valves and
+-- whether these are inverted.
 pub record IsFollowed (zones : List Zone) (checks : Checks) (reports : List Report) (index : Index)
     : Type 0 where
   pub are_zones : AreZones zones
@@ -140,6 +143,7 @@ pub record IsFollowed (zones : List Zone) (checks : Checks) (reports : List Repo
   pub numbers : HaveValves (length checks.list) index.numbers
   pub seen : AreSeen reports checks.list index.seen
   pub as_many : length index.seen ≡ length index.ids
+  pub kin : index.kin ≡ kin_of checks.list
   pub listed : OwnListed zones index.refs index.seats
   pub net : Net
   pub own : ℕ → ℕ
@@ -153,8 +157,9 @@ pub record IsFollowed (zones : List Zone) (checks : Checks) (reports : List Repo
   pub spares : (valve : ℕ) → IsSpare index.numbers valve
       → net.condition valve ≡ spare_condition
   pub many : 200 ≤ net.size
-  pub alone : (place valve : ℕ) → slice_get index.numbers place ≡ Some valve
-      → (net.condition valve).feeders ≡ []
+  pub feeders : (place valve id : ℕ) (check : Check) → slice_get checks.list place ≡ Some (id, check)
+      → slice_get index.numbers place ≡ Some valve → (net.condition valve).feeders
+      ≡ map (valve_with (ids_of checks.list) index.numbers) (children_of check)
   pub owns : (place valve id : ℕ) (check : Check) → slice_get checks.list place ≡ Some (id, check)
       → slice_get index.numbers place ≡ Some valve → own valve ≡ check_own check (passing reports id)
   pub told : TellApart zones index.seats

@@ -24,29 +24,32 @@ use Rattle.health_planning.specs.Building.{AreGiven, IsListed, IsSeen, HoldsSet}
 use Rattle.health_planning.specs.Changes.{ref_in}
 use Rattle.health_planning.specs.Wired.{AreMembers, HasSlot, HaveValves, IsGroupSeat, IsLedTo, IsSpare, AreValvesOf, StandApart, TellGroup, group_seat, ids_of, is_watched, open_in, seat_of, set_seat, valve_with, watched_of}
 use Rattle.health_planning.specs.declared.seats.Seat.{Seat}
+use Rattle.health_index.specs.Kin.{kin_of}
 
 -- For how many there is room: numbers of checks and what their checkers saw, now and before a
--- command; valves of checks; slots; sets with valves of their own, and sets of groups with valves; valves,
--- and links between them.
+-- command; valves of checks; numbers by which children are kept; slots; sets with valves of their own, and sets
+-- of groups with valves; valves, and links between them.
 pub record Space : Type 0 where
   pub ids : ℕ
   pub numbers : ℕ
   pub seen : ℕ
   pub ids_before : ℕ
   pub seen_before : ℕ
+  pub kin : ℕ
   pub seats : ℕ
   pub refs : ℕ
   pub members : ℕ
   pub triggers : ℕ
   pub links : ℕ
 
--- The numbers of the checks, their valves, what the checkers of each endpoint saw, the valves of sets by their
--- slots, the sets that have valves, those of groups that have one, the valves, and the room that there
--- is.
+-- The numbers of the checks, their valves, what the checkers of each endpoint saw, the children of calculated
+-- checks, the valves of sets by their slots, the sets that have valves, those of groups that have one, the
+-- valves, and the room that there is.
 pub record Index : Type 0 where
   pub ids : List ℕ
   pub numbers : List ℕ
   pub seen : List (Option Seen)
+  pub kin : List ℕ
   pub seats : List Seat
   pub refs : List SetRef
   pub members : List SetRef
@@ -97,6 +100,7 @@ pub record IsLaidFor (zones : List Zone) (checks : Checks) (reports : List Repor
       → slice_get checks.list place ≡ Some (id, check) → slice_get index.seen place ≡ Some its
       → IsSeen reports id check its
   pub as_many : length index.seen ≡ length index.ids
+  pub kin : index.kin ≡ kin_of checks.list
   pub listed : OwnListed zones index.refs index.seats
   pub net : Net
   pub own : ℕ → ℕ
@@ -121,6 +125,7 @@ pub record StandsFor (zones : List Zone) (checks : Checks) (reports : List Repor
       → slice_get checks.list place ≡ Some (id, check) → slice_get index.seen place ≡ Some its
       → IsSeen reports id check its
   pub as_many : length index.seen ≡ length index.ids
+  pub kin : index.kin ≡ kin_of checks.list
   pub listed : OwnListed zones index.refs index.seats
   pub net : Net
   pub own : ℕ → ℕ

@@ -1,17 +1,21 @@
 -- What it is to stand for a configuration and reports.
-use Rattle.std.specs.Prelude.{◌≡◌, ◌↔◌, List}
+use Rattle.std.specs.Prelude.{◌≡◌, ◌↔◌, ◌⊎◌, ℕ, List, None, Some}
 use Rattle.check_model.specs.Checks.{Checks}
+use Rattle.check_model.specs.Checks.{IsSound as AreSoundChecks}
 use Rattle.check_model.specs.Commands.{checks_after}
+use Rattle.check_model.specs.declared.checks.Check.{Check}
 use Rattle.check_model.specs.declared.checks.CheckCommand.{CheckCommand}
+use Rattle.check_model.specs.declared.checks.CheckCommand.TheVariants.{Create, Update, Delete}
 use Rattle.health_model.specs.Nodes.{IsNode, Node}
 use Rattle.health_model.specs.Statuses.{Report}
 use Rattle.health_planning.specs.Zones.{Zone}
 use Rattle.health_planning.specs.Later.{AreLater}
 use Rattle.health_planning.specs.Wired.{watched_of}
-use Rattle.health_index.specs.Following.{AreEndpoints, IsOpenTo}
+use Rattle.health_index.specs.Following.{IsOpenTo, IsWay}
 use Rattle.health_index.specs.declared.following.Way.{Way}
 use Rattle.health_index.specs.declared.following.Way.TheVariants as way
-use Rattle.health_index.specs.Index.{AreNumbered, Index, IsLaidFor, StandsFor, Tells}
+use Rattle.health_index.specs.Index.{AreNumbered, Index, IsEndpoint, IsEndpointOf, IsLaidFor, StandsFor, Tells}
+use Rattle.health_index.specs.Kin.{kin_of}
 use Rattle.health_index.specs.Values.{AreValues, MeetsIn}
 
 -- An index tells the health of that for which it stands.
@@ -43,8 +47,29 @@ abbrev pub ChecksAreLater : Type 0
 ChecksAreLater =
     (checks : Checks) (command : CheckCommand) → AreLater checks (checks_after checks command)
 
--- The checks of an index that stands for checks of endpoints can follow by each way in place.
-abbrev pub EndpointsCanFollow : Type 0
-EndpointsCanFollow = (zones : List Zone) (checks : Checks) (reports : List Report) (index : Index)
-    → StandsFor zones checks reports index → AreEndpoints checks.list
-    → (its : Way) → (its ≡ way.Other → ⊥) → IsOpenTo its index
+-- Where checks with the same kin follow of those for which an index stands, they can in place, by each way in
+-- which they do.
+abbrev pub ChecksCanFollow : Type 0
+ChecksCanFollow = (zones : List Zone) (old new : Checks) (reports : List Report) (index : Index)
+    → StandsFor zones old reports index → AreSoundChecks new → kin_of new.list ≡ kin_of old.list
+    → (its : Way) → (its ≡ way.Other → ⊥) → IsWay index.ids new.list its
+    → (index.kin ≡ kin_of new.list) × IsOpenTo its new.list index
+
+-- The command is on the check of an endpoint, or leaves a calculated one its children.
+abbrev pub LeavesChildren : Checks → CheckCommand → Type 0
+LeavesChildren checks (Create check) = IsEndpoint (Some check)
+LeavesChildren checks (Update id inverted disabled threshold children) =
+    IsEndpointOf checks id ⊎ (children ≡ None)
+LeavesChildren checks (Delete id) = IsEndpointOf checks id
+
+-- An index can follow such checks in place, by one of the ways.
+abbrev pub CanFollow : List (ℕ × Check) → Index → Type 0
+CanFollow list index = (index.kin ≡ kin_of list)
+    × ((its : Way) × (IsWay index.ids list its × IsOpenTo its list index))
+
+-- An index that stands for checks can follow each such command on them.
+abbrev pub CommandsCanFollow : Type 0
+CommandsCanFollow = (zones : List Zone) (checks : Checks) (reports : List Report) (index : Index)
+    (command : CheckCommand) → StandsFor zones checks reports index
+    → AreSoundChecks (checks_after checks command) → LeavesChildren checks command
+    → CanFollow (checks_after checks command).list index

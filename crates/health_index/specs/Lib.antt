@@ -1,5 +1,6 @@
 pub mod Following
 pub mod Index
+pub mod Kin
 pub mod Laws
 pub mod Leaving
 pub mod Room

@@ -4,8 +4,8 @@ use Rattle.health_valves.specs.Valves.{value_of}
 use Rattle.health_valves.specs.Laying.{HasRoomFor}
 use Rattle.health_index.specs.Index.{Index}
 
--- An index can be laid out anew over so many slots: 200 checks of at most 255 children, a valve for
--- each set and for each group, one link into a group and two into a set.
+-- An index can be laid out anew over so many slots: 200 checks of at most 255 children, which are kept by
+-- two numbers more each, a valve for each set and for each group, one link into a group and two into a set.
 pub record HasRoom (index : Index) (slots : ℕ) : Type 0 where
   pub few : slots ≤ 2 ^ 29
   pub ids : 200 ≤ index.space.ids
@@ -13,6 +13,7 @@ pub record HasRoom (index : Index) (slots : ℕ) : Type 0 where
   pub seen : 200 ≤ index.space.seen
   pub ids_before : 200 ≤ index.space.ids_before
   pub seen_before : 200 ≤ index.space.seen_before
+  pub kin : 51400 ≤ index.space.kin
   pub seats : slots ≤ index.space.seats
   pub refs : slots ≤ index.space.refs
   pub members : slots ≤ index.space.members
@@ -20,12 +21,13 @@ pub record HasRoom (index : Index) (slots : ℕ) : Type 0 where
   pub links : slots * 3 + 51200 ≤ index.space.links
   pub valves : HasRoomFor index.valves (slots * 2 + 200) (slots * 3 + 51200)
 
--- Only room changes: checks, their valves, what their checkers saw, seats, listed sets, noted members and values
--- stay.
+-- Only room changes: checks, their valves, what their checkers saw, their children, seats, listed sets, noted
+-- members and values stay.
 pub record Keeps (before after : Index) : Type 0 where
   pub ids : after.ids ≡ before.ids
   pub numbers : after.numbers ≡ before.numbers
   pub seen : after.seen ≡ before.seen
+  pub kin : after.kin ≡ before.kin
   pub seats : after.seats ≡ before.seats
   pub refs : after.refs ≡ before.refs
   pub members : after.members ≡ before.members

@@ -1,12 +1,12 @@
-//! Commands after which all checks are of endpoints: one comes behind all, one goes, or they get other
-//! conditions. Their valves change in place, and none is laid anew.
+//! Commands by which no calculated check comes, goes or gets other children: the check of an endpoint comes
+//! behind all, one goes, or checks get other conditions. Their valves change in place, and none is laid anew.
 
 ghost use Rattle.std.specs.Prelude.{◌≡◌, ◌≢◌, ◌≤◌, ◌<◌, ◌↔◌, ℕ, IsTrue, Some, length, slice_get};
 ghost use Rattle.check_model.specs.Checks.{IsBounded};
 ghost use Rattle.check_model.specs.declared.checks.Check.{Check};
 ghost use Rattle.health_valves.specs.Pass.{IsIdle};
 ghost use Rattle.health_valves.specs.Valves.{IsReady, Net, ValvesStandFor, size_of};
-ghost use Rattle.health_index.specs.Following.{AreEndpoints, AreSame, HaveIds, HaveIdsBehind};
+ghost use Rattle.health_index.specs.Following.{AreSame, HaveIds, HaveIdsBehind};
 ghost use Rattle.health_index.specs.Following.{IsWay, Reshapes};
 ghost use Rattle.health_index.specs.Following.{HasCheckers, IsFresh};
 ghost use Rattle.health_index.specs.Index.{IsEndpoint};
@@ -31,25 +31,13 @@ pub enum Way {
 }
 
 /// Whether a check is of an endpoint.
-fn is_endpoint(check: &Check) -> bool
+pub fn is_endpoint(check: &Check) -> bool
     ensures { IsTrue result ↔ IsEndpoint (Some check.now) }
 {
     match check {
         Check::Endpoint { .. } => true,
         Check::Calculated { .. } => false,
     }
-}
-
-/// Whether all checks are of endpoints.
-pub fn are_endpoints(list: &[(u32, Check)]) -> bool
-    ensures { IsTrue result ↔ AreEndpoints list.now }
-{
-    for held in list {
-        if !is_endpoint(&held.1) {
-            return false;
-        }
-    }
-    true
 }
 
 /// Whether a number stands at a place.

@@ -10,11 +10,12 @@ ghost use Rattle.health_valves.specs.Pass.{IsIdle};
 ghost use Rattle.health_index.specs.Index.{HasNode, IsEndpointOf, IsLaidFor, IsNumberOf, StandsFor};
 ghost use Rattle.health_index.specs.Index.{healthy_in};
 ghost use Rattle.health_index.specs.Index.{reported};
-ghost use Rattle.health_index.specs.Following.{AreEndpoints, AreFewer, AreMore, AreSame, Follows};
-ghost use Rattle.health_index.specs.Following.{HasCheckers};
+ghost use Rattle.health_index.specs.Following.{AreFewer, AreMore, AreSame, Follows};
+ghost use Rattle.health_index.specs.Following.{HasCheckers, IsEndpointAt};
 ghost use Rattle.health_index.specs.Following.{IsFollowed, IsOpenTo, IsWay};
 ghost use Rattle.health_index.specs.declared.following.Way.{Way};
 ghost use Rattle.health_index.specs.declared.following.Way.TheVariants as way;
+ghost use Rattle.health_index.specs.Kin.{kin_of};
 ghost use Rattle.health_index.specs.Leaving.{AreLeft, KeepsValves, Moves, SparesValves};
 ghost use Rattle.health_index.specs.Room.{HasRoom, Keeps};
 ghost use Rattle.health_index.specs.Values.{WorksOut};
@@ -26,10 +27,11 @@ ghost use Rattle.health_planning.specs.Zones.{Zone};
 
 use crate::finding::{tells_of_check, valve_of};
 use crate::following::{
-    Way, are_endpoints, fresh_checkers, has_checkers, has_ids, reshape_checks, way_of,
+    Way, fresh_checkers, has_checkers, has_ids, is_endpoint, reshape_checks, way_of,
 };
+use crate::kin::{has_kin, list_kin};
 use crate::laws::index_tells_health;
-use crate::reserving::{each_ok, room_for_checks, room_for_numbers, room_for_slots};
+use crate::reserving::{each_ok, room_for_checks, room_for_kin, room_for_numbers, room_for_slots};
 use crate::taking::take_result;
 use crate::valve_leaving::{gone_by, leaves_valves, spares_valves};
 use crate::valve_numbers::{asks_all, has_number, keep_numbers, spare_number};
@@ -56,6 +58,8 @@ pub struct HealthIndex {
     numbers: Vec<u32>,
     /// What the checkers of each endpoint saw.
     seen: Vec<Option<Checkers>>,
+    /// The children of calculated checks, one check behind the other: its number, how many it has, and these.
+    kin: Vec<u32>,
     /// By the slot of a set.
     seats: Vec<Seat>,
     valves: Valves,
@@ -82,6 +86,7 @@ impl Model for HealthIndex {
       ids = i.ids.items;
       numbers = i.numbers.items;
       seen = i.seen.items;
+      kin = i.kin.items;
       seats = i.seats.items;
       refs = i.refs.items;
       members = i.members.items;
@@ -92,6 +97,7 @@ impl Model for HealthIndex {
         seen = vec_capacity i.seen;
         ids_before = vec_capacity i.ids_before;
         seen_before = vec_capacity i.seen_before;
+        kin = vec_capacity i.kin;
         seats = vec_capacity i.seats;
         refs = vec_capacity i.refs;
         members = vec_capacity i.members;
@@ -104,6 +110,7 @@ impl Model for HealthIndex {
       ids = i.ids.items;
       numbers = i.numbers.items;
       seen = i.seen.items;
+      kin = i.kin.items;
       seats = i.seats.items;
       refs = i.refs.items;
       members = i.members.items;
@@ -114,6 +121,7 @@ impl Model for HealthIndex {
         seen = vec_capacity i.seen;
         ids_before = vec_capacity i.ids_before;
         seen_before = vec_capacity i.seen_before;
+        kin = vec_capacity i.kin;
         seats = vec_capacity i.seats;
         refs = vec_capacity i.refs;
         members = vec_capacity i.members;
@@ -154,6 +162,7 @@ impl HealthIndex {
             ids: Vec::new(alloc),
             numbers: Vec::new(alloc),
             seen: Vec::new(alloc),
+            kin: Vec::new(alloc),
             seats: Vec::new(alloc),
             valves: Valves::new(alloc),
             ids_before: Vec::new(alloc),
@@ -182,6 +191,7 @@ impl HealthIndex {
         let now = room_for_checks(&mut self.ids, &mut self.seen);
         let before = room_for_checks(&mut self.ids_before, &mut self.seen_before);
         let numbers = room_for_numbers(&mut self.numbers);
+        let kin = room_for_kin(&mut self.kin);
         let slots = room_for_slots(
             &mut self.seats,
             &mut self.refs,
@@ -190,7 +200,7 @@ impl HealthIndex {
             &mut self.valves,
             zones.slots(),
         );
-        each_ok(now, before, numbers, slots)
+        each_ok(now, before, numbers, kin, slots)
     }
 
     /// Takes a command: the zones and the checks are those that it left, and the references are
@@ -200,10 +210,10 @@ impl HealthIndex {
     /// that nothing decides went and came, but in no group to which an evaluated alias leads, it
     /// costs a look at these and at their groups, and a comparison of those that came with those that
     /// went. Where sets went and came in no such group, and none of them is an evaluated alias, whichever
-    /// checks they name, it costs a look at these, at their groups and at the numbers of checks. Where it tells of no zone, and all checks are of endpoints and have the numbers of those before,
-    /// as after UpdateHealthCheck, or one came behind them or one of them went, as after CreateHealthCheck and
-    /// DeleteHealthCheck, it costs a look at the checks, and what stands above those whose status changes.
-    /// Otherwise all valves are laid out anew: it costs what the configuration has of checks, of evaluated
+    /// checks they name, it costs a look at these, at their groups and at the numbers of checks. Where it tells of no zone, and no calculated check came, went or got other children: where checks
+    /// have the numbers of those before, as after UpdateHealthCheck, or one of an endpoint came behind them or
+    /// went, as after CreateHealthCheck and DeleteHealthCheck, it costs a look at the checks and at the children
+    /// of calculated ones, and what stands above those whose status changes. Otherwise all valves are laid out anew: it costs what the configuration has of checks, of evaluated
     /// aliases and of the sets of their target groups, and had of them before. Of the other
     /// sets it asks only those that went and came, and their seats stay as they are.
     pub fn on_command(&mut self, zones: &Zones, checks: &CheckTable, delta: &Delta)
@@ -224,10 +234,11 @@ impl HealthIndex {
             → AreSame self.old.ids checks.now.checks.list → 200 ≤ size_of self.old.valves
             → self.new ≡ record self.old { seats = self.new.seats } }
 
-        // Where the checks of endpoints stay, or one came or went, nothing changes but their valves, those
-        // above, and what the index has of that one.
-        ensures in_place { (way : Way) → delta.now.zone ≡ 0 → AreEndpoints checks.now.checks.list
-            → IsWay self.old.ids checks.now.checks.list way → IsOpenTo way self.old
+        // Where calculated checks stay with their children, and those of endpoints do or one of them came or
+        // went, nothing changes but the valves of checks, those above, and what the index has of that one.
+        ensures in_place { (way : Way) → delta.now.zone ≡ 0 → self.old.kin ≡ kin_of checks.now.checks.list
+            → IsWay self.old.ids checks.now.checks.list way
+            → IsOpenTo way checks.now.checks.list self.old
             → Follows way checks.now.checks.list self.old self.new }
     {
         zones.well_formed();
@@ -284,9 +295,9 @@ impl HealthIndex {
         true
     }
 
-    /// Takes a command that tells of no zone, after which all checks are of endpoints, with the numbers of
-    /// those before, or one came behind them or one of them went. The answer is whether it is one; else the
-    /// index stays as it is. It takes no memory.
+    /// Takes a command that tells of no zone, and by which no calculated check came, went or got other
+    /// children: checks have the numbers of those before, or one of an endpoint came behind them or went. The
+    /// answer is whether it is one; else the index stays as it is. It takes no memory.
     fn follow(&mut self, checks: &CheckTable, delta: &Delta) -> bool
         requires ids_room { 200 ≤ self.old.space.ids }
         requires numbers_room { 200 ≤ self.old.space.numbers }
@@ -297,14 +308,15 @@ impl HealthIndex {
             → IsSound (watched_of zones checks.now.checks) → result ≡ true
             → StandsFor zones checks.now.checks reports self.new }
         ensures stays { result ≡ false → self.new ≡ self.old }
-        ensures in_place { (way : Way) → delta.now.zone ≡ 0 → AreEndpoints checks.now.checks.list
-            → IsWay self.old.ids checks.now.checks.list way → IsOpenTo way self.old
+        ensures in_place { (way : Way) → delta.now.zone ≡ 0 → self.old.kin ≡ kin_of checks.now.checks.list
+            → IsWay self.old.ids checks.now.checks.list way
+            → IsOpenTo way checks.now.checks.list self.old
             → (result ≡ true) × Follows way checks.now.checks.list self.old self.new }
     {
         if delta.zone != 0 {
             return false;
         }
-        if !are_endpoints(checks.as_slice()) {
+        if !has_kin(&self.kin, checks.as_slice()) {
             return false;
         }
         if !self.take_ids(checks) {
@@ -317,7 +329,7 @@ impl HealthIndex {
     /// Takes the numbers of checks that follow of those before in one of these ways. The answer is whether
     /// they do; else the index stays as it is. Their valves have other conditions as yet.
     fn take_ids(&mut self, checks: &CheckTable) -> bool
-        requires endpoints { AreEndpoints checks.now.checks.list }
+        requires kin { self.old.kin ≡ kin_of checks.now.checks.list }
         requires ids_room { 200 ≤ self.old.space.ids }
         requires numbers_room { 200 ≤ self.old.space.numbers }
         requires seen_room { 200 ≤ self.old.space.seen }
@@ -328,7 +340,7 @@ impl HealthIndex {
         ensures as_many { result ≡ true → length self.new.ids ≡ length checks.now.checks.list }
         ensures stays { result ≡ false → self.new ≡ self.old }
         ensures in_place { (way : Way) → IsWay self.old.ids checks.now.checks.list way
-            → IsOpenTo way self.old
+            → IsOpenTo way checks.now.checks.list self.old
             → (result ≡ true) × Follows way checks.now.checks.list self.old self.new }
     {
         let list = checks.as_slice();
@@ -340,11 +352,12 @@ impl HealthIndex {
         }
     }
 
-    /// Takes a check that came behind those before: it gets a spare valve. The answer is whether the valves
-    /// of 200 checks are there, as they are once any are laid out; else the index stays as it is.
+    /// Takes a check that came behind those before: it gets a spare valve. The answer is whether it is of an
+    /// endpoint, and the valves of 200 checks are there, as they are once any are laid out; else the index
+    /// stays as it is.
     fn add_check(&mut self, checks: &CheckTable) -> bool
         requires sound { AreSoundChecks checks.now.checks }
-        requires endpoints { AreEndpoints checks.now.checks.list }
+        requires kin { self.old.kin ≡ kin_of checks.now.checks.list }
         requires more { AreMore self.old.ids checks.now.checks.list }
         requires ids_room { 200 ≤ self.old.space.ids }
         requires numbers_room { 200 ≤ self.old.space.numbers }
@@ -353,7 +366,8 @@ impl HealthIndex {
             → StandsFor zones old reports self.old → AreLater old checks.now.checks
             → result ≡ true → IsFollowed zones checks.now.checks reports self.new }
         ensures stays { result ≡ false → self.new ≡ self.old }
-        ensures ready { 200 ≤ size_of self.old.valves → result ≡ true }
+        ensures ready { 200 ≤ size_of self.old.valves
+            → IsEndpointAt checks.now.checks.list (length self.old.ids) → result ≡ true }
         ensures follows { result ≡ true
             → Follows way.More checks.now.checks.list self.old self.new }
     {
@@ -363,6 +377,9 @@ impl HealthIndex {
         }
         let list = checks.as_slice();
         let held = &list[place];
+        if !is_endpoint(&held.1) {
+            return false;
+        }
         let checkers = fresh_checkers(&held.1);
         let valve = spare_number(&self.numbers);
         self.valves.set_count(valve, u32::from(checkers.passing()));
@@ -376,7 +393,7 @@ impl HealthIndex {
     /// endpoint, whose valve nothing feeds; else the index stays as it is.
     fn drop_check(&mut self, checks: &CheckTable, gone: usize) -> bool
         requires sound { AreSoundChecks checks.now.checks }
-        requires endpoints { AreEndpoints checks.now.checks.list }
+        requires kin { self.old.kin ≡ kin_of checks.now.checks.list }
         requires fewer { AreFewer self.old.ids gone checks.now.checks.list }
         ensures followed { (zones : List Zone) (old : Checks) (reports : List Report)
             → StandsFor zones old reports self.old → AreLater old checks.now.checks
@@ -398,10 +415,8 @@ impl HealthIndex {
         true
     }
 
-    /// Gives the valves of checks of endpoints their conditions, where their numbers were taken. It takes no
-    /// memory.
+    /// Gives the valves of checks their conditions, where their numbers were taken. It takes no memory.
     fn follow_checks(&mut self, checks: &CheckTable)
-        requires endpoints { AreEndpoints checks.now.checks.list }
         requires as_many { length self.old.ids ≡ length checks.now.checks.list }
         ensures stands { (zones : List Zone) (reports : List Report)
             → IsFollowed zones checks.now.checks reports self.old
@@ -412,7 +427,7 @@ impl HealthIndex {
         reshape_checks(&mut self.valves, checks.as_slice(), &self.numbers);
     }
 
-    /// Lays everything out anew, with what the checkers saw. All sets are asked which check alone decides them
+    /// Lays everything out anew, with what the checkers saw, and keeps the children of calculated checks. All sets are asked which check alone decides them
     /// and whether they are evaluated aliases, or those that had valves of their own and those that went and
     /// came. Checks keep their valves then, and so each other set that a check alone decides keeps its seat.
     /// It takes no memory.
@@ -444,6 +459,7 @@ impl HealthIndex {
         let all = asks_all(whole, kept);
         self.seen.clear();
         list_seen(&mut self.seen, list, &self.ids_before, &self.seen_before);
+        list_kin(&mut self.kin, list);
         seat_anew(
             zones,
             all,

@@ -1,7 +1,8 @@
 //! Laws over the definitions. Each stands as the contract of a function that does nothing.
 
 ghost use Rattle.health_index.specs.Laws.{ChecksAreLater, IndexTells, NodesAreNumbered};
-ghost use Rattle.health_index.specs.Laws.{EndpointsCanFollow, NodesHaveValues, StandsWhereAllMeet};
+ghost use Rattle.health_index.specs.Laws.{ChecksCanFollow, CommandsCanFollow, NodesHaveValues};
+ghost use Rattle.health_index.specs.Laws.{StandsWhereAllMeet};
 
 use health_model::one_health;
 use health_planning::views_agree;
@@ -34,7 +35,10 @@ pub fn nodes_have_values()
     views_agree();
 }
 
-/// An index that stands for checks of endpoints follows in place by each way in which checks can.
-pub fn endpoints_can_follow()
-    ensures { EndpointsCanFollow }
+/// Where no calculated check comes, goes or gets other children, checks follow in place of those for which an
+/// index stands, by each way in which they do. So it is after each command on the check of an endpoint, and
+/// after one that leaves a calculated check its children.
+pub fn checks_can_follow()
+    ensures checks { ChecksCanFollow }
+    ensures commands { CommandsCanFollow }
 {}

@@ -6,14 +6,16 @@
 //!
 //! The valves are planned (`health_planning`), and then laid out. After a command this is done anew,
 //! in room that was made before (`reserving`), but where no valve changes by the sets that went and
-//! came (`valve_leaving`): then all stays as it is, or their seats alone change. And where all checks are of
-//! endpoints, and keep their numbers, or one comes or goes (`following`): then the valves of checks change in
-//! place. Each other check keeps its valve (`valve_numbers`), also where all is laid out anew.
+//! came (`valve_leaving`): then all stays as it is, or their seats alone change. And where checks keep their
+//! numbers, or one of an endpoint comes or goes, and no calculated check gets other children (`kin`,
+//! `following`): then the valves of checks change in place. Each other check keeps its valve
+//! (`valve_numbers`), also where all is laid out anew.
 #![tactic(auto)]
 
 mod finding;
 mod following;
 mod index;
+mod kin;
 mod laws;
 mod reserving;
 mod taking;
@@ -24,6 +26,5 @@ pub use following::Way;
 pub use health_valves::Steps;
 pub use index::HealthIndex;
 pub use laws::{
-    checks_are_later, endpoints_can_follow, index_tells_health, nodes_are_numbered,
-    nodes_have_values,
+    checks_are_later, checks_can_follow, index_tells_health, nodes_are_numbered, nodes_have_values,
 };

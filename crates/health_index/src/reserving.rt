@@ -19,6 +19,9 @@ const CHECKS: usize = 200;
 /// The most links between checks, which have at most 255 children, and one more for each of them.
 const CHECK_LINKS: usize = 51200;
 
+/// The most numbers by which children are kept: for each check its number, how many children it has, and these.
+const KIN: usize = 51400;
+
 /// Makes room for all checks that there can be. The lists stay as they are.
 pub fn room_for_checks(
     ids: &mut Vec<u32>,
@@ -49,6 +52,16 @@ pub fn room_for_numbers(numbers: &mut Vec<u32>) -> Result<(), OutOfMemory>
     ensures ready { 200 ≤ vec_capacity numbers.old → IsOk result }
 {
     make_room(numbers, CHECKS)
+}
+
+/// Makes room for the children of all calculated checks that there can be. The list stays as it is.
+pub fn room_for_kin(kin: &mut Vec<u32>) -> Result<(), OutOfMemory>
+    ensures kin { kin.new.items ≡ kin.old.items }
+    ensures kept { vec_capacity kin.old ≤ vec_capacity kin.new }
+    ensures room { OnOk result (51400 ≤ vec_capacity kin.new) }
+    ensures ready { 51400 ≤ vec_capacity kin.old → IsOk result }
+{
+    make_room(kin, KIN)
 }
 
 /// Makes room for all valves and links over so many slots. The seats, the listed sets, the noted
@@ -124,15 +137,17 @@ pub fn each_ok(
     second: Result<(), OutOfMemory>,
     third: Result<(), OutOfMemory>,
     fourth: Result<(), OutOfMemory>,
+    fifth: Result<(), OutOfMemory>,
 ) -> Result<(), OutOfMemory>
     ensures first { OnOk result (IsOk first) }
     ensures second { OnOk result (IsOk second) }
     ensures third { OnOk result (IsOk third) }
     ensures fourth { OnOk result (IsOk fourth) }
-    ensures each { IsOk first → IsOk second → IsOk third → IsOk fourth → IsOk result }
+    ensures fifth { OnOk result (IsOk fifth) }
+    ensures each { IsOk first → IsOk second → IsOk third → IsOk fourth → IsOk fifth → IsOk result }
 {
-    match (first, second, third, fourth) {
-        (Ok(()), Ok(()), Ok(()), Ok(())) => Ok(()),
+    match (first, second, third, fourth, fifth) {
+        (Ok(()), Ok(()), Ok(()), Ok(()), Ok(())) => Ok(()),
         _ => Err(OutOfMemory),
     }
 }

@@ -6,22 +6,24 @@ use Rattle.health_index.proofs.Reporting.{alone_in_all}
 use Rattle.health_index.proofs.Reshaped.{followed_with, intact_with}
 use Rattle.health_index.proofs.Ways.{came_at, index_with, more_way, whole_more}
 use Rattle.health_planning.specs.Wired.{IsSpare}
-use Rattle.health_index.specs.Following.{AreMore}
+use Rattle.health_index.specs.Following.{AreMore, IsEndpointAt}
 use Rattle.health_index.specs.Index.{Index, StandsFor}
+use Rattle.health_index.specs.Kin.{kin_of}
 use Rattle.health_index.proofs.index.HealthIndex.add_check.Goals as goal
 
-pub fresh_checkers-checkers-requires-clause-endpoint : goal.fresh_checkers-checkers-requires-clause-endpoint
-fresh_checkers-checkers-requires-clause-endpoint c =
-    let more = subst (λ (i : Index). AreMore i.ids c.args.checks.now.checks.list) (sym c.self.view_is) c.requires.more in
-    let long = more.0 in
+pub returns-then-not-is_endpoint-clause-ready : goal.returns-then-not-is_endpoint-clause-ready
+returns-then-not-is_endpoint-clause-ready c many came =
     let ids = c.self.inside.ids.ok.0 in
     let place = c.len-place.ensures in
     let told = ap length c.as_slice-list.ensures.checks in
+    let more = subst (λ (i : Index). AreMore i.ids c.args.checks.now.checks.list) (sym c.self.view_is) c.requires.more in
+    let long = more.0 in
     let same : c.len-place.result ≡ length c.self.inside.ids.items = omega arith in
     let held = c.index-list-place.result in
     let at = slice_get_read c.as_slice-list.result.now _ c.len-place.result held refl (omega arith) c.index-list-place.is in
     let here = came_at c.args.checks.now.checks.list _ c.self.inside.ids.items c.len-place.result held c.as_slice-list.ensures.checks same at in
-    c.requires.endpoints (length c.self.inside.ids.items) held here
+    c.if-not-is_endpoint.ensures.1
+    ((subst (λ (i : Index). IsEndpointAt c.args.checks.now.checks.list (length i.ids)) (sym c.self.view_is) came) held here)
 
 pub spare_number-valve-requires : goal.spare_number-valve-requires
 spare_number-valve-requires c =
@@ -84,6 +86,7 @@ pub returns-clause-followed : goal.returns-clause-followed
 returns-clause-followed c zones old reports stands later done =
     let w = c.self.invariant in
     let was = subst (StandsFor zones old reports) (sym c.self.view_is) stands in
+    let kin = subst (λ (i : Index). i.kin ≡ kin_of c.args.checks.now.checks.list) (sym c.self.view_is) c.requires.kin in
     let more = subst (λ (i : Index). AreMore i.ids c.args.checks.now.checks.list) (sym c.self.view_is) c.requires.more in
     let long = more.0 in
     let ids = c.self.inside.ids.ok.0 in
@@ -99,7 +102,7 @@ returns-clause-followed c zones old reports stands later done =
     let spare = rw c.deref.ensures.value at c.spare_number-valve.ensures in
     followed_with _ w c.set_count.new.self _ (c.self.inside.ids.items ++ held.0 ∷ []) _ (c.self.inside.numbers.items ++ c.spare_number-valve.result ∷ []) _ (c.self.inside.seen.items ++ Some checkers ∷ []) _
     c.push_reserved.ensures.items c.push_reserved-2.ensures.items c.push_reserved-3.ensures.items zones c.args.checks.now.checks reports
-    (more_way zones old c.args.checks.now.checks reports _ was c.requires.sound c.requires.endpoints later more.0 more.1 held.0 c.from.result c.spare_number-valve.result spare held.1 here
+    (more_way zones old c.args.checks.now.checks reports _ was c.requires.sound kin later more.0 more.1 held.0 c.from.result c.spare_number-valve.result spare held.1 here
     checkers c.fresh_checkers-checkers.ensures (λ n results saw. c.from.ensures ∙ c.passing.ensures.exact n results saw)
     c.set_count.new.self fits meet c.set_count.ensures.idle _)
 

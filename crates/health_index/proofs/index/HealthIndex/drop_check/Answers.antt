@@ -1,4 +1,4 @@
-use Rattle.std.proofs.Common.{length, arith, refl, ap, sym}
+use Rattle.std.proofs.Common.{◌≡◌, length, arith, refl, ap, sym}
 use Rattle.std.specs.List.{remove}
 use mathlib.Core.Path.{subst}
 use Rattle.health_index.proofs.Fewer.{fewer_way, gone_alone, whole_fewer}
@@ -6,6 +6,7 @@ use Rattle.health_index.proofs.Reporting.{alone_in_all}
 use Rattle.health_index.proofs.Reshaped.{followed_with, intact_with}
 use Rattle.health_index.specs.Following.{AreFewer, HasCheckers}
 use Rattle.health_index.specs.Index.{Index, StandsFor}
+use Rattle.health_index.specs.Kin.{kin_of}
 use Rattle.health_planning.proofs.Numbers.{number_there}
 use Rattle.health_index.proofs.index.HealthIndex.drop_check.Goals as goal
 
@@ -66,6 +67,7 @@ pub returns-clause-followed : goal.returns-clause-followed
 returns-clause-followed c zones old reports stands later sound done =
     let w = c.self.invariant in
     let was = subst (StandsFor zones old reports) (sym c.self.view_is) stands in
+    let kin = subst (λ (i : Index). i.kin ≡ kin_of c.args.checks.now.checks.list) (sym c.self.view_is) c.requires.kin in
     let fewer = subst (λ (i : Index). AreFewer i.ids c.args.gone c.args.checks.now.checks.list) (sym c.self.view_is) c.requires.fewer in
     let have = rw c.deref.ensures.value at c.if-not-has_checkers.ensures.0 refl in
     let goes = fewer.0 in
@@ -73,7 +75,7 @@ returns-clause-followed c zones old reports stands later sound done =
     let numbered = number_there _ c.args.gone c.number_at-valve.result (omega arith) (rw c.deref-2.ensures.value at c.number_at-valve.ensures) in
     followed_with _ w c.reshape.new.self _ (remove c.self.inside.ids.items c.args.gone) _ (remove c.self.inside.numbers.items c.args.gone) _ (remove c.self.inside.seen.items c.args.gone) _
     c.remove.ensures.items c.remove-2.ensures.items c.remove-3.ensures.items zones c.args.checks.now.checks reports
-    (fewer_way zones old c.args.checks.now.checks reports _ was c.requires.sound c.requires.endpoints later sound
+    (fewer_way zones old c.args.checks.now.checks reports _ was c.requires.sound kin later sound
     c.args.gone c.number_at-valve.result fewer numbered
     (alone_in_all w.net was.net w.own was.own c.self.inside.valves c.number_at-valve.result (w.within c.args.gone c.number_at-valve.result numbered) w.fits was.fits
     (gone_alone _ w c.args.gone c.number_at-valve.result goes have numbered))

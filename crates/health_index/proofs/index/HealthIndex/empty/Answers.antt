@@ -8,8 +8,8 @@ pub invariant_of-result : goal.invariant_of-result
 invariant_of-result c = record {
   net = net_in no_blueprint;
   own = own_in no_blueprint;
-  fits = c.new-5.ensures.fits;
-  idle = c.new-5.ensures.idle;
+  fits = c.new-6.ensures.fits;
+  idle = c.new-6.ensures.idle;
   as_many = ap length c.new-3.ensures.items ∙ sym (ap length c.new.ensures.items);
   apart = λ k n id at also. absurd (grind (arith, at, c.new.ensures.items));
   numbers = record {
@@ -18,10 +18,10 @@ invariant_of-result c = record {
     early = λ place valve at. absurd (grind (arith, at, c.new-2.ensures.items));
   };
   within = λ place valve at. absurd (grind (arith, at, c.new-2.ensures.items));
-  seated = λ slot valve is. absurd (grind (arith, is, c.new-4.ensures.items));
+  seated = λ slot valve is. absurd (grind (arith, is, c.new-5.ensures.items));
   given = record {
-    sets = λ slot some. absurd (some (ap (λ (l : List Seat). seat_of l slot) c.new-4.ensures.items));
-    groups = λ slot some. absurd (some (ap (λ (l : List Seat). group_seat l slot) c.new-4.ensures.items));
+    sets = λ slot some. absurd (some (ap (λ (l : List Seat). seat_of l slot) c.new-5.ensures.items));
+    groups = λ slot some. absurd (some (ap (λ (l : List Seat). group_seat l slot) c.new-5.ensures.items));
   };
   alone = λ place valve its is at. absurd (grind (arith, at, c.new-2.ensures.items));
   spare = λ valve is. refl;

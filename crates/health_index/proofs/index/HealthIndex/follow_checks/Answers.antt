@@ -28,5 +28,5 @@ pub returns-clause-stands : goal.returns-clause-stands
 returns-clause-stands c zones reports followed sound =
     let list = c.as_slice.ensures.checks in
     let was = subst (IsFollowed zones c.args.checks.now.checks reports) (sym c.self.view_is) followed in
-    finished zones c.args.checks.now.checks reports _ was c.as_slice.ensures.sound c.requires.endpoints sound c.reshape_checks.new.valves
+    finished zones c.args.checks.now.checks reports _ was c.as_slice.ensures.sound sound c.reshape_checks.new.valves
     (rw (list, c.deref.ensures.value) at c.reshape_checks.ensures.reshaped was.net was.own was.fits) c.reshape_checks.ensures.idle _

@@ -10,6 +10,7 @@ use Rattle.health_index.specs.Index.{Index, StandsFor}
 use Rattle.health_index.specs.Following.{HaveTheirValves}
 use Rattle.health_index.proofs.Again.{anew_for, asked, kept_for, taken, taken_all, taken_whole, tell_all, tells}
 use Rattle.health_planning.proofs.Built.{checks_there}
+use Rattle.health_index.specs.Kin.{kin_of}
 use Rattle.health_index.specs.Room.{HasRoom}
 use Rattle.health_planning.specs.Wired.{HaveValves, StandApart, ids_of}
 use Rattle.health_index.proofs.Knowing.{each_follows, follows_nothing, knows_its, knows_nothing, no_checks, still_reports}
@@ -88,6 +89,21 @@ list_seen-requires-clause-bounded c place id check at =
     of_all (λ (held : ℕ × Check). IsBounded held.1) c.args.checks.now.checks.list place (id, check) c.as_slice-list.ensures.sound.bounded
     (rw c.as_slice-list.ensures.checks at at)
 
+pub list_kin-requires-clause-few : goal.list_kin-requires-clause-few
+list_kin-requires-clause-few c =
+    let few = c.as_slice-list.ensures.sound.few in
+    let long = ap length c.as_slice-list.ensures.checks in
+    omega arith
+
+pub list_kin-requires-clause-bounded : goal.list_kin-requires-clause-bounded
+list_kin-requires-clause-bounded c place id check at =
+    of_all (λ (held : ℕ × Check). IsBounded held.1) c.args.checks.now.checks.list place (id, check) c.as_slice-list.ensures.sound.bounded
+    (rw c.as_slice-list.ensures.checks at at)
+
+pub list_kin-requires-clause-room : goal.list_kin-requires-clause-room
+list_kin-requires-clause-room c =
+    (subst (λ (i : Index). HasRoom i c.args.zones.now.slots) (sym c.self.view_is) c.requires.room).kin
+
 pub seat_anew-requires-clause-given : goal.seat_anew-requires-clause-given
 seat_anew-requires-clause-given c = rw (c.deref-4.ensures.value, c.deref-5.ensures.value) c.self.invariant.given
 
@@ -152,10 +168,11 @@ invariant_of-self c =
     let list = c.as_slice-list.ensures.checks in
     let sound = c.as_slice-list.ensures.sound in
     let ids = c.list_ids.ensures.ids ∙ ap ids_of list in
+    let kin = c.list_kin.ensures.kin ∙ ap kin_of list in
     let many = c.list_seen.ensures.size ∙ ap length list ∙ sym (ids_long checks.list) ∙ sym (ap length ids) in
     let valved = subst (λ (n : ℕ). HaveValves n c.keep_numbers-kept.new.numbers.items) (ap length list) c.keep_numbers-kept.ensures.valves in
     whole zones checks c.plan_valves.new.refs.items c.plan_valves.new.known.items c.plan_valves.new.seats.items c.plan_valves.new.blueprint c.lay_out.new.self
-    c.list_ids.new.ids.items c.keep_numbers-kept.new.numbers.items c.list_seen.new.into.items _ sound ids valved many
+    c.list_ids.new.ids.items c.keep_numbers-kept.new.numbers.items c.list_seen.new.into.items c.list_kin.new.kin.items _ sound ids kin valved many
     (rw c.deref-9.ensures.value at c.plan_valves.ensures.built) c.plan_valves.ensures.given c.lay_out.ensures.fits c.lay_out.ensures.idle
     (rw list at c.list_seen.ensures.kinds)
 
@@ -167,6 +184,7 @@ returns-clause-stands c before old reports is follows moves =
     let sound = c.as_slice-list.ensures.sound in
     let was = subst (StandsFor before old reports) (sym c.self.view_is) is in
     let ids = c.list_ids.ensures.ids ∙ ap ids_of list in
+    let kin = c.list_kin.ensures.kin ∙ ap kin_of list in
     let many = c.list_seen.ensures.size ∙ ap length list ∙ sym (ids_long checks.list) ∙ sym (ap length ids) in
     let numbers = c.keep_numbers-kept.new.numbers.items in
     let valved = subst (λ (n : ℕ). HaveValves n numbers) (ap length list) c.keep_numbers-kept.ensures.valves in
@@ -192,7 +210,7 @@ returns-clause-stands c before old reports is follows moves =
     let are = subst (λ l. AreSeen reports l c.list_seen.new.into.items) list
     (c.list_seen.ensures.seen old reports knows (subst (EachIsLater old) (sym list) each)) in
     stands zones checks c.plan_valves.new.refs.items c.plan_valves.new.known.items c.plan_valves.new.seats.items c.plan_valves.new.blueprint c.lay_out.new.self
-    c.list_ids.new.ids.items numbers c.list_seen.new.into.items _ sound ids valved many
+    c.list_ids.new.ids.items numbers c.list_seen.new.into.items c.list_kin.new.kin.items _ sound ids kin valved many
     built c.plan_valves.ensures.given c.lay_out.ensures.fits c.lay_out.ensures.idle
     reports c.well_formed-2.ensures c.slots_apart.ensures c.requires.sound
     (still_reports old.next checks.next reports follows.next knows.its_reports) listed
@@ -210,6 +228,7 @@ returns-clause-first c none whole_is =
     let list = c.as_slice-list.ensures.checks in
     let sound = c.as_slice-list.ensures.sound in
     let ids = c.list_ids.ensures.ids ∙ ap ids_of list in
+    let kin = c.list_kin.ensures.kin ∙ ap kin_of list in
     let many = c.list_seen.ensures.size ∙ ap length list ∙ sym (ids_long checks.list) ∙ sym (ap length ids) in
     let numbers = c.keep_numbers-kept.new.numbers.items in
     let valved = subst (λ (n : ℕ). HaveValves n numbers) (ap length list) c.keep_numbers-kept.ensures.valves in
@@ -225,7 +244,7 @@ returns-clause-first c none whole_is =
     let are = subst (λ l. AreSeen [] l c.list_seen.new.into.items) list
     (c.list_seen.ensures.seen no_checks [] knows (subst (EachIsLater no_checks) (sym list) each)) in
     stands zones checks c.plan_valves.new.refs.items c.plan_valves.new.known.items c.plan_valves.new.seats.items c.plan_valves.new.blueprint c.lay_out.new.self
-    c.list_ids.new.ids.items numbers c.list_seen.new.into.items _ sound ids valved many
+    c.list_ids.new.ids.items numbers c.list_seen.new.into.items c.list_kin.new.kin.items _ sound ids kin valved many
     built c.plan_valves.ensures.given c.lay_out.ensures.fits c.lay_out.ensures.idle
     [] c.well_formed-2.ensures c.slots_apart.ensures c.requires.sound tt (c.plan_valves.ensures.all (λ zone p here watched. inl on))
     (tell_all zones checks.list numbers c.plan_valves.new.refs.items seated c.plan_valves.new.seats.items _ _ c.slots_apart.ensures built c.plan_valves.ensures.rest

@@ -1,4 +1,4 @@
-use Rattle.std.proofs.Common.{◌≤◌, List, ap, refl, sym, ◌∙◌}
+use Rattle.std.proofs.Common.{◌≡◌, ◌≤◌, List, ap, refl, sym, ◌∙◌}
 use Rattle.std.proofs.lemmas.Bool.{false≢true}
 use mathlib.Core.Path.{subst}
 use Rattle.health_index.proofs.Moving.{all_moved}
@@ -7,6 +7,7 @@ use Rattle.health_index.proofs.Staying.{leaves_follow, stands_with_valves}
 use Rattle.health_index.specs.Index.{Index, StandsFor}
 use Rattle.health_index.specs.Following.{AreSame, Follows, IsOpenTo, IsWay}
 use Rattle.health_index.proofs.Reshaped.{zones_stay}
+use Rattle.health_index.specs.Kin.{kin_of}
 use Rattle.health_index.specs.Room.{HasRoom}
 use Rattle.health_planning.specs.Zones.{Zone}
 use Rattle.health_index.specs.Leaving.{KeepsValves, Moves, SparesValves}
@@ -25,7 +26,7 @@ returns-then-leaves_valves-clause-stands c before old reports stands leaves =
 
 -- valves stay only where a zone is told
 pub returns-then-leaves_valves-clause-in_place : goal.returns-then-leaves_valves-clause-in_place
-returns-then-leaves_valves-clause-in_place c told none endpoints is open_to =
+returns-then-leaves_valves-clause-in_place c told none kin is open_to =
     absurd ((c.if-leaves_valves.ensures.0 refl).zone none)
 
 -- where no valve of their own changes by the sets that went and came
@@ -44,7 +45,7 @@ returns-then-reseat-clause-beside c spares same many =
     c.if-reseat.ensures.rest ∙ ap (λ (i : Index). record i { seats = c.reseat.new.self.seats }) c.self.view_is
 
 pub returns-then-reseat-clause-in_place : goal.returns-then-reseat-clause-in_place
-returns-then-reseat-clause-in_place c told none endpoints is open_to =
+returns-then-reseat-clause-in_place c told none kin is open_to =
     absurd (c.if-reseat.ensures.zone refl none)
 
 pub returns-then-follow-clause-beside : goal.returns-then-follow-clause-beside
@@ -85,21 +86,23 @@ returns-then-follow-clause-stands c before old reports stands leaves =
     (leaves_follow before old zones checks c.args.delta.now leaves) c.requires.sound refl
 
 pub returns-then-follow-clause-in_place : goal.returns-then-follow-clause-in_place
-returns-then-follow-clause-in_place c told none endpoints is open_to =
+returns-then-follow-clause-in_place c told none kin is open_to =
     subst (λ (i : Index). Follows told c.args.checks.now.checks.list i c.follow.new.self) (c.if-reseat.ensures.stays refl ∙ c.self.view_is)
-    (c.if-follow.ensures.in_place told none endpoints
+    (c.if-follow.ensures.in_place told none
+    (subst (λ (i : Index). i.kin ≡ kin_of c.args.checks.now.checks.list) (sym (c.if-reseat.ensures.stays refl ∙ c.self.view_is)) kin)
     (subst (λ (i : Index). IsWay i.ids c.args.checks.now.checks.list told) (sym (c.if-reseat.ensures.stays refl ∙ c.self.view_is)) is)
-    (subst (IsOpenTo told) (sym (c.if-reseat.ensures.stays refl ∙ c.self.view_is)) open_to)).1
+    (subst (IsOpenTo told c.args.checks.now.checks.list) (sym (c.if-reseat.ensures.stays refl ∙ c.self.view_is)) open_to)).1
 
 pub lay-requires-clause-room : goal.lay-requires-clause-room
 lay-requires-clause-room c =
     subst (λ (i : Index). HasRoom i c.args.zones.now.slots) (sym (c.if-follow.ensures.stays refl ∙ c.if-reseat.ensures.stays refl ∙ c.self.view_is)) c.requires.room
 
 pub returns-clause-in_place : goal.returns-clause-in_place
-returns-clause-in_place c told none endpoints is open_to =
-    absurd (false≢true (c.if-follow.ensures.in_place told none endpoints
+returns-clause-in_place c told none kin is open_to =
+    absurd (false≢true (c.if-follow.ensures.in_place told none
+    (subst (λ (i : Index). i.kin ≡ kin_of c.args.checks.now.checks.list) (sym (c.if-reseat.ensures.stays refl ∙ c.self.view_is)) kin)
     (subst (λ (i : Index). IsWay i.ids c.args.checks.now.checks.list told) (sym (c.if-reseat.ensures.stays refl ∙ c.self.view_is)) is)
-    (subst (IsOpenTo told) (sym (c.if-reseat.ensures.stays refl ∙ c.self.view_is)) open_to)).0)
+    (subst (IsOpenTo told c.args.checks.now.checks.list) (sym (c.if-reseat.ensures.stays refl ∙ c.self.view_is)) open_to)).0)
 
 pub returns-clause-stands : goal.returns-clause-stands
 returns-clause-stands c before old reports stands leaves =

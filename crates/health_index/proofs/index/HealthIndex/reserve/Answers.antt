@@ -14,6 +14,7 @@ invariant_of-self c =
       ids = now.ids;
       numbers = c.room_for_numbers-numbers.ensures.numbers;
       seen = now.seen;
+      kin = c.room_for_kin-kin.ensures.kin;
       seats = slots.seats;
       refs = slots.refs;
       members = slots.members;
@@ -33,6 +34,7 @@ returns-clause-kept c n room =
       seen = omega (arith, old.seen, now.seen_kept);
       ids_before = omega (arith, old.ids_before, before.ids_kept);
       seen_before = omega (arith, old.seen_before, before.seen_kept);
+      kin = omega (arith, old.kin, c.room_for_kin-kin.ensures.kept);
       seats = omega (arith, old.seats, slots.seats_kept);
       refs = omega (arith, old.refs, slots.refs_kept);
       members = omega (arith, old.members, slots.members_kept);
@@ -49,6 +51,7 @@ returns-clause-stands c zones checks reports is =
       ids = now.ids;
       numbers = c.room_for_numbers-numbers.ensures.numbers;
       seen = now.seen;
+      kin = c.room_for_kin-kin.ensures.kin;
       seats = slots.seats;
       refs = slots.refs;
       members = slots.members;
@@ -62,5 +65,6 @@ returns-clause-ready c room =
     c.each_ok.ensures.each (c.room_for_checks-now.ensures.ready old.ids old.seen)
     (c.room_for_checks-before.ensures.ready old.ids_before old.seen_before)
     (c.room_for_numbers-numbers.ensures.ready old.numbers)
+    (c.room_for_kin-kin.ensures.ready old.kin)
     (c.room_for_slots-slots.ensures.ready old.few old.seats old.refs old.members old.triggers
     old.links old.valves)

@@ -17,7 +17,7 @@ returns-in-Same-clause-followed c zones old reports stands later sound done =
     let ids = c.deref.ensures.value ∙ ap (λ (i : Index). i.ids) c.self.view_is in
     let same = subst (λ (l : List (ℕ × Check)). AreSame c.args.self.now.ids l) c.as_slice-list.ensures.checks
     (subst (λ (l : List ℕ). AreSame l c.as_slice-list.result.now) ids c.in-Same.ensures) in
-    same_way zones old c.args.checks.now.checks reports c.args.self.now stands c.as_slice-list.ensures.sound c.requires.endpoints later same.0 same.1
+    same_way zones old c.args.checks.now.checks reports c.args.self.now stands c.as_slice-list.ensures.sound c.requires.kin later same.0 same.1
 
 pub returns-in-More-clause-followed : goal.returns-in-More-clause-followed
 returns-in-More-clause-followed c zones old reports stands later sound done =
@@ -39,8 +39,8 @@ returns-in-Fewer-clause-in_place c told is open_to =
     let fewer = subst (λ (l : List (ℕ × Check)). AreFewer c.args.self.now.ids c.in-Fewer.gone l) c.as_slice-list.ensures.checks
     (subst (λ (l : List ℕ). AreFewer l c.in-Fewer.gone c.as_slice-list.result.now) ids c.in-Fewer.ensures) in
     let same = one_way c.args.self.now.ids c.args.checks.now.checks.list (way.Fewer c.in-Fewer.gone) told apart
-    (λ other. subst (λ (w : Way). IsOpenTo w c.args.self.now) other open_to) fewer is in
-    let ready = subst (λ (w : Way). IsOpenTo w c.args.self.now) (sym same) open_to in
+    (λ other. subst (λ (w : Way). IsOpenTo w c.args.checks.now.checks.list c.args.self.now) other open_to) fewer is in
+    let ready = subst (λ (w : Way). IsOpenTo w c.args.checks.now.checks.list c.args.self.now) (sym same) open_to in
     let done = c.drop_check.ensures.ready ready in
     subst (λ (w : Way). (c.drop_check.result ≡ true)
     × Follows w c.args.checks.now.checks.list c.args.self.now c.drop_check.new.self) same (done, c.drop_check.ensures.follows done)
@@ -52,5 +52,5 @@ returns-in-Other-clause-in_place c told is open_to =
     let none = subst (λ (l : List (ℕ × Check)). IsWay c.args.self.now.ids l way.Other) c.as_slice-list.ensures.checks
     (subst (λ (l : List ℕ). IsWay l c.as_slice-list.result.now way.Other) ids c.in-Other.ensures) in
     let same = one_way c.args.self.now.ids c.args.checks.now.checks.list way.Other told apart
-    (λ other. subst (λ (w : Way). IsOpenTo w c.args.self.now) other open_to) none is in
-    absurd (subst (λ (w : Way). IsOpenTo w c.args.self.now) (sym same) open_to)
+    (λ other. subst (λ (w : Way). IsOpenTo w c.args.checks.now.checks.list c.args.self.now) other open_to) none is in
+    absurd (subst (λ (w : Way). IsOpenTo w c.args.checks.now.checks.list c.args.self.now) (sym same) open_to)
