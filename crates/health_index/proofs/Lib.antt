@@ -1,3 +1,4 @@
+pub mod FedAlike
 pub mod Agreed
 pub mod Again
 pub mod Alone

@@ -175,7 +175,7 @@ module _ (before after : List Zone) (checks : Checks) (reports : List Report) (i
   by_went : (i : ℕ) (ref : SetRef) → slice_get removed i ≡ Some ref → WentBy index.seats added ref
   by_went i ref at = inl (went i ref at)
 
-  by_came : (i : ℕ) (ref : SetRef) → slice_get added i ≡ Some ref → CameBy after index.seats removed ref
+  by_came : (i : ℕ) (ref : SetRef) → slice_get added i ≡ Some ref → CameBy before after index.seats removed ref
   by_came i ref at =
       let c = came i ref at in
       record { set = c.set; names = c.names; as_own = inl c.own; place = inr (c.own, c.none) }
@@ -215,7 +215,7 @@ module _ (before after : List Zone) (checks : Checks) (reports : List Report) (i
               within = g.is.within;
               target = g.is.target;
               its_target = target_now before after stands.are_zones are_after removed added moves index.seats by_went by_came checks.list index.numbers
-                  stands.net stands.own zone p.set.rtype p.set.body g.is.target g.is.its_target;
+                  stands.net stands.own its_ids index.valves zone p.set.rtype p.set.body g.is.target g.is.its_target;
               condition = g.is.condition;
               its_own = g.is.its_own;
             });
@@ -268,7 +268,7 @@ module _ (before after : List Zone) (checks : Checks) (reports : List Report) (i
         | inl spare ↦ inl spare
         | inr n ↦
             let m = node_now before after stands.are_zones are_after removed added moves index.seats by_went by_came checks.list index.numbers
-            stands.net stands.own valve n.0 n.1 in
+            stands.net stands.own its_ids index.valves valve n.0 n.1 in
             inr (m.0, node_same after index.seats now own_same beside.groups stands.net stands.own checks.list index.numbers valve m.0 m.1)
       ];
       spares = stands.wired.spares;

@@ -10,6 +10,7 @@ use Rattle.check_model.specs.Checks.{Checks, check_with}
 use Rattle.check_model.specs.declared.checks.Check.{Check}
 use Rattle.check_model.specs.declared.checks.Check.TheVariants.{Endpoint, Calculated}
 use Rattle.health_valves.specs.Valves.{Net}
+use Rattle.health_valves.specs.declared.valves.Valves.{Valves}
 use Rattle.health_model.proofs.Members.{of_filter}
 use Rattle.health_model.specs.Nodes.{CheckNode, GroupNode, Node, SetNode}
 use Rattle.health_model.specs.Sound.{IsSound}
@@ -38,7 +39,8 @@ use Rattle.health_planning.specs.declared.seats.Seat.{Seat}
 use Rattle.health_planning.proofs.Groups.{alias_alone}
 use Rattle.health_planning.proofs.Wiring.{first_here, of_group, passes_it, rising_in}
 use Rattle.health_index.specs.Index.{Index, IsOfOneGroup, OwnListed, StandsFor, TellApart}
-use Rattle.health_index.specs.Leaving.{AllCameKeepValves, AllWentKeepValves, AreLeft, HasNoValve, IsOneOf, KeepsValves, Moves}
+use Rattle.health_index.specs.Leaving.{AllCameKeepValves, AllWentKeepValves, AreLeft, HasNoValve, IsAsFed, IsOneOf, KeepsValves, Moves}
+use Rattle.health_index.proofs.FedAlike.{StaysFed, stays_fed}
 use Rattle.health_index.proofs.Keyed.{HasIts, first_by_slots, valves_by_slots, grouped, grouped_sets, its, its_same, keyed, keyed_same, plain_by_slots}
 use Rattle.health_index.proofs.Moving.{moved}
 
@@ -73,6 +75,14 @@ in_filter f (other ∷ xs) x there passes =
     by true e (inr rest) later = inr (later rest)
     by false e (inl same) later = absurd (false≢true (sym e ∙ ap f same ∙ passes))
     by false e (inr rest) later = later rest
+
+-- what is decided by its target is decided
+or_on : (check : Option ℕ) {b : Bool} → b ≡ true → is_some check || b ≡ true
+or_on check {b} on = ap (λ (x : Bool). is_some check || x) on ∙ or_true check
+  where
+    or_true : (check : Option ℕ) → is_some check || true ≡ true
+    or_true None = refl
+    or_true (Some id) = refl
 
 -- ---- sets that one check alone decides
 
@@ -130,19 +140,20 @@ WentBy seats added ref =
     ((seat_of seats ref.slot ≡ 0) × (group_seat seats ref.slot ≡ 0)) ⊎ IsOneOf added ref
 
 -- A set came in the place of another, or into a slot and a group without a valve of their own; and where its
--- slot has one, the same check alone decides it.
-pub record CameBy (zones : List Zone) (seats : List Seat) (removed : List SetRef) (ref : SetRef) : Type 0 where
+-- slot has one, the same check alone decides it, or it leads where that one led.
+pub record CameBy (before zones : List Zone) (seats : List Seat) (removed : List SetRef) (ref : SetRef) : Type 0 where
   pub set : RecordSet
   pub names : RefersTo zones ref set
   pub as_own : (seat_of seats ref.slot ≡ 0)
-      ⊎ ((only_check set ≢ 0) × (check_seat seats ref.slot ≡ only_check set))
+      ⊎ (((only_check set ≢ 0) × (check_seat seats ref.slot ≡ only_check set))
+      ⊎ ((p : Slotted) → IsHere (placed_in before ref.zone) p → p.slot ≡ ref.slot → p.set.body ≡ set.body))
   pub place : IsOneOf removed ref
       ⊎ ((seat_of seats ref.slot ≡ 0) × HasNoValve zones seats ref.zone set.name set.rtype)
 
 module _ (before after : List Zone) (are_before : AreZones before) (are_after : AreZones after)
     (removed added : List SetRef) (moves : Moves before after removed added) (seats : List Seat)
     (went : (i : ℕ) (ref : SetRef) → slice_get removed i ≡ Some ref → WentBy seats added ref)
-    (came : (i : ℕ) (ref : SetRef) → slice_get added i ≡ Some ref → CameBy after seats removed ref) where
+    (came : (i : ℕ) (ref : SetRef) → slice_get added i ≡ Some ref → CameBy before after seats removed ref) where
   -- where a set or its group has a valve, a set with its key is in its slot
   stays_seated : (zone : ℕ) (p : Slotted) → IsHere (placed_in before zone) p
       → ((seat_of seats p.slot ≡ 0) × (group_seat seats p.slot ≡ 0) → ⊥)
@@ -292,7 +303,11 @@ module _ (before after : List Zone) (are_before : AreZones before) (are_after : 
             let its_seat = alias zone p here (ap evaluates is.0) in
             elim c.as_own [
               | inl plain ↦ absurd (its_seat.0 plain)
-              | inr same ↦ absurd (same.0 (sym same.1 ∙ its_seat.1))
+              | inr (inl same) ↦ absurd (same.0 (sym same.1 ∙ its_seat.1))
+              | inr (inr leads) ↦
+                  let q : Slotted = record { slot = p.slot; set = c.set } in
+                  let types = ap (λ (k : SetKey). k.rtype) (moves.keys zone p q here c.names refl) in
+                  (q, (c.names, (sym (leads p here refl) ∙ is.0, sym types ∙ is.1)))
             ]
       ]
       | inr there ↦ (p, (there, is))
@@ -342,7 +357,7 @@ module _ (before after : List Zone) (are_before : AreZones before) (are_after : 
         ]
   ]
 
-  module _ (checks : List (ℕ × Check)) (numbers : List ℕ) (net : Net) (own : ℕ → ℕ) where
+  module _ (checks : List (ℕ × Check)) (numbers : List ℕ) (net : Net) (own : ℕ → ℕ) (ids : List ℕ) (valves : Valves) where
     -- a group with a valve has it still
     record HasStill (zone : ℕ) (name : List (List ℕ)) (rtype : RType) (valve : ℕ)
         : Type 0 where
@@ -442,24 +457,59 @@ module _ (before after : List Zone) (are_before : AreZones before) (are_after : 
               ];
             }
 
-    pub seated_all : AllCameKeepValves after seats removed added
+    -- an alias in the place of another that the same valves fed
+    seated_fed : (zone : ℕ) (p q : Slotted) → p.slot ≡ q.slot
+        → StaysFed before (ids_of checks) numbers seats net own zone p q
+        → IsSeated after (ids_of checks) numbers seats net own zone q
+    seated_fed zone p q slots s =
+        let watched = or_on q.set.check s.on in
+        record {
+          plain = λ off. absurd (false≢true (sym off ∙ watched));
+          told = λ on. ap (check_seat seats) (sym slots) ∙ s.names_none ∙ sym (alias_alone q.set s.on);
+          valved = λ on. inr (
+            s.valve,
+            ap (seat_of seats) (sym slots) ∙ s.seat,
+            record {
+              behind = s.is.behind;
+              within = s.is.within;
+              target = s.is.target;
+              its_target = subst (λ (t : RType). IsTarget after seats net own zone t q.set.body s.is.target) s.types
+                  (subst (λ (b : Body). IsTarget after seats net own zone p.set.rtype b s.is.target) s.bodies
+                  (target_now zone p.set.rtype p.set.body s.is.target s.is.its_target));
+              condition = s.is.condition ∙ ap (λ (l : List ℕ). set_condition (l ++ s.is.target)) s.checks;
+              its_own = s.is.its_own;
+            },
+          );
+        }
+
+    pub seated_all : AllCameKeepValves after ids numbers seats valves removed added
+        → ((zone : ℕ) (p q : Slotted) → IsHere (placed_in before zone) p → IsHere (placed_in after zone) q
+        → p.slot ≡ q.slot → IsAsFed after ids numbers seats valves zone q.slot q.set
+        → StaysFed before (ids_of checks) numbers seats net own zone p q)
         → ((zone : ℕ) (p : Slotted) → IsHere (placed_in before zone) p
         → IsSeated before (ids_of checks) numbers seats net own zone p)
         → (zone : ℕ) (p : Slotted) → IsHere (placed_in after zone) p
         → IsSeated after (ids_of checks) numbers seats net own zone p
-    seated_all keeps seated zone q here = elim (moves.only zone q here) [
+    seated_all keeps stays_fed seated zone q here = elim (moves.only zone q here) [
       | inl old ↦ seated_now zone q (seated zone q old)
       | inr new ↦
           let c = keeps new.0 (ref_in zone q) new.1 in
           let set_is = one_named after (ref_in zone q) c.set q.set are_after c.names here in
           elim c.as_seated [
-            | inl plain ↦ seated_plain zone q plain.0 (sym (ap is_watched set_is) ∙ plain.1)
-            | inr same ↦ elim c.place [
+            | inl (inl plain) ↦ seated_plain zone q plain.0 (sym (ap is_watched set_is) ∙ plain.1)
+            | inl (inr same) ↦ elim c.place [
               | inl told ↦
                   let p = moves.gone zone q told in
                   seated_alike zone p.0 q p.2 (seated zone p.0 p.1) same.0
                   (λ e. same.1 (ap only_check set_is ∙ e)) (same.2 ∙ ap only_check set_is)
               | inr alone ↦ absurd (same.0 alone.0)
+            ]
+            | inr fed ↦ elim c.place [
+              | inl told ↦
+                  let p = moves.gone zone q told in
+                  seated_fed zone p.0 q p.2 (stays_fed zone p.0 q p.1 here p.2
+                  (subst (IsAsFed after ids numbers seats valves zone q.slot) set_is fed))
+              | inr alone ↦ (let seat = fed.seat in let none = ap own_part alone.0 in absurd (omega (arith, seat, none)))
             ]
           ]
     ]
@@ -500,17 +550,13 @@ pub alias_seated : (zones : List Zone) (checks : Checks) (reports : List Report)
     → (seat_of index.seats p.slot ≢ 0) × (check_seat index.seats p.slot ≡ 0)
 alias_seated zones checks reports index stands zone p here on =
     let w = stands.wired.its_sets zone p here in
-    let decided : is_watched p.set ≡ true = ap (λ (b : Bool). is_some p.set.check || b) on ∙ or_true p.set.check in (
+    let decided : is_watched p.set ≡ true = or_on p.set.check on in (
       elim (w.valved decided) [
         | inl alone ↦ absurd (false≢true (sym alone.1.0.0 ∙ on))
         | inr g ↦ (λ none. let seat = g.1 in omega arith)
       ],
       w.told decided ∙ alias_alone p.set on,
     )
-  where
-    or_true : (check : Option ℕ) → is_some check || true ≡ true
-    or_true None = refl
-    or_true (Some id) = refl
 
 -- what keeps all valves keeps those of sets' own
 went_by : (seats : List Seat) (added removed : List SetRef) → AllWentKeepValves seats added removed
@@ -520,17 +566,21 @@ went_by seats added removed went i ref at = elim (went i ref at) [
   | inr other ↦ inr other
 ]
 
-came_by : (zones : List Zone) (seats : List Seat) (removed added : List SetRef)
-    → AllCameKeepValves zones seats removed added
-    → (i : ℕ) (ref : SetRef) → slice_get added i ≡ Some ref → CameBy zones seats removed ref
-came_by zones seats removed added came i ref at =
+came_by : (before zones : List Zone) (ids numbers : List ℕ) (seats : List Seat) (valves : Valves)
+    (removed added : List SetRef) → AllCameKeepValves zones ids numbers seats valves removed added
+    → ((zone : ℕ) (p q : Slotted) → IsHere (placed_in before zone) p → IsHere (placed_in zones zone) q
+    → p.slot ≡ q.slot → IsAsFed zones ids numbers seats valves zone q.slot q.set → p.set.body ≡ q.set.body)
+    → (i : ℕ) (ref : SetRef) → slice_get added i ≡ Some ref → CameBy before zones seats removed ref
+came_by before zones ids numbers seats valves removed added came leads i ref at =
     let c = came i ref at in
     record {
       set = c.set;
       names = c.names;
       as_own = elim c.as_seated [
-        | inl plain ↦ inl (ap own_part plain.0)
-        | inr same ↦ inr (same.1, same.2)
+        | inl (inl plain) ↦ inl (ap own_part plain.0)
+        | inl (inr same) ↦ inr (inl (same.1, same.2))
+        | inr fed ↦ inr (inr (λ p was slots.
+            leads ref.zone p (record { slot = ref.slot; set = c.set }) was c.names slots fed))
       ];
       place = elim c.place [
         | inl told ↦ inl told
@@ -541,8 +591,8 @@ came_by zones seats removed added came i ref at =
 -- a seat that tells something is that of a set still
 taken_stays : (before after : List Zone) (removed added : List SetRef) (seats : List Seat)
     → Moves before after removed added → AllWentKeepValves seats added removed
-    → AllCameKeepValves after seats removed added → (slot : ℕ) → set_seat seats slot ≢ 0
-    → HoldsSet before slot → HoldsSet after slot
+    → ((i : ℕ) (ref : SetRef) → slice_get added i ≡ Some ref → CameBy before after seats removed ref)
+    → (slot : ℕ) → set_seat seats slot ≢ 0 → HoldsSet before slot → HoldsSet after slot
 taken_stays before after removed added seats moves went came slot some (ref, (named, (names, same))) =
     let p : Slotted = record { slot = ref.slot; set = named } in
     elim (moves.stays ref.zone p names) [
@@ -557,18 +607,24 @@ taken_stays before after removed added seats moves went came slot some (ref, (na
 
 module _ (before after : List Zone) (reports : List Report) (index : Index) (delta : Delta)
     (are_after : AreZones after) (slots_after : HaveSlotsApart after)
-    (valve_leaving : KeepsValves after index.seats delta) where
+    (valve_leaving : KeepsValves after index.ids index.numbers index.seats index.valves delta)
+    (checks : Checks) (stands : StandsFor before checks reports index)
+    (moves : Moves before after delta.removed delta.added) where
+  stay_fed : (zone : ℕ) (p q : Slotted) → IsHere (placed_in before zone) p → IsHere (placed_in after zone) q
+      → p.slot ≡ q.slot → IsAsFed after index.ids index.numbers index.seats index.valves zone q.slot q.set
+      → StaysFed before (ids_of checks.list) index.numbers index.seats stands.net stands.own zone p q
+  stay_fed = stays_fed before after checks reports index stands delta.removed delta.added moves
+
   by_went : (i : ℕ) (ref : SetRef) → slice_get delta.removed i ≡ Some ref → WentBy index.seats delta.added ref
   by_went = went_by index.seats delta.added delta.removed valve_leaving.went
 
   by_came : (i : ℕ) (ref : SetRef) → slice_get delta.added i ≡ Some ref
-      → CameBy after index.seats delta.removed ref
-  by_came = came_by after index.seats delta.removed delta.added valve_leaving.came
+      → CameBy before after index.seats delta.removed ref
+  by_came = came_by before after index.ids index.numbers index.seats index.valves delta.removed delta.added valve_leaving.came
+      (λ zone p q was here slots fed. (stay_fed zone p q was here slots fed).bodies)
 
-  edited : (checks : Checks) → IsSound (watched_of after checks)
-      → StandsFor before checks reports index
-      → Moves before after delta.removed delta.added → StandsFor after checks reports index
-  edited checks sound stands moves = record {
+  pub edited : IsSound (watched_of after checks) → StandsFor after checks reports index
+  edited sound = record {
     are_zones = are_after;
     slots = slots_after;
     are_checks = stands.are_checks;
@@ -586,11 +642,11 @@ module _ (before after : List Zone) (reports : List Report) (index : Index) (del
     wired = record {
       its_checks = stands.wired.its_checks;
       its_sets = seated_all before after stands.are_zones are_after delta.removed delta.added moves index.seats by_went by_came checks.list index.numbers
-          stands.net stands.own valve_leaving.came stands.wired.its_sets;
+          stands.net stands.own index.ids index.valves valve_leaving.came stay_fed stands.wired.its_sets;
       its_nodes = λ valve within.
           elim (stands.wired.its_nodes valve within) [
             | inl spare ↦ inl spare
-            | inr n ↦ inr (node_now before after stands.are_zones are_after delta.removed delta.added moves index.seats by_went by_came checks.list index.numbers stands.net stands.own valve n.0 n.1)
+            | inr n ↦ inr (node_now before after stands.are_zones are_after delta.removed delta.added moves index.seats by_went by_came checks.list index.numbers stands.net stands.own index.ids index.valves valve n.0 n.1)
           ];
       spares = stands.wired.spares;
       many = stands.wired.many;
@@ -599,17 +655,21 @@ module _ (before after : List Zone) (reports : List Report) (index : Index) (del
     };
     told = told_now before after stands.are_zones are_after delta.removed delta.added moves index.seats by_went by_came
         (alias_seated before checks reports index stands)
-        (λ slot some. taken_stays before after delta.removed delta.added index.seats moves valve_leaving.went valve_leaving.came slot some (stands.told.here slot some)) stands.told;
+        (λ slot some. taken_stays before after delta.removed delta.added index.seats moves valve_leaving.went by_came slot some (stands.told.here slot some)) stands.told;
     fits = stands.fits;
     meet = stands.meet;
     idle = stands.idle;
   }
 
-  pub stands_with_valves : (old new : Checks) → IsSound (watched_of after new)
-      → StandsFor before old reports index → AreLeft before old after new delta
-      → StandsFor after new reports index
-  stands_with_valves old new sound stands (inl (made, (allowed, edits, kept))) =
-      subst (λ (c : Checks). StandsFor after c reports index) (sym kept)
-      (edited old (subst (λ (c : Checks). IsSound (watched_of after c)) kept sound) stands
-      (moved before after stands.are_zones are_after made delta allowed edits valve_leaving.zone))
-  stands_with_valves old new sound stands (inr (stayed, follows, none)) = absurd (valve_leaving.zone none)
+pub stands_with_valves : (before after : List Zone) (reports : List Report) (index : Index) (delta : Delta)
+    → AreZones after → HaveSlotsApart after
+    → KeepsValves after index.ids index.numbers index.seats index.valves delta
+    → (old new : Checks) → IsSound (watched_of after new) → StandsFor before old reports index
+    → AreLeft before old after new delta → StandsFor after new reports index
+stands_with_valves before after reports index delta are_after slots_after leaving old new sound stands (inl (made, (allowed, edits, kept))) =
+    subst (λ (c : Checks). StandsFor after c reports index) (sym kept)
+    (edited before after reports index delta are_after slots_after leaving old stands
+    (moved before after stands.are_zones are_after made delta allowed edits leaving.zone)
+    (subst (λ (c : Checks). IsSound (watched_of after c)) kept sound))
+stands_with_valves before after reports index delta are_after slots_after leaving old new sound stands (inr (stayed, follows, none)) =
+    absurd (leaving.zone none)

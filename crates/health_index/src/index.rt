@@ -206,7 +206,8 @@ impl HealthIndex {
     /// Takes a command: the zones and the checks are those that it left, and the references are
     /// those that it told. It takes no memory.
     ///
-    /// Where sets gave way to others that the same check alone decides, or nothing, and else sets
+    /// Where sets gave way to others that the same check alone decides, or nothing, or the same check and the
+    /// same target group, and else sets
     /// that nothing decides went and came, but in no group to which an evaluated alias leads, it
     /// costs a look at these and at their groups, and a comparison of those that came with those that
     /// went. Where sets went and came in no such group, and none of them is an evaluated alias, whichever
@@ -225,7 +226,8 @@ impl HealthIndex {
             → StandsFor zones.now.zones checks.now.checks reports self.new }
 
         // Where the sets that went and came are of this kind, the index stays as it is.
-        ensures same { KeepsValves zones.now.zones self.old.seats delta.now
+        ensures same { KeepsValves zones.now.zones self.old.ids self.old.numbers self.old.seats
+            self.old.valves delta.now
             → self.new ≡ self.old }
 
         // Where they went and came beside all valves of sets and groups, nothing changes but seats: which
@@ -243,7 +245,15 @@ impl HealthIndex {
     {
         zones.well_formed();
         zones.slots_apart();
-        if leaves_valves(zones, &self.seats, delta, &mut self.scratch) {
+        if leaves_valves(
+            zones,
+            &self.ids,
+            &self.numbers,
+            &self.seats,
+            &self.valves,
+            delta,
+            &mut self.scratch,
+        ) {
             return;
         }
         if self.reseat(zones, checks, delta) {

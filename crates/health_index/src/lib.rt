@@ -12,6 +12,7 @@
 //! (`valve_numbers`), also where all is laid out anew.
 #![tactic(auto)]
 
+mod fed_alike;
 mod finding;
 mod following;
 mod index;

@@ -1,13 +1,15 @@
 //! Commands by which surely no valve changes: sets give way to others that the same check alone decides, or
-//! nothing, or sets that nothing decides go and come where no valve is.
+//! nothing, or the same check and the same target group, or sets that nothing decides go and come where no
+//! valve is.
 
-ghost use Rattle.std.specs.Prelude.{◌≡◌, ◌≢◌, ◌↔◌, [], ℕ, IsTrue, List, false};
+ghost use Rattle.std.specs.Prelude.{◌≡◌, ◌≢◌, ◌<◌, ◌↔◌, [], ℕ, IsTrue, List, false, length, suc};
 ghost use Rattle.health_index.specs.Leaving.{AllCameKeepValves, AllWentKeepValves};
-ghost use Rattle.health_index.specs.Leaving.{CameKeepsValves, HasNoValve, IsAsSeated, IsOneOf};
+ghost use Rattle.health_index.specs.Leaving.{CameKeepsValves, HasNoValve, IsAsSeated, IsAsTold, IsOneOf};
 ghost use Rattle.health_index.specs.Leaving.{AllCameBeside, AllWentBeside, CameBeside, KeepsValves};
 ghost use Rattle.health_index.specs.Leaving.{SparesValves, WentKeepsValves};
 ghost use Rattle.health_planning.specs.Building.{IsFree, IsSeatAt};
-ghost use Rattle.health_planning.specs.Wired.{group_seat};
+ghost use Rattle.health_planning.specs.Wired.{StandApart, group_seat, set_seat};
+ghost use Rattle.health_valves.specs.Valves.{IsReady, size_of};
 ghost use Rattle.health_planning.specs.declared.seats.Seat.{Seat};
 ghost use Rattle.health_planning.specs.Groups.{members_of};
 ghost use Rattle.record_set.specs.declared.sets.RecordSet.{RecordSet};
@@ -15,11 +17,13 @@ ghost use Rattle.health_planning.specs.Telling.{evaluates, watch_of};
 ghost use Rattle.zone_model.specs.Slotted.{IsHere, Slotted};
 ghost use Rattle.health_planning.specs.Looking.{IsGroupNow, RefersTo};
 
+use crate::fed_alike::is_fed_alike;
 use crate::finding::find_seat;
 use health_planning::{
     Delta, Group, Scratch, Seat, SetRef, Watch, Zones, find_group, is_watched, only_check,
     own_valve,
 };
+use health_valves::Valves;
 
 /// Whether one of some references is this one.
 fn is_one_of(refs: &[SetRef], set: SetRef) -> bool
@@ -88,7 +92,7 @@ fn has_no_valve(zones: &Zones, seats: &[Seat], set: SetRef, scratch: &mut Scratc
 /// Whether what decides a set is what a seat tells: nothing, or the same check alone.
 fn is_as_told(seat: Seat, watch: Watch) -> bool
     ensures { (seats : List Seat) (slot : ℕ) (named : RecordSet) → IsSeatAt seats slot seat
-        → watch ≡ watch_of named → IsTrue result ↔ IsAsSeated seats slot named }
+        → watch ≡ watch_of named → IsTrue result ↔ IsAsTold seats slot named }
 {
     if seat.set == 0 {
         return !is_watched(watch);
@@ -97,31 +101,53 @@ fn is_as_told(seat: Seat, watch: Watch) -> bool
     check != 0 && seat.check == check
 }
 
-/// Whether what decides the set that a reference names is what the seat in its slot tells.
-fn is_as_seated(zones: &Zones, seats: &[Seat], set: SetRef) -> bool
+/// Whether what decides the set that a reference names is what decided the one that was in its slot.
+fn is_as_seated(
+    zones: &Zones,
+    ids: &[u32],
+    numbers: &[u32],
+    seats: &[Seat],
+    valves: &Valves,
+    set: SetRef,
+) -> bool
+    requires ready { IsReady valves.now }
+    requires apart { StandApart ids.now }
+    requires as_many { length numbers.now ≡ length ids.now }
+    requires seated { (slot valve : ℕ) → set_seat seats.now slot ≡ suc valve
+        → valve < size_of valves.now }
     ensures { IsTrue result ↔ ((named : RecordSet) × RefersTo zones.now.zones set named
-        × IsAsSeated seats.now set.slot named) }
+        × IsAsSeated zones.now.zones ids.now numbers.now seats.now valves.now set named) }
 {
     zones.well_formed();
-    match zones.watch(set) {
-        Some(watch) => is_as_told(find_seat(seats, set.slot), watch),
-        None => false,
-    }
+    let Some(watch) = zones.watch(set) else {
+        return false;
+    };
+    is_as_told(find_seat(seats, set.slot), watch)
+        || is_fed_alike(zones, ids, numbers, seats, valves, set, watch)
 }
 
 /// Whether a set came in the place of another, or into a slot and a group without a valve, and what
-/// decides it is what the seat tells.
+/// decides it is what decided that.
 fn came_leaves_valves(
     zones: &Zones,
+    ids: &[u32],
+    numbers: &[u32],
     seats: &[Seat],
+    valves: &Valves,
     set: SetRef,
     removed: &[SetRef],
     scratch: &mut Scratch,
 ) -> bool
-    ensures { IsTrue result ↔ CameKeepsValves zones.now.zones seats.now removed.now set }
+    requires ready { IsReady valves.now }
+    requires apart { StandApart ids.now }
+    requires as_many { length numbers.now ≡ length ids.now }
+    requires seated { (slot valve : ℕ) → set_seat seats.now slot ≡ suc valve
+        → valve < size_of valves.now }
+    ensures { IsTrue result ↔ CameKeepsValves zones.now.zones ids.now numbers.now seats.now valves.now
+        removed.now set }
 {
     zones.well_formed();
-    if !is_as_seated(zones, seats, set) {
+    if !is_as_seated(zones, ids, numbers, seats, valves, set) {
         return false;
     }
     if is_one_of(removed, set) {
@@ -136,15 +162,24 @@ fn came_leaves_valves(
 /// Whether no valve changes by the sets that came.
 fn all_came_leave_valves(
     zones: &Zones,
+    ids: &[u32],
+    numbers: &[u32],
     seats: &[Seat],
+    valves: &Valves,
     removed: &[SetRef],
     added: &[SetRef],
     scratch: &mut Scratch,
 ) -> bool
-    ensures { IsTrue result ↔ AllCameKeepValves zones.now.zones seats.now removed.now added.now }
+    requires ready { IsReady valves.now }
+    requires apart { StandApart ids.now }
+    requires as_many { length numbers.now ≡ length ids.now }
+    requires seated { (slot valve : ℕ) → set_seat seats.now slot ≡ suc valve
+        → valve < size_of valves.now }
+    ensures { IsTrue result ↔ AllCameKeepValves zones.now.zones ids.now numbers.now seats.now valves.now
+        removed.now added.now }
 {
     for set in added {
-        if !came_leaves_valves(zones, seats, *set, removed, scratch) {
+        if !came_leaves_valves(zones, ids, numbers, seats, valves, *set, removed, scratch) {
             return false;
         }
     }
@@ -152,8 +187,22 @@ fn all_came_leave_valves(
 }
 
 /// Whether no valve changes by the sets that went from a zone, and by those that came.
-pub fn leaves_valves(zones: &Zones, seats: &[Seat], delta: &Delta, scratch: &mut Scratch) -> bool
-    ensures { IsTrue result ↔ KeepsValves zones.now.zones seats.now delta.now }
+pub fn leaves_valves(
+    zones: &Zones,
+    ids: &[u32],
+    numbers: &[u32],
+    seats: &[Seat],
+    valves: &Valves,
+    delta: &Delta,
+    scratch: &mut Scratch,
+) -> bool
+    requires ready { IsReady valves.now }
+    requires apart { StandApart ids.now }
+    requires as_many { length numbers.now ≡ length ids.now }
+    requires seated { (slot valve : ℕ) → set_seat seats.now slot ≡ suc valve
+        → valve < size_of valves.now }
+    ensures { IsTrue result ↔ KeepsValves zones.now.zones ids.now numbers.now seats.now valves.now
+        delta.now }
 {
     if delta.zone == 0 {
         return false;
@@ -163,7 +212,7 @@ pub fn leaves_valves(zones: &Zones, seats: &[Seat], delta: &Delta, scratch: &mut
     if !all_went_leave_valves(seats, removed, added) {
         return false;
     }
-    all_came_leave_valves(zones, seats, removed, added, scratch)
+    all_came_leave_valves(zones, ids, numbers, seats, valves, removed, added, scratch)
 }
 
 /// The sets that went by a command, where it tells of a zone.

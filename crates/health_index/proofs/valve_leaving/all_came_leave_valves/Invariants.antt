@@ -6,4 +6,5 @@ use Rattle.health_index.proofs.valve_leaving.all_came_leave_valves.Given as goal
 
 abbrev pub invariant-loop-set : goal.invariant-loop-set
 invariant-loop-set l = (k : ℕ) (ref : SetRef) → k < l.set-index
-    → slice_get l.added k ≡ Some ref → CameKeepsValves l.zones.zones l.seats l.removed ref
+    → slice_get l.added k ≡ Some ref
+    → CameKeepsValves l.zones.zones l.ids l.numbers l.seats l.valves l.removed ref

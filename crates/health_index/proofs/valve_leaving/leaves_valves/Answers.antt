@@ -6,8 +6,7 @@ use Rattle.health_index.proofs.valve_leaving.leaves_valves.Goals as goal
 
 pub returns : goal.returns
 returns c =
-    let zones = c.args.zones.now.zones in
-    let seats = c.args.seats.now in
+    let came_by = AllCameKeepValves c.args.zones.now.zones c.args.ids.now c.args.numbers.now c.args.seats.now c.args.valves.now in
     let removed = c.as_slice-removed.ensures in
     let added = c.as_slice-added.ensures in
     let went = c.all_went_leave_valves.ensures.0 c.if-not-all_went_leave_valves.false in
@@ -17,6 +16,6 @@ returns c =
         went = rw (removed, added) at went;
         came = rw (removed, added) at came.0 so;
       },
-      λ u. came.1 (subst (λ (l : List SetRef). AllCameKeepValves zones seats l c.as_slice-added.result.now) (sym removed)
-          (subst (λ (l : List SetRef). AllCameKeepValves zones seats c.args.delta.now.removed l) (sym added) u.came)),
+      λ u. came.1 (subst (λ (l : List SetRef). came_by l c.as_slice-added.result.now) (sym removed)
+          (subst (λ (l : List SetRef). came_by c.args.delta.now.removed l) (sym added) u.came)),
     )

@@ -1,4 +1,4 @@
-use Rattle.std.proofs.Common.{◌≡◌, ◌≤◌, List, ap, refl, sym, ◌∙◌}
+use Rattle.std.proofs.Common.{◌≡◌, ◌≤◌, ℕ, suc, List, arith, ap, refl, sym, ◌∙◌}
 use Rattle.std.proofs.lemmas.Bool.{false≢true}
 use mathlib.Core.Path.{subst}
 use Rattle.health_index.proofs.Moving.{all_moved}
@@ -9,20 +9,37 @@ use Rattle.health_index.specs.Following.{AreSame, Follows, IsOpenTo, IsWay}
 use Rattle.health_index.proofs.Reshaped.{zones_stay}
 use Rattle.health_index.specs.Kin.{kin_of}
 use Rattle.health_index.specs.Room.{HasRoom}
+use Rattle.health_planning.specs.DeltaRecord.{Delta}
+use Rattle.health_planning.specs.Wired.{set_seat}
 use Rattle.health_planning.specs.Zones.{Zone}
 use Rattle.health_index.specs.Leaving.{KeepsValves, Moves, SparesValves}
 use Rattle.health_index.proofs.Beside.{seats_same}
 use Rattle.health_valves.specs.Valves.{size_of}
+use Rattle.health_valves.specs.declared.valves.Valves.{Valves}
 use Rattle.health_index.proofs.index.HealthIndex.on_command.Goals as goal
+
+-- sets that keep the valves of an index keep those of one that is the same
+kept_by : (zones : List Zone) (delta : Delta) {ids ids_now numbers numbers_now : List ℕ}
+    {seats seats_now : List Seat} {valves valves_now : Valves} → ids ≡ ids_now → numbers ≡ numbers_now
+    → seats ≡ seats_now → valves ≡ valves_now → KeepsValves zones ids numbers seats valves delta
+    → KeepsValves zones ids_now numbers_now seats_now valves_now delta
+kept_by zones delta {ids} {ids_now} {numbers} {numbers_now} {seats} {seats_now} {valves} {valves_now} a b s v keeps =
+    subst (λ (x : Valves). KeepsValves zones ids_now numbers_now seats_now x delta) v
+    (subst (λ (x : List Seat). KeepsValves zones ids_now numbers_now x valves delta) s
+    (subst (λ (x : List ℕ). KeepsValves zones ids_now x seats valves delta) b
+    (subst (λ (x : List ℕ). KeepsValves zones x numbers seats valves delta) a keeps)))
 
 pub returns-then-leaves_valves-clause-stands : goal.returns-then-leaves_valves-clause-stands
 returns-then-leaves_valves-clause-stands c before old reports stands leaves =
     let zones = c.args.zones.now.zones in
     let checks = c.args.checks.now.checks in
-    let seats_is = c.deref.ensures.value ∙ ap (λ (i : Index). i.seats) c.self.view_is in
-    let valve_leaving = subst (λ (seats : List Seat). KeepsValves zones seats c.args.delta.now) seats_is (c.if-leaves_valves.ensures.0 refl) in
+    let leaving = kept_by zones c.args.delta.now
+    (c.deref.ensures.value ∙ ap (λ (i : Index). i.ids) c.self.view_is)
+    (c.deref-2.ensures.value ∙ ap (λ (i : Index). i.numbers) c.self.view_is)
+    (c.deref-3.ensures.value ∙ ap (λ (i : Index). i.seats) c.self.view_is)
+    (ap (λ (i : Index). i.valves) c.self.view_is) (c.if-leaves_valves.ensures.0 refl) in
     subst (StandsFor zones checks reports) (sym c.self.view_is)
-    (stands_with_valves before zones reports c.args.self.now c.args.delta.now c.well_formed-2.ensures c.slots_apart.ensures valve_leaving old checks c.requires.sound stands leaves)
+    (stands_with_valves before zones reports c.args.self.now c.args.delta.now c.well_formed-2.ensures c.slots_apart.ensures leaving old checks c.requires.sound stands leaves)
 
 -- valves stay only where a zone is told
 pub returns-then-leaves_valves-clause-in_place : goal.returns-then-leaves_valves-clause-in_place
@@ -115,3 +132,11 @@ returns-clause-stands c before old reports stands leaves =
     c.lay.ensures.stands before old reports (subst (StandsFor before old reports) (sym same) stands)
     (leaves_follow before old zones checks delta leaves)
     (subst (Moves before zones c.gone_by.result.now) (sym c.as_slice.ensures) moves)
+
+pub leaves_valves-requires-clause-seated : goal.leaves_valves-requires-clause-seated
+leaves_valves-requires-clause-seated c slot valve at =
+    let w = c.self.invariant in
+    let seat : set_seat c.self.inside.seats.items slot ≡ suc valve = rw c.deref-3.ensures.value at at in
+    let b = w.seated slot valve seat in
+    let size = w.fits.laid.size in
+    omega arith
