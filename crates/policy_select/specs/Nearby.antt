@@ -1,5 +1,5 @@
 -- The sets of a geolocation group that may apply to a client, and those that are for another country.
-use Rattle.std.specs.Prelude.{◌≡◌, ◌≢◌, ◌<◌, ℕ, Bool, false, Option, List, [], ◌∷◌, length, map}
+use Rattle.std.specs.Prelude.{◌≡◌, ◌≢◌, ◌<◌, ℕ, Bool, false, Option, Some, None, List, [], ◌∷◌, length, map}
 use Rattle.std.specs.Option.{option_map}
 use Rattle.std.proofs.Math.ListN.{get_or}
 use Rattle.considered_sets.specs.Considered.{places_from}
@@ -17,6 +17,12 @@ noted sets k = get_or sets k 0
 abbrev pub IsOtherCountry : (country : ℕ) → Place → Type 0
 IsOtherCountry country place =
     (letters : List ℕ) × (place ≡ Country letters) × (code_number letters ≢ country)
+
+-- What is told of a place to one who asks for those that may apply in a country: the place, or
+-- nothing where it is a country other than that of the number.
+abbrev pub TellsNear : (country : ℕ) → Place → Option Place → Type 0
+TellsNear country place None = IsOtherCountry country place
+TellsNear country place (Some told) = told ≡ place
 
 -- Alone in a group, a set with this place would not answer the client.
 abbrev pub IsElsewhere : Option Location → Place → Type 0

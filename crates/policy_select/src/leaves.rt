@@ -163,23 +163,39 @@ pub(crate) fn choose_region<V: HealthView>(
     ensures scope { result.1 ≡ scope_in tables.now.latencies client }
 {
     let (latencies, scope) = latencies_of(tables, client);
-    let slots = zones.slots_of(group);
     if group.length <= FEW {
-        let mut regions = [*first; FEW];
-        let set = nearest_region(
-            zones,
-            group,
-            slots,
-            view,
-            first,
-            latencies,
-            at,
-            &mut regions,
+        return (
+            nearest_of_few(zones, group, view, first, latencies, at),
+            scope,
         );
-        return (set, scope);
     }
-    let mut regions = [*first; GROUP];
-    let set = nearest_region(
+    (
+        nearest_of_many(zones, group, view, first, latencies, at),
+        scope,
+    )
+}
+
+/// Chooses from a latency group of few sets by the latencies of the client.
+fn nearest_of_few<V: HealthView>(
+    zones: &Zones,
+    group: Group,
+    view: &V,
+    first: &Region,
+    latencies: Option<&Latencies>,
+    at: usize,
+) -> usize
+    requires group { IsGroupNow zones.now.zones group }
+    requires at { PoliciesAreAt (sets_in zones.now.zones group) at }
+    requires first { FirstSays region_of first.now (sets_in zones.now.zones group) }
+    requires some { 0 < group.length }
+    requires few { group.length ≤ 24 }
+    ensures { result
+        ≡ region_chosen (each region_of first.now (sets_in zones.now.zones group))
+        (flags_in zones.now.zones (V.test view.now) group) (option_copied latencies.entry) }
+{
+    let slots = zones.slots_of(group);
+    let mut regions = [*first; FEW];
+    nearest_region(
         zones,
         group,
         slots,
@@ -188,8 +204,41 @@ pub(crate) fn choose_region<V: HealthView>(
         latencies,
         at,
         &mut regions,
-    );
-    (set, scope)
+    )
+}
+
+/// The same from a group of many sets.
+// Apart, so that others pass by the room for so many regions.
+#[inline(never)]
+fn nearest_of_many<V: HealthView>(
+    zones: &Zones,
+    group: Group,
+    view: &V,
+    first: &Region,
+    latencies: Option<&Latencies>,
+    at: usize,
+) -> usize
+    requires group { IsGroupNow zones.now.zones group }
+    requires at { PoliciesAreAt (sets_in zones.now.zones group) at }
+    requires first { FirstSays region_of first.now (sets_in zones.now.zones group) }
+    requires some { 0 < group.length }
+    requires few { group.length ≤ 100 }
+    ensures { result
+        ≡ region_chosen (each region_of first.now (sets_in zones.now.zones group))
+        (flags_in zones.now.zones (V.test view.now) group) (option_copied latencies.entry) }
+{
+    let slots = zones.slots_of(group);
+    let mut regions = [*first; GROUP];
+    nearest_region(
+        zones,
+        group,
+        slots,
+        view,
+        first,
+        latencies,
+        at,
+        &mut regions,
+    )
 }
 
 /// Chooses from a latency group by the latencies of the client, in room for the regions.

@@ -11,10 +11,10 @@ ghost use Rattle.policy_select.specs.Nearby.{AreNoted};
 ghost use Rattle.policy_select.specs.Groups.{flags_in, sets_in};
 ghost use Rattle.policy_select.specs.Rules.{FirstSays};
 
-use crate::group::{MOST, is_member_healthy, policy_copied, policy_front, routing_at};
+use crate::group::{MOST, is_member_healthy, policy_copied, routing_at};
 use crate::near::country_of;
-use crate::parts::{is_elsewhere_in, location_or, region_in};
-use crate::said::{place_of_member, role_of_member, weight_of_member};
+use crate::parts::{location_or, region_in};
+use crate::said::{near_place_of_member, role_of_member, weight_of_member};
 use crate::view::HealthView;
 use answer_model::Location;
 use routing::{Place, Region, Role};
@@ -118,12 +118,22 @@ pub(crate) fn note_near<V: HealthView>(
     ensures sets { length sets.new ≡ length sets.old }
 {
     let country = country_of(client);
+    let mut buffer = [0; MOST];
     let mut count = 0;
     for i in 0..group.length {
-        if is_elsewhere_in(policy_front(zones, group, slots, at, i), country) {
+        let Some(place) = near_place_of_member(
+            zones,
+            group,
+            slots,
+            at,
+            i,
+            first,
+            country,
+            &mut buffer,
+        ) else {
             continue;
-        }
-        places[count] = place_of_member(zones, group, slots, at, i, first);
+        };
+        places[count] = place;
         healthy[count] = is_member_healthy(zones, group, slots, view, i);
         sets[count] = i;
         count += 1;

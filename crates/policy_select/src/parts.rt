@@ -19,9 +19,9 @@ ghost use Rattle.zone_table.specs.SetsOfSetReading.{IsPlace, IsRouting};
 
 use crate::near::code_number;
 use answer_model::locations_are_names;
-use octets::behind;
+use octets::{behind, front};
 use routing::{Continent, Place, Region, Role, Routing};
-use zone_table::{Ident, behind_text, fields_are_read, region_at, sub_at};
+use zone_table::{Ident, behind_text, fields_are_read, sub_at};
 
 /// Whether a policy at the front is the simple one.
 pub(crate) fn is_simple_in(octets: &[u8]) -> bool
@@ -286,10 +286,20 @@ fn region_or(octets: &[u8], other: &Region) -> Region
     ensures { (region rest : List ℕ) → IsRegion region → octets.now ≡ text_octets region ++ rest
         → result ≡ region }
 {
-    fields_are_read();
-    match region_at(octets) {
-        Ok((region, _)) => region,
-        Err(_) => *other,
+    match Region::new(text_front(octets)) {
+        Some(region) => region,
+        None => *other,
+    }
+}
+
+/// The text at the front, behind its length.
+#[inline(always)]
+fn text_front(octets: &[u8]) -> &[u8]
+    ensures { (text rest : List ℕ) → octets.now ≡ text_octets text ++ rest → result.now ≡ text }
+{
+    match octets {
+        [size, others @ ..] => front(others, usize::from(*size).min(others.len())),
+        [] => octets,
     }
 }
 

@@ -9,9 +9,12 @@ ghost use Rattle.zone_table.specs.Looking.{IsGroupNow};
 ghost use Rattle.zone_table.specs.RecordSetRecord.{RecordSet};
 ghost use Rattle.policy_select.specs.Groups.{sets_in};
 ghost use Rattle.policy_select.specs.Members.{AreMembers};
+ghost use Rattle.policy_select.specs.Nearby.{TellsNear};
 
 use crate::group::{MOST, policy_copied, policy_front};
-use crate::parts::{place_front, place_in, role_front, role_in, weight_front, weight_in};
+use crate::parts::{
+    is_elsewhere_in, place_front, place_in, role_front, role_in, weight_front, weight_in,
+};
 use routing::{Place, Role};
 use zone_table::{Group, Zones};
 
@@ -92,46 +95,56 @@ fn role_copied(zones: &Zones, group: Group, slots: &[u32], at: usize, i: usize, 
 }
 
 /// The place of the set at a place of a group, and that of the first one where the set has none.
+/// None where it is a country other than the one of this number.
 #[inline(always)]
-pub(crate) fn place_of_member(
+pub(crate) fn near_place_of_member(
     zones: &Zones,
     group: Group,
     slots: &[u32],
     at: usize,
     i: usize,
     first: &Place,
-) -> Place
+    country: u32,
+    buffer: &mut [u8; MOST],
+) -> Option<Place>
     requires group { IsGroupNow zones.now.zones group }
     requires slots { AreMembers zones.now.zones group slots.now at }
     requires within { i < group.length }
     ensures { (set : RecordSet) × (slice_get (sets_in zones.now.zones group) i ≡ Some set)
-        × (result ≡ unwrap_or (place_of set.routing) first.now) }
+        × TellsNear country (unwrap_or (place_of set.routing) first.now) result }
 {
-    match place_front(policy_front(zones, group, slots, at, i), first) {
-        Some(place) => place,
-        None => place_copied(zones, group, slots, at, i, first),
+    let octets = policy_front(zones, group, slots, at, i);
+    if is_elsewhere_in(octets, country) {
+        return None;
+    }
+    match place_front(octets, first) {
+        Some(place) => Some(place),
+        None => near_place_copied(zones, group, slots, at, i, first, country, buffer),
     }
 }
 
 /// The same, from a copy of the policy.
 // Apart, so that most sets pass by what they don't need.
 #[inline(never)]
-fn place_copied(
+fn near_place_copied(
     zones: &Zones,
     group: Group,
     slots: &[u32],
     at: usize,
     i: usize,
     first: &Place,
-) -> Place
+    country: u32,
+    buffer: &mut [u8; MOST],
+) -> Option<Place>
     requires group { IsGroupNow zones.now.zones group }
     requires slots { AreMembers zones.now.zones group slots.now at }
     requires within { i < group.length }
     ensures { (set : RecordSet) × (slice_get (sets_in zones.now.zones group) i ≡ Some set)
-        × (result ≡ unwrap_or (place_of set.routing) first.now) }
+        × TellsNear country (unwrap_or (place_of set.routing) first.now) result }
 {
-    place_in(
-        policy_copied(zones, group, slots, at, i, &mut [0; MOST]),
-        first,
-    )
+    let octets = policy_copied(zones, group, slots, at, i, buffer);
+    if is_elsewhere_in(octets, country) {
+        return None;
+    }
+    Some(place_in(octets, first))
 }

@@ -5,22 +5,22 @@ use Rattle.answer_model.specs.Choice.{each}
 use Rattle.answer_model.specs.Policies.{place_of}
 use Rattle.routing.specs.declared.policies.Place.{Place}
 use Rattle.policy_select.specs.Groups.{flags_in, sets_in}
-use Rattle.policy_select.specs.Nearby.{AreNoted}
+use Rattle.policy_select.specs.Nearby.{AreNoted, TellsNear}
 use Rattle.policy_select.proofs.Choosing.{same_length}
 use Rattle.policy_select.proofs.Nearby.{elsewhere, set_noted, set_passed}
 use Rattle.policy_select.proofs.lists.note_near.Goals as goal
 
-pub loop-i-preserved-then-is_elsewhere_in : goal.loop-i-preserved-then-is_elsewhere_in
-loop-i-preserved-then-is_elsewhere_in g c =
+pub loop-i-preserved-in_default : goal.loop-i-preserved-in_default
+loop-i-preserved-in_default g c =
     let client = option_copied c.args.client in
     let first = c.args.first.now in
     let sets = sets_in c.args.zones.now.zones c.args.group in
     let test = g.V.HealthView.test c.args.view.now in
     let flags = flags_in c.args.zones.now.zones test c.args.group in
     let l = c.loop-i in
-    let it = c.policy_front.ensures in
-    let other = c.is_elsewhere_in.ensures it.0.routing it.2.rest it.2.size it.2.is it.2.same
-    c.if-is_elsewhere_in.true first in
+    let it = c.near_place_of_member.ensures in
+    let other = subst (TellsNear c.country_of-country.result (unwrap_or (place_of it.0.routing) first))
+    c.in_default.is it.2 in
     let few = l.invariant.few in
     record {
       few = omega (arith, few);
@@ -38,8 +38,9 @@ loop-i-preserved g c =
     let sets = sets_in c.args.zones.now.zones c.args.group in
     let flags = flags_in c.args.zones.now.zones (g.V.HealthView.test c.args.view.now) c.args.group in
     let l = c.loop-i in
-    let it = c.place_of_member.ensures in
-    let says = it.2 in
+    let it = c.near_place_of_member.ensures in
+    let says = subst (TellsNear c.country_of-country.result (unwrap_or (place_of it.0.routing) first))
+    c.in-Some.is it.2 in
     let few = l.invariant.few in
     let within = c.loop-i-test.true in
     let long_places = l.auto.places in
