@@ -14,6 +14,7 @@ use Rattle.record_set.specs.declared.sets.SetKey.{SetKey}
 use Rattle.zone_lookup.specs.ZonesOfZoneList.{Zone}
 use Rattle.zone_lookup.specs.SetRefRecord.{SetRef}
 use Rattle.zone_model.specs.Hosted.{HostedZone}
+use Rattle.zone_model.specs.Existing.{Exists}
 use Rattle.zone_model.specs.Zones.{IsAmong}
 use Rattle.zone_lookup.specs.GroupRecord.{Group}
 use Rattle.zone_lookup.specs.UsedRecord.{Used}
@@ -104,12 +105,18 @@ picked_name (set ∷ sets) name qtype some =
         (set, inl refl, sym ((same_labels-Decides name set.name).0 e))
     by false e rest filled = (let found = rest filled in (found.0, inr found.1, found.2))
 
+-- a name that exists is its own source
+pub known_source : NamesExist → (sets : List RecordSet) (name : List (List ℕ)) → Exists sets name
+    → source sets name ≡ Some name
+known_source names sets name there =
+    ap (λ b. cond b (Some name) (if_exists sets (wildcard ∷ closest sets name)))
+    ((names sets name).1 there)
+
 pub asked_exists : NamesExist → (sets : List RecordSet) (name : List (List ℕ)) (qtype : ℕ)
     → 0 < length (asked_group sets name qtype) → source sets name ≡ Some name
 asked_exists names sets name qtype some =
     let found = picked_name sets name qtype some in
-    let there = (names sets name).1 (found.0, found.1, ([], found.2)) in
-    ap (λ b. cond b (Some name) (if_exists sets (wildcard ∷ closest sets name))) there
+    known_source names sets name (found.0, found.1, ([], found.2))
 
 -- the cut is an NS set
 pub cut_servers : CutsAreNearest → (zone : HostedZone) (name : List (List ℕ)) (set : RecordSet)

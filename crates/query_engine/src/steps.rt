@@ -22,6 +22,7 @@ ghost use Rattle.set_search.specs.Found.{IsFirstNamed};
 ghost use Rattle.zone_lookup.specs.ZonesOfZoneList.{placed_in};
 ghost use Rattle.zone_lookup.specs.Cuts.{HasSets};
 ghost use Rattle.zone_lookup.specs.Served.{AreServed};
+ghost use Rattle.zone_model.specs.Existing.{Exists};
 ghost use Rattle.zone_model.specs.Zones.{IsAmong, group};
 ghost use Rattle.zone_lookup.specs.Looking.{IsApex, IsGroupNow};
 ghost use Rattle.zone_lookup.specs.Seen.{IsSeen};
@@ -40,7 +41,7 @@ use reply_records::{
 };
 use zone_lookup::{
     Found, Group, Scratch, Standing, Zones, asked_group, cut_above, cuts_are_nearest, find_asked,
-    is_held_by, known_few, names_exist, standing_of,
+    has_set_at, is_held_by, known_few, names_exist, standing_of,
 };
 
 /// The records of a group of the asked type answer a name. Where nothing is chosen it is no data.
@@ -309,6 +310,47 @@ fn step_taken<V: HealthView>(
     )
 }
 
+/// What a name comes to that has sets, none of them of the asked type: a referral where it is below
+/// a zone cut, else by its CNAME sets. It isn't copied.
+fn step_known<V: HealthView>(
+    zones: &Zones,
+    view: &V,
+    tables: &Tables,
+    asked: &Asked,
+    name: &Name,
+    progress: &mut Progress,
+    reply: &mut Reply,
+    scratch: &mut Scratch,
+) -> Next
+    requires there { IsApex zones.now.zones asked.now.zone asked.now.apex.now }
+    requires inside { EndsWith name.now asked.now.apex.now }
+    requires exists { Exists (sets_in_zone zones.now.zones asked.now.zone) name.now }
+    requires few { FewInGroups (sets_in_zone zones.now.zones asked.now.zone) }
+    requires none { asked_group (sets_in_zone zones.now.zones asked.now.zone) name.now
+        asked.now.qtype ≡ [] }
+    requires room { progress.old.count ≤ 238 }
+    requires seen { IsSeen tables.now asked.now.client progress.old.seen }
+    requires open { TakesRecords Answer reply.old }
+    ensures comes { (healthy : ℕ → SetKey → Bool)
+        → Agrees zones.now.zones (V.test view.now) healthy
+        → ComesTo (step_at (asked_of zones.now.zones zones.now.collections.list healthy tables.now
+        asked.now) name.now (choices_of progress.old)) name.now
+        reply.old reply.new scratch.new progress.new result }
+    ensures held { HoldsNext scratch.new result }
+    ensures rcode { EndsWell result }
+    ensures most { progress.new.count ≤ progress.old.count + 17 }
+    ensures seen { IsSeen tables.now asked.now.client progress.new.seen }
+{
+    cuts_are_nearest();
+    names_exist();
+    match cut_above(zones, asked.zone, asked.apex, name) {
+        Some(cut) => Next::Ends(answer_referral(zones, cut, reply, scratch)),
+        None => step_untyped(
+            zones, view, tables, asked, name, name, progress, reply, scratch,
+        ),
+    }
+}
+
 /// What a name comes to that has no set of the asked type: a referral where it is below a zone cut,
 /// else by what stands for it.
 // Apart from the way that most queries take, which is inlined.
@@ -345,6 +387,9 @@ fn step_standing<V: HealthView>(
     ensures seen { IsSeen tables.now asked.now.client progress.new.seen }
 {
     cuts_are_nearest();
+    if has_set_at(zones, asked.zone, place, name) {
+        return step_known(zones, view, tables, asked, name, progress, reply, scratch);
+    }
     match standing_of(zones, asked.zone, asked.apex, name, place, scratch) {
         Standing::Below(cut) => Next::Ends(answer_referral(zones, cut, reply, scratch)),
         Standing::Taken(from) => step_taken(

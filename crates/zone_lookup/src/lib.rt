@@ -19,4 +19,4 @@ pub use policy_select::{
     names_exist, zones_are_longest,
 };
 pub use served::are_served;
-pub use standing::{Found, Standing, find_asked, standing_of};
+pub use standing::{Found, Standing, find_asked, has_set_at, standing_of};

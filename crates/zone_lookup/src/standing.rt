@@ -83,6 +83,13 @@ pub(crate) fn exists_near(
     is_under(&behind, name)
 }
 
+/// Whether the set at a place of a zone has this name: it exists then. The set isn't held.
+pub fn has_set_at(zones: &Zones, zone: u32, place: usize, name: &Name) -> bool
+    ensures { IsTrue result → Exists (sets_in_zone zones.now.zones zone) name.now }
+{
+    zones.has_name(zone, place, name)
+}
+
 /// What a name is in a zone.
 #[derive(Clone, Copy)]
 pub enum Standing {
@@ -156,10 +163,6 @@ pub(crate) fn nearest_of(
     ensures inside { EndsWith result apex.now }
 {
     zones.well_formed();
-    // Most names that exist have a set, which isn't held for that.
-    if zones.has_name(zone, place, name) {
-        return *name;
-    }
     let behind = name_at(zones, zone, place, scratch);
     if is_under(&behind, name) {
         return *name;

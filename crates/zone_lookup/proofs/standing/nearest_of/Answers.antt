@@ -6,14 +6,6 @@ use Rattle.zone_lookup.proofs.Beside.{are_beside, exists_under, first_under, set
 use Rattle.zone_lookup.proofs.Nearest.{nearest_inside, nearest_itself, nearest_parent}
 use Rattle.zone_lookup.proofs.standing.nearest_of.Goals as goal
 
-pub returns-then-has_name-clause-nearest : goal.returns-then-has_name-clause-nearest
-returns-then-has_name-clause-nearest c =
-    let sets = sets_in_zone c.args.zones.now.zones c.args.zone in
-    let name = c.args.name.now in
-    nearest_itself sets name
-    (exists_under sets c.args.place (Some name) (c.has_name.ensures.0 c.if-has_name.true) name
-    (ends_itself name))
-
 pub returns-then-is_under-clause-nearest : goal.returns-then-is_under-clause-nearest
 returns-then-is_under-clause-nearest c =
     let sets = sets_in_zone c.args.zones.now.zones c.args.zone in
