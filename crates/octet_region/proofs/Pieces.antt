@@ -196,3 +196,25 @@ front_is octets next size c cell whole is long =
     (omega arith))
     ∙ ap (λ n. take (min n 32) all) (sym long)
     ∙ sym (take_most 32 all)
+
+-- those from a place in a cell on stand there too
+pub piece_is : (octets : ℕ → List ℕ) (next : ℕ → ℕ) (left from c : ℕ) (cell : List ℕ)
+    → length cell ≡ 32 → cell ≡ octets c → length (gather octets next (cells_for left) left c) ≡ left
+    → from < 32
+    → drop from (take (min left 32) cell)
+    ≡ take (32 - from) (drop from (gather octets next (cells_for left) left c))
+piece_is octets next left from c cell whole is long near =
+    let all = gather octets next (cells_for left) left c in
+    let split : 32 ≡ from + (32 - from) = omega (arith, near) in
+    ap (drop from) (front_is octets next left c cell whole is long)
+    ∙ ap (λ n. drop from (take n all)) split
+    ∙ drop-take from (32 - from) all
+
+-- as many octets stand from a cell on as are left, where the same stand from a place in it on
+pub as_long : (all rest : List ℕ) (size place left from : ℕ) → length all ≡ size → place < size
+    → left + place ≡ size + from → drop place all ≡ drop from rest → length rest ≡ left
+as_long all rest size place left from whole within count same =
+    let e = ap length same in
+    let a = length-drop place all in
+    let b = length-drop from rest in
+    omega (arith, e, a, b, whole, within, count)

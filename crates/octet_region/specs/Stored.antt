@@ -1,5 +1,5 @@
 -- What a region holds, and what its calls answer and leave.
-use Rattle.std.specs.Prelude.{◌≡◌, ℕ, ◌+◌, ◌≤◌, Bool, true, false, List, [], length, refl, Option, None, Some}
+use Rattle.std.specs.Prelude.{◌≡◌, ℕ, ◌+◌, ◌-◌, ◌%◌, ◌≤◌, Bool, true, false, List, [], length, refl, Option, None, Some}
 use Rattle.std.specs.Prelude.{◌++◌, drop, take, if◌then◌else◌, IsTrue, ◌↔◌}
 use Rattle.std.specs.Coded.{Coded, code_by, coded×, coded_ℕ, coded_list}
 use Rattle.std.specs.FinMap as map
@@ -41,6 +41,11 @@ length_of (Some octets) = Some (length octets)
 abbrev pub front_of : (known : Option (List ℕ)) → List ℕ
 front_of None = []
 front_of (Some octets) = take 32 octets
+
+-- the octets that are known from a place on, up to the end of the 32 among which the place is
+abbrev pub piece_of : (known : Option (List ℕ)) → (place : ℕ) → List ℕ
+piece_of None place = []
+piece_of (Some octets) place = take (32 - place % 32) (drop place octets)
 
 -- What `copy_to` answers and leaves: all octets, in front of those that were there.
 abbrev pub Copies : (known : Option (List ℕ)) → (old : List ℕ) → Option ℕ → (new : List ℕ) → Type 0

@@ -1,11 +1,11 @@
 //! Octets of a chain where they stand: their number, some of them lent, compared and copied.
 
-ghost use Rattle.std.specs.Prelude.{◌≡◌, ◌≤◌, ◌<◌, ◌+◌, ◌++◌, ℕ, List, drop, take, length};
+ghost use Rattle.std.specs.Prelude.{◌≡◌, ◌≤◌, ◌<◌, ◌+◌, ◌%◌, ◌++◌, ℕ, List, drop, take, length};
 ghost use Rattle.std.specs.Prelude.{IsTrue, ◌↔◌, None, Some, IfNone, IfSome};
 ghost use Rattle.octet_region.specs.Cells.{cells_for, next_at, octets_at};
 ghost use Rattle.octet_region.specs.Chains.{HasCells, octets_in};
 ghost use Rattle.octet_region.specs.Shape.{octets_of, AreWhole, IsChain};
-ghost use Rattle.octet_region.specs.Stored.{Copies, CopiesFrom, StandsAt, front_of, length_of};
+ghost use Rattle.octet_region.specs.Stored.{Copies, CopiesFrom, StandsAt, front_of, length_of, piece_of};
 
 use crate::cells::{CELL, Cell, is_same, mark_of, next_at, octets_at};
 use octets::{behind, front, put_at};
@@ -33,6 +33,32 @@ pub(crate) fn front_at(cells: &[Cell], first: u32) -> &[u8]
         return &[];
     };
     front(octets_at(cells, first), size.min(CELL))
+}
+
+/// The octets of a handle from a place on, up to the end of the cell in which the place is.
+#[inline(always)]
+pub(crate) fn piece_at(cells: &[Cell], first: u32, place: usize) -> &[u8]
+    requires { AreWhole cells.now }
+    ensures { result.now ≡ piece_of (octets_of cells.now first) place }
+{
+    let Some(size) = size_at(cells, first) else {
+        return &[];
+    };
+    piece_within(cells, first, size, place)
+}
+
+/// The same of a chain of so many octets.
+#[inline(always)]
+fn piece_within(cells: &[Cell], first: u32, size: usize, place: usize) -> &[u8]
+    requires inside { HasCells cells.now size first }
+    requires whole { length (octets_in cells.now size first) ≡ size }
+    ensures { result.now ≡ piece_of (Some (octets_in cells.now size first)) place }
+{
+    if place >= size {
+        return &[];
+    }
+    let (cell, left, from) = skip_to(cells, first, size, place);
+    behind(front(octets_at(cells, cell), left.min(CELL)), from)
 }
 
 /// Whether the octets of a handle go on with others from a place on.
@@ -129,6 +155,7 @@ fn skip_to(cells: &[Cell], first: u32, size: usize, offset: usize) -> (u32, usiz
     ensures inside { HasCells cells.now result.1 result.0 }
     ensures near { result.2 < 32 }
     ensures left { result.1 + offset ≡ size + result.2 }
+    ensures place { result.2 ≡ offset % 32 }
     ensures same { drop offset (octets_in cells.now size first)
         ≡ drop result.2 (octets_in cells.now result.1 result.0) }
 {

@@ -4,13 +4,13 @@ ghost use Rattle.std.specs.Prelude.{◌≡◌, ◌≢◌, ◌≤◌, ◌<◌, �
 ghost use Rattle.std.specs.Prelude.{None, Some, IsOk, MatchResult};
 ghost use Rattle.std.specs.FinMap as map;
 ghost use Rattle.octet_region.specs.Cells.{cells_for};
-ghost use Rattle.octet_region.specs.Stored.{Copies, Frees, CopiesFrom, StandsAt, front_of, length_of};
+ghost use Rattle.octet_region.specs.Stored.{Copies, Frees, CopiesFrom, StandsAt, front_of, length_of, piece_of};
 
 use crate::Handle;
 use crate::cells::{Cell, cells_for, mark_of};
 use crate::chains::{free_along, put_along};
 use crate::growth::{give_cells, make_room};
-use crate::reads::{copy_part, copy_whole, front_at, size_at, stand_at};
+use crate::reads::{copy_part, copy_whole, front_at, piece_at, size_at, stand_at};
 use octets::OutOfMemory;
 use std::alloc::Global;
 use std::marker::Model;
@@ -159,6 +159,14 @@ impl Region {
         ensures { result.now ≡ front_of (map.get self.now.held handle) }
     {
         front_at(&self.cells, handle.first)
+    }
+
+    /// The octets of a handle from a place on, up to the end of the 32 among which the place is,
+    /// without a copy. Nothing where the handle isn't live or its octets end before.
+    pub fn piece(&self, handle: Handle, place: usize) -> &[u8]
+        ensures { result.now ≡ piece_of (map.get self.now.held handle) place }
+    {
+        piece_at(&self.cells, handle.first, place)
     }
 
     /// Fills others with the octets of a handle from a place on. `false`, and nothing is written,

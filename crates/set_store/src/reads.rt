@@ -1,6 +1,7 @@
 //! Sets read where they stand: compared with bounds and names, and copied.
 
-ghost use Rattle.std.specs.Prelude.{◌≡◌, ◌≢◌, ◌≤◌, ◌<◌, ◌+◌, ◌-◌, ◌++◌, ℕ, List, drop, length, take, min};
+ghost use Rattle.std.specs.Prelude.{◌≡◌, ◌≢◌, ◌≤◌, ◌<◌, ◌+◌, ◌-◌, ◌%◌, ◌++◌, ℕ, List, drop, length};
+ghost use Rattle.std.specs.Prelude.{min, take};
 ghost use Rattle.std.specs.Prelude.{slice_get, Some, IfOk, IsTrue, ◌↔◌};
 ghost use Rattle.set_search.specs.Suffix.{EndsWith};
 ghost use Rattle.set_search.specs.RecordSetRecord.{RecordSet};
@@ -12,7 +13,7 @@ ghost use Rattle.set_search.specs.Found.{IsOf, TypeOrNone};
 ghost use Rattle.set_search.specs.Stops.{bound_of};
 ghost use Rattle.set_store.specs.Packed.{Slot};
 ghost use Rattle.set_store.specs.Index.{HoldsAt};
-ghost use Rattle.set_store.specs.Policies.{PolicyIsAt};
+ghost use Rattle.set_store.specs.Policies.{PolicyIsAt, set_piece};
 ghost use Rattle.set_store.specs.Servers.{server_labels};
 ghost use Rattle.set_store.specs.Stored.{IsKept, IsSpelling, IsInUse, Kept, Spells, zone_told};
 
@@ -211,6 +212,17 @@ impl SetSlots {
         front_part(&self.region, &self.slots, slot, at)
     }
 
+    /// The octets of a slot's set from a place on, up to the end of the 32 among which the place is,
+    /// lent.
+    pub fn piece(&self, slot: u32, place: usize) -> &[u8]
+        requires { IsInUse self.now.slots slot }
+        ensures { (kept : Kept) → IsKept self.now.slots slot kept
+            → IsPart result.now (set_piece kept.set place) kept.set }
+    {
+        written_reads_back();
+        piece_at(&self.region, &self.slots, slot, place)
+    }
+
     /// The set of a slot.
     pub fn read(&self, alloc: Global, slot: u32) -> Result<RecordSet, OutOfMemory>
         requires { IsInUse self.now.slots slot }
@@ -315,6 +327,16 @@ pub(crate) fn front_at<'a>(region: &'a Region, slots: &Vec<Slot>, slot: u32) -> 
         → result.now ≡ take 32 octets }
 {
     region.front(Handle::of(cell_at(slots, slot)))
+}
+
+/// The octets of a slot's set from a place on, up to the end of the 32 among which the place is.
+#[inline(always)]
+fn piece_at<'a>(region: &'a Region, slots: &Vec<Slot>, slot: u32, place: usize) -> &'a [u8]
+    requires { (octets : List ℕ) × HoldsAt region.now.held slots.now.items slot octets }
+    ensures { (octets : List ℕ) → HoldsAt region.now.held slots.now.items slot octets
+        → result.now ≡ take (32 - place % 32) (drop place octets) }
+{
+    region.piece(Handle::of(cell_at(slots, slot)), place)
 }
 
 /// Whether the octets of a slot's set go on with others from a place on.

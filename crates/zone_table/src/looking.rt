@@ -8,7 +8,7 @@ ghost use Rattle.zone_list.specs.Kept.{AreIntact, named_of, zones_in};
 ghost use Rattle.zone_list.specs.Zones.{AreListed, placed_in};
 ghost use Rattle.zone_list.specs.Slotted.{IsSlotAt, sets_of};
 ghost use Rattle.zone_list.specs.Orders.{IsOrder, slotted_of};
-ghost use Rattle.zone_list.specs.Policies.{PolicyIsAt};
+ghost use Rattle.zone_list.specs.Policies.{PolicyIsAt, set_piece};
 ghost use Rattle.zone_list.specs.Spelling.{IsPart, from_policy};
 ghost use Rattle.zone_table.specs.Counted.{AreCounted};
 ghost use Rattle.zone_table.specs.Looking.{HasNameAt, IsApex, Loads, ServersAreAt, SlotAt};
@@ -311,6 +311,17 @@ pub fn policy_front<'a>(
         → PolicyIsAt named at → IsPart result.now (take (32 - at) (from_policy named)) named }
 {
     store.policy_front(set.slot, at)
+}
+
+/// The octets of the set that a reference names from a place on, up to the end of the 32 among which
+/// the place is, lent.
+pub fn piece<'a>(store: &'a SetSlots, list: &[StoredZone], set: SetRef, place: usize) -> &'a [u8]
+    requires kept { AreIntact store.now.slots list.now }
+    requires named { (named : RecordSet) × RefersTo (zones_in store.now.slots list.now) set named }
+    ensures { (named : RecordSet) → RefersTo (zones_in store.now.slots list.now) set named
+        → IsPart result.now (set_piece named place) named }
+{
+    store.piece(set.slot, place)
 }
 
 /// What decides the health of the set that a reference names.

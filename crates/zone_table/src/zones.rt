@@ -4,7 +4,7 @@ ghost use Rattle.std.specs.Prelude.{◌≡◌, ◌≢◌, ◌≤◌, ◌<◌, �
 ghost use Rattle.std.specs.Prelude.{IfOk, IsTrue, ◌↔◌, false, take};
 ghost use Rattle.zone_list.specs.Existing.{Exists, IsAncestor, IsClosest};
 ghost use Rattle.zone_list.specs.Slotted.{sets_of};
-ghost use Rattle.zone_list.specs.Policies.{PolicyIsAt};
+ghost use Rattle.zone_list.specs.Policies.{PolicyIsAt, set_piece};
 ghost use Rattle.zone_list.specs.RecordSetRecord.{RecordSet};
 ghost use Rattle.zone_list.specs.Spelling.{IsPart, from_policy};
 ghost use Rattle.zone_list.specs.Sums.{aliases_of, checked_of, octets_of};
@@ -22,7 +22,7 @@ ghost use Rattle.zone_list.specs.Stops.{bound_of as told};
 
 use crate::edits::{Ready, ZoneEdit};
 use crate::looking::{
-    apex_of, copies, has_name, hint_of, hint_or, load, may_have_cuts, order_of, policy,
+    apex_of, copies, has_name, hint_of, hint_or, load, may_have_cuts, order_of, piece, policy,
     policy_front, slot_at, slot_behind, slot_in, slots_of, sums_in, target, view_near, watch,
     zone_sets,
 };
@@ -348,6 +348,16 @@ impl Zones {
             → IsPart result.now (take (32 - at) (from_policy named)) named }
     {
         policy_front(&self.store, &self.list, set, at)
+    }
+
+    /// The octets of the set that a reference names from a place on, up to the end of the 32 among
+    /// which the place is, lent. The caller knows that the reference names a set.
+    pub fn piece(&self, set: SetRef, place: usize) -> &[u8]
+        requires { (named : RecordSet) × RefersTo self.now.zones set named }
+        ensures { (named : RecordSet) → RefersTo self.now.zones set named
+            → IsPart result.now (set_piece named place) named }
+    {
+        piece(&self.store, &self.list, set, place)
     }
 
     /// What decides the health of the set that a reference names. None where it names none.

@@ -18,6 +18,7 @@ loop-from-preserved c =
       inside = subst (λ d. HasCells cells (l.left - 32) d) (sym n.next) on.1;
       within = omega (arith, i.within, far);
       left = omega (arith, i.left, far, more);
+      place = omega (arith, i.place, far);
       same =
           i.same
           ∙ skip_step (octets_at cells) (next_at cells) l.left l.from l.cell more far n.whole

@@ -1,4 +1,4 @@
-use Rattle.std.proofs.Common.{◌≡◌, ◌<◌, ◌+◌, drop}
+use Rattle.std.proofs.Common.{◌≡◌, ◌<◌, ◌+◌, ◌%◌, drop}
 use Rattle.octet_region.specs.Chains.{HasCells, octets_in}
 use Rattle.octet_region.proofs.reads.skip_to.Given as goal
 
@@ -7,6 +7,7 @@ invariant-loop-from l = record {
   inside : HasCells l.cells l.left l.cell;
   within : l.from < l.left;
   left : l.left + l.fn.offset ≡ l.fn.size + l.from;
+  place : l.from % 32 ≡ l.fn.offset % 32;
   same : drop l.fn.offset (octets_in l.cells l.fn.size l.fn.first)
       ≡ drop l.from (octets_in l.cells l.left l.cell);
 }
