@@ -4,6 +4,7 @@ pub mod GroupSizes
 pub mod Members
 pub mod Nearby
 pub mod Noted
+mod Pieces
 mod Policies
 pub mod Targets
 pub use Rattle.zone_table.proofs.Listing

@@ -1,12 +1,13 @@
 //! The sets of a group, one at a time.
 
-ghost use Rattle.std.specs.Prelude.{◌≡◌, ◌<◌, ◌≤◌, length, slice_get, IfSome, Some};
+ghost use Rattle.std.specs.Prelude.{◌≡◌, ◌<◌, ◌≤◌, ◌+◌, length, slice_get, IfSome, Some};
 ghost use Rattle.zone_table.specs.RecordSetRecord.{RecordSet};
 ghost use Rattle.zone_table.specs.Octets.{HasSpelling};
 ghost use Rattle.zone_table.specs.Policies.{PolicyIsAt};
 ghost use Rattle.zone_table.specs.Holding.{IsHolding};
 ghost use Rattle.zone_table.specs.Looking.{IsGroupNow, slots_in};
 ghost use Rattle.policy_select.specs.Members.{AreMembers, BeginsWithPolicy, IsFrontOfPolicy};
+ghost use Rattle.policy_select.specs.Members.{IsPieceOfPolicy};
 ghost use Rattle.policy_select.specs.Groups.{flags_in, sets_in, sets_in_zone};
 ghost use Rattle.zone_table.specs.Sets.{group};
 
@@ -77,8 +78,8 @@ fn member_at(group: Group, slots: &[u32], i: usize) -> SetRef
     }
 }
 
-/// What stands of the policy of the set at a place of a group among the first octets of the set,
-/// lent.
+/// What stands of the policy of the set at a place of a group up to the end of the 32 octets of the
+/// set among which it begins, lent.
 #[inline(always)]
 pub(crate) fn policy_front<'a>(
     zones: &'a Zones,
@@ -93,7 +94,28 @@ pub(crate) fn policy_front<'a>(
     ensures { (set : RecordSet) × (slice_get (sets_in zones.now.zones group) i ≡ Some set)
         × IsFrontOfPolicy result.now set }
 {
-    zones.policy_front(member_at(group, slots, i), at)
+    zones.piece(member_at(group, slots, i), at)
+}
+
+/// What stands behind the identifier, of so many octets, of the policy of the set at a place of a
+/// group, lent: up to the end of the 32 octets of the set among which it begins.
+#[inline(always)]
+pub(crate) fn policy_behind<'a>(
+    zones: &'a Zones,
+    group: Group,
+    slots: &[u32],
+    at: usize,
+    i: usize,
+    size: u8,
+) -> &'a [u8]
+    requires group { IsGroupNow zones.now.zones group }
+    requires slots { AreMembers zones.now.zones group slots.now at }
+    requires within { i < group.length }
+    ensures { (set : RecordSet) × (slice_get (sets_in zones.now.zones group) i ≡ Some set)
+        × IsPieceOfPolicy result.now (size + 2) set }
+{
+    let place = at.saturating_add(usize::from(size) + 2);
+    zones.piece(member_at(group, slots, i), place)
 }
 
 /// Octets that begin with the policy of the set at a place of a group, copied to a buffer.

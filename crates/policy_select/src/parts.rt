@@ -2,7 +2,8 @@
 //! octets of the set: neither the identifier nor the rest of the policy is copied. A set of another
 //! policy counts as the first one does.
 
-ghost use Rattle.std.specs.Prelude.{◌≡◌, ◌≤◌, ◌∷◌, ◌++◌, ℕ, IfSome, IsTrue, List, length, take};
+ghost use Rattle.std.specs.Prelude.{◌≡◌, ◌≤◌, ◌∷◌, [], ◌++◌, ℕ, IfSome, IsTrue, List, length};
+ghost use Rattle.std.specs.Prelude.{take};
 ghost use Rattle.std.specs.Option.{unwrap_or};
 ghost use Rattle.answer_model.specs.Policies.{location_of, place_of, region_of, role_of, weight_of};
 ghost use Rattle.routing.specs.Texts.{IsLocation, IsRegion, IsSubdivision};
@@ -31,6 +32,19 @@ pub(crate) fn is_simple_in(octets: &[u8]) -> bool
     matches!(octets, [0, ..])
 }
 
+/// How many octets the identifier has of a policy of this kind that begins with these, where they
+/// tell it.
+#[inline(always)]
+pub(crate) fn ident_size(octets: &[u8], kind: u8) -> Option<u8>
+    ensures { (all : List ℕ) (n : ℕ) → octets.now ≡ take n all
+        → IfSome result (λ size. take 2 all ≡ kind ∷ size ∷ []) }
+{
+    match octets {
+        [first, size, ..] if *first == kind => Some(*size),
+        _ => None,
+    }
+}
+
 /// The weight in a policy whose first octets these are, where it stands among them.
 #[inline(always)]
 pub(crate) fn weight_front(octets: &[u8], first: u8) -> Option<u8>
@@ -48,7 +62,7 @@ pub(crate) fn weight_front(octets: &[u8], first: u8) -> Option<u8>
 
 /// The octet that stands so far behind the front.
 #[inline(always)]
-fn octet_behind(octets: &[u8], at: u8) -> Option<u8>
+pub(crate) fn octet_behind(octets: &[u8], at: u8) -> Option<u8>
     ensures { (ident rest : List ℕ) (octet n : ℕ) → at ≡ length ident
         → octets.now ≡ take n (ident ++ octet ∷ rest) → IfSome result (λ o. o ≡ octet) }
 {
@@ -75,7 +89,7 @@ pub(crate) fn role_front(octets: &[u8], first: Role) -> Option<Role>
 
 /// The role whose number stands so far behind the front.
 #[inline(always)]
-fn role_behind(octets: &[u8], at: u8) -> Option<Role>
+pub(crate) fn role_behind(octets: &[u8], at: u8) -> Option<Role>
     ensures { (ident rest : List ℕ) (role : Role) (n : ℕ) → at ≡ length ident
         → octets.now ≡ take n (ident ++ role_number role ∷ rest)
         → IfSome result (λ r. r ≡ role) }
@@ -118,7 +132,7 @@ fn place_behind(octets: &[u8], at: u8) -> Option<Place>
 
 /// The place at the front, where all of it is there.
 #[inline(always)]
-fn place_whole(octets: &[u8]) -> Option<Place>
+pub(crate) fn place_whole(octets: &[u8]) -> Option<Place>
     ensures { (rest : List ℕ) (place : Place) (n : ℕ) → IsPlace place
         → octets.now ≡ take n (place_octets place ++ rest) → IfSome result (λ p. p ≡ place) }
 {
@@ -161,7 +175,7 @@ pub(crate) fn is_elsewhere_in(octets: &[u8], country: u32) -> bool
 /// Whether a place that stands so far behind the front is a country other than the one of this
 /// number.
 #[inline(always)]
-fn is_other_country(octets: &[u8], at: u8, country: u32) -> bool
+pub(crate) fn is_other_country(octets: &[u8], at: u8, country: u32) -> bool
     ensures { (ident rest : List ℕ) (place : Place) (n : ℕ) → IsPlace place → at ≡ length ident
         → octets.now ≡ take n (ident ++ (place_octets place ++ rest)) → IsTrue result
         → IsOtherCountry country place }

@@ -1,0 +1,154 @@
+-- Policies read in pieces: the front, and what stands behind the identifier.
+use Rattle.std.proofs.Common.{◌≡◌, ℕ, suc, ◌+◌, ◌≤◌, List, [], ◌∷◌, ◌++◌, length, take, drop}
+use Rattle.std.proofs.Common.{Option, Some, refl, sym, ap, ◌∙◌, arith, append_assoc, length-append, length-take}
+use Rattle.std.proofs.lemmas.List.{drop-drop, take-take}
+use Rattle.std.proofs.Math.ListN.{get_or}
+use Rattle.std.proofs.Math.Seq.{drop-append_seam}
+use Rattle.std.specs.Option.{unwrap_or}
+use Rattle.octets.specs.Numbers.{two_octets}
+use Rattle.dns_name.specs.Labels.{wire}
+use Rattle.rdata_layout.specs.Types.{number_of}
+use Rattle.answer_model.specs.Policies.{place_of, role_of, weight_of}
+use Rattle.routing.specs.declared.policies.Place.{Place}
+use Rattle.routing.specs.declared.policies.Role.{Role}
+use Rattle.routing.specs.declared.policies.Routing.{Routing}
+use Rattle.routing.specs.declared.policies.Routing.TheVariants as policy
+use Rattle.zone_table.specs.Octets.{body_octets, check_octets, head_octets, set_octets}
+use Rattle.zone_table.specs.Octets.{place_octets, role_number, routing_octets}
+use Rattle.zone_table.specs.Policies.{PolicyIsAt}
+use Rattle.zone_table.specs.RecordSetRecord.{RecordSet}
+use Rattle.zone_table.specs.Spelling.{from_policy}
+use Rattle.zone_table.specs.SetsOfSetReading.{IsPlace, IsRouting}
+use Rattle.policy_select.specs.Members.{IsFrontOfPolicy, IsPieceOfPolicy}
+
+-- the first two octets of a list that was cut behind them
+pub first_two : (octets all : List ℕ) (n kind : ℕ) → octets ≡ take n all → 2 ≤ length octets
+    → get_or octets 0 0 ≡ kind → take 2 all ≡ kind ∷ get_or octets 1 0 ∷ []
+first_two [] all n kind e two is = absurd (omega (arith, two))
+first_two (a ∷ []) all n kind e two is = absurd (omega (arith, two))
+first_two (a ∷ b ∷ others) all n kind e two is =
+    let size = ap length e in
+    let cut = length-take n all in
+    sym (ap (take 2) e ∙ take-take 2 n all (omega (arith, size, cut))) ∙ ap (λ k. k ∷ b ∷ []) is
+
+-- behind the kind and a text
+behind_ident : (kind size : ℕ) (ident said other : List ℕ) → size ≡ length ident
+    → drop (size + 2) (kind ∷ ((length ident ∷ ident) ++ said) ++ other) ≡ said ++ other
+behind_ident kind size ident said other e =
+    let far : size + 2 ≡ suc (suc (length ident)) = omega (arith, e) in
+    ap (λ k. drop k (kind ∷ ((length ident ∷ ident) ++ said) ++ other)) far
+    ∙ ap (drop (length ident)) (append_assoc ident said other)
+    ∙ drop-append_seam ident (said ++ other)
+
+pub weight_there : (routing : Routing) (rest other : List ℕ) (size : ℕ)
+    → take 2 (routing_octets routing ++ rest) ≡ 1 ∷ size ∷ []
+    → (weight : ℕ) × (weight_of routing ≡ Some weight)
+    × (drop (size + 2) (routing_octets routing ++ other) ≡ weight ∷ other)
+weight_there policy.Simple rest other size e = absurd (grind (arith, e))
+weight_there (policy.Weighted ident weight) rest other size e = (
+  weight,
+  refl,
+  behind_ident 1 size ident (weight ∷ []) other (grind (arith, e)),
+)
+weight_there (policy.Failover ident role) rest other size e = absurd (grind (arith, e))
+weight_there (policy.Geolocation ident place) rest other size e = absurd (grind (arith, e))
+weight_there (policy.Latency ident region) rest other size e = absurd (grind (arith, e))
+weight_there (policy.Multivalue ident) rest other size e = absurd (grind (arith, e))
+weight_there (policy.Cidr ident collection location) rest other size e = absurd (grind (arith, e))
+
+pub role_there : (routing : Routing) (rest other : List ℕ) (size : ℕ)
+    → take 2 (routing_octets routing ++ rest) ≡ 2 ∷ size ∷ []
+    → (role : Role) × (role_of routing ≡ Some role)
+    × (drop (size + 2) (routing_octets routing ++ other) ≡ role_number role ∷ other)
+role_there policy.Simple rest other size e = absurd (grind (arith, e))
+role_there (policy.Weighted ident weight) rest other size e = absurd (grind (arith, e))
+role_there (policy.Failover ident role) rest other size e = (
+  role,
+  refl,
+  behind_ident 2 size ident (role_number role ∷ []) other (grind (arith, e)),
+)
+role_there (policy.Geolocation ident place) rest other size e = absurd (grind (arith, e))
+role_there (policy.Latency ident region) rest other size e = absurd (grind (arith, e))
+role_there (policy.Multivalue ident) rest other size e = absurd (grind (arith, e))
+role_there (policy.Cidr ident collection location) rest other size e = absurd (grind (arith, e))
+
+pub place_there : (routing : Routing) (rest other : List ℕ) (size : ℕ) → IsRouting routing
+    → take 2 (routing_octets routing ++ rest) ≡ 3 ∷ size ∷ []
+    → (place : Place) × (place_of routing ≡ Some place) × IsPlace place
+    × (drop (size + 2) (routing_octets routing ++ other) ≡ place_octets place ++ other)
+place_there policy.Simple rest other size is e = absurd (grind (arith, e))
+place_there (policy.Weighted ident weight) rest other size is e = absurd (grind (arith, e))
+place_there (policy.Failover ident role) rest other size is e = absurd (grind (arith, e))
+place_there (policy.Geolocation ident place) rest other size is e = (
+  place,
+  refl,
+  is.1,
+  behind_ident 3 size ident (place_octets place) other (grind (arith, e)),
+)
+place_there (policy.Latency ident region) rest other size is e = absurd (grind (arith, e))
+place_there (policy.Multivalue ident) rest other size is e = absurd (grind (arith, e))
+place_there (policy.Cidr ident collection location) rest other size is e = absurd (grind (arith, e))
+
+-- ---- what a set says, by the front of its policy and by what stands behind the identifier
+
+-- the octets from the place of the policy on
+pub from_place : (set : RecordSet) (at : ℕ) → PolicyIsAt set at
+    → drop at (set_octets set) ≡ from_policy set
+from_place set at is =
+    let name = wire set.name in
+    let two = two_octets (number_of set.rtype) in
+    let policy = routing_octets set.routing in
+    let body = body_octets set.body in
+    let check = check_octets set.check in
+    let size : at ≡ length (name ++ two) = omega (arith, is, length-append name two) in
+    ap (λ k. drop k (set_octets set)) size
+    ∙ ap (drop (length (name ++ two)))
+    (append_assoc (head_octets set) body check ∙ append_assoc (name ++ two) policy (body ++ check))
+    ∙ drop-append_seam (name ++ two) (from_policy set)
+
+-- what begins so far behind it
+pub from_behind : (set : RecordSet) (at skip place : ℕ) → PolicyIsAt set at → place ≡ at + skip
+    → drop place (set_octets set) ≡ drop skip (from_policy set)
+from_behind set at skip place is e =
+    ap (λ k. drop k (set_octets set)) e
+    ∙ sym (drop-drop skip at (set_octets set))
+    ∙ ap (drop skip) (from_place set at is)
+
+one_set : (got : Option RecordSet) (a b : RecordSet) → got ≡ Some a → got ≡ Some b → a ≡ b
+one_set got a b first second = ap (λ o. unwrap_or o a) (sym first ∙ second)
+
+-- What the front of a policy tells of its identifier: that it has so many octets, where the policy is of this
+-- kind.
+abbrev pub TellsIdent : (front : List ℕ) (kind size : ℕ) → Type 0
+TellsIdent front kind size =
+    (all : List ℕ) (n : ℕ) → front ≡ take n all → take 2 all ≡ kind ∷ size ∷ []
+
+module _ (got : Option RecordSet) (front piece : List ℕ) (a b : RecordSet) (size : ℕ)
+    (first : got ≡ Some a) (is_front : IsFrontOfPolicy front a)
+    (second : got ≡ Some b) (is_piece : IsPieceOfPolicy piece (size + 2) b) where
+  told : (kind : ℕ) → TellsIdent front kind size
+      → take 2 (routing_octets b.routing ++ is_front.rest) ≡ kind ∷ size ∷ []
+  told kind tells =
+      sym (ap (λ s. take 2 (routing_octets s.routing ++ is_front.rest)) (one_set got a b first second))
+      ∙ tells (routing_octets a.routing ++ is_front.rest) is_front.size is_front.same
+
+  pub weight_by : TellsIdent front 1 size
+      → (weight : ℕ) × (weight_of b.routing ≡ Some weight)
+      × (piece ≡ take is_piece.size (weight ∷ is_piece.rest))
+  weight_by tells =
+      let w = weight_there b.routing is_front.rest is_piece.rest size (told 1 tells) in
+      (w.0, w.1, is_piece.same ∙ ap (take is_piece.size) w.2)
+
+  pub role_by : TellsIdent front 2 size
+      → (role : Role) × (role_of b.routing ≡ Some role)
+      × (piece ≡ take is_piece.size (role_number role ∷ is_piece.rest))
+  role_by tells =
+      let r = role_there b.routing is_front.rest is_piece.rest size (told 2 tells) in
+      (r.0, r.1, is_piece.same ∙ ap (take is_piece.size) r.2)
+
+  pub place_by : TellsIdent front 3 size
+      → (place : Place) × (place_of b.routing ≡ Some place) × IsPlace place
+      × (piece ≡ take is_piece.size (place_octets place ++ is_piece.rest))
+  place_by tells =
+      let p = place_there b.routing is_front.rest is_piece.rest size is_piece.is (told 3 tells) in
+      (p.0, p.1, p.2, is_piece.same ∙ ap (take is_piece.size) p.3)

@@ -1,0 +1,48 @@
+use Rattle.std.proofs.Common.{◌≡◌, ◌+◌, ◌-◌, ◌%◌, ◌∙◌, ap, arith, take}
+use Rattle.zone_table.proofs.Among.{among_at}
+use Rattle.zone_table.specs.Spelling.{from_body}
+use Rattle.policy_select.specs.Groups.{sets_in}
+use Rattle.policy_select.proofs.Members.{named}
+use Rattle.policy_select.proofs.Pieces.{from_behind}
+use Rattle.policy_select.proofs.Policies.{in_slots, member_of}
+use Rattle.policy_select.proofs.group.policy_behind.Goals as goal
+
+pub member_at-requires : goal.member_at-requires
+member_at-requires c =
+    record {
+      within =
+          in_slots c.args.zones.now.zones c.args.group c.args.slots.now c.args.i c.requires.group
+          c.requires.slots.are c.requires.within;
+    }
+
+pub piece-requires : goal.piece-requires
+piece-requires c =
+    let zones = c.args.zones.now.zones in
+    let ref = c.member_at.result in
+    let m = named zones c.args.group c.args.i ref
+    (member_of zones c.args.group c.args.slots.now c.requires.slots.are c.args.i ref
+    c.requires.within c.member_at.ensures.zone c.member_at.ensures.slot) c.requires.within in
+    (m.set, m.names)
+
+pub returns : goal.returns
+returns c =
+    let zones = c.args.zones.now.zones in
+    let ref = c.member_at.result in
+    let m = named zones c.args.group c.args.i ref
+    (member_of zones c.args.group c.args.slots.now c.requires.slots.are c.args.i ref
+    c.requires.within c.member_at.ensures.zone c.member_at.ensures.slot) c.requires.within in
+    let part = c.piece.ensures m.set m.names in
+    let placed = c.requires.slots.placed m.set (among_at (sets_in zones c.args.group) c.args.i m.set m.at) in
+    let short = part.is.name.raw.fits in
+    let there : c.saturating_add-place.result ≡ c.args.at + (c.args.size + 2) =
+    omega (arith, placed, short, c.saturating_add-place.ensures, c.from.ensures, c.ranges.size) in (
+      m.set,
+      m.at,
+      record {
+        is = part.is.routing;
+        rest = from_body m.set;
+        size = _;
+        same = part.same ∙ ap (take (32 - c.saturating_add-place.result % 32)) (from_behind m.set c.args.at (c.args.size + 2)
+            c.saturating_add-place.result placed there);
+      },
+    )
