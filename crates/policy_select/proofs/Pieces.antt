@@ -1,6 +1,7 @@
 -- Policies read in pieces: the front, and what stands behind the identifier.
-use Rattle.std.proofs.Common.{◌≡◌, ℕ, suc, ◌+◌, ◌≤◌, List, [], ◌∷◌, ◌++◌, length, take, drop}
-use Rattle.std.proofs.Common.{Option, Some, refl, sym, ap, ◌∙◌, arith, append_assoc, length-append, length-take}
+use Rattle.std.proofs.Common.{◌≡◌, ℕ, zero, suc, ◌+◌, ◌≤◌, ◌<◌, List, [], ◌∷◌, ◌++◌, length, take, drop}
+use Rattle.std.proofs.Common.{Option, None, Some, refl, sym, ap, ◌∙◌, arith, append_assoc, length-append, length-take}
+use Rattle.std.specs.Prelude.{IfSome, SomeIff}
 use Rattle.std.proofs.lemmas.List.{drop-drop, take-take}
 use Rattle.std.proofs.Math.ListN.{get_or}
 use Rattle.std.proofs.Math.Seq.{drop-append_seam}
@@ -8,13 +9,14 @@ use Rattle.std.specs.Option.{unwrap_or}
 use Rattle.octets.specs.Numbers.{two_octets}
 use Rattle.dns_name.specs.Labels.{wire}
 use Rattle.rdata_layout.specs.Types.{number_of}
-use Rattle.answer_model.specs.Policies.{place_of, role_of, weight_of}
+use Rattle.answer_model.specs.Policies.{place_of, region_of, role_of, weight_of}
+use Rattle.routing.specs.Texts.{IsRegion}
 use Rattle.routing.specs.declared.policies.Place.{Place}
 use Rattle.routing.specs.declared.policies.Role.{Role}
 use Rattle.routing.specs.declared.policies.Routing.{Routing}
 use Rattle.routing.specs.declared.policies.Routing.TheVariants as policy
 use Rattle.zone_table.specs.Octets.{body_octets, check_octets, head_octets, set_octets}
-use Rattle.zone_table.specs.Octets.{place_octets, role_number, routing_octets}
+use Rattle.zone_table.specs.Octets.{place_octets, role_number, routing_octets, text_octets}
 use Rattle.zone_table.specs.Policies.{PolicyIsAt}
 use Rattle.zone_table.specs.RecordSetRecord.{RecordSet}
 use Rattle.zone_table.specs.Spelling.{from_policy}
@@ -89,6 +91,38 @@ place_there (policy.Latency ident region) rest other size is e = absurd (grind (
 place_there (policy.Multivalue ident) rest other size is e = absurd (grind (arith, e))
 place_there (policy.Cidr ident collection location) rest other size is e = absurd (grind (arith, e))
 
+pub region_there : (routing : Routing) (rest other : List ℕ) (size : ℕ) → IsRouting routing
+    → take 2 (routing_octets routing ++ rest) ≡ 4 ∷ size ∷ []
+    → (region : List ℕ) × (region_of routing ≡ Some region) × IsRegion region
+    × (drop (size + 2) (routing_octets routing ++ other) ≡ text_octets region ++ other)
+region_there policy.Simple rest other size is e = absurd (grind (arith, e))
+region_there (policy.Weighted ident weight) rest other size is e = absurd (grind (arith, e))
+region_there (policy.Failover ident role) rest other size is e = absurd (grind (arith, e))
+region_there (policy.Geolocation ident place) rest other size is e = absurd (grind (arith, e))
+region_there (policy.Latency ident region) rest other size is e = (
+  region,
+  refl,
+  is.1,
+  behind_ident 4 size ident (text_octets region) other (grind (arith, e)),
+)
+region_there (policy.Multivalue ident) rest other size is e = absurd (grind (arith, e))
+region_there (policy.Cidr ident collection location) rest other size is e = absurd (grind (arith, e))
+
+-- a text whose length stands among octets that are more than it says
+pub text_fits : (octets text rest : List ℕ) (n : ℕ) → octets ≡ take n (text_octets text ++ rest)
+    → get_or octets 0 0 < length octets → length (text_octets text) ≤ length octets
+text_fits [] text rest n e long = absurd (omega (arith, long))
+text_fits (a ∷ octets) text rest zero e long = absurd (grind (arith, e))
+text_fits (a ∷ octets) text rest (suc n) e long =
+    let same : a ≡ length text = ap (λ o. get_or o 0 0) e in
+    omega (arith, same, long)
+
+-- a region that was made of a text is the text
+pub one_region : (made : Option (List ℕ)) (text region : List ℕ) → SomeIff made (IsRegion text) text
+    → text ≡ region → IfSome made (λ r. r ≡ region)
+one_region None text region h e = tt
+one_region (Some r) text region h e = h.1 ∙ e
+
 -- ---- what a set says, by the front of its policy and by what stands behind the identifier
 
 -- the octets from the place of the policy on
@@ -152,3 +186,10 @@ module _ (got : Option RecordSet) (front piece : List ℕ) (a b : RecordSet) (si
   place_by tells =
       let p = place_there b.routing is_front.rest is_piece.rest size is_piece.is (told 3 tells) in
       (p.0, p.1, p.2, is_piece.same ∙ ap (take is_piece.size) p.3)
+
+  pub region_by : TellsIdent front 4 size
+      → (region : List ℕ) × (region_of b.routing ≡ Some region) × IsRegion region
+      × (piece ≡ take is_piece.size (text_octets region ++ is_piece.rest))
+  region_by tells =
+      let r = region_there b.routing is_front.rest is_piece.rest size is_piece.is (told 4 tells) in
+      (r.0, r.1, r.2, is_piece.same ∙ ap (take is_piece.size) r.3)

@@ -11,10 +11,10 @@ ghost use Rattle.policy_select.specs.Nearby.{AreNoted};
 ghost use Rattle.policy_select.specs.Groups.{flags_in, sets_in};
 ghost use Rattle.policy_select.specs.Rules.{FirstSays};
 
-use crate::group::{MOST, is_member_healthy, policy_copied, routing_at};
+use crate::group::{MOST, is_member_healthy, routing_at};
 use crate::near::country_of;
-use crate::parts::{location_or, region_in};
-use crate::said::{near_place_of_member, role_of_member, weight_of_member};
+use crate::parts::location_or;
+use crate::said::{near_place_of_member, region_of_member, role_of_member, weight_of_member};
 use crate::view::HealthView;
 use answer_model::Location;
 use routing::{Place, Region, Role};
@@ -162,10 +162,7 @@ pub(crate) fn note_regions(
     let mut buffer = [0; MOST];
     regions[0] = *first;
     for i in 1..group.length {
-        regions[i] = region_in(
-            policy_copied(zones, group, slots, at, i, &mut buffer),
-            first,
-        );
+        regions[i] = region_of_member(zones, group, slots, at, i, first, &mut buffer);
     }
 }
 

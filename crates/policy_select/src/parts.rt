@@ -295,6 +295,30 @@ pub(crate) fn region_in(octets: &[u8], first: &Region) -> Region
     }
 }
 
+/// The region at the front, where all of it is there.
+#[inline(always)]
+pub(crate) fn region_whole(octets: &[u8]) -> Option<Region>
+    ensures { (region rest : List ℕ) (n : ℕ) → IsRegion region
+        → octets.now ≡ take n (text_octets region ++ rest) → IfSome result (λ r. r ≡ region) }
+{
+    if !has_text(octets) {
+        return None;
+    }
+    Region::new(text_front(octets))
+}
+
+/// Whether all of the text at the front is there.
+#[inline(always)]
+fn has_text(octets: &[u8]) -> bool
+    ensures { (text rest : List ℕ) (n : ℕ) → octets.now ≡ take n (text_octets text ++ rest)
+        → IsTrue result → length (text_octets text) ≤ length octets.now }
+{
+    match octets {
+        [size, ..] => usize::from(*size) < octets.len(),
+        [] => false,
+    }
+}
+
 /// The region at the front, where there is one.
 fn region_or(octets: &[u8], other: &Region) -> Region
     ensures { (region rest : List ℕ) → IsRegion region → octets.now ≡ text_octets region ++ rest

@@ -5,7 +5,7 @@
 
 ghost use Rattle.std.specs.Prelude.{◌≡◌, ◌<◌, slice_get, Some};
 ghost use Rattle.std.specs.Option.{unwrap_or};
-ghost use Rattle.answer_model.specs.Policies.{place_of, role_of, weight_of};
+ghost use Rattle.answer_model.specs.Policies.{place_of, region_of, role_of, weight_of};
 ghost use Rattle.zone_table.specs.Looking.{IsGroupNow};
 ghost use Rattle.zone_table.specs.RecordSetRecord.{RecordSet};
 ghost use Rattle.policy_select.specs.Groups.{sets_in};
@@ -15,9 +15,10 @@ ghost use Rattle.policy_select.specs.Nearby.{TellsNear};
 use crate::group::{MOST, policy_behind, policy_copied, policy_front};
 use crate::parts::{
     ident_size, is_elsewhere_in, is_other_country, octet_behind, place_front, place_in,
-    place_whole, role_behind, role_front, role_in, weight_front, weight_in,
+    place_whole, region_in, region_whole, role_behind, role_front, role_in, weight_front,
+    weight_in,
 };
-use routing::{Place, Role};
+use routing::{Place, Region, Role};
 use zone_table::{Group, Zones};
 
 /// The weight of the set at a place of a group, and that of the first one where the set has none.
@@ -241,4 +242,51 @@ fn near_place_copied(
         return None;
     }
     Some(place_in(octets, first))
+}
+
+/// The region of the set at a place of a group, and that of the first one where the set has none.
+#[inline(always)]
+pub(crate) fn region_of_member(
+    zones: &Zones,
+    group: Group,
+    slots: &[u32],
+    at: usize,
+    i: usize,
+    first: &Region,
+    buffer: &mut [u8; MOST],
+) -> Region
+    requires group { IsGroupNow zones.now.zones group }
+    requires slots { AreMembers zones.now.zones group slots.now at }
+    requires within { i < group.length }
+    ensures { (set : RecordSet) × (slice_get (sets_in zones.now.zones group) i ≡ Some set)
+        × (result ≡ unwrap_or (region_of set.routing) first.now) }
+{
+    let Some(size) = ident_size(policy_front(zones, group, slots, at, i), 4) else {
+        return region_copied(zones, group, slots, at, i, first, buffer);
+    };
+    match region_whole(policy_behind(zones, group, slots, at, i, size)) {
+        Some(region) => region,
+        None => region_copied(zones, group, slots, at, i, first, buffer),
+    }
+}
+
+/// The same, from a copy of the policy.
+// Apart, so that most sets pass by what they don't need.
+#[inline(never)]
+fn region_copied(
+    zones: &Zones,
+    group: Group,
+    slots: &[u32],
+    at: usize,
+    i: usize,
+    first: &Region,
+    buffer: &mut [u8; MOST],
+) -> Region
+    requires group { IsGroupNow zones.now.zones group }
+    requires slots { AreMembers zones.now.zones group slots.now at }
+    requires within { i < group.length }
+    ensures { (set : RecordSet) × (slice_get (sets_in zones.now.zones group) i ≡ Some set)
+        × (result ≡ unwrap_or (region_of set.routing) first.now) }
+{
+    region_in(policy_copied(zones, group, slots, at, i, buffer), first)
 }

@@ -18,14 +18,14 @@ pub loop-i-preserved : goal.loop-i-preserved
 loop-i-preserved c =
     let first = c.args.first.now in
     let sets = sets_in c.args.zones.now.zones c.args.group in
-    let it = c.policy_copied.ensures in
-    let said = said_at region_of first sets c.loop-i.i it.0 it.0.routing c.region_in.result it.1 refl
-    (c.region_in.ensures it.0.routing it.2.rest it.2.is it.2.same) in
+    let it = c.region_of_member.ensures in
+    let said = said_at region_of first sets c.loop-i.i it.0 it.0.routing c.region_of_member.result it.1 refl
+    it.2 in
     let within = c.loop-i-test.true in
     let long = c.loop-i.auto.regions in
     let size = length-set c.args.regions.now 0 c.args.first.now in
     let room = c.requires.room in
-    noted_more (each region_of first sets) c.loop-i.regions c.loop-i.i c.region_in.result
+    noted_more (each region_of first sets) c.loop-i.regions c.loop-i.i c.region_of_member.result
     (omega (arith, within, long, size, room)) said c.loop-i.invariant
 
 pub returns-clause-noted : goal.returns-clause-noted
