@@ -1,8 +1,9 @@
 //! The records with which chosen sets answer a name.
 
-ghost use Rattle.std.specs.Prelude.{◌≡◌, ◌<◌, ◌∷◌, [], length, Some};
-ghost use Rattle.policy_select.specs.Records.{answer_records};
+ghost use Rattle.std.specs.Prelude.{◌≡◌, ◌<◌, ◌∷◌, [], ℕ, length, Some, slice_get};
+ghost use Rattle.policy_select.specs.Records.{answer_records, joint_data, records};
 ghost use Rattle.dns_wire.specs.declared.reply.Section.TheVariants.{Answer};
+ghost use Rattle.policy_select.specs.Groups.{sets_in};
 ghost use Rattle.policy_select.specs.Selecting.{AreOfGroup, HoldsFirst, selected_sets};
 ghost use Rattle.record_set.specs.declared.sets.RecordSet.{RecordSet};
 ghost use Rattle.policy_select.specs.Holding.{IsHolding};
@@ -16,7 +17,7 @@ use crate::seen::NONE;
 use dns_name::Name;
 use dns_wire::{Reply, Section, records_add_up};
 use policy_select::{Group, Scratch, Selected, Zones, load_member, places_of};
-use rdata_layout::types_have_their_own_number;
+use rdata_layout::{RType, types_have_their_own_number};
 
 /// Where the first of several sets has no more values, room for few is made, which is filled sooner.
 const FEW_VALUES: usize = 8;
@@ -94,6 +95,31 @@ fn write_several(
         );
         return;
     }
+    write_many(zones, group, places, rtype, owner, ttl, reply, scratch);
+}
+
+/// Writes the records of the sets at some places of a group, which have this type, with room for
+/// many values.
+// Apart, so that others pass by the room for so many values.
+#[inline(never)]
+fn write_many(
+    zones: &Zones,
+    group: Group,
+    places: &[usize],
+    rtype: RType,
+    owner: &Name,
+    ttl: u32,
+    reply: &mut Reply,
+    scratch: &mut Scratch,
+)
+    requires group { IsGroupNow zones.now.zones group }
+    requires places { ArePlaces group places.now }
+    requires rtype { (i : ℕ) (set : RecordSet)
+        → slice_get (sets_in zones.now.zones group) i ≡ Some set → set.rtype ≡ rtype }
+    requires open { TakesRecords Answer reply.old }
+    ensures { Writes Answer (records owner.now rtype ttl
+        (joint_data [] (sets_of_places zones.now.zones group places.now))) reply.old reply.new }
+{
     let mut values = [NONE; 256];
     write_joint(
         zones,

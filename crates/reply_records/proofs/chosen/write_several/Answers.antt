@@ -14,8 +14,8 @@ write_joint-requires-clause-rtype c = λ i set there.
     (among_at all _ read.some.0 (sym read.loaded ∙ read.some.1))
     ∙ c.rtype_of-rtype.ensures read.some.0 read.some.1
 
-pub write_joint-requires-2-clause-rtype : goal.write_joint-requires-2-clause-rtype
-write_joint-requires-2-clause-rtype c = λ i set there.
+pub write_many-requires-clause-rtype : goal.write_many-requires-clause-rtype
+write_many-requires-clause-rtype c = λ i set there.
     let zones = c.args.zones.now.zones in
     let all = sets_in zones c.args.group in
     let read = c.load_member.ensures in
