@@ -10,7 +10,7 @@ ghost use Rattle.policy_select.specs.RecordSetRecord.{RecordSet};
 ghost use Rattle.policy_select.specs.FoundOfSetSearch.{IsFirstNamed};
 ghost use Rattle.policy_select.specs.Existing.{Exists};
 ghost use Rattle.policy_select.specs.Zones.{placed_in};
-ghost use Rattle.policy_select.specs.Looking.{IsApex};
+ghost use Rattle.policy_select.specs.Looking.{HasNameAt, IsApex};
 ghost use Rattle.zone_lookup.specs.Served.{zone_of};
 ghost use Rattle.zone_lookup.specs.Standing.{AreBeside, FindsAsked, FindsTyped, IsNearest};
 ghost use Rattle.zone_lookup.specs.Standing.{HasStanding, IsUnder, NamedAt, NamedBefore, SomeExists};
@@ -85,7 +85,8 @@ pub(crate) fn exists_near(
 
 /// Whether the set at a place of a zone has this name: it exists then. The set isn't held.
 pub fn has_set_at(zones: &Zones, zone: u32, place: usize, name: &Name) -> bool
-    ensures { IsTrue result → Exists (sets_in_zone zones.now.zones zone) name.now }
+    ensures exists { IsTrue result → Exists (sets_in_zone zones.now.zones zone) name.now }
+    ensures told { IsTrue result ↔ HasNameAt zones.now.zones zone place name.now }
 {
     zones.has_name(zone, place, name)
 }
