@@ -6,7 +6,7 @@ use Rattle.std.specs.Prelude.{cond, ◌==◌, ◌⊎◌, ◌↔◌}
 use Rattle.std.specs.List.{AllByRecursion}
 use Rattle.std.specs.Ordering.{is_lt, nat_cmp, ordering_then}
 use Rattle.std.specs.declared.cmp.Ordering.{Ordering}
-use Rattle.std.proofs.lemmas.Option.{slice_get_within}
+use Rattle.std.proofs.lemmas.Option.{slice_get_cases, slice_get_within}
 use Rattle.dns_name.specs.Order.{zone_cmp}
 use Rattle.dns_name.specs.Suffix.{EndsWith}
 use Rattle.rdata_layout.specs.Types.{number_of}
@@ -105,18 +105,19 @@ exists_under sets k (Some name) (set, there, same) at under =
     )
 
 -- a name exists exactly where the set at its place has it or a name below it
-pub first_under : (sets : List RecordSet) (name : List (List ℕ)) (n : ℕ)
-    (found : Option (List (List ℕ))) → IsRising sets → IsFirstNamed sets name n
-    → NamedAt sets n found → IsUnder found name ↔ Exists sets name
-first_under sets name n None rising first none = (
-  λ under. absurd under,
-  λ there. absurd (none_exists sets name n rising first none there),
-)
-first_under sets name n (Some at) rising first (set, there, same) =
-    let told = first_tells sets name n rising first set there in (
-      λ under. told.0 (subst (λ (m : List (List ℕ)). EndsWith m name) (sym same) under),
-      λ exists. subst (λ (m : List (List ℕ)). EndsWith m name) same (told.1 exists),
-    )
+pub first_below : (sets : List RecordSet) (name : List (List ℕ)) (n : ℕ) → IsRising sets
+    → IsFirstNamed sets name n → IsBelowAt sets name n ↔ Exists sets name
+first_below sets name n rising first = (exists_at sets name n, back)
+  where
+    back : Exists sets name → IsBelowAt sets name n
+    back there = elim (slice_get_cases sets n).1 [
+      | inl x ↦ (
+        x.0,
+        x.2,
+        (first_tells sets name n rising first x.0 x.2).1 there,
+      )
+      | inr past ↦ absurd (none_exists sets name n rising first past.0 there)
+    ]
 
 as_named : (sets : List RecordSet) (n : ℕ) (found : Option (List (List ℕ))) → 0 < n
     → NamedBefore sets n found → NamedAt sets (n - 1) found

@@ -7,7 +7,7 @@ ghost use Rattle.zone_lookup.specs.Standing.{IsNearest};
 
 use crate::standing::exists_near;
 use dns_name::Name;
-use policy_select::{Scratch, Zones, enclosers_are_closest, names_exist};
+use policy_select::{Zones, enclosers_are_closest, names_exist};
 
 /// How many sets stand in front of the wildcard below the apex, mostly: the NS and the SOA set of the
 /// apex.
@@ -15,14 +15,13 @@ const AT_APEX: usize = 2;
 
 /// The name whose sets are taken for a name of a zone: itself where it exists, else the wildcard
 /// below its closest encloser where that exists. There is none else. It is told by the longest name
-/// at or above it that exists. The scratch holds one set at a time.
+/// at or above it that exists. No set is held.
 pub(crate) fn source_from(
     zones: &Zones,
     zone: u32,
     apex: &Name,
     name: &Name,
     nearest: &Name,
-    scratch: &mut Scratch,
 ) -> Option<Name>
     requires { IsNearest (sets_in_zone zones.now.zones zone) name.now nearest.now }
     ensures { result ≡ source (sets_in_zone zones.now.zones zone) name.now }
@@ -35,7 +34,7 @@ pub(crate) fn source_from(
     let Some(wildcard) = nearest.wildcard() else {
         return None;
     };
-    if exists_near(zones, zone, &wildcard, near_of(apex, nearest), scratch) {
+    if exists_near(zones, zone, &wildcard, near_of(apex, nearest)) {
         return Some(wildcard);
     }
     None

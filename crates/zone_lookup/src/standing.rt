@@ -67,20 +67,13 @@ fn place_of(zones: &Zones, zone: u32, name: &Name, near: Option<usize>) -> usize
 }
 
 /// Whether a name exists in a zone. It is looked for from a place on, where one is told that may be
-/// near. The scratch holds one set at a time.
-pub(crate) fn exists_near(
-    zones: &Zones,
-    zone: u32,
-    name: &Name,
-    near: Option<usize>,
-    scratch: &mut Scratch,
-) -> bool
+/// near. No set is held.
+pub(crate) fn exists_near(zones: &Zones, zone: u32, name: &Name, near: Option<usize>) -> bool
     ensures { IsTrue result ↔ Exists (sets_in_zone zones.now.zones zone) name.now }
 {
     zones.well_formed();
     let place = place_of(zones, zone, name, near);
-    let behind = name_at(zones, zone, place, scratch);
-    is_under(&behind, name)
+    zones.is_below(zone, place, name)
 }
 
 /// Whether the set at a place of a zone has this name: it exists then. The set isn't held.
@@ -119,18 +112,11 @@ pub fn standing_of(
     ensures { HasStanding zones.now.zones (zone_of zones.now.zones zone apex.now) name.now result }
 {
     let nearest = nearest_of(zones, zone, apex, name, place, scratch);
-    standing_from(zones, zone, apex, name, &nearest, scratch)
+    standing_from(zones, zone, apex, name, &nearest)
 }
 
 /// The same by the longest name at or above it that exists.
-fn standing_from(
-    zones: &Zones,
-    zone: u32,
-    apex: &Name,
-    name: &Name,
-    nearest: &Name,
-    scratch: &mut Scratch,
-) -> Standing
+fn standing_from(zones: &Zones, zone: u32, apex: &Name, name: &Name, nearest: &Name) -> Standing
     requires there { IsApex zones.now.zones zone apex.now }
     requires nearest { IsNearest (sets_in_zone zones.now.zones zone) name.now nearest.now }
     requires inside { EndsWith nearest.now apex.now }
@@ -141,7 +127,7 @@ fn standing_from(
     if let Some(cut) = cut_above(zones, zone, apex, nearest) {
         return Standing::Below(cut);
     }
-    match source_from(zones, zone, apex, name, nearest, scratch) {
+    match source_from(zones, zone, apex, name, nearest) {
         Some(from) => Standing::Taken(from),
         None => Standing::Absent,
     }
@@ -164,16 +150,32 @@ pub(crate) fn nearest_of(
     ensures inside { EndsWith result apex.now }
 {
     zones.well_formed();
+    if is_child(name, apex) {
+        return child_or_apex(zones, zone, apex, name, place);
+    }
     let behind = name_at(zones, zone, place, scratch);
     if is_under(&behind, name) {
         return *name;
     }
-    // Most names are right below the apex, which exists.
-    if is_child(name, apex) {
-        return *apex;
-    }
     let before = name_before(zones, zone, place, scratch);
     nearest_beside(name, &before, &behind)
+}
+
+/// The same of a name right below the apex, as most are. The apex exists.
+fn child_or_apex(zones: &Zones, zone: u32, apex: &Name, name: &Name, place: usize) -> Name
+    requires there { IsApex zones.now.zones zone apex.now }
+    requires inside { EndsWith name.now apex.now }
+    requires child { length name.now ≡ length apex.now + 1 }
+    requires some { placed_in zones.now.zones zone ≢ [] }
+    requires place { IsFirstNamed (sets_in_zone zones.now.zones zone) name.now place }
+    ensures nearest { IsNearest (sets_in_zone zones.now.zones zone) name.now result }
+    ensures inside { EndsWith result apex.now }
+{
+    zones.well_formed();
+    if zones.is_below(zone, place, name) {
+        return *name;
+    }
+    *apex
 }
 
 /// Whether a name has one label more than another above it.

@@ -1,6 +1,6 @@
 -- A set found by its reference.
 use Rattle.std.proofs.Common.{◌≡◌, ◌+◌, ◌<◌, ℕ, zero, suc, get_or, arith, List, [], ◌∷◌, ◌++◌, length, take, ap, ◌∙◌, sym, refl, Bool, true, false, Option, None, Some, cond, subst, arith, inl, inr}
-use Rattle.std.specs.Prelude.{◌==◌, slice_get, unwrap_or}
+use Rattle.std.specs.Prelude.{◌==◌, ◌↔◌, IsTrue, slice_get, unwrap_or}
 use Rattle.std.specs.List.{AllByRecursion}
 use Rattle.std.proofs.lemmas.Bool.{eq-eqb, eqb-true}
 use Rattle.std.proofs.lemmas.List.{map-append}
@@ -8,7 +8,8 @@ use Rattle.zone_list.specs.RecordSetRecord.{RecordSet}
 use Rattle.zone_list.specs.Index.{no_set}
 use Rattle.zone_list.specs.Stored.{IsKept, Kept, zone_told}
 use Rattle.zone_list.specs.Slotted.{IsHere, Slotted, sets_of}
-use Rattle.zone_list.specs.FoundOfSetSearch.{TypeOrNone}
+use Rattle.zone_list.specs.FoundOfSetSearch.{IsBelowAt, TypeOrNone}
+use Rattle.zone_list.specs.Suffix.{EndsWith}
 use Rattle.zone_list.specs.Sets.{IsAmong}
 use Rattle.zone_list.specs.Existing.{Exists}
 use Rattle.zone_list.proofs.ListsOfZoneModel.{take_more}
@@ -160,3 +161,12 @@ pub named_here : (sets : List RecordSet) (i : ℕ) (name : List (List ℕ)) (num
     → (set : RecordSet) × (slice_get sets i ≡ Some set) × (set.name ≡ name)
 named_here sets i name number within told =
     let it = filled sets i within in (it.0, it.1, (told it.0 it.1).0)
+
+-- what is told of the set at a place, whether it has the name or one below it, is told of the place
+pub below_here : (sets : List RecordSet) (i : ℕ) (name : List (List ℕ)) (below : Bool) → i < length sets
+    → ((set : RecordSet) → slice_get sets i ≡ Some set → IsTrue below ↔ EndsWith set.name name)
+    → IsTrue below ↔ IsBelowAt sets name i
+below_here sets i name below within told = (
+  λ so. (let it = filled sets i within in (it.0, it.1, (told it.0 it.1).0 so)),
+  λ at. (told at.0 at.1).1 at.2,
+)

@@ -2,6 +2,7 @@
 
 ghost use Rattle.std.specs.Prelude.{◌≡◌, ◌≤◌, ◌<◌, ◌+◌, ◌-◌, ◌^◌, ℕ, length, slice_get, Some, IfOk};
 ghost use Rattle.std.specs.Prelude.{◌↔◌, IsTrue, List, drop, false, take};
+ghost use Rattle.zone_list.specs.FoundOfSetSearch.{IsBelowAt};
 ghost use Rattle.zone_list.specs.Stops.{bound_of};
 ghost use Rattle.zone_list.specs.Sums.{sums_of};
 ghost use Rattle.zone_list.specs.Kept.{AreIntact, named_of, zones_in};
@@ -164,6 +165,21 @@ pub fn has_name(store: &SetSlots, list: &[StoredZone], zone: u32, place: usize, 
         Some(_) => true,
         None => false,
     }
+}
+
+/// Whether there is a set at a place of a zone that has the name, or one below it.
+pub fn is_below(store: &SetSlots, list: &[StoredZone], zone: u32, place: usize, name: &Name) -> bool
+    requires { AreIntact store.now.slots list.now }
+    ensures { IsTrue result
+        ↔ IsBelowAt (sets_of (placed_in (zones_in store.now.slots list.now) zone)) name.now place }
+{
+    let Some(sets) = zone_sets(store, list, zone) else {
+        return false;
+    };
+    if place >= sets.count() {
+        return false;
+    }
+    sets.is_below(place, name)
 }
 
 /// The slot of the first set of a zone behind the bound, with a hint of its place.

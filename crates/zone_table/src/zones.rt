@@ -3,6 +3,7 @@
 ghost use Rattle.std.specs.Prelude.{◌≡◌, ◌≢◌, ◌≤◌, ◌<◌, ◌+◌, ◌-◌, ◌%◌, ◌^◌, length, List, ℕ, []};
 ghost use Rattle.std.specs.Prelude.{IfOk, IsTrue, ◌↔◌, false, take};
 ghost use Rattle.zone_list.specs.Existing.{Exists, IsAncestor, IsClosest};
+ghost use Rattle.zone_list.specs.FoundOfSetSearch.{IsBelowAt};
 ghost use Rattle.zone_list.specs.Slotted.{sets_of};
 ghost use Rattle.zone_list.specs.Policies.{PolicyIsAt, set_piece};
 ghost use Rattle.zone_list.specs.RecordSetRecord.{RecordSet};
@@ -22,9 +23,9 @@ ghost use Rattle.zone_list.specs.Stops.{bound_of as told};
 
 use crate::edits::{Ready, ZoneEdit};
 use crate::looking::{
-    apex_of, copies, has_name, hint_of, hint_or, load, may_have_cuts, order_of, piece, policy,
-    policy_front, slot_at, slot_behind, slot_in, slots_of, sums_in, target, view_near, watch,
-    zone_sets,
+    apex_of, copies, has_name, hint_of, hint_or, is_below, load, may_have_cuts, order_of, piece,
+    policy, policy_front, slot_at, slot_behind, slot_in, slots_of, sums_in, target, view_near,
+    watch, zone_sets,
 };
 use crate::making::{make, note_name, settle, settle_all};
 use crate::needs::{need_of, reserve_for, reserve_name};
@@ -161,6 +162,14 @@ impl Zones {
         ensures { IsTrue result ↔ HasNameAt self.now.zones zone i name.now }
     {
         has_name(&self.store, &self.list, zone, i, name)
+    }
+
+    /// Whether there is a set at a place of a zone that has the name, or one below it. The set isn't
+    /// held.
+    pub fn is_below(&self, zone: u32, i: usize, name: &Name) -> bool
+        ensures { IsTrue result ↔ IsBelowAt (sets_of (placed_in self.now.zones zone)) name.now i }
+    {
+        is_below(&self.store, &self.list, zone, i, name)
     }
 
     /// How many octets the sets of a zone have.
