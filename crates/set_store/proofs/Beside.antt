@@ -10,6 +10,7 @@ use Rattle.std.proofs.Math.Seq.{drop-append_seam, take-append_seam}
 use Rattle.set_search.specs.Labels.{IsRawLabel, frame, wire}
 use Rattle.set_search.specs.NamesOfDnsName.{IsName}
 use Rattle.set_search.specs.OrderOfDnsName.{zone_cmp}
+use Rattle.set_search.specs.Suffix.{EndsWith}
 use Rattle.set_search.proofs.BesideOfDnsName.{beside}
 use Rattle.set_search.specs.RecordSetRecord.{RecordSet}
 use Rattle.set_search.specs.SetKeyRecord.{SetKey}
@@ -143,15 +144,41 @@ module _ (octets front : List ℕ) (name : List (List ℕ)) (more : List ℕ) (i
       text_is : text ≡ others.label
       text_is = its_text ∙ (ap (λ n. take n (drop 1 piece)) its_size ∙ others.text)
 
-      pub in_order : slice_cmp nat_cmp label text ≡ zone_cmp name other
-      in_order =
-          ap (λ (l : List ℕ). slice_cmp nat_cmp l text) label_is
-          ∙ (ap (λ (l : List ℕ). slice_cmp nat_cmp parts.label l) text_is
-          ∙ (sym (beside parts.label others.label others.above)
-          ∙ (ap (λ (a : List (List ℕ)). zone_cmp (parts.label ∷ a) (others.label ∷ others.above))
-          (sym same_above)
-          ∙ (ap (λ (n : List (List ℕ)). zone_cmp n (others.label ∷ others.above)) (sym parts.is)
-          ∙ ap (λ (n : List (List ℕ)). zone_cmp name n) (sym others.is)))))
+      -- both are right below one name
+      pub right_below : (above : List (List ℕ)) × (name ≡ label ∷ above) × (other ≡ text ∷ above)
+      right_below = (
+        parts.above,
+        parts.is ∙ ap (λ (l : List ℕ). l ∷ parts.above) (sym label_is),
+        others.is
+            ∙ (ap (λ (l : List ℕ). l ∷ others.above) (sym text_is)
+            ∙ ap (λ (a : List (List ℕ)). text ∷ a) (sym same_above)),
+      )
+
+module _ (label text : List ℕ) (name other above : List (List ℕ)) (is : name ≡ label ∷ above)
+    (its : other ≡ text ∷ above) where
+  -- two names right below one are in the order of their labels
+  pub in_order : slice_cmp nat_cmp label text ≡ zone_cmp name other
+  in_order =
+      sym (beside label text above)
+      ∙ (ap (λ (n : List (List ℕ)). zone_cmp n (text ∷ above)) (sym is)
+      ∙ ap (λ (n : List (List ℕ)). zone_cmp name n) (sym its))
+
+  one_label : (more : List (List ℕ)) → name ≡ more ++ other → label ≡ text
+  one_label [] e = (let s : label ∷ above ≡ text ∷ above = sym is ∙ (e ∙ its) in cc)
+  one_label (x ∷ more) e =
+      let long : length name ≡ suc (length more + length other) =
+      ap length e ∙ ap suc (length-append more other) in
+      let own : length name ≡ suc (length above) = ap length is in
+      let others : length other ≡ suc (length above) = ap length its in
+      absurd (omega (arith, long, own, others))
+
+  -- one of them ends with the other where their labels are the same
+  pub ends_alike : (found : Bool) → IsTrue found ↔ (label ≡ text)
+      → IsTrue found ↔ EndsWith name other
+  ends_alike found told = (
+    λ so. ([], is ∙ (ap (λ (l : List ℕ). l ∷ above) (told.0 so) ∙ sym its)),
+    λ ends. told.1 (one_label ends.0 ends.1),
+  )
 
 -- what is told of an order is told of the same order
 pub told_of : (found : Option Bool) (x y : Ordering) → x ≡ y

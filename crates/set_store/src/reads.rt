@@ -19,7 +19,7 @@ ghost use Rattle.set_store.specs.Stored.{IsKept, IsSpelling, IsInUse, Kept, Spel
 
 use crate::hashes::hash_of;
 use crate::heads::{head_is_before, head_is_below, head_server_labels};
-use crate::siblings::is_before_beside;
+use crate::siblings::{is_before_beside, is_below_beside};
 use crate::slots::{NO_CELL, Slot, cell_at, tag_at};
 use crate::store::SetSlots;
 use crate::typed::{is_of_at, type_under};
@@ -81,6 +81,9 @@ impl SetSlots {
     {
         keys_are_in_front();
         written_reads_back();
+        if let Some(below) = is_below_beside(&self.region, &self.slots, slot, name) {
+            return below;
+        }
         if size_at(&self.region, &self.slots, slot) <= SHORT {
             return head_is_below(head_at(&self.region, &self.slots, slot, &mut [0; 64]), name);
         }

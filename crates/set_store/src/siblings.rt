@@ -1,13 +1,14 @@
 //! Keys compared where they stand, in the ways that serve most: names right below one name, as most
 //! names of a zone are, and types where the names are the same.
 
-ghost use Rattle.std.specs.Prelude.{◌≡◌, ◌≤◌, ◌+◌, ℕ, List, drop, get_or, length, take};
+ghost use Rattle.std.specs.Prelude.{◌≡◌, ◌≤◌, ◌+◌, ◌∷◌, ℕ, List, drop, get_or, length, take};
 ghost use Rattle.std.specs.Prelude.{if◌then◌else◌};
 ghost use Rattle.std.specs.Prelude.{IfSome, IsTrue, ◌↔◌};
 ghost use Rattle.std.specs.Cmp.Lexicographic.{slice_cmp};
 ghost use Rattle.std.specs.Ordering.{nat_cmp};
 ghost use Rattle.std.specs.declared.cmp.Ordering.TheVariants.{Greater, Less};
 ghost use Rattle.set_search.specs.OrderOfDnsName.{zone_cmp};
+ghost use Rattle.set_search.specs.Suffix.{EndsWith};
 ghost use Rattle.set_search.specs.Types.{number_of};
 ghost use Rattle.set_search.specs.RecordSetRecord.{RecordSet};
 ghost use Rattle.set_search.specs.Bounds.{is_before};
@@ -104,6 +105,19 @@ fn type_order(
     Some(own.cmp(&rtype.number()))
 }
 
+/// Whether the set of a slot has the name, or one below it, where its own name and this one are right
+/// below one name. None where they aren't.
+pub fn is_below_beside(region: &Region, slots: &Vec<Slot>, slot: u32, name: &Name) -> Option<bool>
+    requires { (octets : List ℕ) × HoldsAt region.now.held slots.now.items slot octets
+        × IsSpelling octets }
+    ensures { (octets : List ℕ) (set : RecordSet)
+        → HoldsAt region.now.held slots.now.items slot octets → Spells octets set
+        → IfSome result (λ below. IsTrue below ↔ EndsWith set.name name.now) }
+{
+    let labels = first_labels(region, slots, slot, name)?;
+    Some(is_same(labels.0, labels.1))
+}
+
 /// Whether the name of a slot's set comes before another, where both are right below one name and
 /// aren't the same.
 fn is_named_before(region: &Region, slots: &Vec<Slot>, slot: u32, name: &Name) -> Option<bool>
@@ -113,6 +127,25 @@ fn is_named_before(region: &Region, slots: &Vec<Slot>, slot: u32, name: &Name) -
         → HoldsAt region.now.held slots.now.items slot octets → Spells octets set
         → IfSome result (λ before. zone_cmp set.name name.now
         ≡ (if before then Less else Greater)) }
+{
+    let labels = first_labels(region, slots, slot, name)?;
+    label_before(labels.0, labels.1)
+}
+
+/// The first labels of the name of a slot's set and another, where both are right below one name.
+#[inline(always)]
+fn first_labels<'a>(
+    region: &'a Region,
+    slots: &Vec<Slot>,
+    slot: u32,
+    name: &'a Name,
+) -> Option<(&'a [u8], &'a [u8])>
+    requires { (octets : List ℕ) × HoldsAt region.now.held slots.now.items slot octets
+        × IsSpelling octets }
+    ensures { (octets : List ℕ) (set : RecordSet)
+        → HoldsAt region.now.held slots.now.items slot octets → Spells octets set
+        → IfSome result (λ labels. (above : List (List ℕ))
+        × (set.name ≡ labels.0.now ∷ above) × (name.now ≡ labels.1.now ∷ above)) }
 {
     let octets = name.octets();
     let front = front_at(region, slots, slot);
@@ -137,7 +170,7 @@ fn is_named_before(region: &Region, slots: &Vec<Slot>, slot: u32, name: &Name) -
     ) {
         return None;
     }
-    label_before(part(front, 1, own), part(octets, 1, size))
+    Some((part(front, 1, own), part(octets, 1, size)))
 }
 
 /// Whether the octets of a slot's set, of which these are the first ones, go on with others from a

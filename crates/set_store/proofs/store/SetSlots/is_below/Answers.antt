@@ -75,3 +75,20 @@ returns c kept is =
     let head = head_there c.keys_are_in_front.ensures kept.set f.octets f.spelled (min
     (length f.octets) 387) (enough_long (length f.octets)) in
     c.head_is_below-2.ensures kept.set head.0 f.spelled.is (c.head_at-2.ensures f.octets f.there ∙ head.1)
+
+pub is_below_beside-requires : goal.is_below_beside-requires
+is_below_beside-requires c =
+    let kept = c.requires in
+    let f = found c.self.inside.region.held c.self.inside.slots.items c.self.inside.free c.self.inside.spare
+    c.self.invariant
+    c.written_reads_back.ensures c.args.slot kept.0 (subst (λ
+    (s : Slots). IsKept s.slots c.args.slot kept.0) (sym c.self.view_is) kept.1) in
+    (f.octets, f.there, (kept.0.set, f.spelled))
+
+pub returns-in-Some : goal.returns-in-Some
+returns-in-Some c kept is =
+    let f = found c.self.inside.region.held c.self.inside.slots.items c.self.inside.free c.self.inside.spare
+    c.self.invariant
+    c.written_reads_back.ensures c.args.slot kept (subst (λ (s : Slots). IsKept s.slots c.args.slot kept)
+    (sym c.self.view_is) is) in
+    c.in-Some.ensures f.octets kept.set f.there f.spelled
