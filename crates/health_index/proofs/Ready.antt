@@ -16,7 +16,7 @@ use Rattle.health_index.proofs.Valved.{stood_is}
 use Rattle.health_index.specs.Following.{AreFewer, AreMore, AreSame, HasCheckers, IsEndpointAt, IsOpenTo, IsWay}
 use Rattle.health_index.specs.Index.{Index, IsEndpoint, IsEndpointOf, StandsFor}
 use Rattle.health_index.specs.Kin.{kin_of}
-use Rattle.health_index.specs.Laws.{CanFollow, ChecksCanFollow, CommandsCanFollow, LeavesChildren}
+use Rattle.health_index.specs.Laws.{CanFollow, ChecksCanFollow, CommandsCanFollow, KeepsChildren}
 use Rattle.health_index.specs.declared.following.Way.{Way}
 use Rattle.health_index.specs.declared.following.Way.TheVariants as way
 use Rattle.health_model.specs.Statuses.{Report}
@@ -129,7 +129,7 @@ module _ (zones : List Zone) (checks : Checks) (reports : List Report) (index : 
       let can = checks_can_follow zones checks new reports index stands are_new same its known is in
       (can.0, (its, (is, can.1)))
 
-  after : (command : CheckCommand) → AreSoundChecks (checks_after checks command) → LeavesChildren checks command
+  after : (command : CheckCommand) → AreSoundChecks (checks_after checks command) → KeepsChildren checks command
       → CanFollow (checks_after checks command).list index
   after (Create check) are_new leaves =
       can_by (checks_after checks (Create check)) are_new (kin_more checks.list checks.next check leaves) way.More (λ e. let no : ⊥ = cc in no)

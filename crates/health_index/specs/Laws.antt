@@ -56,11 +56,11 @@ ChecksCanFollow = (zones : List Zone) (old new : Checks) (reports : List Report)
     → (index.kin ≡ kin_of new.list) × IsOpenTo its new.list index
 
 -- The command is on the check of an endpoint, or leaves a calculated one its children.
-abbrev pub LeavesChildren : Checks → CheckCommand → Type 0
-LeavesChildren checks (Create check) = IsEndpoint (Some check)
-LeavesChildren checks (Update id inverted disabled threshold children) =
+abbrev pub KeepsChildren : Checks → CheckCommand → Type 0
+KeepsChildren checks (Create check) = IsEndpoint (Some check)
+KeepsChildren checks (Update id inverted disabled threshold children) =
     IsEndpointOf checks id ⊎ (children ≡ None)
-LeavesChildren checks (Delete id) = IsEndpointOf checks id
+KeepsChildren checks (Delete id) = IsEndpointOf checks id
 
 -- An index can follow such checks in place, by one of the ways.
 abbrev pub CanFollow : List (ℕ × Check) → Index → Type 0
@@ -71,5 +71,5 @@ CanFollow list index = (index.kin ≡ kin_of list)
 abbrev pub CommandsCanFollow : Type 0
 CommandsCanFollow = (zones : List Zone) (checks : Checks) (reports : List Report) (index : Index)
     (command : CheckCommand) → StandsFor zones checks reports index
-    → AreSoundChecks (checks_after checks command) → LeavesChildren checks command
+    → AreSoundChecks (checks_after checks command) → KeepsChildren checks command
     → CanFollow (checks_after checks command).list index

@@ -90,8 +90,9 @@ pub record IsFedByTarget (zones : List Zone) (seats : List Seat) (valves : Valve
   pub seat : IsGroupSeat seats members group
   pub fed : IsFed valves group valve
 
--- The set is an alias whose target's health counts, and what feeds its valve is what has to: the valve of the
--- check that it names, and that of its target group.
+-- The set is an alias whose target's health counts; the valve of the check that it names and that of its
+-- target group feed its valve, and as many have to be open. Where the index stands for anything no others
+-- feed it.
 pub record IsAsFed (zones : List Zone) (ids numbers : List ℕ) (seats : List Seat) (valves : Valves)
     (zone slot : ℕ) (set : RecordSet) : Type 0 where
   pub on : evaluates set.body ≡ true

@@ -87,7 +87,7 @@ pub fn is_fed_alike(
         return false;
     }
     let valve = seat - 1;
-    if valves.need(valve as usize) != feeders_of(watch) {
+    if valves.need(valve as usize) != feeders_count(watch) {
         return false;
     }
     if !check_feeds(ids, numbers, valves, watch.check, valve) {
@@ -97,7 +97,7 @@ pub fn is_fed_alike(
 }
 
 /// How many valves feed that of an alias whose target's health counts.
-fn feeders_of(watch: Watch) -> u32
+fn feeders_count(watch: Watch) -> u32
     ensures { result ≡ length (option_to_list watch.check) + 1 }
 {
     match watch.check {

@@ -206,16 +206,23 @@ impl HealthIndex {
     /// Takes a command: the zones and the checks are those that it left, and the references are
     /// those that it told. It takes no memory.
     ///
-    /// Where sets gave way to others that the same check alone decides, or nothing, or the same check and the
-    /// same target group, and else sets
-    /// that nothing decides went and came, but in no group to which an evaluated alias leads, it
-    /// costs a look at these and at their groups, and a comparison of those that came with those that
-    /// went. Where sets went and came in no such group, and none of them is an evaluated alias, whichever
-    /// checks they name, it costs a look at these, at their groups and at the numbers of checks. Where it tells of no zone, and no calculated check came, went or got other children: where checks
-    /// have the numbers of those before, as after UpdateHealthCheck, or one of an endpoint came behind them or
-    /// went, as after CreateHealthCheck and DeleteHealthCheck, it costs a look at the checks and at the children
-    /// of calculated ones, and what stands above those whose status changes. Otherwise all valves are laid out anew: it costs what the configuration has of checks, of evaluated
-    /// aliases and of the sets of their target groups, and had of them before. Of the other
+    /// Where sets gave way to others that the same check alone decides, or nothing, and else sets that
+    /// nothing decides went and came, but in no group to which an evaluated alias leads, it costs a
+    /// look at these and at their groups, and a comparison of those that came with those that went.
+    /// An evaluated alias may give way to one with the same check and the same target group, too: for
+    /// each that came its target is looked up, and the valves that its check and its target group
+    /// feed are walked. Where sets went and came in no such group, and none of them is an evaluated
+    /// alias, whichever checks they name, it costs a look at these, at their groups and at the
+    /// numbers of checks.
+    ///
+    /// Where it tells of no zone, and no calculated check came, went or got other children: where
+    /// checks have the numbers of those before, as after UpdateHealthCheck, or one of an endpoint came
+    /// behind them or went, as after CreateHealthCheck and DeleteHealthCheck, it costs a look at the
+    /// checks and at the children of calculated ones, and what stands above those whose status
+    /// changes.
+    ///
+    /// Otherwise all valves are laid out anew: it costs what the configuration has of checks, of
+    /// evaluated aliases and of the sets of their target groups, and had of them before. Of the other
     /// sets it asks only those that went and came, and their seats stay as they are.
     pub fn on_command(&mut self, zones: &Zones, checks: &CheckTable, delta: &Delta)
         requires room { HasRoom self.old zones.now.slots }
@@ -437,10 +444,11 @@ impl HealthIndex {
         reshape_checks(&mut self.valves, checks.as_slice(), &self.numbers);
     }
 
-    /// Lays everything out anew, with what the checkers saw, and keeps the children of calculated checks. All sets are asked which check alone decides them
-    /// and whether they are evaluated aliases, or those that had valves of their own and those that went and
-    /// came. Checks keep their valves then, and so each other set that a check alone decides keeps its seat.
-    /// It takes no memory.
+    /// Lays everything out anew, with what the checkers saw, and lists the children of calculated
+    /// checks anew. All sets are asked which check alone decides them and whether they are evaluated
+    /// aliases, or those that had valves of their own and those that went and came. Checks keep their
+    /// valves then, and so each other set that a check alone decides keeps its seat. It takes no
+    /// memory.
     fn lay(
         &mut self,
         zones: &Zones,

@@ -64,10 +64,11 @@ pub record HaveValves (many : ℕ) (numbers : List ℕ) : Type 0 where
 abbrev pub valve_with : (ids numbers : List ℕ) → (id : ℕ) → ℕ
 valve_with ids numbers id = slice_index numbers (place_of ids id)
 
--- it is this one, where there is a check with the number
+-- it is this one, and a check has the number; or none has
 abbrev pub IsValveWith : (ids numbers : List ℕ) → (id : ℕ) → Option ℕ → Type 0
 IsValveWith ids numbers id None = (place : ℕ) → slice_get ids place ≡ Some id → ⊥
-IsValveWith ids numbers id (Some valve) = valve ≡ valve_with ids numbers id
+IsValveWith ids numbers id (Some valve) =
+    ((place : ℕ) × (slice_get ids place ≡ Some id)) × (valve ≡ valve_with ids numbers id)
 
 -- Ten of the fifty checkers open the valve of an endpoint, so many of its children that of a
 -- calculated check, and nothing is needed where it is disabled.

@@ -54,7 +54,7 @@ returns c named names watches =
     let check_is : c.args.watch.check ≡ named.check = ap (λ w. w.check) watches in
     let seat = tells seats slot c.find_seat.result.set c.own_valve-seat.result (size_of valves)
     c.find_seat.ensures.set c.own_valve-seat.ensures c.if-seat-eq0.false c.requires.seated in
-    let many = c.if-need-feeders_of.false ∙ c.feeders_of.ensures ∙ ap (λ (o : Option ℕ). length (option_to_list o) + 1) check_is in (
+    let many = c.if-need-feeders_count.false ∙ c.feeders_count.ensures ∙ ap (λ (o : Option ℕ). length (option_to_list o) + 1) check_is in (
       λ so. record {
         on = sym (ap (λ w. w.evaluates) watches) ∙ not_on c.args.watch.evaluates c.if-not-watch.false;
         valve = valve;

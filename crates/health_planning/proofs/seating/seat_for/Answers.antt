@@ -24,7 +24,7 @@ returns-in_default-clause-alone c named id is alone =
 pub returns-clause-alone : goal.returns-clause-alone
 returns-clause-alone c named id is alone =
     let only = c.only_check-only.ensures named is ∙ only_alone named id alone in
-    let valve = subst (IsValveWith c.args.ids.now c.args.numbers.now c.only_check-only.result) c.in-Some.is c.valve_with.ensures in
+    let valve = (subst (IsValveWith c.args.ids.now c.args.numbers.now c.only_check-only.result) c.in-Some.is c.valve_with.ensures).1 in
     let same : c.in-Some.valve ≡ valve_with c.args.ids.now c.args.numbers.now id =
     valve ∙ ap (valve_with c.args.ids.now c.args.numbers.now) only in
     (only, omega arith)
@@ -35,7 +35,7 @@ overflow_add-result c =
     let told = c.only_check-only.ensures named.0 named.1 in
     let alone = alone_told named.0 (λ none. c.if-only-eq0.false (told ∙ none)) in
     let at = c.requires.there c.only_check-only.result (ap (λ x. x.check) named.1 ∙ alone.1 ∙ ap Some (sym told)) in
-    let valve = subst (IsValveWith c.args.ids.now c.args.numbers.now c.only_check-only.result) c.in-Some.is c.valve_with.ensures in
+    let valve = (subst (IsValveWith c.args.ids.now c.args.numbers.now c.only_check-only.result) c.in-Some.is c.valve_with.ensures).1 in
     let early = valve_early c.args.ids.now c.args.numbers.now c.requires.valves at.0 c.only_check-only.result at.1 in
     omega arith
 
@@ -45,6 +45,6 @@ returns-clause-early c =
     let told = c.only_check-only.ensures named.0 named.1 in
     let alone = alone_told named.0 (λ none. c.if-only-eq0.false (told ∙ none)) in
     let at = c.requires.there c.only_check-only.result (ap (λ x. x.check) named.1 ∙ alone.1 ∙ ap Some (sym told)) in
-    let valve = subst (IsValveWith c.args.ids.now c.args.numbers.now c.only_check-only.result) c.in-Some.is c.valve_with.ensures in
+    let valve = (subst (IsValveWith c.args.ids.now c.args.numbers.now c.only_check-only.result) c.in-Some.is c.valve_with.ensures).1 in
     let early = valve_early c.args.ids.now c.args.numbers.now c.requires.valves at.0 c.only_check-only.result at.1 in
     omega arith
