@@ -188,14 +188,14 @@ fn end_of<S: SetList>(sets: &S, name: &Name, rtype: RType, place: usize) -> usiz
     if next >= size {
         return next;
     }
-    if !is_with(sets, name, rtype, place, next) {
+    if sets.are_told_apart(place, next) {
         return next;
     }
-    end_behind(sets, name, rtype, next)
+    end_behind(sets, name, rtype, place)
 }
 
-/// The same where more sets of the group are likely: mostly it ends where its name does, which one
-/// look at the set in front of that place shows.
+/// The same where the set beside it isn't told apart: mostly the group ends where its name does,
+/// which one look at the set in front of that place shows.
 fn end_behind<S: SetList>(sets: &S, name: &Name, rtype: RType, place: usize) -> usize
     requires rising { IsRising (S.sets sets.now) }
     requires member { IsSetOfGroupAt (S.sets sets.now) name.now rtype place }

@@ -1,4 +1,4 @@
-use Rattle.std.proofs.Common.{◌+◌, arith}
+use Rattle.std.proofs.Common.{◌+◌, ◌∙◌, arith, sym}
 use Rattle.std.proofs.lemmas.Option.{slice_get_within}
 use Rattle.set_search.proofs.Beside.{ends_before, ends_last}
 use Rattle.set_search.proofs.Lookups.{filled}
@@ -18,21 +18,14 @@ returns-then-next-size g c =
     ends_last c.args.name.now c.args.rtype (g.S.SetList.sets c.args.sets.now) c.requires.rising
     c.args.place c.requires.member (omega (arith, size, last))
 
-pub returns-then-not-is_with : goal.returns-then-not-is_with
-returns-then-not-is_with g c =
+pub returns-then-are_told_apart : goal.returns-then-are_told_apart
+returns-then-are_told_apart g c =
     let sets = g.S.SetList.sets c.args.sets.now in
     let size = c.count-size.ensures in
     let more = c.if-next-size.false in
+    let member = c.requires.member in
     let y = filled sets (c.args.place + 1) (omega (arith, size, more)) in
-    (ends_before c.args.name.now c.args.rtype sets c.requires.rising c.args.place c.requires.member
+    (ends_before c.args.name.now c.args.rtype sets c.requires.rising c.args.place member
     (c.args.place + 1) y.0 (omega arith) y.1
-    (λ is. let t = (c.is_with.ensures y.0 y.1).1 is in let f = c.if-not-is_with.true in grind
-    (arith, t, f))).bracket
-
-pub end_behind-requires-clause-member : goal.end_behind-requires-clause-member
-end_behind-requires-clause-member g c =
-    let sets = g.S.SetList.sets c.args.sets.now in
-    let size = c.count-size.ensures in
-    let more = c.if-next-size.false in
-    let y = filled sets (c.args.place + 1) (omega (arith, size, more)) in
-    (y.0, y.1, (c.is_with.ensures y.0 y.1).0 (let f = c.if-not-is_with.false in grind (arith, f)))
+    (λ is. c.are_told_apart.ensures c.if-are_told_apart.true member.0 y.0 member.1 y.1
+    (member.2.0 ∙ sym is.0))).bracket
