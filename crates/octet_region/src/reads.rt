@@ -149,7 +149,30 @@ fn copy_within(cells: &[Cell], first: u32, size: usize, offset: usize, into: &mu
 
 /// The cell of a chain in which the octet of a place stands, how many octets stand from that cell
 /// on, and how many of these before the place.
+#[inline(always)]
 fn skip_to(cells: &[Cell], first: u32, size: usize, offset: usize) -> (u32, usize, usize)
+    requires inside { HasCells cells.now size first }
+    requires within { offset < size }
+    ensures inside { HasCells cells.now result.1 result.0 }
+    ensures near { result.2 < 32 }
+    ensures left { result.1 + offset ≡ size + result.2 }
+    ensures place { result.2 ≡ offset % 32 }
+    ensures same { drop offset (octets_in cells.now size first)
+        ≡ drop result.2 (octets_in cells.now result.1 result.0) }
+{
+    if offset < CELL {
+        return (first, size, offset);
+    }
+    if offset < 2 * CELL {
+        return (next_at(cells, first), size - CELL, offset - CELL);
+    }
+    skip_far(cells, first, size, offset)
+}
+
+/// The same for any place.
+// Apart, so that places in the first two cells pass by the loop.
+#[inline(never)]
+fn skip_far(cells: &[Cell], first: u32, size: usize, offset: usize) -> (u32, usize, usize)
     requires inside { HasCells cells.now size first }
     requires within { offset < size }
     ensures inside { HasCells cells.now result.1 result.0 }

@@ -3,7 +3,7 @@ use Rattle.octet_region.specs.Cells.{next_at, octets_at}
 use Rattle.octet_region.specs.Chains.{HasCells, octets_in}
 use Rattle.octet_region.proofs.Places.{last_step}
 use Rattle.octet_region.proofs.Pieces.{skip_step}
-use Rattle.octet_region.proofs.reads.skip_to.Goals as goal
+use Rattle.octet_region.proofs.reads.skip_far.Goals as goal
 
 pub loop-from-preserved : goal.loop-from-preserved
 loop-from-preserved c =
