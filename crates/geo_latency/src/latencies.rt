@@ -3,7 +3,7 @@
 ghost use Rattle.std.specs.Prelude.{◌≡◌};
 ghost use Rattle.geo_latency.specs.Regions.{latency_of};
 
-use crate::same::is_same_region;
+use crate::same::{has_bytes, is_same_region};
 use routing::Region;
 use std::marker::Model;
 
@@ -35,6 +35,13 @@ impl Latencies {
     {
         latency_in(&self.rows, region)
     }
+
+    /// The latency of the region of these bytes, where it is told. Bytes that no region has aren't.
+    pub fn latency_of_bytes(&self, bytes: &[u8]) -> Option<u32>
+        ensures { result ≡ latency_of self.now bytes.now }
+    {
+        latency_under(&self.rows, bytes)
+    }
 }
 
 /// The first latency that is told of a region.
@@ -43,6 +50,18 @@ pub(crate) fn latency_in(rows: &[(Region, u32)], region: &Region) -> Option<u32>
 {
     for i in 0..rows.len() {
         if is_same_region(&rows[i].0, region) {
+            return Some(rows[i].1);
+        }
+    }
+    None
+}
+
+/// The first latency that is told of a region of these bytes.
+fn latency_under(rows: &[(Region, u32)], bytes: &[u8]) -> Option<u32>
+    ensures { result ≡ latency_of rows.now bytes.now }
+{
+    for i in 0..rows.len() {
+        if has_bytes(&rows[i].0, bytes) {
             return Some(rows[i].1);
         }
     }

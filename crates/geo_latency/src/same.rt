@@ -12,6 +12,13 @@ pub(crate) fn is_same_region(region: &Region, other: &Region) -> bool
     region == other
 }
 
+/// Whether these bytes are the name of a region.
+pub(crate) fn has_bytes(region: &Region, bytes: &[u8]) -> bool
+    ensures { result ≡ bytes_eq region.now bytes.now }
+{
+    region.bytes() == bytes
+}
+
 /// Whether two subdivisions have one code.
 pub(crate) fn is_same_subdivision(subdivision: &Sub, other: &Sub) -> bool
     ensures { result ≡ bytes_eq subdivision.now other.now }

@@ -1,6 +1,19 @@
-use Rattle.policy_select.proofs.said.weight_of_member.Goals as goal
+use Rattle.std.proofs.Common.{◌∙◌, [], ap, refl, sym}
+use Rattle.std.specs.Prelude.{slice_get}
+use Rattle.std.specs.Option.{unwrap_or}
+use Rattle.policy_select.specs.Groups.{sets_in}
+use Rattle.policy_select.proofs.Pieces.{weight_by}
+use Rattle.policy_select.proofs.said.weight_lent.Goals as goal
 
-pub returns-in-Some : goal.returns-in-Some
-returns-in-Some c =
-    let it = c.policy_front-octets.ensures in
-    (it.0, it.1, c.in-Some.ensures it.0.routing it.2.rest it.2.size it.2.is it.2.same)
+pub returns-in-Some-octet_behind : goal.returns-in-Some-octet_behind
+returns-in-Some-octet_behind c =
+    let front = c.requires.front in
+    let piece = c.policy_behind.ensures in
+    let got = slice_get (sets_in c.args.zones.now.zones c.args.group) c.args.i in
+    let it = weight_by got c.args.octets.now c.policy_behind.result.now front.0 piece.0 c.in-Some.size
+    front.1 front.2 piece.1 piece.2 c.in-Some.ensures in (
+      piece.0,
+      piece.1,
+      c.in-Some-octet_behind.ensures [] piece.2.rest it.0 piece.2.size refl it.2
+          ∙ sym (ap (λ o. unwrap_or o c.args.first) it.1),
+    )
