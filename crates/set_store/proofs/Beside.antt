@@ -12,6 +12,7 @@ use Rattle.set_search.specs.NamesOfDnsName.{IsName}
 use Rattle.set_search.specs.OrderOfDnsName.{zone_cmp}
 use Rattle.set_search.specs.Suffix.{EndsWith}
 use Rattle.set_search.proofs.BesideOfDnsName.{beside}
+use Rattle.set_search.proofs.Depth.{below}
 use Rattle.set_search.specs.RecordSetRecord.{RecordSet}
 use Rattle.set_search.specs.SetKeyRecord.{SetKey}
 use Rattle.set_search.specs.RTypeRecord.{RType}
@@ -89,6 +90,33 @@ told_within known first piece octets offset found there fits is told =
     ∙ (ap (λ (f : List ℕ). take (length octets) (drop offset f)) there
     ∙ inside offset (length octets) 32 known (omega (arith, fits, long))) in
     subst (λ (p : List ℕ). IsTrue found ↔ (p ≡ octets)) same told
+
+-- a name comes before one right below it
+module _ (other : List (List ℕ)) (piece : List ℕ) (other_is : IsName other) (told : piece ≡ wire other)
+    (size : ℕ) (its_size : size ≡ get_or piece 0 0) (filled : size ≢ 0) where
+  lower_parts : IsFirst piece [] other
+  lower_parts =
+      first other piece [] other_is.raw.each (told ∙ sym (append-nil (wire other)))
+      (λ e. filled (its_size ∙ e))
+
+  pub first_fits : size + 1 ≤ length piece
+  first_fits = (let f = lower_parts.fits in let e = its_size in omega (arith, f, e))
+
+  pub before_lower : (octets more rest : List ℕ) (name : List (List ℕ)) → IsName name
+      → octets ≡ wire name ++ more → rest ≡ drop (size + 1) piece
+      → take (length rest) (drop 0 octets) ≡ rest → zone_cmp name other ≡ Less
+  before_lower octets more rest name is spelled behind stands =
+      let above = lower_parts.above in
+      let label = lower_parts.label in
+      let rest_is : rest ≡ wire above =
+      behind
+      ∙ (ap (λ n. drop (n + 1) piece) its_size ∙ (lower_parts.rest ∙ append-nil (wire above))) in
+      let same : name ≡ above =
+      above_alike octets more name above is.raw.each lower_parts.each spelled
+      (subst (λ (r : List ℕ). take (length r) octets ≡ r) rest_is stands) in
+      ap (λ (n : List (List ℕ)). zone_cmp n other) same
+      ∙ (ap (λ (n : List (List ℕ)). zone_cmp above n) lower_parts.is
+      ∙ below (label ∷ []) above (omega arith))
 
 module _ (octets front : List ℕ) (name : List (List ℕ)) (more : List ℕ) (is : IsName name)
     (spelled : octets ≡ wire name ++ more) (there : front ≡ take 32 octets) (own : ℕ)

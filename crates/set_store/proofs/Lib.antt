@@ -10,6 +10,7 @@ pub mod Counts
 pub mod Fronts
 pub mod Puts
 pub mod Beside
+pub mod Eights
 pub mod Reading
 pub mod Takes
 pub mod Back

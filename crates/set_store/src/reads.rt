@@ -64,6 +64,18 @@ impl SetSlots {
         if let Some(before) = is_before_beside(&self.region, &self.slots, slot, stop) {
             return before;
         }
+        self.is_read_before(slot, stop)
+    }
+
+    /// The same by a copy of the octets that tell the key.
+    #[inline(never)]
+    fn is_read_before(&self, slot: u32, stop: &Stop) -> bool
+        requires { IsInUse self.now.slots slot }
+        ensures { (kept : Kept) → IsKept self.now.slots slot kept
+            → result ≡ is_before (bound_of stop.now) kept.set }
+    {
+        keys_are_in_front();
+        written_reads_back();
         if size_at(&self.region, &self.slots, slot) <= SHORT {
             return head_is_before(head_at(&self.region, &self.slots, slot, &mut [0; 64]), stop);
         }

@@ -1,12 +1,13 @@
 //! Keys compared where they stand, in the ways that serve most: names right below one name, as most
 //! names of a zone are, and types where the names are the same.
 
-ghost use Rattle.std.specs.Prelude.{◌≡◌, ◌≤◌, ◌+◌, ◌∷◌, ℕ, List, drop, get_or, length, take};
+ghost use Rattle.std.specs.Prelude.{◌≡◌, ◌≤◌, ◌+◌, ◌*◌, ◌∷◌, ℕ, List, drop, get_or, length, take};
 ghost use Rattle.std.specs.Prelude.{if◌then◌else◌};
 ghost use Rattle.std.specs.Prelude.{IfSome, IsTrue, ◌↔◌};
 ghost use Rattle.std.specs.Cmp.Lexicographic.{slice_cmp};
 ghost use Rattle.std.specs.Ordering.{nat_cmp};
 ghost use Rattle.std.specs.declared.cmp.Ordering.TheVariants.{Greater, Less};
+ghost use Rattle.octets.specs.Numbers.{long_at};
 ghost use Rattle.set_search.specs.OrderOfDnsName.{zone_cmp};
 ghost use Rattle.set_search.specs.Suffix.{EndsWith};
 ghost use Rattle.set_search.specs.Types.{number_of};
@@ -20,7 +21,7 @@ use crate::heads::is_same;
 use crate::reads::{front_at, stands_at};
 use crate::slots::Slot;
 use crate::typed::type_under;
-use octets::behind;
+use octets::{behind, long_at};
 use set_scratch::Region;
 use set_search::{Name, RType, Stop};
 use std::cmp::Ordering;
@@ -119,7 +120,7 @@ pub fn is_below_beside(region: &Region, slots: &Vec<Slot>, slot: u32, name: &Nam
 }
 
 /// Whether the name of a slot's set comes before another, where both are right below one name and
-/// aren't the same.
+/// aren't the same, or where the other is right below that of the set.
 fn is_named_before(region: &Region, slots: &Vec<Slot>, slot: u32, name: &Name) -> Option<bool>
     requires { (octets : List ℕ) × HoldsAt region.now.held slots.now.items slot octets
         × IsSpelling octets }
@@ -128,8 +129,31 @@ fn is_named_before(region: &Region, slots: &Vec<Slot>, slot: u32, name: &Name) -
         → IfSome result (λ before. zone_cmp set.name name.now
         ≡ (if before then Less else Greater)) }
 {
-    let labels = first_labels(region, slots, slot, name)?;
+    let Some(labels) = first_labels(region, slots, slot, name) else {
+        return above_before(region, slots, slot, name);
+    };
     label_before(labels.0, labels.1)
+}
+
+/// The same where the other name is right below that of the set. None where it isn't.
+#[inline(never)]
+fn above_before(region: &Region, slots: &Vec<Slot>, slot: u32, name: &Name) -> Option<bool>
+    requires { (octets : List ℕ) × HoldsAt region.now.held slots.now.items slot octets
+        × IsSpelling octets }
+    ensures { (octets : List ℕ) (set : RecordSet)
+        → HoldsAt region.now.held slots.now.items slot octets → Spells octets set
+        → IfSome result (λ before. zone_cmp set.name name.now
+        ≡ (if before then Less else Greater)) }
+{
+    let octets = name.octets();
+    let size = first_octet(octets);
+    if size == 0 {
+        return None;
+    }
+    if !stands_at(region, slots, slot, 0, behind(octets, size + 1)) {
+        return None;
+    }
+    Some(true)
 }
 
 /// The first labels of the name of a slot's set and another, where both are right below one name.
@@ -175,6 +199,7 @@ fn first_labels<'a>(
 
 /// Whether the octets of a slot's set, of which these are the first ones, go on with others from a
 /// place on.
+#[inline(always)]
 fn goes_on(
     region: &Region,
     slots: &Vec<Slot>,
@@ -191,9 +216,48 @@ fn goes_on(
         → IsTrue result ↔ (take (length octets.now) (drop offset known) ≡ octets.now) }
 {
     if offset + octets.len() <= first.len() {
-        return is_same(part(first, offset, octets.len()), octets);
+        return is_alike(part(first, offset, octets.len()), octets);
     }
     stands_at(region, slots, slot, offset, octets)
+}
+
+/// Whether octets are the same as others, of which there are as many: where they are few, told by
+/// the first eight and the last eight.
+#[inline(always)]
+fn is_alike(octets: &[u8], others: &[u8]) -> bool
+    requires { length octets.now ≡ length others.now }
+    ensures { IsTrue result ↔ (octets.now ≡ others.now) }
+{
+    let size = others.len();
+    if size < 8 {
+        return is_same(octets, others);
+    }
+    if size > 16 {
+        return is_same(octets, others);
+    }
+    if !are_eight_alike(behind(octets, size - 8), behind(others, size - 8)) {
+        return false;
+    }
+    are_eight_alike(octets, others)
+}
+
+/// Whether the first eight octets are the same.
+#[inline(always)]
+fn are_eight_alike(octets: &[u8], others: &[u8]) -> bool
+    requires own { 8 ≤ length octets.now }
+    requires others { 8 ≤ length others.now }
+    ensures { IsTrue result ↔ (take 8 octets.now ≡ take 8 others.now) }
+{
+    eight_of(octets) == eight_of(others)
+}
+
+/// The first eight octets as a number.
+#[inline(always)]
+fn eight_of(octets: &[u8]) -> u64
+    requires { 8 ≤ length octets.now }
+    ensures { result ≡ long_at octets.now 0 * 4294967296 + long_at octets.now 4 }
+{
+    u64::from(long_at(octets, 0)) * 0x1_0000_0000 + u64::from(long_at(octets, 4))
 }
 
 /// The first octet, which in a name is how many octets the first label has.
@@ -215,7 +279,30 @@ fn part(octets: &[u8], at: usize, n: usize) -> &[u8]
 }
 
 /// Whether a label comes before another. None where they are the same.
+///
+/// Most differ in the first eight octets, which are compared as numbers.
+#[inline(always)]
 fn label_before(label: &[u8], other: &[u8]) -> Option<bool>
+    ensures { IfSome result (λ before. slice_cmp nat_cmp label.now other.now
+        ≡ (if before then Less else Greater)) }
+{
+    if label.len() < 8 {
+        return text_before(label, other);
+    }
+    if other.len() < 8 {
+        return text_before(label, other);
+    }
+    let own = eight_of(label);
+    let others = eight_of(other);
+    if own == others {
+        return text_before(label, other);
+    }
+    Some(own < others)
+}
+
+/// The same octet by octet.
+#[inline(never)]
+fn text_before(label: &[u8], other: &[u8]) -> Option<bool>
     ensures { IfSome result (λ before. slice_cmp nat_cmp label.now other.now
         ≡ (if before then Less else Greater)) }
 {
