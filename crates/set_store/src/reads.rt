@@ -22,7 +22,7 @@ use crate::heads::{head_is_before, head_is_below, head_server_labels};
 use crate::siblings::{is_before_beside, is_below_beside};
 use crate::slots::{NO_CELL, Slot, cell_at, tag_at};
 use crate::store::SetSlots;
-use crate::typed::{is_of_at, type_under};
+use crate::typed::{is_of_at, type_near, type_under};
 use octets::{OutOfMemory, behind, front, zeros};
 use set_scratch::{
     Handle, ReadFault, Region, Scratch, Watch, is_alias_in, keys_are_in_front, name_and_rest,
@@ -123,6 +123,25 @@ impl SetSlots {
     {
         written_reads_back();
         type_under(&self.region, &self.slots, slot, name)
+    }
+
+    /// The same with the cell in which the set's octets may begin: a hint, which may be wrong.
+    #[inline(always)]
+    pub fn type_near(&self, slot: u32, name: &Name, cell: u32) -> Option<u16>
+        requires { IsInUse self.now.slots slot }
+        ensures { (kept : Kept) → IsKept self.now.slots slot kept
+            → TypeOrNone name.now kept.set result }
+    {
+        written_reads_back();
+        type_near(&self.region, &self.slots, slot, name, cell)
+    }
+
+    /// The cell in which the octets of a slot's set begin: a hint, of which no contract speaks.
+    pub fn cell_of(&self, slot: u32) -> u32 {
+        match self.slots.get(slot as usize) {
+            Some(held) => held.cell(),
+            None => NO_CELL,
+        }
     }
 
     /// Whether the names of the sets of two slots are told apart by their tags. Where they aren't,
@@ -342,6 +361,22 @@ pub(crate) fn front_at<'a>(region: &'a Region, slots: &Vec<Slot>, slot: u32) -> 
         → result.now ≡ take 32 octets }
 {
     region.front(Handle::of(cell_at(slots, slot)))
+}
+
+/// The same by the cell in which they begin.
+#[inline(always)]
+pub(crate) fn front_from<'a>(
+    region: &'a Region,
+    slots: &Vec<Slot>,
+    slot: u32,
+    cell: u32,
+) -> &'a [u8]
+    requires holds { (octets : List ℕ) × HoldsAt region.now.held slots.now.items slot octets }
+    requires cell { (own : Slot) → slice_get slots.now.items slot ≡ Some own → own.cell ≡ cell }
+    ensures { (octets : List ℕ) → HoldsAt region.now.held slots.now.items slot octets
+        → result.now ≡ take 32 octets }
+{
+    region.front(Handle::of(cell))
 }
 
 /// The octets of a slot's set from a place on, up to the end of the 32 among which the place is.

@@ -9,8 +9,8 @@ ghost use Rattle.set_store.specs.Index.{HoldsAt};
 ghost use Rattle.set_store.specs.Stored.{IsSpelling, Spells};
 
 use crate::heads::is_same;
-use crate::reads::{front_at, stands_at, two_at};
-use crate::slots::{Slot, tag_at};
+use crate::reads::{front_at, front_from, stands_at, two_at};
+use crate::slots::{Slot, cell_at, tag_at};
 use crate::tags::name_tag;
 use octets::{front, number_at};
 use set_scratch::Region;
@@ -60,6 +60,33 @@ pub(crate) fn type_under(region: &Region, slots: &Vec<Slot>, slot: u32, name: &N
     }
     let own = two_at(region, slots, slot, octets.len());
     Some(number_at(&own, 0))
+}
+
+/// The same where the set's octets may begin in this cell, which is a hint and may be wrong. What
+/// stands there is looked at without a wait for what the slot says, which is asked beside it.
+#[inline(always)]
+pub(crate) fn type_near(
+    region: &Region,
+    slots: &Vec<Slot>,
+    slot: u32,
+    name: &Name,
+    cell: u32,
+) -> Option<u16>
+    requires { (octets : List ℕ) × HoldsAt region.now.held slots.now.items slot octets
+        × IsSpelling octets }
+    ensures { (octets : List ℕ) (set : RecordSet)
+        → HoldsAt region.now.held slots.now.items slot octets → Spells octets set
+        → TypeOrNone name.now set result }
+{
+    if cell_at(slots, slot) != cell {
+        return type_under(region, slots, slot, name);
+    }
+    let octets = name.octets();
+    let first = front_from(region, slots, slot, cell);
+    if octets.len() + 2 <= first.len() {
+        return type_in_front(first, octets);
+    }
+    type_under(region, slots, slot, name)
 }
 
 /// The number behind some octets, where others begin with these.

@@ -12,5 +12,5 @@ pub use zone_order::{
     Name, RType, RecordSet, Scratch, SetKey, SetList, SetSlots, Stop, Watch, ZoneSets, before_key,
     behind_key, behind_text, cells_for, closest_in, count_before, exists_in, fields_are_read, find,
     group_in, has_spelling, hash_of, key_cmp, keys_are_ordered, make_room, of_zone, region_at,
-    set_len, sets_in_order, sub_at, take_at,
+    set_len, sets_in_order, sets_near, sub_at, take_at,
 };

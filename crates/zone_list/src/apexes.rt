@@ -57,7 +57,7 @@ impl Apexes {
     {
         Apexes {
             list: Vec::new(alloc),
-            hints: Hints::new(Vec::new(alloc)),
+            hints: Hints::new(alloc),
             most: 0,
             is_lost: false,
         }
@@ -134,7 +134,7 @@ fn place_of_name(hints: &Hints, list: &[NamedZone], octets: &[u8], most: usize) 
     if octets.len() > most {
         return None;
     }
-    let place = hints.find(octets)?;
+    let place = hints.place(octets)?;
     if !is_at(list, place, octets) {
         return None;
     }

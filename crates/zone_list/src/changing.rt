@@ -56,10 +56,11 @@ pub fn come_all(
         let slot = come(store, zone, order, set, buffer, sums, &mut near);
         of_zone(store, zone, order);
         added.push_reserved(SetRef { zone, slot });
+        let cell = store.cell_of(slot);
         if order.len() > before {
-            note(hints, set, near, order.len());
+            note(hints, set, near, cell, order.len());
         } else {
-            hints.gave_way();
+            hints.gave_way(set.name.octets(), cell);
         }
     }
 }
@@ -67,17 +68,18 @@ pub fn come_all(
 /// A place at which the first of these sets may stand: a hint, which may be wrong.
 fn place_of_first(hints: &Hints, sets: &[RecordSet]) -> Option<usize> {
     match sets.first() {
-        Some(set) => hints.find(set.name.octets()),
+        Some(set) => hints.place(set.name.octets()),
         None => None,
     }
 }
 
-/// Tells hints of a set that came in front of a place, among so many sets.
-fn note(hints: &mut Hints, set: &RecordSet, behind: Option<usize>, count: usize) {
+/// Tells hints of a set that came in front of a place and into a cell, among so many sets.
+fn note(hints: &mut Hints, set: &RecordSet, behind: Option<usize>, cell: u32, count: usize) {
     if let Some(next) = behind {
         hints.came(
             set.name.octets(),
             next.saturating_sub(1),
+            cell,
             count.saturating_sub(next),
         );
     }

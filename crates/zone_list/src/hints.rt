@@ -10,18 +10,46 @@ ghost use Rattle.zone_changes.specs.Orders.{IsOrder};
 use crate::apexes::NamedZone;
 use crate::shifts::Shifts;
 use octets::{behind, front, put_at};
+use std::alloc::Global;
 use zone_changes::{SetSlots, hash_of};
 
 /// An entry that tells nothing.
 const NOTHING: u32 = 0xffff_ffff;
 
+/// The cell that an entry tells of which has none.
+const NO_CELL: u32 = 0xffff_ffff;
+
 /// How many entries in a row are tried.
 const TRIES: usize = 16;
 
-/// A flat table: an entry has eight bits of a hash and the place of the first set of that name.
+/// What a table tells of a name: the place of the first set of that name, and the cell in which its
+/// octets begin.
+#[derive(Clone, Copy)]
+pub struct Hint {
+    pub place: usize,
+    pub cell: u32,
+}
+
+/// An entry of a table.
+#[derive(Clone, Copy)]
+struct Entry {
+    /// In the high eight bits those of a hash, and in the low 24 the place of the first set of that
+    /// name; or that the entry tells nothing.
+    word: u32,
+    /// The cell in which the set's octets begin.
+    cell: u32,
+}
+
+/// An entry that tells nothing.
+const EMPTY: Entry = Entry {
+    word: NOTHING,
+    cell: NO_CELL,
+};
+
+/// A flat table.
 #[derive(Drop)]
 pub struct Hints {
-    entries: Vec<u32>,
+    entries: Vec<Entry>,
     /// By how many places sets moved since the table was made, all of them together, but for those
     /// that came.
     moved: usize,
@@ -34,10 +62,10 @@ pub struct Hints {
 }
 
 impl Hints {
-    /// A table without entries, for which this list is empty.
-    pub fn new(entries: Vec<u32>) -> Hints {
+    /// A table without entries.
+    pub fn new(alloc: Global) -> Hints {
         Hints {
-            entries,
+            entries: Vec::new(alloc),
             moved: 0,
             came: 0,
             shifts: Shifts::new(0),
@@ -46,7 +74,15 @@ impl Hints {
     }
 
     /// The place that is told of a name's octets.
-    pub fn find(&self, name: &[u8]) -> Option<usize> {
+    pub fn place(&self, name: &[u8]) -> Option<usize> {
+        match self.find(name) {
+            Some(hint) => Some(hint.place),
+            None => None,
+        }
+    }
+
+    /// What is told of a name's octets.
+    pub fn find(&self, name: &[u8]) -> Option<Hint> {
         if self.entries.len() == 0 || self.moved == usize::MAX {
             return None;
         }
@@ -56,11 +92,14 @@ impl Hints {
             match self.entries.get(start.wrapping_add(step)) {
                 None => return None,
                 Some(entry) => {
-                    if *entry == NOTHING {
+                    if entry.word == NOTHING {
                         return None;
                     }
-                    if *entry >> 24 == tag_of(hash) {
-                        return Some(self.shifts.now((*entry & 0xff_ffff) as usize));
+                    if entry.word >> 24 == tag_of(hash) {
+                        return Some(Hint {
+                            place: self.shifts.now((entry.word & 0xff_ffff) as usize),
+                            cell: entry.cell,
+                        });
                     }
                 }
             }
@@ -77,7 +116,7 @@ impl Hints {
         if above.len() <= apex {
             return None;
         }
-        if let Some(place) = self.find(above) {
+        if let Some(place) = self.place(above) {
             return Some(place);
         }
         let mut wildcard = [0; 255];
@@ -87,7 +126,7 @@ impl Hints {
             return None;
         }
         put_at(&mut wildcard, 2, above);
-        self.find(front(&wildcard, 2 + above.len()))
+        self.place(front(&wildcard, 2 + above.len()))
     }
 
     /// Makes the table larger where so many places would leave less than a fifth of it free: by three
@@ -103,7 +142,7 @@ impl Hints {
             return;
         }
         for _ in 0..more {
-            if self.entries.push(NOTHING).is_err() {
+            if self.entries.push(EMPTY).is_err() {
                 return;
             }
         }
@@ -112,9 +151,9 @@ impl Hints {
         }
     }
 
-    /// Tells that a set came to a place, and how many stand behind it now. Its name is entered,
-    /// unless the table has to be made anew.
-    pub fn came(&mut self, name: &[u8], place: usize, behind: usize) {
+    /// Tells that a set came to a place, the cell in which its octets begin, and how many sets stand
+    /// behind it now. Its name is entered, unless the table has to be made anew.
+    pub fn came(&mut self, name: &[u8], place: usize, cell: u32, behind: usize) {
         if behind > 0 && self.came == 0 {
             self.shifts = Shifts::new(place.saturating_add(behind));
         }
@@ -124,12 +163,18 @@ impl Hints {
             self.shifts.came(then);
         }
         if !self.is_old(place.saturating_add(behind)) {
-            put(&mut self.entries, hash_of(name), (then % 0x100_0000) as u32);
+            put(
+                &mut self.entries,
+                hash_of(name),
+                (then % 0x100_0000) as u32,
+                cell,
+            );
         }
     }
 
-    /// Tells that a set gave way to one of its key.
-    pub fn gave_way(&mut self) {
+    /// Tells that a set of a name gave way to one of its key, whose octets begin in this cell.
+    pub fn gave_way(&mut self, name: &[u8], cell: u32) {
+        move_to(&mut self.entries, hash_of(name), cell);
         self.changed = self.changed.saturating_add(1);
     }
 
@@ -191,44 +236,66 @@ fn above(name: &[u8]) -> &[u8] {
 }
 
 /// Takes all entries away.
-fn clear(entries: &mut Vec<u32>) {
+fn clear(entries: &mut Vec<Entry>) {
     for entry in entries.iter_mut() {
-        *entry = NOTHING;
+        *entry = EMPTY;
     }
 }
 
 /// Puts an entry for each name of the sets in these slots.
-fn fill(entries: &mut Vec<u32>, store: &SetSlots, zone: u32, order: &[u32])
+fn fill(entries: &mut Vec<Entry>, store: &SetSlots, zone: u32, order: &[u32])
     requires { IsOrder store.now.slots zone order.now }
 {
     let mut place: u32 = 0;
     for slot in order {
-        put(entries, store.name_hash(*slot), place);
+        put(entries, store.name_hash(*slot), place, store.cell_of(*slot));
         place = place.wrapping_add(1);
     }
 }
 
 /// Puts an entry for each of these names.
-fn fill_names(entries: &mut Vec<u32>, list: &[NamedZone]) {
+fn fill_names(entries: &mut Vec<Entry>, list: &[NamedZone]) {
     let mut place: u32 = 0;
     for apex in list {
-        put(entries, hash_of(apex.name.octets()), place);
+        put(entries, hash_of(apex.name.octets()), place, NO_CELL);
         place = place.wrapping_add(1);
     }
 }
 
-/// Puts a place into the first free entry, unless one tells of the same hash.
-fn put(entries: &mut Vec<u32>, hash: u64, place: u32) {
+/// Puts a place and a cell into the first free entry, unless one tells of the same hash.
+fn put(entries: &mut Vec<Entry>, hash: u64, place: u32, cell: u32) {
     let start = start_of(hash, entries.len());
     for step in 0..TRIES {
         match entries.get_mut(start.wrapping_add(step)) {
             None => return,
             Some(entry) => {
-                if *entry == NOTHING {
-                    *entry = (tag_of(hash) << 24) | (place & 0xff_ffff);
+                if entry.word == NOTHING {
+                    *entry = Entry {
+                        word: (tag_of(hash) << 24) | (place & 0xff_ffff),
+                        cell,
+                    };
                     return;
                 }
-                if *entry >> 24 == tag_of(hash) {
+                if entry.word >> 24 == tag_of(hash) {
+                    return;
+                }
+            }
+        }
+    }
+}
+
+/// Has the entry that tells of a hash tell of another cell.
+fn move_to(entries: &mut Vec<Entry>, hash: u64, cell: u32) {
+    let start = start_of(hash, entries.len());
+    for step in 0..TRIES {
+        match entries.get_mut(start.wrapping_add(step)) {
+            None => return,
+            Some(entry) => {
+                if entry.word == NOTHING {
+                    return;
+                }
+                if entry.word >> 24 == tag_of(hash) {
+                    entry.cell = cell;
                     return;
                 }
             }

@@ -14,7 +14,7 @@ mod stored;
 
 pub use apexes::{Apexes, NamedZone};
 pub use finding::{find_zone, first_from, longest, next_id};
-pub use hints::Hints;
+pub use hints::{Hint, Hints};
 pub use octets::OutOfMemory;
 pub use refs::{SetRef, SetRefs};
 pub use stored::StoredZone;
@@ -22,5 +22,5 @@ pub use zone_changes::{
     Name, RType, RecordSet, Scratch, SetKey, SetList, SetSlots, Stop, Sums, Watch, ZoneSets,
     before_key, behind_key, behind_text, cells_for, closest_in, count_before, exists_in,
     fields_are_read, find, group_in, has_spelling, key_cmp, keys_are_ordered, make_room, no_sums,
-    region_at, set_len, sets_in_order, sub_at,
+    region_at, set_len, sets_in_order, sets_near, sub_at,
 };

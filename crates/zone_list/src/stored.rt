@@ -10,7 +10,7 @@ ghost use Rattle.zone_list.specs.Steps.{cells_in_all};
 ghost use Rattle.zone_changes.specs.Orders.{IsOrder, OthersStay, slotted_of};
 
 use crate::changing::{clear, come_all, leave_all, tell_all};
-use crate::hints::Hints;
+use crate::hints::{Hint, Hints};
 use crate::refs::SetRef;
 use octets::OutOfMemory;
 use std::marker::Model;
@@ -92,7 +92,12 @@ impl StoredZone {
     }
 
     /// A place at which the sets of a name may stand: a hint, which may be wrong.
-    pub fn hint(&self, name: &Name) -> Option<usize> {
+    pub fn place(&self, name: &Name) -> Option<usize> {
+        self.hints.place(name.octets())
+    }
+
+    /// The same, with the cell in which the octets of the set there may begin.
+    pub fn hint(&self, name: &Name) -> Option<Hint> {
         self.hints.find(name.octets())
     }
 

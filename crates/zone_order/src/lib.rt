@@ -14,4 +14,4 @@ pub use set_store::{
     fill_set, find, find_near, group_in, has_spelling, hash_of, key_cmp, keys_are_ordered,
     one_spelling, region_at, set_len, sub_at, well_formed,
 };
-pub use views::{ZoneSets, of_zone, sets_in_order};
+pub use views::{ZoneSets, of_zone, sets_in_order, sets_near};

@@ -8,12 +8,17 @@ ghost use Rattle.set_store.specs.Slotted.{AreOfZone, IsSlotAt, sets_of};
 use set_store::{Name, RType, Scratch, SetList, SetSlots, Stop};
 use std::marker::Model;
 
+/// The number of no cell.
+const NO_CELL: u32 = 0xffff_ffff;
+
 /// The sets of a zone, in its order.
 #[derive(Drop)]
 pub struct ZoneSets<'a> {
     store: &'a SetSlots,
     zone: u32,
     order: &'a [u32],
+    /// The cell in which the octets of the set that is looked at first may begin: a hint.
+    cell: u32,
 }
 
 impl<'a> Model for ZoneSets<'a> {
@@ -36,7 +41,22 @@ pub fn sets_in_order<'a>(store: &'a SetSlots, zone: u32, order: &'a [u32]) -> Zo
     requires { IsOrder store.now.slots zone order.now }
     ensures { result ≡ sets_of (slotted_of store.now.slots zone order.now) }
 {
-    ZoneSets { store, zone, order }
+    sets_near(store, zone, order, NO_CELL)
+}
+
+/// The same with the cell in which the octets of the set that is looked at first may begin: a hint,
+/// which may be wrong.
+#[inline(always)]
+pub fn sets_near<'a>(store: &'a SetSlots, zone: u32, order: &'a [u32], cell: u32) -> ZoneSets<'a>
+    requires { IsOrder store.now.slots zone order.now }
+    ensures { result ≡ sets_of (slotted_of store.now.slots zone order.now) }
+{
+    ZoneSets {
+        store,
+        zone,
+        order,
+        cell,
+    }
 }
 
 /// The sets of a zone stand in zone order, each in a slot of its own; it does nothing.
@@ -76,7 +96,8 @@ impl<'a> SetList for ZoneSets<'a> {
     }
 
     fn type_at(&self, place: usize, name: &Name) -> Option<u16> {
-        self.store.type_at(slot_at(self.order, place), name)
+        self.store
+            .type_near(slot_at(self.order, place), name, self.cell)
     }
 
     fn are_told_apart(&self, place: usize, other: usize) -> bool {

@@ -6,6 +6,7 @@ use Rattle.zone_list.specs.Stored.{IsKept, Kept}
 use Rattle.zone_list.specs.Kept.{Listed, zones_in}
 use Rattle.zone_list.specs.Zones.{IsZoneId, Zone, placed_in}
 use Rattle.zone_list.specs.declared.refs.SetRef.{SetRef}
+use Rattle.zone_list.specs.declared.hints.Hint.{Hint}
 use Rattle.zone_table.specs.Looking.{IsApex, RefersTo}
 use Rattle.zone_list.specs.Slotted.{sets_of}
 use Rattle.zone_list.specs.Sets.{IsRising}
@@ -28,7 +29,7 @@ GetsOrder slots list id None = IsNone (zones_in slots list) id
 
 -- the same with a hint, which may be wrong
 abbrev pub GetsNear : List (Option Kept) → List Listed → ℕ
-    → Option (Bor (List ℕ) × Option ℕ) → Type 0
+    → Option (Bor (List ℕ) × Option Hint) → Type 0
 GetsNear slots list id (Some (order, hint)) = IsOrderIn slots list id order.now
 GetsNear slots list id None = IsNone (zones_in slots list) id
 

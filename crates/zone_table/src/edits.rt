@@ -163,7 +163,7 @@ impl Ready {
         let added = Vec::with_capacity(alloc, need.addable)?;
         let places = Vec::with_capacity(alloc, need.places)?;
         let buffer = zeros(alloc, need.buffer)?;
-        let mut hints = Hints::new(Vec::new(alloc));
+        let mut hints = Hints::new(alloc);
         hints.grow(need.places);
         Ok(Ready {
             made,

@@ -21,8 +21,8 @@ use crate::refs::Group;
 use octets::OutOfMemory;
 use std::alloc::Global;
 use zone_list::{
-    Name, RType, RecordSet, Scratch, SetList, SetRef, SetSlots, Stop, StoredZone, Sums, Watch,
-    ZoneSets, count_before, find_zone, no_sums, sets_in_order,
+    Hint, Name, RType, RecordSet, Scratch, SetList, SetRef, SetSlots, Stop, StoredZone, Sums,
+    Watch, ZoneSets, count_before, find_zone, no_sums, sets_in_order, sets_near,
 };
 
 /// The slots of a zone's sets, in zone order.
@@ -47,14 +47,14 @@ pub fn zone_sets<'a>(store: &'a SetSlots, list: &'a [StoredZone], zone: u32) -> 
     }
 }
 
-/// The slots of a zone's sets, in zone order, and a place at which those of a name may stand: a hint,
-/// which may be wrong.
+/// The slots of a zone's sets, in zone order, and where those of a name may stand: a hint, which may
+/// be wrong.
 fn order_near<'a>(
     store: &SetSlots,
     list: &'a [StoredZone],
     zone: u32,
     name: &Name,
-) -> Option<(&'a [u32], Option<usize>)>
+) -> Option<(&'a [u32], Option<Hint>)>
     requires { AreIntact store.now.slots list.now }
     ensures { GetsNear store.now.slots list.now zone result }
 {
@@ -78,7 +78,11 @@ pub fn view_near<'a>(
     ensures { ViewsNear (zones_in store.now.slots list.now) zone result }
 {
     match order_near(store, list, zone, name) {
-        Some((order, hint)) => Some((sets_in_order(store, zone, order), hint)),
+        Some((order, Some(hint))) => Some((
+            sets_near(store, zone, order, hint.cell),
+            Some(hint.place),
+        )),
+        Some((order, None)) => Some((sets_in_order(store, zone, order), None)),
         None => None,
     }
 }
@@ -209,7 +213,7 @@ pub fn hint_of(list: &[StoredZone], zone: u32, name: &Name) -> Option<usize>
     requires { AreListed (named_of list.now) }
 {
     match find_zone(list, zone) {
-        Some(place) => list[place].hint(name),
+        Some(place) => list[place].place(name),
         None => None,
     }
 }
