@@ -1,6 +1,6 @@
 //! Octets of a chain where they stand: their number, some of them lent, compared and copied.
 
-ghost use Rattle.std.specs.Prelude.{◌≡◌, ◌≤◌, ◌<◌, ◌+◌, ◌%◌, ◌++◌, ℕ, List, drop, take, length};
+ghost use Rattle.std.specs.Prelude.{◌≡◌, ◌≤◌, ◌<◌, ◌+◌, ◌-◌, ◌%◌, ◌++◌, ℕ, List, drop, take, length};
 ghost use Rattle.std.specs.Prelude.{IsTrue, ◌↔◌, None, Some, IfNone, IfSome};
 ghost use Rattle.octet_region.specs.Cells.{cells_for, next_at, octets_at};
 ghost use Rattle.octet_region.specs.Chains.{HasCells, octets_in};
@@ -57,8 +57,38 @@ fn piece_within(cells: &[Cell], first: u32, size: usize, place: usize) -> &[u8]
     if place >= size {
         return &[];
     }
+    if place < CELL {
+        return part_at(cells, first, size, place);
+    }
+    if place < 2 * CELL {
+        return part_at(cells, next_at(cells, first), size - CELL, place - CELL);
+    }
+    piece_far(cells, first, size, place)
+}
+
+/// The octets of a chain from a place in its first cell on that stand in that cell.
+#[inline(always)]
+fn part_at(cells: &[Cell], first: u32, size: usize, from: usize) -> &[u8]
+    requires inside { HasCells cells.now size first }
+    requires whole { length (octets_in cells.now size first) ≡ size }
+    requires near { from < 32 }
+    requires within { from < size }
+    ensures { result.now ≡ take (32 - from) (drop from (octets_in cells.now size first)) }
+{
+    behind(front(octets_at(cells, first), size.min(CELL)), from)
+}
+
+/// The octets of a chain from any of its places on, up to the end of the cell in which that is.
+// Apart, so that places in the first two cells pass by the loop.
+#[inline(never)]
+fn piece_far(cells: &[Cell], first: u32, size: usize, place: usize) -> &[u8]
+    requires inside { HasCells cells.now size first }
+    requires whole { length (octets_in cells.now size first) ≡ size }
+    requires within { place < size }
+    ensures { result.now ≡ piece_of (Some (octets_in cells.now size first)) place }
+{
     let (cell, left, from) = skip_to(cells, first, size, place);
-    behind(front(octets_at(cells, cell), left.min(CELL)), from)
+    part_at(cells, cell, left, from)
 }
 
 /// Whether the octets of a handle go on with others from a place on.
