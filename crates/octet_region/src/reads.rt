@@ -57,38 +57,8 @@ fn piece_within(cells: &[Cell], first: u32, size: usize, place: usize) -> &[u8]
     if place >= size {
         return &[];
     }
-    if place < CELL {
-        return part_at(cells, first, size, place);
-    }
-    if place < 2 * CELL {
-        return part_at(cells, next_at(cells, first), size - CELL, place - CELL);
-    }
-    piece_far(cells, first, size, place)
-}
-
-/// The octets of a chain from a place in its first cell on that stand in that cell.
-#[inline(always)]
-fn part_at(cells: &[Cell], first: u32, size: usize, from: usize) -> &[u8]
-    requires inside { HasCells cells.now size first }
-    requires whole { length (octets_in cells.now size first) ≡ size }
-    requires near { from < 32 }
-    requires within { from < size }
-    ensures { result.now ≡ take (32 - from) (drop from (octets_in cells.now size first)) }
-{
-    behind(front(octets_at(cells, first), size.min(CELL)), from)
-}
-
-/// The octets of a chain from any of its places on, up to the end of the cell in which that is.
-// Apart, so that places in the first two cells pass by the loop.
-#[inline(never)]
-fn piece_far(cells: &[Cell], first: u32, size: usize, place: usize) -> &[u8]
-    requires inside { HasCells cells.now size first }
-    requires whole { length (octets_in cells.now size first) ≡ size }
-    requires within { place < size }
-    ensures { result.now ≡ piece_of (Some (octets_in cells.now size first)) place }
-{
     let (cell, left, from) = skip_to(cells, first, size, place);
-    part_at(cells, cell, left, from)
+    behind(front(octets_at(cells, cell), left.min(CELL)), from)
 }
 
 /// Whether the octets of a handle go on with others from a place on.
@@ -196,21 +166,23 @@ fn skip_to(cells: &[Cell], first: u32, size: usize, offset: usize) -> (u32, usiz
     if offset < 2 * CELL {
         return (next_at(cells, first), size - CELL, offset - CELL);
     }
-    skip_far(cells, first, size, offset)
+    let from = offset % CELL;
+    (
+        cell_far(cells, first, size, offset),
+        size - (offset - from),
+        from,
+    )
 }
 
-/// The same for any place.
+/// The cell of a chain in which the octet of any place stands.
 // Apart, so that places in the first two cells pass by the loop.
 #[inline(never)]
-fn skip_far(cells: &[Cell], first: u32, size: usize, offset: usize) -> (u32, usize, usize)
+fn cell_far(cells: &[Cell], first: u32, size: usize, offset: usize) -> u32
     requires inside { HasCells cells.now size first }
     requires within { offset < size }
-    ensures inside { HasCells cells.now result.1 result.0 }
-    ensures near { result.2 < 32 }
-    ensures left { result.1 + offset ≡ size + result.2 }
-    ensures place { result.2 ≡ offset % 32 }
+    ensures inside { HasCells cells.now (size - (offset - offset % 32)) result }
     ensures same { drop offset (octets_in cells.now size first)
-        ≡ drop result.2 (octets_in cells.now result.1 result.0) }
+        ≡ drop (offset % 32) (octets_in cells.now (size - (offset - offset % 32)) result) }
 {
     let mut cell = first;
     let mut left = size;
@@ -220,7 +192,7 @@ fn skip_far(cells: &[Cell], first: u32, size: usize, offset: usize) -> (u32, usi
         left -= CELL;
         from -= CELL;
     }
-    (cell, left, from)
+    cell
 }
 
 /// Whether the octets of a chain go on with others from a place in its first cell on.

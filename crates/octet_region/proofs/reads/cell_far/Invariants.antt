@@ -1,6 +1,6 @@
 use Rattle.std.proofs.Common.{◌≡◌, ◌<◌, ◌+◌, ◌%◌, drop}
 use Rattle.octet_region.specs.Chains.{HasCells, octets_in}
-use Rattle.octet_region.proofs.reads.skip_far.Given as goal
+use Rattle.octet_region.proofs.reads.cell_far.Given as goal
 
 abbrev pub invariant-loop-from : goal.invariant-loop-from
 invariant-loop-from l = record {
