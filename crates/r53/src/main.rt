@@ -53,19 +53,19 @@ fn started(rt: &HostRuntime) -> Status {
             return Status::OutOfMemory;
         }
     }
-    match key(rt) {
-        Ok(key) => run_over(rt, &args, key),
+    match generator(rt) {
+        Ok(words) => run_over(rt, &args, words),
         // It is the one status that no cause is tied to.
         Err(_) => Status::OutOfMemory,
     }
 }
 
-/// Runs over the standard streams, the files and the sockets, with a generator of this key; a drill over
+/// Runs over the standard streams, the files and the sockets, with these random words; a drill over
 /// disks in memory.
 ///
 /// A standard stream that is closed leaves its number to the next file that is opened: replies would be written over a journal. So
 /// these numbers are taken first, and a closed stream fails where it is read or written.
-fn run_over(rt: &HostRuntime, args: &[String], key: [u8; 32]) -> Status {
+fn run_over(rt: &HostRuntime, args: &[String], words: ChaCha8Rng) -> Status {
     let alloc = rt.alloc();
     let _taken = (
         File::open(rt, FOLDER),
@@ -79,11 +79,11 @@ fn run_over(rt: &HostRuntime, args: &[String], key: [u8; 32]) -> Status {
         let Ok(mut b) = MemoryDisk::new(alloc, &[], DRILL_ROOM, &[]) else {
             return Status::OutOfMemory;
         };
-        return run_on(rt, args, key, &mut a, &mut b);
+        return run_on(rt, args, words, &mut a, &mut b);
     }
     let mut a = FileDisk::new(rt, FIRST_DISK);
     let mut b = FileDisk::new(rt, SECOND_DISK);
-    run_on(rt, args, key, &mut a, &mut b)
+    run_on(rt, args, words, &mut a, &mut b)
 }
 
 /// Whether the words begin as those of a drill do.
@@ -98,7 +98,7 @@ fn is_drill(args: &[String]) -> bool {
 fn run_on<D: Disk>(
     rt: &HostRuntime,
     args: &[String],
-    key: [u8; 32],
+    mut words: ChaCha8Rng,
     a: &mut D,
     b: &mut D,
 ) -> Status {
@@ -109,7 +109,6 @@ fn run_on<D: Disk>(
     let mut tables = FileSource::new(File::open(rt, TABLES));
     let mut out = Writing::new(rt.stdout());
     let mut link = UdpLink::new(alloc, rt);
-    let mut words = ChaCha8Rng::from_seed(key);
     run(
         alloc,
         args,
@@ -123,9 +122,17 @@ fn run_on<D: Disk>(
     )
 }
 
-/// Octets of the random source of the runtime, the key of a generator.
-fn key(rt: &impl RandomSource) -> io::Result<[u8; 32]> {
+/// A generator of random words whose key, and the word at which it begins, are octets of the random
+/// source of the runtime.
+///
+/// The key alone would do. But words are written in their caller's place only where the function that
+/// makes a block of them is called from here too, by a place that isn't known before.
+fn generator(rt: &impl RandomSource) -> io::Result<ChaCha8Rng> {
     let mut key = [0; 32];
     rt.fill_bytes(&mut key)?;
-    Ok(key)
+    let mut start = [0; 8];
+    rt.fill_bytes(&mut start)?;
+    let mut words = ChaCha8Rng::from_seed(key);
+    words.set_word_pos(u128::from(u64::from_le_bytes(start)));
+    Ok(words)
 }
