@@ -73,7 +73,7 @@ same_text n [] lt = refl
 same_text n (x ∷ xs) lt = take_twice n 31 xs (omega (arith, lt))
 
 -- what stands within the first ones
-inside : (k n m : ℕ) (xs : List ℕ) → k + n ≤ m → take n (drop k (take m xs)) ≡ take n (drop k xs)
+pub inside : (k n m : ℕ) (xs : List ℕ) → k + n ≤ m → take n (drop k (take m xs)) ≡ take n (drop k xs)
 inside zero n m xs le = take_twice n m xs (omega (arith, le))
 inside (suc k) n zero xs le = absurd (omega (arith, le))
 inside (suc k) n (suc m) [] le = refl

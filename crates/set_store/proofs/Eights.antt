@@ -9,30 +9,60 @@ use Rattle.std.proofs.lemmas.Cmp.{nat_list_cmp_total}
 use Rattle.std.proofs.lemmas.Bool.{cases_order}
 use Rattle.std.proofs.lemmas.List.{take-append-drop, take_all, drop-drop, length-drop}
 use Rattle.octets.specs.Numbers.{long_at}
+use Rattle.set_store.proofs.Beside.{inside}
 
--- octets of which the first eight and the last eight are told, and that are at most sixteen
-pub same_by_ends : (xs ys last other_last : List ℕ) → length xs ≡ length ys
-    → last ≡ drop (length ys - 8) xs → other_last ≡ drop (length ys - 8) ys
-    → 8 ≤ length ys → length ys ≤ 16 → take 8 last ≡ take 8 other_last → take 8 xs ≡ take 8 ys → xs ≡ ys
-same_by_ends xs ys last other_last size is its many few ends front =
-    let n = length ys - 8 in
-    let m = 16 - length ys in
-    let at : n + m ≡ 8 = omega (arith, many, few) in
-    let own : length last ≤ 8 =
+-- octets of which so many at the front and so many at the end are told, and that are at most twice
+-- as many
+pub same_by_ends : (k : ℕ) (xs ys last other_last : List ℕ) → length xs ≡ length ys
+    → last ≡ drop (length ys - k) xs → other_last ≡ drop (length ys - k) ys
+    → k ≤ length ys → length ys ≤ k + k → take k last ≡ take k other_last → take k xs ≡ take k ys
+    → xs ≡ ys
+same_by_ends k xs ys last other_last size is its many few ends front =
+    let n = length ys - k in
+    let m = k + k - length ys in
+    let at : n + m ≡ k = omega (arith, many, few) in
+    let own : length last ≤ k =
     (let e = length-drop n xs in let f : length last ≡ length (drop n xs) = ap length is in
     omega (arith, e, f, size, many)) in
-    let others : length other_last ≤ 8 =
+    let others : length other_last ≤ k =
     (let e = length-drop n ys in let f : length other_last ≡ length (drop n ys) = ap length its in
     omega (arith, e, f, many)) in
     let same : drop n xs ≡ drop n ys =
-    sym is ∙ (sym (take_all 8 last own) ∙ (ends ∙ (take_all 8 other_last others ∙ its))) in
-    let behind : drop 8 xs ≡ drop 8 ys =
-    ap (λ k. drop k xs) (sym at)
+    sym is ∙ (sym (take_all k last own) ∙ (ends ∙ (take_all k other_last others ∙ its))) in
+    let behind : drop k xs ≡ drop k ys =
+    ap (λ i. drop i xs) (sym at)
     ∙ (sym (drop-drop m n xs)
-    ∙ (ap (drop m) same ∙ (drop-drop m n ys ∙ ap (λ k. drop k ys) at))) in
-    sym (take-append-drop 8 xs)
-    ∙ (ap (λ zs. zs ++ drop 8 xs) front
-    ∙ (ap (λ zs. take 8 ys ++ zs) behind ∙ take-append-drop 8 ys))
+    ∙ (ap (drop m) same ∙ (drop-drop m n ys ∙ ap (λ i. drop i ys) at))) in
+    sym (take-append-drop k xs)
+    ∙ (ap (λ zs. zs ++ drop k xs) front
+    ∙ (ap (λ zs. take k ys ++ zs) behind ∙ take-append-drop k ys))
+
+abbrev none : List ℕ
+none = []
+
+take_none : (n : ℕ) → take n none ≡ none
+take_none zero = refl
+take_none (suc n) = refl
+
+take_sum : (m n : ℕ) (xs : List ℕ) → take (m + n) xs ≡ take m xs ++ take n (drop m xs)
+take_sum zero n xs = ap (λ k. take k xs) (omega arith)
+take_sum (suc m) n [] = take_none (suc m + n) ∙ sym (take_none n)
+take_sum (suc m) n (x ∷ xs) =
+    let one : suc m + n ≡ suc (m + n) = omega arith in
+    ap (λ k. take k (x ∷ xs)) one ∙ ap (λ ys. x ∷ ys) (take_sum m n xs)
+
+pub sixteen : (xs ys : List ℕ) → take 8 xs ≡ take 8 ys → take 8 (drop 8 xs) ≡ take 8 (drop 8 ys)
+    → take 16 xs ≡ take 16 ys
+sixteen xs ys first second =
+    take_sum 8 8 xs
+    ∙ (ap (λ (zs : List ℕ). zs ++ take 8 (drop 8 xs)) first
+    ∙ (ap (λ (zs : List ℕ). take 8 ys ++ zs) second ∙ sym (take_sum 8 8 ys)))
+
+pub second_of_sixteen : (xs ys : List ℕ) → take 16 xs ≡ take 16 ys
+    → take 8 (drop 8 xs) ≡ take 8 (drop 8 ys)
+second_of_sixteen xs ys e =
+    sym (inside 8 8 16 xs (omega arith))
+    ∙ (ap (λ (zs : List ℕ). take 8 (drop 8 zs)) e ∙ inside 8 8 16 ys (omega arith))
 
 -- what is below is told so
 lt_told : (a b : ℕ) → a < b → nat_lt a b ≡ true

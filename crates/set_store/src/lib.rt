@@ -8,6 +8,7 @@ mod growth;
 mod hashes;
 mod heads;
 mod reads;
+mod sameness;
 mod siblings;
 mod slots;
 mod store;

@@ -1,13 +1,12 @@
 //! Keys compared where they stand, in the ways that serve most: names right below one name, as most
 //! names of a zone are, and types where the names are the same.
 
-ghost use Rattle.std.specs.Prelude.{◌≡◌, ◌≤◌, ◌+◌, ◌*◌, ◌∷◌, ℕ, List, drop, get_or, length, take};
+ghost use Rattle.std.specs.Prelude.{◌≡◌, ◌≤◌, ◌+◌, ◌∷◌, ℕ, List, drop, get_or, length, take};
 ghost use Rattle.std.specs.Prelude.{if◌then◌else◌};
 ghost use Rattle.std.specs.Prelude.{IfSome, IsTrue, ◌↔◌};
 ghost use Rattle.std.specs.Cmp.Lexicographic.{slice_cmp};
 ghost use Rattle.std.specs.Ordering.{nat_cmp};
 ghost use Rattle.std.specs.declared.cmp.Ordering.TheVariants.{Greater, Less};
-ghost use Rattle.octets.specs.Numbers.{long_at};
 ghost use Rattle.set_search.specs.OrderOfDnsName.{zone_cmp};
 ghost use Rattle.set_search.specs.Suffix.{EndsWith};
 ghost use Rattle.set_search.specs.Types.{number_of};
@@ -19,15 +18,17 @@ ghost use Rattle.set_store.specs.Stored.{IsSpelling, Spells};
 
 use crate::heads::is_same;
 use crate::reads::{front_at, stands_at};
+use crate::sameness::{eight_of, is_alike};
 use crate::slots::Slot;
 use crate::typed::type_under;
-use octets::{behind, long_at};
+use octets::behind;
 use set_scratch::Region;
 use set_search::{Name, RType, Stop};
 use std::cmp::Ordering;
 
 /// Whether the set of a slot stands before a bound, where its name or its type tells that. None
 /// where neither does.
+#[inline(always)]
 pub fn is_before_beside(region: &Region, slots: &Vec<Slot>, slot: u32, stop: &Stop) -> Option<bool>
     requires { (octets : List ℕ) × HoldsAt region.now.held slots.now.items slot octets
         × IsSpelling octets }
@@ -49,6 +50,7 @@ pub fn is_before_beside(region: &Region, slots: &Vec<Slot>, slot: u32, stop: &St
 }
 
 /// The same by names that are right below one name and aren't the same.
+#[inline(always)]
 fn is_before_by_name(region: &Region, slots: &Vec<Slot>, slot: u32, stop: &Stop) -> Option<bool>
     requires { (octets : List ℕ) × HoldsAt region.now.held slots.now.items slot octets
         × IsSpelling octets }
@@ -64,6 +66,7 @@ fn is_before_by_name(region: &Region, slots: &Vec<Slot>, slot: u32, stop: &Stop)
 }
 
 /// The same by types, where the names are the same.
+#[inline(never)]
 fn is_before_by_type(region: &Region, slots: &Vec<Slot>, slot: u32, stop: &Stop) -> Option<bool>
     requires { (octets : List ℕ) × HoldsAt region.now.held slots.now.items slot octets
         × IsSpelling octets }
@@ -121,6 +124,7 @@ pub fn is_below_beside(region: &Region, slots: &Vec<Slot>, slot: u32, name: &Nam
 
 /// Whether the name of a slot's set comes before another, where both are right below one name and
 /// aren't the same, or where the other is right below that of the set.
+#[inline(always)]
 fn is_named_before(region: &Region, slots: &Vec<Slot>, slot: u32, name: &Name) -> Option<bool>
     requires { (octets : List ℕ) × HoldsAt region.now.held slots.now.items slot octets
         × IsSpelling octets }
@@ -219,45 +223,6 @@ fn goes_on(
         return is_alike(part(first, offset, octets.len()), octets);
     }
     stands_at(region, slots, slot, offset, octets)
-}
-
-/// Whether octets are the same as others, of which there are as many: where they are few, told by
-/// the first eight and the last eight.
-#[inline(always)]
-fn is_alike(octets: &[u8], others: &[u8]) -> bool
-    requires { length octets.now ≡ length others.now }
-    ensures { IsTrue result ↔ (octets.now ≡ others.now) }
-{
-    let size = others.len();
-    if size < 8 {
-        return is_same(octets, others);
-    }
-    if size > 16 {
-        return is_same(octets, others);
-    }
-    if !are_eight_alike(behind(octets, size - 8), behind(others, size - 8)) {
-        return false;
-    }
-    are_eight_alike(octets, others)
-}
-
-/// Whether the first eight octets are the same.
-#[inline(always)]
-fn are_eight_alike(octets: &[u8], others: &[u8]) -> bool
-    requires own { 8 ≤ length octets.now }
-    requires others { 8 ≤ length others.now }
-    ensures { IsTrue result ↔ (take 8 octets.now ≡ take 8 others.now) }
-{
-    eight_of(octets) == eight_of(others)
-}
-
-/// The first eight octets as a number.
-#[inline(always)]
-fn eight_of(octets: &[u8]) -> u64
-    requires { 8 ≤ length octets.now }
-    ensures { result ≡ long_at octets.now 0 * 4294967296 + long_at octets.now 4 }
-{
-    u64::from(long_at(octets, 0)) * 0x1_0000_0000 + u64::from(long_at(octets, 4))
 }
 
 /// The first octet, which in a name is how many octets the first label has.

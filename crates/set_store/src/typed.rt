@@ -8,8 +8,8 @@ ghost use Rattle.set_store.specs.Heads.{IsTypeBehind};
 ghost use Rattle.set_store.specs.Index.{HoldsAt};
 ghost use Rattle.set_store.specs.Stored.{IsSpelling, Spells};
 
-use crate::heads::is_same;
 use crate::reads::{front_at, front_from, stands_at, two_at};
+use crate::sameness::is_alike;
 use crate::slots::{Slot, cell_at, tag_at};
 use crate::tags::name_tag;
 use octets::{front, number_at};
@@ -94,7 +94,7 @@ fn type_in_front(octets: &[u8], piece: &[u8]) -> Option<u16>
     requires { length piece.now + 2 ≤ length octets.now }
     ensures { IsTypeBehind octets.now piece.now result }
 {
-    if !is_same(front(octets, piece.len()), piece) {
+    if !is_alike(front(octets, piece.len()), piece) {
         return None;
     }
     Some(number_at(two_behind(octets, piece.len()), 0))
