@@ -6,6 +6,7 @@ pub mod Nearby
 pub mod Noted
 mod Pieces
 mod Policies
+mod LeastSlow
 pub mod Targets
 pub use Rattle.zone_table.proofs.Listing
 pub use Rattle.zone_table.proofs.Looked

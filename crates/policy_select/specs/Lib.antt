@@ -4,6 +4,7 @@ pub mod Nearby
 pub mod Rules
 pub mod Seen
 pub mod Selecting
+pub mod Soonest
 pub use Rattle.answer_model.specs.Descent
 pub use Rattle.answer_model.specs.Clients
 pub use Rattle.zone_table.specs.Looking

@@ -20,12 +20,13 @@ ghost use Rattle.policy_select.specs.Rules.{FirstSays};
 
 use crate::client::{latencies_of, location_of};
 use crate::lists::{
-    note_healthy, note_locations, note_near, note_regions, note_roles, note_weights,
+    note_healthy, note_locations, note_near, note_regions, note_roles, note_slowness, note_weights,
 };
 use crate::near::nearby_decide;
+use crate::soonest::soonest;
 use crate::view::HealthView;
 use address_text::IpAddress;
-use answer_model::{Latencies, Tables};
+use answer_model::{Latencies, Location, Tables};
 use multivalue::Picked;
 use routing::{Continent, Place, Region, Role};
 use zone_table::{Group, Ident, Scratch, Zones};
@@ -107,27 +108,114 @@ pub(crate) fn choose_place<V: HealthView>(
         (flags_in zones.now.zones (V.test view.now) group) (told_in tables.now.places client) }
     ensures scope { result.1 ≡ scope_in tables.now.places client }
 {
-    nearby_decide();
     let (location, scope) = location_of(tables, client);
+    if group.length <= FEW {
+        return (place_of_few(zones, group, view, first, location, at), scope);
+    }
+    (
+        place_of_many(zones, group, view, first, location, at),
+        scope,
+    )
+}
+
+/// Chooses from a geolocation group of few sets by the location of the client.
+#[inline(always)]
+fn place_of_few<V: HealthView>(
+    zones: &Zones,
+    group: Group,
+    view: &V,
+    first: &Place,
+    location: Option<&Location>,
+    at: usize,
+) -> Option<usize>
+    requires group { IsGroupNow zones.now.zones group }
+    requires at { PoliciesAreAt (sets_in zones.now.zones group) at }
+    requires few { group.length ≤ 24 }
+    ensures { result
+        ≡ place_chosen (each place_of first.now (sets_in zones.now.zones group))
+        (flags_in zones.now.zones (V.test view.now) group) (option_copied location.entry) }
+{
     let slots = zones.slots_of(group);
     // Of zeros, which are made at once.
-    let mut places = [Place::Continent(Continent::Af); GROUP];
-    let mut healthy = [false; GROUP];
-    let mut sets = [0; GROUP];
-    let count = note_near(
+    let mut places = [Place::Continent(Continent::Af); FEW];
+    nearest_place(
         zones,
         group,
         slots,
         view,
-        at,
         first,
         location,
+        at,
         &mut places,
-        &mut healthy,
-        &mut sets,
+        &mut [false; FEW],
+        &mut [0; FEW],
+    )
+}
+
+/// The same from a group of many sets.
+// Apart, so that others pass by the room for so many places.
+#[inline(never)]
+fn place_of_many<V: HealthView>(
+    zones: &Zones,
+    group: Group,
+    view: &V,
+    first: &Place,
+    location: Option<&Location>,
+    at: usize,
+) -> Option<usize>
+    requires group { IsGroupNow zones.now.zones group }
+    requires at { PoliciesAreAt (sets_in zones.now.zones group) at }
+    requires few { group.length ≤ 100 }
+    ensures { result
+        ≡ place_chosen (each place_of first.now (sets_in zones.now.zones group))
+        (flags_in zones.now.zones (V.test view.now) group) (option_copied location.entry) }
+{
+    let slots = zones.slots_of(group);
+    let mut places = [Place::Continent(Continent::Af); GROUP];
+    nearest_place(
+        zones,
+        group,
+        slots,
+        view,
+        first,
+        location,
+        at,
+        &mut places,
+        &mut [false; GROUP],
+        &mut [0; GROUP],
+    )
+}
+
+/// Chooses from a geolocation group by the location of the client, in room for the sets that may
+/// apply to it.
+#[inline(always)]
+fn nearest_place<V: HealthView>(
+    zones: &Zones,
+    group: Group,
+    slots: &[u32],
+    view: &V,
+    first: &Place,
+    location: Option<&Location>,
+    at: usize,
+    places: &mut [Place],
+    healthy: &mut [bool],
+    sets: &mut [usize],
+) -> Option<usize>
+    requires group { IsGroupNow zones.now.zones group }
+    requires slots { AreMembers zones.now.zones group slots.now at }
+    requires places { group.length ≤ length places.old }
+    requires healthy { group.length ≤ length healthy.old }
+    requires sets { group.length ≤ length sets.old }
+    ensures { result
+        ≡ place_chosen (each place_of first.now (sets_in zones.now.zones group))
+        (flags_in zones.now.zones (V.test view.now) group) (option_copied location.entry) }
+{
+    nearby_decide();
+    let count = note_near(
+        zones, group, slots, view, at, first, location, places, healthy, sets,
     );
     let nearest = answer_model::choose_place(&places[..count], &healthy[..count], location);
-    (place_noted(nearest, &sets[..count]), scope)
+    place_noted(nearest, &sets[..count])
 }
 
 /// The place in the group of a noted set.
@@ -163,16 +251,134 @@ pub(crate) fn choose_region<V: HealthView>(
     ensures scope { result.1 ≡ scope_in tables.now.latencies client }
 {
     let (latencies, scope) = latencies_of(tables, client);
-    if group.length <= FEW {
-        return (
-            nearest_of_few(zones, group, view, first, latencies, at),
-            scope,
-        );
+    let place = match latencies {
+        None => first_by_name(zones, group, view, first, latencies, at),
+        Some(_) => first_by_latency(zones, group, view, first, latencies, at),
+    };
+    (place, scope)
+}
+
+/// Chooses from a latency group by the latencies of the client.
+#[inline(always)]
+fn first_by_latency<V: HealthView>(
+    zones: &Zones,
+    group: Group,
+    view: &V,
+    first: &Region,
+    latencies: Option<&Latencies>,
+    at: usize,
+) -> usize
+    requires group { IsGroupNow zones.now.zones group }
+    requires at { PoliciesAreAt (sets_in zones.now.zones group) at }
+    requires first { FirstSays region_of first.now (sets_in zones.now.zones group) }
+    requires some { 0 < group.length }
+    requires few { group.length ≤ 100 }
+    ensures { result
+        ≡ region_chosen (each region_of first.now (sets_in zones.now.zones group))
+        (flags_in zones.now.zones (V.test view.now) group) (option_copied latencies.entry) }
+{
+    let soonest = if group.length <= FEW {
+        soonest_in(
+            zones,
+            group,
+            view,
+            first,
+            latencies,
+            at,
+            &mut [0; FEW],
+            &mut [false; FEW],
+        )
+    } else {
+        soonest_of_many(zones, group, view, first, latencies, at)
+    };
+    match soonest {
+        Some(place) => place,
+        None => first_by_name(zones, group, view, first, latencies, at),
     }
-    (
-        nearest_of_many(zones, group, view, first, latencies, at),
-        scope,
+}
+
+/// The place of the set of a latency group of which the region is less slow for the client than those
+/// of all other considered sets, where there is one, in room for what is noted.
+#[inline(always)]
+fn soonest_in<V: HealthView>(
+    zones: &Zones,
+    group: Group,
+    view: &V,
+    first: &Region,
+    latencies: Option<&Latencies>,
+    at: usize,
+    slow: &mut [u64],
+    healthy: &mut [bool],
+) -> Option<usize>
+    requires group { IsGroupNow zones.now.zones group }
+    requires at { PoliciesAreAt (sets_in zones.now.zones group) at }
+    requires slow { group.length ≤ length slow.old }
+    requires healthy { group.length ≤ length healthy.old }
+    ensures { IfSome result (λ place. place
+        ≡ region_chosen (each region_of first.now (sets_in zones.now.zones group))
+        (flags_in zones.now.zones (V.test view.now) group) (option_copied latencies.entry)) }
+{
+    let slots = zones.slots_of(group);
+    note_healthy(zones, group, slots, view, healthy);
+    note_slowness(zones, group, slots, at, first, latencies, slow);
+    soonest(&slow[..group.length], &healthy[..group.length])
+}
+
+/// The same of a group of many sets.
+// Apart, so that others pass by the room for so many.
+#[inline(never)]
+fn soonest_of_many<V: HealthView>(
+    zones: &Zones,
+    group: Group,
+    view: &V,
+    first: &Region,
+    latencies: Option<&Latencies>,
+    at: usize,
+) -> Option<usize>
+    requires group { IsGroupNow zones.now.zones group }
+    requires at { PoliciesAreAt (sets_in zones.now.zones group) at }
+    requires few { group.length ≤ 100 }
+    ensures { IfSome result (λ place. place
+        ≡ region_chosen (each region_of first.now (sets_in zones.now.zones group))
+        (flags_in zones.now.zones (V.test view.now) group) (option_copied latencies.entry)) }
+{
+    soonest_in(
+        zones,
+        group,
+        view,
+        first,
+        latencies,
+        at,
+        &mut [0; GROUP],
+        &mut [false; GROUP],
     )
+}
+
+/// Chooses from a latency group by the latencies of the client, and by the names of regions where some
+/// are as slow as others.
+// Apart, since mostly one region is less slow than all others.
+#[inline(never)]
+fn first_by_name<V: HealthView>(
+    zones: &Zones,
+    group: Group,
+    view: &V,
+    first: &Region,
+    latencies: Option<&Latencies>,
+    at: usize,
+) -> usize
+    requires group { IsGroupNow zones.now.zones group }
+    requires at { PoliciesAreAt (sets_in zones.now.zones group) at }
+    requires first { FirstSays region_of first.now (sets_in zones.now.zones group) }
+    requires some { 0 < group.length }
+    requires few { group.length ≤ 100 }
+    ensures { result
+        ≡ region_chosen (each region_of first.now (sets_in zones.now.zones group))
+        (flags_in zones.now.zones (V.test view.now) group) (option_copied latencies.entry) }
+{
+    if group.length <= FEW {
+        return nearest_of_few(zones, group, view, first, latencies, at);
+    }
+    nearest_of_many(zones, group, view, first, latencies, at)
 }
 
 /// Chooses from a latency group of few sets by the latencies of the client.

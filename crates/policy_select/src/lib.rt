@@ -15,6 +15,7 @@ mod places;
 mod rules;
 mod said;
 mod selection;
+mod soonest;
 mod view;
 
 pub use answer_model::{

@@ -10,13 +10,16 @@ ghost use Rattle.policy_select.specs.Members.{AreMembers};
 ghost use Rattle.policy_select.specs.Nearby.{AreNoted};
 ghost use Rattle.policy_select.specs.Groups.{flags_in, sets_in};
 ghost use Rattle.policy_select.specs.Rules.{FirstSays};
+ghost use Rattle.policy_select.specs.Soonest.{slow_each};
 
-use crate::group::{MOST, is_member_healthy, routing_at};
+use crate::group::{is_member_healthy, routing_at};
 use crate::near::country_of;
 use crate::parts::location_or;
-use crate::said::{near_place_of_member, region_of_member, role_of_member, weight_of_member};
+use crate::said::{
+    near_place_of_member, region_of_member, role_of_member, slowness_of_member, weight_of_member,
+};
 use crate::view::HealthView;
-use answer_model::Location;
+use answer_model::{Latencies, Location};
 use routing::{Place, Region, Role};
 use zone_table::{Group, Ident, Scratch, Zones};
 
@@ -60,7 +63,7 @@ pub(crate) fn note_weights(
 {
     weights[0] = first;
     for i in 1..group.length {
-        weights[i] = weight_of_member(zones, group, slots, at, i, first);
+        weights[i] = weight_of_member(zones, &group, slots, at, i, first);
     }
 }
 
@@ -84,7 +87,7 @@ pub(crate) fn note_roles(
 {
     roles[0] = first;
     for i in 1..group.length {
-        roles[i] = role_of_member(zones, group, slots, at, i, first);
+        roles[i] = role_of_member(zones, &group, slots, at, i, first);
     }
 }
 
@@ -118,19 +121,9 @@ pub(crate) fn note_near<V: HealthView>(
     ensures sets { length sets.new ≡ length sets.old }
 {
     let country = country_of(client);
-    let mut buffer = [0; MOST];
     let mut count = 0;
     for i in 0..group.length {
-        let Some(place) = near_place_of_member(
-            zones,
-            group,
-            slots,
-            at,
-            i,
-            first,
-            country,
-            &mut buffer,
-        ) else {
+        let Some(place) = near_place_of_member(zones, &group, slots, at, i, first, country) else {
             continue;
         };
         places[count] = place;
@@ -159,10 +152,31 @@ pub(crate) fn note_regions(
         ≡ each region_of first.now (sets_in zones.now.zones group) }
     ensures size { length regions.new ≡ length regions.old }
 {
-    let mut buffer = [0; MOST];
     regions[0] = *first;
     for i in 1..group.length {
-        regions[i] = region_of_member(zones, group, slots, at, i, first, &mut buffer);
+        regions[i] = region_of_member(zones, &group, slots, at, i, first);
+    }
+}
+
+/// Notes how slow the regions of a group are for a client.
+pub(crate) fn note_slowness(
+    zones: &Zones,
+    group: Group,
+    slots: &[u32],
+    at: usize,
+    first: &Region,
+    client: Option<&Latencies>,
+    slow: &mut [u64],
+)
+    requires group { IsGroupNow zones.now.zones group }
+    requires slots { AreMembers zones.now.zones group slots.now at }
+    requires room { group.length ≤ length slow.old }
+    ensures noted { take group.length slow.new
+        ≡ slow_each (option_copied client.entry) first.now (sets_in zones.now.zones group) }
+    ensures size { length slow.new ≡ length slow.old }
+{
+    for i in 0..group.length {
+        slow[i] = slowness_of_member(zones, &group, slots, at, i, first, client);
     }
 }
 

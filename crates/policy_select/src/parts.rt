@@ -45,21 +45,6 @@ pub(crate) fn ident_size(octets: &[u8], kind: u8) -> Option<u8>
     }
 }
 
-/// The weight in a policy whose first octets these are, where it stands among them.
-#[inline(always)]
-pub(crate) fn weight_front(octets: &[u8], first: u8) -> Option<u8>
-    ensures { (routing : Routing) (rest : List ℕ) (n : ℕ) → IsRouting routing
-        → octets.now ≡ take n (routing_octets routing ++ rest)
-        → IfSome result (λ weight. weight ≡ unwrap_or (weight_of routing) first) }
-{
-    match octets {
-        [] => None,
-        [1, size, others @ ..] => octet_behind(others, *size),
-        [1] => None,
-        _ => Some(first),
-    }
-}
-
 /// The octet that stands so far behind the front.
 #[inline(always)]
 pub(crate) fn octet_behind(octets: &[u8], at: u8) -> Option<u8>
@@ -69,21 +54,6 @@ pub(crate) fn octet_behind(octets: &[u8], at: u8) -> Option<u8>
     match octets.get(usize::from(at)) {
         Some(octet) => Some(*octet),
         None => None,
-    }
-}
-
-/// The role in a policy whose first octets these are, where it stands among them.
-#[inline(always)]
-pub(crate) fn role_front(octets: &[u8], first: Role) -> Option<Role>
-    ensures { (routing : Routing) (rest : List ℕ) (n : ℕ) → IsRouting routing
-        → octets.now ≡ take n (routing_octets routing ++ rest)
-        → IfSome result (λ role. role ≡ unwrap_or (role_of routing) first) }
-{
-    match octets {
-        [] => None,
-        [2, size, others @ ..] => role_behind(others, *size),
-        [2] => None,
-        _ => Some(first),
     }
 }
 
@@ -99,35 +69,6 @@ pub(crate) fn role_behind(octets: &[u8], at: u8) -> Option<Role>
         Some(_) => Some(Role::Secondary),
         None => None,
     }
-}
-
-/// The place in a policy whose first octets these are, where it stands among them.
-#[inline(always)]
-pub(crate) fn place_front(octets: &[u8], first: &Place) -> Option<Place>
-    ensures { (routing : Routing) (rest : List ℕ) (n : ℕ) → IsRouting routing
-        → octets.now ≡ take n (routing_octets routing ++ rest)
-        → IfSome result (λ place. place ≡ unwrap_or (place_of routing) first.now) }
-{
-    match octets {
-        [] => None,
-        [3, size, others @ ..] => place_behind(others, *size),
-        [3] => None,
-        _ => Some(*first),
-    }
-}
-
-/// The place that stands so far behind the front, where all of it is there.
-#[inline(always)]
-fn place_behind(octets: &[u8], at: u8) -> Option<Place>
-    ensures { (ident rest : List ℕ) (place : Place) (n : ℕ) → IsPlace place → at ≡ length ident
-        → octets.now ≡ take n (ident ++ (place_octets place ++ rest))
-        → IfSome result (λ p. p ≡ place) }
-{
-    let at = usize::from(at);
-    if at > octets.len() {
-        return None;
-    }
-    place_whole(behind(octets, at))
 }
 
 /// The place at the front, where all of it is there.
@@ -309,7 +250,7 @@ pub(crate) fn region_whole(octets: &[u8]) -> Option<Region>
 
 /// Whether all of the text at the front is there.
 #[inline(always)]
-fn has_text(octets: &[u8]) -> bool
+pub(crate) fn has_text(octets: &[u8]) -> bool
     ensures { (text rest : List ℕ) (n : ℕ) → octets.now ≡ take n (text_octets text ++ rest)
         → IsTrue result → length (text_octets text) ≤ length octets.now }
 {
@@ -332,7 +273,7 @@ fn region_or(octets: &[u8], other: &Region) -> Region
 
 /// The text at the front, behind its length.
 #[inline(always)]
-fn text_front(octets: &[u8]) -> &[u8]
+pub(crate) fn text_front(octets: &[u8]) -> &[u8]
     ensures { (text rest : List ℕ) → octets.now ≡ text_octets text ++ rest → result.now ≡ text }
 {
     match octets {

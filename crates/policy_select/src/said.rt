@@ -4,20 +4,22 @@
 //! to the end of 32 octets of the set. The policy is copied only where that doesn't tell it.
 
 ghost use Rattle.std.specs.Prelude.{◌≡◌, ◌<◌, slice_get, Some};
-ghost use Rattle.std.specs.Option.{unwrap_or};
+ghost use Rattle.std.specs.Option.{option_copied, unwrap_or};
 ghost use Rattle.answer_model.specs.Policies.{place_of, region_of, role_of, weight_of};
+ghost use Rattle.geo_latency.specs.Regions.{slowness};
 ghost use Rattle.zone_table.specs.Looking.{IsGroupNow};
 ghost use Rattle.zone_table.specs.RecordSetRecord.{RecordSet};
 ghost use Rattle.policy_select.specs.Groups.{sets_in};
-ghost use Rattle.policy_select.specs.Members.{AreMembers, IsFrontOfPolicy};
+ghost use Rattle.policy_select.specs.Members.{AreMembers};
 ghost use Rattle.policy_select.specs.Nearby.{TellsNear};
 
 use crate::group::{MOST, policy_behind, policy_copied, policy_front};
 use crate::parts::{
-    ident_size, is_elsewhere_in, is_other_country, octet_behind, place_front, place_in,
-    place_whole, region_in, region_whole, role_behind, role_front, role_in, weight_front,
-    weight_in,
+    has_text, ident_size, is_elsewhere_in, is_other_country, octet_behind, place_in, place_whole,
+    region_in, region_whole, role_behind, role_in, text_front, weight_in,
 };
+use crate::soonest::slowness_under;
+use answer_model::Latencies;
 use routing::{Place, Region, Role};
 use zone_table::{Group, Zones};
 
@@ -25,48 +27,22 @@ use zone_table::{Group, Zones};
 #[inline(always)]
 pub(crate) fn weight_of_member(
     zones: &Zones,
-    group: Group,
+    group: &Group,
     slots: &[u32],
     at: usize,
     i: usize,
     first: u8,
 ) -> u8
-    requires group { IsGroupNow zones.now.zones group }
-    requires slots { AreMembers zones.now.zones group slots.now at }
-    requires within { i < group.length }
-    ensures { (set : RecordSet) × (slice_get (sets_in zones.now.zones group) i ≡ Some set)
+    requires group { IsGroupNow zones.now.zones group.now }
+    requires slots { AreMembers zones.now.zones group.now slots.now at }
+    requires within { i < group.now.length }
+    ensures { (set : RecordSet) × (slice_get (sets_in zones.now.zones group.now) i ≡ Some set)
         × (result ≡ unwrap_or (weight_of set.routing) first) }
 {
-    let octets = policy_front(zones, group, slots, at, i);
-    match weight_front(octets, first) {
-        Some(weight) => weight,
-        None => weight_lent(zones, group, slots, at, i, octets, first),
-    }
-}
-
-/// The same, from what stands behind the identifier, by the front of the policy.
-#[inline(always)]
-fn weight_lent(
-    zones: &Zones,
-    group: Group,
-    slots: &[u32],
-    at: usize,
-    i: usize,
-    octets: &[u8],
-    first: u8,
-) -> u8
-    requires group { IsGroupNow zones.now.zones group }
-    requires slots { AreMembers zones.now.zones group slots.now at }
-    requires within { i < group.length }
-    requires front { (set : RecordSet) × (slice_get (sets_in zones.now.zones group) i ≡ Some set)
-        × IsFrontOfPolicy octets.now set }
-    ensures { (set : RecordSet) × (slice_get (sets_in zones.now.zones group) i ≡ Some set)
-        × (result ≡ unwrap_or (weight_of set.routing) first) }
-{
-    let Some(size) = ident_size(octets, 1) else {
+    let Some(size) = ident_size(policy_front(zones, *group, slots, at, i), 1) else {
         return weight_copied(zones, group, slots, at, i, first);
     };
-    match octet_behind(policy_behind(zones, group, slots, at, i, size), 0) {
+    match octet_behind(policy_behind(zones, *group, slots, at, i, size), 0) {
         Some(weight) => weight,
         None => weight_copied(zones, group, slots, at, i, first),
     }
@@ -75,15 +51,15 @@ fn weight_lent(
 /// The same, from a copy of the policy.
 // Apart, so that most sets pass by what they don't need.
 #[inline(never)]
-fn weight_copied(zones: &Zones, group: Group, slots: &[u32], at: usize, i: usize, first: u8) -> u8
-    requires group { IsGroupNow zones.now.zones group }
-    requires slots { AreMembers zones.now.zones group slots.now at }
-    requires within { i < group.length }
-    ensures { (set : RecordSet) × (slice_get (sets_in zones.now.zones group) i ≡ Some set)
+fn weight_copied(zones: &Zones, group: &Group, slots: &[u32], at: usize, i: usize, first: u8) -> u8
+    requires group { IsGroupNow zones.now.zones group.now }
+    requires slots { AreMembers zones.now.zones group.now slots.now at }
+    requires within { i < group.now.length }
+    ensures { (set : RecordSet) × (slice_get (sets_in zones.now.zones group.now) i ≡ Some set)
         × (result ≡ unwrap_or (weight_of set.routing) first) }
 {
     weight_in(
-        policy_copied(zones, group, slots, at, i, &mut [0; MOST]),
+        policy_copied(zones, *group, slots, at, i, &mut [0; MOST]),
         first,
     )
 }
@@ -92,48 +68,22 @@ fn weight_copied(zones: &Zones, group: Group, slots: &[u32], at: usize, i: usize
 #[inline(always)]
 pub(crate) fn role_of_member(
     zones: &Zones,
-    group: Group,
+    group: &Group,
     slots: &[u32],
     at: usize,
     i: usize,
     first: Role,
 ) -> Role
-    requires group { IsGroupNow zones.now.zones group }
-    requires slots { AreMembers zones.now.zones group slots.now at }
-    requires within { i < group.length }
-    ensures { (set : RecordSet) × (slice_get (sets_in zones.now.zones group) i ≡ Some set)
+    requires group { IsGroupNow zones.now.zones group.now }
+    requires slots { AreMembers zones.now.zones group.now slots.now at }
+    requires within { i < group.now.length }
+    ensures { (set : RecordSet) × (slice_get (sets_in zones.now.zones group.now) i ≡ Some set)
         × (result ≡ unwrap_or (role_of set.routing) first) }
 {
-    let octets = policy_front(zones, group, slots, at, i);
-    match role_front(octets, first) {
-        Some(role) => role,
-        None => role_lent(zones, group, slots, at, i, octets, first),
-    }
-}
-
-/// The same, from what stands behind the identifier, by the front of the policy.
-#[inline(always)]
-fn role_lent(
-    zones: &Zones,
-    group: Group,
-    slots: &[u32],
-    at: usize,
-    i: usize,
-    octets: &[u8],
-    first: Role,
-) -> Role
-    requires group { IsGroupNow zones.now.zones group }
-    requires slots { AreMembers zones.now.zones group slots.now at }
-    requires within { i < group.length }
-    requires front { (set : RecordSet) × (slice_get (sets_in zones.now.zones group) i ≡ Some set)
-        × IsFrontOfPolicy octets.now set }
-    ensures { (set : RecordSet) × (slice_get (sets_in zones.now.zones group) i ≡ Some set)
-        × (result ≡ unwrap_or (role_of set.routing) first) }
-{
-    let Some(size) = ident_size(octets, 2) else {
+    let Some(size) = ident_size(policy_front(zones, *group, slots, at, i), 2) else {
         return role_copied(zones, group, slots, at, i, first);
     };
-    match role_behind(policy_behind(zones, group, slots, at, i, size), 0) {
+    match role_behind(policy_behind(zones, *group, slots, at, i, size), 0) {
         Some(role) => role,
         None => role_copied(zones, group, slots, at, i, first),
     }
@@ -142,15 +92,22 @@ fn role_lent(
 /// The same, from a copy of the policy.
 // Apart, so that most sets pass by what they don't need.
 #[inline(never)]
-fn role_copied(zones: &Zones, group: Group, slots: &[u32], at: usize, i: usize, first: Role) -> Role
-    requires group { IsGroupNow zones.now.zones group }
-    requires slots { AreMembers zones.now.zones group slots.now at }
-    requires within { i < group.length }
-    ensures { (set : RecordSet) × (slice_get (sets_in zones.now.zones group) i ≡ Some set)
+fn role_copied(
+    zones: &Zones,
+    group: &Group,
+    slots: &[u32],
+    at: usize,
+    i: usize,
+    first: Role,
+) -> Role
+    requires group { IsGroupNow zones.now.zones group.now }
+    requires slots { AreMembers zones.now.zones group.now slots.now at }
+    requires within { i < group.now.length }
+    ensures { (set : RecordSet) × (slice_get (sets_in zones.now.zones group.now) i ≡ Some set)
         × (result ≡ unwrap_or (role_of set.routing) first) }
 {
     role_in(
-        policy_copied(zones, group, slots, at, i, &mut [0; MOST]),
+        policy_copied(zones, *group, slots, at, i, &mut [0; MOST]),
         first,
     )
 }
@@ -160,61 +117,29 @@ fn role_copied(zones: &Zones, group: Group, slots: &[u32], at: usize, i: usize, 
 #[inline(always)]
 pub(crate) fn near_place_of_member(
     zones: &Zones,
-    group: Group,
+    group: &Group,
     slots: &[u32],
     at: usize,
     i: usize,
     first: &Place,
     country: u32,
-    buffer: &mut [u8; MOST],
 ) -> Option<Place>
-    requires group { IsGroupNow zones.now.zones group }
-    requires slots { AreMembers zones.now.zones group slots.now at }
-    requires within { i < group.length }
-    ensures { (set : RecordSet) × (slice_get (sets_in zones.now.zones group) i ≡ Some set)
+    requires group { IsGroupNow zones.now.zones group.now }
+    requires slots { AreMembers zones.now.zones group.now slots.now at }
+    requires within { i < group.now.length }
+    ensures { (set : RecordSet) × (slice_get (sets_in zones.now.zones group.now) i ≡ Some set)
         × TellsNear country (unwrap_or (place_of set.routing) first.now) result }
 {
-    let octets = policy_front(zones, group, slots, at, i);
-    if is_elsewhere_in(octets, country) {
-        return None;
-    }
-    match place_front(octets, first) {
-        Some(place) => Some(place),
-        None => near_place_lent(zones, group, slots, at, i, octets, first, country, buffer),
-    }
-}
-
-/// The same, from what stands behind the identifier, by the front of the policy.
-#[inline(always)]
-fn near_place_lent(
-    zones: &Zones,
-    group: Group,
-    slots: &[u32],
-    at: usize,
-    i: usize,
-    octets: &[u8],
-    first: &Place,
-    country: u32,
-    buffer: &mut [u8; MOST],
-) -> Option<Place>
-    requires group { IsGroupNow zones.now.zones group }
-    requires slots { AreMembers zones.now.zones group slots.now at }
-    requires within { i < group.length }
-    requires front { (set : RecordSet) × (slice_get (sets_in zones.now.zones group) i ≡ Some set)
-        × IsFrontOfPolicy octets.now set }
-    ensures { (set : RecordSet) × (slice_get (sets_in zones.now.zones group) i ≡ Some set)
-        × TellsNear country (unwrap_or (place_of set.routing) first.now) result }
-{
-    let Some(size) = ident_size(octets, 3) else {
-        return near_place_copied(zones, group, slots, at, i, first, country, buffer);
+    let Some(size) = ident_size(policy_front(zones, *group, slots, at, i), 3) else {
+        return near_place_copied(zones, group, slots, at, i, first, country);
     };
-    let piece = policy_behind(zones, group, slots, at, i, size);
+    let piece = policy_behind(zones, *group, slots, at, i, size);
     if is_other_country(piece, 0, country) {
         return None;
     }
     match place_whole(piece) {
         Some(place) => Some(place),
-        None => near_place_copied(zones, group, slots, at, i, first, country, buffer),
+        None => near_place_copied(zones, group, slots, at, i, first, country),
     }
 }
 
@@ -223,21 +148,21 @@ fn near_place_lent(
 #[inline(never)]
 fn near_place_copied(
     zones: &Zones,
-    group: Group,
+    group: &Group,
     slots: &[u32],
     at: usize,
     i: usize,
     first: &Place,
     country: u32,
-    buffer: &mut [u8; MOST],
 ) -> Option<Place>
-    requires group { IsGroupNow zones.now.zones group }
-    requires slots { AreMembers zones.now.zones group slots.now at }
-    requires within { i < group.length }
-    ensures { (set : RecordSet) × (slice_get (sets_in zones.now.zones group) i ≡ Some set)
+    requires group { IsGroupNow zones.now.zones group.now }
+    requires slots { AreMembers zones.now.zones group.now slots.now at }
+    requires within { i < group.now.length }
+    ensures { (set : RecordSet) × (slice_get (sets_in zones.now.zones group.now) i ≡ Some set)
         × TellsNear country (unwrap_or (place_of set.routing) first.now) result }
 {
-    let octets = policy_copied(zones, group, slots, at, i, buffer);
+    let mut buffer = [0; MOST];
+    let octets = policy_copied(zones, *group, slots, at, i, &mut buffer);
     if is_elsewhere_in(octets, country) {
         return None;
     }
@@ -248,25 +173,24 @@ fn near_place_copied(
 #[inline(always)]
 pub(crate) fn region_of_member(
     zones: &Zones,
-    group: Group,
+    group: &Group,
     slots: &[u32],
     at: usize,
     i: usize,
     first: &Region,
-    buffer: &mut [u8; MOST],
 ) -> Region
-    requires group { IsGroupNow zones.now.zones group }
-    requires slots { AreMembers zones.now.zones group slots.now at }
-    requires within { i < group.length }
-    ensures { (set : RecordSet) × (slice_get (sets_in zones.now.zones group) i ≡ Some set)
+    requires group { IsGroupNow zones.now.zones group.now }
+    requires slots { AreMembers zones.now.zones group.now slots.now at }
+    requires within { i < group.now.length }
+    ensures { (set : RecordSet) × (slice_get (sets_in zones.now.zones group.now) i ≡ Some set)
         × (result ≡ unwrap_or (region_of set.routing) first.now) }
 {
-    let Some(size) = ident_size(policy_front(zones, group, slots, at, i), 4) else {
-        return region_copied(zones, group, slots, at, i, first, buffer);
+    let Some(size) = ident_size(policy_front(zones, *group, slots, at, i), 4) else {
+        return region_copied(zones, group, slots, at, i, first);
     };
-    match region_whole(policy_behind(zones, group, slots, at, i, size)) {
+    match region_whole(policy_behind(zones, *group, slots, at, i, size)) {
         Some(region) => region,
-        None => region_copied(zones, group, slots, at, i, first, buffer),
+        None => region_copied(zones, group, slots, at, i, first),
     }
 }
 
@@ -275,18 +199,72 @@ pub(crate) fn region_of_member(
 #[inline(never)]
 fn region_copied(
     zones: &Zones,
-    group: Group,
+    group: &Group,
     slots: &[u32],
     at: usize,
     i: usize,
     first: &Region,
-    buffer: &mut [u8; MOST],
 ) -> Region
-    requires group { IsGroupNow zones.now.zones group }
-    requires slots { AreMembers zones.now.zones group slots.now at }
-    requires within { i < group.length }
-    ensures { (set : RecordSet) × (slice_get (sets_in zones.now.zones group) i ≡ Some set)
+    requires group { IsGroupNow zones.now.zones group.now }
+    requires slots { AreMembers zones.now.zones group.now slots.now at }
+    requires within { i < group.now.length }
+    ensures { (set : RecordSet) × (slice_get (sets_in zones.now.zones group.now) i ≡ Some set)
         × (result ≡ unwrap_or (region_of set.routing) first.now) }
 {
-    region_in(policy_copied(zones, group, slots, at, i, buffer), first)
+    region_in(
+        policy_copied(zones, *group, slots, at, i, &mut [0; MOST]),
+        first,
+    )
+}
+
+/// How slow the region of the set at a place of a group is for a client, that of the first one where
+/// the set has none.
+#[inline(always)]
+pub(crate) fn slowness_of_member(
+    zones: &Zones,
+    group: &Group,
+    slots: &[u32],
+    at: usize,
+    i: usize,
+    first: &Region,
+    client: Option<&Latencies>,
+) -> u64
+    requires group { IsGroupNow zones.now.zones group.now }
+    requires slots { AreMembers zones.now.zones group.now slots.now at }
+    requires within { i < group.now.length }
+    ensures { (set : RecordSet) × (slice_get (sets_in zones.now.zones group.now) i ≡ Some set)
+        × (result ≡ slowness (option_copied client.entry)
+        (unwrap_or (region_of set.routing) first.now)) }
+{
+    let Some(size) = ident_size(policy_front(zones, *group, slots, at, i), 4) else {
+        return slowness_copied(zones, group, slots, at, i, first, client);
+    };
+    let piece = policy_behind(zones, *group, slots, at, i, size);
+    if !has_text(piece) {
+        return slowness_copied(zones, group, slots, at, i, first, client);
+    }
+    slowness_under(client, text_front(piece))
+}
+
+/// The same, from a copy of the policy.
+// Apart, so that most sets pass by what they don't need.
+#[inline(never)]
+fn slowness_copied(
+    zones: &Zones,
+    group: &Group,
+    slots: &[u32],
+    at: usize,
+    i: usize,
+    first: &Region,
+    client: Option<&Latencies>,
+) -> u64
+    requires group { IsGroupNow zones.now.zones group.now }
+    requires slots { AreMembers zones.now.zones group.now slots.now at }
+    requires within { i < group.now.length }
+    ensures { (set : RecordSet) × (slice_get (sets_in zones.now.zones group.now) i ≡ Some set)
+        × (result ≡ slowness (option_copied client.entry)
+        (unwrap_or (region_of set.routing) first.now)) }
+{
+    let region = region_copied(zones, group, slots, at, i, first);
+    slowness_under(client, region.bytes())
 }

@@ -4,14 +4,14 @@ use Rattle.std.specs.Option.{unwrap_or}
 use Rattle.policy_select.specs.Groups.{sets_in}
 use Rattle.policy_select.specs.Nearby.{IsOtherCountry}
 use Rattle.policy_select.proofs.Pieces.{place_by}
-use Rattle.policy_select.proofs.said.near_place_lent.Goals as goal
+use Rattle.policy_select.proofs.said.near_place_of_member.Goals as goal
 
 pub returns-then-is_other_country : goal.returns-then-is_other_country
 returns-then-is_other_country c =
-    let front = c.requires.front in
+    let front = c.policy_front.ensures in
     let piece = c.policy_behind-piece.ensures in
-    let got = slice_get (sets_in c.args.zones.now.zones c.args.group) c.args.i in
-    let it = place_by got c.args.octets.now c.policy_behind-piece.result.now front.0 piece.0 c.in-Some.size
+    let got = slice_get (sets_in c.args.zones.now.zones c.args.group.now) c.args.i in
+    let it = place_by got c.policy_front.result.now c.policy_behind-piece.result.now front.0 piece.0 c.in-Some.size
     front.1 front.2 piece.1 piece.2 c.in-Some.ensures in (
       piece.0,
       piece.1,
@@ -23,10 +23,10 @@ returns-then-is_other_country c =
 
 pub returns-in-Some-place_whole : goal.returns-in-Some-place_whole
 returns-in-Some-place_whole c =
-    let front = c.requires.front in
+    let front = c.policy_front.ensures in
     let piece = c.policy_behind-piece.ensures in
-    let got = slice_get (sets_in c.args.zones.now.zones c.args.group) c.args.i in
-    let it = place_by got c.args.octets.now c.policy_behind-piece.result.now front.0 piece.0 c.in-Some.size
+    let got = slice_get (sets_in c.args.zones.now.zones c.args.group.now) c.args.i in
+    let it = place_by got c.policy_front.result.now c.policy_behind-piece.result.now front.0 piece.0 c.in-Some.size
     front.1 front.2 piece.1 piece.2 c.in-Some.ensures in (
       piece.0,
       piece.1,

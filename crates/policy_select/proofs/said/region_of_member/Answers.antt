@@ -9,7 +9,7 @@ pub returns-in-Some-region_whole : goal.returns-in-Some-region_whole
 returns-in-Some-region_whole c =
     let front = c.policy_front.ensures in
     let piece = c.policy_behind.ensures in
-    let got = slice_get (sets_in c.args.zones.now.zones c.args.group) c.args.i in
+    let got = slice_get (sets_in c.args.zones.now.zones c.args.group.now) c.args.i in
     let it = region_by got c.policy_front.result.now c.policy_behind.result.now front.0 piece.0 c.in-Some.size
     front.1 front.2 piece.1 piece.2 c.in-Some.ensures in (
       piece.0,

@@ -3,14 +3,14 @@ use Rattle.std.specs.Prelude.{slice_get}
 use Rattle.std.specs.Option.{unwrap_or}
 use Rattle.policy_select.specs.Groups.{sets_in}
 use Rattle.policy_select.proofs.Pieces.{weight_by}
-use Rattle.policy_select.proofs.said.weight_lent.Goals as goal
+use Rattle.policy_select.proofs.said.weight_of_member.Goals as goal
 
 pub returns-in-Some-octet_behind : goal.returns-in-Some-octet_behind
 returns-in-Some-octet_behind c =
-    let front = c.requires.front in
+    let front = c.policy_front.ensures in
     let piece = c.policy_behind.ensures in
-    let got = slice_get (sets_in c.args.zones.now.zones c.args.group) c.args.i in
-    let it = weight_by got c.args.octets.now c.policy_behind.result.now front.0 piece.0 c.in-Some.size
+    let got = slice_get (sets_in c.args.zones.now.zones c.args.group.now) c.args.i in
+    let it = weight_by got c.policy_front.result.now c.policy_behind.result.now front.0 piece.0 c.in-Some.size
     front.1 front.2 piece.1 piece.2 c.in-Some.ensures in (
       piece.0,
       piece.1,
