@@ -1,7 +1,8 @@
 -- The parts of a snapshot: what stands in front of its zones, and each zone (FORMATS, Octets of
 -- snapshots).
-use Rattle.std.specs.Prelude.{ℕ, List, [], Result}
-use Rattle.octet_reading.specs.Reading.{two_at, four_at}
+use Rattle.std.specs.Prelude.{◌≡◌, ◌≤◌, ℕ, List, [], ◌∷◌, ◌++◌, drop, length, Result, Ok, Err}
+use Rattle.octet_reading.specs.Reading.{Stops, two_at, four_at}
+use Rattle.octet_reading.specs.declared.stop.Stop.{Stop}
 use Rattle.octet_reading.specs.Readers.{mapped, in_turn, in_turn_by, list_at}
 use Rattle.check_model.specs.Checks.{Checks}
 use Rattle.check_model.specs.declared.checks.Check.{Check}
@@ -70,6 +71,13 @@ front_at octets = mapped (λ x. x.1) (in_turn_by version_at begun_at) octets
 -- how many sets a zone has, and these
 unfoldable pub sets_at : List ℕ → Result (List RecordSet × List ℕ) ℕ
 sets_at octets = counted_at four_at set_at octets
+
+-- The set at the front of octets came behind others, and has so many octets; or the octets are outside
+-- the grammar from a place on, or there is no memory.
+abbrev pub AddsSet : (before after : List RecordSet) → List ℕ → Result ℕ Stop → Type 0
+AddsSet before after octets (Ok n) = (n ≤ length octets)
+    × ((set : RecordSet) × (set_at octets ≡ Ok (set, drop n octets)) × (after ≡ before ++ set ∷ []))
+AddsSet before after octets (Err e) = Stops e (set_at octets)
 
 -- ---- what is returned, in these words, beside a place or what is left
 

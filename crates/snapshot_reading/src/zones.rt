@@ -1,18 +1,22 @@
 //! The zones of a snapshot, one by one.
 
+ghost use Rattle.octet_reading.specs.Readers.{so_many};
 ghost use Rattle.octet_reading.specs.Reading.{GivesOrStops};
 ghost use Rattle.snapshot_octets.specs.ReadingOfCommandCodec.{set_at};
 ghost use Rattle.snapshot_octets.specs.Reading.{zone_at};
-ghost use Rattle.snapshot_reading.specs.Parts.{hosted_of, sets_at};
+ghost use Rattle.snapshot_reading.specs.Parts.{AddsSet, hosted_of, sets_at};
 ghost use Rattle.snapshot_reading.specs.Places.{GivesOrNone, found_at};
 
 use crate::faults::SnapshotFault;
 use crate::places::{from_place, place_of};
 use dns_name::Name;
-use octet_reading::{Fault, Field, Stop, four_at, name_at, so_many};
+use octet_reading::{Fault, Stop, four_at, name_at};
 use octets::behind;
 use snapshot_octets::{ReadFault, RecordSet, read_set};
 use std::alloc::Global;
+
+/// Room for so many sets is taken at once; a longer list grows as it is read.
+const AT_ONCE: usize = 10_000;
 
 /// A zone as it is read: its number, its name, and its sets.
 #[derive(Drop)]
@@ -62,31 +66,41 @@ fn sets_at(alloc: Global, bytes: &[u8]) -> Result<(Vec<RecordSet>, &[u8]), Stop>
     ensures { GivesOrStops (λ x. (x.0.items, x.1.now)) result (sets_at bytes.now) }
 {
     let (count, rest) = four_at(bytes)?;
-    so_many(alloc, &OneSet, count, rest)
+    sets_in(alloc, count, rest)
 }
 
-/// A set, as an item of a list.
-struct OneSet;
-
-impl Field for OneSet {
-    type Value = RecordSet;
-
-    ghost use Rattle.snapshot_octets.specs.ReadingOfCommandCodec.{set_at};
-
-    ghost reading = { λ _. set_at };
-
-    fn read<'a>(&self, alloc: Global, bytes: &'a [u8]) -> Result<(RecordSet, &'a [u8]), Stop> {
-        set_at(alloc, bytes)
+/// So many sets, and what stands behind them.
+///
+/// Each is put where it is kept as it was read: a set has some 800 octets, and is moved as seldom as
+/// may be.
+fn sets_in(alloc: Global, count: u32, bytes: &[u8]) -> Result<(Vec<RecordSet>, &[u8]), Stop>
+    ensures { GivesOrStops (λ x. (x.0.items, x.1.now)) result (so_many set_at count bytes.now) }
+{
+    let room = (count as usize).min(bytes.len()).min(AT_ONCE);
+    let Ok(mut sets) = Vec::with_capacity(alloc, room) else {
+        return Err(Stop::OutOfMemory);
+    };
+    let mut rest = bytes;
+    for _ in 0..count {
+        match add_set(alloc, rest, &mut sets) {
+            Ok(len) => rest = behind(rest, len),
+            Err(stop) => return Err(stop),
+        }
     }
+    Ok((sets, rest))
 }
 
-/// A set.
+/// The set at the front comes behind others. How many octets it has is told.
+#[inline(always)]
 #[tactic(auto, unfolding(command_codec::specs::Reading::set_at))]
-fn set_at(alloc: Global, bytes: &[u8]) -> Result<(RecordSet, &[u8]), Stop>
-    ensures { GivesOrStops (λ x. (x.0, x.1.now)) result (set_at bytes.now) }
+fn add_set(alloc: Global, bytes: &[u8], sets: &mut Vec<RecordSet>) -> Result<usize, Stop>
+    ensures { AddsSet sets.old.items sets.new.items bytes.now result }
 {
     match read_set(alloc, bytes) {
-        Ok((set, len)) => Ok((set, behind(bytes, len))),
+        Ok(read) => {
+            sets.push(read.0)?;
+            Ok(read.1)
+        }
         Err(ReadFault::Bad(place)) => Err(Stop::Bad(bytes.len() - place)),
         Err(ReadFault::OutOfMemory) => Err(Stop::OutOfMemory),
     }
