@@ -303,6 +303,7 @@ module _ (zones : List Zone) (list : List (ℕ × Check)) (numbers : List ℕ) (
         (all_mapped _ (λ (l : Feeding). l.feeder < length blueprint.triggers) (λ l b. b.0) blueprint.links built.within);
     to_within = All-from_recursion (λ (l : Feeding). l.fed < length blueprint.triggers) blueprint.links
         (all_mapped _ (λ (l : Feeding). l.fed < length blueprint.triggers) (λ l b. b.1) blueprint.links built.within);
-    small = λ n. let b = own_few n in omega arith;
+    small = own_few;
+    few_links = omega arith;
     few = omega arith;
   }

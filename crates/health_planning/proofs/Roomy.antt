@@ -270,6 +270,7 @@ room_for_fewer valves n m fewer fewer_links room few few_links =
     let edges = room.edges in
     let values = room.values in
     let counts = room.counts in
+    let owns = room.owns in
     let cone = room.cone in
     let marks = room.marks in
     record {
@@ -277,6 +278,7 @@ room_for_fewer valves n m fewer fewer_links room few few_links =
       edges = omega arith;
       values = omega arith;
       counts = omega arith;
+      owns = omega arith;
       cone = omega arith;
       marks = omega arith;
     }

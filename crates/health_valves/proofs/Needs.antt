@@ -6,7 +6,7 @@ use Rattle.std.proofs.lemmas.Bool.{cases_eq, eq-eqb, ne_eqb}
 use mathlib.Core.Path.{subst}
 use Rattle.calculated_health.specs.Status.{swapped_if}
 use Rattle.health_valves.specs.Valves.{count}
-use Rattle.health_valves.specs.Valves.{Net, Condition, IsLaid, IsRow, IsCounted, Feeds, MeetsEquation, equation, fed, piece, with_need}
+use Rattle.health_valves.specs.Valves.{Net, Condition, IsLaid, IsRow, IsCounted, IsOwned, Feeds, MeetsEquation, equation, fed, piece, with_need}
 use Rattle.health_valves.specs.Walk.{Leads, PathsEnd}
 use Rattle.health_valves.specs.declared.valves.ValveFeeds.{ValveFeeds}
 
@@ -113,9 +113,13 @@ module _ (valve need : ℕ) (inverted : Bool) (net : Net) where
       → IsCounted now own v counts
   counted_now own v counts is = record {
     size = is.size;
-    small = λ n b. rw (feeders_same n) (is.small n b);
+    small = is.small;
+    few = λ n b. rw (feeders_same n) (is.few n b);
     each = λ n b. rw (feeders_same n) (is.each n b);
   }
+
+  pub owned_now : (own : ℕ → ℕ) (owns : List ℕ) → IsOwned net own owns → IsOwned now own owns
+  owned_now own owns is = record { size = is.size; each = is.each }
 
   -- the value that the code works out is the equation's
   pub now_is : (own : ℕ → ℕ) (v : ℕ → Bool) (n : ℕ) (b : Bool) → b ≡ swapped_if inverted (nat_le need n)

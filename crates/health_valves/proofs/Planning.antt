@@ -7,7 +7,7 @@ use Rattle.std.proofs.lemmas.List.{get_or_past, get_or-replicate, length-map, le
 use Rattle.std.proofs.lemmas.List.Sorted.{All-permutation, IsPermutation-sym, length_permutation}
 use Rattle.std.proofs.lemmas.Option.{get_or_from_slice_get, slice_get_past, slice_get_within}
 use mathlib.Core.Path.{subst}
-use Rattle.health_valves.specs.Valves.{Feeds, IsCounted, IsLaid, IsRow, count, fed, piece, times, value_in}
+use Rattle.health_valves.specs.Valves.{Feeds, IsCounted, IsLaid, IsOwned, IsRow, count, fed, piece, times, value_in}
 use Rattle.health_valves.specs.Laying.{IsLaidRow, IsTriggerOf}
 use Rattle.health_valves.specs.Blueprint.{IsDrawn, Drawn, feeders_in, net_in, own_in, own_of, condition_of}
 use Rattle.health_valves.specs.Walk.{PathsEnd}
@@ -24,7 +24,8 @@ planned_moved blueprint after same moved is =
     record {
       within = rw same (All-permutation (λ (l : Feeding). l.feeder < length blueprint.triggers) blueprint.links after.links moved is.within);
       to_within = rw same (All-permutation (λ (l : Feeding). l.fed < length blueprint.triggers) blueprint.links after.links moved is.to_within);
-      small = λ n. rw (same, long) (is.small n);
+      small = λ n. rw same (is.small n);
+      few_links = rw long is.few_links;
       few = rw same is.few;
     }
 
@@ -169,9 +170,12 @@ counted blueprint given counts v planned same moved are none =
     record {
       size = ap length are ∙ length-map blueprint.triggers (λ (s : Trigger). s.own) ∙ sym (ap length same);
       small = λ n b.
-          let few = feeders_few given.links n in
           let most = planned.small n in
           let its = ap (λ (l : List Trigger). own_of (slice_get l n)) same in
+          omega arith;
+      few = λ n b.
+          let few = feeders_few given.links n in
+          let most = planned.few_links in
           let all = ap length (feeders_are (slice_get given.triggers n) (feeders_in given.links n)) in
           omega arith;
       each = λ n b.
@@ -181,3 +185,13 @@ counted blueprint given counts v planned same moved are none =
           let own = ap (λ (l : List Trigger). own_of (slice_get l n)) same in
           omega arith;
     }
+
+pub owned : (blueprint given : Drawn) (owns : List ℕ) → given.triggers ≡ blueprint.triggers
+    → owns ≡ map (λ (s : Trigger). s.own) blueprint.triggers → IsOwned (net_in given) (own_in given) owns
+owned blueprint given owns same are = record {
+  size = ap length are ∙ length-map blueprint.triggers (λ (s : Trigger). s.own) ∙ sym (ap length same);
+  each = λ n b.
+      let within : n < length blueprint.triggers = rw same at b in
+      ap (λ (l : List ℕ). slice_index l n) are ∙ own_at blueprint.triggers n within
+      ∙ sym (ap (λ (l : List Trigger). own_of (slice_get l n)) same);
+}

@@ -80,7 +80,7 @@ module _ (net : Net) (own : ℕ → ℕ) (rows : List ValveFeeds) (edges : List 
     | inr b ↦ let z = none_times (fed rows edges x) n net.size (laid.within x) b in omega arith
   ]
   room v counts is x false e = λ n. elim (cases_lt n net.size) [
-    | inl b ↦ let r = laid.reversed x n b in let c = is.each n b in let t = times_beside v x (net.condition n).feeders e in let s = is.small n b in omega arith
+    | inl b ↦ let r = laid.reversed x n b in let c = is.each n b in let t = times_beside v x (net.condition n).feeders e in let s = is.small n b in let m = is.few n b in omega arith
     | inr b ↦ let z = none_times (fed rows edges x) n net.size (laid.within x) b in let p : slice_index counts n ≡ 0 = get_or_past counts n 0 (omega arith) in omega arith
   ]
 
@@ -88,6 +88,7 @@ module _ (net : Net) (own : ℕ → ℕ) (rows : List ValveFeeds) (edges : List 
   turned v w before after x is len same t = record {
     size = len ∙ is.size;
     small = is.small;
+    few = is.few;
     each = λ n b. let c = turned_count v w x same (net.condition n).feeders (v x) (w x) refl refl in let e = t n in let r = laid.reversed x n b in let old = is.each n b in even (v x) (w x) _ _ _ _ _ _ _ r old e c;
   }
 
@@ -126,6 +127,7 @@ fits_after net own valves vs0 vs1 cs0 cs1 given x fits ev ec lv lc eg same t =
       laid = fits.laid;
       values = ap length vs ∙ lv ∙ ap length ev ∙ fits.values;
       counted = subst (λ l. IsCounted net own (value_in l) (with_items valves.counts cs1).items) (sym vs) (subst (λ l. IsCounted net own (value_in vs1) l) (sym cs) (turned net own _ _ fits.laid (value_in valves.values.items) (value_in vs1) valves.counts.items cs1 x fits.counted (lc ∙ ap length ec) same' t'));
+      owned = fits.owned;
       marks = fits.marks;
       room = fits.room;
     }
@@ -150,11 +152,12 @@ same_after valves vs0 vs1 x ev lv same n ne =
     ap (λ l. value_in l n) vs ∙ same n ne ∙ ap (λ l. value_in l n) ev
 
 -- other places for the list and the marks
-pub relisted : (net : Net) (own : ℕ → ℕ) (s t : Valves) → t.rows ≡ s.rows → t.edges ≡ s.edges → t.values ≡ s.values → t.counts ≡ s.counts → length t.marks.items ≡ length s.marks.items → vec_capacity t.cone ≡ vec_capacity s.cone → ValvesStandFor net own s → ValvesStandFor net own t
-relisted net own s t r e v k m c f = record {
+pub relisted : (net : Net) (own : ℕ → ℕ) (s t : Valves) → t.rows ≡ s.rows → t.edges ≡ s.edges → t.values ≡ s.values → t.counts ≡ s.counts → t.owns ≡ s.owns → length t.marks.items ≡ length s.marks.items → vec_capacity t.cone ≡ vec_capacity s.cone → ValvesStandFor net own s → ValvesStandFor net own t
+relisted net own s t r e v k o m c f = record {
   laid = rw (r, e) f.laid;
   values = rw v f.values;
   counted = rw (v, k) f.counted;
+  owned = rw o f.owned;
   marks = m ∙ f.marks;
   room = let h = f.room in omega arith;
 }

@@ -50,5 +50,6 @@ own_in blueprint n = own_of (slice_get blueprint.triggers n)
 pub record IsDrawn (blueprint : Drawn) : Type 0 where
   pub within : All (λ (link : Feeding). link.feeder < length blueprint.triggers) blueprint.links
   pub to_within : All (λ (link : Feeding). link.fed < length blueprint.triggers) blueprint.links
-  pub small : (n : ℕ) → own_in blueprint n + length blueprint.links < 2 ^ 32
+  pub small : (n : ℕ) → own_in blueprint n ≤ 2 ^ 31
+  pub few_links : length blueprint.links < 2 ^ 31
   pub few : length blueprint.triggers ≤ 2 ^ 32

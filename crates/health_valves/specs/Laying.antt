@@ -41,5 +41,6 @@ pub record HasRoomFor (valves : Valves) (size links : ℕ) : Type 0 where
   pub edges : links ≤ vec_capacity valves.edges
   pub values : size ≤ vec_capacity valves.values
   pub counts : size ≤ vec_capacity valves.counts
+  pub owns : size ≤ vec_capacity valves.owns
   pub cone : size ≤ vec_capacity valves.cone
   pub marks : size ≤ vec_capacity valves.marks

@@ -84,14 +84,21 @@ pub record IsLaid (net : Net) (rows : List ValveFeeds) (edges : List ℕ) : Type
 -- each count is that of the open feeders, with what is counted outside
 pub record IsCounted (net : Net) (own : ℕ → ℕ) (v : ℕ → Bool) (counts : List ℕ) : Type 0 where
   pub size : length counts ≡ net.size
-  pub small : (n : ℕ) → n < net.size → own n + length (net.condition n).feeders < 2 ^ 32
+  pub small : (n : ℕ) → n < net.size → own n ≤ 2 ^ 31
+  pub few : (n : ℕ) → n < net.size → length (net.condition n).feeders < 2 ^ 31
   pub each : (n : ℕ) → n < net.size → slice_index counts n ≡ own n + count v (net.condition n).feeders
+
+-- what is counted outside is kept beside
+pub record IsOwned (net : Net) (own : ℕ → ℕ) (owns : List ℕ) : Type 0 where
+  pub size : length owns ≡ net.size
+  pub each : (n : ℕ) → n < net.size → slice_index owns n ≡ own n
 
 -- the valves stand for a net and for counts from outside
 pub record ValvesStandFor (net : Net) (own : ℕ → ℕ) (valves : Valves) : Type 0 where
   pub laid : IsLaid net valves.rows.items valves.edges.items
   pub values : length valves.values.items ≡ net.size
   pub counted : IsCounted net own (value_of valves) valves.counts.items
+  pub owned : IsOwned net own valves.owns.items
   pub marks : length valves.marks.items ≡ net.size
   pub room : net.size ≤ vec_capacity valves.cone
 

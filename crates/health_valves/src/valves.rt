@@ -44,6 +44,8 @@ pub struct Valves {
     values: Vec<bool>,
     /// How many feeders of each valve are open, and what is counted from outside.
     counts: Vec<u32>,
+    /// What is counted from outside.
+    owns: Vec<u32>,
     /// The valves that wait to be worked out; taken from the end. Empty between calls.
     cone: Vec<u32>,
     /// Which valves wait.
@@ -61,6 +63,7 @@ impl Valves {
             edges: Vec::new(alloc),
             values: Vec::new(alloc),
             counts: Vec::new(alloc),
+            owns: Vec::new(alloc),
             cone: Vec::new(alloc),
             marks: Vec::new(alloc),
         }
@@ -87,6 +90,9 @@ impl Valves {
             return Err(OutOfMemory);
         };
         let Ok(()) = make_room(&mut self.counts, valves) else {
+            return Err(OutOfMemory);
+        };
+        let Ok(()) = make_room(&mut self.owns, valves) else {
             return Err(OutOfMemory);
         };
         let Ok(()) = make_room(&mut self.cone, valves) else {
@@ -138,6 +144,8 @@ impl Valves {
         lay_edges(&mut self.edges, blueprint.links());
         self.counts.clear();
         lay_counts(&mut self.counts, blueprint.triggers());
+        self.owns.clear();
+        lay_counts(&mut self.owns, blueprint.triggers());
         self.values.clear();
         lay_none(&mut self.values, blueprint.len());
         self.marks.clear();
@@ -329,12 +337,22 @@ impl Valves {
         self.rows.len()
     }
 
-    /// Takes what is counted from outside at a valve that nothing feeds. The answer is whether its
-    /// value changed.
+    /// What is counted at a valve from outside.
+    pub fn own(&self, valve: usize) -> u32
+        requires valve { valve < size_of self.now }
+        requires ready { IsReady self.now }
+        ensures { (net : Net) (own : ℕ → ℕ) → ValvesStandFor net own self.now → result ≡ own valve }
+    {
+        self.owns[valve]
+    }
+
+    /// Takes what is counted from outside at a valve that nothing feeds, at most 2^31. The answer is whether
+    /// its value changed.
     pub fn take_count<L: Ledger>(&mut self, valve: u32, count: u32, steps: &mut Steps<L>) -> bool
         requires ready { IsReady self.old }
         requires idle { IsIdle self.old }
         requires valve { valve < size_of self.old }
+        requires small { count ≤ 2 ^ 31 }
         requires alone { (net : Net) (own : ℕ → ℕ) → ValvesStandFor net own self.old
             → (net.condition valve).feeders ≡ [] }
         ensures fits { (net : Net) (own : ℕ → ℕ) → ValvesStandFor net own self.old
@@ -353,7 +371,7 @@ impl Valves {
             → CostsCone net (valve ∷ []) steps.old steps.new }
         ensures room { (n m : ℕ) → HasRoomFor self.old n m → HasRoomFor self.new n m }
     {
-        self.put_count(valve, count);
+        self.put_own(valve, count);
         let row = self.rows[valve as usize];
         let now = is_open(row.need, row.inverted, count);
         let was = value_at(&self.values, valve as usize);
@@ -365,17 +383,19 @@ impl Valves {
     }
 
     /// Writes what is counted from outside.
-    fn put_count(&mut self, valve: u32, count: u32)
+    fn put_own(&mut self, valve: u32, own: u32)
         requires ready { IsReady self.old }
         requires valve { valve < size_of self.old }
-        requires alone { (net : Net) (own : ℕ → ℕ) → ValvesStandFor net own self.old
-            → (net.condition valve).feeders ≡ [] }
-        ensures fits { (net : Net) (own : ℕ → ℕ) → ValvesStandFor net own self.old
-            → ValvesStandFor net (with_own valve count own) self.new }
-        ensures rest { self.new ≡ record self.old { counts = self.new.counts } }
+        requires small { own ≤ 2 ^ 31 }
+        ensures fits { (net : Net) (before : ℕ → ℕ) → ValvesStandFor net before self.old
+            → ValvesStandFor net (with_own valve own before) self.new }
+        ensures rest { self.new ≡ record self.old { counts = self.new.counts; owns = self.new.owns } }
         ensures room { (n m : ℕ) → HasRoomFor self.old n m → HasRoomFor self.new n m }
     {
-        self.counts[valve as usize] = count;
+        let at = valve as usize;
+        let open = self.count(at) - self.own(at);
+        self.counts[at] = open + own;
+        self.owns[at] = own;
     }
 
     /// Another condition at a valve: so many of those that feed it have to be open, and it is inverted or
@@ -420,14 +440,13 @@ impl Valves {
         };
     }
 
-    /// Takes what is counted from outside at a valve that nothing feeds, and works out what stands above it
-    /// where its value changes.
+    /// Takes what is counted from outside at a valve, at most 2^31, and works out what stands above it where
+    /// its value changes. It takes no memory.
     pub fn set_count(&mut self, valve: u32, count: u32)
         requires ready { IsReady self.old }
         requires idle { IsIdle self.old }
         requires valve { valve < size_of self.old }
-        requires alone { (net : Net) (own : ℕ → ℕ) → ValvesStandFor net own self.old
-            → (net.condition valve).feeders ≡ [] }
+        requires small { count ≤ 2 ^ 31 }
         ensures fits { (net : Net) (own : ℕ → ℕ) → ValvesStandFor net own self.old
             → ValvesStandFor net (with_own valve count own) self.new }
         ensures idle { IsIdle self.new }
@@ -435,28 +454,14 @@ impl Valves {
             → MeetAll net (with_own valve count own) self.new }
         ensures room { (n m : ℕ) → HasRoomFor self.old n m → HasRoomFor self.new n m }
     {
-        self.set_uncounted::<Brand>(valve, count, Blank::new(1));
-    }
-
-    /// The same, with a count of evaluations of its own that nobody sees.
-    fn set_uncounted<L: Ledger>(&mut self, valve: u32, count: u32, blank: Blank)
-        requires name { blank.name ≡ L.name }
-        requires parts { blank.parts ≡ L.parts }
-        requires some { 0 < blank.parts }
-        requires ready { IsReady self.old }
-        requires idle { IsIdle self.old }
-        requires valve { valve < size_of self.old }
-        requires alone { (net : Net) (own : ℕ → ℕ) → ValvesStandFor net own self.old
-            → (net.condition valve).feeders ≡ [] }
-        ensures fits { (net : Net) (own : ℕ → ℕ) → ValvesStandFor net own self.old
-            → ValvesStandFor net (with_own valve count own) self.new }
-        ensures idle { IsIdle self.new }
-        ensures meet { (net : Net) (own : ℕ → ℕ) → ValvesStandFor net own self.old → MeetAll net own self.old
-            → MeetAll net (with_own valve count own) self.new }
-        ensures room { (n m : ℕ) → HasRoomFor self.old n m → HasRoomFor self.new n m }
-    {
-        let mut steps = Steps::<L>::new(blank);
-        self.take_count(valve, count, &mut steps);
+        self.put_own(valve, count);
+        let row = self.rows[valve as usize];
+        let now = is_open(row.need, row.inverted, self.count(valve as usize));
+        let was = value_at(&self.values, valve as usize);
+        if now == was {
+            return;
+        }
+        self.settle_above::<Brand>(valve, Blank::new(1));
     }
 
     /// Works out the cone of a valve, with a count of its own that nobody sees.

@@ -22,8 +22,10 @@ returns-clause-fits c = record {
   counted = record {
     size = ap length c.new-4.ensures.items;
     small = λ n within. absurd (omega arith);
+    few = λ n within. absurd (omega arith);
     each = λ n within. absurd (omega arith);
   };
-  marks = ap length c.new-6.ensures.items;
+  owned = record { size = ap length c.new-5.ensures.items; each = λ n within. absurd (omega arith) };
+  marks = ap length c.new-7.ensures.items;
   room = omega arith;
 }

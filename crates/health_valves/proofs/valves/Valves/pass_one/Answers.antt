@@ -15,8 +15,18 @@ eval_node-requires-clause-node g c =
     let e = from_end c.args.self.now.cone.items c.pop.new.self.items c.in-Some.valve c.in-Some.ensures.items in
     All-head (λ y. y < size_of c.args.self.now) c.in-Some.valve (reverse c.pop.new.self.items) (rw e at c.requires.within)
 
+pub index_mut-requires : goal.index_mut-requires
+index_mut-requires g c =
+    let e = from_end c.args.self.now.cone.items c.pop.new.self.items c.in-Some.valve c.in-Some.ensures.items in
+    let b = All-head (λ y. y < size_of c.args.self.now) c.in-Some.valve (reverse c.pop.new.self.items) (rw e at c.requires.within) in
+    let f = c.requires.ready.2 in
+    let size = f.laid.size in
+    let marks = f.marks in
+    let long = c.args.self.now.marks.ok.0 in
+    omega arith
+
 pub returns-clause-fits : goal.returns-clause-fits
-returns-clause-fits g c net own f = c.eval_node.ensures.fits net own (relisted net own c.args.self.now _ refl refl refl refl (length-set _ _ _) c.pop.ensures.capacity f)
+returns-clause-fits g c net own f = c.eval_node.ensures.fits net own (relisted net own c.args.self.now _ refl refl refl refl refl (length-set _ _ _) c.pop.ensures.capacity f)
 
 pub returns-clause-mends : goal.returns-clause-mends
 returns-clause-mends g c net own f meet n b out =
@@ -24,7 +34,7 @@ returns-clause-mends g c net own f meet n b out =
     let valve = c.in-Some.valve in
     let rest = c.pop.new.self.items in
     let e = from_end s0.cone.items rest valve c.in-Some.ensures.items in
-    let f1 = relisted net own s0 _ refl refl refl refl (length-set _ _ _) c.pop.ensures.capacity f in
+    let f1 = relisted net own s0 _ refl refl refl refl refl (length-set _ _ _) c.pop.ensures.capacity f in
     let first : FeedersFirst (FedBy s0.rows.items s0.edges.items) (valve ∷ reverse rest) = rw e at c.requires.first in
     let gone = ap waiting c.eval_node.ensures.rest in
     let v = c.eval_node.ensures in
@@ -49,6 +59,7 @@ returns-clause-room g c n m h =
       edges = h.edges;
       values = h.values;
       counts = h.counts;
+      owns = h.owns;
       cone = omega arith;
       marks = h.marks;
     })

@@ -1,4 +1,4 @@
 use Rattle.health_valves.proofs.valves.Valves.set_count.Given as goal
 
-abbrev pub ghosts-set_uncounted : goal.ghosts-set_uncounted
-ghosts-set_uncounted a = record { name = a.blank.name; parts = a.blank.parts }
+abbrev pub ghosts-settle_above : goal.ghosts-settle_above
+ghosts-settle_above a = record { name = a.blank.name; parts = a.blank.parts }

@@ -18,13 +18,13 @@ list_cone-requires-clause-ends g c =
     rw (c.deref.ensures.value, c.deref-2.ensures.value) (edges_end c.requires.ready.0 _ _ laid 64 laid.ends)
 
 pub returns-clause-fits : goal.returns-clause-fits
-returns-clause-fits g c net own f = c.pass.ensures.fits net own (relisted net own c.args.self.now _ refl refl refl refl c.list_cone.ensures.size c.list_cone.ensures.room f)
+returns-clause-fits g c net own f = c.pass.ensures.fits net own (relisted net own c.args.self.now _ refl refl refl refl refl c.list_cone.ensures.size c.list_cone.ensures.room f)
 
 pub returns-clause-mends : goal.returns-clause-mends
 returns-clause-mends g c net own f outside =
     let s = c.args.self.now in
     let walk = moved_walk c.deref.result.now s.rows.items c.deref-2.result.now s.edges.items c.args.starts.now (reverse c.list_cone.new.cone.items) c.deref.ensures.value c.deref-2.ensures.value c.list_cone.ensures.walk in
-    c.pass.ensures.mends net own (relisted net own s _ refl refl refl refl c.list_cone.ensures.size c.list_cone.ensures.room f)
+    c.pass.ensures.mends net own (relisted net own s _ refl refl refl refl refl c.list_cone.ensures.size c.list_cone.ensures.room f)
     (λ n b out. outside n b (λ k. out ((walk.members n).1 (cone_edges net s.rows.items s.edges.items f.laid c.args.starts.now n b k))))
 
 pub returns-clause-cost : goal.returns-clause-cost
@@ -72,6 +72,7 @@ returns-clause-room g c n m h =
       edges = h.edges;
       values = h.values;
       counts = h.counts;
+      owns = h.owns;
       cone = omega arith;
       marks = omega arith;
     })

@@ -9,13 +9,13 @@ list_all-requires-clause-ends g c =
     rw (c.deref.ensures.value, c.deref-2.ensures.value) (edges_end c.requires.ready.0 _ _ laid 64 laid.ends)
 
 pub returns-clause-fits : goal.returns-clause-fits
-returns-clause-fits g c net own f = c.pass.ensures.fits net own (relisted net own c.args.self.now _ refl refl refl refl c.list_all.ensures.size c.list_all.ensures.room f)
+returns-clause-fits g c net own f = c.pass.ensures.fits net own (relisted net own c.args.self.now _ refl refl refl refl refl c.list_all.ensures.size c.list_all.ensures.room f)
 
 pub returns-clause-meet : goal.returns-clause-meet
 returns-clause-meet g c net own f =
     let rows = ap length c.deref.ensures.value in
     let size = f.laid.size in
-    c.pass.ensures.mends net own (relisted net own c.args.self.now _ refl refl refl refl c.list_all.ensures.size c.list_all.ensures.room f)
+    c.pass.ensures.mends net own (relisted net own c.args.self.now _ refl refl refl refl refl c.list_all.ensures.size c.list_all.ensures.room f)
     (λ n b out. absurd (out (c.list_all.ensures.all n (omega arith))))
 
 pub returns-clause-room : goal.returns-clause-room
@@ -30,6 +30,7 @@ returns-clause-room g c n m h =
       edges = h.edges;
       values = h.values;
       counts = h.counts;
+      owns = h.owns;
       cone = omega arith;
       marks = omega arith;
     })
