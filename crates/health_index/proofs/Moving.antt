@@ -47,7 +47,7 @@ zone_or_not (zone ∷ zones) id = elim (cases_eq zone.id id) [
   ]
 ]
 
-none_there : (zones : List Zone) (id : ℕ) → (IsZoneId zones id → ⊥) → placed_in zones id ≡ []
+pub none_there : (zones : List Zone) (id : ℕ) → (IsZoneId zones id → ⊥) → placed_in zones id ≡ []
 none_there zones id none = elim (zone_or_not zones id) [
   | inl z ↦ absurd (none z)
   | inr both ↦ both.0
@@ -100,7 +100,7 @@ told_or_not (other ∷ refs) ref = elim (ref_or_not other ref) [
     behind zero at apart none = apart (some_same at)
     behind (suc k) at apart none = none k at
 
-got_of_all : (zone : ℕ) (placed : List Slotted) (i : ℕ) (ref : SetRef)
+pub got_of_all : (zone : ℕ) (placed : List Slotted) (i : ℕ) (ref : SetRef)
     → slice_get (map (ref_in zone) placed) i ≡ Some ref
     → (p : Slotted) × IsHere placed p × (ref_in zone p ≡ ref)
 got_of_all zone [] i ref at = let no : ⊥ = cc in absurd no

@@ -46,7 +46,7 @@ use Rattle.health_index.proofs.Moving.{moved}
 
 -- ---- sets that pass a test
 
-rising_filtered : (f : RecordSet → Bool) (sets : List RecordSet) → IsRising sets
+pub rising_filtered : (f : RecordSet → Bool) (sets : List RecordSet) → IsRising sets
     → IsRising (filter f sets)
 rising_filtered f [] rising = rising
 rising_filtered f (set ∷ sets) rising = by (rising_filtered f sets rising.1) (f set)

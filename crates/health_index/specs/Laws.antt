@@ -1,5 +1,5 @@
 -- What it is to stand for a configuration and reports.
-use Rattle.std.specs.Prelude.{◌≡◌, ◌↔◌, ◌⊎◌, ℕ, List, None, Some}
+use Rattle.std.specs.Prelude.{◌≡◌, ◌↔◌, ◌⊎◌, ◌^◌, ℕ, false, List, None, Some}
 use Rattle.check_model.specs.Checks.{Checks}
 use Rattle.check_model.specs.Checks.{IsSound as AreSoundChecks}
 use Rattle.check_model.specs.Commands.{checks_after}
@@ -8,14 +8,23 @@ use Rattle.check_model.specs.declared.checks.CheckCommand.{CheckCommand}
 use Rattle.check_model.specs.declared.checks.CheckCommand.TheVariants.{Create, Update, Delete}
 use Rattle.health_model.specs.Nodes.{IsNode, Node}
 use Rattle.health_model.specs.Statuses.{Report}
-use Rattle.health_planning.specs.Zones.{Zone}
+use Rattle.health_planning.specs.Zones.{AreZones, Zone, placed_in}
+use Rattle.health_planning.specs.DeltaRecord.{Delta}
+use Rattle.health_planning.specs.Edits.{Edits, IsAllowed}
+use Rattle.health_planning.specs.Looking.{RefersTo}
+use Rattle.health_planning.specs.SetRefRecord.{SetRef}
+use Rattle.health_planning.specs.Tables.{HaveSlotsApart, HaveSlotsBelow}
+use Rattle.health_planning.specs.ZoneEditRecord.{ZoneEdit}
+use Rattle.record_set.specs.declared.sets.RecordSet.{RecordSet}
+use Rattle.zone_model.specs.Slotted.{IsHere, Slotted}
 use Rattle.health_planning.specs.Later.{AreLater}
-use Rattle.health_planning.specs.Wired.{watched_of}
+use Rattle.health_planning.specs.Wired.{IsLedTo, is_watched, watched_of}
 use Rattle.health_index.specs.Following.{IsOpenTo, IsWay}
 use Rattle.health_index.specs.declared.following.Way.{Way}
 use Rattle.health_index.specs.declared.following.Way.TheVariants as way
 use Rattle.health_index.specs.Index.{AreNumbered, Index, IsEndpoint, IsEndpointOf, IsLaidFor, StandsFor, Tells}
 use Rattle.health_index.specs.Kin.{kin_of}
+use Rattle.health_index.specs.Regrouping.{HasCome, HasGone, JoinsGroup, LeavesGroup, TellNoOther}
 use Rattle.health_index.specs.Values.{AreValues, MeetsIn}
 
 -- An index tells the health of that for which it stands.
@@ -73,3 +82,24 @@ CommandsCanFollow = (zones : List Zone) (checks : Checks) (reports : List Report
     (command : CheckCommand) → StandsFor zones checks reports index
     → AreSoundChecks (checks_after checks command) → KeepsChildren checks command
     → CanFollow (checks_after checks command).list index
+
+-- Where one set went by an edit, from the target group of an evaluated alias, and nothing decided it, its seat
+-- tells all that is wanted to count one set fewer there.
+abbrev pub SetsCanLeave : Type 0
+SetsCanLeave = (before after : List Zone) (checks : Checks) (reports : List Report) (index : Index)
+    (made : ZoneEdit) (delta : Delta) (ref : SetRef) (p : Slotted)
+    → StandsFor before checks reports index → AreZones after → IsAllowed before made
+    → Edits before made after delta → HasGone delta ref → IsHere (placed_in before ref.zone) p
+    → p.slot ≡ ref.slot → is_watched p.set ≡ false → IsLedTo before ref.zone p.set.name p.set.rtype
+    → (valve : ℕ) × LeavesGroup after index.seats index.valves ref valve
+
+-- Where one set came into such a group, and nothing decides it, a seat of that group tells where it is to be
+-- counted. Zones have at most 2^29 slots where an index has room for them.
+abbrev pub SetsCanJoin : Type 0
+SetsCanJoin = (before after : List Zone) (checks : Checks) (reports : List Report) (index : Index)
+    (made : ZoneEdit) (delta : Delta) (ref : SetRef) (set : RecordSet)
+    → StandsFor before checks reports index → AreZones after → HaveSlotsApart after
+    → IsAllowed before made → Edits before made after delta → HaveSlotsBelow before (2 ^ 29) → HasCome delta ref
+    → RefersTo after ref set → is_watched set ≡ false → IsLedTo before ref.zone set.name set.rtype
+    → (valve : ℕ) × (JoinsGroup after index.seats index.valves ref valve
+    × TellNoOther after index.seats ref.zone set.name set.rtype valve)

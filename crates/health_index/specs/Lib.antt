@@ -3,6 +3,7 @@ pub mod Index
 pub mod Kin
 pub mod Laws
 pub mod Leaving
+pub mod Regrouping
 pub mod Room
 pub mod Taking
 pub mod Values

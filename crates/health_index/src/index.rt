@@ -17,15 +17,19 @@ ghost use Rattle.health_index.specs.declared.following.Way.{Way};
 ghost use Rattle.health_index.specs.declared.following.Way.TheVariants as way;
 ghost use Rattle.health_index.specs.Kin.{kin_of};
 ghost use Rattle.health_index.specs.Leaving.{AreLeft, KeepsValves, Moves, SparesValves};
+ghost use Rattle.health_index.specs.Regrouping.{HasCome, HasGone, Joins, JoinsGroup, Leaves};
+ghost use Rattle.health_index.specs.Regrouping.{LeavesGroup, TellNoOther};
 ghost use Rattle.health_index.specs.Room.{HasRoom, Keeps};
 ghost use Rattle.health_index.specs.Values.{WorksOut};
 ghost use Rattle.health_planning.specs.Wired.{watched_of};
 ghost use Rattle.health_model.specs.Nodes.{CheckNode, InCone, Node};
 ghost use Rattle.health_model.specs.Sound.{IsSound};
 ghost use Rattle.health_model.specs.Statuses.{Report, status, status_told};
+ghost use Rattle.health_planning.specs.Looking.{RefersTo};
+ghost use Rattle.health_planning.specs.SetRefRecord.{SetRef};
 ghost use Rattle.health_planning.specs.Zones.{Zone};
+ghost use Rattle.record_set.specs.declared.sets.RecordSet.{RecordSet};
 
-use crate::finding::{tells_of_check, valve_of};
 use crate::following::{
     Way, fresh_checkers, has_checkers, has_ids, is_endpoint, reshape_checks, way_of,
 };
@@ -33,7 +37,6 @@ use crate::kin::{has_kin, list_kin};
 use crate::laws::index_tells_health;
 use crate::reserving::{each_ok, room_for_checks, room_for_kin, room_for_numbers, room_for_slots};
 use crate::taking::take_result;
-use crate::valve_leaving::{gone_by, leaves_valves, spares_valves};
 use crate::valve_numbers::{asks_all, has_number, keep_numbers, spare_number};
 use checker_state::{CHECKERS, Checkers, fifty_alone};
 use health_check::CheckTable;
@@ -41,6 +44,10 @@ use health_model::{one_health, one_more_report};
 use health_planning::{
     Delta, HealthView, MOST_CHECKS, Scratch, Seat, SetRef, Zones, list_ids, list_seen, number_at,
     place_near, plan_valves, seat_anew, seat_beside, views_agree,
+};
+use health_standing::{
+    gone_by, group_joined, group_left, leaves_valves, one_come, one_gone, put_seat, seat_in,
+    spares_valves, tells_of_check, valve_of,
 };
 use health_valves::{Blueprint, Steps, Valves};
 use octets::OutOfMemory;
@@ -213,7 +220,9 @@ impl HealthIndex {
     /// each that came its target is looked up, and the valves that its check and its target group
     /// feed are walked. Where sets went and came in no such group, and none of them is an evaluated
     /// alias, whichever checks they name, it costs a look at these, at their groups and at the
-    /// numbers of checks.
+    /// numbers of checks. Where one set alone went or came, nothing decides it, and an evaluated alias
+    /// leads to its group, it costs a look at that group, and what stands above it where its value
+    /// changes.
     ///
     /// Where it tells of no zone, and no calculated check came, went or got other children: where
     /// checks have the numbers of those before, as after UpdateHealthCheck, or one of an endpoint came
@@ -243,6 +252,18 @@ impl HealthIndex {
             → AreSame self.old.ids checks.now.checks.list → 200 ≤ size_of self.old.valves
             → self.new ≡ record self.old { seats = self.new.seats } }
 
+        // Where one set went that nothing decides, from a group with a valve, that counts one fewer and a seat
+        // changes, and nothing else; where one came into such a group, one more, and it is noted there.
+        ensures left { (ref : SetRef) (valve : ℕ) → HasGone delta.now ref
+            → LeavesGroup zones.now.zones self.old.seats self.old.valves ref valve
+            → Leaves ref valve self.old self.new }
+        ensures joined { (ref : SetRef) (named : RecordSet) (valve : ℕ) → HasCome delta.now ref
+            → JoinsGroup zones.now.zones self.old.seats self.old.valves ref valve
+            → RefersTo zones.now.zones ref named
+            → TellNoOther zones.now.zones self.old.seats ref.zone named.name named.rtype valve
+            → length self.old.members < self.old.space.members
+            → Joins ref valve self.old self.new }
+
         // Where calculated checks stay with their children, and those of endpoints do or one of them came or
         // went, nothing changes but the valves of checks, those above, and what the index has of that one.
         ensures in_place { (way : Way) → delta.now.zone ≡ 0 → self.old.kin ≡ kin_of checks.now.checks.list
@@ -266,6 +287,9 @@ impl HealthIndex {
         if self.reseat(zones, checks, delta) {
             return;
         }
+        if self.regroup(zones, checks, delta) {
+            return;
+        }
         if self.follow(checks, delta) {
             return;
         }
@@ -282,7 +306,7 @@ impl HealthIndex {
             → StandsFor before old reports self.old
             → AreLeft before old zones.now.zones checks.now.checks delta.now → result ≡ true
             → StandsFor zones.now.zones checks.now.checks reports self.new }
-        ensures zone { result ≡ true → delta.now.zone ≢ 0 }
+        ensures spares { result ≡ true → SparesValves zones.now.zones self.old.seats delta.now }
         ensures stays { result ≡ false → self.new ≡ self.old }
         ensures ready { SparesValves zones.now.zones self.old.seats delta.now
             → AreSame self.old.ids checks.now.checks.list → 200 ≤ size_of self.old.valves
@@ -309,6 +333,96 @@ impl HealthIndex {
             &self.numbers,
             &mut self.seats,
         );
+        true
+    }
+
+    /// Takes a command by which one set that nothing decides came into a group with a valve, or went from one.
+    /// The answer is whether it is one, and there is room to note the set; else the index stays as it is. It
+    /// takes no memory.
+    fn regroup(&mut self, zones: &Zones, checks: &CheckTable, delta: &Delta) -> bool
+        requires room { HasRoom self.old zones.now.slots }
+        requires sound { IsSound (watched_of zones.now.zones checks.now.checks) }
+        ensures stands { (before : List Zone) (old : Checks) (reports : List Report)
+            → StandsFor before old reports self.old
+            → AreLeft before old zones.now.zones checks.now.checks delta.now → result ≡ true
+            → StandsFor zones.now.zones checks.now.checks reports self.new }
+        ensures zone { result ≡ true → delta.now.zone ≢ 0 }
+        ensures stays { result ≡ false → self.new ≡ self.old }
+        ensures left { (ref : SetRef) (valve : ℕ) → HasGone delta.now ref
+            → LeavesGroup zones.now.zones self.old.seats self.old.valves ref valve
+            → (result ≡ true) × Leaves ref valve self.old self.new }
+        ensures joined { (ref : SetRef) (named : RecordSet) (valve : ℕ) → HasCome delta.now ref
+            → JoinsGroup zones.now.zones self.old.seats self.old.valves ref valve
+            → RefersTo zones.now.zones ref named
+            → TellNoOther zones.now.zones self.old.seats ref.zone named.name named.rtype valve
+            → length self.old.members < self.old.space.members
+            → (result ≡ true) × Joins ref valve self.old self.new }
+    {
+        if let Some(set) = one_gone(delta) {
+            return self.leave(zones, checks, delta, set);
+        }
+        if let Some(set) = one_come(delta) {
+            return self.join(zones, checks, delta, set);
+        }
+        false
+    }
+
+    /// Takes a command by which one set alone went.
+    fn leave(&mut self, zones: &Zones, checks: &CheckTable, delta: &Delta, set: SetRef) -> bool
+        requires sound { IsSound (watched_of zones.now.zones checks.now.checks) }
+        requires gone { HasGone delta.now set }
+        ensures stands { (before : List Zone) (old : Checks) (reports : List Report)
+            → StandsFor before old reports self.old
+            → AreLeft before old zones.now.zones checks.now.checks delta.now → result ≡ true
+            → StandsFor zones.now.zones checks.now.checks reports self.new }
+        ensures stays { result ≡ false → self.new ≡ self.old }
+        ensures left { (valve : ℕ)
+            → LeavesGroup zones.now.zones self.old.seats self.old.valves set valve
+            → (result ≡ true) × Leaves set valve self.old self.new }
+    {
+        zones.well_formed();
+        zones.slots_apart();
+        let Some(valve) = group_left(zones, &self.seats, &self.valves, set) else {
+            return false;
+        };
+        let own = self.valves.own(valve as usize);
+        self.valves.set_count(valve, own - 1);
+        put_seat(&mut self.seats, set.slot, 0);
+        true
+    }
+
+    /// Takes a command by which one set alone came.
+    fn join(&mut self, zones: &Zones, checks: &CheckTable, delta: &Delta, set: SetRef) -> bool
+        requires room { HasRoom self.old zones.now.slots }
+        requires sound { IsSound (watched_of zones.now.zones checks.now.checks) }
+        requires come { HasCome delta.now set }
+        ensures stands { (before : List Zone) (old : Checks) (reports : List Report)
+            → StandsFor before old reports self.old
+            → AreLeft before old zones.now.zones checks.now.checks delta.now → result ≡ true
+            → StandsFor zones.now.zones checks.now.checks reports self.new }
+        ensures stays { result ≡ false → self.new ≡ self.old }
+        ensures joined { (named : RecordSet) (valve : ℕ)
+            → JoinsGroup zones.now.zones self.old.seats self.old.valves set valve
+            → RefersTo zones.now.zones set named
+            → TellNoOther zones.now.zones self.old.seats set.zone named.name named.rtype valve
+            → length self.old.members < self.old.space.members
+            → (result ≡ true) × Joins set valve self.old self.new }
+    {
+        zones.well_formed();
+        zones.slots_apart();
+        zones.slots_within();
+        let Some(told) = group_joined(zones, &self.seats, &self.valves, set, &mut self.scratch)
+        else {
+            return false;
+        };
+        if self.members.len() >= self.members.capacity() {
+            return false;
+        }
+        let valve = told - 1;
+        let own = self.valves.own(valve as usize);
+        self.valves.set_count(valve, own + 1);
+        self.members.push_reserved(set);
+        seat_in(zones, &mut self.seats, set.slot, told);
         true
     }
 

@@ -2,7 +2,7 @@
 
 ghost use Rattle.health_index.specs.Laws.{ChecksAreLater, IndexTells, NodesAreNumbered};
 ghost use Rattle.health_index.specs.Laws.{ChecksCanFollow, CommandsCanFollow, NodesHaveValues};
-ghost use Rattle.health_index.specs.Laws.{StandsWhereAllMeet};
+ghost use Rattle.health_index.specs.Laws.{SetsCanJoin, SetsCanLeave, StandsWhereAllMeet};
 
 use health_model::one_health;
 use health_planning::views_agree;
@@ -41,4 +41,11 @@ pub fn nodes_have_values()
 pub fn checks_can_follow()
     ensures checks { ChecksCanFollow }
     ensures commands { CommandsCanFollow }
+{}
+
+/// Where an index stands for zones, and one set that nothing decides goes from the target group of an
+/// evaluated alias by an edit, or comes into one, the index has what it wants to count it in place.
+pub fn sets_can_regroup()
+    ensures leave { SetsCanLeave }
+    ensures join { SetsCanJoin }
 {}

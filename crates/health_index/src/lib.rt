@@ -6,7 +6,8 @@
 //!
 //! The valves are planned (`health_planning`), and then laid out. After a command this is done anew,
 //! in room that was made before (`reserving`), but where no valve changes by the sets that went and
-//! came (`valve_leaving`): then all stays as it is, or their seats alone change. And where checks keep their
+//! came (`valve_leaving`): then all stays as it is, or their seats alone change; and where one set that nothing
+//! decides came or went (`regrouping`): then how many such sets its group counts does. And where checks keep their
 //! numbers, or one of an endpoint comes or goes, and no calculated check gets other children (`kin`,
 //! `following`): then the valves of checks change in place. Each other check keeps its valve
 //! (`valve_numbers`), also where all is laid out anew.
@@ -18,6 +19,7 @@ mod following;
 mod index;
 mod kin;
 mod laws;
+mod regrouping;
 mod reserving;
 mod taking;
 mod valve_leaving;
@@ -28,4 +30,5 @@ pub use health_valves::Steps;
 pub use index::HealthIndex;
 pub use laws::{
     checks_are_later, checks_can_follow, index_tells_health, nodes_are_numbered, nodes_have_values,
+    sets_can_regroup,
 };

@@ -18,7 +18,7 @@ mod planning;
 mod seating;
 mod seats;
 
-pub use building::{MOST_CHECKS, inverted_of, list_ids, list_seen, need_of};
+pub use building::{MOST_CHECKS, grow_seats, inverted_of, list_ids, list_seen, need_of};
 pub use finding::{number_at, place_in, place_near};
 pub use listing::{is_watched, only_check};
 pub use planning::plan_valves;

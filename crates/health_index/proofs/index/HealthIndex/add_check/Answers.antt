@@ -42,22 +42,6 @@ set_count-requires-clause-valve c =
     let early = c.spare_number-valve.ensures.0 in
     omega arith
 
-pub set_count-requires-clause-alone : goal.set_count-requires-clause-alone
-set_count-requires-clause-alone c net own fits =
-    let w = c.self.invariant in
-    let more = subst (λ (i : Index). AreMore i.ids c.args.checks.now.checks.list) (sym c.self.view_is) c.requires.more in
-    let long = more.0 in
-    let few = c.requires.sound.few in
-    let ids = c.self.inside.ids.ok.0 in
-    let place = c.len-place.ensures in
-    let rows = w.fits.laid.size in
-    let roomy = c.if-len-lt-MOST_CHECKS.false in
-    let valves = c.len.ensures in
-    let spare = rw c.deref.ensures.value at c.spare_number-valve.ensures in
-    let early = spare.0 in
-    alone_in_all w.net net w.own own c.self.inside.valves c.spare_number-valve.result (omega arith) w.fits fits
-    (w.spare c.spare_number-valve.result spare)
-
 pub invariant_of-self : goal.invariant_of-self
 invariant_of-self c =
     let w = c.self.invariant in

@@ -1,6 +1,7 @@
-use Rattle.std.proofs.Common.{◌≡◌, ◌≤◌, ℕ, suc, List, arith, ap, refl, sym, ◌∙◌}
+use Rattle.std.proofs.Common.{◌≡◌, ◌≤◌, ◌<◌, ℕ, suc, List, length, arith, ap, refl, sym, ◌∙◌}
 use Rattle.std.proofs.lemmas.Bool.{false≢true}
 use mathlib.Core.Path.{subst}
+use Rattle.health_index.proofs.ByOne.{joined_not_beside, joined_not_kept, left_not_beside, left_not_kept}
 use Rattle.health_index.proofs.Moving.{all_moved}
 use Rattle.health_planning.specs.declared.seats.Seat.{Seat}
 use Rattle.health_index.proofs.Staying.{leaves_follow, stands_with_valves}
@@ -8,6 +9,7 @@ use Rattle.health_index.specs.Index.{Index, StandsFor}
 use Rattle.health_index.specs.Following.{AreSame, Follows, IsOpenTo, IsWay}
 use Rattle.health_index.proofs.Reshaped.{zones_stay}
 use Rattle.health_index.specs.Kin.{kin_of}
+use Rattle.health_index.specs.Regrouping.{Joins, JoinsGroup, Leaves, LeavesGroup, TellNoOther}
 use Rattle.health_index.specs.Room.{HasRoom}
 use Rattle.health_planning.specs.DeltaRecord.{Delta}
 use Rattle.health_planning.specs.Wired.{set_seat}
@@ -63,7 +65,7 @@ returns-then-reseat-clause-beside c spares same many =
 
 pub returns-then-reseat-clause-in_place : goal.returns-then-reseat-clause-in_place
 returns-then-reseat-clause-in_place c told none kin is open_to =
-    absurd (c.if-reseat.ensures.zone refl none)
+    absurd ((c.if-reseat.ensures.spares refl).zone none)
 
 pub returns-then-follow-clause-beside : goal.returns-then-follow-clause-beside
 returns-then-follow-clause-beside c spares same many =
@@ -81,17 +83,109 @@ returns-clause-beside c spares same many =
     (subst (λ (i : Index). AreSame i.ids c.args.checks.now.checks.list) (sym c.self.view_is) same)
     (subst (λ (i : Index). 200 ≤ size_of i.valves) (sym c.self.view_is) many)))
 
+-- where one set came into a group with a valve, or went from one
+pub returns-then-leaves_valves-clause-left : goal.returns-then-leaves_valves-clause-left
+returns-then-leaves_valves-clause-left c ref valve gone leaves =
+    let zones = c.args.zones.now.zones in
+    absurd (left_not_kept zones c.args.self.now.ids c.args.self.now.numbers c.args.self.now.seats c.args.self.now.valves c.args.delta.now ref valve
+    (kept_by zones c.args.delta.now
+    (c.deref.ensures.value ∙ ap (λ (i : Index). i.ids) c.self.view_is)
+    (c.deref-2.ensures.value ∙ ap (λ (i : Index). i.numbers) c.self.view_is)
+    (c.deref-3.ensures.value ∙ ap (λ (i : Index). i.seats) c.self.view_is)
+    (ap (λ (i : Index). i.valves) c.self.view_is) (c.if-leaves_valves.ensures.0 refl)) gone leaves)
+
+pub returns-then-leaves_valves-clause-joined : goal.returns-then-leaves_valves-clause-joined
+returns-then-leaves_valves-clause-joined c ref named valve come joins names alike few =
+    let zones = c.args.zones.now.zones in
+    absurd (joined_not_kept zones c.well_formed-2.ensures c.args.self.now.ids c.args.self.now.numbers c.args.self.now.seats c.args.self.now.valves c.args.delta.now ref valve
+    (kept_by zones c.args.delta.now
+    (c.deref.ensures.value ∙ ap (λ (i : Index). i.ids) c.self.view_is)
+    (c.deref-2.ensures.value ∙ ap (λ (i : Index). i.numbers) c.self.view_is)
+    (c.deref-3.ensures.value ∙ ap (λ (i : Index). i.seats) c.self.view_is)
+    (ap (λ (i : Index). i.valves) c.self.view_is) (c.if-leaves_valves.ensures.0 refl)) come joins)
+
+pub returns-then-reseat-clause-left : goal.returns-then-reseat-clause-left
+returns-then-reseat-clause-left c ref valve gone leaves =
+    let zones = c.args.zones.now.zones in
+    absurd (left_not_beside zones c.args.self.now.seats c.args.self.now.valves c.args.delta.now ref valve
+    (subst (λ (i : Index). SparesValves zones i.seats c.args.delta.now) c.self.view_is (c.if-reseat.ensures.spares refl)) gone leaves)
+
+pub returns-then-reseat-clause-joined : goal.returns-then-reseat-clause-joined
+returns-then-reseat-clause-joined c ref named valve come joins names alike few =
+    let zones = c.args.zones.now.zones in
+    absurd (joined_not_beside zones c.well_formed-2.ensures c.args.self.now.seats c.args.self.now.valves c.args.delta.now ref valve
+    (subst (λ (i : Index). SparesValves zones i.seats c.args.delta.now) c.self.view_is (c.if-reseat.ensures.spares refl)) come joins)
+
+pub regroup-requires-clause-room : goal.regroup-requires-clause-room
+regroup-requires-clause-room c =
+    subst (λ (i : Index). HasRoom i c.args.zones.now.slots) (sym (c.if-reseat.ensures.stays refl ∙ c.self.view_is)) c.requires.room
+
+pub returns-then-regroup-clause-stands : goal.returns-then-regroup-clause-stands
+returns-then-regroup-clause-stands c before old reports stands leaves =
+    c.if-regroup.ensures.stands before old reports
+    (subst (StandsFor before old reports) (sym (c.if-reseat.ensures.stays refl ∙ c.self.view_is)) stands) leaves refl
+
+pub returns-then-regroup-clause-beside : goal.returns-then-regroup-clause-beside
+returns-then-regroup-clause-beside c spares same many =
+    let zones = c.args.zones.now.zones in
+    absurd (false≢true (c.if-reseat.ensures.ready
+    (subst (λ (i : Index). SparesValves zones i.seats c.args.delta.now) (sym c.self.view_is) spares)
+    (subst (λ (i : Index). AreSame i.ids c.args.checks.now.checks.list) (sym c.self.view_is) same)
+    (subst (λ (i : Index). 200 ≤ size_of i.valves) (sym c.self.view_is) many)))
+
+pub returns-then-regroup-clause-in_place : goal.returns-then-regroup-clause-in_place
+returns-then-regroup-clause-in_place c told none kin is open_to =
+    absurd (c.if-regroup.ensures.zone refl none)
+
+pub returns-then-regroup-clause-left : goal.returns-then-regroup-clause-left
+returns-then-regroup-clause-left c ref valve gone leaves =
+    let zones = c.args.zones.now.zones in
+    let same = c.if-reseat.ensures.stays refl ∙ c.self.view_is in
+    subst (λ (i : Index). Leaves ref valve i c.regroup.new.self) same
+    (c.if-regroup.ensures.left ref valve gone (subst (λ (i : Index). LeavesGroup zones i.seats i.valves ref valve) (sym same) leaves)).1
+
+pub returns-then-regroup-clause-joined : goal.returns-then-regroup-clause-joined
+returns-then-regroup-clause-joined c ref named valve come joins names alike few =
+    let zones = c.args.zones.now.zones in
+    let same = c.if-reseat.ensures.stays refl ∙ c.self.view_is in
+    subst (λ (i : Index). Joins ref valve i c.regroup.new.self) same
+    (c.if-regroup.ensures.joined ref named valve come
+    (subst (λ (i : Index). JoinsGroup zones i.seats i.valves ref valve) (sym same) joins) names
+    (subst (λ (i : Index). TellNoOther zones i.seats ref.zone named.name named.rtype valve) (sym same) alike)
+    (subst (λ (i : Index). length i.members < i.space.members) (sym same) few)).1
+
+pub returns-then-follow-clause-left : goal.returns-then-follow-clause-left
+returns-then-follow-clause-left c ref valve gone leaves = absurd (gone.zone (c.if-follow.ensures.zone refl))
+
+pub returns-then-follow-clause-joined : goal.returns-then-follow-clause-joined
+returns-then-follow-clause-joined c ref named valve come joins names alike few = absurd (come.zone (c.if-follow.ensures.zone refl))
+
+pub returns-clause-left : goal.returns-clause-left
+returns-clause-left c ref valve gone leaves =
+    let zones = c.args.zones.now.zones in
+    let same = c.if-reseat.ensures.stays refl ∙ c.self.view_is in
+    absurd (false≢true (c.if-regroup.ensures.left ref valve gone (subst (λ (i : Index). LeavesGroup zones i.seats i.valves ref valve) (sym same) leaves)).0)
+
+pub returns-clause-joined : goal.returns-clause-joined
+returns-clause-joined c ref named valve come joins names alike few =
+    let zones = c.args.zones.now.zones in
+    let same = c.if-reseat.ensures.stays refl ∙ c.self.view_is in
+    absurd (false≢true (c.if-regroup.ensures.joined ref named valve come
+    (subst (λ (i : Index). JoinsGroup zones i.seats i.valves ref valve) (sym same) joins) names
+    (subst (λ (i : Index). TellNoOther zones i.seats ref.zone named.name named.rtype valve) (sym same) alike)
+    (subst (λ (i : Index). length i.members < i.space.members) (sym same) few)).0)
+
 pub follow-requires-clause-ids_room : goal.follow-requires-clause-ids_room
 follow-requires-clause-ids_room c =
-    (subst (λ (i : Index). HasRoom i c.args.zones.now.slots) (sym (c.if-reseat.ensures.stays refl ∙ c.self.view_is)) c.requires.room).ids
+    (subst (λ (i : Index). HasRoom i c.args.zones.now.slots) (sym (c.if-regroup.ensures.stays refl ∙ c.if-reseat.ensures.stays refl ∙ c.self.view_is)) c.requires.room).ids
 
 pub follow-requires-clause-numbers_room : goal.follow-requires-clause-numbers_room
 follow-requires-clause-numbers_room c =
-    (subst (λ (i : Index). HasRoom i c.args.zones.now.slots) (sym (c.if-reseat.ensures.stays refl ∙ c.self.view_is)) c.requires.room).numbers
+    (subst (λ (i : Index). HasRoom i c.args.zones.now.slots) (sym (c.if-regroup.ensures.stays refl ∙ c.if-reseat.ensures.stays refl ∙ c.self.view_is)) c.requires.room).numbers
 
 pub follow-requires-clause-seen_room : goal.follow-requires-clause-seen_room
 follow-requires-clause-seen_room c =
-    (subst (λ (i : Index). HasRoom i c.args.zones.now.slots) (sym (c.if-reseat.ensures.stays refl ∙ c.self.view_is)) c.requires.room).seen
+    (subst (λ (i : Index). HasRoom i c.args.zones.now.slots) (sym (c.if-regroup.ensures.stays refl ∙ c.if-reseat.ensures.stays refl ∙ c.self.view_is)) c.requires.room).seen
 
 pub returns-then-follow-clause-stands : goal.returns-then-follow-clause-stands
 returns-then-follow-clause-stands c before old reports stands leaves =
@@ -99,34 +193,34 @@ returns-then-follow-clause-stands c before old reports stands leaves =
     let checks = c.args.checks.now.checks in
     let same = zones_stay before old zones checks c.args.delta.now stands.are_zones leaves (c.if-follow.ensures.zone refl) in
     c.if-follow.ensures.stands zones old reports
-    (subst (StandsFor zones old reports) (sym (c.if-reseat.ensures.stays refl ∙ c.self.view_is)) (subst (λ (z : List Zone). StandsFor z old reports c.args.self.now) (sym same) stands))
+    (subst (StandsFor zones old reports) (sym (c.if-regroup.ensures.stays refl ∙ c.if-reseat.ensures.stays refl ∙ c.self.view_is)) (subst (λ (z : List Zone). StandsFor z old reports c.args.self.now) (sym same) stands))
     (leaves_follow before old zones checks c.args.delta.now leaves) c.requires.sound refl
 
 pub returns-then-follow-clause-in_place : goal.returns-then-follow-clause-in_place
 returns-then-follow-clause-in_place c told none kin is open_to =
-    subst (λ (i : Index). Follows told c.args.checks.now.checks.list i c.follow.new.self) (c.if-reseat.ensures.stays refl ∙ c.self.view_is)
+    subst (λ (i : Index). Follows told c.args.checks.now.checks.list i c.follow.new.self) (c.if-regroup.ensures.stays refl ∙ c.if-reseat.ensures.stays refl ∙ c.self.view_is)
     (c.if-follow.ensures.in_place told none
-    (subst (λ (i : Index). i.kin ≡ kin_of c.args.checks.now.checks.list) (sym (c.if-reseat.ensures.stays refl ∙ c.self.view_is)) kin)
-    (subst (λ (i : Index). IsWay i.ids c.args.checks.now.checks.list told) (sym (c.if-reseat.ensures.stays refl ∙ c.self.view_is)) is)
-    (subst (IsOpenTo told c.args.checks.now.checks.list) (sym (c.if-reseat.ensures.stays refl ∙ c.self.view_is)) open_to)).1
+    (subst (λ (i : Index). i.kin ≡ kin_of c.args.checks.now.checks.list) (sym (c.if-regroup.ensures.stays refl ∙ c.if-reseat.ensures.stays refl ∙ c.self.view_is)) kin)
+    (subst (λ (i : Index). IsWay i.ids c.args.checks.now.checks.list told) (sym (c.if-regroup.ensures.stays refl ∙ c.if-reseat.ensures.stays refl ∙ c.self.view_is)) is)
+    (subst (IsOpenTo told c.args.checks.now.checks.list) (sym (c.if-regroup.ensures.stays refl ∙ c.if-reseat.ensures.stays refl ∙ c.self.view_is)) open_to)).1
 
 pub lay-requires-clause-room : goal.lay-requires-clause-room
 lay-requires-clause-room c =
-    subst (λ (i : Index). HasRoom i c.args.zones.now.slots) (sym (c.if-follow.ensures.stays refl ∙ c.if-reseat.ensures.stays refl ∙ c.self.view_is)) c.requires.room
+    subst (λ (i : Index). HasRoom i c.args.zones.now.slots) (sym (c.if-follow.ensures.stays refl ∙ c.if-regroup.ensures.stays refl ∙ c.if-reseat.ensures.stays refl ∙ c.self.view_is)) c.requires.room
 
 pub returns-clause-in_place : goal.returns-clause-in_place
 returns-clause-in_place c told none kin is open_to =
     absurd (false≢true (c.if-follow.ensures.in_place told none
-    (subst (λ (i : Index). i.kin ≡ kin_of c.args.checks.now.checks.list) (sym (c.if-reseat.ensures.stays refl ∙ c.self.view_is)) kin)
-    (subst (λ (i : Index). IsWay i.ids c.args.checks.now.checks.list told) (sym (c.if-reseat.ensures.stays refl ∙ c.self.view_is)) is)
-    (subst (IsOpenTo told c.args.checks.now.checks.list) (sym (c.if-reseat.ensures.stays refl ∙ c.self.view_is)) open_to)).0)
+    (subst (λ (i : Index). i.kin ≡ kin_of c.args.checks.now.checks.list) (sym (c.if-regroup.ensures.stays refl ∙ c.if-reseat.ensures.stays refl ∙ c.self.view_is)) kin)
+    (subst (λ (i : Index). IsWay i.ids c.args.checks.now.checks.list told) (sym (c.if-regroup.ensures.stays refl ∙ c.if-reseat.ensures.stays refl ∙ c.self.view_is)) is)
+    (subst (IsOpenTo told c.args.checks.now.checks.list) (sym (c.if-regroup.ensures.stays refl ∙ c.if-reseat.ensures.stays refl ∙ c.self.view_is)) open_to)).0)
 
 pub returns-clause-stands : goal.returns-clause-stands
 returns-clause-stands c before old reports stands leaves =
     let zones = c.args.zones.now.zones in
     let checks = c.args.checks.now.checks in
     let delta = c.args.delta.now in
-    let same = c.if-follow.ensures.stays refl ∙ c.if-reseat.ensures.stays refl ∙ c.self.view_is in
+    let same = c.if-follow.ensures.stays refl ∙ c.if-regroup.ensures.stays refl ∙ c.if-reseat.ensures.stays refl ∙ c.self.view_is in
     let moves = all_moved before old zones checks delta stands.are_zones c.well_formed-2.ensures leaves c.gone_by.result.now
     c.gone_by.ensures.none c.gone_by.ensures.told in
     c.lay.ensures.stands before old reports (subst (StandsFor before old reports) (sym same) stands)

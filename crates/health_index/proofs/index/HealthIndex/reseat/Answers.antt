@@ -99,8 +99,10 @@ returns-clause-stands c before old reports stands left done =
     c.as_slice.result.now delta.removed c.as_slice-2.result.now delta.added c.self.inside.seats.items c.seat_beside.new.seats.items
     c.deref-3.ensures.value c.deref-4.ensures.value c.as_slice.ensures c.as_slice-2.ensures c.seat_beside.ensures.beside)
 
-pub returns-clause-zone : goal.returns-clause-zone
-returns-clause-zone c done = (c.if-not-spares_valves.ensures.0 refl).zone
+pub returns-clause-spares : goal.returns-clause-spares
+returns-clause-spares c done =
+    subst (λ (l : List Seat). SparesValves c.args.zones.now.zones l c.args.delta.now)
+    (c.deref.ensures.value ∙ ap (λ (i : Index). i.seats) c.self.view_is) (c.if-not-spares_valves.ensures.0 refl)
 
 pub returns-clause-rest : goal.returns-clause-rest
 returns-clause-rest c =
