@@ -1,11 +1,12 @@
 -- Seats by which valves are planned anew: each set is seated by the check that alone decides it, or nothing.
-use Rattle.std.proofs.Common.{◌≡◌, ◌≢◌, ◌⊎◌, ℕ, zero, suc, Bool, true, false, List, [], ◌∷◌, refl, ap, sym, ◌∙◌, inl, inr, Some}
+use Rattle.std.proofs.Common.{◌≡◌, ◌≢◌, ◌⊎◌, ℕ, suc, Bool, true, false, List, refl, ap, sym, ◌∙◌, inl, inr, Some}
 use Rattle.std.specs.Prelude.{slice_get}
-use Rattle.std.proofs.lemmas.Bool.{cases_eq, false≢true}
+use Rattle.std.proofs.lemmas.Bool.{false≢true}
 use mathlib.Core.Path.{subst}
 use Rattle.check_model.specs.Checks.{Checks}
 use Rattle.check_model.specs.declared.checks.Check.{Check}
 use Rattle.health_index.proofs.Alone.{HasOwn, HasTold, early_in, own_or_told}
+use Rattle.health_index.proofs.Moving.{of_parts, slot_or_not}
 use Rattle.health_index.specs.Following.{HaveTheirValves}
 use Rattle.health_index.specs.Index.{Index, StandsFor}
 use Rattle.health_index.specs.Leaving.{Moves}
@@ -50,34 +51,6 @@ module _ (zones : List Zone) (list : List (ℕ × Check)) (numbers : List ℕ) (
         (told.1.0, (g.named, (g.names, told.1.1.1)))
     | inr on ↦ taken slot (λ none. some (on.0 ∙ none))
   ]
-
--- one of some references is to the slot, or none is
-pub slot_or_not : (refs : List SetRef) (slot : ℕ) → TellSlot refs slot ⊎ (TellSlot refs slot → ⊥)
-slot_or_not [] slot = inr (λ told. let no : ⊥ = nothing told.0 told.1.0 told.1.1.0 in no)
-  where
-    nothing : (k : ℕ) (ref : SetRef) → slice_get [] k ≡ Some ref → ⊥
-    nothing k ref at = cc
-slot_or_not (other ∷ refs) slot = elim (cases_eq other.slot slot) [
-  | inl same ↦ inl (0, (other, (refl, same)))
-  | inr apart ↦ elim (slot_or_not refs slot) [
-    | inl told ↦ inl (suc told.0, told.1)
-    | inr none ↦ inr (λ told. by told.0 told.1.0 told.1.1.0 told.1.1.1 apart none)
-  ]
-]
-  where
-    some_same : {X : Type 0} {x y : X} → Some x ≡ Some y → x ≡ y
-    some_same e = cc
-
-    by : (k : ℕ) (ref : SetRef) → slice_get (other ∷ refs) k ≡ Some ref → ref.slot ≡ slot
-        → other.slot ≢ slot → (TellSlot refs slot → ⊥) → ⊥
-    by zero ref at is apart none = apart (ap (λ (r : SetRef). r.slot) (some_same at) ∙ is)
-    by (suc k) ref at is apart none = none (k, (ref, (at, is)))
-
-pub of_parts : (one other : SetRef) → one.zone ≡ other.zone → one.slot ≡ other.slot → one ≡ other
-of_parts one other a b = ap (λ (p : ℕ × ℕ). record { zone = p.0; slot = p.1 }) (pair a b)
-  where
-    pair : {i j m n : ℕ} → i ≡ j → m ≡ n → ◌≡◌ {A = ℕ × ℕ} (i, m) (j, n)
-    pair e f = cc
 
 -- ---- an index that stood for something
 

@@ -1,41 +1,38 @@
 -- What an index has where one set came into a target group, or went from one.
-use Rattle.std.proofs.Common.{◌≡◌, ◌≢◌, ◌≤◌, ◌<◌, ◌+◌, ◌^◌, ◌⊎◌, ℕ, zero, suc, Bool, true, false, List, [], ◌∷◌, length, map, arith, refl, ap, sym, ◌∙◌, inl, inr, Option, None, Some}
+use Rattle.std.proofs.Common.{◌≡◌, ◌≢◌, ◌≤◌, ◌<◌, ◌^◌, ℕ, zero, suc, Bool, true, false, List, [], ◌∷◌, length, arith, refl, ap, sym, ◌∙◌, inl, inr, Some}
 use Rattle.std.specs.List.{AllByRecursion, filter}
-use Rattle.std.specs.Prelude.{◌||◌, cond, is_some, slice_get, slice_index}
+use Rattle.std.specs.Prelude.{cond, slice_get}
 use Rattle.std.proofs.lemmas.Bool.{cases_eq, false≢true}
 use Rattle.std.proofs.lemmas.List.{length-map}
 use Rattle.std.proofs.Math.Seq.{take-length}
 use mathlib.Core.Path.{subst}
 use Rattle.check_model.specs.Checks.{Checks}
-use Rattle.health_index.proofs.Alone.{own_or_told}
 use Rattle.health_index.proofs.ByOne.{at_first}
 use Rattle.health_index.proofs.GroupLeft.{is_none, is_one}
 use Rattle.health_index.proofs.Moving.{got_of_all, moved, none_there}
 use Rattle.health_index.proofs.Regrouped.{watched_on}
-use Rattle.health_index.specs.Index.{Index, IsOfOneGroup, StandsFor}
+use Rattle.health_index.specs.Index.{Index, StandsFor}
 use Rattle.health_index.specs.Laws.{SetsCanJoin, SetsCanLeave}
-use Rattle.health_index.specs.Leaving.{IsOneOf, Moves}
-use Rattle.health_index.specs.Regrouping.{HasCome, HasGone, JoinsGroup, LeavesGroup, TellNoOther}
+use Rattle.health_index.specs.Leaving.{Moves}
+use Rattle.health_index.specs.Regrouping.{HasCome, HasGone, JoinsGroup, TellNoOther}
 use Rattle.health_model.specs.Statuses.{Report}
 use Rattle.health_planning.proofs.Few.{few_placed, few_plain, own_among}
 use Rattle.health_planning.proofs.ListedOnce.{one_ref, slot_below}
-use Rattle.health_planning.proofs.Members.{one_named}
-use Rattle.health_planning.proofs.MembersOfZoneList.{filled, in_all, one_of_key, set_in}
-use Rattle.health_planning.proofs.Wiring.{first_here, in_members, of_group, rising_in}
-use Rattle.health_planning.specs.Changes.{CanChange, Changes, ref_in}
+use Rattle.health_planning.proofs.MembersOfZoneList.{filled, in_all, set_in}
+use Rattle.health_planning.proofs.Wiring.{first_here, in_members, of_group}
+use Rattle.health_planning.specs.Changes.{Changes, ref_in}
 use Rattle.health_planning.specs.DeltaRecord.{Delta}
 use Rattle.health_planning.specs.Edits.{Edits, IsAllowed}
 use Rattle.health_planning.specs.Looking.{RefersTo}
 use Rattle.health_planning.specs.SetRefRecord.{SetRef}
 use Rattle.health_planning.specs.Tables.{HaveSlotsApart, HaveSlotsBelow}
 use Rattle.health_planning.specs.Telling.{evaluates}
-use Rattle.health_planning.specs.Wired.{AreMembers, IsGroupValve, IsLedTo, IsTarget, group_seat, ids_of, is_watched, own_part, plain, plain_among, seat_of, set_seat}
+use Rattle.health_planning.specs.Wired.{AreMembers, IsGroupValve, IsLedTo, IsTarget, group_seat, is_watched, own_part, plain, plain_among, seat_of, set_seat}
 use Rattle.health_planning.specs.ZoneEditRecord.{ZoneEdit}
 use Rattle.health_planning.specs.ZoneEditRecord.TheVariants as edit
 use Rattle.health_planning.specs.Zones.{AreZones, Zone, placed_in}
 use Rattle.health_planning.specs.declared.seats.Seat.{Seat}
 use Rattle.health_valves.specs.Valves.{Net, ValvesStandFor, size_of}
-use Rattle.health_valves.specs.declared.valves.Valves.{Valves}
 use Rattle.rdata_layout.specs.declared.types.RType.{RType}
 use Rattle.record_set.specs.Sets.{key_of}
 use Rattle.record_set.specs.declared.sets.Body.{Body}
@@ -44,7 +41,7 @@ use Rattle.record_set.specs.declared.sets.RecordSet.{RecordSet}
 use Rattle.record_set.specs.declared.sets.SetKey.{SetKey}
 use Rattle.zone_model.specs.Placing.{IsThere}
 use Rattle.zone_model.specs.Slotted.{HaveOwnSlots, IsHere, Slotted, sets_of}
-use Rattle.zone_model.specs.Zones.{IsAmong, group, is_of_group}
+use Rattle.zone_model.specs.Zones.{IsAmong, is_of_group}
 
 -- ---- the group to which an evaluated alias leads
 

@@ -18,11 +18,7 @@ use Rattle.health_valves.specs.declared.valves.Valves.{Valves}
 use Rattle.health_model.specs.Nodes.{CheckNode, Node}
 use Rattle.health_model.specs.Sound.{IsSound}
 use Rattle.health_model.specs.Statuses.{Report, results_of}
-use Rattle.health_planning.specs.Zones.{AreZones, IsOne, StandsAlone, Zone}
-use Rattle.health_planning.specs.Edits.{Edits, IsAllowed}
-use Rattle.health_planning.specs.ZoneEditRecord.{ZoneEdit}
-use Rattle.health_planning.specs.ZoneEditRecord.TheVariants as edit
-use Rattle.health_planning.specs.DeltaRecord.{Delta}
+use Rattle.health_planning.specs.Zones.{Zone}
 use Rattle.health_planning.specs.Building.{IsSeen}
 use Rattle.health_planning.specs.Later.{HasThreshold, IsLaterAt}
 use Rattle.health_planning.specs.Wired.{IsCheckValve, IsSpare, IsValveFor, StandApart, check_need, check_own, ids_of, is_inverted, valve_with, watched_of}
@@ -36,7 +32,6 @@ use Rattle.health_index.specs.Following.{AreReshaped, IsFollowed, Reshapes}
 use Rattle.health_index.specs.Index.{Index, IsEndpoint, IsIntact, Space}
 use Rattle.health_index.specs.Index.{StandsFor}
 use Rattle.health_index.specs.Kin.{kin_of}
-use Rattle.health_index.specs.Leaving.{AreLeft}
 
 some_same : {X : Type 0} {x y : X} → Some x ≡ Some y → x ≡ y
 some_same e = cc
@@ -334,35 +329,3 @@ module _ (index : Index) (w : IsIntact index) (valves : Valves) (space : Space)
       subst (λ (l : List ℕ). IsFollowed zones new reports (with_lists l numbers_now seen_now)) (sym same)
       (subst (λ (l : List ℕ). IsFollowed zones new reports (with_lists ids l seen_now)) (sym same_numbers)
       (subst (λ (l : List (Option Seen)). IsFollowed zones new reports (with_lists ids numbers l)) (sym same_too) is))
-
--- ---- commands that tell of no zone
-
-numbered : (zones : List Zone) → AllByRecursion StandsAlone zones → (zone : Zone) → IsOne zones zone
-    → 0 < zone.id
-numbered [] each zone there = absurd there
-numbered (other ∷ zones) each zone (inl e) = subst (λ (z : Zone). 0 < z.id) e each.0.numbered
-numbered (other ∷ zones) each zone (inr rest) = numbered zones each.1 zone rest
-
-same_zones : (before after : List Zone) → AreZones before → (made : ZoneEdit) (delta : Delta)
-    → IsAllowed before made → Edits before made after delta → delta.zone ≡ 0 → after ≡ before
-same_zones before after are (edit.Begin zone name sets) delta allowed edits none =
-    let is = edits.zone in
-    let least = allowed.3 in
-    absurd (omega arith)
-same_zones before after are (edit.End zone) delta allowed edits none =
-    let is = edits.zone in
-    let least = numbered before are.each allowed.0 allowed.1 in
-    let its = allowed.2 in
-    absurd (omega arith)
-same_zones before after are (edit.Change zone remove add) delta allowed edits none =
-    let is = edits.zone in
-    let least = numbered before are.each allowed.0.0 allowed.0.1 in
-    let its = allowed.0.2 in
-    absurd (omega arith)
-same_zones before after are (edit.Collections now) delta allowed edits none = edits.its.0
-
-pub zones_stay : (before : List Zone) (old : Checks) (after : List Zone) (new : Checks) (delta : Delta)
-    → AreZones before → AreLeft before old after new delta → delta.zone ≡ 0 → after ≡ before
-zones_stay before old after new delta are (inl (made, (allowed, edits, kept))) none =
-    same_zones before after are made delta allowed edits none
-zones_stay before old after new delta are (inr (stayed, follows, told)) none = stayed

@@ -1,9 +1,5 @@
 pub mod Following
-pub mod Index
-pub mod Kin
 pub mod Laws
-pub mod Leaving
-pub mod Regrouping
 pub mod Room
 pub mod Taking
 pub mod Values
@@ -20,3 +16,7 @@ pub use Rattle.health_planning.specs.Wired
 pub use Rattle.health_planning.specs.Groups
 pub use Rattle.health_planning.specs.Edits
 pub use Rattle.health_planning.specs.Looking
+pub use Rattle.health_standing.specs.Index
+pub use Rattle.health_standing.specs.Kin
+pub use Rattle.health_standing.specs.Leaving
+pub use Rattle.health_standing.specs.Regrouping

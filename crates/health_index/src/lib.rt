@@ -13,16 +13,12 @@
 //! (`valve_numbers`), also where all is laid out anew.
 #![tactic(auto)]
 
-mod fed_alike;
-mod finding;
 mod following;
 mod index;
 mod kin;
 mod laws;
-mod regrouping;
 mod reserving;
 mod taking;
-mod valve_leaving;
 mod valve_numbers;
 
 pub use following::Way;

@@ -1,5 +1,5 @@
 -- Another count from outside at a valve.
-use Rattle.std.proofs.Common.{◌≡◌, ◌≢◌, ◌<◌, ◌≤◌, ◌+◌, ◌^◌, ℕ, Bool, true, false, List, [], length, set, length-set, get_or-set_same, get_or-set_other, arith, refl, ap, sym, ◌∙◌, inl, inr, Some}
+use Rattle.std.proofs.Common.{◌≡◌, ◌≢◌, ◌<◌, ◌≤◌, ◌+◌, ◌^◌, ℕ, Bool, true, false, List, [], set, length-set, get_or-set_same, get_or-set_other, arith, refl, ap, sym, ◌∙◌, inl, inr, Some}
 use Rattle.std.specs.Prelude.{nat_le, slice_get}
 use Rattle.std.proofs.lemmas.Bool.{cases_eq, eq-eqb, ne_eqb, false≢true}
 use mathlib.Core.Bool.{beq}

@@ -2,7 +2,6 @@ use Rattle.std.proofs.Common.{◌≡◌, ◌++◌, ◌∷◌, [], Some, length, 
 use Rattle.std.specs.Prelude.{slice_get}
 use Rattle.std.proofs.lemmas.Option.{slice_get_read}
 use mathlib.Core.Path.{subst}
-use Rattle.health_index.proofs.Reporting.{alone_in_all}
 use Rattle.health_index.proofs.Reshaped.{followed_with, intact_with}
 use Rattle.health_index.proofs.Ways.{came_at, index_with, more_way, whole_more}
 use Rattle.health_planning.specs.Wired.{IsSpare}

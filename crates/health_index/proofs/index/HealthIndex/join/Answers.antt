@@ -1,9 +1,8 @@
-use Rattle.std.proofs.Common.{◌≡◌, ◌≤◌, ◌<◌, ◌+◌, ◌-◌, ◌++◌, ◌∷◌, [], ℕ, suc, List, None, Some, length, arith, refl, ap, sym, ◌∙◌}
+use Rattle.std.proofs.Common.{◌≡◌, ◌<◌, ◌+◌, ◌-◌, ◌++◌, ◌∷◌, [], ℕ, suc, List, Some, length, arith, refl, ap, sym, ◌∙◌}
 use mathlib.Core.Path.{subst}
 use Rattle.health_index.proofs.ByOne.{index_regrouped, joined_by, recounts, whole_joined}
 use Rattle.health_index.specs.Index.{Index, StandsFor}
-use Rattle.health_index.specs.Regrouping.{IsSeatedIn, Joins, JoinsGroup, TellNoOther}
-use Rattle.health_index.specs.Room.{HasRoom}
+use Rattle.health_index.specs.Regrouping.{IsSeatedIn, JoinsGroup, TellNoOther}
 use Rattle.health_planning.proofs.ListedOnce.{slot_below}
 use Rattle.health_planning.specs.SetRefRecord.{SetRef}
 use Rattle.health_planning.specs.declared.seats.Seat.{Seat}

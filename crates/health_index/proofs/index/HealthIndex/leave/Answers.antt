@@ -1,4 +1,4 @@
-use Rattle.std.proofs.Common.{◌≡◌, ◌≤◌, ◌<◌, ◌-◌, ℕ, List, None, Some, arith, refl, ap, sym, ◌∙◌}
+use Rattle.std.proofs.Common.{◌≡◌, ◌-◌, ℕ, List, Some, arith, refl, ap, sym, ◌∙◌}
 use mathlib.Core.Path.{subst}
 use Rattle.health_index.proofs.ByOne.{index_regrouped, left_by, recounts, whole_left}
 use Rattle.health_index.specs.Index.{Index, StandsFor}

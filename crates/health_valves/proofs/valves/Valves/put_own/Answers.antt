@@ -1,5 +1,5 @@
-use Rattle.std.proofs.Common.{◌≡◌, ◌+◌, arith, sym}
-use Rattle.health_valves.specs.Valves.{count, value_of}
+use Rattle.std.proofs.Common.{arith}
+use Rattle.health_valves.specs.Valves.{value_of}
 use Rattle.health_valves.proofs.Counts.{recounted, reowned}
 use Rattle.health_valves.proofs.Times.{count_most}
 use Rattle.health_valves.proofs.valves.Valves.put_own.Goals as goal

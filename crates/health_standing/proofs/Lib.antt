@@ -1,0 +1,13 @@
+pub mod Alone
+pub mod Bare
+pub mod Beside
+pub mod ByOne
+pub mod FedAlike
+pub mod GroupJoined
+pub mod GroupLeft
+pub mod Keyed
+pub mod Moving
+pub mod Regrouped
+pub mod Reseated
+pub mod Slots
+pub mod Staying

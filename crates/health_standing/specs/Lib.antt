@@ -1,0 +1,17 @@
+pub mod Index
+pub mod Kin
+pub mod Leaving
+pub mod Regrouping
+pub use Rattle.check_model.specs.Checks
+pub use Rattle.checker_state.specs.Standing
+pub use Rattle.health_valves.specs.Valves
+pub use Rattle.health_valves.specs.Pass
+pub use Rattle.health_model.specs.Healthy
+pub use Rattle.health_model.specs.Nodes
+pub use Rattle.health_model.specs.Sound
+pub use Rattle.health_model.specs.Statuses
+pub use Rattle.health_planning.specs.Later
+pub use Rattle.health_planning.specs.Wired
+pub use Rattle.health_planning.specs.Groups
+pub use Rattle.health_planning.specs.Edits
+pub use Rattle.health_planning.specs.Looking
