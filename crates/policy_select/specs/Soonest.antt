@@ -1,5 +1,5 @@
 -- The set of a latency group of which the region is less slow than those of all others.
-use Rattle.std.specs.Prelude.{◌≡◌, ◌≢◌, ◌<◌, ℕ, Bool, true, not, Option, List, [], length, map}
+use Rattle.std.specs.Prelude.{◌≡◌, ◌≢◌, ◌<◌, ℕ, Bool, true, not, Option, List, length, map}
 use Rattle.std.specs.Option.{unwrap_or}
 use Rattle.std.proofs.Math.ListN.{get_or}
 use Rattle.answer_model.specs.Policies.{region_of}
