@@ -68,7 +68,10 @@ pub fn come_all(
 /// A place at which the first of these sets may stand: a hint, which may be wrong.
 fn place_of_first(hints: &Hints, sets: &[RecordSet]) -> Option<usize> {
     match sets.first() {
-        Some(set) => hints.place(set.name.octets()),
+        Some(set) => match hints.place(set.name.octets()) {
+            Some(place) => Some(place),
+            None => hints.find_beside(set.name.octets()),
+        },
         None => None,
     }
 }

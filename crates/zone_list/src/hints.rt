@@ -9,6 +9,7 @@ ghost use Rattle.zone_changes.specs.Orders.{IsOrder};
 
 use crate::apexes::NamedZone;
 use crate::shifts::Shifts;
+use crate::waymarks::Waymarks;
 use octets::{behind, front, put_at};
 use std::alloc::Global;
 use zone_changes::{SetSlots, hash_of};
@@ -59,6 +60,8 @@ pub struct Hints {
     shifts: Shifts,
     /// How many sets that were there gave way or went since then.
     changed: usize,
+    /// Where names may stand that have no entry.
+    waymarks: Waymarks,
 }
 
 impl Hints {
@@ -70,6 +73,7 @@ impl Hints {
             came: 0,
             shifts: Shifts::new(0),
             changed: 0,
+            waymarks: Waymarks::new(alloc),
         }
     }
 
@@ -129,9 +133,19 @@ impl Hints {
         self.place(front(&wildcard, 2 + above.len()))
     }
 
+    /// The place near which a name stands among others.
+    #[inline(never)]
+    pub fn find_beside(&self, name: &[u8]) -> Option<usize> {
+        match self.waymarks.place(name) {
+            Some(place) => Some(self.shifts.now(place)),
+            None => None,
+        }
+    }
+
     /// Makes the table larger where so many places would leave less than a fifth of it free: by three
     /// quarters more entries than places. It stays as it is where there is no memory.
     pub fn grow(&mut self, places: usize) {
+        self.waymarks.grow(places);
         let size = self.entries.len();
         if places <= size - size / 5 {
             return;
@@ -185,11 +199,12 @@ impl Hints {
     }
 
     /// Makes the table anew where its entries are wrong by too much; where that is put off, only if
-    /// sets that were there were changed, as many as a sixteenth of all.
-    pub fn settle(&mut self, store: &SetSlots, zone: u32, order: &[u32], put_off: bool)
+    /// sets that were there were changed, as many as a sixteenth of all. The apex has so many octets.
+    pub fn settle(&mut self, store: &SetSlots, zone: u32, order: &[u32], apex: usize, put_off: bool)
         requires { IsOrder store.now.slots zone order.now }
     {
         if !self.is_old(order.len()) {
+            self.mark(store, zone, order, apex, put_off);
             return;
         }
         if put_off && self.changed <= order.len() / 16 {
@@ -201,6 +216,18 @@ impl Hints {
         self.came = 0;
         self.shifts = Shifts::new(0);
         self.changed = 0;
+        self.waymarks.make(store, zone, order, apex);
+    }
+
+    /// Takes words of the sets where there are few, and no set came in front of others since the table
+    /// was made.
+    fn mark(&mut self, store: &SetSlots, zone: u32, order: &[u32], apex: usize, put_off: bool)
+        requires { IsOrder store.now.slots zone order.now }
+    {
+        if put_off || self.came > 0 || !self.waymarks.are_few(order.len()) {
+            return;
+        }
+        self.waymarks.make(store, zone, order, apex);
     }
 
     /// Whether entries of so many sets are wrong by too much: an eighth of the sets came in front of

@@ -11,6 +11,7 @@ mod hints;
 mod refs;
 mod shifts;
 mod stored;
+mod waymarks;
 
 pub use apexes::{Apexes, NamedZone};
 pub use finding::{find_zone, first_from, longest, next_id};

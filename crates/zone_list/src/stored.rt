@@ -102,10 +102,14 @@ impl StoredZone {
     }
 
     /// A place near which the sets of a name may stand that has no hint of its own, by that of the
-    /// name above it.
+    /// name above it, or by words of the sets beside it.
     pub fn hint_above(&self, name: &Name) -> Option<usize> {
-        self.hints
-            .find_above(name.octets(), self.apex.octets().len())
+        let octets = name.octets();
+        let apex = self.apex.octets().len();
+        match self.hints.find_above(octets, apex) {
+            Some(place) => Some(place),
+            None => self.hints.find_beside(octets),
+        }
     }
 
     /// Makes room for so many more sets. Room that was there stays, also where memory runs out.
@@ -192,7 +196,9 @@ impl StoredZone {
         requires { IsOrder store.now.slots self.old.id self.old.order }
         ensures { self.new ≡ self.old }
     {
-        self.hints.settle(store, self.id, &self.order, put_off);
+        let apex = self.apex.octets().len();
+        self.hints
+            .settle(store, self.id, &self.order, apex, put_off);
     }
 
     /// The zone goes, with all its sets. Their references are told, in zone order.
