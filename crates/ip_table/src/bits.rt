@@ -55,8 +55,8 @@ pub(crate) fn bit_of(depth: u8, number: u128) -> u8
 
 /// Whether the bit behind the first ones is set, of the number that an address's bits spell.
 ///
-/// Walks that have to be fast take this form, which chooses by no branch, and moves half the number
-/// where that is enough.
+/// Walks that have to be fast take this form: no branch asks what the bit is, and half the number is
+/// moved where that is enough.
 #[inline(always)]
 pub(crate) fn has_bit(depth: u8, number: u128) -> bool
     ensures { (a : IpAddress) → number ≡ number_of a → cond result 1 0 ≡ bit_behind depth a }
