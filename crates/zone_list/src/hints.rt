@@ -54,11 +54,11 @@ pub struct Hints {
     /// By how many places sets moved since the table was made, all of them together, but for those
     /// that came.
     moved: usize,
-    /// How many sets came in front of others since then.
-    came: usize,
-    /// How many came in front of each part of the zone.
+    /// How many sets came in front of each part of the zone since then.
     shifts: Shifts,
-    /// How many sets that were there gave way or went since then.
+    /// How many sets came in front of others.
+    came: usize,
+    /// How many sets that were there gave way or went.
     changed: usize,
     /// Where names may stand that have no entry.
     waymarks: Waymarks,

@@ -20,13 +20,14 @@ use zone_changes::{Name, RecordSet, SetKey, SetSlots, Sums, no_sums};
 /// of them it can take without memory, and what is counted of them.
 #[derive(Drop)]
 pub struct StoredZone {
+    // What a look-up reads comes first and stands side by side: in few lines of memory.
     id: u32,
-    apex: Name,
     order: Vec<u32>,
-    /// What is counted of its sets.
-    sums: Sums,
     /// Where its names may stand.
     hints: Hints,
+    /// What is counted of its sets.
+    sums: Sums,
+    apex: Name,
 }
 
 impl Model for StoredZone {
