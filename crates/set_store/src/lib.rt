@@ -25,4 +25,5 @@ pub use set_search::{
     Body, Name, RType, RecordSet, SetKey, SetList, Stop, before_key, behind_key, closest_in,
     count_before, exists_in, find, find_near, group_in, key_cmp, keys_are_ordered, placed_rise,
 };
+pub use slots::NO_CELL;
 pub use store::SetSlots;

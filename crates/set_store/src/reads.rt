@@ -22,8 +22,8 @@ use crate::heads::{head_is_before, head_is_below, head_server_labels};
 use crate::siblings::{is_before_beside, is_below_beside};
 use crate::slots::{NO_CELL, Slot, cell_at, tag_at};
 use crate::store::SetSlots;
-use crate::typed::{is_of_at, type_near, type_under};
-use octets::{OutOfMemory, behind, front, zeros};
+use crate::typed::{is_of_at, type_near};
+use octets::{OutOfMemory, front, zeros};
 use set_scratch::{
     Handle, ReadFault, Region, Scratch, Watch, is_alias_in, keys_are_in_front, name_and_rest,
     read_set, target_in, watch_in, written_reads_back,
@@ -115,17 +115,8 @@ impl SetSlots {
         is_of_at(&self.region, &self.slots, slot, name, rtype)
     }
 
-    /// The number of the type of a slot's set, where it has the name. None where it has not.
-    pub fn type_at(&self, slot: u32, name: &Name) -> Option<u16>
-        requires { IsInUse self.now.slots slot }
-        ensures { (kept : Kept) → IsKept self.now.slots slot kept
-            → TypeOrNone name.now kept.set result }
-    {
-        written_reads_back();
-        type_under(&self.region, &self.slots, slot, name)
-    }
-
-    /// The same with the cell in which the set's octets may begin: a hint, which may be wrong.
+    /// The number of the type of a slot's set, where it has the name; None where it has not. It is
+    /// told the cell in which the set's octets may begin: a hint, which may be wrong.
     #[inline(always)]
     pub fn type_near(&self, slot: u32, name: &Name, cell: u32) -> Option<u16>
         requires { IsInUse self.now.slots slot }
@@ -234,16 +225,6 @@ impl SetSlots {
     {
         written_reads_back();
         part_at(&self.region, &self.slots, slot, at, buffer)
-    }
-
-    /// The same of those among the first 32 octets of the set, lent.
-    pub fn policy_front(&self, slot: u32, at: usize) -> &[u8]
-        requires { IsInUse self.now.slots slot }
-        ensures { (kept : Kept) → IsKept self.now.slots slot kept → PolicyIsAt kept.set at
-            → IsPart result.now (take (32 - at) (from_policy kept.set)) kept.set }
-    {
-        written_reads_back();
-        front_part(&self.region, &self.slots, slot, at)
     }
 
     /// The octets of a slot's set from a place on, up to the end of the 32 among which the place is,
@@ -414,25 +395,6 @@ pub(crate) fn two_at(region: &Region, slots: &Vec<Slot>, slot: u32, offset: usiz
     let mut two = [0; 2];
     region.read_at(Handle::of(cell_at(slots, slot)), offset, &mut two);
     two
-}
-
-/// The first 32 octets of a slot's set from a place on, lent.
-fn front_part<'a>(region: &'a Region, slots: &Vec<Slot>, slot: u32, at: usize) -> &'a [u8]
-    requires { (octets : List ℕ) × HoldsAt region.now.held slots.now.items slot octets }
-    ensures { (octets : List ℕ) → HoldsAt region.now.held slots.now.items slot octets
-        → result.now ≡ drop at (take 32 octets) }
-{
-    rest_from(front_at(region, slots, slot), at)
-}
-
-/// What stands from a place on, which may be past the end.
-fn rest_from(octets: &[u8], at: usize) -> &[u8]
-    ensures { result.now ≡ drop at octets.now }
-{
-    if at > octets.len() {
-        return &[];
-    }
-    behind(octets, at)
 }
 
 /// The octets of a slot's set from a place on, as many as a buffer has room for.

@@ -6,8 +6,9 @@ ghost use Rattle.set_store.specs.Index.{new_slot};
 
 use std::marker::Model;
 
-/// The cell of a slot that is free. No handle has this number, since there are fewer cells.
-pub(crate) const NO_CELL: u32 = 0x7ff_ffff;
+/// The cell of a slot that is free, and a hint that tells none. No handle has this number, since
+/// there are fewer cells.
+pub const NO_CELL: u32 = 0x7ff_ffff;
 
 /// The tag of a slot that is free, which no name has.
 const NO_TAG: u32 = 31;

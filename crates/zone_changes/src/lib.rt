@@ -9,8 +9,8 @@ mod sums;
 pub use single::{come, go};
 pub use sums::{Sums, no_sums};
 pub use zone_order::{
-    Name, RType, RecordSet, Scratch, SetKey, SetList, SetSlots, Stop, Watch, ZoneSets, before_key,
-    behind_key, behind_text, cells_for, closest_in, count_before, exists_in, fields_are_read, find,
-    group_in, has_spelling, hash_of, key_cmp, keys_are_ordered, make_room, of_zone, region_at,
-    set_len, sets_in_order, sets_near, sub_at, take_at,
+    NO_CELL, Name, RType, RecordSet, Scratch, SetKey, SetList, SetSlots, Stop, Watch, ZoneSets,
+    before_key, behind_key, behind_text, cells_for, closest_in, count_before, exists_in,
+    fields_are_read, find, group_in, has_spelling, hash_of, key_cmp, keys_are_ordered, make_room,
+    of_zone, region_at, set_len, sets_in_order, sets_near, sub_at, take_at,
 };

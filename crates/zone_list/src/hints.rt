@@ -12,13 +12,10 @@ use crate::shifts::Shifts;
 use crate::waymarks::Waymarks;
 use octets::{behind, front, put_at};
 use std::alloc::Global;
-use zone_changes::{SetSlots, hash_of};
+use zone_changes::{NO_CELL, SetSlots, hash_of};
 
 /// An entry that tells nothing.
 const NOTHING: u32 = 0xffff_ffff;
-
-/// The cell that an entry tells of which has none.
-const NO_CELL: u32 = 0xffff_ffff;
 
 /// How many entries in a row are tried.
 const TRIES: usize = 16;

@@ -5,11 +5,8 @@ ghost use Rattle.set_store.specs.RecordSetRecord.{RecordSet};
 ghost use Rattle.zone_order.specs.Orders.{IsOrder, slotted_of};
 ghost use Rattle.set_store.specs.Slotted.{AreOfZone, IsSlotAt, sets_of};
 
-use set_store::{Name, RType, Scratch, SetList, SetSlots, Stop};
+use set_store::{NO_CELL, Name, RType, Scratch, SetList, SetSlots, Stop};
 use std::marker::Model;
-
-/// The number of no cell.
-const NO_CELL: u32 = 0xffff_ffff;
 
 /// The sets of a zone, in its order.
 #[derive(Drop)]

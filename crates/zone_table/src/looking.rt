@@ -318,21 +318,6 @@ pub fn policy<'a>(
     store.policy(set.slot, at, buffer)
 }
 
-/// The same of those among the first 32 octets of the set, lent.
-pub fn policy_front<'a>(
-    store: &'a SetSlots,
-    list: &[StoredZone],
-    set: SetRef,
-    at: usize,
-) -> &'a [u8]
-    requires kept { AreIntact store.now.slots list.now }
-    requires named { (named : RecordSet) × RefersTo (zones_in store.now.slots list.now) set named }
-    ensures { (named : RecordSet) → RefersTo (zones_in store.now.slots list.now) set named
-        → PolicyIsAt named at → IsPart result.now (take (32 - at) (from_policy named)) named }
-{
-    store.policy_front(set.slot, at)
-}
-
 /// The octets of the set that a reference names from a place on, up to the end of the 32 among which
 /// the place is, lent.
 pub fn piece<'a>(store: &'a SetSlots, list: &[StoredZone], set: SetRef, place: usize) -> &'a [u8]

@@ -24,8 +24,7 @@ ghost use Rattle.zone_list.specs.Stops.{bound_of as told};
 use crate::edits::{Ready, ZoneEdit};
 use crate::looking::{
     apex_of, copies, has_name, hint_of, hint_or, is_below, load, may_have_cuts, order_of, piece,
-    policy, policy_front, slot_at, slot_behind, slot_in, slots_of, sums_in, target, view_near,
-    watch, zone_sets,
+    policy, slot_at, slot_behind, slot_in, slots_of, sums_in, target, view_near, watch, zone_sets,
 };
 use crate::making::{make, note_name, settle, settle_all};
 use crate::needs::{need_of, reserve_for, reserve_name};
@@ -348,15 +347,6 @@ impl Zones {
             → IsPart result.now (take (length buffer.old) (from_policy named)) named }
     {
         policy(&self.store, &self.list, set, at, buffer)
-    }
-
-    /// The same of those among the first 32 octets of the set, lent.
-    pub fn policy_front(&self, set: SetRef, at: usize) -> &[u8]
-        requires { (named : RecordSet) × RefersTo self.now.zones set named }
-        ensures { (named : RecordSet) → RefersTo self.now.zones set named → PolicyIsAt named at
-            → IsPart result.now (take (32 - at) (from_policy named)) named }
-    {
-        policy_front(&self.store, &self.list, set, at)
     }
 
     /// The octets of the set that a reference names from a place on, up to the end of the 32 among
