@@ -47,6 +47,11 @@ abbrev pub piece_of : (known : Option (List ℕ)) → (place : ℕ) → List ℕ
 piece_of None place = []
 piece_of (Some octets) place = take (32 - place % 32) (drop place octets)
 
+-- the same up to the end of the 32 behind those
+abbrev pub pieces_of : (known : Option (List ℕ)) → (place : ℕ) → List ℕ
+pieces_of None place = []
+pieces_of (Some octets) place = take (64 - place % 32) (drop place octets)
+
 -- What `copy_to` answers and leaves: all octets, in front of those that were there.
 abbrev pub Copies : (known : Option (List ℕ)) → (old : List ℕ) → Option ℕ → (new : List ℕ) → Type 0
 Copies None old answer new = (answer ≡ None) × (new ≡ old)

@@ -6,6 +6,7 @@ ghost use Rattle.octet_region.specs.Cells.{cells_for, next_at, octets_at};
 ghost use Rattle.octet_region.specs.Chains.{HasCells, octets_in};
 ghost use Rattle.octet_region.specs.Shape.{octets_of, AreWhole, IsChain};
 ghost use Rattle.octet_region.specs.Stored.{Copies, CopiesFrom, StandsAt, front_of, length_of, piece_of};
+ghost use Rattle.octet_region.specs.Stored.{pieces_of};
 
 use crate::cells::{CELL, Cell, is_same, mark_of, next_at, octets_at};
 use octets::{behind, front, put_at};
@@ -59,6 +60,57 @@ fn piece_within(cells: &[Cell], first: u32, size: usize, place: usize) -> &[u8]
     }
     let (cell, left, from) = skip_to(cells, first, size, place);
     behind(front(octets_at(cells, cell), left.min(CELL)), from)
+}
+
+/// The octets of a handle from a place on, up to the end of the cell behind the one in which the
+/// place is: those in the one cell, and those in the other.
+#[inline(always)]
+pub(crate) fn pieces_at(cells: &[Cell], first: u32, place: usize) -> (&[u8], &[u8])
+    requires { AreWhole cells.now }
+    ensures { result.0.now ++ result.1.now ≡ pieces_of (octets_of cells.now first) place }
+{
+    let Some(size) = size_at(cells, first) else {
+        return (&[], &[]);
+    };
+    pieces_within(cells, first, size, place)
+}
+
+/// The same of a chain of so many octets.
+#[inline(always)]
+fn pieces_within(cells: &[Cell], first: u32, size: usize, place: usize) -> (&[u8], &[u8])
+    requires inside { HasCells cells.now size first }
+    requires whole { length (octets_in cells.now size first) ≡ size }
+    ensures { result.0.now ++ result.1.now
+        ≡ pieces_of (Some (octets_in cells.now size first)) place }
+{
+    if place >= size {
+        return (&[], &[]);
+    }
+    if place < CELL {
+        return pieces_from(cells, first, size, place);
+    }
+    let (cell, left, from) = skip_to(cells, first, size, place);
+    pieces_from(cells, cell, left, from)
+}
+
+/// The same from a place in the first cell of a chain on.
+#[inline(always)]
+fn pieces_from(cells: &[Cell], first: u32, size: usize, from: usize) -> (&[u8], &[u8])
+    requires inside { HasCells cells.now size first }
+    requires whole { length (octets_in cells.now size first) ≡ size }
+    requires near { from < 32 }
+    requires within { from < size }
+    ensures { result.0.now ++ result.1.now
+        ≡ take (64 - from) (drop from (octets_in cells.now size first)) }
+{
+    if size <= CELL {
+        return (behind(front(octets_at(cells, first), size), from), &[]);
+    }
+    let next = next_at(cells, first);
+    (
+        behind(octets_at(cells, first), from),
+        front(octets_at(cells, next), (size - CELL).min(CELL)),
+    )
 }
 
 /// Whether the octets of a handle go on with others from a place on.

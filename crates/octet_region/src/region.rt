@@ -1,16 +1,17 @@
 //! Octets by handles, and the cells that are free.
 
-ghost use Rattle.std.specs.Prelude.{◌≡◌, ◌≢◌, ◌≤◌, ◌<◌, ◌+◌, ◌-◌, ◌^◌, ℕ, List, length, max};
+ghost use Rattle.std.specs.Prelude.{◌≡◌, ◌≢◌, ◌≤◌, ◌<◌, ◌+◌, ◌-◌, ◌^◌, ◌++◌, ℕ, List, length, max};
 ghost use Rattle.std.specs.Prelude.{None, Some, IsOk, MatchResult};
 ghost use Rattle.std.specs.FinMap as map;
 ghost use Rattle.octet_region.specs.Cells.{cells_for};
 ghost use Rattle.octet_region.specs.Stored.{Copies, Frees, CopiesFrom, StandsAt, front_of, length_of, piece_of};
+ghost use Rattle.octet_region.specs.Stored.{pieces_of};
 
 use crate::Handle;
 use crate::cells::{Cell, cells_for, mark_of};
 use crate::chains::{free_along, put_along};
 use crate::growth::{give_cells, make_room};
-use crate::reads::{copy_part, copy_whole, front_at, piece_at, size_at, stand_at};
+use crate::reads::{copy_part, copy_whole, front_at, piece_at, pieces_at, size_at, stand_at};
 use octets::OutOfMemory;
 use std::alloc::Global;
 use std::marker::Model;
@@ -167,6 +168,14 @@ impl Region {
         ensures { result.now ≡ piece_of (map.get self.now.held handle) place }
     {
         piece_at(&self.cells, handle.first, place)
+    }
+
+    /// The same up to the end of the 32 behind those, in two parts, one behind the other: from two
+    /// places in the octets of one handle this takes less than two pieces.
+    pub fn pieces(&self, handle: Handle, place: usize) -> (&[u8], &[u8])
+        ensures { result.0.now ++ result.1.now ≡ pieces_of (map.get self.now.held handle) place }
+    {
+        pieces_at(&self.cells, handle.first, place)
     }
 
     /// Fills others with the octets of a handle from a place on. `false`, and nothing is written,
