@@ -120,9 +120,9 @@ pub no_bits : (a b : IpAddress) → number_of a < 2 ^ 128 → number_of b < 2 ^ 
     → first_bits 0 a ≡ first_bits 0 b
 no_bits a b x y = gone (number_of a) 128 x ∙ sym (gone (number_of b) 128 y)
 
--- two addresses that share the first d bits and differ in the 32 behind those
+-- two addresses that share the first d bits, by what they share of the 32 behind those
 module _ (d : ℕ) (a b : IpAddress) (low : d ≤ 96) (same : first_bits d a
-    ≡ first_bits d b) (differ : window d a ≡ window d b → ⊥)
+    ≡ first_bits d b)
     (r : ℕ) (is : (m : ℕ) → m ≤ 32
     → (d + m ≤ r ↔ (window d a / 2 ^ (32 - m) ≡ window d b / 2 ^ (32 - m)))) where
   none : window d a / 2 ^ 32 ≡ window d b / 2 ^ 32
@@ -142,25 +142,30 @@ module _ (d : ℕ) (a b : IpAddress) (low : d ≤ 96) (same : first_bits d a
         ∙ in_window d m b low few)),
   )
 
-  beyond : (n : ℕ) → d + 32 ≤ n → first_bits n a ≡ first_bits n b → ⊥
-  beyond n h e =
-      let long : 128 - (d + 32) ≡ 96 - d = omega arith in
-      differ (ap (λ x. x % 2 ^ 32)
-      (subst (λ k. number_of a / 2 ^ k ≡ number_of b / 2 ^ k) long (fewer (d + 32) n a b h e)))
-
-  at_most : d + 32 ≤ r → ⊥
-  at_most h = differ (omega (arith, (is 32 (omega arith)).0 h))
-
-  pub shared_windows : (n : ℕ) → n ≤ 128 → (n ≤ r ↔ (first_bits n a ≡ first_bits n b))
-  shared_windows n top = elim (cases_lt n d) [
+  pub shared_within : (n : ℕ) → n ≤ d + 32 → (n ≤ r ↔ (first_bits n a ≡ first_bits n b))
+  shared_within n top = elim (cases_lt n d) [
     | inl few ↦ (λ h. fewer n d a b (omega arith) same, λ e. omega (arith, at_least))
-    | inr from ↦ elim (cases_lt n (d + 32)) [
-      | inl to ↦
-          let at : d + (n - d) ≡ n = omega arith in
-          subst (λ k. k ≤ r ↔ (first_bits k a ≡ first_bits k b)) at (inside (n - d) (omega arith))
+    | inr from ↦
+        let at : d + (n - d) ≡ n = omega arith in
+        subst (λ k. k ≤ r ↔ (first_bits k a ≡ first_bits k b)) at (inside (n - d) (omega arith))
+  ]
+
+  -- they differ in the 32
+  module _ (differ : window d a ≡ window d b → ⊥) where
+    beyond : (n : ℕ) → d + 32 ≤ n → first_bits n a ≡ first_bits n b → ⊥
+    beyond n h e =
+        let long : 128 - (d + 32) ≡ 96 - d = omega arith in
+        differ (ap (λ x. x % 2 ^ 32)
+        (subst (λ k. number_of a / 2 ^ k ≡ number_of b / 2 ^ k) long (fewer (d + 32) n a b h e)))
+
+    at_most : d + 32 ≤ r → ⊥
+    at_most h = differ (omega (arith, (is 32 (omega arith)).0 h))
+
+    pub shared_windows : (n : ℕ) → n ≤ 128 → (n ≤ r ↔ (first_bits n a ≡ first_bits n b))
+    shared_windows n top = elim (cases_lt n (d + 32)) [
+      | inl to ↦ shared_within n (omega arith)
       | inr over ↦ (λ h. absurd (at_most (omega arith)), λ e. absurd (beyond n over e))
     ]
-  ]
 
 -- the highest of 128 bits, moved down
 top_bit : (m : ℕ) → m ≤ 127 → 2 ^ 127 / 2 ^ m ≡ 2 ^ (127 - m)

@@ -1,12 +1,13 @@
 -- One fork more on the way of a walk.
-use Rattle.std.proofs.Common.{◌≡◌, ℕ, ◌+◌, ◌-◌, ◌*◌, ◌%◌, ◌<◌, ◌≤◌, ◌⊎◌, ◌↔◌, List, length, max, sym, ap, ◌∙◌, subst, inl, inr, arith}
+use Rattle.std.proofs.Common.{Bool, true, false, not, cond, refl, ◌≡◌, ℕ, ◌+◌, ◌-◌, ◌*◌, ◌%◌, ◌<◌, ◌≤◌, ◌⊎◌, ◌↔◌, List, length, max, sym, ap, ◌∙◌, subst, inl, inr, arith}
 use Rattle.std.proofs.lemmas.Bool.{cases_lt, cases_eq}
 use Rattle.address_text.specs.declared.address.IpAddress.{IpAddress}
 use Rattle.ip_table.specs.declared.tree.Fork.{Fork}
 use Rattle.ip_table.specs.declared.tree.Walked.{Walked}
 use Rattle.ip_table.specs.Bits.{width_of, first_bits, SharesFirst}
-use Rattle.ip_table.specs.Prefixes.{Prefix}
-use Rattle.ip_table.specs.Trees.{prefix_at, fork_at, here, child, bit_behind, IsChild, IsFork, IsTree, StandsBelow, AllPrefixes, IsTrueOf, IsDone, GoesOn}
+use Rattle.ip_table.specs.Prefixes.{Prefix, Covers}
+use Rattle.ip_table.specs.Trees.{prefix_at, fork_at, here, child, child_pair, bit_behind, IsChild, IsFork, IsTree, StandsBelow, AllPrefixes, IsTrueOf, IsDone, GoesOn}
+use Rattle.ip_table.specs.Visits.{IsVisit}
 use Rattle.ip_table.proofs.FirstBits.{halves, one_more, fewer, shares_fewer}
 use Rattle.ip_table.proofs.Sightings.{done_past, sound_past}
 use Rattle.ip_table.proofs.Walks.{Here, On, shallow, row_bits, ways}
@@ -30,6 +31,52 @@ same_way prefixes forks a width at ok fork is shared same =
       ap (λ (n : Fork). n.depth) is,
       ap (λ (n : Fork). (prefix_at prefixes n.row).length) is,
     )))
+
+other_bit : (on : Bool) → cond (not on) 1 0 ≡ 1 - cond on 1 0
+other_bit true = refl
+other_bit false = refl
+
+-- a row that shares fewer bits than it has doesn't contain the address
+pub not_here : (prefixes : List Prefix) (forks : List Fork) (a : IpAddress) (width at : ℕ)
+    → IsFork prefixes forks width at → (fork : Fork)
+    → fork ≡ fork_at forks at
+    → (shared : ℕ) → ((n : ℕ) → n ≤ (prefix_at prefixes fork.row).length
+    → (n ≤ shared ↔ (first_bits n (prefix_at prefixes fork.row).address ≡ first_bits n a)))
+    → shared < fork.long → Covers (here prefixes forks at) a → ⊥
+not_here prefixes forks a width at ok fork is shared same less c =
+    let e : (prefix_at prefixes fork.row).length ≤ shared =
+    (same (prefix_at prefixes fork.row).length (omega arith)).1
+    (subst (λ (n : Fork). first_bits (prefix_at prefixes n.row).length
+    (prefix_at prefixes n.row).address ≡ first_bits (prefix_at prefixes n.row).length a) (sym is)
+    c.bits) in
+    omega (
+      arith,
+      e,
+      less,
+      ok.long,
+      ap (λ (n : Fork). n.long) is,
+      ap (λ (n : Fork). (prefix_at prefixes n.row).length) is,
+    )
+
+-- what a fork tells of the one to which the next bit leads, and of the other one
+module _ (forks : List Fork) (a : IpAddress) (at : ℕ) (fork : Fork) (is : fork ≡ fork_at forks at)
+    (on : Bool) (depth : ℕ) (level : depth ≡ (fork_at forks at).depth)
+    (bit : cond on 1 0 ≡ bit_behind depth a) where
+  bit_is : cond on 1 0 ≡ bit_behind (fork_at forks at).depth a
+  bit_is = bit ∙ ap (λ d. bit_behind d a) level
+
+  pub next_pair : (w : ℕ) → w ≡ child_pair fork (cond on 1 0)
+      → w ≡ child_pair (fork_at forks at) (bit_behind (fork_at forks at).depth a)
+  next_pair w e =
+      e ∙ ap (λ (n : Fork). child_pair n (cond on 1 0)) is
+      ∙ ap (child_pair (fork_at forks at)) bit_is
+
+  pub other_pair : (w : ℕ) → w ≡ child_pair fork (cond (not on) 1 0)
+      → w ≡ child_pair (fork_at forks at) (1 - bit_behind (fork_at forks at).depth a)
+  other_pair w e =
+      e ∙ ap (child_pair fork) (other_bit on)
+      ∙ ap (λ (n : Fork). child_pair n (1 - cond on 1 0)) is
+      ∙ ap (λ b. child_pair (fork_at forks at) (1 - b)) bit_is
 
 module _ (prefixes : List Prefix) (forks : List Fork) (a : IpAddress) (all : AllPrefixes prefixes)
     (tree : IsTree prefixes forks (width_of a))
@@ -63,6 +110,32 @@ module _ (prefixes : List Prefix) (forks : List Fork) (a : IpAddress) (all : All
             | inr more ↦ covers_not row s walked.past more shares
           ];
         }
+
+    pub turned : (old : Walked) → IsTrueOf prefixes a walked
+        → ((r : ℕ) → IsDone prefixes a old r → IsDone prefixes a walked r)
+        → IsVisit prefixes forks a at old (record { walked = walked; next = 0; depth = 0 })
+    turned old s keeps = record {
+      goes = λ (some : 0 < 0). absurd (omega arith);
+      depth = λ (some : 0 < 0). absurd (omega arith);
+      sound = s;
+      each = λ row h family before. elim before [
+        | inl ahead ↦ inr (done_aside row ahead)
+        | inr over ↦ inr (keeps row over)
+      ];
+    }
+
+  -- A row on the way that doesn't contain the address shares more bits than the fork is deep.
+  pub past_deep : (first_bits (fork_at forks at).depth (here prefixes forks at).address
+      ≡ first_bits (fork_at forks at).depth a) → (walked : Walked)
+      → IsDone prefixes a walked (fork_at forks at).row
+      → (Covers (here prefixes forks at) a → ⊥) → (fork_at forks at).depth < walked.past
+  past_deep way walked done not = elim (cases_lt (fork_at forks at).depth walked.past) [
+    | inl deep ↦ deep
+    | inr few ↦ absurd (done.apart not record {
+      family = (tree.each at within).family;
+      bits = fewer walked.past (fork_at forks at).depth (here prefixes forks at).address a few way;
+    })
+  ]
 
   -- The address has the bits that all rows here and below have in common.
   module _ (way : first_bits (fork_at forks at).depth (here prefixes forks at).address
@@ -130,6 +203,7 @@ module _ (prefixes : List Prefix) (forks : List Fork) (a : IpAddress) (all : All
         record {
           within = kid.within;
           deeper = kid.deeper;
+          start = kid.start;
           meets = fewer (fork_at forks next).start d own a kid.start begin;
         }
 
@@ -195,3 +269,20 @@ module _ (prefixes : List Prefix) (forks : List Fork) (a : IpAddress) (all : All
             ]
           ]
         ]
+
+    pub visited : (old : Walked) (deep : ℕ)
+        → deep ≡ child_pair (fork_at forks at) (bit_behind (fork_at forks at).depth a) % 256
+        → IsTrueOf prefixes a mid → IsDone prefixes a mid (fork_at forks at).row
+        → ((r : ℕ) → IsDone prefixes a old r → IsDone prefixes a mid r)
+        → IsVisit prefixes forks a at old (record { walked = new; next = next; depth = deep })
+    visited old deep is s done keeps = record {
+      goes = goes;
+      depth = λ (some : 0 < next).
+          let bit = bit_behind (fork_at forks at).depth a in
+          let kid : IsChild prefixes forks at bit next =
+          subst (λ i. IsChild prefixes forks at bit i) (sym next_is)
+          ((tree.each at within).children bit (omega arith) (subst (λ i. 0 < i) next_is some)) in
+          is ∙ kid.child_depth;
+      sound = sound s;
+      each = λ row h family before. each old done keeps row h before;
+    }

@@ -51,6 +51,16 @@ module _ (prefixes : List Prefix) (forks : List Fork) (width : ℕ) (all : AllPr
       let prefix = all (fork_at forks at).row fork.row in
       omega (arith, fork.depth, prefix.within, width_low (here prefixes forks at).address)
 
+  -- in a tree of IPv4 no row is longer than 32 bits, and no fork is deeper
+  pub narrow : (at : ℕ) → at < length forks → width ≡ 32
+      → ((here prefixes forks at).length ≤ 32) × ((fork_at forks at).depth ≤ 32)
+  narrow at h is =
+      let fork = tree.each at h in
+      let prefix = all (fork_at forks at).row fork.row in (
+        omega (arith, prefix.within, fork.family, is),
+        omega (arith, fork.depth, prefix.within, fork.family, is),
+      )
+
   -- the bits of a fork below, by which its way begins
   pub turn : (above bit at : ℕ) → above < length forks → bit < 2
       → 0 < child (fork_at forks above) bit

@@ -5,6 +5,7 @@ pub mod Prefixes
 pub mod Rows
 pub mod Tables
 pub mod Trees
+pub mod Visits
 pub use Rattle.address_text.specs.AddressOfText
 pub use Rattle.address_text.specs.Laws as LawsOfAddressText
 pub use Rattle.address_text.specs.Spelling

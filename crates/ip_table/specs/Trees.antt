@@ -151,6 +151,7 @@ pub record GoesOn (prefixes : List Prefix) (forks : List Fork) (address : IpAddr
     (above at : ℕ) : Type 0 where
   pub within : at < length forks
   pub deeper : (fork_at forks above).depth < (fork_at forks at).depth
+  pub start : (fork_at forks at).start ≤ (fork_at forks above).depth
   pub meets : SharesBits prefixes forks address at
 
 -- No two rows have one prefix.

@@ -69,7 +69,7 @@ pub(crate) fn has_bit(depth: u8, number: u128) -> bool
 
 /// The first 64 of 128 bits.
 #[inline(always)]
-fn first_half(number: u128) -> u64
+pub(crate) fn first_half(number: u128) -> u64
     ensures { result ≡ number / 2 ^ 64 }
 {
     (number >> 64) as u64
@@ -77,7 +77,7 @@ fn first_half(number: u128) -> u64
 
 /// Whether the bit behind the first ones is set, of 64 bits.
 #[inline(always)]
-fn has_bit_of_half(depth: u8, half: u64) -> bool
+pub(crate) fn has_bit_of_half(depth: u8, half: u64) -> bool
     requires { depth < 64 }
     ensures { cond result 1 0 ≡ half / 2 ^ (63 - depth) % 2 }
 {
@@ -98,7 +98,7 @@ pub(crate) fn window_of(depth: u8, number: u128) -> u32
 
 /// The 32 bits behind the first ones, of 64 bits.
 #[inline(always)]
-fn window_of_half(depth: u8, half: u64) -> u32
+pub(crate) fn window_of_half(depth: u8, half: u64) -> u32
     requires { depth ≤ 32 }
     ensures { result ≡ half / 2 ^ (32 - depth) % 2 ^ 32 }
 {
@@ -107,6 +107,7 @@ fn window_of_half(depth: u8, half: u64) -> u32
 
 /// How many first bits two addresses have in common that differ in the 32 bits behind the first
 /// ones.
+#[inline(always)]
 pub(crate) fn shared_before(depth: u8, a: u32, b: u32) -> u8
     requires { depth ≤ 96 }
     ensures { (m : ℕ) → m ≤ 32 → (depth + m ≤ result ↔ (a / 2 ^ (32 - m) ≡ b / 2 ^ (32 - m))) }

@@ -1,12 +1,16 @@
 //! The walk from the root along an address's bits.
 
-ghost use Rattle.std.specs.Prelude.{◌≡◌, ℕ, ◌+◌, ◌<◌, ◌≤◌, ◌⊎◌, length, IsTrue, ◌↔◌, max, None, cond};
+ghost use Rattle.std.specs.Prelude.{◌≡◌, ℕ, ◌+◌, ◌/◌, ◌^◌, ◌<◌, ◌≤◌, ◌⊎◌, length, IsTrue, ◌↔◌, max, None, cond};
 ghost use Rattle.ip_table.specs.Bits.{width_of, number_of, first_bits};
 ghost use Rattle.ip_table.specs.Prefixes.{IsPrefix};
-ghost use Rattle.ip_table.specs.Trees.{HasPrefix, AllPrefixes, IsTree, SharesBits, IsTrueOf, IsDone, SumsUp, StandsBelow, AllStand, GoesOn, fork_at, prefix_at, child_pair, child, window};
+ghost use Rattle.ip_table.specs.Trees.{HasPrefix, AllPrefixes, IsTree, SharesBits, IsTrueOf, IsDone, SumsUp, AllStand, fork_at, prefix_at, child_pair, child, bit_behind, window};
+ghost use Rattle.ip_table.specs.Visits.{IsVisit};
 
 use crate::IpPrefix;
-use crate::bits::{bit_of, has_bit, number_of, shared_before, shared_bits, window_of};
+use crate::bits::{
+    bit_of, first_half, has_bit, has_bit_of_half, number_of, shared_before, shared_bits, width_of,
+    window_of, window_of_half,
+};
 use crate::tree::{Fork, Walked};
 use crate::walked::{prefix_of, with_past, with_row};
 use address_text::IpAddress;
@@ -21,6 +25,7 @@ pub struct Visited {
 }
 
 /// Visits a fork on the way along the bits of an address.
+#[inline(always)]
 fn at_fork(
     prefixes: &[IpPrefix],
     forks: &[Fork],
@@ -37,37 +42,100 @@ fn at_fork(
     requires depth { depth ≡ (fork_at forks.now at).depth }
     requires meets { SharesBits prefixes.now forks.now address at }
     requires sound { IsTrueOf prefixes.now address walked }
-    ensures goes { 0 < result.next → GoesOn prefixes.now forks.now address at result.next }
-    ensures depth { 0 < result.next → result.depth ≡ (fork_at forks.now result.next).depth }
-    ensures sound { IsTrueOf prefixes.now address result.walked }
-
-    // A row that was ahead is ahead still, or done.
-    ensures each { (row : ℕ) → row < length prefixes.now
-        → width_of (prefix_at prefixes.now row).address ≡ width_of address
-        → StandsBelow forks.now at row ⊎ IsDone prefixes.now address walked row
-        → ((0 < result.next) × StandsBelow forks.now result.next row)
-        ⊎ IsDone prefixes.now address result.walked row }
+    ensures { IsVisit prefixes.now forks.now address at walked result }
 {
     let fork = fork_of(forks, at);
     let shared = shared_at(prefixes, fork, address, number);
-    let here = with_row(prefixes, fork.row, fork.long, shared, address, walked);
+    let on = has_bit(depth, number);
+    visit(
+        prefixes, forks, at, fork, shared, on, depth, address, walked,
+    )
+}
+
+/// Visits a fork of IPv4 on the way along the bits of an address, by the first half of its number.
+#[inline(always)]
+fn at_fork_of_v4(
+    prefixes: &[IpPrefix],
+    forks: &[Fork],
+    at: u32,
+    depth: u8,
+    address: IpAddress,
+    half: u64,
+    walked: Walked,
+) -> Visited
+    requires prefixes { AllPrefixes prefixes.now }
+    requires tree { IsTree prefixes.now forks.now (width_of address) }
+    requires family { width_of address ≡ 32 }
+    requires half { half ≡ number_of address / 2 ^ 64 }
+    requires at { at < length forks.now }
+    requires depth { depth ≡ (fork_at forks.now at).depth }
+    requires start { (fork_at forks.now at).start ≤ 32 }
+    requires meets { SharesBits prefixes.now forks.now address at }
+    requires sound { IsTrueOf prefixes.now address walked }
+    ensures { IsVisit prefixes.now forks.now address at walked result }
+{
+    let fork = fork_of(forks, at);
+    let shared = shared_in_half(prefixes, fork, address, half);
+    let on = has_bit_of_half(depth, half);
+    visit(
+        prefixes, forks, at, fork, shared, on, depth, address, walked,
+    )
+}
+
+/// Visits a fork on the way along the bits of an address: of those the row there shares so many, and
+/// the one behind the fork's is set or not.
+///
+/// Where the row doesn't contain the address, it shares no fewer bits than the rows that stand aside
+/// from the way: those needn't be asked for then.
+#[inline(always)]
+fn visit(
+    prefixes: &[IpPrefix],
+    forks: &[Fork],
+    at: u32,
+    fork: Fork,
+    shared: u8,
+    on: bool,
+    depth: u8,
+    address: IpAddress,
+    walked: Walked,
+) -> Visited
+    requires prefixes { AllPrefixes prefixes.now }
+    requires tree { IsTree prefixes.now forks.now (width_of address) }
+    requires at { at < length forks.now }
+    requires fork { fork ≡ fork_at forks.now at }
+    requires shared { (n : ℕ) → n ≤ (prefix_at prefixes.now fork.row).length
+        → (n ≤ shared ↔ (first_bits n (prefix_at prefixes.now fork.row).address
+        ≡ first_bits n address)) }
+    requires depth { depth ≡ (fork_at forks.now at).depth }
+    requires on { cond on 1 0 ≡ bit_behind depth address }
+    requires sound { IsTrueOf prefixes.now address walked }
+    ensures { IsVisit prefixes.now forks.now address at walked result }
+{
     if shared < depth {
         return Visited {
-            walked: here,
+            walked: with_row(prefixes, fork.row, fork.long, shared, address, walked),
             next: 0,
             depth: 0,
         };
     }
-    let on = has_bit(depth, number);
     let child_pair = word_of(fork, on);
+    if shared < fork.long {
+        return Visited {
+            walked: with_row(prefixes, fork.row, fork.long, shared, address, walked),
+            next: child_pair >> 8,
+            depth: (child_pair % 256) as u8,
+        };
+    }
+    let here = with_row(prefixes, fork.row, fork.long, shared, address, walked);
     Visited {
         walked: with_other(word_of(fork, !on) >> 8, depth, here),
         next: child_pair >> 8,
-        depth: (child_pair & 0xff) as u8,
+        depth: (child_pair % 256) as u8,
     }
 }
 
 /// What a fork tells of the one to which a bit leads, be it set or not.
+#[inline(always)]
 fn word_of(fork: Fork, on: bool) -> u32
     ensures { result ≡ child_pair fork (cond on 1 0) }
 {
@@ -97,6 +165,23 @@ fn shared_at(prefixes: &[IpPrefix], fork: Fork, address: IpAddress, number: u128
         return fork.long;
     }
     shared_bits(prefix_of(prefixes, fork.row).address(), address)
+}
+
+/// How many first bits the row at a fork of IPv4 shares with an address that has those before its
+/// window.
+#[inline(always)]
+fn shared_in_half(prefixes: &[IpPrefix], fork: Fork, address: IpAddress, half: u64) -> u8
+    requires row { fork.row < length prefixes.now }
+    requires few { (prefix_at prefixes.now fork.row).length ≤ 32 }
+    requires low { fork.start ≤ 32 }
+    requires meets { first_bits fork.start (prefix_at prefixes.now fork.row).address
+        ≡ first_bits fork.start address }
+    requires window { fork.window ≡ window fork.start (prefix_at prefixes.now fork.row).address }
+    requires half { half ≡ number_of address / 2 ^ 64 }
+    ensures { (n : ℕ) → n ≤ (prefix_at prefixes.now fork.row).length
+        → (n ≤ result ↔ (first_bits n (prefix_at prefixes.now fork.row).address ≡ first_bits n address)) }
+{
+    shared_before(fork.start, fork.window, window_of_half(fork.start, half))
 }
 
 /// Where rows stand aside from the way, the next bit is not shared.
@@ -142,6 +227,9 @@ pub(crate) fn sum_up(prefixes: &[IpPrefix], forks: &[Fork], address: IpAddress) 
     if forks.is_empty() {
         return nothing();
     }
+    if width_of(address) == 32 {
+        return walk_of_v4(prefixes, forks, address);
+    }
     walk(prefixes, forks, address)
 }
 
@@ -170,6 +258,31 @@ fn walk(prefixes: &[IpPrefix], forks: &[Fork], address: IpAddress) -> Walked
     let mut depth = 0;
     loop {
         let visited = at_fork(prefixes, forks, at, depth, address, number, walked);
+        walked = visited.walked;
+        if visited.next == 0 {
+            return walked;
+        }
+        at = visited.next;
+        depth = visited.depth;
+    }
+}
+
+/// Sums up all rows of IPv4 by a walk along an address's bits.
+fn walk_of_v4(prefixes: &[IpPrefix], forks: &[Fork], address: IpAddress) -> Walked
+    requires prefixes { AllPrefixes prefixes.now }
+    requires tree { IsTree prefixes.now forks.now (width_of address) }
+    requires all { AllStand prefixes.now forks.now (width_of address) (length prefixes.now) }
+    requires some { 0 < length forks.now }
+    requires family { width_of address ≡ 32 }
+    ensures { SumsUp prefixes.now address result }
+{
+    let number = number_of(address);
+    let half = first_half(number);
+    let mut walked = nothing();
+    let mut at = 0;
+    let mut depth = 0;
+    loop {
+        let visited = at_fork_of_v4(prefixes, forks, at, depth, address, half, walked);
         walked = visited.walked;
         if visited.next == 0 {
             return walked;

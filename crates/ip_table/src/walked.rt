@@ -11,6 +11,7 @@ use address_text::IpAddress;
 
 /// What has been seen with one more row of the address's family, of this length, that shares so
 /// many of its bits.
+#[inline(always)]
 pub(crate) fn with_row(
     prefixes: &[IpPrefix],
     row: u32,

@@ -11,7 +11,6 @@ returns-then-fork-window c = λ n h.
     let own = (prefix_at c.args.prefixes.now c.args.fork.row).address in
     let theirs = c.window_of-window.ensures c.args.address c.requires.number in
     shared_windows d own c.args.address c.requires.low c.requires.meets
-    (λ e. c.if-fork-window.true (c.requires.window ∙ e ∙ sym theirs))
     r
     (subst (λ w. (m : ℕ) → m ≤ 32
     → (d + m ≤ r ↔ (w / 2 ^ (32 - m) ≡ window d c.args.address / 2 ^ (32 - m))))
@@ -19,6 +18,7 @@ returns-then-fork-window c = λ n h.
     (subst (λ w. (m : ℕ) → m ≤ 32
     → (d + m ≤ r ↔ (c.args.fork.window / 2 ^ (32 - m) ≡ w / 2 ^ (32 - m)))) theirs
     c.shared_before.ensures))
+    (λ e. c.if-fork-window.true (c.requires.window ∙ e ∙ sym theirs))
     n (omega (arith, h, c.requires.prefix.within, width_low own))
 
 pub returns-then-fork : goal.returns-then-fork
