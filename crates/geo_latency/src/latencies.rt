@@ -3,7 +3,7 @@
 ghost use Rattle.std.specs.Prelude.{◌≡◌};
 ghost use Rattle.geo_latency.specs.Regions.{latency_of};
 
-use crate::same::{has_bytes, is_same_region};
+use crate::same::has_bytes;
 use routing::Region;
 use std::marker::Model;
 
@@ -37,6 +37,7 @@ impl Latencies {
     }
 
     /// The latency of the region of these bytes, where it is told. Bytes that no region has aren't.
+    #[inline(always)]
     pub fn latency_of_bytes(&self, bytes: &[u8]) -> Option<u32>
         ensures { result ≡ latency_of self.now bytes.now }
     {
@@ -48,15 +49,11 @@ impl Latencies {
 pub(crate) fn latency_in(rows: &[(Region, u32)], region: &Region) -> Option<u32>
     ensures { result ≡ latency_of rows.now region.now }
 {
-    for i in 0..rows.len() {
-        if is_same_region(&rows[i].0, region) {
-            return Some(rows[i].1);
-        }
-    }
-    None
+    latency_under(rows, region.bytes())
 }
 
 /// The first latency that is told of a region of these bytes.
+#[inline(always)]
 fn latency_under(rows: &[(Region, u32)], bytes: &[u8]) -> Option<u32>
     ensures { result ≡ latency_of rows.now bytes.now }
 {

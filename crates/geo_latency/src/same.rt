@@ -6,13 +6,6 @@ ghost use Rattle.std.specs.Str.{bytes_eq};
 
 use routing::{Region, Sub};
 
-/// Whether two regions have one name.
-pub(crate) fn is_same_region(region: &Region, other: &Region) -> bool
-    ensures { result ≡ bytes_eq region.now other.now }
-{
-    region == other
-}
-
 /// Whether these bytes are the name of a region. Those of most others end otherwise.
 #[inline(always)]
 pub(crate) fn has_bytes(region: &Region, bytes: &[u8]) -> bool
@@ -22,7 +15,16 @@ pub(crate) fn has_bytes(region: &Region, bytes: &[u8]) -> bool
     if last_byte(own) != last_byte(bytes) {
         return false;
     }
-    own == bytes
+    are_same(own, bytes)
+}
+
+/// Whether two texts are one. It stands by itself since few texts come to it: the walk over the
+/// others needs few registers then.
+#[inline(never)]
+fn are_same(text: &[u8], other: &[u8]) -> bool
+    ensures { result ≡ bytes_eq text.now other.now }
+{
+    text == other
 }
 
 /// The last byte, or 0 where there is none.
