@@ -13,7 +13,7 @@ ghost use Rattle.set_search.specs.Found.{IsOf, TypeOrNone};
 ghost use Rattle.set_search.specs.Stops.{bound_of};
 ghost use Rattle.set_store.specs.Packed.{Slot};
 ghost use Rattle.set_store.specs.Index.{HoldsAt};
-ghost use Rattle.set_store.specs.Policies.{PolicyIsAt, set_piece};
+ghost use Rattle.set_store.specs.Policies.{PolicyIsAt, set_piece, set_pieces};
 ghost use Rattle.set_store.specs.Servers.{server_labels};
 ghost use Rattle.set_store.specs.Stored.{IsKept, IsSpelling, IsInUse, Kept, Spells, zone_told};
 
@@ -238,6 +238,16 @@ impl SetSlots {
         piece_at(&self.region, &self.slots, slot, place)
     }
 
+    /// The same up to the end of the 32 behind those, in two parts, one behind the other.
+    pub fn pieces(&self, slot: u32, place: usize) -> (&[u8], &[u8])
+        requires { IsInUse self.now.slots slot }
+        ensures { (kept : Kept) → IsKept self.now.slots slot kept
+            → IsPart (result.0.now ++ result.1.now) (set_pieces kept.set place) kept.set }
+    {
+        written_reads_back();
+        pieces_at(&self.region, &self.slots, slot, place)
+    }
+
     /// The set of a slot.
     pub fn read(&self, alloc: Global, slot: u32) -> Result<RecordSet, OutOfMemory>
         requires { IsInUse self.now.slots slot }
@@ -368,6 +378,21 @@ fn piece_at<'a>(region: &'a Region, slots: &Vec<Slot>, slot: u32, place: usize) 
         → result.now ≡ take (32 - place % 32) (drop place octets) }
 {
     region.piece(Handle::of(cell_at(slots, slot)), place)
+}
+
+/// The same up to the end of the 32 behind those, in two parts, one behind the other.
+#[inline(always)]
+fn pieces_at<'a>(
+    region: &'a Region,
+    slots: &Vec<Slot>,
+    slot: u32,
+    place: usize,
+) -> (&'a [u8], &'a [u8])
+    requires { (octets : List ℕ) × HoldsAt region.now.held slots.now.items slot octets }
+    ensures { (octets : List ℕ) → HoldsAt region.now.held slots.now.items slot octets
+        → result.0.now ++ result.1.now ≡ take (64 - place % 32) (drop place octets) }
+{
+    region.pieces(Handle::of(cell_at(slots, slot)), place)
 }
 
 /// Whether the octets of a slot's set go on with others from a place on.

@@ -1,6 +1,6 @@
 //! A zone found by its number, with its sets in their order.
 
-ghost use Rattle.std.specs.Prelude.{◌≡◌, ◌≤◌, ◌<◌, ◌+◌, ◌-◌, ◌^◌, ℕ, length, slice_get, Some, IfOk};
+ghost use Rattle.std.specs.Prelude.{◌≡◌, ◌≤◌, ◌<◌, ◌+◌, ◌-◌, ◌^◌, ◌++◌, ℕ, length, slice_get, Some, IfOk};
 ghost use Rattle.std.specs.Prelude.{◌↔◌, IsTrue, List, drop, false, take};
 ghost use Rattle.zone_list.specs.FoundOfSetSearch.{IsBelowAt};
 ghost use Rattle.zone_list.specs.Stops.{bound_of};
@@ -9,7 +9,7 @@ ghost use Rattle.zone_list.specs.Kept.{AreIntact, named_of, zones_in};
 ghost use Rattle.zone_list.specs.Zones.{AreListed, placed_in};
 ghost use Rattle.zone_list.specs.Slotted.{IsSlotAt, sets_of};
 ghost use Rattle.zone_list.specs.Orders.{IsOrder, slotted_of};
-ghost use Rattle.zone_list.specs.Policies.{PolicyIsAt, set_piece};
+ghost use Rattle.zone_list.specs.Policies.{PolicyIsAt, set_piece, set_pieces};
 ghost use Rattle.zone_list.specs.Spelling.{IsPart, from_policy};
 ghost use Rattle.zone_table.specs.Counted.{AreCounted};
 ghost use Rattle.zone_table.specs.Looking.{HasNameAt, IsApex, Loads, ServersAreAt, SlotAt};
@@ -327,6 +327,21 @@ pub fn piece<'a>(store: &'a SetSlots, list: &[StoredZone], set: SetRef, place: u
         → IsPart result.now (set_piece named place) named }
 {
     store.piece(set.slot, place)
+}
+
+/// The same up to the end of the 32 behind those, in two parts, one behind the other.
+pub fn pieces<'a>(
+    store: &'a SetSlots,
+    list: &[StoredZone],
+    set: SetRef,
+    place: usize,
+) -> (&'a [u8], &'a [u8])
+    requires kept { AreIntact store.now.slots list.now }
+    requires named { (named : RecordSet) × RefersTo (zones_in store.now.slots list.now) set named }
+    ensures { (named : RecordSet) → RefersTo (zones_in store.now.slots list.now) set named
+        → IsPart (result.0.now ++ result.1.now) (set_pieces named place) named }
+{
+    store.pieces(set.slot, place)
 }
 
 /// What decides the health of the set that a reference names.

@@ -1,11 +1,11 @@
 //! The zones of a server: each look-up and each edit, one call a question.
 
-ghost use Rattle.std.specs.Prelude.{◌≡◌, ◌≢◌, ◌≤◌, ◌<◌, ◌+◌, ◌-◌, ◌%◌, ◌^◌, length, List, ℕ, []};
+ghost use Rattle.std.specs.Prelude.{◌≡◌, ◌≢◌, ◌≤◌, ◌<◌, ◌+◌, ◌-◌, ◌%◌, ◌^◌, ◌++◌, length, List, ℕ, []};
 ghost use Rattle.std.specs.Prelude.{IfOk, IsTrue, ◌↔◌, false, take};
 ghost use Rattle.zone_list.specs.Existing.{Exists, IsAncestor, IsClosest};
 ghost use Rattle.zone_list.specs.FoundOfSetSearch.{IsBelowAt};
 ghost use Rattle.zone_list.specs.Slotted.{sets_of};
-ghost use Rattle.zone_list.specs.Policies.{PolicyIsAt, set_piece};
+ghost use Rattle.zone_list.specs.Policies.{PolicyIsAt, set_piece, set_pieces};
 ghost use Rattle.zone_list.specs.RecordSetRecord.{RecordSet};
 ghost use Rattle.zone_list.specs.Spelling.{IsPart, from_policy};
 ghost use Rattle.zone_list.specs.Sums.{aliases_of, checked_of, octets_of};
@@ -24,7 +24,8 @@ ghost use Rattle.zone_list.specs.Stops.{bound_of as told};
 use crate::edits::{Ready, ZoneEdit};
 use crate::looking::{
     apex_of, copies, has_name, hint_of, hint_or, is_below, load, may_have_cuts, order_of, piece,
-    policy, slot_at, slot_behind, slot_in, slots_of, sums_in, target, view_near, watch, zone_sets,
+    pieces, policy, slot_at, slot_behind, slot_in, slots_of, sums_in, target, view_near, watch,
+    zone_sets,
 };
 use crate::making::{make, note_name, settle, settle_all};
 use crate::needs::{need_of, reserve_for, reserve_name};
@@ -357,6 +358,15 @@ impl Zones {
             → IsPart result.now (set_piece named place) named }
     {
         piece(&self.store, &self.list, set, place)
+    }
+
+    /// The same up to the end of the 32 behind those, in two parts, one behind the other.
+    pub fn pieces(&self, set: SetRef, place: usize) -> (&[u8], &[u8])
+        requires { (named : RecordSet) × RefersTo self.now.zones set named }
+        ensures { (named : RecordSet) → RefersTo self.now.zones set named
+            → IsPart (result.0.now ++ result.1.now) (set_pieces named place) named }
+    {
+        pieces(&self.store, &self.list, set, place)
     }
 
     /// What decides the health of the set that a reference names. None where it names none.
