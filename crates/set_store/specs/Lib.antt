@@ -3,6 +3,7 @@ pub mod Index
 pub mod Packed
 pub mod Policies
 pub mod Servers
+pub mod Stars
 pub mod Stored
 pub mod Tags
 pub use Rattle.set_scratch.specs.Cells

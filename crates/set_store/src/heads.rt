@@ -17,6 +17,7 @@ ghost use Rattle.set_search.specs.Bounds.{group_cmp, is_before};
 ghost use Rattle.set_search.specs.Stops.{bound_of};
 ghost use Rattle.set_store.specs.Heads.{IsKeyFront, IsPartedBy};
 ghost use Rattle.set_store.specs.Servers.{server_labels};
+ghost use Rattle.set_store.specs.Stars.{has_star, is_starred};
 
 use set_scratch::{base_fields_are_read, ident_in_front, name_and_rest, name_at, type_and_rest};
 use set_search::{Ident, Name, RType, Stop, octets_cmp, one_name_of_a_wire};
@@ -59,6 +60,24 @@ pub fn head_server_labels(octets: &[u8]) -> Option<usize>
         return None;
     }
     Some(head_labels(octets))
+}
+
+/// Whether the octets of a set's name have that of `*`, from octets that begin with all that tells
+/// its key.
+pub fn head_is_starred(octets: &[u8]) -> bool
+    requires { IsKeyFront octets.now }
+    ensures { (set : RecordSet) (rest : List ℕ) → IsSet set
+        → octets.now ≡ key_octets set ++ rest → result ≡ is_starred set }
+{
+    let (owner, _) = name_and_rest(octets);
+    has_star(owner)
+}
+
+/// Whether some octet is that of `*`.
+pub fn has_star(octets: &[u8]) -> bool
+    ensures { result ≡ has_star octets.now }
+{
+    octets.contains(&b'*')
 }
 
 /// The number of a set's type.

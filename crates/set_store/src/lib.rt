@@ -16,6 +16,7 @@ mod tags;
 mod typed;
 
 pub use hashes::hash_of;
+pub use heads::has_star;
 pub use octets::OutOfMemory;
 pub use set_scratch::{
     Scratch, Watch, behind_text, cells_for, fields_are_read, fill_set, has_spelling, one_spelling,

@@ -15,10 +15,11 @@ ghost use Rattle.set_store.specs.Packed.{Slot};
 ghost use Rattle.set_store.specs.Index.{HoldsAt};
 ghost use Rattle.set_store.specs.Policies.{PolicyIsAt, set_piece, set_pieces};
 ghost use Rattle.set_store.specs.Servers.{server_labels};
+ghost use Rattle.set_store.specs.Stars.{is_starred};
 ghost use Rattle.set_store.specs.Stored.{IsKept, IsSpelling, IsInUse, Kept, Spells, zone_told};
 
 use crate::hashes::hash_of;
-use crate::heads::{head_is_before, head_is_below, head_server_labels};
+use crate::heads::{head_is_before, head_is_below, head_is_starred, head_server_labels};
 use crate::siblings::{is_before_beside, is_below_beside};
 use crate::slots::{NO_CELL, Slot, cell_at, tag_at};
 use crate::store::SetSlots;
@@ -159,6 +160,20 @@ impl SetSlots {
             return head_server_labels(head_at(&self.region, &self.slots, slot, &mut [0; 64]));
         }
         head_server_labels(head_at(&self.region, &self.slots, slot, &mut [0; 387]))
+    }
+
+    /// Whether the octets of the name of a slot's set have that of `*`.
+    pub fn is_starred(&self, slot: u32) -> bool
+        requires { IsInUse self.now.slots slot }
+        ensures { (kept : Kept) → IsKept self.now.slots slot kept
+            → result ≡ is_starred kept.set }
+    {
+        keys_are_in_front();
+        written_reads_back();
+        if size_at(&self.region, &self.slots, slot) <= SHORT {
+            return head_is_starred(head_at(&self.region, &self.slots, slot, &mut [0; 64]));
+        }
+        head_is_starred(head_at(&self.region, &self.slots, slot, &mut [0; 387]))
     }
 
     /// A hash of the name of a slot's set, of which no contract speaks.

@@ -1,6 +1,7 @@
 pub mod Orders
 pub use Rattle.set_store.specs.Slotted
 pub use Rattle.set_store.specs.Servers
+pub use Rattle.set_store.specs.Stars
 pub use Rattle.set_store.specs.Stored
 pub use Rattle.set_store.specs.Telling
 pub use Rattle.set_store.specs.Index

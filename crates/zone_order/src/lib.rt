@@ -11,7 +11,7 @@ pub use changes::{make_room, put_at, replace_at, take_at};
 pub use set_store::{
     Body, NO_CELL, Name, RType, RecordSet, Scratch, SetKey, SetList, SetSlots, Stop, Watch,
     before_key, behind_key, behind_text, cells_for, closest_in, count_before, exists_in,
-    fields_are_read, fill_set, find, find_near, group_in, has_spelling, hash_of, key_cmp,
+    fields_are_read, fill_set, find, find_near, group_in, has_spelling, has_star, hash_of, key_cmp,
     keys_are_ordered, one_spelling, region_at, set_len, sub_at, well_formed,
 };
 pub use views::{ZoneSets, of_zone, sets_in_order, sets_near};
