@@ -4,17 +4,18 @@ use Rattle.std.specs.Prelude.{slice_get}
 use Rattle.std.specs.List.{sum_by}
 use Rattle.zone_order.specs.Slotted.{Slotted, IsPut, IsTakenAt}
 use Rattle.zone_changes.specs.declared.sums.Sums.{Sums}
-use Rattle.zone_changes.specs.Sums.{AreSmall, aliases_in, checked_in, labels_in, octets_in, plus, servers_in, sums_of}
+use Rattle.zone_changes.specs.Sums.{AreSmall, aliases_in, checked_in, labels_in, octets_in, plus, servers_in, starred_in, sums_of}
 use Rattle.zone_changes.proofs.Cells.{sum_insert, sum_remove, sum_set}
 
-all_five : (x y : Sums) → x.octets ≡ y.octets → x.aliases ≡ y.aliases → x.servers ≡ y.servers
-    → x.labels ≡ y.labels → x.checked ≡ y.checked → x ≡ y
-all_five x y octets aliases servers labels checked =
-    ap (λ (n : ℕ). record { octets = n; aliases = x.aliases; servers = x.servers; labels = x.labels; checked = x.checked }) octets
-    ∙ (ap (λ (n : ℕ). record { octets = y.octets; aliases = n; servers = x.servers; labels = x.labels; checked = x.checked }) aliases
-    ∙ (ap (λ (n : ℕ). record { octets = y.octets; aliases = y.aliases; servers = n; labels = x.labels; checked = x.checked }) servers
-    ∙ (ap (λ (n : ℕ). record { octets = y.octets; aliases = y.aliases; servers = y.servers; labels = n; checked = x.checked }) labels
-    ∙ ap (λ (n : ℕ). record { octets = y.octets; aliases = y.aliases; servers = y.servers; labels = y.labels; checked = n }) checked)))
+all_six : (x y : Sums) → x.octets ≡ y.octets → x.aliases ≡ y.aliases → x.servers ≡ y.servers
+    → x.labels ≡ y.labels → x.checked ≡ y.checked → x.starred ≡ y.starred → x ≡ y
+all_six x y octets aliases servers labels checked starred =
+    ap (λ (n : ℕ). record { octets = n; aliases = x.aliases; servers = x.servers; labels = x.labels; checked = x.checked; starred = x.starred }) octets
+    ∙ (ap (λ (n : ℕ). record { octets = y.octets; aliases = n; servers = x.servers; labels = x.labels; checked = x.checked; starred = x.starred }) aliases
+    ∙ (ap (λ (n : ℕ). record { octets = y.octets; aliases = y.aliases; servers = n; labels = x.labels; checked = x.checked; starred = x.starred }) servers
+    ∙ (ap (λ (n : ℕ). record { octets = y.octets; aliases = y.aliases; servers = y.servers; labels = n; checked = x.checked; starred = x.starred }) labels
+    ∙ (ap (λ (n : ℕ). record { octets = y.octets; aliases = y.aliases; servers = y.servers; labels = y.labels; checked = n; starred = x.starred }) checked
+    ∙ ap (λ (n : ℕ). record { octets = y.octets; aliases = y.aliases; servers = y.servers; labels = y.labels; checked = y.checked; starred = n }) starred))))
 
 more : (before after given counted : ℕ) → after ≡ before + given → counted ≡ (before % 2 ^ 64 + given) % 2 ^ 64
     → counted ≡ after % 2 ^ 64
@@ -34,7 +35,7 @@ pub put_sums : (before : List Slotted) (given : Slotted) (after : List Slotted) 
     → (sums counted : Sums) → sums ≡ sums_of before → counted ≡ plus sums given → counted ≡ sums_of after
 put_sums before given after put sums counted so_far is =
     let now = is ∙ ap (λ s. plus s given) so_far in
-    all_five counted (sums_of after)
+    all_six counted (sums_of after)
     (more (sum_by octets_in before) (sum_by octets_in after) (octets_in given) counted.octets
     (ap (sum_by octets_in) put.inserted ∙ sum_insert octets_in before put.at given)
     (ap (λ (s : Sums). s.octets) now))
@@ -50,6 +51,9 @@ put_sums before given after put sums counted so_far is =
     (more (sum_by checked_in before) (sum_by checked_in after) (checked_in given) counted.checked
     (ap (sum_by checked_in) put.inserted ∙ sum_insert checked_in before put.at given)
     (ap (λ (s : Sums). s.checked) now))
+    (more (sum_by starred_in before) (sum_by starred_in after) (starred_in given) counted.starred
+    (ap (sum_by starred_in) put.inserted ∙ sum_insert starred_in before put.at given)
+    (ap (λ (s : Sums). s.starred) now))
 
 -- one comes in place of another
 pub replaced_sums : (before : List Slotted) (given was : Slotted) (after : List Slotted) (at : ℕ)
@@ -58,7 +62,7 @@ pub replaced_sums : (before : List Slotted) (given was : Slotted) (after : List 
     → plus left was ≡ counted → left ≡ sums_of after
 replaced_sums before given was after at there replaced sums counted left so_far is small without =
     let now = is ∙ ap (λ s. plus s given) so_far in
-    all_five left (sums_of after)
+    all_six left (sums_of after)
     (swapped (sum_by octets_in before) (sum_by octets_in after) (octets_in given) (octets_in was) counted.octets left.octets
     (ap (λ ps. sum_by octets_in ps + octets_in was) replaced ∙ sum_set octets_in before at was given there)
     (ap (λ (s : Sums). s.octets) now) small.octets (ap (λ (s : Sums). s.octets) without))
@@ -74,6 +78,9 @@ replaced_sums before given was after at there replaced sums counted left so_far 
     (swapped (sum_by checked_in before) (sum_by checked_in after) (checked_in given) (checked_in was) counted.checked left.checked
     (ap (λ ps. sum_by checked_in ps + checked_in was) replaced ∙ sum_set checked_in before at was given there)
     (ap (λ (s : Sums). s.checked) now) small.checked (ap (λ (s : Sums). s.checked) without))
+    (swapped (sum_by starred_in before) (sum_by starred_in after) (starred_in given) (starred_in was) counted.starred left.starred
+    (ap (λ ps. sum_by starred_in ps + starred_in was) replaced ∙ sum_set starred_in before at was given there)
+    (ap (λ (s : Sums). s.starred) now) small.starred (ap (λ (s : Sums). s.starred) without))
 
 -- one goes
 pub taken_sums : (before : List Slotted) (at slot : ℕ) (after : List Slotted)
@@ -83,7 +90,7 @@ pub taken_sums : (before : List Slotted) (at slot : ℕ) (after : List Slotted)
 taken_sums before at slot after t sums left so_far small without =
     let was : Slotted = record { slot = slot; set = t.set } in
     let now = without ∙ so_far in
-    all_five left (sums_of after)
+    all_six left (sums_of after)
     (fewer (sum_by octets_in before) (sum_by octets_in after) (octets_in was) left.octets
     (ap (λ ps. sum_by octets_in ps + octets_in was) t.removed ∙ sum_remove octets_in before at was t.there)
     small.octets (ap (λ (s : Sums). s.octets) now))
@@ -99,3 +106,6 @@ taken_sums before at slot after t sums left so_far small without =
     (fewer (sum_by checked_in before) (sum_by checked_in after) (checked_in was) left.checked
     (ap (λ ps. sum_by checked_in ps + checked_in was) t.removed ∙ sum_remove checked_in before at was t.there)
     small.checked (ap (λ (s : Sums). s.checked) now))
+    (fewer (sum_by starred_in before) (sum_by starred_in after) (starred_in was) left.starred
+    (ap (λ ps. sum_by starred_in ps + starred_in was) t.removed ∙ sum_remove starred_in before at was t.there)
+    small.starred (ap (λ (s : Sums). s.starred) now))

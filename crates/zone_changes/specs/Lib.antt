@@ -3,6 +3,7 @@ pub mod Sums
 pub use Rattle.zone_order.specs.Orders
 pub use Rattle.zone_order.specs.Slotted
 pub use Rattle.zone_order.specs.Index
+pub use Rattle.zone_order.specs.Stars
 pub use Rattle.zone_order.specs.Stored
 pub use Rattle.zone_order.specs.Telling
 pub use Rattle.zone_order.specs.WatchRecord

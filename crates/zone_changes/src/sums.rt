@@ -4,17 +4,20 @@
 
 ghost use Rattle.std.specs.Prelude.{◌≡◌, ◌<◌, [], is_some, length, slice_get, Some};
 ghost use Rattle.zone_changes.specs.Sums.{AreSmall, aliases_in, checked_in, octets_in, one_of};
+ghost use Rattle.zone_changes.specs.Sums.{starred_in};
 ghost use Rattle.zone_changes.specs.Sums.{plus, sums_of};
 ghost use Rattle.zone_order.specs.Slotted.{Slotted};
 ghost use Rattle.zone_order.specs.Orders.{IsOrder, slotted_of};
 ghost use Rattle.zone_order.specs.Servers.{server_labels};
 
-use zone_order::{Body, RType, RecordSet, SetSlots};
+use zone_order::{Body, RType, RecordSet, SetSlots, has_star};
 
 /// How many octets sets have, how many of them are aliases, how many are NS sets, how many labels
-/// the names of these have in all, and how many sets name a check, each modulo 2^64.
+/// the names of these have in all, how many sets name a check, and of how many the name has the
+/// octet of `*`, each modulo 2^64.
 ///
-/// The NS sets and their labels tell whether all NS sets stand at one name, of which all other names are below.
+/// The NS sets and their labels tell whether all NS sets stand at one name, of which all other names
+/// are below; the last, whether there can be a wildcard.
 #[derive(Clone, Copy)]
 pub struct Sums {
     pub octets: u64,
@@ -22,6 +25,7 @@ pub struct Sums {
     pub servers: u64,
     pub labels: u64,
     pub checked: u64,
+    pub starred: u64,
 }
 
 /// The sums of no sets.
@@ -34,6 +38,7 @@ pub fn no_sums() -> Sums
         servers: 0,
         labels: 0,
         checked: 0,
+        starred: 0,
     }
 }
 
@@ -49,6 +54,7 @@ pub(crate) fn with_set(sums: Sums, octets: usize, set: &RecordSet) -> Sums
         servers: sums.servers.wrapping_add(u64::from(labels.is_some())),
         labels: sums.labels.wrapping_add(labels.unwrap_or(0) as u64),
         checked: sums.checked.wrapping_add(u64::from(names_check(set))),
+        starred: sums.starred.wrapping_add(u64::from(is_starred(set))),
     }
 }
 
@@ -67,6 +73,13 @@ fn names_check(set: &RecordSet) -> bool
     ensures { (given : Slotted) → given.set ≡ set.now → one_of result ≡ checked_in given }
 {
     set.check.is_some()
+}
+
+/// Whether the octets of a set's name have that of `*`.
+fn is_starred(set: &RecordSet) -> bool
+    ensures { (given : Slotted) → given.set ≡ set.now → one_of result ≡ starred_in given }
+{
+    has_star(set.name.octets())
 }
 
 /// How many labels the name of an NS set has.
@@ -101,6 +114,7 @@ pub(crate) fn without_at(
         store.is_alias(slot),
         store.server_labels(slot),
         store.watch(slot).check.is_some(),
+        store.is_starred(slot),
     )
 }
 
@@ -113,11 +127,18 @@ fn slot_at(order: &Vec<u32>, place: usize) -> u32
 }
 
 /// The sums without a set of so many octets, which is an alias or not, an NS set where labels are
-/// told, and names a check or not.
-fn without(sums: Sums, octets: usize, alias: bool, labels: Option<usize>, checked: bool) -> Sums
+/// told, names a check or not, and has the octet of `*` in its name or not.
+fn without(
+    sums: Sums,
+    octets: usize,
+    alias: bool,
+    labels: Option<usize>,
+    checked: bool,
+    starred: bool,
+) -> Sums
     ensures without { (was : Slotted) → octets ≡ octets_in was → one_of alias ≡ aliases_in was
         → labels ≡ server_labels was.set → checked ≡ is_some was.set.check
-        → plus result was ≡ sums }
+        → one_of starred ≡ starred_in was → plus result was ≡ sums }
     ensures small { AreSmall result }
 {
     Sums {
@@ -126,5 +147,6 @@ fn without(sums: Sums, octets: usize, alias: bool, labels: Option<usize>, checke
         servers: sums.servers.wrapping_sub(u64::from(labels.is_some())),
         labels: sums.labels.wrapping_sub(labels.unwrap_or(0) as u64),
         checked: sums.checked.wrapping_sub(u64::from(checked)),
+        starred: sums.starred.wrapping_sub(u64::from(starred)),
     }
 }

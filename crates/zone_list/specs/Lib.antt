@@ -11,6 +11,7 @@ pub use Rattle.zone_changes.specs.Coming
 pub use Rattle.zone_changes.specs.Sums
 pub use Rattle.zone_changes.specs.Orders
 pub use Rattle.zone_changes.specs.Index
+pub use Rattle.zone_changes.specs.Stars
 pub use Rattle.zone_changes.specs.Stored
 pub use Rattle.zone_changes.specs.declared.sums.Sums as SumsRecord
 pub use Rattle.zone_changes.specs.Telling

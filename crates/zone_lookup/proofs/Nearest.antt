@@ -1,6 +1,7 @@
 -- The longest name at or above a name that exists.
 use Rattle.std.proofs.Common.{◌≡◌, ◌≢◌, ◌<◌, ◌≤◌, ◌+◌, ℕ, Bool, true, false, List, [], ◌∷◌, ◌++◌}
 use Rattle.std.proofs.Common.{Option, Some, None, length, refl, sym, ap, ◌∙◌, subst, arith, inl, inr}
+use Rattle.std.proofs.lemmas.Bool.{cases_lt}
 use Rattle.std.proofs.lemmas.List.{length-append}
 use Rattle.std.specs.Prelude.{IsTrue, ◌↔◌, ◌&&◌, ◌==◌, cond, slice_get}
 use Rattle.dns_name.specs.Order.{same_labels}
@@ -237,3 +238,11 @@ module _ (names : NamesExist) (sets : List RecordSet) (name nearest : List (List
 
       pub source_missing : told ≡ false → None ≡ source sets name
       source_missing so = sym (from_it ∙ ap (λ b. cond b (Some above) None) so)
+
+    -- where no set has it or stands below it, the wildcard isn't taken
+    pub source_no_star : (Exists sets (wildcard ∷ nearest) → ⊥) → None ≡ source sets name
+    source_no_star none = elim (cases_lt 255 (length (wire (wildcard ∷ nearest)))) [
+      | inl long ↦ source_too_long long
+      | inr short ↦ source_missing (wildcard ∷ nearest) refl short false
+          (λ e. absurd (grind (arith, e)), λ there. absurd (none there)) refl
+    ]

@@ -31,6 +31,9 @@ pub(crate) fn source_from(
     if nearest.is_same(name) {
         return Some(*name);
     }
+    if !zones.may_have_wildcards(zone) {
+        return None;
+    }
     let Some(wildcard) = nearest.wildcard() else {
         return None;
     };

@@ -11,6 +11,7 @@ pub mod Once
 pub mod Opening
 pub mod Rooms
 pub mod Sizes
+pub mod Stars
 pub mod Totals
 pub use Rattle.zone_list.proofs.Listing
 pub use Rattle.zone_list.proofs.Members

@@ -1,6 +1,6 @@
 -- What is found in a table of zones.
 use Rattle.std.specs.Prelude.{◌≡◌, ◌≤◌, ◌+◌, ℕ, List, length, slice_get, Bool, true, false, Option, None}
-use Rattle.std.specs.Prelude.{Some, drop, map, take}
+use Rattle.std.specs.Prelude.{◌≢◌, ◌++◌, ◌∷◌, [], Some, drop, map, take}
 use Rattle.std.specs.Borrow.{Bor}
 use Rattle.zone_list.specs.Suffix.{EndsWith}
 use Rattle.zone_list.specs.RTypeRecord.{RType}
@@ -122,6 +122,11 @@ abbrev pub HolderOrNone : List Zone → (name : List (List ℕ)) → Option (ℕ
     → Type 0
 HolderOrNone zones name (Some (id, apex)) = IsZoneFor zones name id × IsApex zones id apex.now
 HolderOrNone zones name None = IsZoneForOrNone zones name None
+
+-- No set of the zone has a name with the label `*` (RFC 4592, 2.1.1).
+abbrev pub HasNoStar : List Zone → (id : ℕ) → Type 0
+HasNoStar zones id = (set : RecordSet) → IsAmong (sets_of (placed_in zones id)) set
+    → (first rest : List (List ℕ)) → set.name ≢ first ++ (0x2A ∷ []) ∷ rest
 
 -- No NS set of the zone has another name.
 abbrev pub ServersAreAt : List Zone → (id : ℕ) → (name : List (List ℕ)) → Type 0

@@ -12,7 +12,7 @@ ghost use Rattle.zone_list.specs.Orders.{IsOrder, slotted_of};
 ghost use Rattle.zone_list.specs.Policies.{PolicyIsAt, set_piece, set_pieces};
 ghost use Rattle.zone_list.specs.Spelling.{IsPart, from_policy};
 ghost use Rattle.zone_table.specs.Counted.{AreCounted};
-ghost use Rattle.zone_table.specs.Looking.{HasNameAt, IsApex, Loads, ServersAreAt, SlotAt};
+ghost use Rattle.zone_table.specs.Looking.{HasNameAt, HasNoStar, IsApex, Loads, ServersAreAt, SlotAt};
 ghost use Rattle.zone_table.specs.Looking.{RefersTo, SlotBehind, Targets, Watches, slots_in};
 ghost use Rattle.zone_table.specs.Stored.{GetsApex, GetsNear, GetsOrder, IsReferredTo, ViewsNear};
 ghost use Rattle.zone_table.specs.Stored.{GivesZoneSets};
@@ -267,6 +267,21 @@ pub fn may_have_cuts(store: &SetSlots, list: &[StoredZone], zone: u32) -> bool
     let sums = found.sums();
     let least = sums.servers.wrapping_mul(found.apex().labels() as u64);
     if sums.labels == least {
+        return false;
+    }
+    true
+}
+
+/// Whether a zone may have sets with the label `*` in their names. It has none where no name has the
+/// octet of `*`.
+pub fn may_have_wildcards(store: &SetSlots, list: &[StoredZone], zone: u32) -> bool
+    requires kept { AreIntact store.now.slots list.now }
+    requires counted { (octets : ℕ) × AreCounted store.now list.now octets }
+    requires few { length store.now.slots < 2 ^ 32 }
+    ensures { result ≡ false → HasNoStar (zones_in store.now.slots list.now) zone }
+{
+    let sums = sums_in(store, list, zone);
+    if sums.starred == 0 {
         return false;
     }
     true

@@ -16,16 +16,16 @@ ghost use Rattle.zone_table.specs.Edits.{Edits, IsAllowed, IsReady, StayReady};
 ghost use Rattle.zone_table.specs.Edits.{collections_after};
 ghost use Rattle.zone_table.specs.Looking.{ApexOrNone, HasNameAt, HolderOrNone, IsZoneForOrNone};
 ghost use Rattle.zone_table.specs.Looking.{IsApex, IsGroup, IsGroupNow, RefersTo, slots_in};
-ghost use Rattle.zone_table.specs.Looking.{IsSetOfGroup, IsNextSet, IsSetAt, Loads, ServersAreAt};
+ghost use Rattle.zone_table.specs.Looking.{HasNoStar, IsSetOfGroup, IsNextSet, IsSetAt, Loads, ServersAreAt};
 ghost use Rattle.zone_table.specs.Looking.{Targets, Watches, bound_of};
 ghost use Rattle.zone_table.specs.Tables.{HaveSlotsApart, HaveSlotsBelow};
 ghost use Rattle.zone_list.specs.Stops.{bound_of as told};
 
 use crate::edits::{Ready, ZoneEdit};
 use crate::looking::{
-    apex_of, copies, has_name, hint_of, hint_or, is_below, load, may_have_cuts, order_of, piece,
-    pieces, policy, slot_at, slot_behind, slot_in, slots_of, sums_in, target, view_near, watch,
-    zone_sets,
+    apex_of, copies, has_name, hint_of, hint_or, is_below, load, may_have_cuts, may_have_wildcards,
+    order_of, piece, pieces, policy, slot_at, slot_behind, slot_in, slots_of, sums_in, target,
+    view_near, watch, zone_sets,
 };
 use crate::making::{make, note_name, settle, settle_all};
 use crate::needs::{need_of, reserve_for, reserve_name};
@@ -204,6 +204,15 @@ impl Zones {
     {
         self.store.slots();
         may_have_cuts(&self.store, &self.list, zone)
+    }
+
+    /// Whether a zone may have sets with the label `*` in their names. `false` is told only where none
+    /// has, by what is counted of the zone's sets.
+    pub fn may_have_wildcards(&self, zone: u32) -> bool
+        ensures { result ≡ false → HasNoStar self.now.zones zone }
+    {
+        self.store.slots();
+        may_have_wildcards(&self.store, &self.list, zone)
     }
 
     /// How many sets all zones have.

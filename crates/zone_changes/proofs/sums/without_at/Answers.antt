@@ -29,6 +29,12 @@ watch-requires c =
     c.args.place c.slot_at-slot.result c.slot_at-slot.ensures in
     (record { zone = c.args.zone; set = it.0 }, it.1)
 
+pub is_starred-requires : goal.is_starred-requires
+is_starred-requires c =
+    let it = kept_at c.args.store.now.slots c.args.zone c.args.order.now.items c.requires.order.present
+    c.args.place c.slot_at-slot.result c.slot_at-slot.ensures in
+    (record { zone = c.args.zone; set = it.0 }, it.1)
+
 pub returns-clause-without : goal.returns-clause-without
 returns-clause-without c = λ was is.
     let kept = kept_there c.args.store.now.slots c.args.zone c.args.order.now.items c.requires.order.present
@@ -37,3 +43,4 @@ returns-clause-without c = λ was is.
     (ap one_of (c.is_alias.ensures (record { zone = c.args.zone; set = was.set }) kept))
     (c.server_labels.ensures (record { zone = c.args.zone; set = was.set }) kept)
     (c.is_some.ensures ∙ ap (λ (w : Watch). is_some w.check) (c.watch.ensures (record { zone = c.args.zone; set = was.set }) kept))
+    (ap one_of (c.is_starred.ensures (record { zone = c.args.zone; set = was.set }) kept))
