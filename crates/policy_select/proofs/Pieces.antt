@@ -1,11 +1,10 @@
 -- Policies read in pieces: the front, and what stands behind the identifier.
 use Rattle.std.proofs.Common.{◌≡◌, ℕ, zero, suc, ◌+◌, ◌≤◌, ◌<◌, List, [], ◌∷◌, ◌++◌, length, take, drop}
-use Rattle.std.proofs.Common.{Option, None, Some, refl, sym, ap, ◌∙◌, arith, append_assoc, length-append, length-take}
+use Rattle.std.proofs.Common.{Option, None, Some, refl, sym, ap, ◌∙◌, arith, append_assoc, length-append, length-take, ◌-◌}
 use Rattle.std.specs.Prelude.{IfSome, SomeIff}
-use Rattle.std.proofs.lemmas.List.{drop-drop, take-take}
+use Rattle.std.proofs.lemmas.List.{drop-take, take-take}
 use Rattle.std.proofs.Math.ListN.{get_or}
-use Rattle.std.proofs.Math.Seq.{drop-append_seam}
-use Rattle.std.specs.Option.{unwrap_or}
+use Rattle.std.proofs.Math.Seq.{drop-append_seam, take-append_seam}
 use Rattle.octets.specs.Numbers.{two_octets}
 use Rattle.dns_name.specs.Labels.{wire}
 use Rattle.rdata_layout.specs.Types.{number_of}
@@ -21,7 +20,7 @@ use Rattle.zone_table.specs.Policies.{PolicyIsAt}
 use Rattle.zone_table.specs.RecordSetRecord.{RecordSet}
 use Rattle.zone_table.specs.Spelling.{from_policy}
 use Rattle.zone_table.specs.SetsOfSetReading.{IsPlace, IsRouting}
-use Rattle.policy_select.specs.Members.{IsFrontOfPolicy, IsPieceOfPolicy}
+use Rattle.policy_select.specs.Members.{IsFrontOfPolicy}
 
 -- the first two octets of a list that was cut behind them
 pub first_two : (octets all : List ℕ) (n kind : ℕ) → octets ≡ take n all → 2 ≤ length octets
@@ -140,16 +139,25 @@ from_place set at is =
     (append_assoc (head_octets set) body check ∙ append_assoc (name ++ two) policy (body ++ check))
     ∙ drop-append_seam (name ++ two) (from_policy set)
 
--- what begins so far behind it
-pub from_behind : (set : RecordSet) (at skip place : ℕ) → PolicyIsAt set at → place ≡ at + skip
-    → drop place (set_octets set) ≡ drop skip (from_policy set)
-from_behind set at skip place is e =
-    ap (λ k. drop k (set_octets set)) e
-    ∙ sym (drop-drop skip at (set_octets set))
-    ∙ ap (drop skip) (from_place set at is)
+-- the first of two parts is cut from the list from which both are
+pub front_cut : (front next all : List ℕ) (n : ℕ) → front ++ next ≡ take n all
+    → front ≡ take (length front) all
+front_cut front next all n is =
+    let size = ap (λ (o : List ℕ). length o) is in
+    let cut = length-take n all in
+    let both = length-append front next in
+    let k = length front in
+    sym (take-append_seam front next) ∙ ap (take k) is
+    ∙ take-take k n all (omega (arith, size, cut, both))
 
-one_set : (got : Option RecordSet) (a b : RecordSet) → got ≡ Some a → got ≡ Some b → a ≡ b
-one_set got a b first second = ap (λ o. unwrap_or o a) (sym first ∙ second)
+-- what stands behind a place of a list that was cut was cut behind that place
+pub cut_behind : (octets all : List ℕ) (n place : ℕ) → octets ≡ take n all → place ≤ length octets
+    → drop place octets ≡ take (n - place) (drop place all)
+cut_behind octets all n place is within =
+    let size = ap (λ (o : List ℕ). length o) is in
+    let cut = length-take n all in
+    let whole : n ≡ place + (n - place) = omega (arith, size, cut, within) in
+    ap (drop place) is ∙ ap (λ (k : ℕ). drop place (take k all)) whole ∙ drop-take place (n - place) all
 
 -- What the front of a policy tells of its identifier: that it has so many octets, where the policy is of this
 -- kind.
@@ -157,39 +165,43 @@ abbrev pub TellsIdent : (front : List ℕ) (kind size : ℕ) → Type 0
 TellsIdent front kind size =
     (all : List ℕ) (n : ℕ) → front ≡ take n all → take 2 all ≡ kind ∷ size ∷ []
 
-module _ (got : Option RecordSet) (front piece : List ℕ) (a b : RecordSet) (size : ℕ)
-    (first : got ≡ Some a) (is_front : IsFrontOfPolicy front a)
-    (second : got ≡ Some b) (is_piece : IsPieceOfPolicy piece (size + 2) b) where
-  told : (kind : ℕ) → TellsIdent front kind size
-      → take 2 (routing_octets b.routing ++ is_front.rest) ≡ kind ∷ size ∷ []
-  told kind tells =
-      sym (ap (λ s. take 2 (routing_octets s.routing ++ is_front.rest)) (one_set got a b first second))
-      ∙ tells (routing_octets a.routing ++ is_front.rest) is_front.size is_front.same
+-- what two parts tell of what stands behind an identifier of so many octets
+abbrev pub TellsBehind : (front next : List ℕ) (size : ℕ) (piece : List ℕ) → Type 0
+TellsBehind front next size piece = (all : List ℕ) (n : ℕ) → front ++ next ≡ take n all
+    → (cut : ℕ) × (piece ≡ take cut (drop (size + 2) all))
+
+module _ (front next piece : List ℕ) (set : RecordSet) (size : ℕ)
+    (is : IsFrontOfPolicy (front ++ next) set) (behind : TellsBehind front next size piece) where
+  part : (cut : ℕ) × (piece ≡ take cut (drop (size + 2) (routing_octets set.routing ++ is.rest)))
+  part = behind (routing_octets set.routing ++ is.rest) is.size is.same
+
+  told : (kind : ℕ) → TellsIdent front kind size → take 2 (routing_octets set.routing ++ is.rest) ≡ kind ∷ size ∷ []
+  told kind tells = tells (routing_octets set.routing ++ is.rest) (length front) (front_cut front next (routing_octets set.routing ++ is.rest) is.size is.same)
 
   pub weight_by : TellsIdent front 1 size
-      → (weight : ℕ) × (weight_of b.routing ≡ Some weight)
-      × (piece ≡ take is_piece.size (weight ∷ is_piece.rest))
+      → (weight cut : ℕ) × (weight_of set.routing ≡ Some weight)
+      × (piece ≡ take cut (weight ∷ is.rest))
   weight_by tells =
-      let w = weight_there b.routing is_front.rest is_piece.rest size (told 1 tells) in
-      (w.0, w.1, is_piece.same ∙ ap (take is_piece.size) w.2)
+      let w = weight_there set.routing is.rest is.rest size (told 1 tells) in
+      (w.0, part.0, w.1, part.1 ∙ ap (take part.0) w.2)
 
   pub role_by : TellsIdent front 2 size
-      → (role : Role) × (role_of b.routing ≡ Some role)
-      × (piece ≡ take is_piece.size (role_number role ∷ is_piece.rest))
+      → (role : Role) × (cut : ℕ) × (role_of set.routing ≡ Some role)
+      × (piece ≡ take cut (role_number role ∷ is.rest))
   role_by tells =
-      let r = role_there b.routing is_front.rest is_piece.rest size (told 2 tells) in
-      (r.0, r.1, is_piece.same ∙ ap (take is_piece.size) r.2)
+      let r = role_there set.routing is.rest is.rest size (told 2 tells) in
+      (r.0, part.0, r.1, part.1 ∙ ap (take part.0) r.2)
 
   pub place_by : TellsIdent front 3 size
-      → (place : Place) × (place_of b.routing ≡ Some place) × IsPlace place
-      × (piece ≡ take is_piece.size (place_octets place ++ is_piece.rest))
+      → (place : Place) × (cut : ℕ) × (place_of set.routing ≡ Some place) × IsPlace place
+      × (piece ≡ take cut (place_octets place ++ is.rest))
   place_by tells =
-      let p = place_there b.routing is_front.rest is_piece.rest size is_piece.is (told 3 tells) in
-      (p.0, p.1, p.2, is_piece.same ∙ ap (take is_piece.size) p.3)
+      let p = place_there set.routing is.rest is.rest size is.is (told 3 tells) in
+      (p.0, part.0, p.1, p.2, part.1 ∙ ap (take part.0) p.3)
 
   pub region_by : TellsIdent front 4 size
-      → (region : List ℕ) × (region_of b.routing ≡ Some region) × IsRegion region
-      × (piece ≡ take is_piece.size (text_octets region ++ is_piece.rest))
+      → (region : List ℕ) × (cut : ℕ) × (region_of set.routing ≡ Some region) × IsRegion region
+      × (piece ≡ take cut (text_octets region ++ is.rest))
   region_by tells =
-      let r = region_there b.routing is_front.rest is_piece.rest size is_piece.is (told 4 tells) in
-      (r.0, r.1, r.2, is_piece.same ∙ ap (take is_piece.size) r.3)
+      let r = region_there set.routing is.rest is.rest size is.is (told 4 tells) in
+      (r.0, part.0, r.1, r.2, part.1 ∙ ap (take part.0) r.3)

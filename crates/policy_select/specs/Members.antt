@@ -1,5 +1,5 @@
 -- The sets of a group, told by their slots and by the place of their policies.
-use Rattle.std.specs.Prelude.{◌≡◌, ◌++◌, ℕ, List, drop, take}
+use Rattle.std.specs.Prelude.{◌≡◌, ◌++◌, ℕ, List, take}
 use Rattle.zone_table.specs.Looking.{slots_in}
 use Rattle.zone_table.specs.Octets.{routing_octets}
 use Rattle.zone_table.specs.Policies.{PolicyIsAt}
@@ -32,11 +32,3 @@ pub record IsFrontOfPolicy (octets : List ℕ) (set : RecordSet) : Type 0 where
   pub rest : List ℕ
   pub size : ℕ
   pub same : octets ≡ take size (routing_octets set.routing ++ rest)
-
--- The octets are the first of those that stand so far behind the front of a list that begins with the policy
--- of a set.
-pub record IsPieceOfPolicy (octets : List ℕ) (skip : ℕ) (set : RecordSet) : Type 0 where
-  pub is : IsRouting set.routing
-  pub rest : List ℕ
-  pub size : ℕ
-  pub same : octets ≡ take size (drop skip (routing_octets set.routing ++ rest))

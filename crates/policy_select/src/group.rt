@@ -1,13 +1,12 @@
 //! The sets of a group, one at a time.
 
-ghost use Rattle.std.specs.Prelude.{◌≡◌, ◌<◌, ◌≤◌, ◌+◌, length, slice_get, IfSome, Some};
+ghost use Rattle.std.specs.Prelude.{◌≡◌, ◌<◌, ◌≤◌, ◌++◌, length, slice_get, IfSome, Some};
 ghost use Rattle.zone_table.specs.RecordSetRecord.{RecordSet};
 ghost use Rattle.zone_table.specs.Octets.{HasSpelling};
 ghost use Rattle.zone_table.specs.Policies.{PolicyIsAt};
 ghost use Rattle.zone_table.specs.Holding.{IsHolding};
 ghost use Rattle.zone_table.specs.Looking.{IsGroupNow, slots_in};
 ghost use Rattle.policy_select.specs.Members.{AreMembers, BeginsWithPolicy, IsFrontOfPolicy};
-ghost use Rattle.policy_select.specs.Members.{IsPieceOfPolicy};
 ghost use Rattle.policy_select.specs.Groups.{flags_in, sets_in, sets_in_zone};
 ghost use Rattle.zone_table.specs.Sets.{group};
 
@@ -79,43 +78,22 @@ fn member_at(group: Group, slots: &[u32], i: usize) -> SetRef
 }
 
 /// What stands of the policy of the set at a place of a group up to the end of the 32 octets of the
-/// set among which it begins, lent.
+/// set behind those among which it begins, lent: in two parts, one behind the other.
 #[inline(always)]
-pub(crate) fn policy_front<'a>(
+pub(crate) fn policy_pieces<'a>(
     zones: &'a Zones,
     group: Group,
     slots: &[u32],
     at: usize,
     i: usize,
-) -> &'a [u8]
+) -> (&'a [u8], &'a [u8])
     requires group { IsGroupNow zones.now.zones group }
     requires slots { AreMembers zones.now.zones group slots.now at }
     requires within { i < group.length }
     ensures { (set : RecordSet) × (slice_get (sets_in zones.now.zones group) i ≡ Some set)
-        × IsFrontOfPolicy result.now set }
+        × IsFrontOfPolicy (result.0.now ++ result.1.now) set }
 {
-    zones.piece(member_at(group, slots, i), at)
-}
-
-/// What stands behind the identifier, of so many octets, of the policy of the set at a place of a
-/// group, lent: up to the end of the 32 octets of the set among which it begins.
-#[inline(always)]
-pub(crate) fn policy_behind<'a>(
-    zones: &'a Zones,
-    group: Group,
-    slots: &[u32],
-    at: usize,
-    i: usize,
-    size: u8,
-) -> &'a [u8]
-    requires group { IsGroupNow zones.now.zones group }
-    requires slots { AreMembers zones.now.zones group slots.now at }
-    requires within { i < group.length }
-    ensures { (set : RecordSet) × (slice_get (sets_in zones.now.zones group) i ≡ Some set)
-        × IsPieceOfPolicy result.now (size + 2) set }
-{
-    let place = at.saturating_add(usize::from(size) + 2);
-    zones.piece(member_at(group, slots, i), place)
+    zones.pieces(member_at(group, slots, i), at)
 }
 
 /// Octets that begin with the policy of the set at a place of a group, copied to a buffer.

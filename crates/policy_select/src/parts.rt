@@ -3,7 +3,7 @@
 //! policy counts as the first one does.
 
 ghost use Rattle.std.specs.Prelude.{◌≡◌, ◌≤◌, ◌∷◌, [], ◌++◌, ℕ, IfSome, IsTrue, List, length};
-ghost use Rattle.std.specs.Prelude.{take};
+ghost use Rattle.std.specs.Prelude.{drop, take, ◌+◌};
 ghost use Rattle.std.specs.Option.{unwrap_or};
 ghost use Rattle.answer_model.specs.Policies.{location_of, place_of, region_of, role_of, weight_of};
 ghost use Rattle.routing.specs.Texts.{IsLocation, IsRegion, IsSubdivision};
@@ -43,6 +43,24 @@ pub(crate) fn ident_size(octets: &[u8], kind: u8) -> Option<u8>
         [first, size, ..] if *first == kind => Some(*size),
         _ => None,
     }
+}
+
+/// What stands behind the identifier, of so many octets, of a policy of which the beginning is there
+/// in two parts, one behind the other: up to the end of the part in which it begins.
+#[inline(always)]
+pub(crate) fn behind_ident<'a>(octets: &'a [u8], next: &'a [u8], size: u8) -> &'a [u8]
+    ensures { (all : List ℕ) (n : ℕ) → octets.now ++ next.now ≡ take n all
+        → (cut : ℕ) × (result.now ≡ take cut (drop (size + 2) all)) }
+{
+    let place = usize::from(size) + 2;
+    if place < octets.len() {
+        return behind(octets, place);
+    }
+    let place = place - octets.len();
+    if place > next.len() {
+        return &[];
+    }
+    behind(next, place)
 }
 
 /// The octet that stands so far behind the front.

@@ -1,7 +1,8 @@
 //! What one set of a group says by the policy of the first one, read where it stands.
 //!
-//! It is read in two pieces: the front of the policy, and what stands behind the identifier, each up
-//! to the end of 32 octets of the set. The policy is copied only where that doesn't tell it.
+//! It is read in the 32 octets of the set among which the policy begins and the 32 behind those: its
+//! front, and what stands behind the identifier. The policy is copied only where that doesn't tell
+//! it.
 
 ghost use Rattle.std.specs.Prelude.{◌≡◌, ◌<◌, slice_get, Some};
 ghost use Rattle.std.specs.Option.{option_copied, unwrap_or};
@@ -13,10 +14,10 @@ ghost use Rattle.policy_select.specs.Groups.{sets_in};
 ghost use Rattle.policy_select.specs.Members.{AreMembers};
 ghost use Rattle.policy_select.specs.Nearby.{TellsNear};
 
-use crate::group::{MOST, policy_behind, policy_copied, policy_front};
+use crate::group::{MOST, policy_copied, policy_pieces};
 use crate::parts::{
-    has_text, ident_size, is_elsewhere_in, is_other_country, octet_behind, place_in, place_whole,
-    region_in, region_whole, role_behind, role_in, text_front, weight_in,
+    behind_ident, has_text, ident_size, is_elsewhere_in, is_other_country, octet_behind, place_in,
+    place_whole, region_in, region_whole, role_behind, role_in, text_front, weight_in,
 };
 use crate::soonest::slowness_under;
 use answer_model::Latencies;
@@ -39,10 +40,11 @@ pub(crate) fn weight_of_member(
     ensures { (set : RecordSet) × (slice_get (sets_in zones.now.zones group.now) i ≡ Some set)
         × (result ≡ unwrap_or (weight_of set.routing) first) }
 {
-    let Some(size) = ident_size(policy_front(zones, *group, slots, at, i), 1) else {
+    let (front, next) = policy_pieces(zones, *group, slots, at, i);
+    let Some(size) = ident_size(front, 1) else {
         return weight_copied(zones, group, slots, at, i, first);
     };
-    match octet_behind(policy_behind(zones, *group, slots, at, i, size), 0) {
+    match octet_behind(behind_ident(front, next, size), 0) {
         Some(weight) => weight,
         None => weight_copied(zones, group, slots, at, i, first),
     }
@@ -80,10 +82,11 @@ pub(crate) fn role_of_member(
     ensures { (set : RecordSet) × (slice_get (sets_in zones.now.zones group.now) i ≡ Some set)
         × (result ≡ unwrap_or (role_of set.routing) first) }
 {
-    let Some(size) = ident_size(policy_front(zones, *group, slots, at, i), 2) else {
+    let (front, next) = policy_pieces(zones, *group, slots, at, i);
+    let Some(size) = ident_size(front, 2) else {
         return role_copied(zones, group, slots, at, i, first);
     };
-    match role_behind(policy_behind(zones, *group, slots, at, i, size), 0) {
+    match role_behind(behind_ident(front, next, size), 0) {
         Some(role) => role,
         None => role_copied(zones, group, slots, at, i, first),
     }
@@ -130,10 +133,11 @@ pub(crate) fn near_place_of_member(
     ensures { (set : RecordSet) × (slice_get (sets_in zones.now.zones group.now) i ≡ Some set)
         × TellsNear country (unwrap_or (place_of set.routing) first.now) result }
 {
-    let Some(size) = ident_size(policy_front(zones, *group, slots, at, i), 3) else {
+    let (front, next) = policy_pieces(zones, *group, slots, at, i);
+    let Some(size) = ident_size(front, 3) else {
         return near_place_copied(zones, group, slots, at, i, first, country);
     };
-    let piece = policy_behind(zones, *group, slots, at, i, size);
+    let piece = behind_ident(front, next, size);
     if is_other_country(piece, 0, country) {
         return None;
     }
@@ -185,10 +189,11 @@ pub(crate) fn region_of_member(
     ensures { (set : RecordSet) × (slice_get (sets_in zones.now.zones group.now) i ≡ Some set)
         × (result ≡ unwrap_or (region_of set.routing) first.now) }
 {
-    let Some(size) = ident_size(policy_front(zones, *group, slots, at, i), 4) else {
+    let (front, next) = policy_pieces(zones, *group, slots, at, i);
+    let Some(size) = ident_size(front, 4) else {
         return region_copied(zones, group, slots, at, i, first);
     };
-    match region_whole(policy_behind(zones, *group, slots, at, i, size)) {
+    match region_whole(behind_ident(front, next, size)) {
         Some(region) => region,
         None => region_copied(zones, group, slots, at, i, first),
     }
@@ -236,10 +241,11 @@ pub(crate) fn slowness_of_member(
         × (result ≡ slowness (option_copied client.entry)
         (unwrap_or (region_of set.routing) first.now)) }
 {
-    let Some(size) = ident_size(policy_front(zones, *group, slots, at, i), 4) else {
+    let (front, next) = policy_pieces(zones, *group, slots, at, i);
+    let Some(size) = ident_size(front, 4) else {
         return slowness_copied(zones, group, slots, at, i, first, client);
     };
-    let piece = policy_behind(zones, *group, slots, at, i, size);
+    let piece = behind_ident(front, next, size);
     if !has_text(piece) {
         return slowness_copied(zones, group, slots, at, i, first, client);
     }

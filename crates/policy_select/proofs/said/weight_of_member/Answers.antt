@@ -1,19 +1,17 @@
 use Rattle.std.proofs.Common.{◌∙◌, [], ap, refl, sym}
-use Rattle.std.specs.Prelude.{slice_get}
 use Rattle.std.specs.Option.{unwrap_or}
-use Rattle.policy_select.specs.Groups.{sets_in}
 use Rattle.policy_select.proofs.Pieces.{weight_by}
 use Rattle.policy_select.proofs.said.weight_of_member.Goals as goal
 
 pub returns-in-Some-octet_behind : goal.returns-in-Some-octet_behind
 returns-in-Some-octet_behind c =
-    let front = c.policy_front.ensures in
-    let piece = c.policy_behind.ensures in
-    let got = slice_get (sets_in c.args.zones.now.zones c.args.group.now) c.args.i in
-    let it = weight_by got c.policy_front.result.now c.policy_behind.result.now front.0 piece.0 c.in-Some.size
-    front.1 front.2 piece.1 piece.2 c.in-Some.ensures in (
-      piece.0,
-      piece.1,
-      c.in-Some-octet_behind.ensures [] piece.2.rest it.0 piece.2.size refl it.2
-          ∙ sym (ap (λ o. unwrap_or o c.args.first) it.1),
+    let set = c.policy_pieces.ensures in
+    let front = c.policy_pieces.result.0.now in
+    let next = c.policy_pieces.result.1.now in
+    let it = weight_by front next c.behind_ident.result.now set.0 c.in-Some.size set.2
+    c.behind_ident.ensures c.in-Some.ensures in (
+      set.0,
+      set.1,
+      c.in-Some-octet_behind.ensures [] set.2.rest it.0 it.1 refl it.3
+          ∙ sym (ap (λ o. unwrap_or o c.args.first) it.2),
     )

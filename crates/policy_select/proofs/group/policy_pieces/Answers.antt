@@ -5,7 +5,7 @@ use Rattle.policy_select.specs.Groups.{sets_in}
 use Rattle.policy_select.proofs.Members.{named}
 use Rattle.policy_select.proofs.Pieces.{from_place}
 use Rattle.policy_select.proofs.Policies.{in_slots, member_of}
-use Rattle.policy_select.proofs.group.policy_front.Goals as goal
+use Rattle.policy_select.proofs.group.policy_pieces.Goals as goal
 
 pub member_at-requires : goal.member_at-requires
 member_at-requires c =
@@ -15,8 +15,8 @@ member_at-requires c =
           c.requires.slots.are c.requires.within;
     }
 
-pub piece-requires : goal.piece-requires
-piece-requires c =
+pub pieces-requires : goal.pieces-requires
+pieces-requires c =
     let zones = c.args.zones.now.zones in
     let ref = c.member_at.result in
     let m = named zones c.args.group c.args.i ref
@@ -31,7 +31,7 @@ returns c =
     let m = named zones c.args.group c.args.i ref
     (member_of zones c.args.group c.args.slots.now c.requires.slots.are c.args.i ref
     c.requires.within c.member_at.ensures.zone c.member_at.ensures.slot) c.requires.within in
-    let part = c.piece.ensures m.set m.names in
+    let part = c.pieces.ensures m.set m.names in
     let placed = c.requires.slots.placed m.set (among_at (sets_in zones c.args.group) c.args.i m.set m.at) in (
       m.set,
       m.at,
@@ -39,6 +39,6 @@ returns c =
         is = part.is.routing;
         rest = from_body m.set;
         size = _;
-        same = part.same ∙ ap (take (32 - c.args.at % 32)) (from_place m.set c.args.at placed);
+        same = part.same ∙ ap (take (64 - c.args.at % 32)) (from_place m.set c.args.at placed);
       },
     )
