@@ -51,8 +51,8 @@ def asked(count, name=www, first=0, opt=lambda n: b"", rtype=1):
 
 # ---- zones as people have them
 
-def simple(count):
-    return [one(www(n), "A", ["192.0.2.1"]) for n in range(count)]
+def simple(count, name=www):
+    return [one(name(n), "A", ["192.0.2.1"]) for n in range(count)]
 
 
 def weighted(groups, each):
@@ -108,6 +108,11 @@ def below(n):
     return "a." + www(n)
 
 
+def scattered(n):
+    """Names of which later ones stand anywhere among earlier ones, each another."""
+    return www(n * 7919 % 999983)
+
+
 def near(n):
     return subnet(10, n * 7919 % 10000 // 256, n * 7919 % 10000 % 256)
 
@@ -121,6 +126,8 @@ CASES = [
     ("absent, a zone of 10 sets", 900, 500000, lambda: simple(10) + asked(10, first=500000)),
     ("absent, a zone of 1,000 sets", 900, 500000, lambda: simple(998) + asked(998, first=500000)),
     ("absent, a zone of 10,000 sets", 900, 500000, lambda: simple(9998) + asked(9998, first=500000)),
+    ("absent among the sets of a zone of 10,000", 900, 500000,
+     lambda: sorted(simple(9998, scattered)) + asked(9998, scattered, first=9998)),
     ("refused", PLAIN, 500000, lambda: simple(9998) + [query("www.example.net")]),
     ("wildcard", 900, 500000, lambda: wildcards(9998) + asked(9998, below)),
     ("referral, one name server", 900, 500000, lambda: cuts(4999) + asked(4999, below)),
