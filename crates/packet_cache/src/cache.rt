@@ -1,0 +1,192 @@
+//! The cache.
+
+ghost use Rattle.std.specs.Prelude.{◌≡◌, ◌≤◌, ◌+◌, ◌++◌, ℕ, List, drop, length, replicate, take, vec_capacity, [], IfOk, IfSome, None};
+ghost use Rattle.packet_cache.specs.Kept.{Keeps, KeepsNoMoreBut, KeepsNothing, kept_of};
+ghost use Rattle.packet_cache.specs.Places.{AreOfThePast, free, kept_at, told};
+
+use crate::places::{FREE, Place, ROOM, reply_in, taken};
+use octets::{OutOfMemory, behind, front, put_at};
+use std::alloc::Global;
+use std::marker::Model;
+
+/// How many places there are, and marks: a power of two.
+const PLACES: usize = 8_192;
+
+/// A mark of no packet.
+const NEVER: u32 = 3;
+
+/// Of a mark, what is known of a packet: it came once.
+const CAME: u32 = 0;
+
+/// Its reply is kept.
+const KEPT: u32 = 1;
+
+/// Its reply isn't worth being kept.
+const PASSED: u32 = 2;
+
+/// Replies by packets.
+#[derive(Drop)]
+pub struct PacketCache {
+    /// In which generation places are taken.
+    generation: u32,
+    /// What is known of the packet that came last to each place: in the low two bits that, and in the others some of
+    /// its key. Hints.
+    marks: Vec<u32>,
+    places: Vec<Place>,
+}
+
+impl Model for PacketCache {
+    ghost use Rattle.std.specs.Prelude.{List, Option};
+    ghost use Rattle.packet_cache.specs.Kept.{Kept};
+    ghost use Rattle.packet_cache.specs.Places.{AreOfThePast, kept_at};
+
+    ghost Value = { List (Option Kept) };
+
+    ghost view = { λ c. kept_at c.generation c.places.items };
+
+    ghost invariant = { λ c. AreOfThePast c.generation c.places.items };
+}
+
+impl PacketCache {
+    /// A cache that keeps nothing. It takes one and a half megabytes, and no more later.
+    pub fn new(alloc: Global) -> Result<PacketCache, OutOfMemory>
+        ensures { IfOk result KeepsNothing }
+    {
+        let marks = vec![in alloc; NEVER; PLACES]?;
+        let mut places = Vec::with_capacity(alloc, PLACES)?;
+        lay_free(&mut places, PLACES);
+        Ok(PacketCache {
+            generation: 1,
+            marks,
+            places,
+        })
+    }
+
+    /// Keeps nothing any more; and nothing again, once this was called 2^32 times.
+    pub fn clear(&mut self)
+        ensures { KeepsNothing self.new }
+    {
+        if self.generation == u32::MAX {
+            self.places.clear();
+            return;
+        }
+        self.generation += 1;
+    }
+
+    /// Puts the reply that is kept for a packet, which is the front of these octets, in the place of that packet, and
+    /// says how many octets it has. It has the packet's ID. The key may be any.
+    pub fn answer(&self, key: u64, octets: &mut [u8], len: usize) -> Option<usize>
+        requires { len ≤ length octets.old }
+        ensures kept { IfSome result (λ n. (reply : List ℕ) × Keeps self.now (record {
+          packet = drop 2 (take len octets.old);
+          reply = reply;
+        }) × (take n octets.new ≡ take 2 octets.old ++ reply)) }
+        ensures long { IfSome result (λ n. 2 ≤ len) }
+        ensures within { IfSome result (λ n. n ≤ length octets.new) }
+        ensures length { length octets.new ≡ length octets.old }
+        ensures none { result ≡ None → octets.new ≡ octets.old }
+    {
+        if self.mark(key) != mark_of(key, self.generation, KEPT) {
+            return None;
+        }
+        if len < 2 {
+            return None;
+        }
+        let place = self.places.get(at(key))?;
+        let reply = reply_in(place, self.generation, behind(front(octets, len), 2))?;
+        let size = 2 + reply.len();
+        if size > octets.len() {
+            return None;
+        }
+        put_at(octets, 2, reply);
+        Some(size)
+    }
+
+    /// Notes that a packet of this key came whose reply isn't kept, and says whether it is worth being kept: where such
+    /// a packet came before, and was not passed by.
+    pub fn note(&mut self, key: u64) -> bool
+        ensures { self.new ≡ self.old }
+    {
+        let known = self.mark(key);
+        if known == mark_of(key, self.generation, PASSED) {
+            return false;
+        }
+        let came = mark_of(key, self.generation, CAME);
+        if known == came {
+            return true;
+        }
+        self.set_mark(key, came);
+        false
+    }
+
+    /// Notes that the reply to packets of this key isn't worth being kept.
+    pub fn pass_by(&mut self, key: u64)
+        ensures { self.new ≡ self.old }
+    {
+        self.set_mark(key, mark_of(key, self.generation, PASSED));
+    }
+
+    /// Keeps the reply to a packet, in the place of another, where both are short enough.
+    pub fn keep(&mut self, key: u64, packet: &[u8], reply: &[u8])
+        ensures { KeepsNoMoreBut (kept_of packet.now reply.now) self.old self.new }
+    {
+        if packet.len() < 2 || reply.len() < 2 || packet.len() + reply.len() > ROOM + 4 {
+            self.pass_by(key);
+            return;
+        }
+        let place = taken(self.generation, behind(packet, 2), behind(reply, 2));
+        put_place(&mut self.places, at(key), place);
+        self.set_mark(key, mark_of(key, self.generation, KEPT));
+    }
+
+    /// The mark at a key's place.
+    fn mark(&self, key: u64) -> u32 {
+        match self.marks.get(at(key)) {
+            Some(mark) => *mark,
+            None => 0,
+        }
+    }
+
+    /// Another mark there.
+    fn set_mark(&mut self, key: u64, mark: u32)
+        ensures { self.new ≡ self.old }
+    {
+        if let Some(known) = self.marks.get_mut(at(key)) {
+            *known = mark;
+        }
+    }
+}
+
+/// The place of a key.
+fn at(key: u64) -> usize {
+    (key % 8_192) as usize
+}
+
+/// The mark of a key in a generation, by which this is known.
+fn mark_of(key: u64, generation: u32, known: u32) -> u32 {
+    let word = (key >> 32) as u32;
+    (word.wrapping_add(generation).wrapping_mul(4)) | known
+}
+
+/// Lays so many places, which nothing took.
+fn lay_free(places: &mut Vec<Place>, n: usize)
+    requires empty { places.old.items ≡ [] }
+    requires room { n ≤ vec_capacity places.old }
+    ensures { places.new.items ≡ replicate n free }
+{
+    for _i in 0..n {
+        places.push_reserved(FREE);
+    }
+}
+
+/// Takes a place.
+fn put_place(places: &mut Vec<Place>, at: usize, place: Place)
+    requires { AreOfThePast place.generation places.old.items }
+    ensures past { AreOfThePast place.generation places.new.items }
+    ensures kept { KeepsNoMoreBut (told place) (kept_at place.generation places.old.items)
+        (kept_at place.generation places.new.items) }
+{
+    if at < places.len() {
+        places[at] = place;
+    }
+}
