@@ -1,0 +1,85 @@
+-- A query that one set answers alone has one reply, whoever asks and by each ID.
+use Rattle.std.proofs.Common.{◌≡◌, ◌≤◌, ◌<◌, ◌+◌, ◌*◌, ◌%◌, ◌++◌, ℕ, List, [], ◌∷◌, Option, None, Some, length, take, drop, sym, ap, ◌∙◌, subst, arith, inl}
+use Rattle.std.specs.Prelude.{IfSome, slice_get}
+use Rattle.cidr_blocks.specs.declared.places.Collection.{Collection}
+use Rattle.dns_message.specs.Header.{id_of}
+use Rattle.dns_message.specs.Judge.{Judges}
+use Rattle.dns_message.specs.declared.query.Query.{Query}
+use Rattle.dns_message.specs.declared.query.QueryRead.TheVariants as read
+use Rattle.dns_name.specs.Names.{AreOctets}
+use Rattle.dns_wire.specs.Limit.{limit_of}
+use Rattle.dns_wire.specs.Message.{Message, octets_within}
+use Rattle.record_set.specs.declared.sets.RecordSet.{RecordSet}
+use Rattle.zone_lookup.specs.Laws.{NamesExist}
+use Rattle.zone_model.specs.Hosted.{HostedZone}
+use Rattle.settled_replies.specs.Plain.{IsPlain, plain_reply}
+use Rattle.settled_replies.specs.Settled.{AnswersAll, IsSettled}
+use Rattle.settled_replies.proofs.Alone.{reply_is}
+use Rattle.settled_replies.proofs.Ids.{high_of, judged, low_of, with_id}
+
+some_same : {X : Type 0} {x y : X} → Some x ≡ Some y → x ≡ y
+some_same e = cc
+
+-- the first of some sets, and the others
+pub first_of : (sets : List RecordSet) (set : RecordSet) → slice_get sets 0 ≡ Some set
+    → (others : List RecordSet) × (sets ≡ set ∷ others)
+first_of [] set e = absurd (grind (arith, e))
+first_of (x ∷ sets) set e = (sets, ap (λ (s : RecordSet). s ∷ sets) (some_same e))
+
+-- what follows, where there is something
+pub if_some : {P Q : Type 0} (found : Option ℕ) → (P → Q) → IfSome found (λ n. P) → IfSome found (λ n. Q)
+if_some None on its = tt
+if_some (Some n) on its = on its
+
+module _ (names : NamesExist) (zones : List HostedZone) (collections : List (ℕ × Collection)) where
+  pub answers_all : (packet : List ℕ) (query : Query) (set : RecordSet) (bytes : List ℕ)
+      → Judges packet (read.Query query) → IsPlain zones query set
+      → bytes ≡ octets_within (plain_reply query set) (limit_of query.edns) → AnswersAll zones collections packet bytes
+  answers_all packet query set bytes judges plain is healthy tables asker = record {
+    judged = read.Query query;
+    judges = judges;
+    answered = ap Some (is ∙ sym (ap (λ (m : Message). octets_within m (limit_of query.edns)) (reply_is names (record {
+      zones = zones;
+      collections = collections;
+      healthy = healthy;
+      tables = tables;
+    }) asker query set plain)));
+  }
+
+  -- the octets with another ID
+  same_id : (m : Message) (bytes : List ℕ) (limit c d : ℕ) → c < 256 → d < 256 → bytes ≡ octets_within m limit
+      → c ∷ d ∷ drop 2 bytes ≡ octets_within (record m { id = c * 256 + d }) limit
+  same_id m bytes limit c d lc ld is =
+      ap (λ (l : List ℕ). c ∷ d ∷ drop 2 l) is
+      ∙ sym (with_id m (c * 256 + d) limit
+      ∙ (ap (λ (x : ℕ). x ∷ ((c * 256 + d) % 256) ∷ drop 2 (octets_within m limit)) (high_of c d lc ld)
+      ∙ ap (λ (x : ℕ). c ∷ x ∷ drop 2 (octets_within m limit)) (low_of c d lc ld)))
+
+  pub settled_all : (packet : List ℕ) (query : Query) (set : RecordSet) (bytes : List ℕ)
+      → Judges packet (read.Query query) → IsPlain zones query set
+      → bytes ≡ octets_within (plain_reply query set) (limit_of query.edns)
+      → IsSettled zones collections (drop 2 packet) (drop 2 bytes)
+  settled_all [] query set bytes judges plain is = absurd (judges.0.0 (inl (omega arith)))
+  settled_all (a ∷ []) query set bytes judges plain is = absurd (judges.0.0 (inl (omega arith)))
+  settled_all (a ∷ b ∷ t) query set bytes judges plain is = by
+    where
+      one : (c d : ℕ) → c < 256 → d < 256 → AnswersAll zones collections (c ∷ d ∷ t) (c ∷ d ∷ drop 2 bytes)
+      one c d lc ld =
+          answers_all (c ∷ d ∷ t) (record query { id = id_of (c ∷ d ∷ t) }) set (c ∷ d ∷ drop 2 bytes)
+          (judged t a b c d query judges)
+          (record {
+            heard = plain.heard;
+            zone = plain.zone;
+            found = plain.found;
+            first = plain.first;
+            alone = plain.alone;
+          })
+          (same_id (plain_reply query set) bytes (limit_of query.edns) c d lc ld is)
+
+      by : (whole : List ℕ) → AreOctets whole → 2 ≤ length whole → drop 2 whole ≡ t
+          → AnswersAll zones collections whole (take 2 whole ++ drop 2 bytes)
+      by [] octets many same = absurd (omega (arith, many))
+      by (c ∷ []) octets many same = absurd (omega (arith, many))
+      by (c ∷ d ∷ s) octets many same =
+          subst (λ (behind : List ℕ). AnswersAll zones collections (c ∷ d ∷ behind) (c ∷ d ∷ drop 2 bytes)) (sym same)
+          (one c d octets.0 octets.1.0)

@@ -1,0 +1,4 @@
+pub mod Settled
+pub mod Plain
+pub use Rattle.dns_name.specs.Names
+pub use Rattle.query_engine.specs.Reply

@@ -1,0 +1,76 @@
+//! The reply to a packet, where it is settled.
+
+ghost use Rattle.std.specs.Prelude.{◌≡◌, ◌≤◌, None, Some, IfSome, drop, length};
+ghost use Rattle.dns_message.specs.Whole.{IsWhole};
+ghost use Rattle.dns_wire.specs.Limit.{limit_of as most_of};
+ghost use Rattle.dns_wire.specs.Message.{octets_within};
+ghost use Rattle.query_engine.specs.Served.{hosted_of};
+ghost use Rattle.record_set.specs.declared.sets.RecordSet.{RecordSet};
+ghost use Rattle.settled_replies.specs.Plain.{IsPlain, plain_reply};
+ghost use Rattle.settled_replies.specs.Settled.{AnswersAll, IsSettled};
+
+use crate::plain::is_plain;
+use dns_message::{Query, Verdict, blank_query, read_over};
+use dns_wire::{Reply, limit_of};
+use query_engine::{Scratch, Zones};
+use reply_records::write_first;
+use zone_lookup::names_exist;
+
+/// Makes the reply to a packet where it is the same whoever asks, and says how many octets it has: where one set
+/// answers a name alone. None else, though of other packets the reply may be the same for all, too. It takes no memory.
+pub fn settle(
+    zones: &Zones,
+    packet: &[u8],
+    scratch: &mut Scratch,
+    reply: &mut Reply,
+) -> Option<usize>
+    requires room { 4096 ≤ reply.old.room }
+    ensures answers { IfSome result (λ n. AnswersAll (hosted_of zones.now.zones) zones.now.collections.list packet.now
+        reply.new.bytes) }
+
+    // With each ID.
+    ensures settled { IfSome result (λ n. IsSettled (hosted_of zones.now.zones) zones.now.collections.list
+        (drop 2 packet.now) (drop 2 reply.new.bytes)) }
+    ensures length { IfSome result (λ n. n ≡ length reply.new.bytes) }
+
+    // The room stays, and where nothing is settled all of the reply.
+    ensures room { reply.new.room ≡ reply.old.room }
+    ensures unsettled { result ≡ None → reply.new ≡ reply.old }
+{
+    names_exist();
+    let mut query = blank_query();
+    match read_over(packet, &mut query) {
+        Verdict::Silent => None,
+        Verdict::Bad {
+            id: _,
+            opcode: _,
+            rd: _,
+            rcode: _,
+        } => None,
+        Verdict::BadVersion => None,
+        Verdict::Query => settle_query(zones, &query, scratch, reply),
+    }
+}
+
+/// The reply to a query, where one set answers it alone.
+fn settle_query(
+    zones: &Zones,
+    query: &Query,
+    scratch: &mut Scratch,
+    reply: &mut Reply,
+) -> Option<usize>
+    requires whole { IsWhole query.now }
+    requires room { 4096 ≤ reply.old.room }
+    ensures plain { IfSome result (λ n. (set : RecordSet) × IsPlain (hosted_of zones.now.zones) query.now set
+        × (reply.new.bytes ≡ octets_within (plain_reply query.now set) (most_of query.now.edns))) }
+    ensures length { IfSome result (λ n. n ≡ length reply.new.bytes) }
+    ensures room { reply.new.room ≡ reply.old.room }
+    ensures unsettled { result ≡ None → reply.new ≡ reply.old }
+{
+    if !is_plain(zones, query, scratch) {
+        return None;
+    }
+    reply.begin(query);
+    write_first(&query.name, reply, scratch);
+    Some(reply.finish(true, 0, limit_of(&query.edns), 0))
+}
