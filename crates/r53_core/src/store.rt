@@ -1,6 +1,6 @@
 //! The store.
 
-ghost use Rattle.std.specs.Prelude.{◌≡◌, ◌≢◌, ◌≤◌, ◌+◌, ◌⊎◌, ℕ, List, [], ◌∷◌, ◌++◌, length, Contains};
+ghost use Rattle.std.specs.Prelude.{◌≡◌, ◌≢◌, ◌≤◌, ◌+◌, ◌⊎◌, ℕ, List, [], ◌∷◌, ◌++◌, drop, length, Contains};
 ghost use Rattle.std.specs.Prelude.{◌↔◌, IfOk, IfSome, IsErrOf, IsTrue, Ok, Err, None, Some};
 ghost use Rattle.config_opening.specs.Laws.{HasShortLists};
 ghost use Rattle.sound_configs.specs.OctetsOfCommandOctets.{command_octets};
@@ -34,6 +34,7 @@ ghost use Rattle.r53_core.specs.Stores.{CommandGives, CompactionGives, StandsFor
 ghost use Rattle.r53_core.specs.Stores.{opened};
 ghost use Rattle.config_opening.specs.Kept.{IsAccepted};
 ghost use Rattle.record_set.specs.Sets.{key_of};
+ghost use Rattle.settled_replies.specs.Settled.{AnswersAll, IsSettled};
 ghost use Rattle.sound_configs.specs.Octets.{snapshot};
 ghost use Rattle.record_set.specs.declared.sets.RecordSet.{RecordSet};
 ghost use Rattle.query_engine.specs.Looking.{RefersTo};
@@ -50,6 +51,7 @@ use health_check::CheckTable;
 use octets::OutOfMemory;
 use query_engine::{HealthView, Scratch, SetRef, Zones, answer};
 use r53_disk::Disk;
+use settled_replies::settle;
 use sound_configs::{
     Command, Compacted, HealthIndex, Made, Refusal, Reported, Steps, checks_are_later,
     index_serves, sound_is_served, sound_is_watched,
@@ -346,6 +348,22 @@ impl Store {
             &mut self.scratch,
             reply,
         )
+    }
+
+    /// Makes the reply to a packet where it is the same whoever asks, whatever the health of sets is, and
+    /// says how many octets it has; else None. It takes no memory.
+    pub fn settle(&mut self, packet: &[u8], reply: &mut Reply) -> Option<usize>
+        requires room { 4096 ≤ reply.old.room }
+        ensures answers { IfSome result (λ n. AnswersAll (config_of self.old.kept).zones
+            (config_of self.old.kept).collections.list packet.now reply.new.bytes) }
+        ensures settled { IfSome result (λ n. IsSettled (config_of self.old.kept).zones
+            (config_of self.old.kept).collections.list (drop 2 packet.now) (drop 2 reply.new.bytes)) }
+        ensures same { self.new ≡ self.old }
+        ensures length { IfSome result (λ n. n ≡ length reply.new.bytes) }
+        ensures room { reply.new.room ≡ reply.old.room }
+        ensures unsettled { result ≡ None → reply.new ≡ reply.old }
+    {
+        settle(self.kept.config().zones(), packet, &mut self.scratch, reply)
     }
 
     /// The status of a check, with the number of its checkers that see a pass, or of its healthy
